@@ -1,0 +1,7 @@
+use Rattle.std.proofs.Common.{refl, ◌≡◌, ap, ◌++◌}
+use Rattle.rim_desc.specs.Page.{zeros}
+use Rattle.rim_desc.proofs.measurement.hash.Goals as goal
+
+pub returns-in-Sha256 : goal.returns-in-Sha256
+unfolding zeros
+returns-in-Sha256 c = rw (c.in-Sha256.is, c.copy_from_slice.ensures.after, c.digest.ensures)
