@@ -1,11 +1,11 @@
 -- Bytes of a page beside its fields.
-use Rattle.std.proofs.Common.{◌≡◌, ℕ, ◌+◌, ◌-◌, ◌≤◌, ◌<◌, ◌&&◌, ◌||◌, ◌⊎◌, Bool, true, false, List, [], ◌∷◌, ◌++◌, length, take, drop, replicate, get_or, refl, ap, sym, ◌∙◌, arith, length-append, length-drop, inl, inr}
+use Rattle.std.proofs.Common.{◌≡◌, ℕ, ◌+◌, ◌-◌, ◌≤◌, ◌<◌, ◌&&◌, ◌||◌, ◌⊎◌, Bool, true, false, List, [], ◌∷◌, ◌++◌, length, take, drop, replicate, get_or, refl, ap, ◌∙◌, arith, length-append, length-drop, inl, inr}
 use Rattle.std.specs.Prelude.{nat_le, nat_lt}
-use Rattle.std.proofs.lemmas.List.{length-take-le, length-replicate, get_or-replicate, get_or_past, get_or-take, get_or-drop, get_or-append-add}
+use Rattle.std.proofs.lemmas.List.{length-take-le, length-replicate, get_or-replicate, get_or_past, get_or-take, get_or-drop}
 use Rattle.std.proofs.Math.ListN.{get_or-append}
 use Rattle.std.proofs.Math.Seq.{get_or-append_right}
 use Rattle.std.proofs.lemmas.Bool.Decides.{nat_tests}
-use Rattle.rim_desc.specs.Page.{Field, all_fit, covers, is_listed, with_fields, with_part, zeros}
+use Rattle.rim_desc.specs.Page.{Field, all_fit, is_listed, with_fields, with_part, zeros}
 
 -- a part in a page leaves the page's length
 pub length-with_part : (page part : List ℕ) (at : ℕ) → at + length part ≤ length page → length (with_part page at part) ≡ length page
@@ -61,8 +61,8 @@ pub zero_beside : (fs : List Field) (page : List ℕ) (n k : ℕ) → length pag
     → all_fit n fs ≡ true → is_listed k fs ≡ false → get_or (with_fields page fs) k 0 ≡ 0
 zero_beside [] page n k size zero fit listed = zero
 zero_beside (f ∷ fs) page n k size zero fit listed =
-    let fits = both _ _ fit in
-    let apart = neither _ _ listed in
+    let fits = both (nat_le (f.at + length f.part) n) (all_fit n fs) fit in
+    let apart = neither (covers k f) (is_listed k fs) listed in
     let inside : f.at + length f.part ≤ n = le-nat_le _ _ fits.0 in
     let within : f.at + length f.part ≤ length page = omega (arith, inside, size) in
     zero_beside fs (with_part page f.at f.part) n k (length-with_part page f.part f.at within ∙ size)

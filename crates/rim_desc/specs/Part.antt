@@ -1,5 +1,5 @@
 -- What a Realm Initial Measurement is made of, part by part. DEN0137, "Realm Initial Measurement".
-use Rattle.std.specs.Prelude.{ℕ, List, [], ◌∷◌, Option, fold}
+use Rattle.std.specs.Prelude.{ℕ, List, [], ◌∷◌, Option}
 use Rattle.rim_desc.specs.Page.{zeros}
 use Rattle.rim_desc.specs.Measurement.{measurement_of}
 use Rattle.rim_desc.specs.Descriptor.{data_descriptor_of, rec_descriptor_of, ripas_descriptor_of}

@@ -1,4 +1,3 @@
-use Rattle.std.proofs.Common.{refl, ◌≡◌, ap, ◌++◌}
 use Rattle.rim_desc.specs.Page.{zeros}
 use Rattle.rim_desc.proofs.measurement.hash.Goals as goal
 

@@ -1,0 +1,4 @@
+pub mod Answering
+pub mod Lowest
+pub mod Notes
+pub mod Trees

@@ -1,0 +1,188 @@
+-- The lowest of some faults: where it comes from, and what it is below.
+use Rattle.std.proofs.Common.{◌≡◌, ℕ, ◌≤◌, ◌<◌, List, [], ◌∷◌, ◌++◌, length, zero, suc, map, Bool, true, false, cond, not, Option, Some, None, Ok, Err, refl, ap, sym, ◌∙◌, arith, ◌⊎◌, inl, inr, codes}
+use Rattle.std.specs.Prelude.{nat_le, Contains, slice_index_or}
+use Rattle.std.specs.List.{AllByRecursion, flat_map}
+use Rattle.std.proofs.lemmas.Bool.Decides.{nat_tests}
+use Rattle.std.proofs.lemmas.List.Elements.{All-from_recursion, Contains-append_left, Contains-append_right}
+use Rattle.toml.specs.Data.{Data, Members, table, get_member}
+use Rattle.rim_manifest.specs.declared.fault.ManifestFault.{ManifestFault}
+use Rattle.rim_manifest.specs.declared.fault.ManifestFault.TheVariants.{Version, WrongKind, UnknownKey, MissingKey, Limit, Range, TwoNames}
+use Rattle.rim_manifest.specs.Faults.{IsLowest, fault_if, lower, lowest, noted, rank_of}
+use Rattle.rim_manifest.specs.Forms.{has_kind, is_over, is_required, is_within}
+use Rattle.rim_manifest.specs.Rules.{Rule, launch_rules, top_rules}
+use Rattle.rim_manifest.specs.Checks.{cell_faults, has_unknown_key, rule_faults, table_faults}
+use Rattle.rim_manifest.specs.Launches.{ReleaseData, launch_in}
+use Rattle.rim_manifest.specs.Manifest.{all_faults, fault_or_release, has_two_names, has_version, launch_faults, launches_at, manifest_faults, read_of}
+
+-- f does not come behind what was found so far
+AtLeast : ManifestFault → Option ManifestFault → Type 0
+AtLeast f None = Unit {0}
+AtLeast f (Some g) = rank_of f ≤ rank_of g
+
+-- f does not come behind any of the faults
+NotBehind : ManifestFault → List ManifestFault → Type 0
+NotBehind f fs = AllByRecursion (λ g. rank_of f ≤ rank_of g) fs
+
+record Found (o : Option ManifestFault) (fs : List ManifestFault) (f : ManifestFault) : Type 0 where
+  origin : (o ≡ Some f) ⊎ Contains fs f
+  start : AtLeast f o
+  each : NotBehind f fs
+
+at_head : (f g : ManifestFault) (gs : List ManifestFault) → g ≡ f → Contains (g ∷ gs) f
+at_head f g gs e = (0, omega arith, e)
+
+same_rank : (f g : ManifestFault) → Some g ≡ Some f → rank_of f ≤ rank_of g
+same_rank f g e = let same : g ≡ f = cc in let ranks : rank_of g ≡ rank_of f = ap rank_of same in omega arith
+
+le_of : (a b : ℕ) → nat_le a b ≡ true → a ≤ b
+le_of a b h = grind (arith, nat_tests)
+
+gt_of : (a b : ℕ) → nat_le a b ≡ false → b < a
+gt_of a b h = grind (arith, nat_tests)
+
+found_two : (x g : ManifestFault) (gs : List ManifestFault) (f : ManifestFault) (b : Bool) → nat_le (rank_of x) (rank_of g) ≡ b
+    → Found (cond b (Some x) (Some g)) gs f → Found (Some x) (g ∷ gs) f
+unfolding AtLeast NotBehind
+found_two x g gs f true test h =
+    let order = le_of (rank_of x) (rank_of g) test in
+    let start : rank_of f ≤ rank_of x = h.start in
+    let head : rank_of f ≤ rank_of g = omega arith in
+    record {
+      origin = elim h.origin [ inl e ↦ inl e | inr there ↦ inr (Contains-append_right (g ∷ []) gs f there) ];
+      start = start;
+      each = (head, h.each);
+    }
+found_two x g gs f false test h =
+    let order = gt_of (rank_of x) (rank_of g) test in
+    let head : rank_of f ≤ rank_of g = h.start in
+    let start : rank_of f ≤ rank_of x = omega arith in
+    record {
+      origin = elim h.origin [ inl e ↦ inr (at_head f g gs (cc)) | inr there ↦ inr (Contains-append_right (g ∷ []) gs f there) ];
+      start = start;
+      each = (head, h.each);
+    }
+
+found_behind : (o : Option ManifestFault) (g : ManifestFault) (gs : List ManifestFault) (f : ManifestFault)
+    → Found (lower o g) gs f → Found o (g ∷ gs) f
+unfolding lower AtLeast NotBehind
+found_behind None g gs f h = record {
+  origin = elim h.origin [ inl e ↦ inr (at_head f g gs (cc)) | inr there ↦ inr (Contains-append_right (g ∷ []) gs f there) ];
+  start = tt;
+  each = (h.start, h.each);
+}
+found_behind (Some x) g gs f h = found_two x g gs f (nat_le (rank_of x) (rank_of g)) refl h
+
+noted_found : (o : Option ManifestFault) (fs : List ManifestFault) (f : ManifestFault) → noted o fs ≡ Some f → Found o fs f
+unfolding AtLeast NotBehind
+noted_found None [] f h = cc
+noted_found (Some g) [] f h = record { origin = inl h; start = same_rank f g h; each = tt }
+noted_found o (g ∷ gs) f h = found_behind o g gs f (noted_found (lower o g) gs f h)
+
+-- nothing was found only where there is nothing
+kept : (x g : ManifestFault) (gs : List ManifestFault) (b : Bool) → ((y : ManifestFault) → (noted (Some y) gs ≡ None) → ⊥) → noted (cond b (Some x) (Some g)) gs ≡ None → ⊥
+kept x g gs true ih h = ih x h
+kept x g gs false ih h = ih g h
+
+some_noted : (x : ManifestFault) (fs : List ManifestFault) → (noted (Some x) fs ≡ None) → ⊥
+unfolding lower
+some_noted x [] h = cc
+some_noted x (g ∷ gs) h = kept x g gs (nat_le (rank_of x) (rank_of g)) (λ y. some_noted y gs) h
+
+none_noted : (fs : List ManifestFault) → lowest fs ≡ None → fs ≡ []
+unfolding lower
+none_noted [] h = refl
+none_noted (f ∷ fs) h = absurd (some_noted f fs h)
+
+-- faults that do not come behind `TwoNames`, as those of the tables
+Early : List ManifestFault → Type 0
+Early fs = AllByRecursion (λ g. rank_of g ≤ 7) fs
+
+early_append : (fs gs : List ManifestFault) → Early fs → Early gs → Early (fs ++ gs)
+unfolding Early
+early_append [] gs p q = q
+early_append (f ∷ fs) gs p q = (p.0, early_append fs gs p.1 q)
+
+early_flat_map : {X : Type 0} (f : X → List ManifestFault) → ((x : X) → Early (f x)) → (xs : List X) → Early (flat_map f xs)
+unfolding Early
+early_flat_map f each [] = tt
+early_flat_map f each (x ∷ xs) = early_append (f x) (flat_map f xs) (each x) (early_flat_map f each xs)
+
+early_if : (b : Bool) (f : ManifestFault) → rank_of f ≤ 7 → Early (fault_if b f)
+unfolding Early
+early_if true f h = (h, tt)
+early_if false f h = tt
+
+early_cell : (r : Rule) (o : Option Data) → Early (cell_faults r o)
+unfolding Early
+early_cell r None = early_if (is_required r.presence) MissingKey (omega arith)
+early_cell r (Some d) = by_kind (has_kind r.form d)
+  where
+    by_kind : (b : Bool) → Early (cond b (fault_if (is_over r.form d) Limit ++ fault_if (not (is_within r.form d)) Range) (WrongKind ∷ []))
+    by_kind true = early_append _ _ (early_if (is_over r.form d) Limit (omega arith)) (early_if (not (is_within r.form d)) Range (omega arith))
+    by_kind false = (omega arith, tt)
+
+early_table : (rs : List Rule) (ms : Members) → Early (table_faults rs ms)
+early_table rs ms =
+    early_append _ _ (early_if (has_unknown_key rs ms) UnknownKey (omega arith)) (early_flat_map (λ r. rule_faults r ms) (λ r. early_cell r (get_member r.key ms)) rs)
+
+early_launch : (d : Data) → Early (launch_faults d)
+unfolding launch_faults Early
+early_launch (table ms) = early_table launch_rules ms
+early_launch _ = tt
+
+early_manifest : (ms : Members) → Early (manifest_faults ms)
+unfolding manifest_faults
+early_manifest ms =
+    early_append _ _ (early_if (not (has_version (get_member (codes "rim_manifest") ms))) Version (omega arith))
+    (early_append _ _ (early_table top_rules ms) (early_flat_map launch_faults early_launch (launches_at ms)))
+
+behind_append : (f : ManifestFault) (fs gs : List ManifestFault) → NotBehind f fs → NotBehind f gs → NotBehind f (fs ++ gs)
+unfolding NotBehind
+behind_append f [] gs p q = q
+behind_append f (g ∷ fs) gs p q = (p.0, behind_append f fs gs p.1 q)
+
+behind_if : (f : ManifestFault) (b : Bool) (g : ManifestFault) → rank_of f ≤ rank_of g → NotBehind f (fault_if b g)
+unfolding NotBehind
+behind_if f true g h = (h, tt)
+behind_if f false g h = tt
+
+early_of : (f : ManifestFault) (fs : List ManifestFault) → Early fs → (k : ℕ) → k < length fs → slice_index_or fs k f ≡ f → rank_of f ≤ 7
+unfolding Early
+early_of f [] p k h e = absurd (omega arith)
+early_of f (g ∷ gs) p zero h e = let same : rank_of g ≡ rank_of f = ap rank_of e in let low : rank_of g ≤ 7 = p.0 in omega arith
+early_of f (g ∷ gs) p (suc k) h e = early_of f gs p.1 k (omega arith) e
+
+-- the fault that a document is refused with is the lowest of all that hold: one of a table, or else `TwoNames`
+by_tables : (ms : Members) (f g : ManifestFault) → lowest (manifest_faults ms) ≡ Some g → g ≡ f → IsLowest f (all_faults ms)
+unfolding NotBehind AtLeast
+by_tables ms f g found e =
+    let facts = noted_found None (manifest_faults ms) f (found ∙ ap Some e) in
+    let there : Contains (manifest_faults ms) f = elim facts.origin [ inl none ↦ absurd (cc) | inr there ↦ there ] in
+    let low : rank_of f ≤ 7 = early_of f (manifest_faults ms) (early_manifest ms) there.0 there.1 there.2 in
+    record {
+      holds = Contains-append_left (manifest_faults ms) _ f there;
+      first = All-from_recursion (λ g. rank_of f ≤ rank_of g) (all_faults ms)
+          (behind_append f (manifest_faults ms) _ facts.each (behind_if f (has_two_names (map launch_in (launches_at ms))) TwoNames low));
+    }
+
+by_names : (ms : Members) (f : ManifestFault) (b : Bool) (release : ReleaseData) → manifest_faults ms ≡ [] → cond b (Err TwoNames) (Ok release) ≡ Err f
+    → IsLowest f (manifest_faults ms ++ fault_if b TwoNames)
+unfolding NotBehind
+by_names ms f false release none e = cc
+by_names ms f true release none e =
+    let same : TwoNames ≡ f = cc in
+    let ranks : rank_of f ≡ 7 = ap rank_of (sym same) in
+    let low : rank_of f ≤ 7 = omega arith in
+    let nothing : NotBehind f (manifest_faults ms) = rw none tt in
+    record {
+      holds = Contains-append_right (manifest_faults ms) (TwoNames ∷ []) f (at_head f TwoNames [] same);
+      first = All-from_recursion (λ g. rank_of f ≤ rank_of g) (manifest_faults ms ++ TwoNames ∷ [])
+          (behind_append f (manifest_faults ms) (TwoNames ∷ []) nothing (low, tt));
+    }
+
+pub refused_by_lowest : (ms : Members) (f : ManifestFault) → read_of ms ≡ Err f → IsLowest f (all_faults ms)
+refused_by_lowest ms f h = by_fault (lowest (manifest_faults ms)) refl h
+  where
+    by_fault : (o : Option ManifestFault) → lowest (manifest_faults ms) ≡ o → fault_or_release ms o ≡ Err f → IsLowest f (all_faults ms)
+    by_fault (Some g) found e = by_tables ms f g found (cc)
+    by_fault None found e = by_names ms f (has_two_names (map launch_in (launches_at ms))) _ (none_noted (manifest_faults ms) found) e

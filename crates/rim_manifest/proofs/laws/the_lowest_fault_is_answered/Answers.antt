@@ -1,0 +1,5 @@
+use Rattle.rim_manifest.proofs.Lowest.{refused_by_lowest}
+use Rattle.rim_manifest.proofs.laws.the_lowest_fault_is_answered.Goals as goal
+
+pub returns : goal.returns
+returns c = refused_by_lowest

@@ -1,0 +1,6 @@
+pub mod Faults
+pub mod Forms
+pub mod Rules
+pub mod Checks
+pub mod Launches
+pub mod Manifest

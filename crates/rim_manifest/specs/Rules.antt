@@ -1,0 +1,49 @@
+-- The keys of a manifest's tables: what each may hold, and whether it has to be there. This project's
+-- choice; what a realm's parameters may be is DEN0137's, RmiRealmParams.
+use Rattle.std.specs.Prelude.{ℕ, pos, List, [], ◌∷◌, codes}
+use Rattle.std.specs.Borrow.{Bor}
+use Rattle.rim_manifest.specs.declared.form.Form.{Form}
+use Rattle.rim_manifest.specs.declared.form.Form.TheVariants as form
+use Rattle.rim_manifest.specs.declared.form.Presence.{Presence}
+use Rattle.rim_manifest.specs.declared.form.Presence.TheVariants.{Required, Optional}
+
+pub record Rule : Type 0 where
+  pub key : List ℕ
+  pub form : Form
+  pub presence : Presence
+
+-- a rule as the code writes it
+abbrev pub rule_of : Bor (List ℕ) × Form × Presence → Rule
+rule_of r = record { key = r.0.now; form = r.1; presence = r.2 }
+
+abbrev rule : List ℕ → Form → Presence → Rule
+rule key form presence = record { key = key; form = form; presence = presence }
+
+-- the keys at the top
+abbrev pub top_rules : List Rule
+top_rules =
+    rule (codes "rim_manifest") form.Version Required
+    ∷ rule (codes "launch") (form.Tables 1024) Optional
+    ∷ rule (codes "file") form.Later Optional ∷ []
+
+-- the keys of a launch
+abbrev pub launch_rules : List Rule
+launch_rules =
+    rule (codes "name") form.Name Required
+    ∷ rule (codes "algo") form.Algorithm Required
+    ∷ rule (codes "s2sz") (form.Number (pos 32) (pos 48)) Required
+    ∷ rule (codes "sve") form.Truth Optional
+    ∷ rule (codes "pmu") form.Truth Optional
+    ∷ rule (codes "sve_vl") (form.Number (pos 0) (pos 255)) Optional
+    ∷ rule (codes "num_bps") (form.Number (pos 0) (pos 255)) Optional
+    ∷ rule (codes "num_wps") (form.Number (pos 0) (pos 255)) Optional
+    ∷ rule (codes "pmu_num_ctrs") (form.Number (pos 0) (pos 255)) Optional
+    ∷ rule (codes "rpv") (form.Digits 128) Optional
+    ∷ rule (codes "block_level") (form.Number (pos 0) (pos 3)) Optional
+    ∷ rule (codes "num_aux") (form.Number (pos 0) (pos 16)) Optional
+    ∷ rule (codes "pool_base") form.Later Optional
+    ∷ rule (codes "pool_count") form.Later Optional
+    ∷ rule (codes "ram") form.Later Optional
+    ∷ rule (codes "item") form.Later Optional
+    ∷ rule (codes "rec") form.Later Optional
+    ∷ rule (codes "steps") form.Later Optional ∷ []

@@ -1,0 +1,85 @@
+//! Why a manifest is refused.
+ghost use Rattle.std.specs.Prelude.{◌≡◌, Option};
+ghost use Rattle.rim_manifest.specs.Faults.{fault_if, kind_of, lower, noted};
+
+use thiserror::Error;
+
+/// Why a manifest is refused. Of the faults that hold anywhere in it the first of this list is
+/// answered.
+#[derive(Clone, Copy, Debug, PartialEq, Eq, Error)]
+pub enum ManifestFault {
+    /// The bytes are not UTF-8, or are no TOML document.
+    #[error("syntax")]
+    Syntax,
+    /// `rim_manifest` is not there or is not the whole number 1.
+    #[error("version")]
+    Version,
+    /// A known key holds another kind of value.
+    #[error("wrong-kind")]
+    WrongKind,
+    /// A table has a key that its format does not list.
+    #[error("unknown-key")]
+    UnknownKey,
+    /// A required key is not there.
+    #[error("missing-key")]
+    MissingKey,
+    /// A list is longer than its limit, or a key is not read yet.
+    #[error("limit")]
+    Limit,
+    /// A value is outside its range or form.
+    #[error("range")]
+    Range,
+    /// Two launches share a name.
+    #[error("two-names")]
+    TwoNames,
+    /// An item's `file` names no file. Not answered yet.
+    #[error("no-such-file")]
+    NoSuchFile,
+    /// A text of `steps` is no step, or the steps do not name each thing once. Not answered yet.
+    #[error("bad-step")]
+    BadStep,
+    /// The allocator refused a growth.
+    #[error("no-memory")]
+    NoMemory,
+}
+
+impl ManifestFault {
+    /// The fault's name in lower case with hyphens, as the program prints it.
+    pub fn kind(&self) -> &'static str
+        ensures { result.now ≡ kind_of self.now }
+    {
+        match self {
+            ManifestFault::Syntax => "syntax",
+            ManifestFault::Version => "version",
+            ManifestFault::WrongKind => "wrong-kind",
+            ManifestFault::UnknownKey => "unknown-key",
+            ManifestFault::MissingKey => "missing-key",
+            ManifestFault::Limit => "limit",
+            ManifestFault::Range => "range",
+            ManifestFault::TwoNames => "two-names",
+            ManifestFault::NoSuchFile => "no-such-file",
+            ManifestFault::BadStep => "bad-step",
+            ManifestFault::NoMemory => "no-memory",
+        }
+    }
+}
+
+/// Keeps the lower of what was found so far and one more fault.
+#[tactic(auto, unfolding(crate::specs::Faults::lower))]
+pub fn note(found: &mut Option<ManifestFault>, fault: ManifestFault)
+    ensures { found.new ≡ lower found.old fault }
+{
+    match found {
+        Some(least) if *least as u8 <= fault as u8 => {}
+        _ => *found = Some(fault),
+    }
+}
+
+/// Notes a fault where it holds.
+pub fn note_if(found: &mut Option<ManifestFault>, holds: bool, fault: ManifestFault)
+    ensures { found.new ≡ noted found.old (fault_if holds fault) }
+{
+    if holds {
+        note(found, fault);
+    }
+}

@@ -1,0 +1,18 @@
+//! The manifest of a release: a TOML text that describes launches, read into typed values or refused
+//! by the lowest fault that holds anywhere in it.
+//!
+//! Today the launches have no memory, files or processors: the keys that speak of them are the fault
+//! `Limit`.
+#![tactic(auto)]
+
+pub mod check;
+pub mod fault;
+pub mod form;
+pub mod launch;
+pub mod laws;
+pub mod manifest;
+pub mod rules;
+
+pub use fault::ManifestFault;
+pub use launch::{Config, Launch};
+pub use manifest::{Release, read_manifest};

@@ -1,0 +1,188 @@
+//! Reading a manifest.
+ghost use Rattle.std.specs.Prelude.{◌≡◌, ◌<◌, ◌⊎◌, Err, IfOk, Some, codes, length, map, position, slice_get, string_bytes};
+ghost use Rattle.std.specs.List.{flat_map, list_any};
+ghost use Rattle.toml.specs.Data.{get_member};
+ghost use Rattle.toml.specs.View.{table_view, view};
+ghost use Rattle.rim_manifest.specs.Faults.{lowest, noted};
+ghost use Rattle.rim_manifest.specs.Launches.{LaunchData, ReleaseData, launch_in};
+ghost use Rattle.rim_manifest.specs.Manifest.{has_two_names, has_version, items_of, launch_faults, launches_at, manifest_faults, manifest_of, name_in, release_of};
+
+use crate::check::{cell, check_table};
+use crate::fault::{ManifestFault, note_if};
+use crate::launch::{Launch, read_launch};
+use crate::rules::{LAUNCH_RULES, TOP_RULES};
+use std::alloc::{AllocError, Global};
+use std::marker::Model;
+use toml::{Table, Value};
+
+/// What a manifest describes: files by their paths, and launches.
+#[derive(Drop)]
+pub struct Release {
+    paths: Vec<String>,
+    launches: Vec<Launch>,
+}
+
+impl Model for Release {
+    ghost Value = { ReleaseData };
+
+    ghost view = { λ r. record { paths = map string_bytes r.paths.items; launches = r.launches.items } };
+}
+
+impl Release {
+    /// How many files the launches may name.
+    pub fn file_count(&self) -> usize
+        ensures { result ≡ length self.now.paths }
+    {
+        self.paths.as_slice().len()
+    }
+
+    /// The path of a file, as the manifest writes it.
+    pub fn path(&self, i: usize) -> &str
+        requires { i < length self.now.paths }
+        ensures { slice_get self.now.paths i ≡ Some result.now }
+    {
+        self.paths[i].as_str()
+    }
+
+    /// How many launches there are.
+    pub fn launches(&self) -> usize
+        ensures { result ≡ length self.now.launches }
+    {
+        self.launches.as_slice().len()
+    }
+
+    /// The number of the launch of this name.
+    pub fn launch_named(&self, name: &str) -> Option<usize>
+        ensures { result ≡ position (name_in name.now) self.now.launches }
+    {
+        self.launches
+            .iter()
+            .position(|launch| launch.name() == name)
+    }
+
+    /// All launches, in the manifest's order.
+    pub fn all_launches(&self) -> &[Launch]
+        ensures { result.now ≡ self.now.launches }
+    {
+        self.launches.as_slice()
+    }
+}
+
+/// Reads a manifest, or answers the lowest fault that holds anywhere in it.
+pub fn read_manifest(alloc: Global, text: &[u8]) -> Result<Release, ManifestFault>
+    ensures { (result ≡ Err ManifestFault.NoMemory) ⊎ (result ≡ manifest_of text.now) }
+{
+    let table = match toml::table_from_slice(alloc, text) {
+        Ok(table) => table,
+        Err(error) => {
+            if error.is_memory() {
+                return Err(ManifestFault::NoMemory);
+            }
+            return Err(ManifestFault::Syntax);
+        }
+    };
+    match lowest_fault(&table) {
+        Some(fault) => Err(fault),
+        None => read_release(alloc, &table),
+    }
+}
+
+/// The lowest fault of the tables, each by itself.
+#[tactic(auto, using(crate::proofs::Notes::noted_append, crate::proofs::Notes::flat_map_map), unfolding(crate::specs::Manifest::manifest_faults))]
+fn lowest_fault(table: &Table) -> Option<ManifestFault>
+    ensures { result ≡ lowest (manifest_faults (table_view table.now)) }
+{
+    let mut found = None;
+    note_if(&mut found, !has_version(table), ManifestFault::Version);
+    check_table(&TOP_RULES, table, &mut found);
+    check_launches(launches(table), &mut found);
+    found
+}
+
+fn has_version(table: &Table) -> bool
+    ensures { result ≡ has_version (get_member (codes "rim_manifest") (table_view table.now)) }
+{
+    matches!(cell(table, "rim_manifest"), Some(Value::Integer(1)))
+}
+
+/// The values in the array of launches.
+fn launches(table: &Table) -> &[Value]
+    ensures { map view result.now ≡ launches_at (table_view table.now) }
+{
+    match cell(table, "launch") {
+        Some(value) => items(value),
+        None => &[],
+    }
+}
+
+/// The values of an array, and none of another value.
+fn items(value: &Value) -> &[Value]
+    ensures { map view result.now ≡ items_of (view value.now) }
+{
+    match value {
+        Value::Array(items) => items.as_slice(),
+        _ => &[],
+    }
+}
+
+fn check_launches(items: &[Value], found: &mut Option<ManifestFault>)
+    ensures { found.new ≡ noted found.old (flat_map (λ v. launch_faults (view v)) items.now) }
+{
+    for item in items {
+        check_launch(item, found);
+    }
+}
+
+#[tactic(auto, unfolding(crate::specs::Manifest::launch_faults))]
+fn check_launch(item: &Value, found: &mut Option<ManifestFault>)
+    ensures { found.new ≡ noted found.old (launch_faults (view item.now)) }
+{
+    if let Value::Table(table) = item {
+        check_table(&LAUNCH_RULES, table, found);
+    }
+}
+
+/// Reads what a document without faults in its tables describes.
+fn read_release(alloc: Global, table: &Table) -> Result<Release, ManifestFault>
+    ensures { (result ≡ Err ManifestFault.NoMemory) ⊎ (result ≡ release_of (table_view table.now)) }
+{
+    let Ok(launches) = read_launches(alloc, launches(table)) else {
+        return Err(ManifestFault::NoMemory);
+    };
+    // The search is quadratic in the launches, of which there are at most 1,024 by now.
+    if has_two_names(launches.as_slice()) {
+        return Err(ManifestFault::TwoNames);
+    }
+    Ok(Release {
+        paths: Vec::new(alloc),
+        launches,
+    })
+}
+
+fn read_launches(alloc: Global, items: &[Value]) -> Result<Vec<Launch>, AllocError>
+    ensures { IfOk result (λ ls. ls.items ≡ map launch_in (map view items.now)) }
+{
+    let mut launches = Vec::with_capacity(alloc, items.len())?;
+    for item in items {
+        launches.push(read_launch(alloc, item)?)?;
+    }
+    Ok(launches)
+}
+
+/// Whether two launches share a name.
+fn has_two_names(launches: &[Launch]) -> bool
+    ensures { result ≡ has_two_names launches.now }
+{
+    'launches: for i in 0..launches.len() {
+        if is_named(&launches[i + 1..], launches[i].name()) {
+            return true;
+        }
+    }
+    false
+}
+
+fn is_named(launches: &[Launch], name: &str) -> bool
+    ensures { result ≡ list_any (name_in name.now) launches.now }
+{
+    launches.iter().any(|launch| launch.name() == name)
+}

@@ -1,0 +1,33 @@
+//! The keys of a manifest's tables. The same rows stand in `specs/Rules.antt`, where they are reviewed,
+//! and the two are proved equal where these are used.
+use crate::form::Presence::{Optional, Required};
+use crate::form::{Form, Rule};
+
+/// The keys at the top.
+pub const TOP_RULES: [Rule; 3] = [
+    ("rim_manifest", Form::Version, Required),
+    ("launch", Form::Tables { most: 1024 }, Optional),
+    ("file", Form::Later, Optional),
+];
+
+/// The keys of a launch.
+pub const LAUNCH_RULES: [Rule; 18] = [
+    ("name", Form::Name, Required),
+    ("algo", Form::Algorithm, Required),
+    ("s2sz", Form::Number { low: 32, high: 48 }, Required),
+    ("sve", Form::Truth, Optional),
+    ("pmu", Form::Truth, Optional),
+    ("sve_vl", Form::Number { low: 0, high: 255 }, Optional),
+    ("num_bps", Form::Number { low: 0, high: 255 }, Optional),
+    ("num_wps", Form::Number { low: 0, high: 255 }, Optional),
+    ("pmu_num_ctrs", Form::Number { low: 0, high: 255 }, Optional),
+    ("rpv", Form::Digits { count: 128 }, Optional),
+    ("block_level", Form::Number { low: 0, high: 3 }, Optional),
+    ("num_aux", Form::Number { low: 0, high: 16 }, Optional),
+    ("pool_base", Form::Later, Optional),
+    ("pool_count", Form::Later, Optional),
+    ("ram", Form::Later, Optional),
+    ("item", Form::Later, Optional),
+    ("rec", Form::Later, Optional),
+    ("steps", Form::Later, Optional),
+];

@@ -1,0 +1,3 @@
+pub mod Faults
+pub mod Measured
+pub mod Report

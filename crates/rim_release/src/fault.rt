@@ -1,0 +1,32 @@
+//! Why a release is not measured.
+ghost use Rattle.std.specs.Prelude.{◌≡◌};
+ghost use Rattle.rim_release.specs.Faults.{start_kind_of};
+
+use thiserror::Error;
+
+/// Why the measuring of a release does not start.
+#[derive(Clone, Copy, Debug, PartialEq, Eq, Error)]
+pub enum StartFault {
+    /// The number of workers is not 1 to 64. Not answered yet.
+    #[error("workers")]
+    Workers,
+    /// The launches have more distinct measured pages than the limit. Not answered yet.
+    #[error("too-many-pages")]
+    TooManyPages,
+    /// The allocator refused a growth.
+    #[error("no-memory")]
+    NoMemory,
+}
+
+impl StartFault {
+    /// The fault's name in lower case with hyphens, as the program prints it.
+    pub fn kind(&self) -> &'static str
+        ensures { result.now ≡ start_kind_of self.now }
+    {
+        match self {
+            StartFault::Workers => "workers",
+            StartFault::TooManyPages => "too-many-pages",
+            StartFault::NoMemory => "no-memory",
+        }
+    }
+}

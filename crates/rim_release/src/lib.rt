@@ -1,0 +1,10 @@
+//! A release: its manifest, and the report of the Realm Initial Measurements of its launches.
+#![tactic(auto)]
+
+pub mod fault;
+pub mod measured;
+pub mod report;
+
+pub use fault::StartFault;
+pub use report::{Files, measure_alone};
+pub use rim_manifest::{Config, Launch, ManifestFault, Release, read_manifest};

@@ -1,0 +1,9 @@
+//! Tests over the layers. They stand here because a crate with tests of its own is proved twice.
+#![tactic(auto)]
+
+#[cfg(test)]
+mod kinds;
+#[cfg(test)]
+mod manifests;
+#[cfg(test)]
+mod reports;
