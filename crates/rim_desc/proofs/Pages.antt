@@ -5,7 +5,7 @@ use Rattle.std.proofs.lemmas.List.{length-take-le, length-replicate, get_or-repl
 use Rattle.std.proofs.Math.ListN.{get_or-append}
 use Rattle.std.proofs.Math.Seq.{get_or-append_right}
 use Rattle.std.proofs.lemmas.Bool.Decides.{nat_tests}
-use Rattle.rim_desc.specs.Page.{Field, all_fit, is_listed, with_fields, with_part, zeros}
+use Rattle.rim_desc.specs.Page.{Field, all_fit, covers, is_listed, with_fields, with_part, zeros}
 
 -- a part in a page leaves the page's length
 pub length-with_part : (page part : List ℕ) (at : ℕ) → at + length part ≤ length page → length (with_part page at part) ≡ length page

@@ -5,3 +5,4 @@ pub mod Rec
 pub mod RecInside
 pub mod Descriptor
 pub mod Part
+pub mod Number

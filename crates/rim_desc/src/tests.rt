@@ -1,8 +1,9 @@
 //! Values from outside: pages and descriptors laid out by hand in Python, their digests by its hashlib.
 use crate::{
-    Algo, Measurement, RealmParams, RecParams, data_descriptor, extend, hash, realm_page,
-    rec_descriptor, rec_mpidr, rec_page, ripas_descriptor,
+    Algo, Measurement, RealmParams, RecParams, data_descriptor, extend, hash, push_digits,
+    realm_page, rec_descriptor, rec_mpidr, rec_page, ripas_descriptor,
 };
+use std::test::Fail;
 
 fn smallest(algo: Algo) -> RealmParams {
     RealmParams {
@@ -97,4 +98,16 @@ fn descriptors(rt: HostRuntime) {
     );
     let rec = rec_descriptor(&rim, &content);
     assert_eq!(rt; front(&extend(Algo::Sha256, &rec)), 0x8ba6_0b3d_eaf3_98ca);
+}
+
+#[test]
+fn sixteen_digits(rt: HostRuntime) -> Result<(), Fail> {
+    let mut text = Vec::new(rt.alloc());
+    push_digits(&mut text, 0x8_0000_2aBF)?;
+    push_digits(&mut text, u64::MAX)?;
+    assert_eq!(rt;
+        text.as_slice(),
+        b"0000000800002abfffffffffffffffff".as_slice()
+    );
+    Ok(())
 }

@@ -48,7 +48,7 @@ impl Release {
     pub fn launches(&self) -> usize
         ensures { result ≡ length self.now.launches }
     {
-        self.launches.as_slice().len()
+        self.all_launches().len()
     }
 
     /// The number of the launch of this name.

@@ -1,3 +1,4 @@
 pub mod Faults
 pub mod Measured
 pub mod Report
+pub mod Shown

@@ -1,7 +1,8 @@
-//! Why a release is not measured.
+//! Why a call of this crate is refused.
 ghost use Rattle.std.specs.Prelude.{◌≡◌};
-ghost use Rattle.rim_release.specs.Faults.{start_kind_of};
+ghost use Rattle.rim_release.specs.Faults.{image_kind_of, show_kind_of, start_kind_of};
 
+use arm64_image::ImageFault;
 use thiserror::Error;
 
 /// Why the measuring of a release does not start.
@@ -28,5 +29,38 @@ impl StartFault {
             StartFault::TooManyPages => "too-many-pages",
             StartFault::NoMemory => "no-memory",
         }
+    }
+}
+
+/// Why a file is not shown.
+#[derive(Clone, Copy, Debug, PartialEq, Eq, Error)]
+pub enum ShowFault {
+    /// The file is no arm64 Image.
+    #[error("{}", image_kind(*.0))]
+    Image(ImageFault),
+    /// The allocator refused a growth.
+    #[error("no-memory")]
+    NoMemory,
+}
+
+impl ShowFault {
+    /// The fault's word, as the program prints it.
+    pub fn kind(&self) -> &'static str
+        ensures { result.now ≡ show_kind_of self.now }
+    {
+        match self {
+            ShowFault::Image(fault) => image_kind(*fault),
+            ShowFault::NoMemory => "no-memory",
+        }
+    }
+}
+
+/// The word of a fault of an Image.
+fn image_kind(fault: ImageFault) -> &'static str
+    ensures { result.now ≡ image_kind_of fault }
+{
+    match fault {
+        ImageFault::Short => "kernel-short",
+        ImageFault::BadMagic => "kernel-bad-magic",
     }
 }

@@ -4,7 +4,9 @@
 pub mod fault;
 pub mod measured;
 pub mod report;
+pub mod show;
 
-pub use fault::StartFault;
+pub use fault::{ShowFault, StartFault};
 pub use report::{Files, measure_alone};
 pub use rim_manifest::{Config, Launch, ManifestFault, Release, read_manifest};
+pub use show::show_image;

@@ -1,5 +1,5 @@
 //! The report of a release.
-ghost use Rattle.std.specs.Prelude.{◌≡◌, ◌++◌, IfErr, IfOk, OnOk, length};
+ghost use Rattle.std.specs.Prelude.{◌≡◌, ◌++◌, IfErr, IfOk, OnOk, length, vec_len};
 ghost use Rattle.std.specs.List.{flat_map};
 ghost use Rattle.rim_release.specs.Report.{algo_word, digest_bytes, digest_text, line_of, report_of};
 ghost use Rattle.rim_desc.specs.Part.{rim_of};
@@ -17,7 +17,7 @@ pub type Files = Vec<Vec<u8>>;
 /// The report of a release, made on the calling thread without waiting: a line `rim-report 1`, a line
 /// `NAME ALGO HEX` for each launch in the manifest's order, and a line `pages N`.
 pub fn measure_alone(alloc: Global, release: &Release, files: &Files) -> Result<Vec<u8>, StartFault>
-    requires { length files.now.items ≡ length release.now.paths }
+    requires { vec_len files.now ≡ length release.now.paths }
     ensures report { IfOk result (λ text. text.items ≡ report_of release.now.launches) }
     ensures fault { IfErr result (λ e. e ≡ StartFault.NoMemory) }
 {

@@ -2,8 +2,14 @@
 #![tactic(auto)]
 
 #[cfg(test)]
+mod fakes;
+#[cfg(test)]
+mod faults;
+#[cfg(test)]
 mod kinds;
 #[cfg(test)]
 mod manifests;
 #[cfg(test)]
 mod reports;
+#[cfg(test)]
+mod words;

@@ -1,0 +1,4 @@
+pub mod Entering
+pub mod Fitting
+pub mod Values
+pub mod Reading

@@ -1,0 +1,54 @@
+-- The command line of `rim`, as this project chooses it, in the words of `clap`'s definition for simple
+-- commands; and what the words of a command line ask for.
+use Rattle.std.specs.Prelude.{◌≡◌, ◌≤◌, ℕ, true, pos, List, Option, Some, None, IfSome, codes, is_some}
+use Rattle.std.specs.Str.Parse.{digits_value, without_leading_plus}
+use Rattle.clap.specs.Words.{App, Row, Rule, Text, first_of, new_app, new_rule, with_rule, with_subcommand}
+use Rattle.clap.specs.Simple.{on_top}
+use Rattle.clap.specs.Values.{IsSignedIn}
+use Rattle.clap.specs.declared.builder.value_parser.ValueParser.TheVariants as parser
+use Rattle.rim_cli.specs.declared.command.Request.{Request}
+use Rattle.rim_cli.specs.declared.command.Request.TheVariants.{Measure}
+
+-- an operand that has to be given, with a name that usage texts show
+abbrev pub operand_rule : Text → Rule
+operand_rule id = record (new_rule id) { required = true; value_names = 1 }
+
+-- `--workers N`, a number from 1 to 64
+abbrev pub workers_rule : Rule
+workers_rule = record (new_rule (codes "workers")) {
+  long = Some (codes "workers");
+  value_names = 1;
+  parser = Some (parser.Signed (pos 1) (pos 64));
+}
+
+-- `measure MANIFEST [--workers N]`
+abbrev pub measure : App
+measure = with_rule (with_rule (new_app (codes "measure")) (operand_rule (codes "manifest"))) workers_rule
+
+-- the program: one of its subcommands has to be given, and it has a version
+abbrev pub rim : App
+rim = on_top (λ s. record s { has_version = true; subcommand_required = true; disable_help_subcommand = true })
+    (with_subcommand (new_app (codes "rim")) measure.top)
+
+-- the number of workers, 4 where none is given: in words that `clap` takes it is from 1 to 64
+abbrev pub CountsWorkers : Option Text → ℕ → Type 0
+CountsWorkers None n = n ≡ 4
+CountsWorkers (Some text) n = (n ≡ digits_value 10 (without_leading_plus text)) × (1 ≤ n) × (n ≤ 64)
+
+-- the request is the one of a subcommand's name, and has what the matches of that subcommand hold
+abbrev pub ReadsRow : Text → List Row → Request → Type 0
+ReadsRow name rows (Measure manifest workers) = (name ≡ codes "measure")
+    × (first_of (codes "manifest") rows ≡ Some manifest.now) × CountsWorkers (first_of (codes "workers") rows) workers
+
+abbrev pub ReadsRequest : Option (Text × List Row) → Request → Type 0
+ReadsRequest None request = ⊥
+ReadsRequest (Some p) request = ReadsRow p.0 p.1 request
+
+-- what holds of the matches of `measure` where `clap` takes the words
+abbrev pub IsMeasure : Text → List Row → Type 0
+IsMeasure name rows = (name ≡ codes "measure") × (is_some (first_of (codes "manifest") rows) ≡ true)
+    × IfSome (first_of (codes "workers") rows) (λ text. IsSignedIn (pos 1) (pos 64) text)
+
+-- and of those of some subcommand: a further one is a further case
+abbrev pub IsEntered : Text → List Row → Type 0
+IsEntered name rows = IsMeasure name rows

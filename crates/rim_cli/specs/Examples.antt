@@ -1,0 +1,26 @@
+-- Examples of command lines, read by the definition of `clap`.
+use Rattle.std.specs.Prelude.{◌≡◌, ℕ, true, false, List, [], ◌∷◌, Option, Some, None, codes, option_map}
+use Rattle.clap.specs.Words.{Text, first_of, subcommand_of, takes}
+use Rattle.rim_cli.specs.Command.{CountsWorkers, rim}
+
+abbrev pub plain : List Text
+plain = codes "rim" ∷ codes "measure" ∷ codes "manifest.toml" ∷ []
+
+abbrev pub with_seven : List Text
+with_seven = codes "rim" ∷ codes "measure" ∷ codes "--workers=7" ∷ codes "manifest.toml" ∷ []
+
+abbrev pub too_many : List Text
+too_many = codes "rim" ∷ codes "measure" ∷ codes "manifest.toml" ∷ codes "--workers" ∷ codes "65" ∷ []
+
+abbrev pub TakesExamples : Type 0
+TakesExamples = (takes rim plain ≡ true) × (takes rim with_seven ≡ true) × (takes rim too_many ≡ false)
+    × (takes rim (codes "rim" ∷ codes "help" ∷ []) ≡ false) × (takes rim (codes "rim" ∷ []) ≡ false)
+
+-- the texts of the manifest and of the workers that the words hold
+abbrev pub read_in : List Text → Option (Option Text × Option Text)
+read_in words = option_map (λ p. (first_of (codes "manifest") p.1, first_of (codes "workers") p.1)) (subcommand_of rim words)
+
+abbrev pub ReadsExamples : Type 0
+ReadsExamples = (read_in plain ≡ Some (Some (codes "manifest.toml"), None))
+    × (read_in with_seven ≡ Some (Some (codes "manifest.toml"), Some (codes "7")))
+    × ((n : ℕ) → CountsWorkers None n → n ≡ 4) × ((n : ℕ) → CountsWorkers (Some (codes "7")) n → n ≡ 7)

@@ -1,0 +1,107 @@
+//! What the words of a command line ask for.
+ghost use Rattle.std.specs.Prelude.{◌≡◌, IfOk, IfErr, IfSome, Some, true, pos, map, codes, is_some, option_map};
+ghost use Rattle.clap.specs.Values.{IsSignedIn};
+ghost use Rattle.clap.specs.Words.{first_of, found_of, kind_of, rows_of, subcommand_of, takes};
+ghost use Rattle.rim_cli.specs.Command.{CountsWorkers, IsEntered, ReadsRequest, ReadsRow, rim};
+
+use crate::definition::rim_command;
+use clap::ArgMatches;
+use clap::error::ErrorKind;
+use std::alloc::Global;
+use std::convert::AsStr;
+use thiserror::Error;
+
+/// What the words ask for.
+#[derive(Clone, Copy, Debug)]
+pub enum Request<'a> {
+    /// The report of the launches of a manifest, which stands at a path, made by 1 to 64 workers.
+    Measure { manifest: &'a str, workers: u8 },
+}
+
+/// Why the words ask for nothing.
+#[derive(Debug, Drop, Error)]
+pub enum CommandFault {
+    /// They are no command line of this program, or ask for help or its version.
+    #[error(transparent)]
+    Usage(clap::Error),
+    /// Memory ran out.
+    #[error("no-memory")]
+    NoMemory,
+}
+
+/// Reads the words of a command line, of which the first is the program's name.
+pub fn command<'a, S: AsStr>(alloc: Global, words: &'a [S]) -> Result<Request<'a>, CommandFault>
+    // the subcommand, its operands and the workers are those that the words have by `clap`'s definition
+    ensures reads { IfOk result (ReadsRequest (subcommand_of rim (map S.text words.entry.now))) }
+    ensures takes { takes rim (map S.text words.entry.now) ≡ true → IfErr result (λ e. e ≡ CommandFault.NoMemory) }
+{
+    let Ok(rim) = rim_command(alloc) else {
+        return Err(CommandFault::NoMemory);
+    };
+    let matches = match rim.try_get_matches_from(words) {
+        Ok(matches) => matches,
+        Err(error) => return Err(fault_of(error)),
+    };
+    let Some((name, given)) = matches.subcommand() else {
+        unreachable!()
+    };
+    Ok(request_of(name, given))
+}
+
+/// What a subcommand with its matches asks for.
+fn request_of<'a>(name: &str, given: &ArgMatches<'a>) -> Request<'a>
+    requires { IsEntered name.now (rows_of (found_of given.now)) }
+    ensures { ReadsRow name.now (rows_of (found_of given.now)) result }
+{
+    match name {
+        "measure" => Request::Measure {
+            manifest: operand(given, "manifest"),
+            workers: workers(given),
+        },
+        _ => unreachable!(),
+    }
+}
+
+/// What a refused parse is answered as.
+fn fault_of(error: clap::Error) -> CommandFault
+    ensures { kind_of error ≡ ErrorKind.OutOfMemory → result ≡ CommandFault.NoMemory }
+{
+    match error.kind() {
+        ErrorKind::OutOfMemory => CommandFault::NoMemory,
+        _ => CommandFault::Usage(error),
+    }
+}
+
+/// The text of an operand that was given.
+fn operand<'a>(given: &ArgMatches<'a>, id: &str) -> &'a str
+    requires { is_some (first_of id.now (rows_of (found_of given.now))) ≡ true }
+    ensures { first_of id.now (rows_of (found_of given.now)) ≡ Some result.now }
+{
+    value(given, id).unwrap()
+}
+
+/// The text of an argument, where it has one.
+fn value<'a>(given: &ArgMatches<'a>, id: &str) -> Option<&'a str>
+    ensures { first_of id.now (rows_of (found_of given.now)) ≡ option_map (λ s. s.now) result }
+{
+    given.get_str(id)
+}
+
+/// The number of workers, 4 where none is given.
+fn workers(given: &ArgMatches) -> u8
+    requires { IfSome (first_of (codes "workers") (rows_of (found_of given.now))) (λ text. IsSignedIn (pos 1) (pos 64) text) }
+    ensures { CountsWorkers (first_of (codes "workers") (rows_of (found_of given.now))) result }
+{
+    match value(given, "workers") {
+        Some(text) => number_of(text),
+        None => 4,
+    }
+}
+
+/// The number from 1 to 64 that a text writes.
+fn number_of(text: &str) -> u8
+    requires { IsSignedIn (pos 1) (pos 64) text.now }
+    ensures { CountsWorkers (Some text.now) result }
+{
+    text.parse::<u8>().unwrap()
+}

@@ -1,0 +1,46 @@
+//! Why a run of the program fails.
+ghost use Rattle.std.specs.Prelude.{◌≡◌, ◌≤◌};
+ghost use Rattle.rim_cli.specs.Status.{status_of};
+
+use rim_release::{ManifestFault, StartFault};
+
+/// Why a run fails, apart from the words of its command line.
+#[derive(Clone, Copy, Debug, PartialEq, Eq)]
+pub enum Fault {
+    Manifest(ManifestFault),
+    Start(StartFault),
+    /// A file cannot be opened or read.
+    FileUnreadable,
+    /// A file has more bytes than the limit.
+    FileTooLarge,
+    /// The output cannot be written.
+    OutputFailed,
+    NoMemory,
+}
+
+impl Fault {
+    /// The name that is printed.
+    pub fn name(&self) -> &'static str {
+        match self {
+            Fault::Manifest(fault) => fault.kind(),
+            Fault::Start(fault) => fault.kind(),
+            Fault::FileUnreadable => "file-unreadable",
+            Fault::FileTooLarge => "file-too-large",
+            Fault::OutputFailed => "output-failed",
+            Fault::NoMemory => "no-memory",
+        }
+    }
+
+    /// The exit status: 4 for want of memory, 3 for all else.
+    pub fn status(&self) -> u8
+        ensures value { result ≡ status_of self.now }
+        ensures known { result ≤ 4 }
+    {
+        match self {
+            Fault::NoMemory
+            | Fault::Manifest(ManifestFault::NoMemory)
+            | Fault::Start(StartFault::NoMemory) => 4,
+            _ => 3,
+        }
+    }
+}

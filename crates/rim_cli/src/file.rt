@@ -1,0 +1,59 @@
+//! Files, opened by their paths and read whole.
+ghost use Rattle.std.specs.Prelude.{◌≡◌, ◌≤◌, IfOk, IfSome, length, vec_len};
+
+use crate::fault::Fault;
+use crate::patient::Patient;
+use rim_release::{Files, Release};
+use std::alloc::Global;
+use std::io::{ErrorKind, Read};
+
+/// The most bytes that a file may have.
+pub const FILE_LIMIT: u64 = 268_435_456;
+
+/// What opens files by their paths.
+pub trait Opener {
+    type Reader: Read + Drop;
+
+    /// Opens a file for reading, or answers `None`.
+    fn open(&mut self, path: &str) -> Option<Self::Reader>;
+}
+
+/// The bytes of each file of a release, in its order.
+pub fn read_files<O: Opener>(
+    alloc: Global,
+    opener: &mut O,
+    release: &Release,
+) -> Result<Files, Fault>
+    ensures { IfOk result (λ files. vec_len files ≡ length release.now.paths) }
+{
+    let mut files = Vec::new(alloc);
+    for i in 0..release.file_count() {
+        let bytes = read_file(alloc, opener, release.path(i))?;
+        files.push(bytes).map_err(|_| Fault::NoMemory)?;
+    }
+    Ok(files)
+}
+
+/// The bytes of the file at a path.
+pub fn read_file<O: Opener>(alloc: Global, opener: &mut O, path: &str) -> Result<Vec<u8>, Fault> {
+    let reader = opener.open(path).ok_or(Fault::FileUnreadable)?;
+    read_whole(alloc, reader)
+}
+
+/// All bytes of a reader, of which one more than the limit is read at the most.
+fn read_whole<R: Read + Drop>(alloc: Global, reader: R) -> Result<Vec<u8>, Fault>
+    ensures limit { IfOk result (λ bytes. length bytes.items ≤ 268435456) }
+    ensures whole { IfOk result (λ bytes. IfSome (R.remaining reader) (λ held. bytes.items ≡ held)) }
+{
+    let mut bytes = Vec::new(alloc);
+    let read = Patient::new(reader)
+        .take(FILE_LIMIT + 1)
+        .read_to_end(&mut bytes);
+    let count = bytes.as_slice().len() as u64;
+    match read {
+        Ok(_) if count <= FILE_LIMIT => Ok(bytes),
+        Ok(_) => Err(Fault::FileTooLarge),
+        Err(error) if error.kind() == ErrorKind::OutOfMemory => Err(Fault::NoMemory),
+        Err(_) => Err(Fault::FileUnreadable),
+    }
+}

@@ -1,0 +1,166 @@
+//! Files, readers and writers for the runs of the tests.
+use rim_cli::{Opener, run};
+use std::alloc::Global;
+use std::io;
+use std::io::{ErrorKind, Read, Write};
+use std::process::Abort;
+use std::test::Fail;
+
+pub const SMALLEST: &[u8] =
+    b"rim_manifest = 1\n[[launch]]\nname = \"small\"\nalgo = \"sha256\"\ns2sz = 33\n";
+
+pub const SMALLEST_REPORT: &[u8] = b"rim-report 1
+small sha256 bf97de388b1abb45577017aa8a9a8d1f160889b11df8e5803e2bf9d8a33e788c
+pages 0
+";
+
+/// One file, `manifest.toml`.
+#[derive(Drop)]
+pub struct OneFile(pub &'static [u8]);
+
+impl Opener for OneFile {
+    type Reader = &'static [u8];
+
+    fn open(&mut self, path: &str) -> Option<&'static [u8]> {
+        if path == "manifest.toml" {
+            Some(self.0)
+        } else {
+            None
+        }
+    }
+}
+
+/// What a run gave.
+#[derive(Drop)]
+pub struct Ran {
+    pub status: u8,
+    pub out: Vec<u8>,
+    pub err: Vec<u8>,
+}
+
+/// Runs the program on some words, where `manifest.toml` has these bytes.
+pub fn ran_on(alloc: Global, words: &[&str], manifest: &'static [u8]) -> Ran {
+    let mut out = Vec::new(alloc);
+    let mut err = Vec::new(alloc);
+    let status = run(
+        &(),
+        alloc,
+        words,
+        &mut OneFile(manifest),
+        &mut out,
+        &mut err,
+    );
+    Ran { status, out, err }
+}
+
+/// A reader that gives 100 bytes of zeros a read, and fails at one of its reads.
+#[derive(Drop)]
+pub struct FailingReader {
+    pub reads_left: u8,
+}
+
+impl Read for FailingReader {
+    fn read(&mut self, buf: &mut [u8]) -> io::Result<usize> {
+        if self.reads_left == 0 {
+            return Err(io::Error::from(ErrorKind::InvalidData));
+        }
+        self.reads_left -= 1;
+        let n = buf.len().min(100);
+        Ok(n)
+    }
+}
+
+/// Opens every path as a reader that fails.
+#[derive(Drop)]
+pub struct FailingFiles(pub u8);
+
+impl Opener for FailingFiles {
+    type Reader = FailingReader;
+
+    fn open(&mut self, _path: &str) -> Option<FailingReader> {
+        Some(FailingReader { reads_left: self.0 })
+    }
+}
+
+/// A reader of which each read is interrupted, but for one after so many.
+#[derive(Drop)]
+pub struct InterruptedReader {
+    pub before: u32,
+    pub text: &'static [u8],
+}
+
+impl Read for InterruptedReader {
+    fn read(&mut self, buf: &mut [u8]) -> io::Result<usize> {
+        if self.before > 0 {
+            self.before -= 1;
+            return Err(io::Error::from(ErrorKind::Interrupted));
+        }
+        self.text.read(buf)
+    }
+}
+
+/// Opens every path as the smallest manifest behind so many interruptions.
+#[derive(Drop)]
+pub struct InterruptedFiles(pub u32);
+
+impl Opener for InterruptedFiles {
+    type Reader = InterruptedReader;
+
+    fn open(&mut self, _path: &str) -> Option<InterruptedReader> {
+        Some(InterruptedReader {
+            before: self.0,
+            text: SMALLEST,
+        })
+    }
+}
+
+/// A reader without an end.
+#[derive(Drop)]
+pub struct EndlessFiles;
+
+impl Opener for EndlessFiles {
+    type Reader = io::Repeat;
+
+    fn open(&mut self, _path: &str) -> Option<io::Repeat> {
+        Some(io::repeat(b'#'))
+    }
+}
+
+/// A writer that takes 10 bytes a write, and fails at one of its writes.
+#[derive(Drop)]
+pub struct FailingWriter {
+    pub writes_left: u8,
+}
+
+impl Write for FailingWriter {
+    fn write(&mut self, buf: &[u8]) -> io::Result<usize> {
+        if self.writes_left == 0 {
+            return Err(io::Error::from(ErrorKind::WriteZero));
+        }
+        self.writes_left -= 1;
+        Ok(buf.len().min(10))
+    }
+
+    fn flush(&mut self) -> io::Result<()> {
+        Ok(())
+    }
+}
+
+/// A writer that takes all, and fails when it is flushed.
+#[derive(Drop)]
+pub struct FailingFlush;
+
+impl Write for FailingFlush {
+    fn write(&mut self, buf: &[u8]) -> io::Result<usize> {
+        Ok(buf.len())
+    }
+
+    fn flush(&mut self) -> io::Result<()> {
+        Err(io::Error::from(ErrorKind::BrokenPipe))
+    }
+}
+
+/// Whether some text begins as it should.
+pub fn begins(text: &[u8], start: &str) -> bool {
+    text.starts_with(start.as_bytes())
+}
