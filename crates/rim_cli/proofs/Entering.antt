@@ -16,7 +16,7 @@ use Rattle.clap.specs.declared.parser.matches.SubCommand.{SubCommand}
 use Rattle.clap.specs.declared.parser.matches.ArgMatches.TheViews.{out-SubCommand}
 use Rattle.clap.proofs.ValueTestLemmas.{accepts-Accepts}
 use Rattle.clap.specs.declared.builder.value_parser.ValueParser.TheVariants as parser
-use Rattle.rim_cli.specs.Command.{IsEntered, IsMeasure, measure, operand_rule, rim, workers_rule}
+use Rattle.rim_cli.specs.Command.{IsEntered, IsMeasure, IsShowing, measure, operand_rule, rim, showing, workers_rule}
 use Rattle.rim_cli.proofs.Fitting.{none_of, settled_fits, walk_fits}
 use Rattle.rim_cli.proofs.Values.{IsSound, fits, first_given, first_passes, keeps}
 
@@ -106,6 +106,33 @@ measure_entered words passes = (refl, first_given measure_shape.rules manifest_b
     workers (Some text) is =
         accepts-Accepts false (parser.Signed (pos 1) (pos 64)) text (first_passes measure_shape.rules workers_built refl rows all text is)
 
+-- a subcommand that shows a file, as it is built below `rim`
+abbrev showing_shape : Text → Shape
+showing_shape verb = built_leaf (inherited (with_leaf_noted (marked_built rim.top)) (showing verb).top)
+
+abbrev file_built : Rule
+file_built = with_index 1 (filled (operand_rule (codes "file")))
+
+showing_entered : (verb : Text) (words : List Text) → level_fault (showing_shape verb) [] nothing_held words false [] ≡ []
+    → IsShowing verb verb (rows_after (showing_shape verb).rules [] words)
+showing_entered verb words passes = (refl, first_given (showing_shape verb).rules file_built refl rows all given)
+  where
+    sound : Each (IsSound (showing_shape verb).rules) (showing_shape verb).rules
+    sound = (inl (record { set = refl; least = refl; own = refl }), (inr refl, tt))
+
+    rows : List Row
+    rows = rows_after (showing_shape verb).rules [] words
+
+    all : list_all (fits (showing_shape verb).rules) rows ≡ true
+    all = rows_fit (showing_shape verb) words sound (refl, (refl, tt)) passes
+
+    go : (b : Bool) → check_kinds false false (not b || false) ≡ [] → b ≡ true
+    go true e = refl
+    go false e = cc
+
+    given : is_given (codes "file") rows ≡ true
+    given = go (is_given (codes "file") rows) (checks_pass (showing_shape verb) words sound (refl, (refl, tt)) passes)
+
 -- the matches of each subcommand hold what they are to
 abbrev IsGood : Shape → Type 0
 IsGood s = (words : List Text) → level_fault s [] nothing_held words false [] ≡ [] → IsEntered s.name (rows_after s.rules [] words)
@@ -129,7 +156,7 @@ found_good word words (s ∷ subs) p good is passes = go (answers_to word (label
 
 stopped_good : (stop : Option (Text × List Text)) (p : Text × List Row) → entered (built rim) stop ≡ Some p → entered_fault (built rim) stop ≡ [] → IsEntered p.0 p.1
 stopped_good None p is passes = cc
-stopped_good (Some q) p is passes = found_good q.0 q.1 (built rim).subs p (measure_entered, tt) is passes
+stopped_good (Some q) p is passes = found_good q.0 q.1 (built rim).subs p (λ words fits. inl (measure_entered words fits), (λ words fits. inr (showing_entered (codes "image") words fits), tt)) is passes
 
 -- where `clap` takes the words, the matches of the subcommand hold what they are to
 pub entered_good : (words : List Text) (p : Text × List Row) → fault_of rim words ≡ [] → subcommand_of rim words ≡ Some p → IsEntered p.0 p.1

@@ -1,13 +1,13 @@
 -- The command line of `rim`, as this project chooses it, in the words of `clap`'s definition for simple
 -- commands; and what the words of a command line ask for.
-use Rattle.std.specs.Prelude.{◌≡◌, ◌≤◌, ℕ, true, pos, List, Option, Some, None, IfSome, codes, is_some}
+use Rattle.std.specs.Prelude.{◌≡◌, ◌≤◌, ◌⊎◌, ℕ, true, pos, List, Option, Some, None, IfSome, codes, is_some}
 use Rattle.std.specs.Str.Parse.{digits_value, without_leading_plus}
 use Rattle.clap.specs.Words.{App, Row, Rule, Text, first_of, new_app, new_rule, with_rule, with_subcommand}
 use Rattle.clap.specs.Simple.{on_top}
 use Rattle.clap.specs.Values.{IsSignedIn}
 use Rattle.clap.specs.declared.builder.value_parser.ValueParser.TheVariants as parser
 use Rattle.rim_cli.specs.declared.command.Request.{Request}
-use Rattle.rim_cli.specs.declared.command.Request.TheVariants.{Measure}
+use Rattle.rim_cli.specs.declared.command.Request.TheVariants.{Measure, Image}
 
 -- an operand that has to be given, with a name that usage texts show
 abbrev pub operand_rule : Text → Rule
@@ -25,10 +25,14 @@ workers_rule = record (new_rule (codes "workers")) {
 abbrev pub measure : App
 measure = with_rule (with_rule (new_app (codes "measure")) (operand_rule (codes "manifest"))) workers_rule
 
+-- a subcommand that shows the file at a path: `image FILE`
+abbrev pub showing : Text → App
+showing name = with_rule (new_app name) (operand_rule (codes "file"))
+
 -- the program: one of its subcommands has to be given, and it has a version
 abbrev pub rim : App
 rim = on_top (λ s. record s { has_version = true; subcommand_required = true; disable_help_subcommand = true })
-    (with_subcommand (new_app (codes "rim")) measure.top)
+    (with_subcommand (with_subcommand (new_app (codes "rim")) measure.top) (showing (codes "image")).top)
 
 -- the number of workers, 4 where none is given: in words that `clap` takes it is from 1 to 64
 abbrev pub CountsWorkers : Option Text → ℕ → Type 0
@@ -39,6 +43,7 @@ CountsWorkers (Some text) n = (n ≡ digits_value 10 (without_leading_plus text)
 abbrev pub ReadsRow : Text → List Row → Request → Type 0
 ReadsRow name rows (Measure manifest workers) = (name ≡ codes "measure")
     × (first_of (codes "manifest") rows ≡ Some manifest.now) × CountsWorkers (first_of (codes "workers") rows) workers
+ReadsRow name rows (Image file) = (name ≡ codes "image") × (first_of (codes "file") rows ≡ Some file.now)
 
 abbrev pub ReadsRequest : Option (Text × List Row) → Request → Type 0
 ReadsRequest None request = ⊥
@@ -49,6 +54,10 @@ abbrev pub IsMeasure : Text → List Row → Type 0
 IsMeasure name rows = (name ≡ codes "measure") × (is_some (first_of (codes "manifest") rows) ≡ true)
     × IfSome (first_of (codes "workers") rows) (λ text. IsSignedIn (pos 1) (pos 64) text)
 
+-- the same of a subcommand that shows a file
+abbrev pub IsShowing : Text → Text → List Row → Type 0
+IsShowing verb name rows = (name ≡ verb) × (is_some (first_of (codes "file") rows) ≡ true)
+
 -- and of those of some subcommand: a further one is a further case
 abbrev pub IsEntered : Text → List Row → Type 0
-IsEntered name rows = IsMeasure name rows
+IsEntered name rows = IsMeasure name rows ⊎ IsShowing (codes "image") name rows

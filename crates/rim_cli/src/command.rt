@@ -16,6 +16,8 @@ use thiserror::Error;
 pub enum Request<'a> {
     /// The report of the launches of a manifest, which stands at a path, made by 1 to 64 workers.
     Measure { manifest: &'a str, workers: u8 },
+    /// The header of the arm64 Image at a path.
+    Image { file: &'a str },
 }
 
 /// Why the words ask for nothing.
@@ -57,6 +59,9 @@ fn request_of<'a>(name: &str, given: &ArgMatches<'a>) -> Request<'a>
         "measure" => Request::Measure {
             manifest: operand(given, "manifest"),
             workers: workers(given),
+        },
+        "image" => Request::Image {
+            file: operand(given, "file"),
         },
         _ => unreachable!(),
     }

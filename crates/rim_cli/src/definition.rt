@@ -1,8 +1,8 @@
 //! The command line as `clap` reads it: the program's subcommands with their arguments and help texts.
-ghost use Rattle.std.specs.Prelude.{◌≡◌, IfOk, true, false};
-ghost use Rattle.clap.specs.Words.{app_of, rule_of};
+ghost use Rattle.std.specs.Prelude.{◌≡◌, IfOk, codes, true, false};
+ghost use Rattle.clap.specs.Words.{app_of, rule_of, with_subcommand};
 ghost use Rattle.clap.specs.declared.builder.command.Command.TheViews.{out-Command};
-ghost use Rattle.rim_cli.specs.Command.{measure, operand_rule, rim, workers_rule};
+ghost use Rattle.rim_cli.specs.Command.{measure, operand_rule, rim, showing, workers_rule};
 
 use clap::{Arg, Command};
 use std::alloc::{AllocError, Global};
@@ -42,8 +42,21 @@ pub fn rim_command<'a>(alloc: Global) -> Result<Command<'a>, AllocError>
         .version(VERSION)
         .about("Computes Realm Initial Measurements of Arm CCA realms")
         .after_help(GUIDE);
-    let rim = rim.subcommand(measure_command(alloc)?)?;
+    let rim = with_subcommand(rim, measure_command(alloc)?)?;
+    let rim = with_subcommand(rim, image_command(alloc)?)?;
     Ok(rim.subcommand_required(true).disable_help_subcommand(true))
+}
+
+/// A command with one more subcommand, which passes no argument on to subcommands of its own.
+fn with_subcommand<'a>(
+    command: Command<'a>,
+    subcommand: Command<'a>,
+) -> Result<Command<'a>, AllocError>
+    requires { (out-Command subcommand).has_globals ≡ false }
+    ensures shape { IfOk result (λ c. app_of c ≡ with_subcommand (app_of command.entry) (app_of subcommand.entry).top) }
+    ensures globals { (out-Command command.entry).has_globals ≡ false → IfOk result (λ c. (out-Command c).has_globals ≡ false) }
+{
+    command.subcommand(subcommand)
 }
 
 fn measure_command<'a>(alloc: Global) -> Result<Command<'a>, AllocError>
@@ -58,6 +71,19 @@ fn measure_command<'a>(alloc: Global) -> Result<Command<'a>, AllocError>
             .about("Prints the measurement of each launch of a manifest")
             .after_help("`rim --help` says what a manifest is, and lists the exit statuses."),
     )
+}
+
+fn image_command<'a>(alloc: Global) -> Result<Command<'a>, AllocError>
+    ensures shape { IfOk result (λ c. app_of c ≡ showing (codes "image")) }
+    ensures globals { IfOk result (λ c. (out-Command c).has_globals ≡ false) }
+{
+    let image = Command::new(alloc, "image").arg(operand_arg(
+        alloc,
+        "file",
+        "FILE",
+        "The Image, as a kernel's build writes it",
+    ))?;
+    Ok(image.about("Prints the header of an arm64 kernel Image"))
 }
 
 /// An operand that has to be given, with the name that usage texts show.

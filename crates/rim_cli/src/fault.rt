@@ -2,13 +2,14 @@
 ghost use Rattle.std.specs.Prelude.{◌≡◌, ◌≤◌};
 ghost use Rattle.rim_cli.specs.Status.{status_of};
 
-use rim_release::{ManifestFault, StartFault};
+use rim_release::{ManifestFault, ShowFault, StartFault};
 
 /// Why a run fails, apart from the words of its command line.
 #[derive(Clone, Copy, Debug, PartialEq, Eq)]
 pub enum Fault {
     Manifest(ManifestFault),
     Start(StartFault),
+    Show(ShowFault),
     /// A file cannot be opened or read.
     FileUnreadable,
     /// A file has more bytes than the limit.
@@ -24,6 +25,7 @@ impl Fault {
         match self {
             Fault::Manifest(fault) => fault.kind(),
             Fault::Start(fault) => fault.kind(),
+            Fault::Show(fault) => fault.kind(),
             Fault::FileUnreadable => "file-unreadable",
             Fault::FileTooLarge => "file-too-large",
             Fault::OutputFailed => "output-failed",
@@ -39,7 +41,8 @@ impl Fault {
         match self {
             Fault::NoMemory
             | Fault::Manifest(ManifestFault::NoMemory)
-            | Fault::Start(StartFault::NoMemory) => 4,
+            | Fault::Start(StartFault::NoMemory)
+            | Fault::Show(ShowFault::NoMemory) => 4,
             _ => 3,
         }
     }

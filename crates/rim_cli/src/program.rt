@@ -4,7 +4,7 @@ ghost use Rattle.std.specs.Prelude.{◌≡◌, ◌≤◌};
 use crate::command::{CommandFault, Request, command};
 use crate::fault::Fault;
 use crate::file::{Opener, read_file, read_files};
-use rim_release::{measure_alone, read_manifest};
+use rim_release::{measure_alone, read_manifest, show_image};
 use std::alloc::Global;
 use std::convert::AsStr;
 use std::io::Write;
@@ -39,6 +39,7 @@ pub fn run<R, S: AsStr, O: Opener, W: Write, E: Write>(
 fn answer_to<O: Opener>(alloc: Global, request: Request, opener: &mut O) -> Result<Vec<u8>, Fault> {
     match request {
         Request::Measure { manifest, .. } => measure(alloc, opener, manifest),
+        Request::Image { file } => image(alloc, opener, file),
     }
 }
 
@@ -48,6 +49,12 @@ fn measure<O: Opener>(alloc: Global, opener: &mut O, path: &str) -> Result<Vec<u
     let release = read_manifest(alloc, text.as_slice()).map_err(Fault::Manifest)?;
     let files = read_files(alloc, opener, &release)?;
     measure_alone(alloc, &release, &files).map_err(Fault::Start)
+}
+
+/// The header of the Image at a path.
+fn image<O: Opener>(alloc: Global, opener: &mut O, path: &str) -> Result<Vec<u8>, Fault> {
+    let bytes = read_file(alloc, opener, path)?;
+    show_image(alloc, bytes.as_slice()).map_err(Fault::Show)
 }
 
 /// Shows a usage text on standard error, status 2, or the help or version that was asked for on

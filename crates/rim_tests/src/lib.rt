@@ -6,6 +6,8 @@ mod fakes;
 #[cfg(test)]
 mod faults;
 #[cfg(test)]
+mod images;
+#[cfg(test)]
 mod kinds;
 #[cfg(test)]
 mod manifests;
