@@ -1,8 +1,10 @@
--- Exit statuses, this project's choice.
-use Rattle.std.specs.Prelude.{ℕ}
+-- Exit statuses and the names of faults, this project's choice.
+use Rattle.std.specs.Prelude.{ℕ, List, codes}
 use Rattle.rim_cli.specs.declared.fault.Fault.{Fault}
-use Rattle.rim_cli.specs.declared.fault.Fault.TheVariants.{Manifest, Start, Show, NoMemory}
+use Rattle.rim_cli.specs.declared.fault.Fault.TheVariants.{Manifest, Start, Show, FileUnreadable, FileTooLarge, OutputFailed, NoMemory}
+use Rattle.rim_manifest.specs.Faults.{kind_of}
 use Rattle.rim_manifest.specs.declared.fault.ManifestFault.TheVariants as manifest
+use Rattle.rim_release.specs.Faults.{show_kind_of, start_kind_of}
 use Rattle.rim_release.specs.declared.fault.ShowFault.TheVariants as show
 use Rattle.rim_release.specs.declared.fault.StartFault.TheVariants as start
 
@@ -13,3 +15,20 @@ status_of (Manifest manifest.NoMemory) = 4
 status_of (Start start.NoMemory) = 4
 status_of (Show show.NoMemory) = 4
 status_of _ = 3
+
+-- the name of a fault, as it is printed
+abbrev pub name_of : Fault → List ℕ
+name_of (Manifest fault) = kind_of fault
+name_of (Start fault) = start_kind_of fault
+name_of (Show fault) = show_kind_of fault
+name_of FileUnreadable = codes "file-unreadable"
+name_of FileTooLarge = codes "file-too-large"
+name_of OutputFailed = codes "output-failed"
+name_of NoMemory = codes "no-memory"
+
+-- a fault of reading files
+abbrev pub IsOfFiles : Fault → Type 0
+IsOfFiles FileUnreadable = Unit {0}
+IsOfFiles FileTooLarge = Unit {0}
+IsOfFiles NoMemory = Unit {0}
+IsOfFiles _ = ⊥

@@ -1,6 +1,6 @@
 //! Why a run of the program fails.
 ghost use Rattle.std.specs.Prelude.{◌≡◌, ◌≤◌};
-ghost use Rattle.rim_cli.specs.Status.{status_of};
+ghost use Rattle.rim_cli.specs.Status.{name_of, status_of};
 
 use rim_release::{ManifestFault, ShowFault, StartFault};
 
@@ -21,7 +21,9 @@ pub enum Fault {
 
 impl Fault {
     /// The name that is printed.
-    pub fn name(&self) -> &'static str {
+    pub fn name(&self) -> &'static str
+        ensures { result.now ≡ name_of self.now }
+    {
         match self {
             Fault::Manifest(fault) => fault.kind(),
             Fault::Start(fault) => fault.kind(),

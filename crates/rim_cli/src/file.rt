@@ -1,5 +1,6 @@
 //! Files, opened by their paths and read whole.
-ghost use Rattle.std.specs.Prelude.{◌≡◌, ◌≤◌, IfOk, IfSome, length, vec_len};
+ghost use Rattle.std.specs.Prelude.{◌≡◌, ◌≤◌, IfErr, IfOk, IfSome, length, vec_len};
+ghost use Rattle.rim_cli.specs.Status.{IsOfFiles};
 
 use crate::fault::Fault;
 use crate::patient::Patient;
@@ -24,7 +25,8 @@ pub fn read_files<O: Opener>(
     opener: &mut O,
     release: &Release,
 ) -> Result<Files, Fault>
-    ensures { IfOk result (λ files. vec_len files ≡ length release.now.paths) }
+    ensures each { IfOk result (λ files. vec_len files ≡ length release.now.paths) }
+    ensures fault { IfErr result IsOfFiles }
 {
     let mut files = Vec::new(alloc);
     for i in 0..release.file_count() {
@@ -35,7 +37,10 @@ pub fn read_files<O: Opener>(
 }
 
 /// The bytes of the file at a path.
-pub fn read_file<O: Opener>(alloc: Global, opener: &mut O, path: &str) -> Result<Vec<u8>, Fault> {
+pub fn read_file<O: Opener>(alloc: Global, opener: &mut O, path: &str) -> Result<Vec<u8>, Fault>
+    ensures limit { IfOk result (λ bytes. length bytes.items ≤ 268435456) }
+    ensures fault { IfErr result IsOfFiles }
+{
     let reader = opener.open(path).ok_or(Fault::FileUnreadable)?;
     read_whole(alloc, reader)
 }
@@ -43,6 +48,7 @@ pub fn read_file<O: Opener>(alloc: Global, opener: &mut O, path: &str) -> Result
 /// All bytes of a reader, of which one more than the limit is read at the most.
 fn read_whole<R: Read + Drop>(alloc: Global, reader: R) -> Result<Vec<u8>, Fault>
     ensures limit { IfOk result (λ bytes. length bytes.items ≤ 268435456) }
+    ensures fault { IfErr result IsOfFiles }
     ensures whole { IfOk result (λ bytes. IfSome (R.remaining reader) (λ held. bytes.items ≡ held)) }
 {
     let mut bytes = Vec::new(alloc);
