@@ -156,7 +156,7 @@ found_good word words (s ∷ subs) p good is passes = go (answers_to word (label
 
 stopped_good : (stop : Option (Text × List Text)) (p : Text × List Row) → entered (built rim) stop ≡ Some p → entered_fault (built rim) stop ≡ [] → IsEntered p.0 p.1
 stopped_good None p is passes = cc
-stopped_good (Some q) p is passes = found_good q.0 q.1 (built rim).subs p (λ words fits. inl (measure_entered words fits), (λ words fits. inr (showing_entered (codes "image") words fits), tt)) is passes
+stopped_good (Some q) p is passes = found_good q.0 q.1 (built rim).subs p (λ words fits. inl (measure_entered words fits), (λ words fits. inr (inl (showing_entered (codes "image") words fits)), (λ words fits. inr (inr (showing_entered (codes "fdt") words fits)), tt))) is passes
 
 -- where `clap` takes the words, the matches of the subcommand hold what they are to
 pub entered_good : (words : List Text) (p : Text × List Row) → fault_of rim words ≡ [] → subcommand_of rim words ≡ Some p → IsEntered p.0 p.1

@@ -7,7 +7,7 @@ use Rattle.clap.specs.Simple.{on_top}
 use Rattle.clap.specs.Values.{IsSignedIn}
 use Rattle.clap.specs.declared.builder.value_parser.ValueParser.TheVariants as parser
 use Rattle.rim_cli.specs.declared.command.Request.{Request}
-use Rattle.rim_cli.specs.declared.command.Request.TheVariants.{Measure, Image}
+use Rattle.rim_cli.specs.declared.command.Request.TheVariants.{Measure, Image, Fdt}
 
 -- an operand that has to be given, with a name that usage texts show
 abbrev pub operand_rule : Text → Rule
@@ -25,14 +25,14 @@ workers_rule = record (new_rule (codes "workers")) {
 abbrev pub measure : App
 measure = with_rule (with_rule (new_app (codes "measure")) (operand_rule (codes "manifest"))) workers_rule
 
--- a subcommand that shows the file at a path: `image FILE`
+-- a subcommand that shows the file at a path: `image FILE`, `fdt FILE`
 abbrev pub showing : Text → App
 showing name = with_rule (new_app name) (operand_rule (codes "file"))
 
 -- the program: one of its subcommands has to be given, and it has a version
 abbrev pub rim : App
 rim = on_top (λ s. record s { has_version = true; subcommand_required = true; disable_help_subcommand = true })
-    (with_subcommand (with_subcommand (new_app (codes "rim")) measure.top) (showing (codes "image")).top)
+    (with_subcommand (with_subcommand (with_subcommand (new_app (codes "rim")) measure.top) (showing (codes "image")).top) (showing (codes "fdt")).top)
 
 -- the number of workers, 4 where none is given: in words that `clap` takes it is from 1 to 64
 abbrev pub CountsWorkers : Option Text → ℕ → Type 0
@@ -44,6 +44,7 @@ abbrev pub ReadsRow : Text → List Row → Request → Type 0
 ReadsRow name rows (Measure manifest workers) = (name ≡ codes "measure")
     × (first_of (codes "manifest") rows ≡ Some manifest.now) × CountsWorkers (first_of (codes "workers") rows) workers
 ReadsRow name rows (Image file) = (name ≡ codes "image") × (first_of (codes "file") rows ≡ Some file.now)
+ReadsRow name rows (Fdt file) = (name ≡ codes "fdt") × (first_of (codes "file") rows ≡ Some file.now)
 
 abbrev pub ReadsRequest : Option (Text × List Row) → Request → Type 0
 ReadsRequest None request = ⊥
@@ -60,4 +61,4 @@ IsShowing verb name rows = (name ≡ verb) × (is_some (first_of (codes "file") 
 
 -- and of those of some subcommand: a further one is a further case
 abbrev pub IsEntered : Text → List Row → Type 0
-IsEntered name rows = IsMeasure name rows ⊎ IsShowing (codes "image") name rows
+IsEntered name rows = IsMeasure name rows ⊎ (IsShowing (codes "image") name rows ⊎ IsShowing (codes "fdt") name rows)

@@ -12,11 +12,14 @@ with_seven = codes "rim" ∷ codes "measure" ∷ codes "--workers=7" ∷ codes "
 abbrev pub an_image : List Text
 an_image = codes "rim" ∷ codes "image" ∷ codes "Image" ∷ []
 
+abbrev pub a_devicetree : List Text
+a_devicetree = codes "rim" ∷ codes "fdt" ∷ codes "virt.dtb" ∷ []
+
 abbrev pub too_many : List Text
 too_many = codes "rim" ∷ codes "measure" ∷ codes "manifest.toml" ∷ codes "--workers" ∷ codes "65" ∷ []
 
 abbrev pub TakesExamples : Type 0
-TakesExamples = (takes rim plain ≡ true) × (takes rim with_seven ≡ true) × (takes rim an_image ≡ true) × (takes rim too_many ≡ false)
+TakesExamples = (takes rim plain ≡ true) × (takes rim with_seven ≡ true) × (takes rim an_image ≡ true) × (takes rim a_devicetree ≡ true) × (takes rim too_many ≡ false)
     × (takes rim (codes "rim" ∷ codes "help" ∷ []) ≡ false) × (takes rim (codes "rim" ∷ []) ≡ false)
 
 -- the texts of the manifest and of the workers that the words hold

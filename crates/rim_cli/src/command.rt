@@ -18,6 +18,8 @@ pub enum Request<'a> {
     Measure { manifest: &'a str, workers: u8 },
     /// The header of the arm64 Image at a path.
     Image { file: &'a str },
+    /// The devicetree in the flattened file at a path.
+    Fdt { file: &'a str },
 }
 
 /// Why the words ask for nothing.
@@ -61,6 +63,9 @@ fn request_of<'a>(name: &str, given: &ArgMatches<'a>) -> Request<'a>
             workers: workers(given),
         },
         "image" => Request::Image {
+            file: operand(given, "file"),
+        },
+        "fdt" => Request::Fdt {
             file: operand(given, "file"),
         },
         _ => unreachable!(),

@@ -43,18 +43,32 @@ pub fn rim_command<'a>(alloc: Global) -> Result<Command<'a>, AllocError>
         .about("Computes Realm Initial Measurements of Arm CCA realms")
         .after_help(GUIDE);
     let rim = with_subcommand(rim, measure_command(alloc)?)?;
-    let rim = with_subcommand(rim, image_command(alloc)?)?;
+    let image = showing_command(
+        alloc,
+        "image",
+        "Prints the header of an arm64 kernel Image",
+        "The Image, as a kernel's build writes it",
+    )?;
+    let rim = with_subcommand(rim, image)?;
+    let fdt = showing_command(
+        alloc,
+        "fdt",
+        "Prints a flattened devicetree, node by node",
+        "The devicetree, as dtc or QEMU writes it",
+    )?;
+    let rim = with_subcommand(rim, fdt)?;
     Ok(rim.subcommand_required(true).disable_help_subcommand(true))
 }
 
-/// A command with one more subcommand, which passes no argument on to subcommands of its own.
+/// A command with one more subcommand. Neither passes an argument on to all of its subcommands.
 fn with_subcommand<'a>(
     command: Command<'a>,
     subcommand: Command<'a>,
 ) -> Result<Command<'a>, AllocError>
-    requires { (out-Command subcommand).has_globals ≡ false }
+    requires command { (out-Command command).has_globals ≡ false }
+    requires subcommand { (out-Command subcommand).has_globals ≡ false }
     ensures shape { IfOk result (λ c. app_of c ≡ with_subcommand (app_of command.entry) (app_of subcommand.entry).top) }
-    ensures globals { (out-Command command.entry).has_globals ≡ false → IfOk result (λ c. (out-Command c).has_globals ≡ false) }
+    ensures globals { IfOk result (λ c. (out-Command c).has_globals ≡ false) }
 {
     command.subcommand(subcommand)
 }
@@ -73,17 +87,18 @@ fn measure_command<'a>(alloc: Global) -> Result<Command<'a>, AllocError>
     )
 }
 
-fn image_command<'a>(alloc: Global) -> Result<Command<'a>, AllocError>
-    ensures shape { IfOk result (λ c. app_of c ≡ showing (codes "image")) }
+/// A subcommand that shows the file at a path.
+fn showing_command<'a>(
+    alloc: Global,
+    name: &'a str,
+    about: &'a str,
+    file: &'a str,
+) -> Result<Command<'a>, AllocError>
+    ensures shape { IfOk result (λ c. app_of c ≡ showing name.entry.now) }
     ensures globals { IfOk result (λ c. (out-Command c).has_globals ≡ false) }
 {
-    let image = Command::new(alloc, "image").arg(operand_arg(
-        alloc,
-        "file",
-        "FILE",
-        "The Image, as a kernel's build writes it",
-    ))?;
-    Ok(image.about("Prints the header of an arm64 kernel Image"))
+    let command = Command::new(alloc, name).arg(operand_arg(alloc, "file", "FILE", file))?;
+    Ok(command.about(about))
 }
 
 /// An operand that has to be given, with the name that usage texts show.

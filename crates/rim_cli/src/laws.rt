@@ -3,7 +3,8 @@ ghost use Rattle.std.specs.Prelude.{◌≡◌};
 ghost use Rattle.rim_cli.specs.Examples.{TakesExamples, ReadsExamples};
 
 /// The command line is not vacuous: `clap`'s definition takes `rim measure manifest.toml`, also with
-/// `--workers=7`, and has 4 and 7 workers there; it takes `rim image Image`, and neither 65 workers, nor
+/// `--workers=7`, and has 4 and 7 workers there; it takes `rim image Image` and `rim fdt
+/// virt.dtb`, and neither 65 workers, nor
 /// `help`, nor no word.
 pub fn examples_are_read()
     ensures taken { TakesExamples }

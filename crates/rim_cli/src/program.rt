@@ -4,7 +4,7 @@ ghost use Rattle.std.specs.Prelude.{◌≡◌, ◌≤◌};
 use crate::command::{CommandFault, Request, command};
 use crate::fault::Fault;
 use crate::file::{Opener, read_file, read_files};
-use rim_release::{measure_alone, read_manifest, show_image};
+use rim_release::{measure_alone, read_manifest, show_fdt, show_image};
 use std::alloc::Global;
 use std::convert::AsStr;
 use std::io::Write;
@@ -40,6 +40,7 @@ fn answer_to<O: Opener>(alloc: Global, request: Request, opener: &mut O) -> Resu
     match request {
         Request::Measure { manifest, .. } => measure(alloc, opener, manifest),
         Request::Image { file } => image(alloc, opener, file),
+        Request::Fdt { file } => fdt(alloc, opener, file),
     }
 }
 
@@ -55,6 +56,12 @@ fn measure<O: Opener>(alloc: Global, opener: &mut O, path: &str) -> Result<Vec<u
 fn image<O: Opener>(alloc: Global, opener: &mut O, path: &str) -> Result<Vec<u8>, Fault> {
     let bytes = read_file(alloc, opener, path)?;
     show_image(alloc, bytes.as_slice()).map_err(Fault::Show)
+}
+
+/// The devicetree in the file at a path.
+fn fdt<O: Opener>(alloc: Global, opener: &mut O, path: &str) -> Result<Vec<u8>, Fault> {
+    let bytes = read_file(alloc, opener, path)?;
+    show_fdt(alloc, bytes.as_slice()).map_err(Fault::Show)
 }
 
 /// Shows a usage text on standard error, status 2, or the help or version that was asked for on

@@ -1,8 +1,9 @@
 //! Why a call of this crate is refused.
 ghost use Rattle.std.specs.Prelude.{◌≡◌};
-ghost use Rattle.rim_release.specs.Faults.{image_kind_of, show_kind_of, start_kind_of};
+ghost use Rattle.rim_release.specs.Faults.{devicetree_kind_of, image_kind_of, show_kind_of, start_kind_of};
 
 use arm64_image::ImageFault;
+use fdt_tree::FdtFault;
 use thiserror::Error;
 
 /// Why the measuring of a release does not start.
@@ -38,6 +39,9 @@ pub enum ShowFault {
     /// The file is no arm64 Image.
     #[error("{}", image_kind(*.0))]
     Image(ImageFault),
+    /// The file is no flattened devicetree. It is never `NoMemory`.
+    #[error("{}", devicetree_kind(*.0))]
+    Dtb(FdtFault),
     /// The allocator refused a growth.
     #[error("no-memory")]
     NoMemory,
@@ -50,6 +54,7 @@ impl ShowFault {
     {
         match self {
             ShowFault::Image(fault) => image_kind(*fault),
+            ShowFault::Dtb(fault) => devicetree_kind(*fault),
             ShowFault::NoMemory => "no-memory",
         }
     }
@@ -62,5 +67,26 @@ fn image_kind(fault: ImageFault) -> &'static str
     match fault {
         ImageFault::Short => "kernel-short",
         ImageFault::BadMagic => "kernel-bad-magic",
+    }
+}
+
+/// The word of a fault of a devicetree.
+fn devicetree_kind(fault: FdtFault) -> &'static str
+    ensures { result.now ≡ devicetree_kind_of fault }
+{
+    match fault {
+        FdtFault::Short => "dtb-short",
+        FdtFault::BadMagic => "dtb-bad-magic",
+        FdtFault::BadVersion => "dtb-bad-version",
+        FdtFault::BadBlock => "dtb-bad-block",
+        FdtFault::BadReserve => "dtb-bad-reserve",
+        FdtFault::BadToken => "dtb-bad-token",
+        FdtFault::BadName => "dtb-bad-name",
+        FdtFault::BadString => "dtb-bad-string",
+        FdtFault::LateProperty => "dtb-late-property",
+        FdtFault::TooDeep => "dtb-too-deep",
+        FdtFault::BadCells => "dtb-bad-cells",
+        FdtFault::TooLarge => "dtb-too-large",
+        FdtFault::NoMemory => "no-memory",
     }
 }

@@ -1,11 +1,13 @@
 //! A release: its manifest, and the report of the Realm Initial Measurements of its launches.
 #![tactic(auto)]
 
+pub mod devicetree;
 pub mod fault;
 pub mod measured;
 pub mod report;
 pub mod show;
 
+pub use devicetree::show_fdt;
 pub use fault::{ShowFault, StartFault};
 pub use report::{Files, measure_alone};
 pub use rim_manifest::{Config, Launch, ManifestFault, Release, read_manifest};

@@ -1,0 +1,65 @@
+//! Flattened devicetrees, put together from words.
+
+use std::alloc::{AllocError, Global};
+use std::test::Fail;
+
+pub const BEGIN_NODE: u32 = 1;
+
+pub const END_NODE: u32 = 2;
+
+pub const PROP: u32 = 3;
+
+pub const NOP: u32 = 4;
+
+pub const END: u32 = 9;
+
+pub fn push_word(out: &mut Vec<u8>, word: u32) -> Result<(), AllocError> {
+    out.extend_from_slice(&word.to_be_bytes())
+}
+
+/// The words, big endian.
+pub fn words(alloc: Global, words: &[u32]) -> Result<Vec<u8>, AllocError> {
+    let mut out = Vec::new(alloc);
+    for word in words {
+        push_word(&mut out, *word)?;
+    }
+    Ok(out)
+}
+
+/// A file with no reservations, this structure block and these strings, and nothing else.
+pub fn file(alloc: Global, block: &[u8], strings: &[u8]) -> Result<Vec<u8>, Fail> {
+    let block_len = u32::try_from(block.len())?;
+    let strings_len = u32::try_from(strings.len())?;
+    let strings_at = block_len.saturating_add(56);
+    let total = strings_at.saturating_add(strings_len);
+    let header = [
+        0xd00d_feed,
+        total,
+        56,
+        strings_at,
+        40,
+        17,
+        16,
+        0,
+        strings_len,
+        block_len,
+        0,
+        0,
+        0,
+        0,
+    ];
+    let mut out = words(alloc, &header)?;
+    out.extend_from_slice(block)?;
+    out.extend_from_slice(strings)?;
+    Ok(out)
+}
+
+/// The same bytes with another word from this byte on.
+pub fn with_word(alloc: Global, bytes: &[u8], at: usize, word: u32) -> Result<Vec<u8>, Fail> {
+    let (front, rest) = bytes.split_at_checked(at).ok_or("the word is outside")?;
+    let (_, behind) = rest.split_at_checked(4).ok_or("the word is outside")?;
+    let mut out = front.to_vec(alloc)?;
+    push_word(&mut out, word)?;
+    out.extend_from_slice(behind)?;
+    Ok(out)
+}

@@ -1,0 +1,106 @@
+//! Files as large as they may be. Each is to be read in a moment, whatever it holds.
+
+use crate::files::{BEGIN_NODE, END, END_NODE, PROP, file, push_word, words};
+use fdt_tree::{FdtFault, read};
+use std::alloc::Global;
+use std::test::Fail;
+
+// A root with so many properties without bytes, the names of which begin at each place in turn.
+fn properties(alloc: Global, count: u32, places: u32) -> Result<Vec<u8>, Fail> {
+    let mut block = words(alloc, &[BEGIN_NODE, 0])?;
+    for i in 0..count {
+        push_word(&mut block, PROP)?;
+        push_word(&mut block, 0)?;
+        push_word(&mut block, i.checked_rem(places).unwrap_or(0))?;
+    }
+    push_word(&mut block, END_NODE)?;
+    push_word(&mut block, END)?;
+    Ok(block)
+}
+
+// So many letters.
+fn letters(alloc: Global, count: u32) -> Result<Vec<u8>, Fail> {
+    let mut out = Vec::new(alloc);
+    for _ in 0..count {
+        out.push(b'a')?;
+    }
+    Ok(out)
+}
+
+#[test]
+fn many_properties(rt: HostRuntime) -> Result<(), Fail> {
+    let alloc = rt.alloc();
+    let block = properties(alloc, 174_000, 1)?;
+    let bytes = file(alloc, block.as_slice(), b"reg\0")?;
+    let tree = read(alloc, bytes.as_slice())?;
+    assert_eq!(rt; tree.root().properties.len(), 174_000);
+    assert!(rt; tree.get(b"/", b"reg") == Some(b"".as_slice()));
+    Ok(())
+}
+
+#[test]
+fn many_ends_of_one_name(rt: HostRuntime) -> Result<(), Fail> {
+    let alloc = rt.alloc();
+    let mut strings = letters(alloc, 1_048_576)?;
+    strings.push(0)?;
+    let block = properties(alloc, 80_000, 80_000)?;
+    let bytes = file(alloc, block.as_slice(), strings.as_slice())?;
+    let tree = read(alloc, bytes.as_slice())?;
+    assert_eq!(rt; tree.root().properties.len(), 80_000);
+    assert!(rt; tree.get(b"/", b"a").is_none());
+    assert!(rt;
+        tree.get(
+            b"/",
+            &strings.as_slice()[79_999.min(strings.len())..1_048_576.min(strings.len())]
+        )
+        .is_some()
+    );
+    Ok(())
+}
+
+#[test]
+fn strings_without_an_end(rt: HostRuntime) -> Result<(), Fail> {
+    let alloc = rt.alloc();
+    let strings = letters(alloc, 1_048_576)?;
+    let block = properties(alloc, 80_000, 80_000)?;
+    let bytes = file(alloc, block.as_slice(), strings.as_slice())?;
+    assert_eq!(rt;
+        read(alloc, bytes.as_slice()).err(),
+        Some(FdtFault::BadString)
+    );
+    Ok(())
+}
+
+#[test]
+fn one_large_value(rt: HostRuntime) -> Result<(), Fail> {
+    let alloc = rt.alloc();
+    let value = letters(alloc, 711_024)?;
+    let mut block = words(alloc, &[BEGIN_NODE, 0, PROP, 711_024, 0])?;
+    block.extend_from_slice(value.as_slice())?;
+    push_word(&mut block, END_NODE)?;
+    push_word(&mut block, END)?;
+    let mut bytes = file(alloc, block.as_slice(), b"data\0")?;
+    for _ in 0..579_000 {
+        bytes.push(0xff)?;
+    }
+    let tree = read(alloc, bytes.as_slice())?;
+    assert!(rt; tree.get(b"/", b"data") == Some(value.as_slice()));
+    Ok(())
+}
+
+#[test]
+fn many_nodes(rt: HostRuntime) -> Result<(), Fail> {
+    let alloc = rt.alloc();
+    let mut block = words(alloc, &[BEGIN_NODE, 0])?;
+    for _ in 0..174_000 {
+        push_word(&mut block, BEGIN_NODE)?;
+        push_word(&mut block, 0x6100_0000)?;
+        push_word(&mut block, END_NODE)?;
+    }
+    push_word(&mut block, END_NODE)?;
+    push_word(&mut block, END)?;
+    let bytes = file(alloc, block.as_slice(), b"")?;
+    let tree = read(alloc, bytes.as_slice())?;
+    assert_eq!(rt; tree.root().children.len(), 174_000);
+    Ok(())
+}

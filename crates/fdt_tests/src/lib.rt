@@ -1,0 +1,11 @@
+//! Tests of `fdt_tree`, apart from it so that it is proved once.
+#![tactic(auto)]
+
+#[cfg(test)]
+mod files;
+#[cfg(test)]
+mod large;
+#[cfg(test)]
+mod reading;
+#[cfg(test)]
+mod vectors;

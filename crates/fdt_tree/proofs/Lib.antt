@@ -1,0 +1,17 @@
+pub mod FirstZero
+pub mod NameRuns
+pub mod Scans
+pub mod Open
+pub mod Accepting
+pub mod Again
+pub mod Takes
+pub mod TokenTakes
+pub mod Shapes
+pub mod Final
+pub mod AtEnd
+pub mod Pairs
+pub mod Headers
+pub mod Readings
+pub mod Finding
+pub mod Existence
+pub mod FirstFaults

@@ -1,0 +1,5 @@
+use Rattle.fdt_tree.proofs.Readings.{one_tree}
+use Rattle.fdt_tree.proofs.laws.one_tree.Goals as goal
+
+pub returns : goal.returns
+returns c = one_tree

@@ -1,0 +1,56 @@
+-- A devicetree apart from where it lies in memory, and the tokens of its nodes: Devicetree
+-- Specification 0.4, sections 2.1 to 2.3 and 5.4.
+use Rattle.std.specs.Prelude.{ℕ, List, [], ◌∷◌, ◌++◌, map}
+use Rattle.fdt_tree.specs.declared.tree.Reservation.{Reservation}
+
+-- a property
+pub record Entry : Type 0 where
+  pub name : List ℕ
+  pub value : List ℕ
+
+-- nodes in order: the name, the properties and the children of the first, and the nodes after it
+pub data Nodes : Type 0 where
+  none : Nodes
+  node : List ℕ → List Entry → Nodes → Nodes → Nodes
+
+-- one node by itself
+pub record Branch : Type 0 where
+  pub name : List ℕ
+  pub entries : List Entry
+  pub kids : Nodes
+
+-- nodes that stand beside one another
+abbrev pub joined : List Branch → Nodes
+joined [] = none
+joined (b ∷ bs) = node b.name b.entries b.kids (joined bs)
+
+-- the root, whose name is empty
+pub record Root : Type 0 where
+  pub entries : List Entry
+  pub kids : Nodes
+
+abbrev pub branch_of_root : Root → Branch
+branch_of_root r = record { name = []; entries = r.entries; kids = r.kids }
+
+-- what a flattened devicetree says
+pub record Devicetree : Type 0 where
+  pub reservations : List Reservation
+  pub boot_cpu : ℕ
+  pub root : Root
+
+-- The tokens of a structure block: FDT_BEGIN_NODE, FDT_PROP, FDT_END_NODE, FDT_NOP and FDT_END.
+pub data Token : Type 0 where
+  begin_node : List ℕ → Token
+  property : Entry → Token
+  end_node : Token
+  nop : Token
+  finish : Token
+
+-- the tokens of nodes, without any NOP: a node's properties come before its children
+abbrev pub tokens : Nodes → List Token
+tokens none = []
+tokens (node name entries kids next) =
+    begin_node name ∷ (map property entries ++ (tokens kids ++ (end_node ∷ tokens next)))
+
+abbrev pub root_tokens : Root → List Token
+root_tokens r = tokens (node [] r.entries r.kids none)

@@ -1,0 +1,16 @@
+pub mod Devicetree
+pub mod Names
+pub mod NodeViews
+pub mod Steps
+pub mod Scanning
+pub mod LetterRuns
+pub mod LexemeViews
+pub mod Grammar
+pub mod OpenNodes
+pub mod Blocks
+pub mod Reservations
+pub mod Wholeness
+pub mod Trees
+pub mod Reading
+pub mod Lookup
+pub mod FirstFault

@@ -1,0 +1,31 @@
+-- What the nodes in memory are, given the strings of their tree.
+use Rattle.std.specs.Prelude.{ℕ, List, map, take, drop}
+use Rattle.fdt_tree.specs.declared.node.Name.{Name}
+use Rattle.fdt_tree.specs.declared.node.Name.TheVariants.{Shared, Own}
+use Rattle.fdt_tree.specs.declared.node.Node.{Node}
+use Rattle.fdt_tree.specs.declared.node.Node.TheOpen.{Node-F}
+use Rattle.fdt_tree.specs.declared.node.Node.TheFolds.{fold-Node}
+use Rattle.fdt_tree.specs.declared.node.Property.{Property}
+use Rattle.fdt_tree.specs.Devicetree.{Entry, Root, Branch, joined}
+
+abbrev pub name_of : List ℕ → Name → List ℕ
+name_of strings (Shared start len) = take len (drop start strings)
+name_of strings (Own bytes) = bytes.items
+
+abbrev pub entry_of : List ℕ → Property → Entry
+entry_of strings p = record { name = name_of strings p.name; value = p.value.items }
+
+abbrev pub branch_step : List ℕ → Node-F Branch → Branch
+branch_step strings n =
+    record { name = n.name.items; entries = map (entry_of strings) n.properties.items; kids = joined n.children.items }
+
+-- a node, apart from where it lies in memory
+abbrev pub branch : List ℕ → Node → Branch
+branch strings = fold-Node Branch (branch_step strings)
+
+abbrev pub branches : List ℕ → List Node → List Branch
+branches strings ns = map (branch strings) ns
+
+-- the root of a tree
+abbrev pub root_of : List ℕ → Node → Root
+root_of strings n = record { entries = (branch strings n).entries; kids = (branch strings n).kids }

@@ -1,0 +1,23 @@
+-- Steps that may fail.
+use Rattle.std.specs.Prelude.{◌≡◌, Result, Ok, Err}
+use Rattle.fdt_tree.specs.declared.fault.FdtFault.{FdtFault}
+use Rattle.fdt_tree.specs.declared.fault.FdtFault.TheVariants.{NoMemory}
+
+infixl 10 ◌>>=◌
+abbrev pub ◌>>=◌ : {A B : Type 0} → Result A FdtFault → (A → Result B FdtFault) → Result B FdtFault
+(Ok x) >>= f = f x
+(Err e) >>= f = Err e
+
+-- What a function returned, seen by view, is what reading gives.
+abbrev pub Matches : {X Y : Type 0} → (X → Y) → Result X FdtFault → Result Y FdtFault → Type 0
+Matches view (Ok x) read = read ≡ Ok (view x)
+Matches view (Err e) read = read ≡ Err e
+
+abbrev pub Fails : {Y : Type 0} → FdtFault → Result Y FdtFault → Type 0
+Fails NoMemory read = Unit {0}
+Fails e read = read ≡ Err e
+
+-- What a function returned, seen by view, is what reading gives, unless memory ran out.
+abbrev pub Gives : {X Y : Type 0} → (X → Y) → Result X FdtFault → Result Y FdtFault → Type 0
+Gives view (Ok x) read = read ≡ Ok (view x)
+Gives view (Err e) read = Fails e read

@@ -1,0 +1,42 @@
+-- What each tree in memory keeps.
+use Rattle.std.specs.Prelude.{ℕ, ◌+◌, List, [], ◌∷◌}
+use Rattle.std.specs.Coded.{le_prop}
+use Rattle.std.proofs.Math.Bool.{Bool-set}
+use Rattle.fdt_tree.specs.declared.tree.Reservation.{Reservation}
+use Rattle.fdt_tree.specs.declared.tree.Contents.{Contents}
+use Rattle.fdt_tree.specs.Devicetree.{Entry, Nodes, none, node, Devicetree}
+use Rattle.fdt_tree.specs.Names.{AreLegal, IsLegal}
+use Rattle.fdt_tree.specs.NodeViews.{root_of}
+use Rattle.fdt_tree.specs.Reservations.{AreReservations}
+
+-- what is held, apart from where it lies in memory
+abbrev pub tree_in : Contents → Devicetree
+tree_in c = record {
+  reservations = c.reservations.items;
+  boot_cpu = c.boot_cpu;
+  root = root_of c.strings.items c.root;
+}
+
+-- No reservation is a pair of zeros, names are legal, and no node is deeper than 64.
+pub record IsWhole (t : Devicetree) : Type 0 where
+  pub reservations : AreReservations t.reservations
+  pub entries : AreLegal t.root.entries
+  pub kids : IsLegal 1 t.root.kids
+
+-- each of these facts has one proof at most
+pub AreReservations-prop : (rs : List Reservation) → IsProp (AreReservations rs)
+AreReservations-prop [] = hlevel
+AreReservations-prop (r ∷ rs) = hlevel (le_prop, AreReservations-prop rs)
+
+pub AreLegal-prop : (es : List Entry) → IsProp (AreLegal es)
+AreLegal-prop [] = hlevel
+AreLegal-prop (e ∷ es) = hlevel (Bool-set, AreLegal-prop es)
+
+pub IsLegal-prop : (depth : ℕ) (f : Nodes) → IsProp (IsLegal depth f)
+IsLegal-prop depth none = hlevel
+IsLegal-prop depth (node name entries kids next) =
+    hlevel (le_prop, Bool-set, AreLegal-prop entries, IsLegal-prop (depth + 1) kids, IsLegal-prop depth next)
+
+pub IsWhole-prop : (t : Devicetree) → IsProp (IsWhole t)
+IsWhole-prop t =
+    hlevel (AreReservations-prop t.reservations, AreLegal-prop t.root.entries, IsLegal-prop 1 t.root.kids)

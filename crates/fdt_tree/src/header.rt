@@ -1,0 +1,134 @@
+//! The header: what a flattened devicetree says of itself.
+
+ghost use Rattle.std.specs.Prelude.{◌≡◌, ◌+◌, ◌≤◌, length, nat_le, IfOk};
+ghost use Rattle.fdt_tree.specs.Steps.{Matches};
+ghost use Rattle.fdt_tree.specs.Blocks.{BlocksFit, word_at, header_of, blocks_fit, is_known_version, header_at, reserve_block, structure_block, strings_block};
+
+use crate::fault::FdtFault;
+
+/// How many bytes a header has.
+const HEADER_LEN: usize = 40;
+
+/// How many bytes a file may have.
+const MAX_LEN: usize = 2_097_152;
+
+const MAGIC: u32 = 0xd00d_feed;
+
+/// The version that is read.
+const VERSION: u32 = 17;
+
+/// The fields of a header behind the magic number, by the specification's names. Offsets and sizes are
+/// in bytes.
+#[derive(Clone, Copy)]
+pub struct Header {
+    pub totalsize: u32,
+    pub off_dt_struct: u32,
+    pub off_dt_strings: u32,
+    pub off_mem_rsvmap: u32,
+    pub version: u32,
+    pub last_comp_version: u32,
+    pub boot_cpuid_phys: u32,
+    pub size_dt_strings: u32,
+    pub size_dt_struct: u32,
+}
+
+fn word(bytes: &[u8], offset: usize) -> u32
+    requires { offset + 4 ≤ length bytes.now }
+    ensures { result ≡ word_at offset bytes.now }
+{
+    let b = &bytes[offset..][..4];
+    u32::from_be_bytes([b[0], b[1], b[2], b[3]])
+}
+
+fn fields_of(bytes: &[u8]) -> Header
+    requires { 40 ≤ length bytes.now }
+    ensures { result ≡ header_of bytes.now }
+{
+    Header {
+        totalsize: word(bytes, 4),
+        off_dt_struct: word(bytes, 8),
+        off_dt_strings: word(bytes, 12),
+        off_mem_rsvmap: word(bytes, 16),
+        version: word(bytes, 20),
+        last_comp_version: word(bytes, 24),
+        boot_cpuid_phys: word(bytes, 28),
+        size_dt_strings: word(bytes, 32),
+        size_dt_struct: word(bytes, 36),
+    }
+}
+
+impl Header {
+    fn is_known_version(&self) -> bool
+        ensures { result ≡ is_known_version self.now }
+    {
+        self.version == VERSION && self.last_comp_version <= VERSION
+    }
+
+    /// Whether a block ends within the tree.
+    fn holds(&self, offset: u32, size: u32) -> bool
+        ensures { result ≡ nat_le (offset + size) self.now.totalsize }
+    {
+        u64::from(offset) + u64::from(size) <= u64::from(self.totalsize)
+    }
+
+    fn blocks_fit(&self, len: usize) -> bool
+        ensures { result ≡ blocks_fit self.now len }
+    {
+        self.totalsize as usize >= HEADER_LEN
+            && self.totalsize as usize <= len
+            && self.off_dt_struct % 4 == 0
+            && self.off_mem_rsvmap % 8 == 0
+            && self.off_mem_rsvmap <= self.totalsize
+            && self.holds(self.off_dt_struct, self.size_dt_struct)
+            && self.holds(self.off_dt_strings, self.size_dt_strings)
+    }
+
+    /// The block of reservations and what follows it in the tree.
+    pub fn reserve_block<'a>(&self, bytes: &'a [u8]) -> &'a [u8]
+        requires { BlocksFit self.now (length bytes.now) }
+        ensures { result.now ≡ reserve_block self.now bytes.now }
+    {
+        &bytes[..self.totalsize as usize][self.off_mem_rsvmap as usize..]
+    }
+
+    /// The structure block.
+    pub fn structure_block<'a>(&self, bytes: &'a [u8]) -> &'a [u8]
+        requires { BlocksFit self.now (length bytes.now) }
+        ensures { result.now ≡ structure_block self.now bytes.now }
+    {
+        &bytes[self.off_dt_struct as usize..][..self.size_dt_struct as usize]
+    }
+
+    /// The strings block.
+    pub fn strings_block<'a>(&self, bytes: &'a [u8]) -> &'a [u8]
+        requires { BlocksFit self.now (length bytes.now) }
+        ensures { result.now ≡ strings_block self.now bytes.now }
+    {
+        &bytes[self.off_dt_strings as usize..][..self.size_dt_strings as usize]
+    }
+}
+
+/// The header, or the first check that fails.
+#[tactic(auto, unfolding(crate::specs::Blocks::header_at))]
+pub fn header_in(bytes: &[u8]) -> Result<Header, FdtFault>
+    ensures exact { result ≡ header_at bytes.now }
+    ensures fits { IfOk result (λ h. BlocksFit h (length bytes.now)) }
+{
+    if bytes.len() < HEADER_LEN {
+        return Err(FdtFault::Short);
+    }
+    if word(bytes, 0) != MAGIC {
+        return Err(FdtFault::BadMagic);
+    }
+    let header = fields_of(bytes);
+    if !header.is_known_version() {
+        return Err(FdtFault::BadVersion);
+    }
+    if bytes.len() > MAX_LEN {
+        return Err(FdtFault::TooLarge);
+    }
+    if !header.blocks_fit(bytes.len()) {
+        return Err(FdtFault::BadBlock);
+    }
+    Ok(header)
+}

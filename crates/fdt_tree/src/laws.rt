@@ -1,0 +1,28 @@
+//! Laws of the flattened format: functions that do nothing, whose contracts are the laws.
+
+ghost use Rattle.std.specs.Prelude.{◌≡◌, ◌<◌, ◌↔◌, ℕ, List, All, None, Err};
+ghost use Rattle.fdt_tree.specs.declared.fault.FdtFault.{FdtFault};
+ghost use Rattle.fdt_tree.specs.Devicetree.{Devicetree};
+ghost use Rattle.fdt_tree.specs.Scanning.{structure_at};
+ghost use Rattle.fdt_tree.specs.FirstFault.{IsFirstFault};
+ghost use Rattle.fdt_tree.specs.Reading.{Spells, refusal_of};
+
+/// The same bytes spell at most one devicetree.
+pub fn one_tree()
+    ensures { (bytes : List ℕ) (t u : Devicetree) → Spells bytes t → Spells bytes u → t ≡ u }
+{}
+
+/// Bytes are refused exactly where they spell no devicetree: where there is no refusal, there is a
+/// devicetree that they spell, and where there is one, no refusal.
+pub fn refused_or_spelled()
+    ensures spelled { (bytes : List ℕ) → All (λ b. b < 256) bytes → refusal_of bytes ≡ None
+        → (t : Devicetree) × Spells bytes t }
+    ensures refused { (bytes : List ℕ) (t : Devicetree) → Spells bytes t → refusal_of bytes ≡ None }
+{}
+
+/// A structure block is refused with the fault of the token that follows the longest list of tokens
+/// without fault.
+pub fn first_fault()
+    ensures { (strings block : List ℕ) (f : FdtFault)
+        → (structure_at strings block ≡ Err f) ↔ IsFirstFault strings block f }
+{}

@@ -1,0 +1,21 @@
+//! Flattened devicetrees (Devicetree Specification 0.4, chapter 5) as trees in memory.
+#![tactic(auto)]
+
+mod fault;
+mod header;
+mod laws;
+mod lexing;
+mod lookup;
+mod node;
+mod place;
+mod reading;
+mod reservations;
+mod strings;
+mod structure;
+mod tree;
+
+pub use crate::fault::FdtFault;
+pub use crate::laws::{first_fault, one_tree, refused_or_spelled};
+pub use crate::node::{Name, Node, Property};
+pub use crate::reading::read;
+pub use crate::tree::{Reservation, Tree};

@@ -1,0 +1,53 @@
+//! Reading a whole file.
+
+ghost use Rattle.std.specs.Prelude.{◌≡◌, [], List, ℕ, Ok, Err, IfOk, IfErr, length};
+ghost use Rattle.fdt_tree.specs.Devicetree.{Devicetree};
+ghost use Rattle.fdt_tree.specs.Steps.{Gives};
+ghost use Rattle.fdt_tree.specs.NodeViews.{branch};
+ghost use Rattle.fdt_tree.specs.Wholeness.{tree_in};
+ghost use Rattle.fdt_tree.specs.Trees.{devicetree_of};
+ghost use Rattle.fdt_tree.specs.Reading.{Spells, parts_of, parts_at, refusal_of, IsRefusal};
+
+use crate::fault::FdtFault;
+use crate::header::header_in;
+use crate::reservations::reservations_in;
+use crate::strings::Strings;
+use crate::structure::root_in;
+use crate::tree::{Contents, Tree};
+use std::alloc::Global;
+
+#[tactic(auto, unfolding(crate::specs::Reading::parts_at))]
+fn contents_of(alloc: Global, bytes: &[u8]) -> Result<Contents, FdtFault>
+    ensures exact { Gives (λ c. parts_of (tree_in c)) result (parts_at bytes.now) }
+    ensures unnamed { IfOk result (λ c. (branch c.strings.items c.root).name ≡ []) }
+{
+    let header = header_in(bytes)?;
+    let reservations = reservations_in(alloc, header.reserve_block(bytes))?;
+    let strings = Strings::new(alloc, header.strings_block(bytes))?;
+    let root = root_in(alloc, &strings, header.structure_block(bytes))?;
+    Ok(Contents {
+        reservations,
+        boot_cpu: header.boot_cpuid_phys,
+        strings: strings.bytes,
+        root,
+    })
+}
+
+/// The devicetree that the bytes spell in the flattened format, which may end before them.
+///
+/// What is wrong with other bytes is told by the first check that fails: of the header `Short`,
+/// `BadMagic`, `BadVersion`, `TooLarge` and `BadBlock`; `BadReserve`; and of the structure block the
+/// first fault of the first token that has one, in this order: `BadToken`, for a node `BadName` and
+/// `TooDeep`, for a property `LateProperty`, `BadString` and `BadName`. `NoMemory` may come before any
+/// of them, where memory was refused.
+pub fn read(alloc: Global, bytes: &[u8]) -> Result<Tree, FdtFault>
+    // What is read is spelled so.
+    ensures found { IfOk result (λ t. Spells bytes.now (devicetree_of t)) }
+    // What is spelled so is read, unless memory is refused.
+    ensures only { (t : Devicetree) → Spells bytes.now t → Gives devicetree_of result (Ok t) }
+    // Which fault it is.
+    ensures refused { IfErr result (λ e. IsRefusal e (refusal_of bytes.now)) }
+{
+    let contents = contents_of(alloc, bytes)?;
+    Ok(Tree::of(contents))
+}

@@ -1,0 +1,82 @@
+//! The strings block, and the names in it.
+
+ghost use Rattle.std.specs.Prelude.{◌≡◌, length, take, drop, IfOk};
+ghost use Rattle.fdt_tree.specs.Names.{letter};
+ghost use Rattle.fdt_tree.specs.LetterRuns.{letter_run, letter_runs, zero_end};
+ghost use Rattle.fdt_tree.specs.Scanning.{name_at};
+ghost use Rattle.fdt_tree.specs.Steps.{Matches};
+
+use crate::fault::FdtFault;
+use std::alloc::{AllocError, Global};
+
+/// A copy of the strings block. Properties may share its bytes by the tens of thousands, as the ends
+/// of one long name, so it is gone through once: each name is then found and judged in one step.
+#[derive(Drop)]
+pub struct Strings {
+    pub bytes: Vec<u8>,
+    // how many letters stand from each byte on
+    runs: Vec<usize>,
+    // the last zero byte stands in front of this place; behind it no name begins
+    end: usize,
+    ghost runs_known: { runs.items ≡ letter_runs bytes.items },
+    ghost end_known: { end ≡ zero_end bytes.items },
+}
+
+/// Whether a byte may stand in a name.
+pub fn is_letter(byte: u8) -> bool
+    ensures { result ≡ letter byte }
+{
+    byte > 32 && byte < 127 && byte != b'/'
+}
+
+fn runs_of(alloc: Global, bytes: &[u8]) -> Result<Vec<usize>, AllocError>
+    ensures { IfOk result (λ v. v.items ≡ letter_runs bytes.now) }
+{
+    let mut runs = vec![in alloc; 0; bytes.len()]?;
+    let mut run = 0;
+    for done in 0..bytes.len() {
+        let at = bytes.len() - 1 - done;
+        run = if is_letter(bytes[at]) { run + 1 } else { 0 };
+        runs[at] = run;
+    }
+    Ok(runs)
+}
+
+fn end_of(bytes: &[u8]) -> usize
+    ensures { result ≡ zero_end bytes.now }
+{
+    let mut end = 0;
+    for (i, byte) in bytes.iter().enumerate() {
+        if *byte == 0 {
+            end = i + 1;
+        }
+    }
+    end
+}
+
+impl Strings {
+    /// A copy of the block.
+    pub fn new(alloc: Global, block: &[u8]) -> Result<Strings, AllocError>
+        ensures { IfOk result (λ s. s.bytes.items ≡ block.now) }
+    {
+        let runs = runs_of(alloc, block)?;
+        let bytes = Vec::from_slice(alloc, block)?;
+        let end = end_of(block);
+        Ok(Strings { bytes, runs, end })
+    }
+
+    /// How long the name at an offset is.
+    pub fn name_len(&self, offset: usize) -> Result<usize, FdtFault>
+        ensures { Matches (λ n. take n (drop offset self.now.bytes.items)) result
+            (name_at self.now.bytes.items offset) }
+    {
+        if offset >= self.end {
+            return Err(FdtFault::BadString);
+        }
+        let len = self.runs[offset];
+        if len == 0 || self.bytes[offset + len] != 0 {
+            return Err(FdtFault::BadName);
+        }
+        Ok(len)
+    }
+}
