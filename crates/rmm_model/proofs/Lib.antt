@@ -1,0 +1,10 @@
+pub mod Tests
+pub mod Blocks
+pub mod Walks
+pub mod Ranges
+pub mod Owners
+pub mod Spaces
+pub mod Runs
+pub mod Steps
+pub mod Rims
+pub mod Taken

@@ -1,0 +1,34 @@
+-- Ranges of RAM.
+use Rattle.std.proofs.Common.{inl, inr, ◌≡◌, ℕ, ◌<◌, ◌≤◌, arith, true, max, leb, ltb, ◌&&◌, List, [], ◌∷◌}
+use Rattle.std.proofs.lemmas.Bool.Decides.{nat_tests}
+use Rattle.rmm_model.specs.Space.{are_some, is_ram, overlaps}
+use Rattle.rmm_model.proofs.Tests.{bool-cases}
+
+ram-here : (r : ℕ × ℕ) (rs : List (ℕ × ℕ)) (x : ℕ) → r.0 ≤ x → x < r.1 → is_ram (r ∷ rs) x ≡ true
+ram-here r rs x lo hi = grind (arith, nat_tests)
+
+ram-there : (r : ℕ × ℕ) (rs : List (ℕ × ℕ)) (x : ℕ) → is_ram rs x ≡ true → is_ram (r ∷ rs) x ≡ true
+ram-there r rs x h = grind (arith, nat_tests)
+
+-- where a range meets base to top, some address between is RAM
+pub overlaps-some : (rs : List (ℕ × ℕ)) (b t : ℕ) → are_some rs ≡ true → b < t → overlaps rs b t ≡ true → (y : ℕ) × (b ≤ y) × (y < t) × (is_ram rs y ≡ true)
+overlaps-some [] b t some lt = λ h. absurd (cc)
+overlaps-some (r ∷ rs) b t some lt =
+    elim (bool-cases (ltb r.0 t && ltb b r.1)) [
+      | inl k ↦ (λ h. (let s : r.0 < r.1 = grind (arith, nat_tests) in
+          let p : r.0 < t = grind (arith, nat_tests) in
+          let q : b < r.1 = grind (arith, nat_tests) in
+          (max b r.0, omega arith, omega arith, ram-here r rs (max b r.0) (omega arith) (omega arith))))
+      | inr k ↦ rw k (λ h. (let others : are_some rs ≡ true = grind (arith, nat_tests) in
+          let i : (y : ℕ) × (b ≤ y) × (y < t) × (is_ram rs y ≡ true) = overlaps-some rs b t others lt h in
+          (i.0, i.1, i.2, ram-there r rs (i.0) (i.3))))
+    ]
+
+-- and where it does not, none is
+pub some-overlaps : (rs : List (ℕ × ℕ)) (b t y : ℕ) → b ≤ y → y < t → is_ram rs y ≡ true → overlaps rs b t ≡ true
+some-overlaps [] b t y lo hi = λ h. h
+some-overlaps (r ∷ rs) b t y lo hi =
+    elim (bool-cases (leb r.0 y && ltb y r.1)) [
+      | inl k ↦ (λ h. grind (arith, nat_tests))
+      | inr k ↦ rw k (λ h. (let i : overlaps rs b t ≡ true = some-overlaps rs b t y lo hi h in grind (arith, nat_tests)))
+    ]

@@ -1,0 +1,32 @@
+-- Sizes of entries and tables. DEN0137, "RTT levels", for granules and pages of 4096 bytes: a table
+-- has 512 entries.
+use Rattle.std.specs.Prelude.{ℕ, zero, suc, ◌+◌, ◌*◌, ◌/◌, ◌%◌, ◌==◌, Bool, List, [], ◌∷◌}
+
+-- the bytes that an entry of a level covers: 512 GiB, 1 GiB, 2 MiB, and 4 KiB at level 3
+unfoldable pub size : ℕ → ℕ
+size zero = 549755813888
+size (suc zero) = 1073741824
+size (suc (suc zero)) = 2097152
+size (suc (suc (suc n))) = 4096
+
+-- the bytes that a table of a level covers
+abbrev pub span : ℕ → ℕ
+span l = size l * 512
+
+-- x rounded down to the first address of the block of n bytes that holds it
+abbrev pub down : ℕ → ℕ → ℕ
+down n x = x / n * n
+
+-- whether x is a multiple of n
+abbrev pub is_multiple : ℕ → ℕ → Bool
+is_multiple n x = x % n == 0
+
+-- the first addresses of n granules, from x on
+unfoldable pub granules : ℕ → ℕ → List ℕ
+granules zero x = []
+granules (suc n) x = x ∷ granules n (x + 4096)
+
+-- n stretches of s bytes from x on, each with its first address and the first past it
+unfoldable pub stretches : ℕ → ℕ → ℕ → List (ℕ × ℕ)
+stretches zero s x = []
+stretches (suc n) s x = (x, x + s) ∷ stretches n s (x + s)

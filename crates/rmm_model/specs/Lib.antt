@@ -1,0 +1,10 @@
+pub mod Blocks
+pub mod Start
+pub mod Space
+pub mod Owners
+pub mod State
+pub mod Checks
+pub mod Effects
+pub mod Step
+pub mod Run
+pub mod Listing

@@ -1,0 +1,48 @@
+-- The state of a monitor with one realm.
+use Rattle.std.specs.Prelude.{ℕ, List, [], Bool, true, false, Option, Some, None}
+use Rattle.rim_desc.specs.Page.{zeros}
+use Rattle.rim_desc.specs.declared.measurement.Algo.{Algo}
+use Rattle.rim_desc.specs.declared.measurement.Algo.TheVariants.{Sha256}
+use Rattle.rim_desc.specs.declared.realm.RealmParams.{RealmParams}
+use Rattle.rmm_model.specs.declared.outcome.Kind.{Kind}
+use Rattle.rmm_model.specs.declared.outcome.Phase.{Phase}
+use Rattle.rmm_model.specs.declared.outcome.Phase.TheVariants.{Empty, New, Active}
+use Rattle.rmm_model.specs.Space.{Space, empty_space}
+
+pub record State : Type 0 where
+  pub phase : Phase
+  -- the realm's parameters, once there is a realm
+  pub params : Option RealmParams
+  -- the number of auxiliary granules of each REC
+  pub aux : ℕ
+  -- granules and their kinds, by address
+  pub owners : List (ℕ × Kind)
+  pub space : Space
+  -- the number of RECs made
+  pub recs : ℕ
+  -- the Realm Initial Measurement, once there is a realm
+  pub rim : Option (List ℕ)
+
+-- the state before the first command
+abbrev pub empty_state : ℕ → State
+empty_state aux = record { phase = Empty; params = None; aux = aux; owners = []; space = empty_space 0 0; recs = 0; rim = None }
+
+abbrev pub is_empty : Phase → Bool
+is_empty Empty = true
+is_empty New = false
+is_empty Active = false
+
+abbrev pub is_new : Phase → Bool
+is_new Empty = false
+is_new New = true
+is_new Active = false
+
+-- the hash algorithm of the realm. Without a realm nothing is hashed
+abbrev pub algo_of : Option RealmParams → Algo
+algo_of (Some p) = p.algo
+algo_of None = Sha256
+
+-- the measurement so far; zero bytes where nothing was measured
+abbrev pub measured_so_far : Option (List ℕ) → List ℕ
+measured_so_far (Some rim) = rim
+measured_so_far None = zeros 64

@@ -1,0 +1,76 @@
+//! Laws for readers of the definitions, proved.
+ghost use Rattle.std.specs.Prelude.{◌≡◌, ◌⊎◌, ◌↔◌, ◌<◌, ◌≤◌, ◌/◌, ℕ, List, true, false, length, None, Some, Err, ◌∷◌, []};
+ghost use Rattle.rim_desc.specs.Part.{rim_of};
+ghost use Rattle.rim_desc.specs.declared.command.Command.{Command};
+ghost use Rattle.rim_desc.specs.declared.realm.RealmParams.{RealmParams};
+ghost use Rattle.rim_desc.specs.declared.command.Command.TheVariants.{Delegate, DataCreate};
+ghost use Rattle.rmm_model.specs.declared.outcome.Refused.TheVariants.{NotDelegated, NotUndelegated, WalkLevel};
+ghost use Rattle.rmm_model.specs.declared.table.Table.{Table};
+ghost use Rattle.rmm_model.specs.Blocks.{span};
+ghost use Rattle.rmm_model.specs.Start.{start_of};
+ghost use Rattle.rmm_model.specs.Space.{are_some, is_ram, made, overlaps, walk};
+ghost use Rattle.rmm_model.specs.State.{State, empty_state};
+ghost use Rattle.rmm_model.specs.Owners.{repeats};
+ghost use Rattle.rmm_model.specs.Step.{step};
+ghost use Rattle.rmm_model.specs.Run.{accepted, run, shown, taken};
+ghost use Rattle.rmm_model.specs.Listing.{before_tables, table_of_level_3, with_tables, worked_listing, worked_parts};
+
+/// The worked list of commands is accepted, measures the realm and three parts more, and leaves six
+/// granules with a kind.
+pub fn worked_listing_is_accepted()
+    ensures taken { accepted (empty_state 0) worked_listing ≡ true }
+    ensures measured { shown (empty_state 0) worked_listing ≡ worked_parts }
+    ensures owners { length (run (empty_state 0) worked_listing).owners ≡ 6 }
+{}
+
+/// Of that list, the table of level 3 before that of level 2: the walk does not end at level 2.
+pub fn tables_come_in_order()
+    ensures { step (run (empty_state 0) before_tables) table_of_level_3 ≡ Err WalkLevel }
+{}
+
+/// One granule delegated twice.
+pub fn no_granule_is_delegated_twice()
+    ensures { step (run (empty_state 0) (Delegate 0x800000000 ∷ [])) (Delegate 0x800000000) ≡ Err NotUndelegated }
+{}
+
+/// A page of data in a granule that is a table.
+pub fn no_table_takes_data()
+    ensures { step (run (empty_state 0) with_tables) (DataCreate 0x800004000 0x40000000 None) ≡ Err NotDelegated }
+{}
+
+/// The start tables of each width: level and number.
+pub fn start_tables_by_width()
+    ensures narrow { (start_of 32 ≡ Some (2, 4)) × (start_of 33 ≡ Some (2, 8)) × (start_of 34 ≡ Some (2, 16)) }
+    ensures middle { (start_of 35 ≡ Some (1, 1)) × (start_of 39 ≡ Some (1, 1)) × (start_of 40 ≡ Some (1, 2)) × (start_of 43 ≡ Some (1, 16)) }
+    ensures wide { (start_of 44 ≡ Some (0, 1)) × (start_of 48 ≡ Some (0, 1)) }
+    ensures others { (start_of 31 ≡ None) × (start_of 49 ≡ None) }
+{}
+
+/// A walk ends at least as deep as the start level, and as each table that covers the address.
+pub fn walk_is_deepest()
+    ensures start { (start x : ℕ) (ts : List Table) → start ≤ walk start ts x }
+    ensures tables { (start x level base : ℕ) (ts : List Table) → made ts level base ≡ true → x / span level ≡ base / span level → level ≤ walk start ts x }
+{}
+
+/// It ends at the start level, or at the level of a table that covers the address.
+pub fn walk_is_of_a_table()
+    ensures { (start x : ℕ) (ts : List Table) → (walk start ts x ≡ start) ⊎ ((base : ℕ) × (made ts (walk start ts x) base ≡ true) × (x / span (walk start ts x) ≡ base / span (walk start ts x))) }
+{}
+
+/// Ranges meet another range just where some address of it is RAM.
+pub fn overlap_is_some_ram()
+    ensures { (ram : List (ℕ × ℕ)) (base top : ℕ) → are_some ram ≡ true → base < top
+        → (overlaps ram base top ≡ true) ↔ ((x : ℕ) × (base ≤ x) × (x < top) × (is_ram ram x ≡ true)) }
+{}
+
+/// The measurement that commands leave is the one that their parts make, in order; a command that is
+/// refused has no part in it.
+pub fn rim_is_of_its_parts()
+    ensures { (aux : ℕ) (commands : List Command) (params : RealmParams) → (run (empty_state aux) commands).params ≡ Some params
+        → (run (empty_state aux) commands).rim ≡ Some (rim_of params.algo (shown (empty_state aux) commands)) }
+{}
+
+/// Commands that are all accepted take no granule twice.
+pub fn no_granule_is_taken_twice()
+    ensures { (state : State) (commands : List Command) → accepted state commands ≡ true → repeats (taken commands) ≡ false }
+{}

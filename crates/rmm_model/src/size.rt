@@ -1,0 +1,35 @@
+//! Sizes of entries and tables.
+ghost use Rattle.std.specs.Prelude.{◌≡◌, ◌<◌, ◌≤◌};
+ghost use Rattle.rmm_model.specs.Blocks.{down, size, span};
+
+/// The bytes that an entry of a level covers.
+pub fn size_of_level(level: u8) -> u64
+    ensures value { result ≡ size level }
+    ensures some { 0 < result }
+    ensures most { result ≤ 549755813888 }
+{
+    match level {
+        0 => 0x80_0000_0000,
+        1 => 0x4000_0000,
+        2 => 0x20_0000,
+        _ => 0x1000,
+    }
+}
+
+/// The bytes that a table of a level covers.
+pub fn span_of_level(level: u8) -> u64
+    ensures value { result ≡ span level }
+    ensures some { 0 < result }
+    ensures most { result ≤ 281474976710656 }
+{
+    size_of_level(level) * 512
+}
+
+/// The first address that a table of a level covers where it covers an IPA.
+pub fn table_base(level: u8, ipa: u64) -> u64
+    ensures value { result ≡ down (span level) ipa }
+    ensures below { result ≤ ipa }
+{
+    let span = span_of_level(level);
+    ipa / span * span
+}

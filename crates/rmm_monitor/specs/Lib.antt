@@ -1,0 +1,5 @@
+pub mod Owned
+pub mod Apart
+pub mod Formed
+pub mod SpaceInside
+pub mod MonitorInside

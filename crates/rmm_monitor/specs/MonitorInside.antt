@@ -1,0 +1,15 @@
+-- What callers see of a monitor's fields.
+use Rattle.std.specs.Prelude.{option_map}
+use Rattle.rmm_model.specs.State.{State}
+use Rattle.rmm_monitor.specs.declared.monitor.Monitor.TheInside.{Inside}
+
+abbrev pub shown_state : Inside → State
+shown_state m = record {
+  phase = m.phase;
+  params = m.params;
+  aux = m.aux;
+  owners = m.owners;
+  space = m.space;
+  recs = m.recs;
+  rim = option_map (λ r. r.bytes) m.rim;
+}

@@ -1,0 +1,11 @@
+//! A Realm Management Monitor (Arm DEN0137 1.0) with one realm, up to its activation: it takes or refuses
+//! each command exactly as the definitions of `rmm_model` say, and holds the Realm Initial Measurement.
+#![tactic(auto)]
+
+mod measuring;
+mod monitor;
+mod owners;
+mod parameters;
+mod space;
+
+pub use monitor::Monitor;

@@ -1,0 +1,339 @@
+//! The monitor.
+ghost use Rattle.std.specs.Prelude.{◌≡◌, ◌≤◌, ◌⊎◌, not, ◌||◌, ◌∷◌, Ok, Err, OnOk, IfErr, IsOk, OnErr, length, option_map, true};
+ghost use Rattle.std.specs.Bool.{OnFalse};
+ghost use Rattle.rim_desc.specs.declared.command.Command.TheVariants.{Delegate, RealmCreate, RttCreate, InitRipas, DataCreate, RecCreate, Activate};
+ghost use Rattle.rmm_model.specs.State.{empty_state};
+ghost use Rattle.rmm_model.specs.Owners.{all_delegated, is_delegated, kind_of, repeats};
+ghost use Rattle.rmm_model.specs.Space.{has};
+ghost use Rattle.rmm_model.specs.Step.{step};
+ghost use Rattle.rmm_monitor.specs.Owned.{all_owned};
+
+use crate::measuring::{
+    algo_of, extended_by_data, extended_by_rec, extended_by_stretches, measured_so_far,
+};
+use crate::owners::Owners;
+use crate::parameters::{
+    all_aligned, has, is_bad_content, is_bad_realm, is_bad_rec, is_cut, rec_index, repeats,
+    start_tables,
+};
+use crate::space::IpaSpace;
+use rim_desc::{Command, Measurement, RealmParams, RecParams, hash, realm_page};
+use rmm_model::size::size_of_level;
+use rmm_model::start::protected_end;
+use rmm_model::{Kind, Phase, Refused};
+use std::alloc::Global;
+use std::marker::Model;
+
+/// A monitor with one realm.
+#[derive(Drop)]
+pub struct Monitor {
+    phase: Phase,
+    params: Option<RealmParams>,
+    aux: u8,
+    owners: Owners,
+    space: IpaSpace,
+    recs: u64,
+    rim: Option<Measurement>,
+    alloc: Global,
+}
+
+impl Model for Monitor {
+    ghost use Rattle.rmm_model.specs.State.{State};
+
+    ghost Value = { State };
+
+    ghost use Rattle.rmm_monitor.specs.MonitorInside.{shown_state};
+
+    ghost view = { shown_state };
+}
+
+impl Monitor {
+    /// A monitor without a realm, whose RECs have `aux` auxiliary granules each. It takes no memory.
+    pub fn new(alloc: Global, aux: u8) -> Monitor
+        requires { aux ≤ 16 }
+        ensures { result ≡ empty_state aux }
+    {
+        Monitor {
+            phase: Phase::Empty,
+            params: None,
+            aux,
+            owners: Owners::new(alloc),
+            space: IpaSpace::new(alloc, 0, 0),
+            recs: 0,
+            rim: None,
+            alloc,
+        }
+    }
+
+    /// The Realm Initial Measurement; none before the realm was created.
+    pub fn rim(&self) -> Option<Measurement>
+        ensures { option_map (λ m. m.bytes) result ≡ self.now.rim }
+    {
+        self.rim
+    }
+
+    /// The kind of the granule at a physical address; none where it is UNDELEGATED.
+    pub fn owner(&self, pa: u64) -> Option<Kind>
+        ensures { result ≡ kind_of self.now.owners pa }
+    {
+        self.owners.kind_of(pa)
+    }
+
+    /// How many granules have a kind.
+    pub fn owner_count(&self) -> usize
+        ensures { result ≡ length self.now.owners }
+    {
+        self.owners.count()
+    }
+
+    fn delegate(&mut self, granule: u64) -> Result<(), Refused>
+        ensures done { OnOk result (step self.old (Delegate granule) ≡ Ok self.new) }
+        ensures refused { IfErr result (λ e. (e ≡ Refused.NoMemory) ⊎ (step self.old (Delegate granule) ≡ Err e)) }
+        ensures memory { result ≡ Err Refused.NoMemory → IsOk (step self.old (Delegate granule)) }
+        ensures kept { OnErr result (self.new ≡ self.old) }
+    {
+        if granule % 4096 != 0 {
+            return Err(Refused::Unaligned);
+        }
+        if self.owners.kind_of(granule).is_some() {
+            return Err(Refused::NotUndelegated);
+        }
+        match self.owners.add(granule, Kind::Delegated) {
+            Ok(()) => Ok(()),
+            Err(_) => Err(Refused::NoMemory),
+        }
+    }
+
+    fn rtt_create(&mut self, rtt: u64, ipa: u64, level: u8) -> Result<(), Refused>
+        ensures done { OnOk result (step self.old (RttCreate rtt ipa level) ≡ Ok self.new) }
+        ensures refused { IfErr result (λ e. (e ≡ Refused.NoMemory) ⊎ (step self.old (RttCreate rtt ipa level) ≡ Err e)) }
+        ensures memory { result ≡ Err Refused.NoMemory → IsOk (step self.old (RttCreate rtt ipa level)) }
+        ensures kept { OnErr result (self.new ≡ self.old) }
+    {
+        if self.phase == Phase::Empty {
+            return Err(Refused::State);
+        }
+        if level <= self.space.start() || level > 3 {
+            return Err(Refused::BadParams);
+        }
+        if rtt % 4096 != 0 || ipa % size_of_level(level - 1) != 0 {
+            return Err(Refused::Unaligned);
+        }
+        if ipa >= self.space.half() {
+            return Err(Refused::OutsideProtected);
+        }
+        if self.space.walk_level(ipa) != level - 1 {
+            return Err(Refused::WalkLevel);
+        }
+        if !self.owners.is_delegated(rtt) {
+            return Err(Refused::NotDelegated);
+        }
+        if self.space.add_table(level, ipa).is_err() {
+            return Err(Refused::NoMemory);
+        }
+        self.owners.give(rtt, Kind::Rtt);
+        Ok(())
+    }
+
+    fn realm_create(&mut self, rd: u64, params: &RealmParams) -> Result<(), Refused>
+        ensures done { OnOk result (step self.old (RealmCreate rd params.now) ≡ Ok self.new) }
+        ensures refused { IfErr result (λ e. step self.old (RealmCreate rd params.now) ≡ Err e) }
+        ensures memory { result ≡ Err Refused.NoMemory → IsOk (step self.old (RealmCreate rd params.now)) }
+        ensures kept { OnErr result (self.new ≡ self.old) }
+    {
+        if self.phase != Phase::Empty {
+            return Err(Refused::State);
+        }
+        if is_bad_realm(params) {
+            return Err(Refused::BadParams);
+        }
+        if rd % 4096 != 0 {
+            return Err(Refused::Unaligned);
+        }
+        let places = start_tables(params.rtt_base, params.rtt_num_start);
+        let tables = &places[..params.rtt_num_start as usize];
+        if cannot_hold_realm(&self.owners, rd, tables) {
+            return Err(Refused::NotDelegated);
+        }
+        self.owners.give(rd, Kind::Rd);
+        self.owners.give_all(tables, Kind::Rtt);
+        self.space = IpaSpace::new(
+            self.alloc,
+            params.rtt_level_start,
+            protected_end(params.s2sz),
+        );
+        self.rim = Some(hash(params.algo, &realm_page(params)));
+        self.params = Some(*params);
+        self.phase = Phase::New;
+        Ok(())
+    }
+
+    fn init_ripas(&mut self, base: u64, top: u64) -> Result<(), Refused>
+        ensures done { OnOk result (step self.old (InitRipas base top) ≡ Ok self.new) }
+        ensures refused { IfErr result (λ e. (e ≡ Refused.NoMemory) ⊎ (step self.old (InitRipas base top) ≡ Err e)) }
+        ensures memory { result ≡ Err Refused.NoMemory → IsOk (step self.old (InitRipas base top)) }
+        ensures kept { OnErr result (self.new ≡ self.old) }
+    {
+        if self.phase != Phase::New {
+            return Err(Refused::State);
+        }
+        if top <= base {
+            return Err(Refused::BadParams);
+        }
+        if base % 4096 != 0 || top % 4096 != 0 {
+            return Err(Refused::Unaligned);
+        }
+        if top > self.space.half() {
+            return Err(Refused::OutsideProtected);
+        }
+        let level = self.space.walk_level(base);
+        if is_cut(level, base, top) {
+            return Err(Refused::WalkLevel);
+        }
+        if self.space.is_taken(level, base, top) {
+            return Err(Refused::NotFresh);
+        }
+        if self.space.add_run(base, top).is_err() {
+            return Err(Refused::NoMemory);
+        }
+        let entry = size_of_level(level);
+        let rim = measured_so_far(self.rim);
+        let count = (top - base) / entry;
+        self.rim = Some(extended_by_stretches(algo_of(self.params), rim, base, entry, count));
+        Ok(())
+    }
+
+    fn data_create(
+        &mut self,
+        granule: u64,
+        ipa: u64,
+        content: Option<Measurement>,
+    ) -> Result<(), Refused>
+        ensures done { OnOk result (step self.old (DataCreate granule ipa content) ≡ Ok self.new) }
+        ensures refused { IfErr result (λ e. (e ≡ Refused.NoMemory) ⊎ (step self.old (DataCreate granule ipa content) ≡ Err e)) }
+        ensures memory { result ≡ Err Refused.NoMemory → IsOk (step self.old (DataCreate granule ipa content)) }
+        ensures kept { OnErr result (self.new ≡ self.old) }
+    {
+        if self.phase != Phase::New {
+            return Err(Refused::State);
+        }
+        let algo = algo_of(self.params);
+        if is_bad_content(algo, content) {
+            return Err(Refused::BadParams);
+        }
+        if granule % 4096 != 0 || ipa % 4096 != 0 {
+            return Err(Refused::Unaligned);
+        }
+        if ipa >= self.space.half() {
+            return Err(Refused::OutsideProtected);
+        }
+        if self.space.walk_level(ipa) != 3 {
+            return Err(Refused::WalkLevel);
+        }
+        if !self.space.is_ram(ipa) {
+            return Err(Refused::NotRam);
+        }
+        if self.space.has_data(ipa) {
+            return Err(Refused::Assigned);
+        }
+        if !self.owners.is_delegated(granule) {
+            return Err(Refused::NotDelegated);
+        }
+        if self.space.add_page(ipa).is_err() {
+            return Err(Refused::NoMemory);
+        }
+        self.owners.give(granule, Kind::DataPage);
+        self.rim = Some(extended_by_data(algo, measured_so_far(self.rim), ipa, content));
+        Ok(())
+    }
+
+    fn rec_create(&mut self, rec: u64, params: &RecParams) -> Result<(), Refused>
+        ensures done { OnOk result (step self.old (RecCreate rec params.now) ≡ Ok self.new) }
+        ensures refused { IfErr result (λ e. step self.old (RecCreate rec params.now) ≡ Err e) }
+        ensures memory { result ≡ Err Refused.NoMemory → IsOk (step self.old (RecCreate rec params.now)) }
+        ensures kept { OnErr result (self.new ≡ self.old) }
+    {
+        if self.phase != Phase::New {
+            return Err(Refused::State);
+        }
+        if is_bad_rec(params) {
+            return Err(Refused::BadParams);
+        }
+        let aux = params.aux();
+        if rec % 4096 != 0 || !all_aligned(aux) {
+            return Err(Refused::Unaligned);
+        }
+        if rec_index(params.mpidr()) != self.recs {
+            return Err(Refused::RecIndex);
+        }
+        if params.num_aux() != self.aux {
+            return Err(Refused::AuxCount);
+        }
+        if cannot_hold_rec(&self.owners, rec, aux) {
+            return Err(Refused::NotDelegated);
+        }
+        self.owners.give(rec, Kind::Rec);
+        self.owners.give_all(aux, Kind::RecAux);
+        self.recs += 1;
+        self.rim = Some(extended_by_rec(algo_of(self.params), measured_so_far(self.rim), params));
+        Ok(())
+    }
+
+    fn activate(&mut self) -> Result<(), Refused>
+        ensures done { OnOk result (step self.old Activate ≡ Ok self.new) }
+        ensures refused { IfErr result (λ e. step self.old Activate ≡ Err e) }
+        ensures memory { result ≡ Err Refused.NoMemory → IsOk (step self.old Activate) }
+        ensures kept { OnErr result (self.new ≡ self.old) }
+    {
+        if self.phase != Phase::New {
+            return Err(Refused::State);
+        }
+        self.phase = Phase::Active;
+        Ok(())
+    }
+
+    /// Takes a command, or refuses it by the first check of its row that holds, and by NoMemory where a
+    /// command that no check refuses wants memory that is not there. After a refusal the monitor is as
+    /// it was.
+    ///
+    /// Delegate, RttCreate and DataCreate take the logarithm of the number of granules, tables, ranges and
+    /// pages; InitRipas besides a hash for each entry, RealmCreate and DataCreate one, RecCreate two.
+    pub fn apply(&mut self, command: &Command) -> Result<(), Refused>
+        ensures done { OnOk result (step self.old command.now ≡ Ok self.new) }
+        ensures refused { IfErr result (λ e. (e ≡ Refused.NoMemory) ⊎ (step self.old command.now ≡ Err e)) }
+        ensures memory { result ≡ Err Refused.NoMemory → IsOk (step self.old command.now) }
+        ensures kept { OnErr result (self.new ≡ self.old) }
+    {
+        match command {
+            Command::Delegate { granule } => self.delegate(*granule),
+            Command::RealmCreate { rd, params } => self.realm_create(*rd, params),
+            Command::RttCreate { rtt, ipa, level } => self.rtt_create(*rtt, *ipa, *level),
+            Command::InitRipas { base, top } => self.init_ripas(*base, *top),
+            Command::DataCreate {
+                granule,
+                ipa,
+                content,
+            } => self.data_create(*granule, *ipa, *content),
+            Command::RecCreate { rec, params } => self.rec_create(*rec, params),
+            Command::Activate => self.activate(),
+        }
+    }
+}
+
+/// Whether a realm descriptor and start tables cannot be put into these granules.
+#[tactic(auto, using(crate::proofs::Gifts::owned_from_delegated))]
+fn cannot_hold_realm(owners: &Owners, rd: u64, tables: &[u64]) -> bool
+    ensures owned { OnFalse result (all_owned owners.now tables.now ≡ true) }
+    ensures value { result ≡ (not (is_delegated owners.now rd) || not (all_delegated owners.now tables.now) || has tables.now rd) }
+{
+    !owners.is_delegated(rd) || !owners.all_delegated(tables) || has(tables, rd)
+}
+
+/// Whether a REC and its auxiliary granules cannot be put into these granules.
+#[tactic(auto, using(crate::proofs::Gifts::owned_from_delegated))]
+fn cannot_hold_rec(owners: &Owners, rec: u64, aux: &[u64]) -> bool
+    ensures owned { OnFalse result (all_owned owners.now aux.now ≡ true) }
+    ensures value { result ≡ (not (all_delegated owners.now (rec ∷ aux.now)) || repeats (rec ∷ aux.now)) }
+{
+    !owners.is_delegated(rec) || !owners.all_delegated(aux) || has(aux, rec) || repeats(aux)
+}

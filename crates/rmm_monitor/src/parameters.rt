@@ -1,0 +1,131 @@
+//! Tests of the parameters of commands.
+ghost use Rattle.std.specs.Prelude.{◌≡◌, ◌+◌, ◌-◌, ◌*◌, ◌<◌, ◌≤◌, ◌^◌, ◌==◌, drop, true, take};
+ghost use Rattle.std.specs.Bool.{OnFalse};
+ghost use Rattle.std.specs.List.{list_all};
+ghost use Rattle.rmm_model.specs.Blocks.{granules, is_multiple};
+ghost use Rattle.rmm_model.specs.Start.{is_width};
+ghost use Rattle.rmm_model.specs.Checks.{has_other_flags, is_bad_content, is_bad_realm, is_bad_rec, is_cut, rec_index};
+ghost use Rattle.rmm_model.specs.Owners.{repeats};
+ghost use Rattle.rmm_model.specs.Space.{has};
+
+use rim_desc::{Algo, Measurement, RealmParams, RecParams};
+use rmm_model::size::{size_of_level, span_of_level, table_base};
+use rmm_model::start::{is_width, start_count, start_level};
+
+/// The most start tables that a realm may have.
+pub const START_LIMIT: usize = 16;
+
+/// Whether a realm's parameters are outside what a realm may have.
+pub fn is_bad_realm(params: &RealmParams) -> bool
+    ensures value { result ≡ is_bad_realm params.now }
+    ensures width { OnFalse result (is_width params.now.s2sz ≡ true) }
+    ensures start { OnFalse result (params.now.rtt_level_start ≤ 2) }
+    ensures few { OnFalse result (params.now.rtt_num_start ≤ 16) }
+    ensures fits { OnFalse result (params.now.rtt_base + params.now.rtt_num_start * 4096 ≤ 2 ^ 64) }
+{
+    let is_unlike = has_other_flags(params.flags) || !is_width(params.s2sz);
+    if is_unlike || params.rtt_level_start != start_level(params.s2sz) {
+        return true;
+    }
+    let count = start_count(params.s2sz);
+    if u64::from(params.rtt_num_start) != count {
+        return true;
+    }
+    let bytes = count * 4096;
+    params.rtt_base % bytes != 0 || params.rtt_base > u64::MAX - (bytes - 1)
+}
+
+/// Whether there are flags other than SVE and PMU.
+fn has_other_flags(flags: u64) -> bool
+    ensures { result ≡ has_other_flags flags }
+{
+    flags % 2 != 0 || flags >= 8
+}
+
+/// The granules of some start tables, of which there are at most 16, and zeros behind them.
+pub fn start_tables(base: u64, count: u8) -> [u64; START_LIMIT]
+    requires few { count ≤ 16 }
+    requires fits { base + count * 4096 ≤ 2 ^ 64 }
+    ensures { take count result ≡ granules count base }
+{
+    let mut tables = [0; START_LIMIT];
+    for index in 0..count {
+        tables[index as usize] = base + u64::from(index) * 4096;
+    }
+    tables
+}
+
+/// Whether a content is no measurement of the algorithm.
+pub fn is_bad_content(algo: Algo, content: Option<Measurement>) -> bool
+    ensures { result ≡ is_bad_content algo content }
+{
+    match algo {
+        Algo::Sha256 => match content {
+            Some(content) => !are_zero(&content.bytes[32..]),
+            None => false,
+        },
+        Algo::Sha512 => false,
+    }
+}
+
+/// Whether all these bytes are zero.
+fn are_zero(bytes: &[u8]) -> bool
+    ensures { result ≡ list_all (λ byte. byte == 0) bytes.now }
+{
+    bytes.iter().all(|byte| *byte == 0)
+}
+
+/// Whether a REC is not runnable, or its MPIDR has bits that none has.
+pub fn is_bad_rec(params: &RecParams) -> bool
+    ensures { result ≡ is_bad_rec params.now }
+{
+    let mpidr = params.mpidr();
+    params.flags() != 1 || mpidr / 16 % 16 != 0 || mpidr >= 1 << 32
+}
+
+/// The index that an MPIDR names.
+pub fn rec_index(mpidr: u64) -> u64
+    ensures value { result ≡ rec_index mpidr }
+    ensures most { result < 2 ^ 28 }
+{
+    let aff0 = mpidr % 16;
+    let aff1 = mpidr / 256 % 256;
+    let aff2 = mpidr / 65536 % 256;
+    let aff3 = mpidr / 16777216 % 256;
+    aff0 + 16 * aff1 + 4096 * aff2 + 1048576 * aff3
+}
+
+/// Whether a range is not made of whole entries of a level, or passes the table that holds `base`.
+pub fn is_cut(level: u8, base: u64, top: u64) -> bool
+    requires { base < top }
+    ensures { result ≡ is_cut level base top }
+{
+    let size = size_of_level(level);
+    base % size != 0 || top % size != 0 || top - table_base(level, base) > span_of_level(level)
+}
+
+/// Whether two of some granules are one.
+pub fn repeats(granules: &[u64]) -> bool
+    ensures { result ≡ repeats granules.now }
+{
+    for (index, granule) in granules.iter().enumerate() {
+        if has(&granules[index + 1..], *granule) {
+            return true;
+        }
+    }
+    false
+}
+
+/// Whether a granule is among some.
+pub fn has(granules: &[u64], granule: u64) -> bool
+    ensures { result ≡ has granules.now granule }
+{
+    granules.contains(&granule)
+}
+
+/// Whether all these addresses are multiples of a granule's bytes.
+pub fn all_aligned(granules: &[u64]) -> bool
+    ensures { result ≡ list_all (is_multiple 4096) granules.now }
+{
+    granules.iter().all(|granule| *granule % 4096 == 0)
+}

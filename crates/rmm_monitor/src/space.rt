@@ -1,0 +1,194 @@
+//! The IPA space of the realm.
+ghost use Rattle.std.specs.Prelude.{◌≡◌, ◌+◌, ◌-◌, ◌%◌, ◌<◌, ◌≤◌, ◌^◌, ◌&&◌, nat_lt, OnOk, OnErr, false, true};
+ghost use Rattle.rmm_model.specs.Blocks.{down, span};
+ghost use Rattle.rmm_model.specs.Space.{after_page, after_run, after_table, deeper, empty_space, has, has_table_in, is_ram, made, overlaps, walk};
+ghost use Rattle.rmm_model.specs.Checks.{is_taken};
+ghost use Rattle.rmm_monitor.specs.Apart.{are_apart};
+
+use rim_desc::NoMemory;
+use rmm_model::Table;
+use rmm_model::size::table_base;
+use std::alloc::Global;
+use std::collections::{BTreeMap, BTreeSet};
+use std::marker::Model;
+
+/// The tables of a realm, its RAM and its pages with data. Each call takes the logarithm of their
+/// numbers.
+#[derive(Drop)]
+pub struct IpaSpace {
+    start: u8,
+    half: u64,
+    tables: BTreeSet<Table>,
+    ram: BTreeMap<u64, u64>,
+    filled: BTreeSet<u64>,
+}
+
+impl Model for IpaSpace {
+    ghost use Rattle.rmm_model.specs.Space.{Space};
+
+    ghost Value = { Space };
+
+    ghost use Rattle.rmm_monitor.specs.SpaceInside.{IsWellFormed, shown_space};
+
+    ghost view = { shown_space };
+
+    ghost invariant = { IsWellFormed };
+}
+
+impl IpaSpace {
+    /// Start tables of a level alone, with `half` the first address past the protected half.
+    pub fn new(alloc: Global, start: u8, half: u64) -> IpaSpace
+        requires start { start ≤ 2 }
+        requires half { half ≤ 2 ^ 47 }
+        ensures { result ≡ empty_space start half }
+    {
+        IpaSpace {
+            start,
+            half,
+            tables: BTreeSet::new(alloc),
+            ram: BTreeMap::new(alloc),
+            filled: BTreeSet::new(alloc),
+        }
+    }
+
+    /// The level of the start tables.
+    pub fn start(&self) -> u8
+        ensures value { result ≡ self.now.start }
+        ensures most { result ≤ 2 }
+    {
+        self.start
+    }
+
+    /// The first address past the protected half.
+    pub fn half(&self) -> u64
+        ensures value { result ≡ self.now.half }
+        ensures most { result ≤ 2 ^ 47 }
+    {
+        self.half
+    }
+
+    /// The level at which the walk of an IPA ends: the deepest table that covers it decides.
+    pub fn walk_level(&self, ipa: u64) -> u8
+        ensures value { result ≡ walk self.now.start self.now.tables ipa }
+        ensures most { result ≤ 3 }
+    {
+        if is_made(&self.tables, 3, ipa) {
+            3
+        } else if is_made(&self.tables, 2, ipa) {
+            2
+        } else if is_made(&self.tables, 1, ipa) {
+            1
+        } else {
+            self.start
+        }
+    }
+
+    /// Whether a table of a deeper level has its first address in the range.
+    fn has_deeper(&self, level: u8, base: u64, top: u64) -> bool
+        requires { base ≤ top }
+        ensures { result ≡ deeper self.now.tables level base top }
+    {
+        let first = is_deeper(&self.tables, level, 1, base, top);
+        let second = is_deeper(&self.tables, level, 2, base, top);
+        let third = is_deeper(&self.tables, level, 3, base, top);
+        first || second || third
+    }
+
+    /// Whether a range has RAM, or a table of a level deeper than `level`.
+    pub fn is_taken(&self, level: u8, base: u64, top: u64) -> bool
+        requires { base < top }
+        ensures { result ≡ is_taken self.now level base top }
+    {
+        self.meets_ram(base, top - 1) || self.has_deeper(level, base, top)
+    }
+
+    /// Whether some address from `base` to `last` is RAM.
+    fn meets_ram(&self, base: u64, last: u64) -> bool
+        ensures { result ≡ overlaps self.now.ram base (last + 1) }
+    {
+        match self.ram.range(..=last).next_back() {
+            Some((_, top)) => base < *top,
+            None => false,
+        }
+    }
+
+    /// Whether an address is RAM.
+    pub fn is_ram(&self, ipa: u64) -> bool
+        ensures { result ≡ is_ram self.now.ram ipa }
+    {
+        self.meets_ram(ipa, ipa)
+    }
+
+    /// Whether a page has data.
+    pub fn has_data(&self, ipa: u64) -> bool
+        ensures { result ≡ has self.now.filled ipa }
+    {
+        self.filled.contains(&ipa)
+    }
+
+    /// Adds a table.
+    pub fn add_table(&mut self, level: u8, base: u64) -> Result<(), NoMemory>
+        requires above { self.old.start < level }
+        requires deepest { level ≤ 3 }
+        requires multiple { down (span level) base ≡ base }
+        ensures ok { OnOk result (self.new ≡ after_table self.old level base) }
+        ensures err { OnErr result (self.new ≡ self.old) }
+    {
+        match self.tables.insert(Table { level, base }) {
+            Ok(_) => Ok(()),
+            Err(_) => Err(NoMemory),
+        }
+    }
+
+    /// Makes a range RAM of which nothing is RAM.
+    pub fn add_run(&mut self, base: u64, top: u64) -> Result<(), NoMemory>
+        requires some { base < top }
+        requires fresh { overlaps self.old.ram base top ≡ false }
+        ensures ok { OnOk result (self.new ≡ after_run self.old base top) }
+        ensures err { OnErr result (self.new ≡ self.old) }
+    {
+        match self.ram.insert(base, top) {
+            Ok(_) => Ok(()),
+            Err(_) => Err(NoMemory),
+        }
+    }
+
+    /// Gives a page data.
+    pub fn add_page(&mut self, ipa: u64) -> Result<(), NoMemory>
+        ensures ok { OnOk result (self.new ≡ after_page self.old ipa) }
+        ensures err { OnErr result (self.new ≡ self.old) }
+    {
+        match self.filled.insert(ipa) {
+            Ok(_) => Ok(()),
+            Err(_) => Err(NoMemory),
+        }
+    }
+}
+
+/// Whether the table of a level that covers an IPA is there.
+fn is_made(tables: &BTreeSet<Table>, level: u8, ipa: u64) -> bool
+    ensures { result ≡ made tables.now.keys level (down (span level) ipa) }
+{
+    tables.contains(&Table {
+        level,
+        base: table_base(level, ipa),
+    })
+}
+
+/// Whether a table of a level has its first address in the range.
+fn is_table_between(tables: &BTreeSet<Table>, level: u8, base: u64, top: u64) -> bool
+    requires { base ≤ top }
+    ensures { result ≡ has_table_in tables.now.keys level base top }
+{
+    let first = Table { level, base };
+    let past = Table { level, base: top };
+    tables.range(first..past).next().is_some()
+}
+
+/// Whether a level is deeper than another, and a table of it has its first address in the range.
+fn is_deeper(tables: &BTreeSet<Table>, than: u8, level: u8, base: u64, top: u64) -> bool
+    requires { base ≤ top }
+    ensures { result ≡ (nat_lt than level && has_table_in tables.now.keys level base top) }
+{
+    than < level && is_table_between(tables, level, base, top)
+}

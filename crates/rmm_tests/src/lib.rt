@@ -1,0 +1,7 @@
+//! Tests of the monitor, with measurements from outside.
+#![tactic(auto)]
+
+#[cfg(test)]
+mod rows;
+#[cfg(test)]
+mod worked;

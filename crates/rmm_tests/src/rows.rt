@@ -1,0 +1,486 @@
+//! Each check of each command at its edge, with the next check holding too where both can.
+use crate::worked::{created, take_all, worked_params};
+use rim_desc::{Command, Measurement, RealmParams, RecParams};
+use rmm_model::Refused;
+use rmm_monitor::Monitor;
+use std::process::Abort;
+
+/// The start tables of the worked realm.
+const TABLES: u64 = 0x8_0000_0000;
+
+const GIB: u64 = 0x4000_0000;
+
+/// Of the worked realm.
+const HALF: u64 = 1 << 39;
+
+/// A granule that is not DELEGATED, and one that is no granule.
+const FREE: u64 = 0x9_0000_0000;
+
+const ODD: u64 = 0x9_0000_0800;
+
+fn refuse(rt: &impl Abort, monitor: &mut Monitor, command: &Command, refused: Refused) {
+    let owners = monitor.owner_count();
+    let rim = monitor.rim();
+    assert_eq!(rt; monitor.apply(command), Err(refused), "{command:?}");
+    assert_eq!(rt; monitor.owner_count(), owners);
+    assert_eq!(rt; monitor.rim(), rim);
+}
+
+fn delegate(granule: u64) -> Command {
+    Command::Delegate { granule }
+}
+
+fn table(rtt: u64, ipa: u64, level: u8) -> Command {
+    Command::RttCreate { rtt, ipa, level }
+}
+
+fn ripas(base: u64, top: u64) -> Command {
+    Command::InitRipas { base, top }
+}
+
+fn data(granule: u64, ipa: u64) -> Command {
+    Command::DataCreate {
+        granule,
+        ipa,
+        content: None,
+    }
+}
+
+fn rec(rec: u64, flags: u64, mpidr: u64, aux: [u64; 2]) -> Command {
+    Command::RecCreate {
+        rec,
+        params: RecParams::new(flags, mpidr, 0, [0; 8], &aux),
+    }
+}
+
+#[test]
+fn delegate_row(rt: HostRuntime) {
+    let mut monitor = Monitor::new(rt.alloc(), 0);
+    refuse(&rt, &mut monitor, &delegate(0x800), Refused::Unaligned);
+    refuse(&rt, &mut monitor, &delegate(u64::MAX), Refused::Unaligned);
+    let last = delegate(u64::MAX - 4095);
+    take_all(&rt, &mut monitor, &[delegate(0), delegate(u64::MAX - 4095)]);
+    refuse(&rt, &mut monitor, &last, Refused::NotUndelegated);
+}
+
+#[test]
+fn realm_create_row(rt: HostRuntime) {
+    let mut monitor = Monitor::new(rt.alloc(), 0);
+    let good = worked_params();
+    let base = TABLES;
+    let wrong = [
+        RealmParams { flags: 1, ..good },
+        RealmParams { flags: 8, ..good },
+        RealmParams { s2sz: 31, ..good },
+        RealmParams { s2sz: 49, ..good },
+        RealmParams { s2sz: 0, ..good },
+        RealmParams { s2sz: 255, ..good },
+        RealmParams { s2sz: 44, ..good },
+        RealmParams {
+            rtt_level_start: 2,
+            ..good
+        },
+        RealmParams {
+            rtt_num_start: 1,
+            ..good
+        },
+        RealmParams {
+            rtt_num_start: 0,
+            ..good
+        },
+        RealmParams {
+            rtt_base: base + 4096,
+            ..good
+        },
+        RealmParams {
+            rtt_base: u64::MAX,
+            ..good
+        },
+    ];
+    for params in wrong {
+        let command = Command::RealmCreate { rd: ODD, params };
+        refuse(&rt, &mut monitor, &command, Refused::BadParams);
+    }
+    let at = |rd: u64, params: RealmParams| Command::RealmCreate { rd, params };
+    refuse(&rt, &mut monitor, &at(ODD, good), Refused::Unaligned);
+    refuse(&rt, &mut monitor, &at(FREE, good), Refused::NotDelegated);
+    let last = RealmParams {
+        rtt_base: u64::MAX - 8191,
+        ..good
+    };
+    refuse(&rt, &mut monitor, &at(FREE, last), Refused::NotDelegated);
+    take_all(&rt, &mut monitor, &[delegate(base), delegate(FREE)]);
+    refuse(&rt, &mut monitor, &at(FREE, good), Refused::NotDelegated);
+    take_all(&rt, &mut monitor, &[delegate(base + 4096)]);
+    refuse(&rt, &mut monitor, &at(base, good), Refused::NotDelegated);
+    refuse(
+        &rt,
+        &mut monitor,
+        &at(base + 4096, good),
+        Refused::NotDelegated,
+    );
+    take_all(
+        &rt,
+        &mut monitor,
+        &[at(FREE, RealmParams { flags: 6, ..good })],
+    );
+    refuse(
+        &rt,
+        &mut monitor,
+        &at(ODD, RealmParams { flags: 1, ..good }),
+        Refused::State,
+    );
+}
+
+#[test]
+fn rtt_create_row(rt: HostRuntime) {
+    let mut empty = Monitor::new(rt.alloc(), 0);
+    refuse(&rt, &mut empty, &table(ODD, 1, 255), Refused::State);
+    let mut monitor = created(&rt, rt.alloc());
+    for level in [0, 1, 4, 255] {
+        refuse(&rt, &mut monitor, &table(ODD, 1, level), Refused::BadParams);
+    }
+    refuse(&rt, &mut monitor, &table(ODD, HALF, 2), Refused::Unaligned);
+    refuse(
+        &rt,
+        &mut monitor,
+        &table(FREE, HALF + 0x20_0000, 2),
+        Refused::Unaligned,
+    );
+    refuse(
+        &rt,
+        &mut monitor,
+        &table(FREE, u64::MAX, 3),
+        Refused::Unaligned,
+    );
+    refuse(
+        &rt,
+        &mut monitor,
+        &table(FREE, HALF, 3),
+        Refused::OutsideProtected,
+    );
+    refuse(
+        &rt,
+        &mut monitor,
+        &table(FREE, u64::MAX - (GIB - 1), 2),
+        Refused::OutsideProtected,
+    );
+    refuse(
+        &rt,
+        &mut monitor,
+        &table(FREE, HALF - GIB, 3),
+        Refused::WalkLevel,
+    );
+    refuse(
+        &rt,
+        &mut monitor,
+        &table(FREE, HALF - GIB, 2),
+        Refused::NotDelegated,
+    );
+    let commands = [delegate(FREE), table(FREE, HALF - GIB, 2)];
+    take_all(&rt, &mut monitor, &commands);
+    refuse(
+        &rt,
+        &mut monitor,
+        &table(FREE, HALF - GIB, 2),
+        Refused::WalkLevel,
+    );
+    refuse(
+        &rt,
+        &mut monitor,
+        &table(FREE, HALF - GIB, 3),
+        Refused::NotDelegated,
+    );
+    take_all(
+        &rt,
+        &mut monitor,
+        &[Command::Activate, delegate(FREE + 4096)],
+    );
+    take_all(
+        &rt,
+        &mut monitor,
+        &[table(FREE + 4096, HALF - 0x20_0000, 3)],
+    );
+}
+
+#[test]
+fn init_ripas_row(rt: HostRuntime) {
+    let mut empty = Monitor::new(rt.alloc(), 0);
+    refuse(&rt, &mut empty, &ripas(1, 0), Refused::State);
+    let mut monitor = created(&rt, rt.alloc());
+    refuse(&rt, &mut monitor, &ripas(1, 1), Refused::BadParams);
+    refuse(&rt, &mut monitor, &ripas(u64::MAX, 0), Refused::BadParams);
+    refuse(&rt, &mut monitor, &ripas(1, u64::MAX), Refused::Unaligned);
+    refuse(&rt, &mut monitor, &ripas(0, HALF + 1), Refused::Unaligned);
+    refuse(
+        &rt,
+        &mut monitor,
+        &ripas(4096, HALF + 4096),
+        Refused::OutsideProtected,
+    );
+    refuse(&rt, &mut monitor, &ripas(4096, GIB), Refused::WalkLevel);
+    refuse(&rt, &mut monitor, &ripas(0, 4096), Refused::WalkLevel);
+    let commands = [
+        delegate(FREE),
+        table(FREE, 2 * GIB, 2),
+        ripas(HALF - GIB, HALF),
+    ];
+    take_all(&rt, &mut monitor, &commands);
+    refuse(
+        &rt,
+        &mut monitor,
+        &ripas(2 * GIB, 4 * GIB),
+        Refused::WalkLevel,
+    );
+    refuse(&rt, &mut monitor, &ripas(GIB, 3 * GIB), Refused::NotFresh);
+    refuse(
+        &rt,
+        &mut monitor,
+        &ripas(HALF - GIB, HALF),
+        Refused::NotFresh,
+    );
+    refuse(&rt, &mut monitor, &ripas(3 * GIB, HALF), Refused::NotFresh);
+    take_all(
+        &rt,
+        &mut monitor,
+        &[ripas(GIB, 2 * GIB), ripas(2 * GIB, 3 * GIB)],
+    );
+    refuse(&rt, &mut monitor, &ripas(0, 2 * GIB), Refused::NotFresh);
+    take_all(&rt, &mut monitor, &[ripas(0, GIB), Command::Activate]);
+    refuse(&rt, &mut monitor, &ripas(1, 0), Refused::State);
+}
+
+/// A run ends with its start table: here each of four covers 512 GiB.
+#[test]
+fn start_tables_part_runs(rt: HostRuntime) {
+    let mut monitor = Monitor::new(rt.alloc(), 0);
+    let params = RealmParams {
+        s2sz: 42,
+        rtt_num_start: 8,
+        ..worked_params()
+    };
+    for index in 0..8 {
+        let granule = TABLES + 4096 * index;
+        take_all(&rt, &mut monitor, &[delegate(granule)]);
+    }
+    let create = Command::RealmCreate { rd: FREE, params };
+    take_all(&rt, &mut monitor, &[delegate(FREE), create]);
+    refuse(
+        &rt,
+        &mut monitor,
+        &ripas(HALF - GIB, HALF + GIB),
+        Refused::WalkLevel,
+    );
+    take_all(
+        &rt,
+        &mut monitor,
+        &[ripas(HALF - GIB, HALF), ripas(HALF, HALF + GIB)],
+    );
+}
+
+#[test]
+fn data_create_row(rt: HostRuntime) {
+    let mut empty = Monitor::new(rt.alloc(), 0);
+    refuse(&rt, &mut empty, &data(ODD, 1), Refused::State);
+    let mut monitor = created(&rt, rt.alloc());
+    let mut bytes = [0; 64];
+    bytes[32] = 1;
+    let long = Command::DataCreate {
+        granule: ODD,
+        ipa: 1,
+        content: Some(Measurement { bytes }),
+    };
+    refuse(&rt, &mut monitor, &long, Refused::BadParams);
+    refuse(&rt, &mut monitor, &data(ODD, HALF), Refused::Unaligned);
+    refuse(&rt, &mut monitor, &data(FREE, HALF + 1), Refused::Unaligned);
+    refuse(
+        &rt,
+        &mut monitor,
+        &data(FREE, HALF),
+        Refused::OutsideProtected,
+    );
+    refuse(
+        &rt,
+        &mut monitor,
+        &data(FREE, HALF - 4096),
+        Refused::WalkLevel,
+    );
+    let base = HALF - GIB;
+    let commands = [
+        delegate(FREE),
+        delegate(FREE + 4096),
+        table(FREE, base, 2),
+        ripas(base, base + 0x20_0000),
+        table(FREE + 4096, base, 3),
+    ];
+    take_all(&rt, &mut monitor, &commands);
+    refuse(
+        &rt,
+        &mut monitor,
+        &data(ODD - 0x800, base + 0x20_0000),
+        Refused::WalkLevel,
+    );
+    refuse(&rt, &mut monitor, &data(FREE, base), Refused::NotDelegated);
+    take_all(
+        &rt,
+        &mut monitor,
+        &[delegate(FREE + 8192), data(FREE + 8192, base)],
+    );
+    refuse(&rt, &mut monitor, &data(FREE, base), Refused::Assigned);
+    let beside = [
+        delegate(FREE + 12288),
+        table(FREE + 12288, base + 0x20_0000, 3),
+    ];
+    take_all(&rt, &mut monitor, &beside);
+    refuse(
+        &rt,
+        &mut monitor,
+        &data(FREE, base + 0x20_0000),
+        Refused::NotRam,
+    );
+    bytes[32] = 0;
+    bytes[31] = 1;
+    let short = Command::DataCreate {
+        granule: FREE,
+        ipa: base + 0x1f_f000,
+        content: Some(Measurement { bytes }),
+    };
+    refuse(&rt, &mut monitor, &short, Refused::NotDelegated);
+    take_all(&rt, &mut monitor, &[Command::Activate]);
+    refuse(&rt, &mut monitor, &long, Refused::State);
+}
+
+#[test]
+fn rec_create_row(rt: HostRuntime) {
+    let mut empty = Monitor::new(rt.alloc(), 2);
+    refuse(&rt, &mut empty, &rec(ODD, 0, 0, [ODD, ODD]), Refused::State);
+    let mut monitor = created(&rt, rt.alloc());
+    for flags in [0, 2, 3, u64::MAX] {
+        refuse(
+            &rt,
+            &mut monitor,
+            &rec(ODD, flags, 0, [ODD, ODD]),
+            Refused::BadParams,
+        );
+    }
+    for mpidr in [1 << 4, 1 << 7, 1 << 32, 1 << 63, u64::MAX] {
+        refuse(
+            &rt,
+            &mut monitor,
+            &rec(ODD, 1, mpidr, [ODD, ODD]),
+            Refused::BadParams,
+        );
+    }
+    refuse(
+        &rt,
+        &mut monitor,
+        &rec(ODD, 1, 1, [FREE, FREE]),
+        Refused::Unaligned,
+    );
+    refuse(
+        &rt,
+        &mut monitor,
+        &rec(FREE, 1, 1, [FREE, ODD]),
+        Refused::Unaligned,
+    );
+    for mpidr in [1, 1 << 8, 1 << 16, 1 << 24, 0xffff_ff0f] {
+        refuse(
+            &rt,
+            &mut monitor,
+            &rec(FREE, 1, mpidr, [FREE, FREE]),
+            Refused::RecIndex,
+        );
+    }
+    let bare = Command::RecCreate {
+        rec: FREE,
+        params: RecParams::new(1, 0, 0, [0; 8], &[FREE]),
+    };
+    refuse(&rt, &mut monitor, &bare, Refused::AuxCount);
+    let second = FREE + 4096;
+    let third = FREE + 8192;
+    take_all(&rt, &mut monitor, &[delegate(FREE), delegate(second)]);
+    refuse(
+        &rt,
+        &mut monitor,
+        &rec(FREE, 1, 0, [second, third]),
+        Refused::NotDelegated,
+    );
+    refuse(
+        &rt,
+        &mut monitor,
+        &rec(third, 1, 0, [FREE, second]),
+        Refused::NotDelegated,
+    );
+    refuse(
+        &rt,
+        &mut monitor,
+        &rec(FREE, 1, 0, [second, second]),
+        Refused::NotDelegated,
+    );
+    refuse(
+        &rt,
+        &mut monitor,
+        &rec(FREE, 1, 0, [second, FREE]),
+        Refused::NotDelegated,
+    );
+    take_all(
+        &rt,
+        &mut monitor,
+        &[delegate(third), rec(FREE, 1, 0, [third, second])],
+    );
+    refuse(
+        &rt,
+        &mut monitor,
+        &rec(FREE, 1, 0, [third, second]),
+        Refused::RecIndex,
+    );
+    refuse(
+        &rt,
+        &mut monitor,
+        &rec(FREE, 1, 1, [third, second]),
+        Refused::NotDelegated,
+    );
+}
+
+/// The sixteenth REC is the last with Aff1 zero.
+#[test]
+fn recs_count_on(rt: HostRuntime) {
+    let mut monitor = created(&rt, rt.alloc());
+    for index in 0..17u64 {
+        let granule = FREE + 4096 * 3 * index;
+        let aux = [granule + 4096, granule + 8192];
+        let delegates = [delegate(granule), delegate(aux[0]), delegate(aux[1])];
+        take_all(&rt, &mut monitor, &delegates);
+        let mpidr = index % 16 + 256 * (index / 16);
+        take_all(&rt, &mut monitor, &[rec(granule, 1, mpidr, aux)]);
+    }
+    refuse(
+        &rt,
+        &mut monitor,
+        &rec(FREE, 1, 0x100, [FREE, FREE]),
+        Refused::RecIndex,
+    );
+    refuse(
+        &rt,
+        &mut monitor,
+        &rec(FREE, 1, 0x101, [FREE, FREE]),
+        Refused::NotDelegated,
+    );
+}
+
+#[test]
+fn activate_row(rt: HostRuntime) {
+    let mut monitor = Monitor::new(rt.alloc(), 2);
+    refuse(&rt, &mut monitor, &Command::Activate, Refused::State);
+    let mut monitor = created(&rt, rt.alloc());
+    let rim = monitor.rim();
+    take_all(&rt, &mut monitor, &[Command::Activate]);
+    assert_eq!(rt; monitor.rim(), rim);
+    refuse(&rt, &mut monitor, &Command::Activate, Refused::State);
+    refuse(
+        &rt,
+        &mut monitor,
+        &rec(ODD, 0, 0, [ODD, ODD]),
+        Refused::State,
+    );
+}
