@@ -1,0 +1,286 @@
+//! Regions and pages, and the acts that they ask for.
+use rtt_plan::{Act, PlanFault, Tables, start_of};
+use std::process::Abort;
+use std::test::Fail;
+
+fn table(base: u64, level: u8) -> Act {
+    Act::Table { base, level }
+}
+
+fn run(base: u64, top: u64, level: u8) -> Act {
+    Act::Run { base, top, level }
+}
+
+fn check_region(rt: &impl Abort, tables: &mut Tables, base: u64, end: u64, acts: &[Act]) {
+    if base < end {
+        match tables.ripas_runs(base, end) {
+            Ok(made) => assert_eq!(rt; made.as_slice(), acts),
+            Err(fault) => assert!(rt; false, "{fault:?} at {base:x}"),
+        }
+    }
+}
+
+fn check_fault(rt: &impl Abort, tables: &mut Tables, base: u64, end: u64, fault: PlanFault) {
+    if base < end {
+        assert_eq!(rt;
+            tables.ripas_runs(base, end).err(),
+            Some(fault),
+            "at {base:x}"
+        );
+    }
+}
+
+fn check_data_fault(rt: &impl Abort, tables: &mut Tables, base: u64, count: u64, fault: PlanFault) {
+    if 1 <= count {
+        assert_eq!(rt;
+            tables.data_pages(base, count).err(),
+            Some(fault),
+            "at {base:x}"
+        );
+    }
+}
+
+#[test]
+fn region_that_ends_past_2_mib(rt: HostRuntime) {
+    let mut tables = Tables::new(rt.alloc(), 33, 2);
+    let acts = [
+        run(0x4000_0000, 0x4020_0000, 2),
+        table(0x4020_0000, 3),
+        run(0x4020_0000, 0x4020_1000, 3),
+    ];
+    check_region(&rt, &mut tables, 0x4000_0000, 0x4020_1000, &acts);
+    assert_eq!(rt; tables.walk_level(0x4020_0fff), 3);
+    assert_eq!(rt; tables.walk_level(0x4000_0000), 2);
+}
+
+#[test]
+fn base_at_4_kib(rt: HostRuntime) {
+    let mut tables = Tables::new(rt.alloc(), 33, 2);
+    let acts = [
+        table(0x4000_0000, 3),
+        run(0x4000_1000, 0x4020_0000, 3),
+        run(0x4020_0000, 0x4040_0000, 2),
+    ];
+    check_region(&rt, &mut tables, 0x4000_1000, 0x4040_0000, &acts);
+}
+
+#[test]
+fn blocks_of_1_gib_and_of_2_mib(rt: HostRuntime) {
+    let mut large = Tables::new(rt.alloc(), 40, 1);
+    check_region(
+        &rt,
+        &mut large,
+        0x4000_0000,
+        0xc000_0000,
+        &[run(0x4000_0000, 0xc000_0000, 1)],
+    );
+    let mut small = Tables::new(rt.alloc(), 40, 2);
+    let acts = [
+        table(0x4000_0000, 2),
+        run(0x4000_0000, 0x8000_0000, 2),
+        table(0x8000_0000, 2),
+        run(0x8000_0000, 0xc000_0000, 2),
+    ];
+    check_region(&rt, &mut small, 0x4000_0000, 0xc000_0000, &acts);
+}
+
+#[test]
+fn page_in_a_large_block_then_a_second_region(rt: HostRuntime) -> Result<(), Fail> {
+    let mut tables = Tables::new(rt.alloc(), 40, 1);
+    check_region(
+        &rt,
+        &mut tables,
+        0x4000_0000,
+        0xc000_0000,
+        &[run(0x4000_0000, 0xc000_0000, 1)],
+    );
+    let page = match tables.data_pages(0x4000_0000, 1) {
+        Ok(acts) => acts,
+        Err(_) => return Err(Fail::new("no plan")),
+    };
+    let acts = [
+        table(0x4000_0000, 2),
+        table(0x4000_0000, 3),
+        Act::Pages {
+            base: 0x4000_0000,
+            count: 1,
+        },
+    ];
+    assert_eq!(rt; page.as_slice(), acts.as_slice());
+    check_data_fault(&rt, &mut tables, 0x4000_0000, 2, PlanFault::DataTwice);
+    check_region(
+        &rt,
+        &mut tables,
+        0xc000_0000,
+        0xc020_0000,
+        &[table(0xc000_0000, 2), run(0xc000_0000, 0xc020_0000, 2)],
+    );
+    check_fault(
+        &rt,
+        &mut tables,
+        0x7fff_f000,
+        0x8000_0000,
+        PlanFault::RipasTwice,
+    );
+    Ok(())
+}
+
+#[test]
+fn end_of_the_protected_half(rt: HostRuntime) {
+    let mut tables = Tables::new(rt.alloc(), 33, 2);
+    check_fault(
+        &rt,
+        &mut tables,
+        0xffe0_0000,
+        0x1_0000_1000,
+        PlanFault::OutsideProtected,
+    );
+    check_fault(
+        &rt,
+        &mut tables,
+        0xffe0_0001,
+        u64::MAX,
+        PlanFault::OutsideProtected,
+    );
+    check_region(
+        &rt,
+        &mut tables,
+        0xffe0_0000,
+        0x1_0000_0000,
+        &[run(0xffe0_0000, 0x1_0000_0000, 2)],
+    );
+    check_data_fault(
+        &rt,
+        &mut tables,
+        0xffff_f000,
+        2,
+        PlanFault::OutsideProtected,
+    );
+    check_data_fault(
+        &rt,
+        &mut tables,
+        0xffff_ffff_ffff_f000,
+        1,
+        PlanFault::OutsideProtected,
+    );
+    check_data_fault(&rt, &mut tables, 0, u64::MAX, PlanFault::OutsideProtected);
+}
+
+#[test]
+fn faults_in_their_order(rt: HostRuntime) {
+    let mut tables = Tables::new(rt.alloc(), 33, 2);
+    check_data_fault(&rt, &mut tables, 0x4000_0000, 1, PlanFault::NotRam);
+    check_fault(
+        &rt,
+        &mut tables,
+        0x4000_0001,
+        0x4000_2000,
+        PlanFault::Unaligned,
+    );
+    check_fault(
+        &rt,
+        &mut tables,
+        0x4000_0000,
+        0x4000_2001,
+        PlanFault::Unaligned,
+    );
+    check_region(
+        &rt,
+        &mut tables,
+        0x4000_0000,
+        0x4000_2000,
+        &[table(0x4000_0000, 3), run(0x4000_0000, 0x4000_2000, 3)],
+    );
+    check_fault(
+        &rt,
+        &mut tables,
+        0x4000_1000,
+        0x4000_3000,
+        PlanFault::RipasTwice,
+    );
+    check_fault(
+        &rt,
+        &mut tables,
+        0x3fff_f000,
+        0x4000_1000,
+        PlanFault::RipasTwice,
+    );
+    check_fault(
+        &rt,
+        &mut tables,
+        0x4000_0001,
+        0x1_0000_0001,
+        PlanFault::OutsideProtected,
+    );
+    check_data_fault(&rt, &mut tables, 0x4000_0001, 1, PlanFault::Unaligned);
+    check_data_fault(&rt, &mut tables, 0x4000_1000, 2, PlanFault::NotRam);
+    check_region(
+        &rt,
+        &mut tables,
+        0x4000_2000,
+        0x4000_3000,
+        &[run(0x4000_2000, 0x4000_3000, 3)],
+    );
+}
+
+#[test]
+fn entries_of_a_launch(rt: HostRuntime) -> Result<(), Fail> {
+    let mut tables = Tables::new(rt.alloc(), 48, 3);
+    check_fault(
+        &rt,
+        &mut tables,
+        0,
+        0x4_0000_1000,
+        PlanFault::TooManyEntries,
+    );
+    match tables.ripas_runs(0, 0x20_0000) {
+        Ok(acts) => {
+            let first = [table(0, 1), table(0, 2), table(0, 3), run(0, 0x20_0000, 3)];
+            assert_eq!(rt; acts.as_slice(), first.as_slice());
+        }
+        Err(_) => return Err(Fail::new("no plan")),
+    }
+    check_fault(
+        &rt,
+        &mut tables,
+        0x20_0000,
+        0x4_0000_1000,
+        PlanFault::TooManyEntries,
+    );
+    Ok(())
+}
+
+#[test]
+fn start_tables(rt: HostRuntime) {
+    for (s2sz, start) in [
+        (31, None),
+        (32, Some((2, 4))),
+        (34, Some((2, 16))),
+        (35, Some((1, 1))),
+        (40, Some((1, 2))),
+        (43, Some((1, 16))),
+        (44, Some((0, 1))),
+        (48, Some((0, 1))),
+        (49, None),
+    ] {
+        assert_eq!(rt; start_of(s2sz), start, "{s2sz} bits");
+    }
+}
+
+/// 16 GiB of pages of 4 KiB: 8,192 runs, their tables of level 3, 16 of level 2 and one of level 1.
+#[test]
+fn most_entries(rt: HostRuntime) -> Result<(), Fail> {
+    let mut tables = Tables::new(rt.alloc(), 48, 3);
+    match tables.ripas_runs(0, 0x4_0000_0000) {
+        Ok(acts) => assert_eq!(rt; acts.len(), 8192 + 8192 + 16 + 1),
+        Err(_) => return Err(Fail::new("no plan")),
+    }
+    check_fault(
+        &rt,
+        &mut tables,
+        0x4_0000_0000,
+        0x4_0000_1000,
+        PlanFault::TooManyEntries,
+    );
+    Ok(())
+}

@@ -1,0 +1,103 @@
+-- An growing run and the runs of the entries behind it.
+use Rattle.std.proofs.Common.{inl, inr, ◌≡◌, ℕ, ◌+◌, ◌/◌, ◌<◌, ◌≤◌, ◌∙◌, sym, ap, refl, arith, true, false, cond, ◌&&◌, eqb, List, [], ◌∷◌}
+use Rattle.std.proofs.lemmas.Bool.Decides.{nat_tests}
+use Rattle.rmm_model.specs.Blocks.{size, span}
+use Rattle.rmm_model.proofs.Blocks.{size-pos}
+use Rattle.rmm_model.proofs.Tests.{bool-cases}
+use Rattle.rtt_plan.specs.declared.run.Run.{Run}
+use Rattle.rtt_plan.specs.Entries.{block_level}
+use Rattle.rtt_plan.specs.Places.{AtEntry, IsRegion}
+use Rattle.rtt_plan.specs.Runs.{group, put, runs_from}
+use Rattle.rtt_plan.proofs.Steps.{at-next, entries-end, entries-next}
+
+-- a run put in front of runs: it joins the first of them where level and table are equal
+abbrev pub join : Run → List Run → List Run
+join o [] = o ∷ []
+join o (r ∷ rs) =
+    cond (eqb r.level o.level && eqb (r.base / span o.level) (o.base / span o.level))
+    (record { base = o.base; top = r.top; level = o.level } ∷ rs)
+    (o ∷ r ∷ rs)
+
+-- an growing run meets the next entry: it grows where level and table are equal, and is closed elsewhere
+pub join-same : (o : Run) (l x : ℕ) (rs : List Run) → l ≡ o.level → x / span o.level ≡ o.base / span o.level
+    → join o (put l x rs) ≡ join (record { base = o.base; top = x + size l; level = o.level }) rs
+join-same o l x [] e s =
+    let t : eqb l o.level && eqb (x / span o.level) (o.base / span o.level) ≡ true = grind (arith, nat_tests) in rw t refl
+join-same o l x (r ∷ rs) e s =
+    let t : eqb l o.level && eqb (x / span o.level) (o.base / span o.level) ≡ true = grind (arith, nat_tests) in
+    let same : eqb r.level l && eqb (r.base / span l) (x / span l) ≡ eqb r.level o.level && eqb (r.base / span o.level) (o.base / span o.level) = rw (e, s) refl in
+    elim (bool-cases (eqb r.level o.level && eqb (r.base / span o.level) (o.base / span o.level))) [
+      | inl h ↦ rw (same ∙ h) (rw t (rw h refl))
+      | inr h ↦ rw (same ∙ h) (rw t (rw h refl))
+    ]
+
+pub join-apart : (o : Run) (l x : ℕ) (rs : List Run) → eqb l o.level && eqb (x / span o.level) (o.base / span o.level) ≡ false
+    → join o (put l x rs) ≡ o ∷ put l x rs
+join-apart o l x [] f = rw f refl
+join-apart o l x (r ∷ rs) f =
+    elim (bool-cases (eqb r.level l && eqb (r.base / span l) (x / span l))) [
+      | inl h ↦ rw h (rw f refl)
+      | inr h ↦ rw h (rw f refl)
+    ]
+
+-- the first entry of a run, before it grows
+pub join-put : (l x : ℕ) (rs : List Run) → join (record { base = x; top = x + size l; level = l }) rs ≡ put l x rs
+join-put l x [] = refl
+join-put l x (r ∷ rs) = refl
+
+-- a run that is growing at an entry of the region: with the entries behind it, it makes the runs from its base on
+pub record IsGrowing (base end lowest : ℕ) (o : Run) : Type 0 where
+  pub at : AtEntry base end lowest o.top
+  pub grows : o.base < o.top
+  pub whole : join o (runs_from base end lowest o.top) ≡ runs_from base end lowest o.base
+
+-- the runs from an entry on: its block in front of the runs behind it
+pub runs-next : (base end lowest x : ℕ) → IsRegion base end → lowest ≤ 3 → AtEntry base end lowest x → x < end
+    → runs_from base end lowest x ≡ put (block_level base end lowest x) x (runs_from base end lowest (x + size (block_level base end lowest x)))
+unfolding group
+runs-next base end lowest x region low at some = ap (group (block_level base end lowest)) (entries-next base end lowest x region low at some)
+
+pub runs-end : (base end lowest x : ℕ) → end ≤ x → runs_from base end lowest x ≡ []
+unfolding group
+runs-end base end lowest x h = ap (group (block_level base end lowest)) (entries-end base end lowest x h)
+
+pub grow-start : (base end lowest x l s : ℕ) → IsRegion base end → lowest ≤ 3 → AtEntry base end lowest x → x < end
+    → l ≡ block_level base end lowest x → s ≡ size l → IsGrowing base end lowest (record { base = x; top = x + s; level = l })
+grow-start base end lowest x l s region low at some level bytes =
+    let m : ℕ = block_level base end lowest x in
+    let top : x + s ≡ x + size m = ap (λ n. x + n) (bytes ∙ ap size level) in
+    record {
+      at = rw top (at-next base end lowest x region low at some);
+      grows = omega (arith, bytes, size-pos l);
+      whole = rw (top, level) (join-put m x (runs_from base end lowest (x + size m)) ∙ sym (runs-next base end lowest x region low at some));
+    }
+
+pub grow-more : (base end lowest s : ℕ) (o : Run) → IsRegion base end → lowest ≤ 3 → IsGrowing base end lowest o → o.top < end → s ≡ size o.level
+    → true ≡ (eqb (block_level base end lowest o.top) o.level && eqb (o.top / span o.level) (o.base / span o.level))
+    → IsGrowing base end lowest (record { base = o.base; top = o.top + s; level = o.level })
+grow-more base end lowest s o region low growing some bytes test =
+    let m : ℕ = block_level base end lowest o.top in
+    let level : m ≡ o.level = grind (arith, nat_tests) in
+    let table : o.top / span o.level ≡ o.base / span o.level = grind (arith, nat_tests) in
+    let top : o.top + s ≡ o.top + size m = ap (λ n. o.top + n) (bytes ∙ ap size (sym level)) in
+    let grows : o.base < o.top = growing.grows in
+    record {
+      at = rw top (at-next base end lowest o.top region low growing.at some);
+      grows = omega arith;
+      whole = rw top (sym (join-same o m o.top (runs_from base end lowest (o.top + size m)) level table)
+          ∙ ap (join o) (sym (runs-next base end lowest o.top region low growing.at some)) ∙ growing.whole);
+    }
+
+-- a run that cannot grow is the first of the runs
+pub closed-end : (base end lowest : ℕ) (o : Run) → IsGrowing base end lowest o → end ≤ o.top
+    → runs_from base end lowest o.base ≡ o ∷ runs_from base end lowest o.top
+closed-end base end lowest o growing h =
+    let none = runs-end base end lowest o.top h in
+    sym growing.whole ∙ ap (join o) none ∙ ap (λ rs. o ∷ rs) (sym none)
+
+pub closed-apart : (base end lowest : ℕ) (o : Run) → IsRegion base end → lowest ≤ 3 → IsGrowing base end lowest o → o.top < end
+    → false ≡ (eqb (block_level base end lowest o.top) o.level && eqb (o.top / span o.level) (o.base / span o.level))
+    → runs_from base end lowest o.base ≡ o ∷ runs_from base end lowest o.top
+closed-apart base end lowest o region low growing some test =
+    let next = runs-next base end lowest o.top region low growing.at some in
+    sym growing.whole ∙ ap (join o) next ∙ join-apart o _ _ _ (sym test) ∙ ap (λ rs. o ∷ rs) (sym next)

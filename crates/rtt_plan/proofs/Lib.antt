@@ -1,0 +1,9 @@
+pub mod Rounding
+pub mod Fits
+pub mod Jumps
+pub mod Steps
+pub mod Joins
+pub mod Wants
+pub mod Plans
+pub mod Asking
+pub mod Agreeing

@@ -1,0 +1,19 @@
+-- What is known of the tables and the RAM of a plan between two blocks.
+use Rattle.std.specs.Prelude.{◌≡◌, ℕ, suc, ◌/◌, ◌<◌, ◌≤◌, List, true, false}
+use Rattle.rmm_model.specs.Blocks.{down, size, span}
+use Rattle.rmm_model.specs.Space.{is_ram, made}
+use Rattle.rmm_model.specs.declared.table.Table.{Table}
+
+-- each table is below the start level and stands at a multiple of what it covers, and the table above
+-- it is there
+pub record IsFormed (start : ℕ) (ts : List Table) : Type 0 where
+  pub shape : (level base : ℕ) → made ts level base ≡ true → (start < level) × (level ≤ 3) × (down (span level) base ≡ base)
+  pub chain : (level base : ℕ) → made ts (suc level) base ≡ true → start < level → made ts level (down (span level) base) ≡ true
+
+-- each table covers an address that is RAM
+pub record IsUsed (ts : List Table) (ram : List (ℕ × ℕ)) : Type 0 where
+  pub used : (level base : ℕ) → made ts level base ≡ true → (y : ℕ) × (is_ram ram y ≡ true) × (y / span level ≡ base / span level)
+
+-- no address of the block of a level that holds x is RAM
+abbrev pub IsFresh : List (ℕ × ℕ) → ℕ → ℕ → Type 0
+IsFresh ram level x = (y : ℕ) → y / size level ≡ x / size level → is_ram ram y ≡ false

@@ -1,0 +1,97 @@
+-- What was planned so far, and what a call plans: its first fault, or its acts.
+use Rattle.std.specs.Prelude.{◌≡◌, ℕ, ◌+◌, ◌*◌, max, not, ◌||◌, nat_lt, Bool, List, [], ◌∷◌, ◌++◌, length, Result, Ok, Err, if◌then◌else◌}
+use Rattle.std.specs.List.{list_all, list_any}
+use Rattle.rmm_model.specs.Blocks.{granules, is_multiple}
+use Rattle.rmm_model.specs.Space.{Space, empty_space, has, is_ram, made, overlaps}
+use Rattle.rmm_model.specs.Start.{protected_end, start_level}
+use Rattle.rtt_plan.specs.declared.act.Act.{Act}
+use Rattle.rtt_plan.specs.declared.fault.PlanFault.{PlanFault}
+use Rattle.rtt_plan.specs.declared.fault.PlanFault.TheVariants.{OutsideProtected, Unaligned, RipasTwice, NotRam, DataTwice, TooManyEntries}
+use Rattle.rtt_plan.specs.Entries as region
+use Rattle.rtt_plan.specs.Runs.{runs_of}
+use Rattle.rtt_plan.specs.Wanted.{page_acts, run_acts, tables_after}
+
+pub record Planned : Type 0 where
+  pub space : Space
+  -- the lowest level of a block of RAM
+  pub lowest : ℕ
+  -- how many entries all regions so far have
+  pub entries : ℕ
+
+-- nothing was planned. A block is no larger than an entry of a start table
+abbrev pub nothing_planned : ℕ → ℕ → Planned
+nothing_planned s2sz block_level = record {
+  space = empty_space (start_level s2sz) (protected_end s2sz);
+  lowest = max block_level (start_level s2sz);
+  entries = 0;
+}
+
+-- the most entries of a launch. This project's choice
+abbrev pub entry_limit : ℕ
+entry_limit = 4194304
+
+-- a check: its name, and whether it holds
+abbrev pub Check : Type 0
+Check = PlanFault × Bool
+
+-- the first check that holds, else the acts
+abbrev pub unless_refused : List Check → List Act → Result (List Act) PlanFault
+unless_refused [] acts = Ok acts
+unless_refused (check ∷ others) acts = if check.1 then Err check.0 else unless_refused others acts
+
+-- how many entries a region has
+abbrev pub entry_count : Planned → ℕ → ℕ → ℕ
+entry_count p base end = length (region.entries base end p.lowest)
+
+abbrev pub region_checks : Planned → ℕ → ℕ → List Check
+region_checks p base end =
+    (OutsideProtected, nat_lt p.space.half end)
+    ∷ (Unaligned, not (is_multiple 4096 base) || not (is_multiple 4096 end))
+    ∷ (RipasTwice, overlaps p.space.ram base end)
+    ∷ (TooManyEntries, nat_lt entry_limit (p.entries + entry_count p base end)) ∷ []
+
+abbrev pub region_acts : Planned → ℕ → ℕ → List Act
+region_acts p base end = run_acts p.space.start p.space.tables (runs_of base end p.lowest)
+
+-- what a region of RAM plans
+unfoldable pub plan_region : Planned → ℕ → ℕ → Result (List Act) PlanFault
+plan_region p base end = unless_refused (region_checks p base end) (region_acts p base end)
+
+abbrev pub data_checks : Planned → ℕ → ℕ → List Check
+data_checks p base count =
+    (OutsideProtected, nat_lt p.space.half (base + 4096 * count))
+    ∷ (Unaligned, not (is_multiple 4096 base))
+    ∷ (NotRam, not (list_all (is_ram p.space.ram) (granules count base)))
+    ∷ (DataTwice, list_any (has p.space.filled) (granules count base)) ∷ []
+
+abbrev pub data_acts : Planned → ℕ → ℕ → List Act
+data_acts p base count = page_acts p.space.start p.space.tables (granules count base)
+
+-- what pages of data plan
+unfoldable pub plan_data : Planned → ℕ → ℕ → Result (List Act) PlanFault
+plan_data p base count = unless_refused (data_checks p base count) (data_acts p base count)
+
+-- what is known after a region's acts
+abbrev pub after_region : Planned → ℕ → ℕ → Planned
+after_region p base end = record {
+  space = record p.space { tables = tables_after p.space.tables (region_acts p base end); ram = p.space.ram ++ (base, end) ∷ [] };
+  lowest = p.lowest;
+  entries = p.entries + entry_count p base end;
+}
+
+-- and after those of pages of data
+abbrev pub after_data : Planned → ℕ → ℕ → Planned
+after_data p base count = record p {
+  space = record p.space { tables = tables_after p.space.tables (data_acts p base count); filled = p.space.filled ++ granules count base };
+}
+
+-- two plans that agree on every table, every address that is RAM and every page that has data,
+-- whatever the order in which these are kept
+pub record AgreesWith (p q : Planned) : Type 0 where
+  pub start : p.space.start ≡ q.space.start
+  pub half : p.space.half ≡ q.space.half
+  pub lowest : p.lowest ≡ q.lowest
+  pub entries : p.entries ≡ q.entries
+  pub tables : (level base : ℕ) → made p.space.tables level base ≡ made q.space.tables level base
+  pub ram : (x : ℕ) → is_ram p.space.ram x ≡ is_ram q.space.ram x
+  pub filled : (x : ℕ) → has p.space.filled x ≡ has q.space.filled x

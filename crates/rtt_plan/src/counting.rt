@@ -1,0 +1,33 @@
+//! How many entries there are.
+ghost use Rattle.std.specs.Prelude.{◌≡◌, ◌+◌, ◌<◌, ◌≤◌, ◌^◌, IfNone, IfSome, length};
+ghost use Rattle.rtt_plan.specs.Entries.{entries};
+ghost use Rattle.rtt_plan.specs.Places.{IsRegion};
+
+use crate::block::block_level;
+use rmm_model::size::size_of_level;
+
+/// The most entries of a launch.
+pub const ENTRY_LIMIT: u64 = 4_194_304;
+
+/// The entries of a region and so many before them; none where they are more than the limit.
+pub fn total_entries(before: u64, base: u64, end: u64, lowest: u8) -> Option<u64>
+    requires region { IsRegion base end }
+    requires some { base < end }
+    requires small { end ≤ 2 ^ 47 }
+    requires deep { lowest ≤ 3 }
+    requires few { before ≤ 4194304 }
+    ensures over { IfNone result (4194304 < before + length (entries base end lowest)) }
+    ensures total { IfSome result (λ n. n ≡ before + length (entries base end lowest)) }
+    ensures limit { IfSome result (λ n. n ≤ 4194304) }
+{
+    let mut total = before;
+    let mut x = base;
+    while x < end {
+        if total == ENTRY_LIMIT {
+            return None;
+        }
+        total += 1;
+        x += size_of_level(block_level(base, end, lowest, x));
+    }
+    Some(total)
+}

@@ -1,0 +1,39 @@
+//! The longest run at an entry of a region.
+ghost use Rattle.std.specs.Prelude.{◌≡◌, ◌∷◌, ◌<◌, ◌≤◌, ◌^◌};
+ghost use Rattle.rtt_plan.specs.Entries.{block_level};
+ghost use Rattle.rtt_plan.specs.Places.{AtEntry, IsRegion};
+ghost use Rattle.rtt_plan.specs.Runs.{runs_from};
+
+use crate::block::block_level;
+use crate::run::{Run, goes_on};
+use rmm_model::size::size_of_level;
+
+/// The first of the runs of the entries from `x` on, in the region from `base` to `end`.
+pub fn run_from(base: u64, end: u64, lowest: u8, x: u64) -> Run
+    requires region { IsRegion base end }
+    requires small { end ≤ 2 ^ 47 }
+    requires low { lowest ≤ 3 }
+    requires at { AtEntry base end lowest x }
+    requires some { x < end }
+    ensures runs { runs_from base end lowest x ≡ result ∷ runs_from base end lowest result.top }
+    ensures next { AtEntry base end lowest result.top }
+    ensures base { result.base ≡ x }
+    ensures grows { x < result.top }
+    ensures level { result.level ≡ block_level base end lowest x }
+    ensures range { result.level ≤ 3 }
+{
+    let level = block_level(base, end, lowest, x);
+    let size = size_of_level(level);
+    let mut top = x + size;
+    while top < end {
+        if !goes_on(base, end, lowest, level, x, top) {
+            break;
+        }
+        top += size;
+    }
+    Run {
+        base: x,
+        top,
+        level,
+    }
+}
