@@ -1,0 +1,3 @@
+pub mod Contents
+pub mod Keys
+pub mod Slots

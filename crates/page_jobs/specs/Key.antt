@@ -1,0 +1,17 @@
+-- Keys of pages, and their order.
+use Rattle.std.specs.Prelude.{◌≡◌, List}
+use Rattle.std.specs.List.{AllPairs}
+use Rattle.std.specs.Ordering.{nat_cmp, ordering_then}
+use Rattle.std.specs.declared.cmp.Ordering.{Ordering}
+use Rattle.std.specs.declared.cmp.Ordering.TheVariants.{Less}
+use Rattle.rim_desc.specs.Measurement.{algo_value}
+use Rattle.page_jobs.specs.declared.page.PageKey.{PageKey}
+
+-- by the algorithm, then by the source, then by the lead, then by the number
+abbrev pub key_cmp : PageKey → PageKey → Ordering
+key_cmp a b = ordering_then (nat_cmp (algo_value a.algo) (algo_value b.algo))
+    (ordering_then (nat_cmp a.source b.source) (ordering_then (nat_cmp a.lead b.lead) (nat_cmp a.number b.number)))
+
+-- each key is below those after it
+abbrev pub IsRising : List PageKey → Type 0
+IsRising keys = AllPairs (λ a b. key_cmp a b ≡ Less) keys

@@ -1,0 +1,5 @@
+pub mod PageBytes
+pub mod Key
+pub mod Page
+pub mod Table
+pub mod Row

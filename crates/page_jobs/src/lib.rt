@@ -1,0 +1,13 @@
+//! Pages of measured items, their digests, and the table that keeps them.
+#![tactic(auto)]
+
+pub mod hashed;
+pub mod laws;
+pub mod page;
+pub mod row;
+pub mod table;
+
+pub use hashed::{Hashed, PageJob};
+pub use page::{Blob, Page, PageKey};
+pub use row::DigestRow;
+pub use table::Table;

@@ -1,0 +1,122 @@
+//! Pages: their keys, and the bytes of an item that fall in them, which are lent.
+ghost use Rattle.std.specs.Prelude.{◌≡◌, ◌+◌, ◌^◌, ◌<◌, ◌≤◌, ◌↔◌, IsTrue, length};
+ghost use Rattle.page_jobs.specs.PageBytes.{front_of, lent_of, page_bytes};
+
+use rim_desc::page::{put, zero_page};
+use rim_desc::{Algo, PAGE_SIZE};
+
+/// What tells a page from all others. Keys are ordered by their fields, in this order.
+#[derive(Clone, Copy, Debug, PartialEq, Eq, PartialOrd, Ord)]
+pub struct PageKey {
+    /// The algorithm that hashes it.
+    pub algo: Algo,
+    /// The number of the source of its item's bytes.
+    pub source: usize,
+    /// The offset of the item's first byte in its first page, in bytes.
+    pub lead: u64,
+    /// Its number among the item's pages, from 0 on.
+    pub number: u64,
+}
+
+/// The bytes of an item, lent.
+#[derive(Clone, Copy)]
+pub struct Blob<'a> {
+    pub bytes: &'a [u8],
+    /// The number of their source.
+    pub source: usize,
+    /// The offset of the first byte in its page, in bytes.
+    pub lead: u64,
+    pub ghost inside: { lead < 4096 },
+}
+
+/// A page of 4096 bytes. In an item's first page as many zeros as the lead stand in front of the item's
+/// bytes; zeros fill what is behind them.
+#[derive(Clone, Copy)]
+pub struct Page<'a> {
+    pub key: PageKey,
+    /// The bytes of the item that fall in the page, lent.
+    pub bytes: &'a [u8],
+    pub ghost fits: { front_of key.lead key.number + length bytes.now ≤ 4096 },
+}
+
+impl<'a> Blob<'a> {
+    ghost use Rattle.page_jobs.specs.Page.{contents_of, page_of, page_view};
+
+    /// The bytes of a source, which begin `lead` bytes after the start of a page.
+    pub fn new(source: usize, lead: u64, bytes: &'a [u8]) -> Blob<'a>
+        requires { lead < 4096 }
+        ensures source { result.source ≡ source }
+        ensures lead { result.lead ≡ lead }
+        ensures bytes { result.bytes ≡ bytes.entry }
+    {
+        Blob {
+            bytes,
+            source,
+            lead,
+        }
+    }
+
+    /// A page of these bytes, for an algorithm that is to hash it.
+    pub fn page(self, algo: Algo, number: u64) -> Page<'a>
+        requires { number < 2 ^ 52 }
+        ensures page { page_view result ≡ page_of algo self.entry number }
+        ensures contents { contents_of (page_view result) ≡ page_bytes self.entry.lead self.entry.bytes.now number }
+    {
+        let key = PageKey {
+            algo,
+            source: self.source,
+            lead: self.lead,
+            number,
+        };
+        Page {
+            key,
+            bytes: lent_bytes(self.bytes, self.lead, number),
+        }
+    }
+}
+
+/// The zeros in front of an item's bytes in one of its pages.
+fn front(lead: u64, number: u64) -> usize
+    requires { lead < 2 ^ 64 }
+    ensures { result ≡ front_of lead number }
+{
+    if number == 0 { lead as usize } else { 0 }
+}
+
+/// The bytes of an item that fall in one of its pages.
+fn lent_bytes<'a>(bytes: &'a [u8], lead: u64, number: u64) -> &'a [u8]
+    requires lead { lead < 4096 }
+    requires number { number < 2 ^ 52 }
+    ensures { result.now ≡ lent_of lead bytes.now number }
+{
+    let start = (4096 * number).saturating_sub(lead);
+    let start = start.min(bytes.len() as u64) as usize;
+    let (_, rest) = bytes.split_at(start);
+    let room = PAGE_SIZE - front(lead, number);
+    let (lent, _) = rest.split_at(room.min(rest.len()));
+    lent
+}
+
+impl<'a> Page<'a> {
+    ghost use Rattle.page_jobs.specs.Page.{contents_of, page_view};
+
+    /// Whether two pages have the same key and the same lent bytes.
+    pub fn is_same(&self, other: &Page) -> bool
+        ensures { IsTrue result ↔ (page_view self.now ≡ page_view other.now) }
+    {
+        self.key == other.key && self.bytes == other.bytes
+    }
+
+    /// The 4096 bytes of the page.
+    pub fn bytes(&self) -> [u8; PAGE_SIZE]
+        ensures { result ≡ contents_of (page_view self.now) }
+    {
+        let mut bytes = zero_page();
+        put(
+            &mut bytes,
+            front(self.key.lead, self.key.number),
+            self.bytes,
+        );
+        bytes
+    }
+}

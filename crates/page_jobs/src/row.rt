@@ -1,0 +1,61 @@
+//! Rows of digests, whose room is reserved before they are filled.
+ghost use Rattle.std.specs.Prelude.{◌≡◌, ◌<◌, ◌≤◌, [], ◌∷◌, ◌++◌, length, take, IfOk};
+
+use rim_desc::{Measurement, NoMemory};
+use std::alloc::Global;
+use std::marker::Model;
+
+/// The digests of some pages, in the pages' order. A row takes no memory once it is reserved.
+#[derive(Drop)]
+pub struct DigestRow {
+    digests: Vec<Measurement>,
+}
+
+impl Model for DigestRow {
+    ghost use Rattle.std.specs.Prelude.{vec_capacity};
+    ghost use Rattle.page_jobs.specs.Row.{RowView};
+
+    ghost Value = { RowView };
+
+    ghost view = { λ r. record { digests = r.digests.items; room = vec_capacity r.digests } };
+}
+
+impl DigestRow {
+    /// An empty row with room for n digests.
+    pub fn reserve(alloc: Global, n: usize) -> Result<DigestRow, NoMemory>
+        ensures empty { IfOk result (λ r. r.digests ≡ []) }
+        ensures room { IfOk result (λ r. r.room ≡ n) }
+    {
+        let digests = Vec::with_capacity(alloc, n)?;
+        Ok(DigestRow { digests })
+    }
+
+    /// How many digests it has room for.
+    pub fn room(&self) -> usize
+        ensures { result ≡ self.now.room }
+    {
+        self.digests.capacity()
+    }
+
+    /// The digests.
+    pub fn digests(&self) -> &[Measurement]
+        ensures { result.now ≡ self.now.digests }
+    {
+        self.digests.as_slice()
+    }
+
+    /// Adds a digest, for which there is room.
+    pub fn push(&mut self, digest: Measurement)
+        requires { length self.old.digests < self.old.room }
+        ensures { self.new ≡ record self.old { digests = self.old.digests ++ digest ∷ [] } }
+    {
+        self.digests.push_reserved(digest);
+    }
+
+    /// Keeps the first digests, at most so many.
+    pub fn truncate(&mut self, count: usize)
+        ensures { self.new ≡ record self.old { digests = take count self.old.digests } }
+    {
+        self.digests.truncate(count);
+    }
+}

@@ -1,0 +1,108 @@
+//! The table of digests: a slot for each of the pages of a run, in the order of their keys.
+ghost use Rattle.std.specs.Prelude.{◌≡◌, ◌<◌, ℕ, length, map, replicate, None, Some, IfOk, OnOk, IfErr, IfSome, IsTrue, ◌↔◌, slice_get};
+ghost use Rattle.page_jobs.specs.Key.{IsRising, key_cmp};
+ghost use Rattle.page_jobs.specs.Page.{digest_of, page_view};
+ghost use Rattle.page_jobs.specs.Table.{CanFill, digest_at, digest_in, keys_of, slot_of, with_digest};
+
+use crate::hashed::Hashed;
+use crate::page::{Page, PageKey};
+use rim_desc::{Measurement, NoMemory};
+use std::alloc::Global;
+use std::cmp::Ordering;
+use std::marker::Model;
+
+/// The digests of a list of pages, each in the slot of its page. Slots are empty at first.
+#[derive(Drop)]
+pub struct Table<'a> {
+    pages: &'a [Page<'a>],
+    digests: Vec<Option<Measurement>>,
+}
+
+impl<'a> Model for Table<'a> {
+    ghost use Rattle.std.specs.Prelude.{map};
+    ghost use Rattle.page_jobs.specs.Page.{page_view};
+    ghost use Rattle.page_jobs.specs.Table.{TableView, IsTable};
+
+    ghost Value = { TableView };
+
+    ghost view = { λ t. record { pages = map page_view t.pages.now; digests = t.digests.items } };
+
+    ghost invariant = { λ t. IsTable (record { pages = map page_view t.pages.now; digests = t.digests.items }) };
+}
+
+impl<'a> Table<'a> {
+    /// A table for these pages, with all slots empty.
+    pub fn reserve(alloc: Global, pages: &'a [Page<'a>]) -> Result<Table<'a>, NoMemory>
+        requires { IsRising (keys_of (map page_view pages.now)) }
+        ensures pages { IfOk result (λ t. t.pages ≡ map page_view pages.entry.now) }
+        ensures empty { IfOk result (λ t. t.digests ≡ replicate (length pages.entry.now) None) }
+    {
+        let digests = vec![in alloc; None; pages.len()]?;
+        Ok(Table { pages, digests })
+    }
+
+    /// The pages that it was reserved for.
+    pub fn pages(&self) -> &'a [Page<'a>]
+        ensures { map page_view result.now ≡ self.now.pages }
+    {
+        self.pages
+    }
+
+    /// Whether a slot is this page's.
+    pub fn is_page(&self, slot: usize, page: &Page) -> bool
+        ensures { IsTrue result ↔ (slice_get self.now.pages slot ≡ Some (page_view page.now)) }
+    {
+        slot < self.pages.len() && self.pages[slot].is_same(page)
+    }
+
+    /// Keeps a digest in the slot of its page, or hands it back where there is no such slot, the slot is
+    /// another page's, or it is filled.
+    pub fn fill(&mut self, slot: usize, hashed: Hashed<'a>) -> Result<(), Hashed<'a>>
+        ensures ok { OnOk result (CanFill self.old slot (page_view hashed.entry.page) × (self.new ≡ with_digest self.old slot hashed.entry.digest)) }
+        ensures err { IfErr result (λ h. (h ≡ hashed.entry) × (self.new ≡ self.old) × ¬ CanFill self.old slot (page_view hashed.entry.page)) }
+    {
+        if !self.is_page(slot, &hashed.page) || self.digests[slot].is_some() {
+            return Err(hashed);
+        }
+        self.digests[slot] = Some(hashed.digest);
+        Ok(())
+    }
+
+    /// The slot of the page that has a key.
+    pub fn slot_of(&self, key: &PageKey) -> Option<usize>
+        ensures { result ≡ slot_of self.now.pages key.now }
+    {
+        search(self.pages, key)
+    }
+
+    /// The digest in a slot, where there is such a slot and it is filled.
+    pub fn digest(&self, slot: usize) -> Option<Measurement>
+        ensures value { result ≡ digest_in self.now slot }
+        ensures own { IfSome result (λ m. IfSome (slice_get self.now.pages slot) (λ p. m.bytes ≡ digest_of p)) }
+    {
+        *self.digests.get(slot)?
+    }
+
+    /// The digest of the page that has a key, where there is such a page and its slot is filled.
+    pub fn get(&self, key: &PageKey) -> Option<Measurement>
+        ensures { result ≡ digest_at self.now key.now }
+    {
+        let slot = self.slot_of(key)?;
+        self.digest(slot)
+    }
+}
+
+/// The place of the page that has a key, in a list whose keys rise.
+fn search(pages: &[Page], key: &PageKey) -> Option<usize>
+    requires { IsRising (keys_of (map page_view pages.now)) }
+    ensures { result ≡ slot_of (map page_view pages.now) key.now }
+{
+    pages.binary_search_by(|page| compare(page, key)).ok()
+}
+
+/// How a page's key stands to a key.
+fn compare(page: &Page, key: &PageKey) -> Ordering
+    ensures { result ≡ key_cmp (page_view page.now).key key.now }
+{
+    page.key.cmp(key)
+}

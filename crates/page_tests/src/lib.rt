@@ -1,0 +1,5 @@
+//! Tests of pages, their digests and the table, with values from other programs.
+#![tactic(auto)]
+
+#[cfg(test)]
+mod tests;

@@ -1,0 +1,145 @@
+//! Pages and their digests. The digests were computed by Python's hashlib.
+use super::item;
+use page_jobs::{Blob, Page, PageJob, PageKey};
+use rim_desc::Algo;
+use std::mem::size_of;
+use std::test::Fail;
+
+#[test]
+fn second_page_has_one_byte(rt: HostRuntime) -> Result<(), Fail> {
+    let bytes = item(rt.alloc())?;
+    let item = bytes.as_slice();
+    let blob = Blob::new(5, 0, item);
+    assert_eq!(rt;
+        blob.page(Algo::Sha256, 0).bytes().as_slice(),
+        item.get(..4096).expect(&rt, "a whole page")
+    );
+    let page = blob.page(Algo::Sha256, 1).bytes();
+    assert_eq!(rt; page[0], 61);
+    assert!(rt; page[1..].iter().all(|b| *b == 0));
+    let key = PageKey {
+        algo: Algo::Sha256,
+        source: 5,
+        lead: 0,
+        number: 1,
+    };
+    assert_eq!(rt; blob.page(Algo::Sha256, 1).key, key);
+    assert_eq!(rt; blob.page(Algo::Sha256, 1).bytes.len(), 1);
+    Ok(())
+}
+
+#[test]
+fn lead_puts_zeros_in_front(rt: HostRuntime) -> Result<(), Fail> {
+    let bytes = item(rt.alloc())?;
+    let item = bytes.as_slice();
+    assert_eq!(rt; item.len(), 4097);
+    let blob = Blob::new(5, 4, item);
+    let page = blob.page(Algo::Sha512, 0).bytes();
+    assert_eq!(rt; &page[..4], [0, 0, 0, 0].as_slice());
+    assert_eq!(rt; &page[4..], item.get(..4092).expect(&rt, "most of a page"));
+    let page = blob.page(Algo::Sha512, 1).bytes();
+    assert_eq!(rt; &page[..5], &item[4092..]);
+    assert!(rt; page[5..].iter().all(|b| *b == 0));
+    Ok(())
+}
+
+#[test]
+fn pages_past_the_bytes_are_zero(rt: HostRuntime) {
+    let blob = Blob::new(0, 4095, &[9, 8]);
+    assert_eq!(rt; blob.page(Algo::Sha256, 0).bytes()[4095], 9);
+    assert_eq!(rt; blob.page(Algo::Sha256, 1).bytes()[0], 8);
+    for number in [2, 1_048_576, (1 << 52) - 1] {
+        let page = blob.page(Algo::Sha256, number);
+        assert_eq!(rt; page.bytes.len(), 0);
+        assert!(rt; page.bytes().iter().all(|b| *b == 0));
+    }
+    let empty = Blob::new(0, 7, &[]);
+    assert!(rt; empty.page(Algo::Sha256, 0).bytes().iter().all(|b| *b == 0));
+}
+
+#[test]
+fn digests(rt: HostRuntime) -> Result<(), Fail> {
+    let item = item(rt.alloc())?;
+    let pages = [
+        (
+            Algo::Sha256,
+            0,
+            0,
+            "0d356260eaf09e3b3dc81a65b2ad2399aa7c4921c0274bd2cbb54c2a21c46e3b",
+        ),
+        (
+            Algo::Sha256,
+            0,
+            1,
+            "2faf36c99cd01776e2b7ca3b9c65bb525111c9697a91ce463a75e136f0cb7942",
+        ),
+        (
+            Algo::Sha256,
+            4,
+            0,
+            "17dfa417e92a58b13bade8724977223be4485ccd3d831ab22e5d0ef29efb2bb4",
+        ),
+        (
+            Algo::Sha256,
+            4,
+            1,
+            "a4663780de907fcca9b7e27e617f2b200b7f33c43fbda67fe97f952f9efa68a3",
+        ),
+        (
+            Algo::Sha256,
+            4,
+            2,
+            "ad7facb2586fc6e966c004d7d1d16b024f5805ff7cb47c7a85dabd8b48892ca7",
+        ),
+        (
+            Algo::Sha512,
+            0,
+            0,
+            "efb56f47d015ebe00e16c78bb2df83e5377478abad618d7ec380ffb03371e302e03285d1ac341ffde98c676f14a46d3138b5400460fd290592037c88526e0066",
+        ),
+        (
+            Algo::Sha512,
+            4,
+            1,
+            "170596cec9b33e5a6d59ed75c5084f8778c4ec5ed2e2c632a988679308f8a03c3bb5461d3e8a7a04a4dfe47767b59f295554da839349ac13fc03afcc16b88d1a",
+        ),
+    ];
+    for (algo, lead, number, digest) in pages {
+        let page = Blob::new(0, lead, item.as_slice()).page(algo, number);
+        let bytes = PageJob::new(page).run().digest.bytes;
+        let text = hex::encode(rt.alloc(), bytes.as_slice())?;
+        assert_eq!(rt;
+            text.as_str().starts_with(digest),
+            true,
+            "page {number} at lead {lead}"
+        );
+        assert!(rt; bytes[digest.len() / 2..].iter().all(|b| *b == 0));
+    }
+    Ok(())
+}
+
+#[test]
+fn keys_are_ordered_by_their_fields(rt: HostRuntime) {
+    let key = |algo: Algo, source: usize, lead: u64, number: u64| PageKey {
+        algo,
+        source,
+        lead,
+        number,
+    };
+    let rising = [
+        key(Algo::Sha256, 0, 0, 9),
+        key(Algo::Sha256, 0, 4, 1),
+        key(Algo::Sha256, 0, 4, 2),
+        key(Algo::Sha256, 1, 0, 0),
+        key(Algo::Sha512, 0, 0, 0),
+    ];
+    for i in 0..4usize {
+        assert!(rt; rising[i] < rising[i + 1], "key {i}");
+    }
+}
+
+#[test]
+fn sizes(rt: HostRuntime) {
+    assert!(rt; size_of::<Page>() <= 56);
+    assert!(rt; size_of::<PageKey>() <= 32);
+}
