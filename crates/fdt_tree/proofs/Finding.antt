@@ -70,3 +70,13 @@ next_name path b at e =
     ap (λ (ns : List (List ℕ)). node_below ns b) t.2
     ∙ ap (λ (m : ℕ). option_and_then (node_below (between_slashes (drop (suc m) path))) (first_named (take m path) b.kids)) same
     ∙ ap (λ (m : ℕ). option_and_then (node_below (between_slashes (drop m path))) (first_named (take at path) b.kids)) one
+
+pub no_slash : (path : List ℕ) → None ≡ position_from slash 0 path → between_slashes path ≡ path ∷ []
+no_slash path e = one_name path 0 (sym e)
+
+pub first_slash : (path : List ℕ) (at : ℕ) → Some at ≡ position_from slash 0 path → between_slashes path ≡ take at path ∷ between_slashes (drop (at + 1) path)
+first_slash path at e =
+    let t = split_name path 0 at (sym e) in
+    let same : t.0 ≡ at = omega (arith, t.1) in
+    let one : suc at ≡ at + 1 = omega arith in
+    t.2 ∙ ap (λ (m : ℕ). take m path ∷ between_slashes (drop (suc m) path)) same ∙ ap (λ (m : ℕ). take at path ∷ between_slashes (drop m path)) one

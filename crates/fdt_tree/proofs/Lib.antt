@@ -13,5 +13,8 @@ pub mod Pairs
 pub mod Headers
 pub mod Readings
 pub mod Finding
+pub mod Editing
+pub mod Settings
+pub mod Memories
 pub mod Existence
 pub mod FirstFaults

@@ -14,3 +14,7 @@ pub mod Trees
 pub mod Reading
 pub mod Lookup
 pub mod FirstFault
+pub mod Edits
+pub mod EditViews
+pub mod Memory
+pub mod MemoryViews

@@ -12,7 +12,7 @@ use crate::place::Place;
 use crate::strings::{Strings, is_letter};
 
 /// The greatest depth of a node. The root's is 1.
-const MAX_DEPTH: usize = 64;
+pub const MAX_DEPTH: usize = 64;
 
 const BEGIN_NODE: u32 = 1;
 
@@ -89,7 +89,7 @@ fn string_of(fault: FdtFault, bytes: &[u8]) -> Result<&[u8], FdtFault>
     }
 }
 
-fn is_legal(name: &[u8]) -> bool
+pub fn is_legal(name: &[u8]) -> bool
     ensures { result ≡ legal name.now }
 {
     for byte in name {

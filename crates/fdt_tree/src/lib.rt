@@ -1,11 +1,13 @@
 //! Flattened devicetrees (Devicetree Specification 0.4, chapter 5) as trees in memory.
 #![tactic(auto)]
 
+mod edits;
 mod fault;
 mod header;
 mod laws;
 mod lexing;
 mod lookup;
+mod memory;
 mod node;
 mod place;
 mod reading;

@@ -7,7 +7,7 @@ ghost use Rattle.fdt_tree.specs.Lookup.{between_slashes, first_named, node_below
 
 use crate::node::Node;
 
-fn slash_in(path: &[u8]) -> Option<usize>
+pub fn slash_in(path: &[u8]) -> Option<usize>
     ensures exact { result ≡ position_from (λ c. c == 47) 0 path.now }
     ensures within { IfSome result (λ i. i < length path.now) }
 {

@@ -24,7 +24,7 @@ pub struct OpenNodes {
 }
 
 /// A node of this name, with nothing in it.
-fn new_node(alloc: Global, name: &[u8]) -> Result<Node, AllocError>
+pub fn new_node(alloc: Global, name: &[u8]) -> Result<Node, AllocError>
     ensures { IfOk result (λ n. (strings : List ℕ) → branch strings n ≡ bare name.now) }
 {
     Ok(Node {

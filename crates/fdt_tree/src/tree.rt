@@ -4,8 +4,12 @@ ghost use Rattle.std.specs.Prelude.{◌≡◌, []};
 ghost use Rattle.fdt_tree.specs.NodeViews.{branch};
 ghost use Rattle.fdt_tree.specs.Wholeness.{IsWhole, IsWhole-prop, tree_in};
 
+use crate::edits::{check_names, put_below, way_of};
+use crate::fault::FdtFault;
 use crate::lookup::{node_at, value_of};
+use crate::memory::{put_memory, reg_of};
 use crate::node::Node;
+use std::alloc::Global;
 
 /// A range of memory that the operating system leaves alone: its address and its size in bytes.
 #[derive(Clone, Copy, Debug, PartialEq, Eq)]
@@ -34,7 +38,9 @@ pub struct Tree {
 }
 
 impl Tree {
-    ghost use Rattle.std.specs.Prelude.{option_map};
+    ghost use Rattle.std.specs.Prelude.{option_map, Ok, IfErr, OnOk, OnErr};
+    ghost use Rattle.fdt_tree.specs.Memory.{set_memory_at};
+    ghost use Rattle.fdt_tree.specs.Edits.{set_at, Refuses};
     ghost use Rattle.fdt_tree.specs.Devicetree.{branch_of_root};
     ghost use Rattle.fdt_tree.specs.Trees.{devicetree_of, strings_of};
     ghost use Rattle.fdt_tree.specs.Lookup.{value_at};
@@ -87,5 +93,52 @@ impl Tree {
     {
         let node = node_at(self.root(), path)?;
         value_of(self.strings(), node, name)
+    }
+
+    /// Puts a value into the first property of this name of the node at a path, as [`Tree::get`] takes
+    /// it, or adds the property behind the node's others. Nodes of the path that are not there are added
+    /// behind the others of their parent.
+    ///
+    /// A path or a name that may not be is `BadName`, a path to below a depth of 64 is `TooDeep`, and
+    /// then memory may be refused. The tree stays as it was after each.
+    pub fn set(
+        &mut self,
+        alloc: Global,
+        path: &[u8],
+        name: &[u8],
+        value: &[u8],
+    ) -> Result<(), FdtFault>
+        ensures done { OnOk result (set_at path.now name.now value.now (devicetree_of self.old)
+            ≡ Ok (devicetree_of self.new)) }
+        ensures refused { IfErr result (λ e. Refuses e
+            (set_at path.now name.now value.now (devicetree_of self.old))) }
+        ensures unchanged { OnErr result (devicetree_of self.new ≡ devicetree_of self.old) }
+    {
+        let way = way_of(path)?;
+        check_names(way, name)?;
+        let Contents { strings, root, .. } = &mut self.contents;
+        put_below(alloc, strings, root, way, name, value)?;
+        Ok(())
+    }
+
+    /// Says where the memory is, `size` bytes from `base` on: puts both into `reg` of the root's first
+    /// child that is `memory` or begins with `memory@`. Where there is none, `memory@` and the base in
+    /// hexadecimal is added behind the root's children, with `device_type` and `reg`.
+    ///
+    /// `#address-cells` and `#size-cells` of the root, 2 and 1 where they are not there, say how many
+    /// cells of 4 bytes each number has. `BadCells`: one of them is not 4 bytes that say 1 or 2, or a
+    /// number does not fit. Then memory may be refused. The tree stays as it was after each.
+    pub fn set_memory(&mut self, alloc: Global, base: u64, size: u64) -> Result<(), FdtFault>
+        ensures done { OnOk result (set_memory_at base size (devicetree_of self.old)
+            ≡ Ok (devicetree_of self.new)) }
+        ensures refused { IfErr result (λ e. Refuses e
+            (set_memory_at base size (devicetree_of self.old))) }
+        ensures unchanged { OnErr result (devicetree_of self.new ≡ devicetree_of self.old) }
+    {
+        let Contents { strings, root, .. } = &self.contents;
+        let reg = reg_of(strings, root, base, size)?;
+        let Contents { strings, root, .. } = &mut self.contents;
+        put_memory(alloc, strings, root, base, reg)?;
+        Ok(())
     }
 }

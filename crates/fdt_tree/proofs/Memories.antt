@@ -1,0 +1,126 @@
+-- What a new memory makes of a tree.
+use Rattle.std.proofs.Common.{◌≡◌, ℕ, zero, suc, ◌+◌, ◌/◌, ◌%◌, ◌^◌, ◌<◌, Bool, true, false, cond, nat_lt, eqb, IsTrue, List, [], ◌∷◌, ◌++◌, length, codes, Option, Some, None, Result, Ok, Err, OnOk, OnErr, IsOk, refl, sym, ap, ◌∙◌, arith}
+use Rattle.std.specs.Fmt.{digits, digits_onto, digit_glyph}
+use Rattle.std.specs.Str.{bytes_eq}
+use Rattle.std.specs.Int.{w32, w64, to_be_bytes}
+use Rattle.std.proofs.lemmas.Bool.{lt-ltb, ne_eqb}
+use Rattle.fdt_tree.specs.declared.fault.FdtFault.{FdtFault}
+use Rattle.fdt_tree.specs.declared.fault.FdtFault.TheVariants.{BadCells}
+use Rattle.fdt_tree.specs.declared.tree.Reservation.{Reservation}
+use Rattle.fdt_tree.specs.declared.node.Node.{Node}
+use Rattle.fdt_tree.specs.Steps.{◌>>=◌}
+use Rattle.fdt_tree.specs.Devicetree.{Entry, Branch, branch_of_root}
+use Rattle.fdt_tree.specs.Names.{letter, all_letters, legal}
+use Rattle.fdt_tree.specs.NodeViews.{branch, root_of}
+use Rattle.fdt_tree.specs.Wholeness.{IsWhole}
+use Rattle.fdt_tree.specs.Lookup.{first_value}
+use Rattle.fdt_tree.specs.Edits.{with_root, Refuses}
+use Rattle.fdt_tree.specs.Memory.{cells_or, in_cells, reg_value, names_memory, memory_name, reg_put, new_memory, memory_put, set_memory_at}
+use Rattle.fdt_tree.proofs.Settings.{values_legal, first_legal, tree_with}
+
+-- ---- the name of a new node is legal
+
+letter_is : (c : ℕ) → 47 < c → c < 127 → letter c ≡ true
+letter_is c low high =
+    let a : nat_lt 32 c ≡ true = lt-ltb 32 c (omega arith) in
+    let b : nat_lt c 127 ≡ true = lt-ltb c 127 high in
+    let d : eqb c 47 ≡ false = ne_eqb c 47 (omega arith) in
+    rw (a, b, d) refl
+
+glyph_letter : (d : ℕ) → d < 16 → letter (digit_glyph false d) ≡ true
+glyph_letter d small = go (nat_lt d 10)
+  where
+    go : (b : Bool) → letter (cond b (48 + d) (87 + d)) ≡ true
+    go true = letter_is (48 + d) (omega arith) (omega arith)
+    go false = letter_is (87 + d) (omega arith) (omega arith)
+
+digits_letters : (k n : ℕ) (acc : List ℕ) → all_letters acc ≡ true → all_letters (digits_onto k 16 false n acc) ≡ true
+digits_letters zero n acc h = h
+digits_letters (suc k) n acc h =
+    let g : letter (digit_glyph false (n % 16)) ≡ true = glyph_letter (n % 16) (omega arith) in
+    let more : all_letters (digit_glyph false (n % 16) ∷ acc) ≡ true = rw g h in
+    go (eqb (n / 16) 0) more (digits_letters k (n / 16) (digit_glyph false (n % 16) ∷ acc) more)
+  where
+    go : (b : Bool) → all_letters (digit_glyph false (n % 16) ∷ acc) ≡ true → all_letters (digits_onto k 16 false (n / 16) (digit_glyph false (n % 16) ∷ acc)) ≡ true
+        → all_letters (cond b (digit_glyph false (n % 16) ∷ acc) (digits_onto k 16 false (n / 16) (digit_glyph false (n % 16) ∷ acc))) ≡ true
+    go true one more = one
+    go false one more = more
+
+hex_letters : (n : ℕ) → all_letters (digits 16 false n) ≡ true
+unfolding digits
+hex_letters n = digits_letters 64 n [] refl
+
+memory_legal : (base : ℕ) → IsTrue (legal (memory_name base))
+memory_legal base =
+    let some : nat_lt 0 (length (memory_name base)) ≡ true = lt-ltb 0 (length (memory_name base)) (omega arith) in
+    rw some (hex_letters base)
+
+-- ---- the tree
+
+pub memory_done : (base size : ℕ) (reg s : List ℕ) (rs : List Reservation) (boot : ℕ) (old new : Node) → reg_value base size (branch s old).entries ≡ Ok reg
+    → (branch s old).name ≡ [] → branch s new ≡ memory_put base reg (branch s old) → set_memory_at base size (tree_with rs boot s old) ≡ Ok (tree_with rs boot s new)
+unfolding set_memory_at
+memory_done base size reg s rs boot old new e unnamed made =
+    let t = tree_with rs boot s old in
+    let named : branch_of_root (root_of s old) ≡ branch s old = ap (λ (n : List ℕ). let b : Branch = record { name = n; entries = (branch s old).entries; kids = (branch s old).kids } in b) (sym unnamed) in
+    rw e (ap (λ (b : Branch). Ok (with_root t b)) (ap (memory_put base reg) named ∙ sym made))
+
+pub may_be_put : (base size : ℕ) (reg s : List ℕ) (rs : List Reservation) (boot : ℕ) (old : Node) → reg_value base size (branch s old).entries ≡ Ok reg → IsOk (set_memory_at base size (tree_with rs boot s old))
+unfolding set_memory_at
+may_be_put base size reg s rs boot old e = rw e refl
+
+cells_fault : (presumed : ℕ) (o : Option (List ℕ)) (e : FdtFault) → cells_or presumed o ≡ Err e → e ≡ BadCells
+cells_fault presumed None e h = absurd cc
+cells_fault presumed (Some v) e h = go (bytes_eq v (to_be_bytes w32 1)) (bytes_eq v (to_be_bytes w32 2)) h
+  where
+    go : (a b : Bool) → (let r : Result ℕ FdtFault = cond a (Ok 1) (cond b (Ok 2) (Err BadCells)) in r) ≡ Err e → e ≡ BadCells
+    go true b q = absurd cc
+    go false true q = absurd cc
+    go false false q = cc
+
+number_fault : (cells n : ℕ) (e : FdtFault) → in_cells cells n ≡ Err e → e ≡ BadCells
+number_fault cells n e h = go (eqb cells 1) (nat_lt n (2 ^ 32)) h
+  where
+    go : (a b : Bool) → (let r : Result (List ℕ) FdtFault = cond a (cond b (Ok (to_be_bytes w32 n)) (Err BadCells)) (Ok (to_be_bytes w64 n)) in r) ≡ Err e → e ≡ BadCells
+    go true true q = absurd cc
+    go true false q = cc
+    go false b q = absurd cc
+
+step_fault : {A B : Type 0} (r : Result A FdtFault) (f : A → Result B FdtFault) (e : FdtFault) → (r ≡ Err e → e ≡ BadCells) → ((x : A) → f x ≡ Err e → e ≡ BadCells) → r >>= f ≡ Err e → e ≡ BadCells
+step_fault (Ok x) f e first next h = next x h
+step_fault (Err g) f e first next h = let same : g ≡ e = cc in first (ap Err same)
+
+fourth : ℕ → ℕ → List ℕ → Result (List ℕ) FdtFault
+fourth cells size x = in_cells cells size >>= λ y. Ok (x ++ y)
+
+reg_fault : (base size : ℕ) (es : List Entry) (e : FdtFault) → reg_value base size es ≡ Err e → e ≡ BadCells
+unfolding reg_value fourth
+reg_fault base size es e h =
+    let o = first_value (codes "#address-cells") es in
+    let p = first_value (codes "#size-cells") es in
+    step_fault (cells_or 2 o) (λ a. cells_or 1 p >>= λ b. in_cells a base >>= λ x. fourth b size x) e (cells_fault 2 o e)
+    (λ a q. step_fault (cells_or 1 p) (λ b. in_cells a base >>= λ x. fourth b size x) e (cells_fault 1 p e)
+    (λ b r. step_fault (in_cells a base) (λ x. fourth b size x) e (number_fault a base e)
+    (λ x k. step_fault (in_cells b size) (λ y. Ok (x ++ y)) e (number_fault b size e) (λ y j. absurd cc) k) r) q)
+    h
+
+pub memory_refused : (base size : ℕ) (s : List ℕ) (rs : List Reservation) (boot : ℕ) (old : Node) (e : FdtFault) → reg_value base size (branch s old).entries ≡ Err e → Refuses e (set_memory_at base size (tree_with rs boot s old))
+unfolding set_memory_at
+memory_refused base size s rs boot old e h =
+    let bad = reg_fault base size (branch s old).entries e h in
+    rw bad (rw h (ap (λ (f : FdtFault). Err f) bad))
+
+memory_whole : (base : ℕ) (reg s : List ℕ) (rs : List Reservation) (boot : ℕ) (old new : Node) → branch s new ≡ memory_put base reg (branch s old) → IsWhole (tree_with rs boot s old) → IsWhole (tree_with rs boot s new)
+memory_whole base reg s rs boot old new made w =
+    let kids = first_legal 1 names_memory (reg_put reg) (new_memory base reg) (branch s old).kids (omega arith) (memory_legal base) ((refl, (refl, tt)), tt) (λ b h. (refl, (values_legal (codes "reg") reg b.entries refl h.0, h.1))) w.kids in
+    record { reservations = w.reservations; entries = rw made w.entries; kids = rw made kids }
+
+pub either_memory : {E : Type 0} (r : Result (Unit {0}) E) (base : ℕ) (reg s : List ℕ) (rs : List Reservation) (boot : ℕ) (old new : Node)
+    → OnOk r (branch s new ≡ memory_put base reg (branch s old)) → OnErr r (branch s new ≡ branch s old) → IsWhole (tree_with rs boot s old) → IsWhole (tree_with rs boot s new)
+either_memory (Ok x) base reg s rs boot old new done kept w = memory_whole base reg s rs boot old new done w
+either_memory (Err e) base reg s rs boot old new done kept w = record { reservations = w.reservations; entries = rw kept w.entries; kids = rw kept w.kids }
+
+pub either_memory_unnamed : {E : Type 0} (r : Result (Unit {0}) E) (base : ℕ) (reg s : List ℕ) (old new : Node)
+    → OnOk r (branch s new ≡ memory_put base reg (branch s old)) → OnErr r (branch s new ≡ branch s old) → (branch s old).name ≡ [] → (branch s new).name ≡ []
+either_memory_unnamed (Ok x) base reg s old new done kept unnamed = rw done unnamed
+either_memory_unnamed (Err e) base reg s old new done kept unnamed = rw kept unnamed

@@ -1,0 +1,73 @@
+-- A devicetree with another value of a property, and why it may be refused. Paths are those of looking
+-- up (Devicetree Specification 0.4, section 2.2.3); where a new property or node stands is this
+-- project's choice.
+use Rattle.std.specs.Prelude.{◌≡◌, ℕ, List, [], ◌∷◌, length, Bool, true, Option, Some, None, Result, Ok, Err, nat_lt, ◌&&◌, if◌then◌else◌}
+use Rattle.std.specs.Str.{bytes_eq}
+use Rattle.std.specs.Result.{IsOk}
+use Rattle.fdt_tree.specs.declared.fault.FdtFault.{FdtFault}
+use Rattle.fdt_tree.specs.declared.fault.FdtFault.TheVariants.{BadName, TooDeep, NoMemory}
+use Rattle.fdt_tree.specs.Devicetree.{Entry, Nodes, none, node, Branch, Root, branch_of_root, Devicetree}
+use Rattle.fdt_tree.specs.Names.{legal}
+use Rattle.fdt_tree.specs.OpenNodes.{bare}
+use Rattle.fdt_tree.specs.Lookup.{names_on}
+use Rattle.fdt_tree.specs.Steps.{◌>>=◌}
+
+-- the first property of the name with this value, or else one more
+abbrev pub with_value : List ℕ → List ℕ → List Entry → List Entry
+with_value name value [] = record { name = name; value = value } ∷ []
+with_value name value (e ∷ es) =
+    if bytes_eq e.name name then record { name = e.name; value = value } ∷ es else e ∷ with_value name value es
+
+abbrev pub value_put : List ℕ → List ℕ → Branch → Branch
+value_put name value b = record b { entries = with_value name value b.entries }
+
+abbrev pub in_front_of : Nodes → Branch → Nodes
+in_front_of next b = node b.name b.entries b.kids next
+
+-- the first node whose name passes the test changed, or else a new one behind the others
+abbrev pub first_such : (List ℕ → Bool) → (Branch → Branch) → Branch → Nodes → Nodes
+first_such test change new none = in_front_of none new
+first_such test change new (node n entries kids next) =
+    if test n then in_front_of next (change (record { name = n; entries = entries; kids = kids }))
+    else node n entries kids (first_such test change new next)
+
+-- the first node of the name changed, or else an empty one of that name, changed, behind the others
+abbrev pub first_changed : List ℕ → (Branch → Branch) → Nodes → Nodes
+first_changed name change nodes = first_such (λ n. bytes_eq n name) change (change (bare name)) nodes
+
+-- the node that the names lead to changed
+abbrev pub changed_below : List (List ℕ) → (Branch → Branch) → Branch → Branch
+changed_below [] change b = change b
+changed_below (name ∷ names) change b = record b { kids = first_changed name (changed_below names change) b.kids }
+
+abbrev pub all_legal : List (List ℕ) → Bool
+all_legal [] = true
+all_legal (name ∷ names) = legal name && all_legal names
+
+abbrev pub root_in : Branch → Root
+root_in b = record { entries = b.entries; kids = b.kids }
+
+abbrev pub with_root : Devicetree → Branch → Devicetree
+with_root t b = record t { root = root_in b }
+
+-- names that a property may have and nodes on the way to it, none of which is made deeper than 64
+abbrev pub may_stand : List (List ℕ) → List ℕ → Result (Unit {0}) FdtFault
+may_stand names name =
+    if all_legal names then (if legal name then (if nat_lt (length names) 64 then Ok tt else Err TooDeep) else Err BadName)
+    else Err BadName
+
+abbrev pub path_names : Option (List (List ℕ)) → Result (List (List ℕ)) FdtFault
+path_names None = Err BadName
+path_names (Some names) = Ok names
+
+-- the tree with this value, or the first refusal
+unfoldable pub set_at : List ℕ → List ℕ → List ℕ → Devicetree → Result Devicetree FdtFault
+set_at path name value t = do
+  names ← path_names (names_on path)
+  _ ← may_stand names name
+  Ok (with_root t (changed_below names (value_put name value) (branch_of_root t.root)))
+
+-- It is refused for this; memory is only asked for behind every other refusal.
+abbrev pub Refuses : {Y : Type 0} → FdtFault → Result Y FdtFault → Type 0
+Refuses NoMemory wanted = IsOk wanted
+Refuses e wanted = wanted ≡ Err e

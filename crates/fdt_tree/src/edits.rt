@@ -1,0 +1,143 @@
+//! Another value of a property.
+
+ghost use Rattle.std.specs.Prelude.{◌≡◌, ◌<◌, ◌≤◌, ◌∷◌, length, map, Some, None, IfSome, if◌then◌else◌, OnOk, OnErr};
+ghost use Rattle.std.specs.Str.{bytes_eq};
+ghost use Rattle.std.specs.List.{position_from};
+ghost use Rattle.fdt_tree.specs.declared.node.Node.TheViews.{out-Node};
+ghost use Rattle.fdt_tree.specs.NodeViews.{name_of, entry_of, branch};
+ghost use Rattle.fdt_tree.specs.Lookup.{between_slashes, names_on};
+ghost use Rattle.fdt_tree.specs.Steps.{Matches};
+ghost use Rattle.fdt_tree.specs.Edits.{with_value, value_put, changed_below, all_legal, path_names, may_stand};
+ghost use Rattle.fdt_tree.specs.EditViews.{names_in, way_len};
+
+use crate::fault::FdtFault;
+use crate::lexing::{MAX_DEPTH, is_legal};
+use crate::lookup::slash_in;
+use crate::node::{Name, Node, Property};
+use crate::structure::new_node;
+use std::alloc::{AllocError, Global};
+
+fn property_index(strings: &[u8], properties: &[Property], name: &[u8]) -> Option<usize>
+    ensures exact { result ≡ position_from (λ p. bytes_eq (name_of strings.now p.name) name.now) 0 properties.now }
+    ensures within { IfSome result (λ i. i < length properties.now) }
+{
+    properties
+        .iter()
+        .position(|property| property.name.bytes(strings) == name)
+}
+
+fn child_index(children: &[Node], name: &[u8]) -> Option<usize>
+    ensures exact { result ≡ position_from (λ n. bytes_eq (out-Node n).name.items name.now) 0 children.now }
+    ensures within { IfSome result (λ i. i < length children.now) }
+{
+    children
+        .iter()
+        .position(|child| child.name.as_slice() == name)
+}
+
+/// Puts the value into the first property of the name, or adds one behind the others.
+fn put_value(
+    alloc: Global,
+    strings: &[u8],
+    properties: &mut Vec<Property>,
+    name: &[u8],
+    value: &[u8],
+) -> Result<(), AllocError>
+    ensures done { OnOk result (map (entry_of strings.now) properties.new.items
+        ≡ with_value name.now value.now (map (entry_of strings.now) properties.old.items)) }
+    ensures unchanged { OnErr result (properties.new.items ≡ properties.old.items) }
+{
+    let value = Vec::from_slice(alloc, value)?;
+    match property_index(strings, properties, name) {
+        Some(at) => properties[at].value = value,
+        None => {
+            let name = Name::Own(Vec::from_slice(alloc, name)?);
+            properties.push(Property { name, value })?;
+        }
+    }
+    Ok(())
+}
+
+/// The first of names with slashes between them, and the others.
+fn split_names(names: &[u8]) -> (&[u8], Option<&[u8]>)
+    ensures parts { between_slashes names.now ≡ result.0.now ∷ names_in result.1 }
+    ensures shorter { way_len result.1 ≤ length names.now }
+{
+    match slash_in(names) {
+        None => (names, None),
+        Some(at) => (&names[..at], Some(&names[at + 1..])),
+    }
+}
+
+/// Puts the value into the node that the names lead to from this one. Nodes that are not there are
+/// added behind the others; as each is whole before it is added, an error leaves the node as it was.
+pub fn put_below(
+    alloc: Global,
+    strings: &[u8],
+    node: &mut Node,
+    names: Option<&[u8]>,
+    name: &[u8],
+    value: &[u8],
+) -> Result<(), AllocError>
+    ensures done { OnOk result (branch strings.now node.new
+        ≡ changed_below (names_in names.entry) (value_put name.now value.now) (branch strings.now node.old)) }
+    ensures unchanged { OnErr result (branch strings.now node.new ≡ branch strings.now node.old) }
+{
+    let Some(names) = names else {
+        return put_value(alloc, strings, &mut node.properties, name, value);
+    };
+    let (first, rest) = split_names(names);
+    match child_index(&node.children, first) {
+        Some(at) => put_below(alloc, strings, &mut node.children[at], rest, name, value),
+        None => {
+            let mut child = new_node(alloc, first)?;
+            put_below(alloc, strings, &mut child, rest, name, value)?;
+            node.children.push(child)?;
+            Ok(())
+        }
+    }
+}
+
+/// The way to the node at a path.
+pub fn way_of(path: &[u8]) -> Result<Option<&[u8]>, FdtFault>
+    ensures { Matches (λ w. names_in w) result (path_names (names_on path.now)) }
+{
+    match path {
+        [b'/'] => Ok(None),
+        [b'/', names @ ..] => Ok(Some(names)),
+        _ => Err(FdtFault::BadName),
+    }
+}
+
+/// How many names there are on the way, where each is legal.
+fn count_names(way: Option<&[u8]>) -> Option<usize>
+    ensures { result ≡ (if all_legal (names_in way.entry) then Some (length (names_in way.entry)) else None) }
+{
+    let mut count = 0;
+    let mut left = way;
+    while let Some(names) = left {
+        let (first, rest) = split_names(names);
+        if !is_legal(first) {
+            return None;
+        }
+        count += 1;
+        left = rest;
+    }
+    Some(count)
+}
+
+/// Whether a property of this name may stand at the end of the way.
+pub fn check_names(way: Option<&[u8]>, name: &[u8]) -> Result<(), FdtFault>
+    ensures { Matches (λ u. u) result (may_stand (names_in way.entry) name.now) }
+{
+    let Some(count) = count_names(way) else {
+        return Err(FdtFault::BadName);
+    };
+    if !is_legal(name) {
+        return Err(FdtFault::BadName);
+    }
+    if count >= MAX_DEPTH {
+        return Err(FdtFault::TooDeep);
+    }
+    Ok(())
+}
