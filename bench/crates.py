@@ -6,7 +6,6 @@ usage: bench/crates.py [RUNS]
 It builds bench/timed in a copy of the crates, with the kit's rt, and prints the least times of some runs.
 """
 import os
-import resource
 import shutil
 import subprocess
 import sys
@@ -25,33 +24,36 @@ def built(folder):
     shutil.copy(os.path.join(top, "HANDLES"), folder)
     with open(os.path.join(top, "crates.txt")) as lines, open(os.path.join(folder, "crates.txt"), "w") as file:
         file.write(lines.read() + "timed: rim_desc rmm_model rmm_monitor page_jobs\n")
-    subprocess.run(["rt", "run", "--", "bytes"], cwd=crate, check=True, stdout=subprocess.DEVNULL)
+    subprocess.run(["rt", "run", "--", "bytes"], cwd=crate, check=True, capture_output=True)
     return os.path.join(crate, "out", "timed")
 
 
-def least_time(program, work, runs):
-    times = []
+def least(program, work, runs):
+    """The least time of some runs in seconds, and the most memory of one in MB."""
+    times, sizes = [], []
     for _ in range(runs):
         start = time.perf_counter()
-        subprocess.run([program, work], check=True, stdout=subprocess.DEVNULL)
+        ran = subprocess.Popen([program, work], stdout=subprocess.DEVNULL)
+        _, status, usage = os.wait4(ran.pid, 0)
         times.append(time.perf_counter() - start)
-    return min(times)
+        sizes.append(usage.ru_maxrss / 1024)
+        if status != 0:
+            raise SystemExit(f"{work}: failed")
+    return min(times), max(sizes)
 
 
 def main():
     runs = int(sys.argv[1]) if len(sys.argv) > 1 else 5
     with tempfile.TemporaryDirectory() as folder:
         program = built(folder)
-        descriptor = least_time(program, "descriptors", runs) / 4_194_304
-        data = least_time(program, "data", runs)
-        ripas = least_time(program, "ripas", runs)
-        memory = resource.getrusage(resource.RUSAGE_CHILDREN).ru_maxrss
-        made = least_time(program, "bytes", runs)
-        slices, pages, lead = (least_time(program, work, runs) - made for work in ["slices", "pages", "lead"])
-    print(f"1,048,576 pages delegated, made RAM and created: {data:.2f} s, of which {descriptor * 2 * 1_048_576:.2f} s are their hashes")
-    print(f"4,194,304 entries made RAM: {ripas:.2f} s, of which {descriptor * 4_194_304:.2f} s are their hashes")
+        hashes = least(program, "descriptors", runs)[0]
+        data, data_size = least(program, "data", runs)
+        ripas, ripas_size = least(program, "ripas", runs)
+        made = least(program, "bytes", runs)[0]
+        slices, pages, lead = (least(program, work, runs)[0] - made for work in ["slices", "pages", "lead"])
+    print(f"1,048,576 pages delegated, made RAM and created: {data:.2f} s, {data_size:.0f} MB; their hashes {hashes / 2:.2f} s")
+    print(f"4,194,304 entries made RAM: {ripas:.2f} s, {ripas_size:.0f} MB; their hashes {hashes:.2f} s")
     print(f"65,536 pages hashed: {pages:.3f} s, with a lead {lead:.3f} s; their slices alone {slices:.3f} s")
-    print(f"most memory of one run, the build included: {memory / 1024:.0f} MB" if memory else "")
 
 
 main()
