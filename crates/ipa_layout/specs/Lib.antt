@@ -1,0 +1,10 @@
+pub mod Texts
+pub mod Recs
+pub mod Ranges
+pub mod Kinds
+pub mod Steps
+pub mod LaunchData
+pub mod Standings
+pub mod Memory
+pub mod Meeting
+pub mod Placing

@@ -1,0 +1,55 @@
+-- Whether an item may stand where it is asked to, and the first reason why not. That a devicetree stands
+-- at a multiple of 8 and has at most 2 MiB, and that a kernel's base is a multiple of 2 MiB: Linux,
+-- booting.rst. The rest is this project's choice.
+use Rattle.std.specs.Prelude.{ℕ, ◌+◌, ◌-◌, ◌%◌, ◌^◌, List, [], ◌∷◌, length, Bool, Result, Ok, Err, not, ◌&&◌, ◌||◌, ◌==◌, nat_lt, nat_le, if◌then◌else◌}
+use Rattle.fdt_tree.specs.declared.fault.FdtFault.TheVariants.{TooLarge}
+use Rattle.ipa_layout.specs.declared.item.Item.{Item}
+use Rattle.ipa_layout.specs.declared.item.Region.{Region}
+use Rattle.ipa_layout.specs.declared.standing.Asked.{Asked}
+use Rattle.ipa_layout.specs.declared.standing.Standing.{Standing}
+use Rattle.ipa_layout.specs.declared.fault.LayoutFault.{LayoutFault}
+use Rattle.ipa_layout.specs.declared.fault.LayoutFault.TheVariants.{Dtb, Unaligned, KernelBase, Size, OutsideRam}
+use Rattle.ipa_layout.specs.Kinds.{is_dtb, is_kernel}
+use Rattle.ipa_layout.specs.Memory.{all_held}
+use Rattle.ipa_layout.specs.Standings.{asked_of, end_page, first_page, page_count_of}
+
+-- The item begins or ends past 2^64, or a page of its extent, rounded to whole pages, is not RAM. An empty
+-- extent has no pages.
+abbrev pub is_outside : List Region → ℕ → ℕ → Bool
+is_outside ram address extent = nat_le (2 ^ 64) address || nat_lt (2 ^ 64) (address + extent)
+    || not (extent == 0) && not (all_held ram (first_page address) (end_page (address + extent) - first_page address))
+
+-- The size is below the number of bytes, or the pages of the launch's items, up to and with this one, are
+-- more than 1,048,576.
+abbrev pub is_too_small : ℕ → Asked → ℕ → Bool
+is_too_small pages_before a count = nat_lt a.size count || nat_lt 1048576 (pages_before + page_count_of a.address a.size)
+
+-- a reason to refuse, and whether it holds
+abbrev pub Check : Type 0
+Check = LayoutFault × Bool
+
+-- in this order
+abbrev pub checks_of : List Region → ℕ → Item → ℕ → Asked → List Check
+checks_of ram pages_before i count a =
+    (Dtb TooLarge, is_dtb i.kind && nat_lt 2097152 a.size)
+    ∷ (Unaligned, is_dtb i.kind && not (i.at % 8 == 0))
+    ∷ (KernelBase, is_kernel i.kind && not (i.at % 2097152 == 0))
+    ∷ (Size, is_too_small pages_before a count)
+    ∷ (OutsideRam, is_outside ram a.address a.extent) ∷ []
+
+-- the first that holds, or where the item stands
+abbrev pub unless_refused : List Check → Standing → Result Standing LayoutFault
+unless_refused [] s = Ok s
+unless_refused (check ∷ others) s = if check.1 then Err check.0 else unless_refused others s
+
+unfoldable pub settled : List Region → ℕ → Item → ℕ → Asked → Result Standing LayoutFault
+settled ram pages_before i count a =
+    unless_refused (checks_of ram pages_before i count a) (record { address = a.address; size = a.size; extent = a.extent })
+
+abbrev pub settled_if : List Region → ℕ → Item → ℕ → Result Asked LayoutFault → Result Standing LayoutFault
+settled_if ram pages_before i count (Err e) = Err e
+settled_if ram pages_before i count (Ok a) = settled ram pages_before i count a
+
+-- where an item with these bytes stands, behind items with so many pages
+abbrev pub placed_of : List Region → ℕ → Item → List ℕ → Result Standing LayoutFault
+placed_of ram pages_before i bytes = settled_if ram pages_before i (length bytes) (asked_of i bytes)

@@ -1,0 +1,33 @@
+-- The steps of a launch: each region, each item and each REC has one. This project's choice.
+use Rattle.std.specs.Prelude.{ℕ, List, Bool, ◌&&◌, ◌==◌, nat_lt, count_by, false}
+use Rattle.std.specs.List.{list_all, range_with_len}
+use Rattle.ipa_layout.specs.declared.step.Step.{Step}
+use Rattle.ipa_layout.specs.declared.step.Step.TheVariants as step
+use Rattle.ipa_layout.specs.declared.ranges.Part.{Part}
+use Rattle.ipa_layout.specs.declared.ranges.Part.TheVariants as part
+
+-- whether a step names what is there
+abbrev pub names_something : ℕ → ℕ → ℕ → Step → Bool
+names_something regions items recs (step.Ram n) = nat_lt n regions
+names_something regions items recs (step.Item n) = nat_lt n items
+names_something regions items recs (step.Rec n) = nat_lt n recs
+
+-- whether a step names this number of this part
+abbrev pub names : Part → ℕ → Step → Bool
+names part.Ram k (step.Ram n) = n == k
+names part.Item k (step.Item n) = n == k
+names part.Rec k (step.Rec n) = n == k
+names _ k _ = false
+
+-- how many steps name it
+abbrev pub times : Part → ℕ → List Step → ℕ
+times p k steps = count_by (names p k) steps
+
+-- each number below n is named by exactly one step
+unfoldable pub each_once : Part → List Step → ℕ → Bool
+each_once p steps n = list_all (λ k. times p k steps == 1) (range_with_len 0 n)
+
+-- each step names what is there, and each region, item and REC is named by exactly one
+abbrev pub steps_complete : ℕ → ℕ → ℕ → List Step → Bool
+steps_complete regions items recs steps = list_all (names_something regions items recs) steps
+    && each_once part.Ram steps regions && each_once part.Item steps items && each_once part.Rec steps recs

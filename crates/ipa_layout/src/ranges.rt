@@ -1,0 +1,242 @@
+//! Whether the parts of a launch are in their ranges.
+ghost use Rattle.std.specs.Prelude.{◌≡◌, nat_le, count_by};
+ghost use Rattle.std.specs.List.{list_all, list_any};
+ghost use Rattle.ipa_layout.specs.Ranges.{config_in_range, region_in_range, item_in_range};
+ghost use Rattle.ipa_layout.specs.Kinds.{is_kernel, is_initrd, is_dtb, file_of, has_edits, once_each, wants_initrd, wants_memory, edits_possible};
+ghost use Rattle.ipa_layout.specs.Steps.{names_something, names, times, each_once, steps_complete};
+
+use crate::config::Config;
+use crate::item::{Item, Kind, Region};
+use crate::step::Step;
+
+/// The first number that a manifest cannot spell.
+const NUMBER_END: u64 = 0x8000_0000_0000_0000;
+
+/// Whether each value of a configuration is in its range.
+pub fn config_in_range(config: &Config) -> bool
+    ensures { result ≡ config_in_range config.now }
+{
+    32 <= config.s2sz
+        && config.s2sz <= 48
+        && config.block_level <= 3
+        && config.num_aux <= 16
+        && config.pool_base % 65_536 == 0
+        && config.pool_base < 0x1_0000_0000_0000
+        && 1 <= config.pool_count
+        && config.pool_count <= 16_777_216
+}
+
+/// Whether a region's base is below its end, and its end is a number of a manifest.
+fn region_in_range(region: &Region) -> bool
+    ensures { result ≡ region_in_range region.now }
+{
+    region.base < region.end && region.end < NUMBER_END
+}
+
+/// Whether an item's numbers are those of a manifest.
+fn item_in_range(item: &Item) -> bool
+    ensures { result ≡ item_in_range item.now }
+{
+    item.at < NUMBER_END && item.size.unwrap_or(0) < NUMBER_END
+}
+
+/// Whether each region is in range.
+pub fn regions_in_range(ram: &[Region]) -> bool
+    ensures { result ≡ list_all region_in_range ram.now }
+{
+    ram.iter().all(|region| region_in_range(region))
+}
+
+/// Whether each item is in range.
+pub fn items_in_range(items: &[Item]) -> bool
+    ensures { result ≡ list_all item_in_range items.now }
+{
+    items.iter().all(|item| item_in_range(item))
+}
+
+impl Kind {
+    /// Whether it is a kernel.
+    pub fn is_kernel(&self) -> bool
+        ensures { result ≡ is_kernel self.now }
+    {
+        matches!(self, Kind::Kernel { .. })
+    }
+
+    /// Whether it is an initrd.
+    pub fn is_initrd(&self) -> bool
+        ensures { result ≡ is_initrd self.now }
+    {
+        matches!(self, Kind::Initrd { .. })
+    }
+
+    /// Whether it is a devicetree.
+    pub fn is_dtb(&self) -> bool
+        ensures { result ≡ is_dtb self.now }
+    {
+        matches!(self, Kind::Dtb { .. })
+    }
+
+    /// The number of the file that its bytes come from.
+    pub fn file(&self) -> usize
+        ensures { result ≡ file_of self.now }
+    {
+        match self {
+            Kind::Kernel { file } => *file,
+            Kind::Initrd { file } => *file,
+            Kind::Dtb { file, .. } => *file,
+            Kind::Raw { file } => *file,
+        }
+    }
+
+    /// Whether it is a devicetree that is changed before it is placed.
+    pub fn has_edits(&self) -> bool
+        ensures { result ≡ has_edits self.now }
+    {
+        match self {
+            Kind::Dtb { edits, .. } => edits.bootargs.is_some() || edits.initrd || edits.memory,
+            _ => false,
+        }
+    }
+
+    /// Whether it is a devicetree that is to say where the initrd stands.
+    fn wants_initrd(&self) -> bool
+        ensures { result ≡ wants_initrd self.now }
+    {
+        match self {
+            Kind::Dtb { edits, .. } => edits.initrd,
+            _ => false,
+        }
+    }
+
+    /// Whether it is a devicetree that is to say where RAM is.
+    fn wants_memory(&self) -> bool
+        ensures { result ≡ wants_memory self.now }
+    {
+        match self {
+            Kind::Dtb { edits, .. } => edits.memory,
+            _ => false,
+        }
+    }
+}
+
+/// Whether at most one item is a kernel, an initrd, a devicetree.
+fn kernel_once(items: &[Item]) -> bool
+    ensures { result ≡ nat_le (count_by (λ i. is_kernel i.kind) items.now) 1 }
+{
+    items.iter().filter(|item| item.kind.is_kernel()).count() <= 1
+}
+
+fn initrd_once(items: &[Item]) -> bool
+    ensures { result ≡ nat_le (count_by (λ i. is_initrd i.kind) items.now) 1 }
+{
+    items.iter().filter(|item| item.kind.is_initrd()).count() <= 1
+}
+
+fn dtb_once(items: &[Item]) -> bool
+    ensures { result ≡ nat_le (count_by (λ i. is_dtb i.kind) items.now) 1 }
+{
+    items.iter().filter(|item| item.kind.is_dtb()).count() <= 1
+}
+
+/// Whether no two items are kernels, initrds or devicetrees.
+pub fn once_each(items: &[Item]) -> bool
+    ensures { result ≡ once_each items.now }
+{
+    kernel_once(items) && initrd_once(items) && dtb_once(items)
+}
+
+fn has_initrd(items: &[Item]) -> bool
+    ensures { result ≡ list_any (λ i. is_initrd i.kind) items.now }
+{
+    items.iter().any(|item| item.kind.is_initrd())
+}
+
+fn initrd_wanted(items: &[Item]) -> bool
+    ensures { result ≡ list_any (λ i. wants_initrd i.kind) items.now }
+{
+    items.iter().any(|item| item.kind.wants_initrd())
+}
+
+fn memory_wanted(items: &[Item]) -> bool
+    ensures { result ≡ list_any (λ i. wants_memory i.kind) items.now }
+{
+    items.iter().any(|item| item.kind.wants_memory())
+}
+
+/// Whether there is an initrd and RAM where a devicetree is to say where they are.
+pub fn edits_possible(ram: &[Region], items: &[Item]) -> bool
+    ensures { result ≡ edits_possible ram.now items.now }
+{
+    (has_initrd(items) || !initrd_wanted(items)) && (!ram.is_empty() || !memory_wanted(items))
+}
+
+/// Whether a step names a region, an item or a REC that is there.
+fn names_something(regions: usize, items: usize, recs: usize, step: &Step) -> bool
+    ensures { result ≡ names_something regions items recs step.now }
+{
+    match step {
+        Step::Ram(number) => *number < regions,
+        Step::Item(number) => *number < items,
+        Step::Rec(number) => *number < recs,
+    }
+}
+
+/// Which of a launch's parts a step is for.
+#[derive(Clone, Copy, Debug, PartialEq, Eq)]
+pub enum Part {
+    Ram,
+    Item,
+    Rec,
+}
+
+/// Whether a step names this number of this part.
+fn names(part: Part, number: usize, step: &Step) -> bool
+    ensures { result ≡ names part number step.now }
+{
+    match (part, step) {
+        (Part::Ram, Step::Ram(named)) => *named == number,
+        (Part::Item, Step::Item(named)) => *named == number,
+        (Part::Rec, Step::Rec(named)) => *named == number,
+        _ => false,
+    }
+}
+
+/// How many steps name this number of this part.
+fn times(part: Part, number: usize, steps: &[Step]) -> usize
+    ensures { result ≡ times part number steps.now }
+{
+    steps
+        .iter()
+        .filter(|step| names(part, number, step))
+        .count()
+}
+
+/// Whether each number below `count` of this part is named by exactly one step.
+fn each_once(part: Part, steps: &[Step], count: usize) -> bool
+    ensures { result ≡ each_once part steps.now count }
+{
+    for number in 0..count {
+        if times(part, number, steps) != 1 {
+            return false;
+        }
+    }
+    true
+}
+
+fn all_name_something(regions: usize, items: usize, recs: usize, steps: &[Step]) -> bool
+    ensures { result ≡ list_all (names_something regions items recs) steps.now }
+{
+    steps
+        .iter()
+        .all(|step| names_something(regions, items, recs, step))
+}
+
+/// Whether each step names what is there, and each region, item and REC is named by exactly one.
+pub fn steps_complete(regions: usize, items: usize, recs: usize, steps: &[Step]) -> bool
+    ensures { result ≡ steps_complete regions items recs steps.now }
+{
+    all_name_something(regions, items, recs, steps)
+        && each_once(Part::Ram, steps, regions)
+        && each_once(Part::Item, steps, items)
+        && each_once(Part::Rec, steps, recs)
+}

@@ -1,0 +1,80 @@
+//! Where an item would stand, and where it stands.
+ghost use Rattle.std.specs.Prelude.{◌≡◌, ◌^◌, ◌<◌, IfOk};
+ghost use Rattle.ipa_layout.specs.Standings.{lead_of, page_count_of, asked_of, size_of};
+
+use crate::fault::LayoutFault;
+use crate::item::Item;
+
+/// The size of a page in bytes.
+pub const PAGE: u64 = 4096;
+
+/// Where an item stands. All numbers are in bytes.
+#[derive(Clone, Copy, Debug, PartialEq, Eq)]
+pub struct Standing {
+    /// The address of its first byte.
+    pub address: u64,
+    /// Its size: the stated one, or the number of its bytes.
+    pub size: u64,
+    /// How many bytes from its address on it takes: its size, or for a kernel what its header says
+    /// where that is more.
+    pub extent: u64,
+}
+
+/// Where an item is asked to stand. A kernel may be asked to stand at an address that is none.
+#[derive(Clone, Copy, Debug, PartialEq, Eq)]
+pub struct Asked {
+    pub address: u128,
+    pub size: u64,
+    pub extent: u64,
+}
+
+/// How many bytes after the start of a page an address is.
+pub fn lead(address: u64) -> u64
+    ensures exact { result ≡ lead_of address }
+    ensures inside { result < 4096 }
+{
+    address % PAGE
+}
+
+/// How many pages `size` bytes from `address` on touch.
+pub fn page_count(address: u128, size: u64) -> u64
+    requires { address < 2 ^ 66 }
+    ensures { result ≡ page_count_of address size }
+{
+    if size == 0 {
+        return 0;
+    }
+    let last = (address + u128::from(size) - 1) / 4096;
+    (last + 1 - address / 4096) as u64
+}
+
+/// The size of an item with so many bytes.
+fn size(item: &Item, count: u64) -> u64
+    ensures { result ≡ size_of item.now count }
+{
+    item.size.unwrap_or(count)
+}
+
+/// Where an item is asked to stand that has these bytes.
+#[tactic(auto, unfolding(crate::specs::Standings::asked_of))]
+pub fn stand_asked(item: &Item, bytes: &[u8]) -> Result<Asked, LayoutFault>
+    ensures exact { result ≡ asked_of item.now bytes.now }
+    ensures low { IfOk result (λ a. a.address < 2 ^ 65) }
+{
+    let count = bytes.len() as u64;
+    let size = size(item, count);
+    if item.kind.is_kernel() {
+        let header = arm64_image::read(bytes)?;
+        Ok(Asked {
+            address: u128::from(item.at) + u128::from(header.load_offset()),
+            size,
+            extent: size.max(header.extent(count)),
+        })
+    } else {
+        Ok(Asked {
+            address: u128::from(item.at),
+            size,
+            extent: size,
+        })
+    }
+}

@@ -1,0 +1,114 @@
+//! Which parts make a launch.
+use ipa_layout::{Bootargs, Config, Edits, Item, Kind, Launch, Rec, Region, Step};
+use rim_desc::Algo;
+use std::alloc::{AllocError, Global};
+
+fn config() -> Config {
+    Config {
+        algo: Algo::Sha256,
+        s2sz: 33,
+        sve: false,
+        pmu: false,
+        sve_vl: 0,
+        num_bps: 0,
+        num_wps: 0,
+        pmu_num_ctrs: 0,
+        rpv: [0; 64],
+        block_level: 2,
+        num_aux: 0,
+        pool_base: 0x8_0000_0000,
+        pool_count: 16_777_216,
+    }
+}
+
+fn item(kind: Kind) -> Item {
+    Item {
+        kind,
+        at: 0x4000_0000,
+        size: None,
+        measured: true,
+    }
+}
+
+/// A launch with one region, these kinds of items, one REC and these steps.
+fn launch(
+    alloc: Global,
+    config: Config,
+    kinds: &[bool],
+    steps: &[Step],
+) -> Result<Option<Launch>, AllocError> {
+    let region = Region {
+        base: 0x4000_0000,
+        end: 0x4020_0000,
+    };
+    let rec = Rec {
+        pc: None,
+        x: None,
+        runnable: true,
+    };
+    let mut items = Vec::new(alloc);
+    for is_kernel in kinds {
+        if *is_kernel {
+            items.push(item(Kind::Kernel { file: 0 }))?;
+        } else {
+            items.push(item(Kind::Raw { file: 0 }))?;
+        }
+    }
+    let ram = Vec::from_slice(alloc, &[region])?;
+    let recs = Vec::from_slice(alloc, &[rec])?;
+    let steps = Vec::from_slice(alloc, steps)?;
+    Ok(Launch::new(7, config, ram, items, recs, steps))
+}
+
+#[test]
+fn steps_name_each_part_once(rt: HostRuntime) -> Result<(), AllocError> {
+    let alloc = rt.alloc();
+    let all = [Step::Rec(0), Step::Item(0), Step::Ram(0)];
+    assert!(rt; launch(alloc, config(), &[false], &all)?.is_some());
+    assert!(rt; launch(alloc, config(), &[false, false], &all)?.is_none());
+    assert!(rt; launch(alloc, config(), &[], &all)?.is_none());
+    let twice = [Step::Rec(0), Step::Item(0), Step::Ram(0), Step::Item(0)];
+    assert!(rt; launch(alloc, config(), &[false], &twice)?.is_none());
+    Ok(())
+}
+
+#[test]
+fn ranges_and_kinds(rt: HostRuntime) -> Result<(), AllocError> {
+    let alloc = rt.alloc();
+    let all = [Step::Ram(0), Step::Item(0), Step::Item(1), Step::Rec(0)];
+    assert!(rt; launch(alloc, config(), &[true, false], &all)?.is_some());
+    assert!(rt; launch(alloc, config(), &[true, true], &all)?.is_none());
+    let mut wide = config();
+    wide.s2sz = 49;
+    assert!(rt; launch(alloc, wide, &[true, false], &all)?.is_none());
+    let mut odd = config();
+    odd.pool_base = 0x1000;
+    assert!(rt; launch(alloc, odd, &[true, false], &all)?.is_none());
+    Ok(())
+}
+
+#[test]
+fn edits_need_their_parts(rt: HostRuntime) -> Result<(), AllocError> {
+    let alloc = rt.alloc();
+    for initrd in [false, true] {
+        let edits = Edits {
+            bootargs: None,
+            initrd,
+            memory: false,
+        };
+        let mut items = Vec::new(alloc);
+        items.push(item(Kind::Dtb { file: 0, edits }))?;
+        let steps = Vec::from_slice(alloc, &[Step::Item(0)])?;
+        let made = Launch::new(0, config(), Vec::new(alloc), items, Vec::new(alloc), steps);
+        assert_eq!(rt; made.is_some(), !initrd);
+    }
+    Ok(())
+}
+
+#[test]
+fn command_lines(rt: HostRuntime) -> Result<(), AllocError> {
+    let alloc = rt.alloc();
+    assert!(rt; Bootargs::new(String::from_str(alloc, "quiet")?).is_some());
+    assert!(rt; Bootargs::new(String::from_str(alloc, "qui\0et")?).is_none());
+    Ok(())
+}

@@ -1,0 +1,7 @@
+//! Tests of layouts, with addresses worked out by hand.
+#![tactic(auto)]
+
+#[cfg(test)]
+mod launches;
+#[cfg(test)]
+mod layouts;
