@@ -11,3 +11,5 @@ mod large;
 mod reading;
 #[cfg(test)]
 mod vectors;
+#[cfg(test)]
+mod writing;

@@ -18,3 +18,5 @@ pub mod Settings
 pub mod Memories
 pub mod Existence
 pub mod FirstFaults
+pub mod Tables
+pub mod Writes

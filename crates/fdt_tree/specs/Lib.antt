@@ -18,3 +18,6 @@ pub mod Edits
 pub mod EditViews
 pub mod Memory
 pub mod MemoryViews
+pub mod Writing
+pub mod NameTables
+pub mod OutputViews

@@ -10,12 +10,12 @@ use crate::fault::FdtFault;
 const HEADER_LEN: usize = 40;
 
 /// How many bytes a file may have.
-const MAX_LEN: usize = 2_097_152;
+pub const MAX_LEN: usize = 2_097_152;
 
-const MAGIC: u32 = 0xd00d_feed;
+pub const MAGIC: u32 = 0xd00d_feed;
 
 /// The version that is read.
-const VERSION: u32 = 17;
+pub const VERSION: u32 = 17;
 
 /// The fields of a header behind the magic number, by the specification's names. Offsets and sizes are
 /// in bytes.

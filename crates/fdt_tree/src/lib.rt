@@ -8,6 +8,7 @@ mod laws;
 mod lexing;
 mod lookup;
 mod memory;
+mod names;
 mod node;
 mod place;
 mod reading;
@@ -15,6 +16,7 @@ mod reservations;
 mod strings;
 mod structure;
 mod tree;
+mod writing;
 
 pub use crate::fault::FdtFault;
 pub use crate::laws::{first_fault, one_tree, refused_or_spelled};

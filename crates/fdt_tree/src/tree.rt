@@ -9,6 +9,7 @@ use crate::fault::FdtFault;
 use crate::lookup::{node_at, value_of};
 use crate::memory::{put_memory, reg_of};
 use crate::node::Node;
+use crate::writing::written;
 use std::alloc::Global;
 
 /// A range of memory that the operating system leaves alone: its address and its size in bytes.
@@ -38,7 +39,9 @@ pub struct Tree {
 }
 
 impl Tree {
-    ghost use Rattle.std.specs.Prelude.{option_map, Ok, IfErr, OnOk, OnErr};
+    ghost use Rattle.std.specs.Prelude.{option_map, Ok, IfErr, IfOk, OnOk, OnErr, length, ◌≤◌};
+    ghost use Rattle.fdt_tree.specs.Writing.{written};
+    ghost use Rattle.fdt_tree.specs.NameTables.{TooMuch};
     ghost use Rattle.fdt_tree.specs.Memory.{set_memory_at};
     ghost use Rattle.fdt_tree.specs.Edits.{set_at, Refuses};
     ghost use Rattle.fdt_tree.specs.Devicetree.{branch_of_root};
@@ -140,5 +143,18 @@ impl Tree {
         let Contents { strings, root, .. } = &mut self.contents;
         put_memory(alloc, strings, root, base, reg)?;
         Ok(())
+    }
+
+    /// The flattened devicetree of this tree, version 17: the header, the reservations at 40, the
+    /// structure block without any NOP, and the strings, each name once in the order of first use. Nothing
+    /// stands between or behind them, and padding is zeros.
+    ///
+    /// `TooLarge`: the file would have more than 2,097,152 bytes. Else only memory may be refused.
+    pub fn write(&self, alloc: Global) -> Result<Vec<u8>, FdtFault>
+        ensures done { IfOk result (λ v. v.items ≡ written (devicetree_of self.now)) }
+        ensures within { IfOk result (λ v. length v.items ≤ 2097152) }
+        ensures refused { IfErr result (λ e. TooMuch e (length (written (devicetree_of self.now)))) }
+    {
+        written(alloc, &self.contents)
     }
 }

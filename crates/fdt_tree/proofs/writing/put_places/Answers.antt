@@ -1,0 +1,10 @@
+use Rattle.std.proofs.Common.{◌+◌}
+use Rattle.fdt_tree.proofs.Writes.{five_words}
+use Rattle.fdt_tree.proofs.writing.put_places.Goals as goal
+
+pub returns : goal.returns
+returns c =
+    let l = c.args.lengths in
+    five_words c.args.out.now.items 0xd00dfeed (40 + l.reserve + l.structure + l.strings) (40 + l.reserve) (40 + l.reserve + l.structure) 40
+    c.put_word.new.out.items c.put_word-2.new.out.items c.put_word-3.new.out.items c.put_word-4.new.out.items c.put_word-5.new.out.items
+    c.in_ok-put_word.ensures c.in_ok-put_word-2.ensures c.in_ok-put_word-3.ensures c.in_ok-put_word-4.ensures c.in_ok-put_word-5.ensures

@@ -1,0 +1,23 @@
+-- What the table of names is, and when bytes are too many.
+use Rattle.std.specs.Prelude.{◌≡◌, ℕ, ◌<◌, List, Option, Some, None, if◌then◌else◌}
+use Rattle.std.specs.Ordering.{nat_cmp}
+use Rattle.std.specs.Cmp.Lexicographic.{slice_cmp}
+use Rattle.std.specs.BTreeMap.{get_by}
+use Rattle.fdt_tree.specs.declared.fault.FdtFault.{FdtFault}
+use Rattle.fdt_tree.specs.declared.fault.FdtFault.TheVariants.{TooLarge, NoMemory}
+use Rattle.fdt_tree.specs.declared.names.NameTable.{NameTable}
+use Rattle.fdt_tree.specs.Writing.{is_among, strings_text, offset_in}
+
+-- where a name begins, if it is there
+abbrev pub place_in : List (List ℕ) → List ℕ → Option ℕ
+place_in names name = if is_among name names then Some (offset_in names name) else None
+
+-- the table has these names, in this order
+pub record HasNames (t : NameTable) (names : List (List ℕ)) : Type 0 where
+  pub strings : t.strings.items ≡ strings_text names
+  pub offsets : (name : List ℕ) → get_by (λ k. slice_cmp nat_cmp name k.items) t.offsets ≡ place_in names name
+
+-- it is too many bytes, or memory was refused
+abbrev pub TooMuch : FdtFault → ℕ → Type 0
+TooMuch NoMemory n = Unit {0}
+TooMuch e n = (e ≡ TooLarge) × (2097152 < n)

@@ -1,0 +1,38 @@
+-- What is written of a tree so far.
+use Rattle.std.specs.Prelude.{◌≡◌, ℕ, ◌+◌, ◌≤◌, List, ◌∷◌, ◌++◌, length, map}
+use Rattle.fdt_tree.specs.declared.node.Property.{Property}
+use Rattle.fdt_tree.specs.declared.node.Node.{Node}
+use Rattle.fdt_tree.specs.declared.node.Node.TheViews.{out-Node}
+use Rattle.fdt_tree.specs.declared.writing.Output.{Output}
+use Rattle.fdt_tree.specs.declared.writing.Lengths.{Lengths}
+use Rattle.fdt_tree.specs.Devicetree.{Token, begin_node, property, tokens, joined}
+use Rattle.fdt_tree.specs.NodeViews.{entry_of, branches}
+use Rattle.fdt_tree.specs.Writing.{names_after, text_after, strings_text}
+use Rattle.fdt_tree.specs.NameTables.{HasNames}
+
+-- the tokens are put behind what was there
+pub record HasTokens (old new : Output) (names : List (List ℕ)) (ts : List Token) : Type 0 where
+  pub text : new.structure.items ≡ old.structure.items ++ text_after names ts
+  pub known : HasNames new.names (names_after names ts)
+
+-- how many bytes the tokens take, with all names so far
+abbrev pub size_of : List (List ℕ) → List Token → ℕ
+size_of names ts = length (text_after names ts) + length (strings_text (names_after names ts))
+
+-- the tokens of properties, and of nodes, in memory
+abbrev pub tokens_of_entries : List ℕ → List Property → List Token
+tokens_of_entries strings ps = map property (map (entry_of strings) ps)
+
+abbrev pub tokens_of_nodes : List ℕ → List Node → List Token
+tokens_of_nodes strings ns = tokens (joined (branches strings ns))
+
+-- a node's begin and its properties
+abbrev pub front_of : List ℕ → Node → List Token
+front_of strings n = begin_node (out-Node n).name.items ∷ tokens_of_entries strings (out-Node n).properties.items
+
+-- these are the lengths of blocks that are not too long
+pub record AreLengths (l : Lengths) (reserve structure strings : ℕ) : Type 0 where
+  pub reserve_is : l.reserve ≡ reserve
+  pub structure_is : l.structure ≡ structure
+  pub strings_is : l.strings ≡ strings
+  pub fits : 40 + reserve + structure + strings ≤ 2097152

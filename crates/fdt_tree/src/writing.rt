@@ -1,0 +1,273 @@
+//! Writing a tree.
+
+ghost use Rattle.std.specs.Prelude.{◌≡◌, ◌+◌, ◌++◌, ◌∷◌, [], ◌≤◌, ℕ, List, length, map, IfOk, IfErr, OnOk, Ok, Err, if◌then◌else◌, nat_lt};
+ghost use Rattle.std.specs.Int.{w32, w64, to_be_bytes};
+ghost use Rattle.fdt_tree.specs.Devicetree.{property, begin_node, end_node};
+ghost use Rattle.fdt_tree.specs.NodeViews.{entry_of, branch};
+ghost use Rattle.fdt_tree.specs.Reservations.{pair_text};
+ghost use Rattle.fdt_tree.specs.Writing.{zeros_behind, begin_text, property_text, text_after, names_after, strings_text, reservations_text, places_text, versions_text, file_of, written};
+ghost use Rattle.fdt_tree.specs.NameTables.{HasNames, TooMuch};
+ghost use Rattle.fdt_tree.specs.Wholeness.{tree_in};
+ghost use Rattle.fdt_tree.specs.OutputViews.{AreLengths, HasTokens, size_of, tokens_of_entries, tokens_of_nodes};
+
+use crate::fault::FdtFault;
+use crate::header::{MAGIC, MAX_LEN, VERSION};
+use crate::names::NameTable;
+use crate::node::{Node, Property};
+use crate::tree::{Contents, Reservation};
+use std::alloc::{AllocError, Global};
+
+/// What is written so far: the structure block, and the names in it.
+#[derive(Drop)]
+pub struct Output {
+    pub structure: Vec<u8>,
+    pub names: NameTable,
+}
+
+fn put_word(out: &mut Vec<u8>, word: u32) -> Result<(), AllocError>
+    ensures { OnOk result (out.new.items ≡ out.old.items ++ to_be_bytes w32 word) }
+{
+    out.extend_from_slice(&word.to_be_bytes())
+}
+
+/// Zeros that fill up to a multiple of 4 behind so many bytes.
+fn put_padding(out: &mut Vec<u8>, len: usize) -> Result<(), AllocError>
+    ensures { OnOk result (out.new.items ≡ out.old.items ++ zeros_behind len) }
+{
+    match len % 4 {
+        0 => Ok(()),
+        1 => out.extend_from_slice(&[0, 0, 0]),
+        2 => out.extend_from_slice(&[0, 0]),
+        _ => out.extend_from_slice(&[0]),
+    }
+}
+
+fn put_begin(out: &mut Vec<u8>, name: &[u8]) -> Result<(), AllocError>
+    ensures { OnOk result (out.new.items ≡ out.old.items ++ begin_text name.now) }
+{
+    put_word(out, 1)?;
+    out.extend_from_slice(name)?;
+    out.push(0)?;
+    put_padding(out, name.len() + 1)
+}
+
+fn put_text(out: &mut Vec<u8>, offset: u32, len: u32, value: &[u8]) -> Result<(), AllocError>
+    requires { len ≡ length value.now }
+    ensures { OnOk result (out.new.items ≡ out.old.items ++ property_text offset value.now) }
+{
+    put_word(out, 3)?;
+    put_word(out, len)?;
+    put_word(out, offset)?;
+    out.extend_from_slice(value)?;
+    put_padding(out, value.len())
+}
+
+fn put_property(
+    alloc: Global,
+    out: &mut Output,
+    strings: &[u8],
+    entry: &Property,
+) -> Result<(), FdtFault>
+    ensures done { (names : List (List ℕ)) → HasNames out.old.names names
+        → OnOk result (HasTokens out.old out.new names (property (entry_of strings.now entry.now) ∷ [])) }
+    ensures refused { (names : List (List ℕ)) → HasNames out.old.names names
+        → IfErr result (λ e. TooMuch e (size_of names (property (entry_of strings.now entry.now) ∷ []))) }
+{
+    let value = entry.value.as_slice();
+    if value.len() > MAX_LEN {
+        return Err(FdtFault::TooLarge);
+    }
+    let offset = out.names.offset_of(alloc, entry.name.bytes(strings))?;
+    put_text(&mut out.structure, offset, value.len() as u32, value)?;
+    Ok(())
+}
+
+fn put_node_begin(out: &mut Output, name: &[u8]) -> Result<(), AllocError>
+    ensures { (names : List (List ℕ)) → HasNames out.old.names names
+        → OnOk result (HasTokens out.old out.new names (begin_node name.now ∷ [])) }
+{
+    put_begin(&mut out.structure, name)
+}
+
+fn put_node_end(out: &mut Output) -> Result<(), AllocError>
+    ensures { (names : List (List ℕ)) → HasNames out.old.names names
+        → OnOk result (HasTokens out.old out.new names (end_node ∷ [])) }
+{
+    put_word(&mut out.structure, 2)
+}
+
+/// Puts a node's begin and its properties.
+fn put_front(
+    alloc: Global,
+    out: &mut Output,
+    strings: &[u8],
+    name: &[u8],
+    properties: &[Property],
+) -> Result<(), FdtFault>
+    ensures done { (names : List (List ℕ)) → HasNames out.old.names names
+        → OnOk result (HasTokens out.old out.new names (begin_node name.now ∷ tokens_of_entries strings.now properties.now)) }
+    ensures refused { (names : List (List ℕ)) → HasNames out.old.names names
+        → IfErr result (λ e. TooMuch e (size_of names (begin_node name.now ∷ tokens_of_entries strings.now properties.now))) }
+{
+    put_node_begin(out, name)?;
+    for entry in properties {
+        put_property(alloc, out, strings, entry)?;
+    }
+    Ok(())
+}
+
+/// Puts a node with all that is in it.
+fn put_node(alloc: Global, out: &mut Output, strings: &[u8], node: &Node) -> Result<(), FdtFault>
+    ensures done { (names : List (List ℕ)) → HasNames out.old.names names
+        → OnOk result (HasTokens out.old out.new names (tokens_of_nodes strings.now (node.now ∷ []))) }
+    ensures refused { (names : List (List ℕ)) → HasNames out.old.names names
+        → IfErr result (λ e. TooMuch e (size_of names (tokens_of_nodes strings.now (node.now ∷ [])))) }
+{
+    put_front(alloc, out, strings, &node.name, &node.properties)?;
+    for child in &node.children {
+        put_node(alloc, out, strings, child)?;
+    }
+    put_node_end(out)?;
+    Ok(())
+}
+
+/// The structure block and the strings of a tree.
+fn output_of(alloc: Global, strings: &[u8], root: &Node) -> Result<Output, FdtFault>
+    ensures structure { IfOk result (λ o. o.structure.items
+        ≡ text_after [] (tokens_of_nodes strings.now (root.now ∷ [])) ++ to_be_bytes w32 9) }
+    ensures strings { IfOk result (λ o. o.names.strings.items
+        ≡ strings_text (names_after [] (tokens_of_nodes strings.now (root.now ∷ [])))) }
+    ensures refused { IfErr result (λ e.
+        TooMuch e (size_of [] (tokens_of_nodes strings.now (root.now ∷ [])))) }
+{
+    let mut out = Output {
+        structure: Vec::new(alloc),
+        names: NameTable::new(alloc),
+    };
+    put_node(alloc, &mut out, strings, root)?;
+    put_word(&mut out.structure, 9)?;
+    Ok(out)
+}
+
+fn put_double_word(out: &mut Vec<u8>, word: u64) -> Result<(), AllocError>
+    ensures { OnOk result (out.new.items ≡ out.old.items ++ to_be_bytes w64 word) }
+{
+    out.extend_from_slice(&word.to_be_bytes())
+}
+
+fn put_pair(out: &mut Vec<u8>, pair: Reservation) -> Result<(), AllocError>
+    ensures { OnOk result (out.new.items ≡ out.old.items ++ pair_text pair) }
+{
+    put_double_word(out, pair.address)?;
+    put_double_word(out, pair.size)?;
+    Ok(())
+}
+
+fn put_reservations(out: &mut Vec<u8>, reservations: &[Reservation]) -> Result<(), AllocError>
+    ensures { OnOk result (out.new.items ≡ out.old.items ++ reservations_text reservations.now) }
+{
+    for pair in reservations {
+        put_pair(out, *pair)?;
+    }
+    let end = Reservation {
+        address: 0,
+        size: 0,
+    };
+    put_pair(out, end)?;
+    Ok(())
+}
+
+/// How many bytes each block has.
+#[derive(Clone, Copy)]
+pub struct Lengths {
+    pub reserve: u32,
+    pub structure: u32,
+    pub strings: u32,
+}
+
+/// Puts the magic number, the whole length, and where the blocks begin.
+fn put_places(out: &mut Vec<u8>, lengths: Lengths) -> Result<(), AllocError>
+    requires { 40 + lengths.reserve + lengths.structure + lengths.strings ≤ 2097152 }
+    ensures { OnOk result (out.new.items ≡ out.old.items
+        ++ places_text lengths.reserve lengths.structure lengths.strings) }
+{
+    let structure_at = 40 + lengths.reserve;
+    let strings_at = structure_at + lengths.structure;
+    put_word(out, MAGIC)?;
+    put_word(out, strings_at + lengths.strings)?;
+    put_word(out, structure_at)?;
+    put_word(out, strings_at)?;
+    put_word(out, 40)?;
+    Ok(())
+}
+
+/// Puts the versions, the processor that boots, and the lengths of blocks.
+fn put_versions(out: &mut Vec<u8>, lengths: Lengths, boot_cpu: u32) -> Result<(), AllocError>
+    ensures { OnOk result (out.new.items ≡ out.old.items
+        ++ versions_text lengths.structure lengths.strings boot_cpu) }
+{
+    put_word(out, VERSION)?;
+    put_word(out, 16)?;
+    put_word(out, boot_cpu)?;
+    put_word(out, lengths.strings)?;
+    put_word(out, lengths.structure)?;
+    Ok(())
+}
+
+/// How many bytes each block has, unless they are too many.
+fn lengths_of(reservations: &[Reservation], out: &Output) -> Result<Lengths, FdtFault>
+    ensures lengths { IfOk result (λ l. AreLengths l (length (reservations_text reservations.now))
+        (length out.now.structure.items) (length out.now.names.strings.items)) }
+    ensures refused { IfErr result (λ e. TooMuch e (40 + length (reservations_text reservations.now)
+        + length out.now.structure.items + length out.now.names.strings.items)) }
+{
+    let reserve = reservations.len().saturating_mul(16).saturating_add(16);
+    let structure = out.structure.len();
+    let strings = out.names.strings.len();
+    let total = reserve
+        .saturating_add(40)
+        .saturating_add(structure)
+        .saturating_add(strings);
+    if total > MAX_LEN {
+        return Err(FdtFault::TooLarge);
+    }
+    Ok(Lengths {
+        reserve: reserve as u32,
+        structure: structure as u32,
+        strings: strings as u32,
+    })
+}
+
+/// The file of these blocks.
+fn assembled(
+    alloc: Global,
+    boot_cpu: u32,
+    reservations: &[Reservation],
+    out: &Output,
+) -> Result<Vec<u8>, FdtFault>
+    ensures done { IfOk result (λ v. v.items ≡ file_of boot_cpu (reservations_text reservations.now)
+        out.now.structure.items out.now.names.strings.items) }
+    ensures within { IfOk result (λ v. length v.items ≤ 2097152) }
+    ensures refused { IfErr result (λ e. TooMuch e (length (file_of boot_cpu
+        (reservations_text reservations.now) out.now.structure.items out.now.names.strings.items))) }
+{
+    let lengths = lengths_of(reservations, out)?;
+    let mut file = Vec::new(alloc);
+    put_places(&mut file, lengths)?;
+    put_versions(&mut file, lengths, boot_cpu)?;
+    put_reservations(&mut file, reservations)?;
+    file.extend_from_slice(&out.structure)?;
+    file.extend_from_slice(&out.names.strings)?;
+    Ok(file)
+}
+
+/// The file of what a tree holds.
+pub fn written(alloc: Global, contents: &Contents) -> Result<Vec<u8>, FdtFault>
+    requires unnamed { (branch contents.now.strings.items contents.now.root).name ≡ [] }
+    ensures done { IfOk result (λ v. v.items ≡ written (tree_in contents.now)) }
+    ensures within { IfOk result (λ v. length v.items ≤ 2097152) }
+    ensures refused { IfErr result (λ e. TooMuch e (length (written (tree_in contents.now)))) }
+{
+    let out = output_of(alloc, &contents.strings, &contents.root)?;
+    assembled(alloc, contents.boot_cpu, &contents.reservations, &out)
+}
