@@ -3,7 +3,7 @@
 
 usage: bench/crates.py [RUNS]
 
-It builds bench/timed in a copy of the crates, with the kit's rt, and prints the least times of some runs.
+It builds bench/timed/main.rt.in in a copy of the crates, with the kit's rt, and prints the least times of some runs.
 """
 import os
 import shutil
@@ -20,7 +20,7 @@ def built(folder):
     shutil.copytree(os.path.join(top, "crates"), os.path.join(folder, "crates"), ignore=shutil.ignore_patterns("out"))
     crate = os.path.join(folder, "crates", "timed")
     os.makedirs(os.path.join(crate, "src"))
-    shutil.copy(os.path.join(top, "bench", "timed", "main.rt"), os.path.join(crate, "src", "main.rt"))
+    shutil.copy(os.path.join(top, "bench", "timed", "main.rt.in"), os.path.join(crate, "src", "main.rt"))
     shutil.copy(os.path.join(top, "HANDLES"), folder)
     with open(os.path.join(top, "crates.txt")) as lines, open(os.path.join(folder, "crates.txt"), "w") as file:
         file.write(lines.read() + "timed: rim_desc rmm_model rmm_monitor page_jobs\n")
