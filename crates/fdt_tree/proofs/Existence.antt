@@ -108,7 +108,7 @@ some_root (begin_node name ∷ ts) plain ok =
           ∙ ap (λ (n : List ℕ). begin_node n ∷ (map property i.entries ++ (tokens i.kids ++ (end_node ∷ [])))) no_name,
     )
 
-bytes_fit : (bytes : List ℕ) → All (λ b. b < 256) bytes → IsBytes bytes
+pub bytes_fit : (bytes : List ℕ) → All (λ b. b < 256) bytes → IsBytes bytes
 bytes_fit bytes h i = elim (cases_lt i (length bytes)) [
   | inl lt ↦ h i 0 lt
   | inr le ↦ rw (get_or_past bytes i 0 le) (omega arith)
@@ -118,7 +118,7 @@ abbrev behind_tokens : Header → List Reservation → List Token → Result Par
 behind_tokens h rs ts = Ok (record { reservations = rs; boot_cpu = h.boot_cpuid_phys; tokens = ts })
 
 -- where reading finds no fault, a tree is spelled
-found_spelled : (bytes : List ℕ) (found : Parts) → IsBytes bytes → parts_at bytes ≡ Ok found → (t : Devicetree) × (parts_at bytes ≡ Ok (parts_of t))
+pub found_spelled : (bytes : List ℕ) (found : Parts) → IsBytes bytes → parts_at bytes ≡ Ok found → (t : Devicetree) × (parts_at bytes ≡ Ok (parts_of t))
 unfolding parts_at
 found_spelled bytes found fits e =
     let tokens_in : Header → Result (List Token) FdtFault = λ h. scan (strings_block h bytes) (length (structure_block h bytes)) start (structure_block h bytes) in

@@ -1,3 +1,4 @@
+pub mod Faults
 pub mod FirstZero
 pub mod NameRuns
 pub mod Scans
@@ -17,6 +18,7 @@ pub mod Editing
 pub mod Settings
 pub mod Memories
 pub mod Existence
+pub mod TreesAt
 pub mod FirstFaults
 pub mod Tables
 pub mod Writes

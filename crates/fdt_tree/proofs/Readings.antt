@@ -1,10 +1,9 @@
 -- What is read is what is spelled.
-use Rattle.std.proofs.Common.{◌≡◌, ℕ, List, length, Result, Ok, Err, refl, sym, ap, ◌∙◌, arith}
+use Rattle.std.proofs.Common.{◌≡◌, ℕ, List, length, Result, Ok, refl, sym, ap, ◌∙◌, arith}
 use Rattle.fdt_tree.specs.declared.fault.FdtFault.{FdtFault}
-use Rattle.fdt_tree.specs.declared.fault.FdtFault.TheVariants as faults
 use Rattle.fdt_tree.specs.declared.header.Header.{Header}
 use Rattle.fdt_tree.specs.declared.tree.Reservation.{Reservation}
-use Rattle.fdt_tree.specs.Steps.{◌>>=◌, Fails}
+use Rattle.fdt_tree.specs.Steps.{◌>>=◌}
 use Rattle.fdt_tree.specs.Devicetree.{Devicetree, Token, root_tokens}
 use Rattle.fdt_tree.specs.Blocks.{reserve_block, structure_block, strings_block, header_at}
 use Rattle.fdt_tree.specs.Reservations.{reservations_at}
@@ -69,22 +68,3 @@ one_tree bytes t u a b = same_tree t u (same_parts (parts_of t) (parts_of u) (sy
 
 pub spelled_whole : (bytes : List ℕ) (t : Devicetree) → Spells bytes t → IsWhole t
 spelled_whole bytes t s = record { reservations = spelled_are t.reservations _ s.reservations; entries = s.root.entries; kids = s.root.kids }
-
-no_error : {X : Type 0} (x : X) (e : FdtFault) → (let r : Result X FdtFault = Ok x in r) ≡ Err e → ⊥
-no_error x e q = cc
-
--- an error other than want of memory comes only where nothing is spelled
-pub no_fault : {X Y : Type 0} (e : FdtFault) (x : X) (y : Y) (read : Result X FdtFault) → read ≡ Ok x → Fails e read → (let r : Result Y FdtFault = Ok y in Fails e r)
-no_fault faults.Short x y read h given = absurd (no_error x _ (sym h ∙ given))
-no_fault faults.BadMagic x y read h given = absurd (no_error x _ (sym h ∙ given))
-no_fault faults.BadVersion x y read h given = absurd (no_error x _ (sym h ∙ given))
-no_fault faults.BadBlock x y read h given = absurd (no_error x _ (sym h ∙ given))
-no_fault faults.BadReserve x y read h given = absurd (no_error x _ (sym h ∙ given))
-no_fault faults.BadToken x y read h given = absurd (no_error x _ (sym h ∙ given))
-no_fault faults.BadName x y read h given = absurd (no_error x _ (sym h ∙ given))
-no_fault faults.BadString x y read h given = absurd (no_error x _ (sym h ∙ given))
-no_fault faults.LateProperty x y read h given = absurd (no_error x _ (sym h ∙ given))
-no_fault faults.TooDeep x y read h given = absurd (no_error x _ (sym h ∙ given))
-no_fault faults.BadCells x y read h given = absurd (no_error x _ (sym h ∙ given))
-no_fault faults.TooLarge x y read h given = absurd (no_error x _ (sym h ∙ given))
-no_fault faults.NoMemory x y read h given = tt

@@ -3,12 +3,11 @@ use Rattle.std.proofs.Common.{◌≡◌, ℕ, suc, ◌+◌, ◌-◌, ◌<◌, �
 use Rattle.std.proofs.lemmas.List.{append-nil}
 use Rattle.fdt_tree.specs.declared.fault.FdtFault.{FdtFault}
 use Rattle.fdt_tree.specs.declared.fault.FdtFault.TheVariants.{BadToken}
-use Rattle.fdt_tree.specs.declared.fault.FdtFault.TheVariants as faults
 use Rattle.fdt_tree.specs.declared.lexing.Lexeme.{Lexeme}
 use Rattle.fdt_tree.specs.declared.lexing.Lexeme.TheVariants as lexemes
 use Rattle.fdt_tree.specs.LexemeViews.{token_of_lexeme}
 use Rattle.fdt_tree.specs.Devicetree.{Token, begin_node, property, end_node, nop, finish}
-use Rattle.fdt_tree.specs.Steps.{◌>>=◌, Fails}
+use Rattle.fdt_tree.specs.Steps.{◌>>=◌}
 use Rattle.fdt_tree.specs.declared.place.Place.{Place}
 use Rattle.fdt_tree.specs.Scanning.{after, token_at, joins, scan, with_front}
 use Rattle.fdt_tree.specs.OpenNodes.{added}
@@ -66,18 +65,3 @@ is_over strings count i p bytes front total le so_far =
 
 pub at_place : (strings bytes : List ℕ) (p q : Place) (r : Result (Token × List ℕ) FdtFault) → p ≡ q → token_at strings p bytes ≡ r → token_at strings q bytes ≡ r
 at_place strings bytes p q r same e = ap (λ (x : Place). token_at strings x bytes) (sym same) ∙ e
-
-pub fails_so : {Y : Type 0} (e : FdtFault) (read : Result Y FdtFault) → read ≡ Err e → Fails e read
-fails_so faults.Short read h = h
-fails_so faults.BadMagic read h = h
-fails_so faults.BadVersion read h = h
-fails_so faults.BadBlock read h = h
-fails_so faults.BadReserve read h = h
-fails_so faults.BadToken read h = h
-fails_so faults.BadName read h = h
-fails_so faults.BadString read h = h
-fails_so faults.LateProperty read h = h
-fails_so faults.TooDeep read h = h
-fails_so faults.BadCells read h = h
-fails_so faults.TooLarge read h = h
-fails_so faults.NoMemory read h = tt

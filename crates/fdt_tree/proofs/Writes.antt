@@ -2,7 +2,7 @@
 use Rattle.std.proofs.Common.{◌≡◌, ℕ, ◌+◌, ◌*◌, ◌<◌, ◌≤◌, Bool, true, false, cond, List, [], ◌∷◌, ◌++◌, length, get_or, take, drop, refl, sym, ap, ◌∙◌, append_assoc, append-nil, arith, subst}
 use Rattle.std.proofs.lemmas.List.{length-append, take_more, take-append-drop, at_drop_more, take_all}
 use Rattle.fdt_tree.specs.declared.fault.FdtFault.{FdtFault}
-use Rattle.fdt_tree.specs.declared.fault.FdtFault.TheVariants.{Short, BadMagic, BadVersion, BadBlock, BadReserve, BadToken, BadName, BadString, LateProperty, TooDeep, BadCells, TooLarge, NoMemory}
+use Rattle.fdt_tree.proofs.Faults.{more_than}
 use Rattle.fdt_tree.specs.declared.node.Property.{Property}
 use Rattle.fdt_tree.specs.declared.node.Node.{Node}
 use Rattle.fdt_tree.specs.declared.node.Node.TheViews.{out-Node}
@@ -53,21 +53,6 @@ names_grow names (property e ∷ ts) = omega (arith, noted_grows names e.name, n
 names_grow names (end_node ∷ ts) = names_grow names ts
 names_grow names (nop ∷ ts) = names_grow names ts
 names_grow names (finish ∷ ts) = names_grow names ts
-
-pub more_than : (e : FdtFault) (m n : ℕ) → m ≤ n → TooMuch e m → TooMuch e n
-more_than NoMemory m n le h = tt
-more_than Short m n le h = (h.0, omega (arith, h.1))
-more_than BadMagic m n le h = (h.0, omega (arith, h.1))
-more_than BadVersion m n le h = (h.0, omega (arith, h.1))
-more_than BadBlock m n le h = (h.0, omega (arith, h.1))
-more_than BadReserve m n le h = (h.0, omega (arith, h.1))
-more_than BadToken m n le h = (h.0, omega (arith, h.1))
-more_than BadName m n le h = (h.0, omega (arith, h.1))
-more_than BadString m n le h = (h.0, omega (arith, h.1))
-more_than LateProperty m n le h = (h.0, omega (arith, h.1))
-more_than TooDeep m n le h = (h.0, omega (arith, h.1))
-more_than BadCells m n le h = (h.0, omega (arith, h.1))
-more_than TooLarge m n le h = (h.0, omega (arith, h.1))
 
 -- ---- tokens behind tokens
 

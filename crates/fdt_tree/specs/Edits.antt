@@ -5,12 +5,12 @@ use Rattle.std.specs.Prelude.{◌≡◌, ℕ, List, [], ◌∷◌, length, Bool,
 use Rattle.std.specs.Str.{bytes_eq}
 use Rattle.std.specs.Result.{IsOk}
 use Rattle.fdt_tree.specs.declared.fault.FdtFault.{FdtFault}
-use Rattle.fdt_tree.specs.declared.fault.FdtFault.TheVariants.{BadName, TooDeep, NoMemory}
+use Rattle.fdt_tree.specs.declared.fault.FdtFault.TheVariants.{BadName, TooDeep}
 use Rattle.fdt_tree.specs.Devicetree.{Entry, Nodes, none, node, Branch, Root, branch_of_root, Devicetree}
 use Rattle.fdt_tree.specs.Names.{legal}
 use Rattle.fdt_tree.specs.OpenNodes.{bare}
 use Rattle.fdt_tree.specs.Lookup.{names_on}
-use Rattle.fdt_tree.specs.Steps.{◌>>=◌}
+use Rattle.fdt_tree.specs.Steps.{◌>>=◌, MemoryOr}
 
 -- the first property of the name with this value, or else one more
 abbrev pub with_value : List ℕ → List ℕ → List Entry → List Entry
@@ -69,5 +69,4 @@ set_at path name value t = do
 
 -- It is refused for this; memory is only asked for behind every other refusal.
 abbrev pub Refuses : {Y : Type 0} → FdtFault → Result Y FdtFault → Type 0
-Refuses NoMemory wanted = IsOk wanted
-Refuses e wanted = wanted ≡ Err e
+Refuses e wanted = MemoryOr e (IsOk wanted) (wanted ≡ Err e)

@@ -12,6 +12,7 @@ pub mod Reservations
 pub mod Wholeness
 pub mod Trees
 pub mod Reading
+pub mod TreeAt
 pub mod Lookup
 pub mod FirstFault
 pub mod Edits

@@ -4,8 +4,9 @@ use Rattle.std.specs.Ordering.{nat_cmp}
 use Rattle.std.specs.Cmp.Lexicographic.{slice_cmp}
 use Rattle.std.specs.BTreeMap.{get_by}
 use Rattle.fdt_tree.specs.declared.fault.FdtFault.{FdtFault}
-use Rattle.fdt_tree.specs.declared.fault.FdtFault.TheVariants.{TooLarge, NoMemory}
+use Rattle.fdt_tree.specs.declared.fault.FdtFault.TheVariants.{TooLarge}
 use Rattle.fdt_tree.specs.declared.names.NameTable.{NameTable}
+use Rattle.fdt_tree.specs.Steps.{MemoryOr}
 use Rattle.fdt_tree.specs.Writing.{is_among, strings_text, offset_in}
 
 -- where a name begins, if it is there
@@ -19,5 +20,4 @@ pub record HasNames (t : NameTable) (names : List (List ℕ)) : Type 0 where
 
 -- it is too many bytes, or memory was refused
 abbrev pub TooMuch : FdtFault → ℕ → Type 0
-TooMuch NoMemory n = Unit {0}
-TooMuch e n = (e ≡ TooLarge) × (2097152 < n)
+TooMuch e n = MemoryOr e (Unit {0}) ((e ≡ TooLarge) × (2097152 < n))

@@ -4,7 +4,7 @@ use Rattle.fdt_tree.specs.declared.fault.FdtFault.{FdtFault}
 use Rattle.fdt_tree.specs.declared.fault.FdtFault.TheVariants.{NoMemory}
 
 infixl 10 ◌>>=◌
-abbrev pub ◌>>=◌ : {A B : Type 0} → Result A FdtFault → (A → Result B FdtFault) → Result B FdtFault
+abbrev pub ◌>>=◌ : {A B E : Type 0} → Result A E → (A → Result B E) → Result B E
 (Ok x) >>= f = f x
 (Err e) >>= f = Err e
 
@@ -13,9 +13,13 @@ abbrev pub Matches : {X Y : Type 0} → (X → Y) → Result X FdtFault → Resu
 Matches view (Ok x) read = read ≡ Ok (view x)
 Matches view (Err e) read = read ≡ Err e
 
+-- what holds of an error: the first where memory was refused, else the second
+abbrev pub MemoryOr : FdtFault → Type 0 → Type 0 → Type 0
+MemoryOr NoMemory memory fact = memory
+MemoryOr e memory fact = fact
+
 abbrev pub Fails : {Y : Type 0} → FdtFault → Result Y FdtFault → Type 0
-Fails NoMemory read = Unit {0}
-Fails e read = read ≡ Err e
+Fails e read = MemoryOr e (Unit {0}) (read ≡ Err e)
 
 -- What a function returned, seen by view, is what reading gives, unless memory ran out.
 abbrev pub Gives : {X Y : Type 0} → (X → Y) → Result X FdtFault → Result Y FdtFault → Type 0

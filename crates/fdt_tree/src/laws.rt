@@ -1,15 +1,22 @@
 //! Laws of the flattened format: functions that do nothing, whose contracts are the laws.
 
-ghost use Rattle.std.specs.Prelude.{◌≡◌, ◌<◌, ◌↔◌, ℕ, List, All, None, Err};
+ghost use Rattle.std.specs.Prelude.{◌≡◌, ◌<◌, ◌↔◌, ℕ, List, All, None, Ok, Err};
 ghost use Rattle.fdt_tree.specs.declared.fault.FdtFault.{FdtFault};
 ghost use Rattle.fdt_tree.specs.Devicetree.{Devicetree};
 ghost use Rattle.fdt_tree.specs.Scanning.{structure_at};
 ghost use Rattle.fdt_tree.specs.FirstFault.{IsFirstFault};
 ghost use Rattle.fdt_tree.specs.Reading.{Spells, refusal_of};
+ghost use Rattle.fdt_tree.specs.TreeAt.{tree_at};
 
 /// The same bytes spell at most one devicetree.
 pub fn one_tree()
     ensures { (bytes : List ℕ) (t u : Devicetree) → Spells bytes t → Spells bytes u → t ≡ u }
+{}
+
+/// The tree that definitions name by the bytes alone is the one that the bytes spell.
+pub fn tree_at_is_spelled()
+    ensures { (bytes : List ℕ) (t : Devicetree) → All (λ b. b < 256) bytes
+        → (Spells bytes t ↔ (tree_at bytes ≡ Ok t)) }
 {}
 
 /// Bytes are refused exactly where they spell no devicetree: where there is no refusal, there is a

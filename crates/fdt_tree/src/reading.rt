@@ -7,6 +7,7 @@ ghost use Rattle.fdt_tree.specs.NodeViews.{branch};
 ghost use Rattle.fdt_tree.specs.Wholeness.{tree_in};
 ghost use Rattle.fdt_tree.specs.Trees.{devicetree_of};
 ghost use Rattle.fdt_tree.specs.Reading.{Spells, parts_of, parts_at, refusal_of, IsRefusal};
+ghost use Rattle.fdt_tree.specs.TreeAt.{tree_at};
 
 use crate::fault::FdtFault;
 use crate::header::header_in;
@@ -47,6 +48,8 @@ pub fn read(alloc: Global, bytes: &[u8]) -> Result<Tree, FdtFault>
     ensures only { (t : Devicetree) → Spells bytes.now t → Gives devicetree_of result (Ok t) }
     // Which fault it is.
     ensures refused { IfErr result (λ e. IsRefusal e (refusal_of bytes.now)) }
+    // The same, by the function that other definitions go on from.
+    ensures exact { Gives devicetree_of result (tree_at bytes.now) }
 {
     let contents = contents_of(alloc, bytes)?;
     Ok(Tree::of(contents))

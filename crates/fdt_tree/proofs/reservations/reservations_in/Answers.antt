@@ -1,6 +1,6 @@
 use Rattle.std.proofs.Common.{length, sym, ◌∙◌}
 use Rattle.std.proofs.lemmas.Result.{err_from_is_err_and}
-use Rattle.fdt_tree.proofs.Scans.{fails_so}
+use Rattle.fdt_tree.proofs.Faults.{fails_so}
 use Rattle.fdt_tree.proofs.Pairs.{goes_on, fails, ends, is_over}
 use Rattle.fdt_tree.proofs.reservations.reservations_in.Goals as goal
 

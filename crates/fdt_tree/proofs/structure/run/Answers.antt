@@ -2,7 +2,8 @@ use Rattle.std.proofs.Common.{length}
 use Rattle.std.proofs.lemmas.Result.{err_from_is_err_and}
 use Rattle.fdt_tree.specs.LexemeViews.{token_of_lexeme}
 use Rattle.fdt_tree.specs.OpenNodes.{so_far, place_of}
-use Rattle.fdt_tree.proofs.Scans.{goes_on, fails, fails_so, ends, is_over, not_finish, at_place}
+use Rattle.fdt_tree.proofs.Faults.{fails_so}
+use Rattle.fdt_tree.proofs.Scans.{goes_on, fails, ends, is_over, not_finish, at_place}
 use Rattle.fdt_tree.proofs.structure.run.Goals as goal
 
 pub returns-in_err-lexeme-clause-exact : goal.returns-in_err-lexeme-clause-exact

@@ -6,7 +6,8 @@ use Rattle.fdt_tree.specs.Wholeness.{tree_in}
 use Rattle.fdt_tree.specs.Writing.{text_after, names_after, strings_text, reservations_text, file_of, written}
 use Rattle.fdt_tree.specs.NameTables.{TooMuch}
 use Rattle.fdt_tree.specs.OutputViews.{size_of, tokens_of_nodes}
-use Rattle.fdt_tree.proofs.Writes.{written_is, size_within, more_than}
+use Rattle.fdt_tree.proofs.Writes.{written_is, size_within}
+use Rattle.fdt_tree.proofs.Faults.{more_than}
 use Rattle.fdt_tree.proofs.writing.written.Goals as goal
 
 whole : (c : goal.After-drop-out-3) → file_of c.args.contents.now.boot_cpu (reservations_text c.deref-2.result.now) c.in_ok-out.out.structure.items c.in_ok-out.out.names.strings.items ≡ written (tree_in c.args.contents.now)
