@@ -109,5 +109,5 @@ abbrev pub structure_at : List ℕ → List ℕ → Result (List Token) FdtFault
 structure_at strings block = scan strings (length block) start block
 
 -- the tokens before, and those that are still read
-abbrev pub with_front : List Token → Result (List Token) FdtFault → Result (List Token) FdtFault
+abbrev pub with_front : {X E : Type 0} → List X → Result (List X) E → Result (List X) E
 with_front front read = read >>= λ ts. Ok (front ++ ts)

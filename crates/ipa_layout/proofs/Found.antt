@@ -1,6 +1,6 @@
 -- What a search through a list found, and what it did not.
-use Rattle.std.proofs.Common.{◌≡◌, Bool, true, false, cond, ◌||◌, List, [], ◌∷◌, Option, Some, None, refl}
-use Rattle.std.specs.List.{find, list_any}
+use Rattle.std.proofs.Common.{◌≡◌, Bool, true, false, cond, ◌&&◌, ◌||◌, List, [], ◌∷◌, Option, Some, None, refl}
+use Rattle.std.specs.List.{find, list_all, list_any}
 
 none-here : {X : Type 0} (b : Bool) (x : X) (o : Option X) (any : Bool) → (o ≡ None → any ≡ false) → cond b (Some x) o ≡ None → (b || any) ≡ false
 none-here true x o any h e = cc
@@ -32,3 +32,14 @@ any-here false x y o q any is h e = or-right (q x) any (h e)
 pub found-any : {X : Type 0} (p q : X → Bool) (xs : List X) (y : X) → find p xs ≡ Some y → q y ≡ true → list_any q xs ≡ true
 found-any p q [] y e h = cc
 found-any p q (x ∷ xs) y e h = any-here (p x) x y (find p xs) q (list_any q xs) h (λ again. found-any p q xs y again h) e
+
+holds-here : {X : Type 0} (b d rest : Bool) (x y : X) (o : Option X) (p : X → Bool) → p x ≡ d → (rest ≡ true → o ≡ Some y → p y ≡ true) → (d && rest) ≡ true → cond b (Some x) o ≡ Some y → p y ≡ true
+holds-here true true rest x y o p is h all e = cc
+holds-here true false rest x y o p is h all e = absurd cc
+holds-here false true rest x y o p is h all e = h all e
+holds-here false false rest x y o p is h all e = absurd cc
+
+-- what holds of all holds of the one that is found
+pub found-holds : {X : Type 0} (p t : X → Bool) (xs : List X) (y : X) → list_all p xs ≡ true → find t xs ≡ Some y → p y ≡ true
+found-holds p t [] y all e = cc
+found-holds p t (x ∷ xs) y all e = holds-here (t x) (p x) (list_all p xs) x y (find t xs) p refl (found-holds p t xs y) all e

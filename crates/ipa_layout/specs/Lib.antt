@@ -3,8 +3,13 @@ pub mod Recs
 pub mod Ranges
 pub mod Kinds
 pub mod Steps
+pub mod StepMarks
 pub mod LaunchData
 pub mod Standings
 pub mod Memory
 pub mod Meeting
 pub mod Placing
+pub mod Changes
+pub mod ChangeViews
+pub mod Placements
+pub mod PlacementViews

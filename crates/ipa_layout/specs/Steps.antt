@@ -1,5 +1,5 @@
 -- The steps of a launch: each region, each item and each REC has one. This project's choice.
-use Rattle.std.specs.Prelude.{ℕ, List, Bool, ◌&&◌, ◌==◌, nat_lt, count_by, false}
+use Rattle.std.specs.Prelude.{ℕ, List, Bool, ◌&&◌, ◌==◌, nat_lt, count_by, false, Option, Some, None}
 use Rattle.std.specs.List.{list_all, range_with_len}
 use Rattle.ipa_layout.specs.declared.step.Step.{Step}
 use Rattle.ipa_layout.specs.declared.step.Step.TheVariants as step
@@ -12,12 +12,20 @@ names_something regions items recs (step.Ram n) = nat_lt n regions
 names_something regions items recs (step.Item n) = nat_lt n items
 names_something regions items recs (step.Rec n) = nat_lt n recs
 
+-- the number that a step names of this part, where it is a step of this part
+abbrev pub number_of : Part → Step → Option ℕ
+number_of part.Ram (step.Ram n) = Some n
+number_of part.Item (step.Item n) = Some n
+number_of part.Rec (step.Rec n) = Some n
+number_of _ _ = None
+
+abbrev pub is_number : ℕ → Option ℕ → Bool
+is_number k None = false
+is_number k (Some n) = n == k
+
 -- whether a step names this number of this part
 abbrev pub names : Part → ℕ → Step → Bool
-names part.Ram k (step.Ram n) = n == k
-names part.Item k (step.Item n) = n == k
-names part.Rec k (step.Rec n) = n == k
-names _ k _ = false
+names p k s = is_number k (number_of p s)
 
 -- how many steps name it
 abbrev pub times : Part → ℕ → List Step → ℕ

@@ -1,9 +1,10 @@
 //! Why a launch cannot be laid out.
 ghost use Rattle.std.specs.Prelude.{◌≡◌};
-ghost use Rattle.ipa_layout.specs.declared.fault.LayoutFault.TheVariants.{Kernel};
+ghost use Rattle.ipa_layout.specs.declared.fault.LayoutFault.TheVariants.{Kernel, NoMemory};
 
 use arm64_image::ImageFault;
 use fdt_tree::FdtFault;
+use std::alloc::{AllocError, AllocFailed};
 
 /// Why a launch cannot be laid out.
 #[derive(Clone, Copy, Debug, PartialEq, Eq)]
@@ -33,5 +34,21 @@ impl From<ImageFault> for LayoutFault {
 
     fn from(e: ImageFault) -> LayoutFault {
         LayoutFault::Kernel(e)
+    }
+}
+
+impl From<AllocError> for LayoutFault {
+    ghost from_gives = { λ _ e. e ≡ NoMemory };
+
+    fn from(_e: AllocError) -> LayoutFault {
+        LayoutFault::NoMemory
+    }
+}
+
+impl<T: Drop> From<AllocFailed<T>> for LayoutFault {
+    ghost from_gives = { λ _ e. e ≡ NoMemory };
+
+    fn from(_e: AllocFailed<T>) -> LayoutFault {
+        LayoutFault::NoMemory
     }
 }

@@ -47,6 +47,7 @@ impl Model for Launch {
 impl Launch {
     ghost use Rattle.std.specs.Prelude.{◌≡◌, Some, None, if◌then◌else◌, true};
     ghost use Rattle.ipa_layout.specs.LaunchData.{LaunchData, is_launch};
+    ghost use Rattle.ipa_layout.specs.Placements.{has_files};
 
     /// A launch of these parts, or `None` where they break a condition of its type.
     #[tactic(auto, unfolding(crate::specs::LaunchData::is_launch))]
@@ -91,35 +92,47 @@ impl Launch {
 
     /// Its configuration.
     pub fn config(&self) -> Config
-        ensures { result ≡ self.now.config }
+        ensures value { result ≡ self.now.config }
+        ensures kept { is_launch self.now ≡ true }
     {
         self.config
     }
 
     /// Its regions of RAM.
     pub fn ram(&self) -> &[Region]
-        ensures { result.now ≡ self.now.ram }
+        ensures value { result.now ≡ self.now.ram }
+        ensures kept { is_launch self.now ≡ true }
     {
         self.ram.as_slice()
     }
 
     /// Its items.
     pub fn items(&self) -> &[Item]
-        ensures { result.now ≡ self.now.items }
+        ensures value { result.now ≡ self.now.items }
+        ensures kept { is_launch self.now ≡ true }
     {
         self.items.as_slice()
     }
 
     /// Its RECs, as they are asked for.
     pub fn recs(&self) -> &[Rec]
-        ensures { result.now ≡ self.now.recs }
+        ensures value { result.now ≡ self.now.recs }
+        ensures kept { is_launch self.now ≡ true }
     {
         self.recs.as_slice()
     }
 
+    /// Whether each item's file is one of the first `count` files.
+    pub fn has_files(&self, count: usize) -> bool
+        ensures { result ≡ has_files self.now count }
+    {
+        self.items.iter().all(|item| item.kind.file() < count)
+    }
+
     /// Its steps, in order.
     pub fn steps(&self) -> &[Step]
-        ensures { result.now ≡ self.now.steps }
+        ensures value { result.now ≡ self.now.steps }
+        ensures kept { is_launch self.now ≡ true }
     {
         self.steps.as_slice()
     }

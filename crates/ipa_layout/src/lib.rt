@@ -2,22 +2,26 @@
 //! whether they may stand there.
 #![tactic(auto)]
 
-pub mod config;
-pub mod fault;
-pub mod item;
-pub mod launch;
-pub mod meeting;
-pub mod memory;
-pub mod placing;
-pub mod ranges;
-pub mod rec;
-pub mod standing;
-pub mod step;
+mod changing;
+mod config;
+mod fault;
+mod item;
+mod launch;
+mod meeting;
+mod memory;
+mod placed;
+mod placement;
+mod placing;
+mod ranges;
+mod rec;
+mod standing;
+mod step;
 
 pub use config::Config;
 pub use fault::LayoutFault;
 pub use item::{Bootargs, Edits, Item, Kind, Region};
 pub use launch::Launch;
+pub use placed::{Placed, PlacedItem, Source};
+pub use placement::place;
 pub use rec::{PlacedRec, Rec};
-pub use standing::Standing;
 pub use step::Step;

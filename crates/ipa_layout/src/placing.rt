@@ -1,5 +1,6 @@
 //! Whether an item may stand where it is asked to.
-ghost use Rattle.std.specs.Prelude.{◌≡◌, ◌^◌, ◌<◌};
+ghost use Rattle.std.specs.Prelude.{◌≡◌, ◌+◌, ◌^◌, ◌<◌, ◌≤◌, IfOk};
+ghost use Rattle.ipa_layout.specs.Standings.{page_count_of};
 ghost use Rattle.ipa_layout.specs.Placing.{is_outside, is_too_small, placed_of, settled};
 
 use crate::fault::LayoutFault;
@@ -50,7 +51,8 @@ pub fn place_item(
     item: &Item,
     bytes: &[u8],
 ) -> Result<Standing, LayoutFault>
-    ensures { result ≡ placed_of ram.now pages_before item.now bytes.now }
+    ensures exact { result ≡ placed_of ram.now pages_before item.now bytes.now }
+    ensures within { IfOk result (λ s. pages_before + page_count_of s.address s.size ≤ 1048576) }
 {
     let asked = stand_asked(item, bytes)?;
     settle(ram, pages_before, item, bytes.len() as u64, asked)
@@ -66,7 +68,8 @@ fn settle(
     asked: Asked,
 ) -> Result<Standing, LayoutFault>
     requires low { asked.address < 2 ^ 65 }
-    ensures { result ≡ settled ram.now pages_before item.now count asked }
+    ensures exact { result ≡ settled ram.now pages_before item.now count asked }
+    ensures within { IfOk result (λ s. pages_before + page_count_of s.address s.size ≤ 1048576) }
 {
     if item.kind.is_dtb() && asked.size > MOST_DTB {
         return Err(LayoutFault::Dtb(FdtFault::TooLarge));

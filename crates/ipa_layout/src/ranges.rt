@@ -1,9 +1,11 @@
 //! Whether the parts of a launch are in their ranges.
-ghost use Rattle.std.specs.Prelude.{◌≡◌, nat_le, count_by};
+ghost use Rattle.std.specs.Prelude.{◌≡◌, ◌+◌, ◌<◌, ◌≤◌, ℕ, List, length, take, true, false, not, nat_le, count_by, slice_index_or, slice_set};
 ghost use Rattle.std.specs.List.{list_all, list_any};
 ghost use Rattle.ipa_layout.specs.Ranges.{config_in_range, region_in_range, item_in_range};
 ghost use Rattle.ipa_layout.specs.Kinds.{is_kernel, is_initrd, is_dtb, file_of, has_edits, once_each, wants_initrd, wants_memory, edits_possible};
-ghost use Rattle.ipa_layout.specs.Steps.{names_something, names, times, each_once, steps_complete};
+ghost use Rattle.ipa_layout.specs.Steps.{names_something, number_of, each_once, steps_complete};
+ghost use Rattle.ipa_layout.specs.StepMarks.{AreMarks, IsNext};
+ghost use Rattle.ipa_layout.specs.declared.step.Step.{Step};
 
 use crate::config::Config;
 use crate::item::{Item, Kind, Region};
@@ -181,6 +183,9 @@ fn names_something(regions: usize, items: usize, recs: usize, step: &Step) -> bo
     }
 }
 
+/// The most regions, items or RECs of a launch.
+const MOST_PARTS: usize = 1024;
+
 /// Which of a launch's parts a step is for.
 #[derive(Clone, Copy, Debug, PartialEq, Eq)]
 pub enum Part {
@@ -189,38 +194,64 @@ pub enum Part {
     Rec,
 }
 
-/// Whether a step names this number of this part.
-fn names(part: Part, number: usize, step: &Step) -> bool
-    ensures { result ≡ names part number step.now }
+/// The number that a step names of a part, where it is a step of that part.
+fn number_of(part: Part, step: &Step) -> Option<usize>
+    ensures { result ≡ number_of part step.now }
 {
     match (part, step) {
-        (Part::Ram, Step::Ram(named)) => *named == number,
-        (Part::Item, Step::Item(named)) => *named == number,
-        (Part::Rec, Step::Rec(named)) => *named == number,
-        _ => false,
+        (Part::Ram, Step::Ram(number)) => Some(*number),
+        (Part::Item, Step::Item(number)) => Some(*number),
+        (Part::Rec, Step::Rec(number)) => Some(*number),
+        _ => None,
     }
 }
 
-/// How many steps name this number of this part.
-fn times(part: Part, number: usize, steps: &[Step]) -> usize
-    ensures { result ≡ times part number steps.now }
+/// Marks a number, unless it has a mark already.
+fn mark(named: &mut [bool], number: usize) -> bool
+    requires { number < length named.old }
+    ensures fresh { result ≡ not (slice_index_or named.old number false) }
+    ensures marked { named.new ≡ slice_set named.old number true }
 {
-    steps
-        .iter()
-        .filter(|step| names(part, number, step))
-        .count()
+    let is_fresh = !named[number];
+    named[number] = true;
+    is_fresh
 }
 
-/// Whether each number below `count` of this part is named by exactly one step.
+/// Marks the number that a step names of a part, where it is below `count`; and whether it had no mark.
+fn mark_step(named: &mut [bool], part: Part, count: usize, step: &Step) -> bool
+    requires { count ≤ length named.old }
+    ensures len { length named.new ≡ length named.old }
+    ensures once { (steps : List Step) (at : ℕ) → IsNext steps at step.now → AreMarks part count (take at steps) named.old
+        → result ≡ true → AreMarks part count (take (at + 1) steps) named.new }
+    ensures twice { (steps : List Step) (at : ℕ) → IsNext steps at step.now → AreMarks part count (take at steps) named.old
+        → result ≡ false → each_once part steps count ≡ false }
+{
+    match number_of(part, step) {
+        Some(number) if number < count => mark(named, number),
+        _ => true,
+    }
+}
+
+/// Whether each has a mark.
+fn all_marked(named: &[bool]) -> bool
+    ensures { result ≡ list_all (λ b. b) named.now }
+{
+    named.iter().all(|is_named| *is_named)
+}
+
+/// Whether each number below `count` of this part is named by exactly one step. The steps are gone
+/// through once.
 fn each_once(part: Part, steps: &[Step], count: usize) -> bool
+    requires { count ≤ 1024 }
     ensures { result ≡ each_once part steps.now count }
 {
-    for number in 0..count {
-        if times(part, number, steps) != 1 {
+    let mut named = [false; MOST_PARTS];
+    for step in steps {
+        if !mark_step(&mut named, part, count, step) {
             return false;
         }
     }
-    true
+    all_marked(&named[..count])
 }
 
 fn all_name_something(regions: usize, items: usize, recs: usize, steps: &[Step]) -> bool
@@ -233,6 +264,7 @@ fn all_name_something(regions: usize, items: usize, recs: usize, steps: &[Step])
 
 /// Whether each step names what is there, and each region, item and REC is named by exactly one.
 pub fn steps_complete(regions: usize, items: usize, recs: usize, steps: &[Step]) -> bool
+    requires { (regions ≤ 1024) × (items ≤ 1024) × (recs ≤ 1024) }
     ensures { result ≡ steps_complete regions items recs steps.now }
 {
     all_name_something(regions, items, recs, steps)

@@ -20,6 +20,18 @@ pub struct Standing {
     pub extent: u64,
 }
 
+impl Standing {
+    ghost use Rattle.std.specs.Prelude.{◌≡◌};
+    ghost use Rattle.ipa_layout.specs.Standings.{page_count_of};
+
+    /// How many pages the item has.
+    pub fn page_count(&self) -> u64
+        ensures { result ≡ page_count_of self.now.address self.now.size }
+    {
+        page_count(u128::from(self.address), self.size)
+    }
+}
+
 /// Where an item is asked to stand. A kernel may be asked to stand at an address that is none.
 #[derive(Clone, Copy, Debug, PartialEq, Eq)]
 pub struct Asked {

@@ -4,4 +4,4 @@
 #[cfg(test)]
 mod launches;
 #[cfg(test)]
-mod layouts;
+mod placements;

@@ -1,21 +1,15 @@
-use Rattle.std.proofs.Common.{◌≡◌, ◌-◌, ◌+◌, true, false, arith, ◌∙◌, sym}
-use Rattle.std.specs.Prelude.{◌==◌}
-use Rattle.std.proofs.lemmas.Grind.{common_steps}
-use Rattle.ipa_layout.specs.Steps.{times, each_once}
-use Rattle.ipa_layout.proofs.Runs.{all-next, all-stop, all-end}
+use Rattle.std.proofs.Common.{◌∙◌, refl, subst, arith, List}
+use Rattle.std.proofs.lemmas.List.{take_all}
+use Rattle.ipa_layout.specs.declared.step.Step.{Step}
+use Rattle.ipa_layout.specs.StepMarks.{AreMarks}
+use Rattle.ipa_layout.proofs.Marks.{no_marks, all_marked}
 use Rattle.ipa_layout.proofs.ranges.each_once.Goals as goal
 
-pub returns-then-times-ne1 : goal.returns-then-times-ne1
-unfolding each_once
-returns-then-times-ne1 c =
-    let other : (times c.args.part c.loop-number.number c.args.steps.now == 1) ≡ false = grind (arith, common_steps) in
-    sym (all-stop (λ k. times c.args.part k c.args.steps.now == 1) _ _ (c.args.count - c.loop-number.number - 1) (omega arith) other) ∙ c.loop-number.invariant
-
-pub loop-number-preserved : goal.loop-number-preserved
-loop-number-preserved c =
-    let one : (times c.args.part c.loop-number.number c.args.steps.now == 1) ≡ true = grind (arith, common_steps) in
-    sym (all-next (λ k. times c.args.part k c.args.steps.now == 1) _ _ (c.args.count - (c.loop-number.number + 1)) (omega arith) one) ∙ c.loop-number.invariant
+pub loop-step-init : goal.loop-step-init
+loop-step-init c = (refl, no_marks c.args.part c.args.count c.requires)
 
 pub returns : goal.returns
-unfolding each_once
-returns c = sym (all-end (λ k. times c.args.part k c.args.steps.now == 1) _ _ (omega arith)) ∙ c.loop-number.invariant
+returns c =
+    let steps = c.args.steps.now in
+    let marks : AreMarks c.args.part c.args.count steps c.loop-step.named = subst (λ (s : List Step). AreMarks c.args.part c.args.count s c.loop-step.named) (take_all c.loop-step.step-index steps c.loop-step-test.false) c.loop-step.invariant.1 in
+    c.all_marked.ensures ∙ all_marked c.args.part c.args.count steps c.loop-step.named (omega (arith, c.loop-step.invariant.0, c.requires)) marks

@@ -1,0 +1,62 @@
+-- What a devicetree is told before it is placed. The node /chosen and its property bootargs: Devicetree
+-- Specification 0.4, section 3.6; its properties on the initrd are those that Linux reads. The order of
+-- the changes is this project's choice.
+use Rattle.std.specs.Prelude.{ℕ, ◌-◌, List, [], ◌∷◌, ◌++◌, length, Option, Some, None, Result, Ok, Err, nat_lt, codes, if◌then◌else◌}
+use Rattle.std.specs.Int.{w64, to_be_bytes}
+use Rattle.fdt_tree.specs.declared.fault.FdtFault.{FdtFault}
+use Rattle.fdt_tree.specs.declared.fault.FdtFault.TheVariants.{TooLarge}
+use Rattle.fdt_tree.specs.Devicetree.{Devicetree}
+use Rattle.fdt_tree.specs.Steps.{◌>>=◌}
+use Rattle.fdt_tree.specs.TreeAt.{tree_at}
+use Rattle.fdt_tree.specs.Edits.{set_at}
+use Rattle.fdt_tree.specs.Memory.{set_memory_at}
+use Rattle.fdt_tree.specs.Writing.{written}
+use Rattle.ipa_layout.specs.declared.item.Region.{Region}
+
+-- what it is told, if anything: the command line, the addresses of the initrd's bytes, and the first
+-- region of RAM
+pub record Told : Type 0 where
+  pub bootargs : Option (List ℕ)
+  pub initrd : Option Region
+  pub memory : Option Region
+
+abbrev pub nothing_told : Told
+nothing_told = record { bootargs = None; initrd = None; memory = None }
+
+-- a property of /chosen
+abbrev pub chosen : List ℕ → List ℕ → Devicetree → Result Devicetree FdtFault
+chosen name value t = set_at (codes "/chosen") name value t
+
+-- the text with a zero byte behind it
+abbrev pub with_bootargs : Option (List ℕ) → Devicetree → Result Devicetree FdtFault
+with_bootargs None t = Ok t
+with_bootargs (Some text) t = chosen (codes "bootargs") (text ++ 0 ∷ []) t
+
+-- the addresses of its first byte and of the first behind it, each as 8 bytes
+abbrev pub with_initrd : Option Region → Devicetree → Result Devicetree FdtFault
+with_initrd None t = Ok t
+with_initrd (Some r) t = do
+  started ← chosen (codes "linux,initrd-start") (to_be_bytes w64 r.base) t
+  chosen (codes "linux,initrd-end") (to_be_bytes w64 r.end) started
+
+abbrev pub with_memory : Option Region → Devicetree → Result Devicetree FdtFault
+with_memory None t = Ok t
+with_memory (Some r) t = set_memory_at r.base (r.end - r.base) t
+
+-- the tree with all three
+abbrev pub changed : Told → Devicetree → Result Devicetree FdtFault
+changed c t = do
+  commanded ← with_bootargs c.bootargs t
+  started ← with_initrd c.initrd commanded
+  with_memory c.memory started
+
+-- what is written of a tree, unless it is more than a devicetree may have
+abbrev pub file_of : Devicetree → Result (List ℕ) FdtFault
+file_of t = if nat_lt 2097152 (length (written t)) then Err TooLarge else Ok (written t)
+
+-- the bytes of a devicetree that was changed, or why it cannot be: reading, changing, writing
+unfoldable pub edited : Told → List ℕ → Result (List ℕ) FdtFault
+edited c bytes = do
+  t ← tree_at bytes
+  u ← changed c t
+  file_of u

@@ -1,0 +1,102 @@
+//! Where a launch's items stand, as the layers above use it.
+use crate::rec::PlacedRec;
+use std::marker::Model;
+
+/// Where the bytes of an item's contents come from. Files come before edited devicetrees.
+#[derive(Clone, Copy, Debug, PartialEq, Eq)]
+pub enum Source {
+    /// The file of this number.
+    File(usize),
+    /// The devicetree that was changed for the launch of this number.
+    Edited(usize),
+}
+
+/// An item that has its place.
+#[derive(Clone, Copy, Debug, PartialEq, Eq)]
+pub struct PlacedItem {
+    /// Where its bytes come from.
+    pub source: Source,
+    /// The address of its first byte.
+    pub address: u64,
+    /// How many bytes after the start of a page that is, below 4096.
+    pub lead: u64,
+    /// How many pages it has.
+    pub pages: u64,
+    /// Whether they are measured.
+    pub measured: bool,
+}
+
+/// A launch that has its place in the realm's address space.
+#[derive(Drop)]
+pub struct Placed {
+    items: Vec<PlacedItem>,
+    recs: Vec<PlacedRec>,
+    edited: Option<Vec<u8>>,
+}
+
+impl Model for Placed {
+    ghost use Rattle.std.specs.Prelude.{option_map};
+    ghost use Rattle.ipa_layout.specs.Placements.{PlacedData};
+
+    ghost Value = { PlacedData };
+
+    ghost view = { λ p. record { items = p.items.items; recs = p.recs.items; edited = option_map (λ v. v.items) p.edited } };
+}
+
+impl Placed {
+    ghost use Rattle.std.specs.Prelude.{◌≡◌, option_map};
+    ghost use Rattle.ipa_layout.specs.PlacementViews.{contents};
+    ghost use Rattle.ipa_layout.specs.Placements.{contents_of};
+
+    /// These parts.
+    pub(crate) fn new(
+        items: Vec<PlacedItem>,
+        recs: Vec<PlacedRec>,
+        edited: Option<Vec<u8>>,
+    ) -> Placed
+        ensures { result ≡ record { items = items.items; recs = recs.items; edited = option_map (λ v. v.items) edited } }
+    {
+        Placed {
+            items,
+            recs,
+            edited,
+        }
+    }
+
+    /// Its items, in the order of the launch.
+    pub fn items(&self) -> &[PlacedItem]
+        ensures { result.now ≡ self.now.items }
+    {
+        self.items.as_slice()
+    }
+
+    /// Its RECs with their defaults filled in, in the order of the launch.
+    pub fn recs(&self) -> &[PlacedRec]
+        ensures { result.now ≡ self.now.recs }
+    {
+        self.recs.as_slice()
+    }
+
+    /// The bytes of the devicetree that was changed before it was placed, where there is one.
+    pub fn edited(&self) -> Option<&[u8]>
+        ensures { option_map (λ b. b.now) result ≡ self.now.edited }
+    {
+        match &self.edited {
+            Some(bytes) => Some(bytes.as_slice()),
+            None => None,
+        }
+    }
+
+    /// The bytes that come from a source: a file of the release, or the changed devicetree.
+    pub fn bytes<'a>(&'a self, files: &'a [Vec<u8>], source: Source) -> &'a [u8]
+        ensures { result.now ≡ contents_of (contents files.now) self.now source }
+    {
+        match source {
+            Source::File(number) => match files.get(number) {
+                Some(bytes) => bytes.as_slice(),
+                None => &[],
+            },
+            Source::Edited(_) => self.edited().unwrap_or(&[]),
+        }
+    }
+}
