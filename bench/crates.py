@@ -15,45 +15,46 @@ import time
 top = os.path.dirname(os.path.dirname(os.path.abspath(__file__)))
 
 
-def built(folder):
-    """The program, in a copy of the repository that has it as a crate."""
+def built(folder, name, uses, words):
+    """The program of that name in bench/, in a copy of the repository that has it as a crate with these libraries, run once."""
     shutil.copytree(os.path.join(top, "crates"), os.path.join(folder, "crates"), ignore=shutil.ignore_patterns("out"))
-    crate = os.path.join(folder, "crates", "timed")
+    crate = os.path.join(folder, "crates", name)
     os.makedirs(os.path.join(crate, "src"))
-    shutil.copy(os.path.join(top, "bench", "timed", "main.rt.in"), os.path.join(crate, "src", "main.rt"))
+    shutil.copy(os.path.join(top, "bench", name, "main.rt.in"), os.path.join(crate, "src", "main.rt"))
     shutil.copy(os.path.join(top, "HANDLES"), folder)
     with open(os.path.join(top, "crates.txt")) as lines, open(os.path.join(folder, "crates.txt"), "w") as file:
-        file.write(lines.read() + "timed: rim_desc rmm_model rmm_monitor page_jobs\n")
-    subprocess.run(["rt", "run", "--", "bytes"], cwd=crate, check=True, capture_output=True)
-    return os.path.join(crate, "out", "timed")
+        file.write(lines.read() + f"{name}: {uses}\n")
+    subprocess.run(["rt", "run", "--", *words], cwd=crate, check=True, capture_output=True)
+    return os.path.join(crate, "out", name)
 
 
-def least(program, work, runs):
-    """The least time of some runs in seconds, and the most memory of one in MB."""
+def least(program, words, runs):
+    """The least time of some runs with these words in seconds, and the most memory of one in MB."""
     times, sizes = [], []
     for _ in range(runs):
         start = time.perf_counter()
-        ran = subprocess.Popen([program, work], stdout=subprocess.DEVNULL)
+        ran = subprocess.Popen([program, *words], stdout=subprocess.DEVNULL)
         _, status, usage = os.wait4(ran.pid, 0)
         times.append(time.perf_counter() - start)
         sizes.append(usage.ru_maxrss / 1024)
         if status != 0:
-            raise SystemExit(f"{work}: failed")
+            raise SystemExit(f"{' '.join(words)}: failed")
     return min(times), max(sizes)
 
 
 def main():
     runs = int(sys.argv[1]) if len(sys.argv) > 1 else 5
     with tempfile.TemporaryDirectory() as folder:
-        program = built(folder)
-        hashes = least(program, "descriptors", runs)[0]
-        data, data_size = least(program, "data", runs)
-        ripas, ripas_size = least(program, "ripas", runs)
-        made = least(program, "bytes", runs)[0]
-        slices, pages, lead = (least(program, work, runs)[0] - made for work in ["slices", "pages", "lead"])
+        program = built(folder, "timed", "rim_desc rmm_model rmm_monitor page_jobs", ["bytes"])
+        hashes = least(program, ["descriptors"], runs)[0]
+        data, data_size = least(program, ["data"], runs)
+        ripas, ripas_size = least(program, ["ripas"], runs)
+        made = least(program, ["bytes"], runs)[0]
+        slices, pages, lead = (least(program, [work], runs)[0] - made for work in ["slices", "pages", "lead"])
     print(f"1,048,576 pages delegated, made RAM and created: {data:.2f} s, {data_size:.0f} MB; their hashes {hashes / 2:.2f} s")
     print(f"4,194,304 entries made RAM: {ripas:.2f} s, {ripas_size:.0f} MB; their hashes {hashes:.2f} s")
     print(f"65,536 pages hashed: {pages:.3f} s, with a lead {lead:.3f} s; their slices alone {slices:.3f} s")
 
 
-main()
+if __name__ == "__main__":
+    main()

@@ -1,7 +1,8 @@
-//! Files as large as they may be. Each is to be read in a moment, whatever it holds.
+//! Files as large as they may be. Each is to be read and written in a moment, whatever it holds.
 
 use crate::files::{BEGIN_NODE, END, END_NODE, PROP, file, push_word, words};
-use fdt_tree::{FdtFault, read};
+use crate::vectors::EMPTY;
+use fdt_tree::{FdtFault, Tree, read};
 use std::alloc::Global;
 use std::test::Fail;
 
@@ -55,6 +56,19 @@ fn many_ends_of_one_name(rt: HostRuntime) -> Result<(), Fail> {
         )
         .is_some()
     );
+    assert_eq!(rt; tree.write(alloc).err(), Some(FdtFault::TooLarge));
+    Ok(())
+}
+
+#[test]
+fn one_long_name_of_many(rt: HostRuntime) -> Result<(), Fail> {
+    let alloc = rt.alloc();
+    let mut strings = letters(alloc, 1_048_576)?;
+    strings.push(0)?;
+    let block = properties(alloc, 60_000, 1)?;
+    let bytes = file(alloc, block.as_slice(), strings.as_slice())?;
+    let tree = read(alloc, bytes.as_slice())?;
+    assert!(rt; tree.write(alloc)? == bytes);
     Ok(())
 }
 
@@ -102,5 +116,34 @@ fn many_nodes(rt: HostRuntime) -> Result<(), Fail> {
     let bytes = file(alloc, block.as_slice(), b"")?;
     let tree = read(alloc, bytes.as_slice())?;
     assert_eq!(rt; tree.root().children.len(), 174_000);
+    Ok(())
+}
+
+// An empty root that got a property of this name, whose value is so many letters.
+fn with_value(alloc: Global, name: &[u8], count: u32) -> Result<Tree, Fail> {
+    let value = letters(alloc, count)?;
+    let mut tree = read(alloc, &EMPTY)?;
+    tree.set(alloc, b"/", name, value.as_slice())?;
+    Ok(tree)
+}
+
+// 88 bytes stand around the value: the header, the reservations, five words and the end of the padding,
+// and the name.
+#[test]
+fn as_large_as_may_be(rt: HostRuntime) -> Result<(), Fail> {
+    let alloc = rt.alloc();
+    let tree = with_value(alloc, b"abc", 2_097_064)?;
+    let bytes = tree.write(alloc)?;
+    assert_eq!(rt; bytes.len(), 2_097_152);
+    let again = read(alloc, bytes.as_slice())?;
+    assert!(rt; again.get(b"/", b"abc") == tree.get(b"/", b"abc"));
+    Ok(())
+}
+
+#[test]
+fn one_byte_too_large(rt: HostRuntime) -> Result<(), Fail> {
+    let alloc = rt.alloc();
+    let tree = with_value(alloc, b"abcd", 2_097_064)?;
+    assert_eq!(rt; tree.write(alloc).err(), Some(FdtFault::TooLarge));
     Ok(())
 }

@@ -10,6 +10,8 @@ mod large;
 #[cfg(test)]
 mod reading;
 #[cfg(test)]
+mod refused;
+#[cfg(test)]
 mod vectors;
 #[cfg(test)]
 mod writing;

@@ -1,5 +1,5 @@
 use crate::files::{BEGIN_NODE, END, END_NODE, NOP, PROP, file, with_word, words};
-use crate::vectors::{CHOSEN, EMPTY, SUFFIX};
+use crate::vectors::{CHOSEN, DTC, EMPTY, NOPS, SUFFIX};
 use fdt_tree::read;
 use std::alloc::Global;
 use std::test::Fail;
@@ -29,6 +29,34 @@ fn the_boot_cpu_comes_back(rt: HostRuntime) -> Result<(), Fail> {
     let alloc = rt.alloc();
     let bytes = with_word(alloc, &CHOSEN, 28, 0x102_0304)?;
     assert_eq!(rt; again(alloc, &bytes)?.as_slice(), bytes.as_slice());
+    Ok(())
+}
+
+// With the reservation, and in dtc's order of names.
+#[test]
+fn what_dtc_makes_comes_back(rt: HostRuntime) -> Result<(), Fail> {
+    let alloc = rt.alloc();
+    assert_eq!(rt; again(alloc, &DTC)?.as_slice(), DTC.as_slice());
+    Ok(())
+}
+
+// Without the NOPs, the names that only they had, and the slack.
+#[test]
+fn what_libfdt_took_out_is_left_out(rt: HostRuntime) -> Result<(), Fail> {
+    let alloc = rt.alloc();
+    assert_eq!(rt; again(alloc, &NOPS)?.as_slice(), DTC.as_slice());
+    Ok(())
+}
+
+// As `dtc -S 512` makes it: 512 bytes by its header, zeros behind the strings.
+#[test]
+fn slack_behind_is_left_out(rt: HostRuntime) -> Result<(), Fail> {
+    let alloc = rt.alloc();
+    let mut bytes = with_word(alloc, &DTC, 4, 512)?;
+    for _ in DTC.len()..512 {
+        bytes.push(0)?;
+    }
+    assert_eq!(rt; again(alloc, &bytes)?.as_slice(), DTC.as_slice());
     Ok(())
 }
 

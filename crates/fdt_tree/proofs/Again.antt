@@ -78,7 +78,7 @@ begin_again p name pad rest h ok =
     let low : ltb p.depth 64 ≡ true = lt-ltb _ _ ok.1 in
     rw (named, padded, legal_here, low) refl
 
-inside : (offset : ℕ) (strings name others : List ℕ) → drop offset strings ≡ name ++ (0 ∷ others) → offset < length strings
+pub inside : (offset : ℕ) (strings name others : List ℕ) → drop offset strings ≡ name ++ (0 ∷ others) → offset < length strings
 inside offset strings name others e = omega (arith, ap length e, length-drop offset strings, length-append name (0 ∷ others))
 
 pub name_again : (strings : List ℕ) (offset : ℕ) (name : List ℕ) → StandsAt strings offset name → legal name ≡ true → name_at strings offset ≡ Ok name

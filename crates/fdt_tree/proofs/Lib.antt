@@ -1,6 +1,6 @@
 pub mod Faults
-pub mod FirstZero
 pub mod NameRuns
+pub mod Fronts
 pub mod Scans
 pub mod Open
 pub mod Accepting
@@ -22,3 +22,5 @@ pub mod TreesAt
 pub mod FirstFaults
 pub mod Tables
 pub mod Writes
+pub mod WrittenText
+pub mod WrittenFile

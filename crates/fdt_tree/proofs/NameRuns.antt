@@ -1,9 +1,9 @@
 -- What a strings block says of its names, found from the runs of letters and the last zero byte.
-use Rattle.std.proofs.Common.{◌≡◌, ℕ, zero, suc, ◌+◌, ◌<◌, ◌≤◌, Bool, true, false, cond, ltb, eqb, List, [], ◌∷◌, ◌++◌, length, get_or, set, take, drop, Option, Some, None, Ok, Err, refl, sym, ap, subst, ◌∙◌, arith, inl, inr, ◌⊎◌}
+use Rattle.std.proofs.Common.{◌≡◌, ℕ, zero, suc, ◌+◌, ◌<◌, ◌≤◌, Bool, true, false, cond, ltb, eqb, List, [], ◌∷◌, ◌++◌, length, get_or, take, drop, Option, Some, None, Ok, Err, refl, sym, ap, subst, ◌∙◌, arith, inl, inr, ◌⊎◌}
 use Rattle.std.specs.Prelude.{◌&&◌}
 use Rattle.std.proofs.lemmas.Bool.{cases_lt, lt-ltb, le-ltb, cases_Bool}
 use Rattle.std.proofs.lemmas.Bool.Decides.{nat_tests}
-use Rattle.std.proofs.lemmas.List.{at_drop_more, take_more, drop-set, length-drop, length-take-le, get_or-drop}
+use Rattle.std.proofs.lemmas.List.{take_more, length-drop, length-take-le, get_or-drop}
 use Rattle.fdt_tree.specs.declared.fault.FdtFault.TheVariants.{BadName, BadString}
 use Rattle.fdt_tree.specs.Steps.{◌>>=◌}
 use Rattle.fdt_tree.specs.Names.{letter, all_letters, legal}
@@ -14,9 +14,6 @@ use Rattle.fdt_tree.specs.Scanning.{until_zero, string_at, name_at}
 
 abbrev end_step : ℕ → ℕ → ℕ
 end_step c z = cond (ltb 0 z) (suc z) (cond (eqb c 0) 1 0)
-
-push_step : (c z x n : ℕ) → z ≡ cond (eqb x 0) (n + 1) z → end_step c z ≡ cond (eqb x 0) (suc n + 1) (end_step c z)
-push_step c z x n h = grind (arith, nat_tests)
 
 pub zero_end_push : (xs : List ℕ) (x : ℕ) → zero_end (xs ++ x ∷ []) ≡ cond (eqb x 0) (length xs + 1) (zero_end xs)
 zero_end_push [] x = refl
@@ -69,18 +66,6 @@ run_at (c ∷ cs) (suc o) = run_at cs o
 pub length-letter_runs : (s : List ℕ) → length (letter_runs s) ≡ length s
 length-letter_runs [] = refl
 length-letter_runs (c ∷ cs) = ap suc (length-letter_runs cs)
-
-pub run_more : (bytes : List ℕ) (k run : ℕ) → k < length bytes → run ≡ letter_run (drop (k + 1) bytes) → cond (letter (get_or bytes k 0)) (run + 1) 0 ≡ letter_run (drop k bytes)
-run_more bytes k run lt e =
-    let more : suc run ≡ run + 1 = omega arith in
-    sym (at_drop_more letter_run bytes k 0 lt ∙ rw (sym e, more) refl)
-
-pub runs_more : (bytes runs : List ℕ) (k run : ℕ) → k < length bytes → length runs ≡ length bytes → run ≡ letter_run (drop k bytes) → drop (k + 1) runs ≡ letter_runs (drop (k + 1) bytes)
-    → drop k (set runs k run) ≡ letter_runs (drop k bytes)
-runs_more bytes runs k run lt len here later =
-    let inside : k < length runs = omega arith in
-    let head : letter_run (get_or bytes k 0 ∷ drop (k + 1) bytes) ≡ run = sym (here ∙ at_drop_more letter_run bytes k 0 lt) in
-    drop-set runs k run inside ∙ ap (λ (xs : List ℕ). run ∷ xs) later ∙ ap (λ (n : ℕ). n ∷ letter_runs (drop (k + 1) bytes)) (sym head) ∙ sym (at_drop_more letter_runs bytes k 0 lt)
 
 -- ---- a name
 

@@ -3,13 +3,13 @@ use Rattle.std.proofs.Common.{◌≡◌, ℕ, zero, suc, ◌+◌, ◌-◌, ◌^�
 use Rattle.std.specs.Int.{w64, to_be_bytes, from_be_bytes}
 use Rattle.std.proofs.lemmas.Bool.{le-ltb, ltb-false}
 use Rattle.std.proofs.lemmas.Bool.Decides.{nat_tests}
-use Rattle.std.proofs.lemmas.List.{append-nil, take_at, drop_at, take-append-drop, drop-drop, length-append, length-take, length-drop}
+use Rattle.std.proofs.lemmas.List.{take_at, drop_at, take-append-drop, drop-drop, length-append, length-take, length-drop}
 use Rattle.std.proofs.lemmas.Nat.{be_bytes_8, from_be_bytes-to_be_bytes_8}
 use Rattle.fdt_tree.specs.declared.fault.FdtFault.{FdtFault}
 use Rattle.fdt_tree.specs.declared.fault.FdtFault.TheVariants.{BadReserve}
 use Rattle.fdt_tree.specs.declared.tree.Reservation.{Reservation}
-use Rattle.fdt_tree.specs.Steps.{◌>>=◌}
-use Rattle.fdt_tree.specs.Reservations.{AreReservations, SpellsReservations, pair_text, pair_at, pairs_at, is_end, behind_pairs}
+use Rattle.fdt_tree.specs.Steps.{◌>>=◌, with_front}
+use Rattle.fdt_tree.specs.Reservations.{AreReservations, SpellsReservations, pair_text, pair_at, pairs_at, is_end}
 use Rattle.fdt_tree.proofs.Takes.{IsBytes, bind_ok}
 use Rattle.fdt_tree.proofs.TokenTakes.{IsBytes-drop, IsBytes-take, unless}
 
@@ -18,34 +18,22 @@ use Rattle.fdt_tree.proofs.TokenTakes.{IsBytes-drop, IsBytes-take, unless}
 abbrev next_pairs : ℕ → Reservation × List ℕ → Result (List Reservation) FdtFault
 next_pairs n x = cond (is_end x.0) (Ok []) (pairs_at n x.1 >>= λ rs. Ok (x.0 ∷ rs))
 
-regroup : (front : List Reservation) (r : Reservation) (more : Result (List Reservation) FdtFault) → behind_pairs front (more >>= λ rs. Ok (r ∷ rs)) ≡ behind_pairs (front ++ r ∷ []) more
-regroup front r (Ok rs) = ap (λ (xs : List Reservation). Ok xs) (sym (append_assoc front (r ∷ []) rs))
-regroup front r (Err f) = refl
-
 one_more : (count i : ℕ) (bytes : List ℕ) → i < count → pairs_at (count - i) bytes ≡ (pair_at bytes >>= next_pairs (count - (i + 1)))
 unfolding pairs_at
 one_more count i bytes lt = let k : count - i ≡ suc (count - (i + 1)) = omega arith in rw k refl
 
-pub goes_on : (count i : ℕ) (bytes rest : List ℕ) (r : Reservation) (front front' : List Reservation) (total : Result (List Reservation) FdtFault)
-    → i < count → pair_at bytes ≡ Ok (r, rest) → is_end r ≡ false → front' ≡ front ++ r ∷ []
-    → behind_pairs front (pairs_at (count - i) bytes) ≡ total → behind_pairs front' (pairs_at (count - (i + 1)) rest) ≡ total
-goes_on count i bytes rest r front front' total lt h more e so_far =
-    let one : behind_pairs front (pairs_at (count - i) bytes) ≡ behind_pairs front (pairs_at (count - (i + 1)) rest >>= λ rs. Ok (r ∷ rs)) = ap (behind_pairs front) (one_more count i bytes lt) ∙ rw (h, more) refl in
-    rw e (sym (regroup front r (pairs_at (count - (i + 1)) rest)) ∙ sym one ∙ so_far)
+pub pairs_go_on : (count i : ℕ) (bytes rest : List ℕ) (r : Reservation) → i < count → pair_at bytes ≡ Ok (r, rest) → is_end r ≡ false → pairs_at (count - i) bytes ≡ with_front (r ∷ []) (pairs_at (count - (i + 1)) rest)
+pairs_go_on count i bytes rest r lt h more = one_more count i bytes lt ∙ rw (h, more) refl
 
-pub fails : (count i : ℕ) (bytes : List ℕ) (f : FdtFault) (front : List Reservation) (total : Result (List Reservation) FdtFault)
-    → i < count → pair_at bytes ≡ Err f → behind_pairs front (pairs_at (count - i) bytes) ≡ total → total ≡ Err f
-fails count i bytes f front total lt h so_far = sym so_far ∙ ap (behind_pairs front) (one_more count i bytes lt) ∙ rw h refl
+pub pairs_fail : (count i : ℕ) (bytes : List ℕ) (f : FdtFault) → i < count → pair_at bytes ≡ Err f → pairs_at (count - i) bytes ≡ Err f
+pairs_fail count i bytes f lt h = one_more count i bytes lt ∙ rw h refl
 
-pub ends : (count i : ℕ) (bytes rest : List ℕ) (r : Reservation) (front : List Reservation) (total : Result (List Reservation) FdtFault)
-    → i < count → pair_at bytes ≡ Ok (r, rest) → is_end r ≡ true → behind_pairs front (pairs_at (count - i) bytes) ≡ total → total ≡ Ok front
-ends count i bytes rest r front total lt h last so_far =
-    sym so_far ∙ ap (behind_pairs front) (one_more count i bytes lt) ∙ rw (h, last) (ap (λ (rs : List Reservation). Ok rs) (append-nil front))
+pub pairs_end : (count i : ℕ) (bytes rest : List ℕ) (r : Reservation) → i < count → pair_at bytes ≡ Ok (r, rest) → is_end r ≡ true → pairs_at (count - i) bytes ≡ Ok []
+pairs_end count i bytes rest r lt h last = one_more count i bytes lt ∙ rw (h, last) refl
 
-pub is_over : (count i : ℕ) (bytes : List ℕ) (front : List Reservation) (total : Result (List Reservation) FdtFault)
-    → count ≤ i → behind_pairs front (pairs_at (count - i) bytes) ≡ total → total ≡ Err BadReserve
+pub pairs_over : (count i : ℕ) (bytes : List ℕ) → count ≤ i → pairs_at (count - i) bytes ≡ Err BadReserve
 unfolding pairs_at
-is_over count i bytes front total le so_far = let k : count - i ≡ 0 = omega arith in sym so_far ∙ rw k refl
+pairs_over count i bytes le = let k : count - i ≡ 0 = omega arith in rw k refl
 
 -- ---- what is spelled is read
 

@@ -1,5 +1,5 @@
 -- The table of names, and a name that is added.
-use Rattle.std.proofs.Common.{◌≡◌, ℕ, ◌+◌, ◌<◌, ◌≤◌, Bool, true, false, cond, List, [], ◌∷◌, ◌++◌, length, Option, Some, None, Result, Ok, Err, IfOk, refl, sym, ap, ◌∙◌, append_assoc, arith, subst}
+use Rattle.std.proofs.Common.{◌≡◌, ℕ, ◌+◌, ◌<◌, ◌≤◌, Bool, true, false, cond, List, [], ◌∷◌, ◌++◌, length, take, drop, Option, Some, None, Result, Ok, Err, IfOk, refl, sym, ap, ◌∙◌, append_assoc, arith, subst}
 use Rattle.std.proofs.lemmas.List.{length-append}
 use Rattle.std.specs.declared.vec.Vec.{Vec}
 use Rattle.std.specs.BTreeMap.{BTreeMap, get_by, UpdatesBy}
@@ -71,6 +71,32 @@ offset_kept (n ∷ ns) more name h = go (bytes_eq name n) h (offset_kept ns more
     go true q ih = refl
     go false q ih = ap (λ (m : ℕ). length n + 1 + m) (ih q)
 
+-- ---- where a name is, and where it is noted
+
+present : (names : List (List ℕ)) (name : List ℕ) (at : ℕ) → place_in names name ≡ Some at → (is_among name names ≡ true) × (offset_in names name ≡ at)
+present names name at h = go (is_among name names) refl h
+  where
+    go : (b : Bool) → is_among name names ≡ b → cond b (Some (offset_in names name)) None ≡ Some at → (is_among name names ≡ true) × (offset_in names name ≡ at)
+    go true e q = (e, cc)
+    go false e q = absurd cc
+
+pub is_noted : (names : List (List ℕ)) (name : List ℕ) → is_among name (noted names name) ≡ true
+is_noted names name = go (is_among name names) refl
+  where
+    go : (b : Bool) → is_among name names ≡ b → is_among name (cond b names (names ++ name ∷ [])) ≡ true
+    go true e = e
+    go false e = any_push name names name ∙ ap (λ (x : Bool). cond x true (bytes_eq name name)) e ∙ same_bytes name
+
+pub place_noted : (names : List (List ℕ)) (name : List ℕ) (at : ℕ) → at ≡ offset_in (noted names name) name → place_in (noted names name) name ≡ Some at
+place_noted names name at e = ap (λ (b : Bool). cond b (Some (offset_in (noted names name) name)) None) (is_noted names name) ∙ ap (λ (x : ℕ). Some x) (sym e)
+
+-- one more name leaves it where it is
+place_kept : (names : List (List ℕ)) (name q : List ℕ) (at : ℕ) → place_in names q ≡ Some at → place_in (names ++ name ∷ []) q ≡ Some at
+place_kept names name q at h =
+    let p = present names q at h in
+    let any : is_among q (names ++ name ∷ []) ≡ true = any_push q names name ∙ ap (λ (x : Bool). cond x true (bytes_eq q name)) p.0 in
+    ap (λ (b : Bool). cond b (Some (offset_in (names ++ name ∷ []) q)) None) any ∙ ap (λ (x : ℕ). Some x) (offset_kept names (name ∷ []) q p.0 ∙ p.1)
+
 absent : (names : List (List ℕ)) (name : List ℕ) → place_in names name ≡ None → is_among name names ≡ false
 absent names name h = go (is_among name names) h
   where
@@ -105,13 +131,14 @@ too_long names name at e h =
     let p = ap length (strings_push names name) in
     omega (arith, p, length-append (strings_text names ++ name) (0 ∷ []), length-append (strings_text names) name)
 
-pub has_one_more : (names : List (List ℕ)) (name : List ℕ) (old new : NameTable) (at : ℕ) → HasNames old names → place_in names name ≡ None → at ≡ length old.strings.items
+pub has_one_more : (source : List ℕ) (names : List (List ℕ)) (name : List ℕ) (old new : NameTable) (at : ℕ) → HasNames source old names → place_in names name ≡ None → at ≡ length old.strings.items
     → new.strings.items ≡ (old.strings.items ++ name) ++ 0 ∷ [] → ((q : List ℕ) → get_by (λ k. slice_cmp nat_cmp q k.items) new.offsets ≡ cond (bytes_eq name q) (Some at) (get_by (λ k. slice_cmp nat_cmp q k.items) old.offsets))
-    → HasNames new (names ++ name ∷ [])
-has_one_more names name old new at h missing here text map = record {
+    → new.ranges ≡ old.ranges → HasNames source new (names ++ name ∷ [])
+has_one_more source names name old new at h missing here text map kept = record {
   strings = text ∙ ap (λ (x : List ℕ). (x ++ name) ++ 0 ∷ []) h.strings ∙ sym (strings_push names name);
   offsets = λ q. map q ∙ ap (λ (o : Option ℕ). cond (bytes_eq name q) (Some at) o) (h.offsets q)
       ∙ ap (λ (x : ℕ). cond (bytes_eq name q) (Some x) (place_in names q)) (here ∙ ap length h.strings) ∙ sym (place_new names name q missing);
+  ranges = λ start r e. place_kept names name (take r.len (drop start source)) r.offset (h.ranges start r (ap (get_by (nat_cmp start)) (sym kept) ∙ e));
 }
 
 pub offset_noted : (names : List (List ℕ)) (name : List ℕ) → place_in names name ≡ None → offset_in (noted names name) name ≡ length (strings_text names)

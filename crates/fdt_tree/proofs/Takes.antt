@@ -76,9 +76,6 @@ cons strings p bytes t rest new ts own later same ok = record {
   accepted = ok;
 }
 
-joined_ok : (t : Token) (x : List Token) (ts : List Token) → ((let r : Result (List Token) FdtFault = Ok x in r) >>= λ us. Ok (t ∷ us)) ≡ Ok ts → t ∷ x ≡ ts
-joined_ok t x ts e = cc
-
 pub scan_takes : (strings : List ℕ) (takes : TakesTokens strings) (takes_end : TakesEnd strings) (n : ℕ) (p : Place) (bytes : List ℕ) (ts : List Token)
     → IsBytes bytes → scan strings n p bytes ≡ Ok ts → TookAll strings p bytes ts
 unfolding scan

@@ -56,12 +56,12 @@ names_grow names (finish ∷ ts) = names_grow names ts
 
 -- ---- tokens behind tokens
 
-pub HasTokens_then : (a b c : Output) (names : List (List ℕ)) (ts us : List Token) → HasTokens a b names ts → HasTokens b c (names_after names ts) us → HasTokens a c names (ts ++ us)
-HasTokens_then a b c names ts us h k = record {
+pub HasTokens_then : (strings : List ℕ) (a b c : Output) (names : List (List ℕ)) (ts us : List Token) → HasTokens strings a b names ts → HasTokens strings b c (names_after names ts) us → HasTokens strings a c names (ts ++ us)
+HasTokens_then strings a b c names ts us h k = record {
   text = k.text ∙ ap (λ (x : List ℕ). x ++ text_after (names_after names ts) us) h.text
       ∙ append_assoc a.structure.items (text_after names ts) (text_after (names_after names ts) us)
       ∙ ap (λ (x : List ℕ). a.structure.items ++ x) (sym (text_append us names ts));
-  known = subst (HasNames c.names) (sym (names_append names ts us)) k.known;
+  known = subst (HasNames strings c.names) (sym (names_append names ts us)) k.known;
 }
 
 -- what is too much is so with tokens in front of it and behind it
@@ -141,19 +141,19 @@ front_fails strings n name ps names e p q h =
     (subst (λ (ts : List Token). TooMuch e (size_of names ts)) (front_same strings n name ps p q) h))
 
 pub begun : (strings : List ℕ) (n : Node) (name : List ℕ) (ps : List Property) (names : List (List ℕ)) (a b : Output) → name ≡ (out-Node n).name.items → ps ≡ (out-Node n).properties.items
-    → HasTokens a b names (begin_node name ∷ tokens_of_entries strings ps) → HasTokens a b names (front_of strings n ++ [])
-begun strings n name ps names a b p q h = subst (λ (ts : List Token). HasTokens a b names ts) (front_same strings n name ps p q ∙ sym (append-nil (front_of strings n))) h
+    → HasTokens strings a b names (begin_node name ∷ tokens_of_entries strings ps) → HasTokens strings a b names (front_of strings n ++ [])
+begun strings n name ps names a b p q h = subst (λ (ts : List Token). HasTokens strings a b names ts) (front_same strings n name ps p q ∙ sym (append-nil (front_of strings n))) h
 
 module _ (strings : List ℕ) (node : Node) (items : List Node) (i : ℕ) (names : List (List ℕ)) where
   abbrev so_far : List Token
   so_far = front_of strings node ++ tokens_of_nodes strings (take i items)
 
-  pub child_put : (n : Node) (a b c : Output) → i < length items → n ≡ get_or items i n → HasTokens a b names so_far → HasTokens b c (names_after names so_far) (tokens_of_nodes strings (n ∷ []))
-      → HasTokens a c names (front_of strings node ++ tokens_of_nodes strings (take (i + 1) items))
+  pub child_put : (n : Node) (a b c : Output) → i < length items → n ≡ get_or items i n → HasTokens strings a b names so_far → HasTokens strings b c (names_after names so_far) (tokens_of_nodes strings (n ∷ []))
+      → HasTokens strings a c names (front_of strings node ++ tokens_of_nodes strings (take (i + 1) items))
   child_put n a b c lt is h k =
-      subst (λ (ts : List Token). HasTokens a c names ts)
+      subst (λ (ts : List Token). HasTokens strings a c names ts)
       (append_assoc (front_of strings node) (tokens_of_nodes strings (take i items)) (tokens_of_nodes strings (n ∷ [])) ∙ ap (λ (x : List Token). front_of strings node ++ x) (sym (one_more_node strings items i n lt is)))
-      (HasTokens_then a b c names so_far (tokens_of_nodes strings (n ∷ [])) h k)
+      (HasTokens_then strings a b c names so_far (tokens_of_nodes strings (n ∷ [])) h k)
 
   pub child_fails : (n : Node) (e : FdtFault) → items ≡ (out-Node node).children.items → i < length items → n ≡ get_or items i n → TooMuch e (size_of (names_after names so_far) (tokens_of_nodes strings (n ∷ [])))
       → TooMuch e (size_of names (tokens_of_nodes strings (node ∷ [])))
@@ -171,14 +171,14 @@ module _ (strings : List ℕ) (node : Node) (items : List Node) (i : ℕ) (names
       ∙ sym (append_assoc (front_of strings node) (tokens_of_nodes strings (take i items)) (this ++ (behind ++ end_node ∷ []))) in
       subst (λ (ts : List Token). TooMuch e (size_of names ts)) (sym whole) (too_much_then e names so_far this (behind ++ end_node ∷ []) h)
 
-  pub ended : (a b c : Output) → items ≡ (out-Node node).children.items → length items ≤ i → HasTokens a b names so_far → HasTokens b c (names_after names so_far) (end_node ∷ [])
-      → HasTokens a c names (tokens_of_nodes strings (node ∷ []))
+  pub ended : (a b c : Output) → items ≡ (out-Node node).children.items → length items ≤ i → HasTokens strings a b names so_far → HasTokens strings b c (names_after names so_far) (end_node ∷ [])
+      → HasTokens strings a c names (tokens_of_nodes strings (node ∷ []))
   ended a b c of_node le h k =
       let whole : so_far ++ end_node ∷ [] ≡ tokens_of_nodes strings (node ∷ []) =
       append_assoc (front_of strings node) (tokens_of_nodes strings (take i items)) (end_node ∷ [])
       ∙ ap (λ (x : List Node). front_of strings node ++ (tokens_of_nodes strings x ++ end_node ∷ [])) (take_all i items le ∙ of_node)
       ∙ sym (node_tokens strings node) in
-      subst (λ (ts : List Token). HasTokens a c names ts) whole (HasTokens_then a b c names so_far (end_node ∷ []) h k)
+      subst (λ (ts : List Token). HasTokens strings a c names ts) whole (HasTokens_then strings a b c names so_far (end_node ∷ []) h k)
 
 -- ---- the file
 

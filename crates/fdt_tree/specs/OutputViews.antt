@@ -10,10 +10,10 @@ use Rattle.fdt_tree.specs.NodeViews.{entry_of, branches}
 use Rattle.fdt_tree.specs.Writing.{names_after, text_after, strings_text}
 use Rattle.fdt_tree.specs.NameTables.{HasNames}
 
--- the tokens are put behind what was there
-pub record HasTokens (old new : Output) (names : List (List ℕ)) (ts : List Token) : Type 0 where
+-- the tokens of a tree with these strings are put behind what was there
+pub record HasTokens (strings : List ℕ) (old new : Output) (names : List (List ℕ)) (ts : List Token) : Type 0 where
   pub text : new.structure.items ≡ old.structure.items ++ text_after names ts
-  pub known : HasNames new.names (names_after names ts)
+  pub known : HasNames strings new.names (names_after names ts)
 
 -- how many bytes the tokens take, with all names so far
 abbrev pub size_of : List (List ℕ) → List Token → ℕ

@@ -42,7 +42,3 @@ pairs_at (suc n) bytes =
 
 abbrev pub reservations_at : List ℕ → Result (List Reservation) FdtFault
 reservations_at block = pairs_at (length block) block
-
--- the pairs before, and those that are still read
-abbrev pub behind_pairs : List Reservation → Result (List Reservation) FdtFault → Result (List Reservation) FdtFault
-behind_pairs front read = read >>= λ rs. Ok (front ++ rs)

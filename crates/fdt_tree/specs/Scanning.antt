@@ -1,7 +1,7 @@
 -- The structure block token by token: Devicetree Specification 0.4, sections 5.4 and 5.5. What the first
 -- token of some bytes is, or its fault. Which of several faults it is, and that no node is deeper than
 -- 64, is this project's choice.
-use Rattle.std.specs.Prelude.{ℕ, zero, suc, ◌+◌, ◌-◌, ◌%◌, List, [], ◌∷◌, ◌++◌, length, take, drop, Bool, true, false, Option, Some, None, Result, Ok, Err, nat_lt, ◌==◌, ◌&&◌, not, if◌then◌else◌}
+use Rattle.std.specs.Prelude.{ℕ, zero, suc, ◌+◌, ◌-◌, ◌%◌, List, [], ◌∷◌, length, take, drop, Bool, true, false, Option, Some, None, Result, Ok, Err, nat_lt, ◌==◌, ◌&&◌, not, if◌then◌else◌}
 use Rattle.std.specs.Int.{w32, from_be_bytes}
 use Rattle.fdt_tree.specs.declared.fault.FdtFault.{FdtFault}
 use Rattle.fdt_tree.specs.declared.fault.FdtFault.TheVariants.{BadToken, BadName, BadString, LateProperty, TooDeep}
@@ -107,7 +107,3 @@ scan strings (suc n) p bytes = token_at strings p bytes >>= λ t. joins t.0 (sca
 -- the tokens of a structure block
 abbrev pub structure_at : List ℕ → List ℕ → Result (List Token) FdtFault
 structure_at strings block = scan strings (length block) start block
-
--- the tokens before, and those that are still read
-abbrev pub with_front : {X E : Type 0} → List X → Result (List X) E → Result (List X) E
-with_front front read = read >>= λ ts. Ok (front ++ ts)

@@ -1,5 +1,5 @@
 -- Steps that may fail.
-use Rattle.std.specs.Prelude.{◌≡◌, Result, Ok, Err}
+use Rattle.std.specs.Prelude.{◌≡◌, List, ◌++◌, Result, Ok, Err}
 use Rattle.fdt_tree.specs.declared.fault.FdtFault.{FdtFault}
 use Rattle.fdt_tree.specs.declared.fault.FdtFault.TheVariants.{NoMemory}
 
@@ -7,6 +7,10 @@ infixl 10 ◌>>=◌
 abbrev pub ◌>>=◌ : {A B E : Type 0} → Result A E → (A → Result B E) → Result B E
 (Ok x) >>= f = f x
 (Err e) >>= f = Err e
+
+-- what was read before, and what is still read
+abbrev pub with_front : {A E : Type 0} → List A → Result (List A) E → Result (List A) E
+with_front front read = read >>= λ xs. Ok (front ++ xs)
 
 -- What a function returned, seen by view, is what reading gives.
 abbrev pub Matches : {X Y : Type 0} → (X → Y) → Result X FdtFault → Result Y FdtFault → Type 0

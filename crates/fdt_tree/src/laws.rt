@@ -1,12 +1,14 @@
 //! Laws of the flattened format: functions that do nothing, whose contracts are the laws.
 
-ghost use Rattle.std.specs.Prelude.{◌≡◌, ◌<◌, ◌↔◌, ℕ, List, All, None, Ok, Err};
+ghost use Rattle.std.specs.Prelude.{◌≡◌, ◌<◌, ◌≤◌, ◌^◌, ◌++◌, ◌↔◌, ℕ, List, All, None, Ok, Err, length};
 ghost use Rattle.fdt_tree.specs.declared.fault.FdtFault.{FdtFault};
 ghost use Rattle.fdt_tree.specs.Devicetree.{Devicetree};
 ghost use Rattle.fdt_tree.specs.Scanning.{structure_at};
 ghost use Rattle.fdt_tree.specs.FirstFault.{IsFirstFault};
 ghost use Rattle.fdt_tree.specs.Reading.{Spells, refusal_of};
 ghost use Rattle.fdt_tree.specs.TreeAt.{tree_at};
+ghost use Rattle.fdt_tree.specs.Wholeness.{IsWhole};
+ghost use Rattle.fdt_tree.specs.Writing.{written};
 
 /// The same bytes spell at most one devicetree.
 pub fn one_tree()
@@ -32,4 +34,11 @@ pub fn refused_or_spelled()
 pub fn first_fault()
     ensures { (strings block : List ℕ) (f : FdtFault)
         → (structure_at strings block ≡ Err f) ↔ IsFirstFault strings block f }
+{}
+
+/// What is written of a devicetree spells it again, whatever follows, if all of it is not longer than a
+/// file may be. Each tree in memory is whole, and [`Tree::write`](crate::Tree::write) says the same of it.
+pub fn written_is_spelled()
+    ensures { (t : Devicetree) (z : List ℕ) → IsWhole t → t.boot_cpu < 2 ^ 32
+        → length (written t ++ z) ≤ 2097152 → Spells (written t ++ z) t }
 {}

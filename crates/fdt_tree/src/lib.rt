@@ -19,7 +19,9 @@ mod tree;
 mod writing;
 
 pub use crate::fault::FdtFault;
-pub use crate::laws::{first_fault, one_tree, refused_or_spelled, tree_at_is_spelled};
+pub use crate::laws::{
+    first_fault, one_tree, refused_or_spelled, tree_at_is_spelled, written_is_spelled,
+};
 pub use crate::node::{Name, Node, Property};
 pub use crate::reading::read;
 pub use crate::tree::{Reservation, Tree};

@@ -29,7 +29,8 @@ pub struct Node {
     pub children: Vec<Node>,
 }
 
-fn range_of(strings: &[u8], start: usize, len: usize) -> &[u8]
+/// So many of the strings from this one on, or as many as are there.
+pub(crate) fn range_of(strings: &[u8], start: usize, len: usize) -> &[u8]
     ensures { result.now ≡ take len (drop start strings.now) }
 {
     let rest = &strings[start.min(strings.len())..];

@@ -39,7 +39,8 @@ pub struct Tree {
 }
 
 impl Tree {
-    ghost use Rattle.std.specs.Prelude.{option_map, Ok, IfErr, IfOk, OnOk, OnErr, length, ◌≤◌};
+    ghost use Rattle.std.specs.Prelude.{option_map, ℕ, List, ◌++◌, Ok, IfErr, IfOk, OnOk, OnErr, length, ◌≤◌};
+    ghost use Rattle.fdt_tree.specs.Reading.{Spells};
     ghost use Rattle.fdt_tree.specs.Writing.{written};
     ghost use Rattle.fdt_tree.specs.NameTables.{TooMuch};
     ghost use Rattle.fdt_tree.specs.Memory.{set_memory_at};
@@ -147,11 +148,15 @@ impl Tree {
 
     /// The flattened devicetree of this tree, version 17: the header, the reservations at 40, the
     /// structure block without any NOP, and the strings, each name once in the order of first use. Nothing
-    /// stands between or behind them, and padding is zeros.
+    /// stands between or behind them, and padding is zeros. [`read`](crate::read) finds this tree in it
+    /// again, also where other bytes follow, up to the limit in all.
     ///
     /// `TooLarge`: the file would have more than 2,097,152 bytes. Else only memory may be refused.
     pub fn write(&self, alloc: Global) -> Result<Vec<u8>, FdtFault>
         ensures done { IfOk result (λ v. v.items ≡ written (devicetree_of self.now)) }
+        // The bytes spell this tree again, whatever follows them.
+        ensures again { IfOk result (λ v. (z : List ℕ) → length (v.items ++ z) ≤ 2097152
+            → Spells (v.items ++ z) (devicetree_of self.now)) }
         ensures within { IfOk result (λ v. length v.items ≤ 2097152) }
         ensures refused { IfErr result (λ e. TooMuch e (length (written (devicetree_of self.now)))) }
     {

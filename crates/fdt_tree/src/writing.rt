@@ -7,7 +7,8 @@ ghost use Rattle.fdt_tree.specs.NodeViews.{entry_of, branch};
 ghost use Rattle.fdt_tree.specs.Reservations.{pair_text};
 ghost use Rattle.fdt_tree.specs.Writing.{zeros_behind, begin_text, property_text, text_after, names_after, strings_text, reservations_text, places_text, versions_text, file_of, written};
 ghost use Rattle.fdt_tree.specs.NameTables.{HasNames, TooMuch};
-ghost use Rattle.fdt_tree.specs.Wholeness.{tree_in};
+ghost use Rattle.fdt_tree.specs.Wholeness.{IsWhole, tree_in};
+ghost use Rattle.fdt_tree.specs.Reading.{Spells};
 ghost use Rattle.fdt_tree.specs.OutputViews.{AreLengths, HasTokens, size_of, tokens_of_entries, tokens_of_nodes};
 
 use crate::fault::FdtFault;
@@ -68,30 +69,30 @@ fn put_property(
     strings: &[u8],
     entry: &Property,
 ) -> Result<(), FdtFault>
-    ensures done { (names : List (List ℕ)) → HasNames out.old.names names
-        → OnOk result (HasTokens out.old out.new names (property (entry_of strings.now entry.now) ∷ [])) }
-    ensures refused { (names : List (List ℕ)) → HasNames out.old.names names
+    ensures done { (names : List (List ℕ)) → HasNames strings.now out.old.names names
+        → OnOk result (HasTokens strings.now out.old out.new names (property (entry_of strings.now entry.now) ∷ [])) }
+    ensures refused { (names : List (List ℕ)) → HasNames strings.now out.old.names names
         → IfErr result (λ e. TooMuch e (size_of names (property (entry_of strings.now entry.now) ∷ []))) }
 {
     let value = entry.value.as_slice();
     if value.len() > MAX_LEN {
         return Err(FdtFault::TooLarge);
     }
-    let offset = out.names.offset_of(alloc, entry.name.bytes(strings))?;
+    let offset = out.names.offset_of(alloc, strings, &entry.name)?;
     put_text(&mut out.structure, offset, value.len() as u32, value)?;
     Ok(())
 }
 
 fn put_node_begin(out: &mut Output, name: &[u8]) -> Result<(), AllocError>
-    ensures { (names : List (List ℕ)) → HasNames out.old.names names
-        → OnOk result (HasTokens out.old out.new names (begin_node name.now ∷ [])) }
+    ensures { (strings : List ℕ) (names : List (List ℕ)) → HasNames strings out.old.names names
+        → OnOk result (HasTokens strings out.old out.new names (begin_node name.now ∷ [])) }
 {
     put_begin(&mut out.structure, name)
 }
 
 fn put_node_end(out: &mut Output) -> Result<(), AllocError>
-    ensures { (names : List (List ℕ)) → HasNames out.old.names names
-        → OnOk result (HasTokens out.old out.new names (end_node ∷ [])) }
+    ensures { (strings : List ℕ) (names : List (List ℕ)) → HasNames strings out.old.names names
+        → OnOk result (HasTokens strings out.old out.new names (end_node ∷ [])) }
 {
     put_word(&mut out.structure, 2)
 }
@@ -104,9 +105,9 @@ fn put_front(
     name: &[u8],
     properties: &[Property],
 ) -> Result<(), FdtFault>
-    ensures done { (names : List (List ℕ)) → HasNames out.old.names names
-        → OnOk result (HasTokens out.old out.new names (begin_node name.now ∷ tokens_of_entries strings.now properties.now)) }
-    ensures refused { (names : List (List ℕ)) → HasNames out.old.names names
+    ensures done { (names : List (List ℕ)) → HasNames strings.now out.old.names names
+        → OnOk result (HasTokens strings.now out.old out.new names (begin_node name.now ∷ tokens_of_entries strings.now properties.now)) }
+    ensures refused { (names : List (List ℕ)) → HasNames strings.now out.old.names names
         → IfErr result (λ e. TooMuch e (size_of names (begin_node name.now ∷ tokens_of_entries strings.now properties.now))) }
 {
     put_node_begin(out, name)?;
@@ -118,9 +119,9 @@ fn put_front(
 
 /// Puts a node with all that is in it.
 fn put_node(alloc: Global, out: &mut Output, strings: &[u8], node: &Node) -> Result<(), FdtFault>
-    ensures done { (names : List (List ℕ)) → HasNames out.old.names names
-        → OnOk result (HasTokens out.old out.new names (tokens_of_nodes strings.now (node.now ∷ []))) }
-    ensures refused { (names : List (List ℕ)) → HasNames out.old.names names
+    ensures done { (names : List (List ℕ)) → HasNames strings.now out.old.names names
+        → OnOk result (HasTokens strings.now out.old out.new names (tokens_of_nodes strings.now (node.now ∷ []))) }
+    ensures refused { (names : List (List ℕ)) → HasNames strings.now out.old.names names
         → IfErr result (λ e. TooMuch e (size_of names (tokens_of_nodes strings.now (node.now ∷ [])))) }
 {
     put_front(alloc, out, strings, &node.name, &node.properties)?;
@@ -263,8 +264,11 @@ fn assembled(
 
 /// The file of what a tree holds.
 pub fn written(alloc: Global, contents: &Contents) -> Result<Vec<u8>, FdtFault>
+    requires whole { IsWhole (tree_in contents.now) }
     requires unnamed { (branch contents.now.strings.items contents.now.root).name ≡ [] }
     ensures done { IfOk result (λ v. v.items ≡ written (tree_in contents.now)) }
+    ensures again { IfOk result (λ v. (z : List ℕ) → length (v.items ++ z) ≤ 2097152
+        → Spells (v.items ++ z) (tree_in contents.now)) }
     ensures within { IfOk result (λ v. length v.items ≤ 2097152) }
     ensures refused { IfErr result (λ e. TooMuch e (length (written (tree_in contents.now)))) }
 {

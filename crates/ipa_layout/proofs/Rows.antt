@@ -2,7 +2,7 @@
 use Rattle.std.proofs.Common.{◌≡◌, ℕ, ◌+◌, ◌<◌, List, [], ◌∷◌, ◌++◌, length, get_or, drop, Option, Result, Ok, Err, refl, sym, ap, ◌∙◌, append_assoc}
 use Rattle.fdt_tree.specs.declared.fault.FdtFault.{FdtFault}
 use Rattle.fdt_tree.specs.Steps.{◌>>=◌}
-use Rattle.fdt_tree.specs.Scanning.{with_front}
+use Rattle.fdt_tree.specs.Steps.{with_front}
 use Rattle.ipa_layout.specs.declared.item.Item.{Item}
 use Rattle.ipa_layout.specs.declared.item.Region.{Region}
 use Rattle.ipa_layout.specs.declared.standing.Standing.{Standing}

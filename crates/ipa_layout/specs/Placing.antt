@@ -2,6 +2,7 @@
 -- at a multiple of 8 and has at most 2 MiB, and that a kernel's base is a multiple of 2 MiB: Linux,
 -- booting.rst. The rest is this project's choice.
 use Rattle.std.specs.Prelude.{ℕ, ◌+◌, ◌-◌, ◌%◌, ◌^◌, List, [], ◌∷◌, length, Bool, Result, Ok, Err, not, ◌&&◌, ◌||◌, ◌==◌, nat_lt, nat_le, if◌then◌else◌}
+use Rattle.rim_desc.specs.Refusal.{Check, unless_refused}
 use Rattle.fdt_tree.specs.declared.fault.FdtFault.TheVariants.{TooLarge}
 use Rattle.ipa_layout.specs.declared.item.Item.{Item}
 use Rattle.ipa_layout.specs.declared.item.Region.{Region}
@@ -24,12 +25,8 @@ is_outside ram address extent = nat_le (2 ^ 64) address || nat_lt (2 ^ 64) (addr
 abbrev pub is_too_small : ℕ → Asked → ℕ → Bool
 is_too_small pages_before a count = nat_lt a.size count || nat_lt 1048576 (pages_before + page_count_of a.address a.size)
 
--- a reason to refuse, and whether it holds
-abbrev pub Check : Type 0
-Check = LayoutFault × Bool
-
 -- in this order
-abbrev pub checks_of : List Region → ℕ → Item → ℕ → Asked → List Check
+abbrev pub checks_of : List Region → ℕ → Item → ℕ → Asked → List (Check LayoutFault)
 checks_of ram pages_before i count a =
     (Dtb TooLarge, is_dtb i.kind && nat_lt 2097152 a.size)
     ∷ (Unaligned, is_dtb i.kind && not (i.at % 8 == 0))
@@ -38,10 +35,6 @@ checks_of ram pages_before i count a =
     ∷ (OutsideRam, is_outside ram a.address a.extent) ∷ []
 
 -- the first that holds, or where the item stands
-abbrev pub unless_refused : List Check → Standing → Result Standing LayoutFault
-unless_refused [] s = Ok s
-unless_refused (check ∷ others) s = if check.1 then Err check.0 else unless_refused others s
-
 unfoldable pub settled : List Region → ℕ → Item → ℕ → Asked → Result Standing LayoutFault
 settled ram pages_before i count a =
     unless_refused (checks_of ram pages_before i count a) (record { address = a.address; size = a.size; extent = a.extent })

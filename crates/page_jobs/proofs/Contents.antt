@@ -1,8 +1,8 @@
 -- The bytes of a page: the bytes of the item that fall in it, over zeros.
-use Rattle.std.proofs.Common.{◌≡◌, ℕ, ◌+◌, ◌-◌, ◌*◌, ◌<◌, ◌≤◌, ◌&&◌, ◌⊎◌, cond, false, zero, suc, List, [], ◌++◌, length, take, drop, get_or, refl, ap, sym, ◌∙◌, arith, inl, inr, length-drop, nat_lt, lt-ltb, min, append-nil, ◌∷◌}
+use Rattle.std.proofs.Common.{◌≡◌, ℕ, ◌+◌, ◌-◌, ◌*◌, ◌<◌, ◌≤◌, ◌&&◌, ◌⊎◌, cond, false, zero, suc, List, [], ◌++◌, length, take, drop, get_or, refl, ap, sym, ◌∙◌, arith, inl, inr, length-drop, nat_lt, lt-ltb, min, append-nil}
 use Rattle.std.specs.Prelude.{nat_le}
 use Rattle.std.proofs.lemmas.Bool.Decides.{nat_tests}
-use Rattle.std.proofs.lemmas.List.{ext_get_or, get_or-drop, get_or-take, get_or_past, length-take, length-take-le}
+use Rattle.std.proofs.lemmas.List.{ext_get_or, get_or-drop, get_or-take, get_or_past, length-take, length-take-le, nil_from_length}
 use Rattle.std.proofs.lemmas.List.FromFn.{get_or-map-range_with_len, length-map-range_with_len}
 use Rattle.std.proofs.Math.ListN.{get_or-append}
 use Rattle.std.proofs.Math.Seq.{get_or-append_right}
@@ -113,10 +113,6 @@ unfolding with_part
 contents-whole f bytes fits whole =
     let none : f ≡ 0 = omega arith in
     let rest : length (drop (length bytes) (drop f (zeros 4096))) ≡ 0 = simp length-drop (omega (arith, length-zeros 4096)) in
-    let empty : drop (length bytes) (drop f (zeros 4096)) ≡ [] = nil_of _ rest in
+    let empty : drop (length bytes) (drop f (zeros 4096)) ≡ [] = nil_from_length _ rest in
     let first : take f (zeros 4096) ≡ [] = ap (λ n. take n (zeros 4096)) none in
     rw (first, empty) (append-nil bytes)
-  where
-    nil_of : (xs : List ℕ) → length xs ≡ 0 → xs ≡ []
-    nil_of [] e = refl
-    nil_of (x ∷ xs) e = absurd (omega arith)

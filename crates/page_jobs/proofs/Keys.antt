@@ -1,9 +1,12 @@
 -- The order of keys, and a search in keys that rise.
-use Rattle.std.proofs.Common.{◌≡◌, ℕ, ◌+◌, ◌<◌, ◌≤◌, ◌⊎◌, false, List, [], ◌∷◌, length, map, Some, None, get_or, refl, ap, sym, ◌∙◌, arith, inl, inr, nat_lt, lt-ltb}
-use Rattle.std.specs.Prelude.{Result, Ok, Err}
+use Rattle.std.proofs.Common.{◌≡◌, ℕ, ◌+◌, ◌<◌, false, List, [], ◌∷◌, length, map, Some, None, get_or, refl, ap, sym, ◌∙◌, arith, inl, inr, nat_lt, lt-ltb, true}
+use Rattle.std.specs.Prelude.{Result, Ok, Err, slice_get}
 use Rattle.std.specs.Result.{result_ok}
 use Rattle.std.specs.List.{position_or_len}
+use Rattle.std.proofs.lemmas.List.Quantifiers.{position-Some}
 use Rattle.std.proofs.lemmas.List.Sums.{position_or_len_is}
+use Rattle.std.proofs.lemmas.Option.{get_or_from_slice_get, slice_get_within}
+use Rattle.std.proofs.lemmas.Bool.{cases_lt}
 use Rattle.std.proofs.lemmas.Bool.Decides.{nat_tests}
 use Rattle.std.specs.List.Sorted.{IsBinarySearchResult, IsNonDecreasingBy, IsSearchInRange}
 use Rattle.std.specs.Ordering.{is_eq, is_lt, ordering_index, ordering_reverse}
@@ -12,6 +15,8 @@ use Rattle.std.specs.declared.cmp.Ordering.TheVariants.{Less, Equal}
 use Rattle.std.proofs.lemmas.List.{get_or-map}
 use Rattle.std.proofs.lemmas.List.Sorted.{searchable_from_sorted}
 use Rattle.rim_desc.specs.Measurement.{algo_value}
+use Rattle.rim_desc.specs.declared.measurement.Algo.{Algo}
+use Rattle.rim_desc.specs.declared.measurement.Algo.TheVariants.{Sha256, Sha512}
 use Rattle.page_jobs.specs.Key.{IsRising, key_cmp}
 use Rattle.page_jobs.specs.Page.{PageView}
 use Rattle.page_jobs.specs.Table.{keys_of, slot_of}
@@ -83,13 +88,10 @@ module _ {X : Type 0} (view : X → PageView) (xs : List X) (rising : IsRising (
     answered d (Ok i) low same = sym (found i d low (same d))
     answered d (Err i) low split =
         let parts = split searchable in
-        sym (absent d (λ k inside. elim (sides k i) [
+        sym (absent d (λ k inside. elim (cases_lt k i) [
           | inl before_i ↦ ap is_eq (parts.0 k d (omega arith) before_i)
           | inr after_i ↦ ap is_eq (parts.1 k d after_i inside)
         ]))
-      where
-        sides : (k i : ℕ) → (k < i) ⊎ (i ≤ k)
-        sides k i = grind arith
 
 -- what a binary search answers is the slot of the key
 pub search-slot_of : {X : Type 0} (view : X → PageView) (xs : List X) → IsRising (keys_of (map view xs)) → (key : PageKey) (r : Result ℕ ℕ)
@@ -97,3 +99,41 @@ pub search-slot_of : {X : Type 0} (view : X → PageView) (xs : List X) → IsRi
 search-slot_of view [] rising key (Ok i) low found = absurd (omega arith)
 search-slot_of view [] rising key (Err i) low found = refl
 search-slot_of view (x ∷ xs) rising key r low found = answered view (x ∷ xs) rising key x r low found
+
+-- ---- keys, pages and slots
+
+same-algo : (a b : Algo) → algo_value a ≡ algo_value b → a ≡ b
+same-algo Sha256 Sha256 same = refl
+same-algo Sha256 Sha512 same = absurd (omega arith)
+same-algo Sha512 Sha256 same = absurd (omega arith)
+same-algo Sha512 Sha512 same = refl
+
+-- keys of which none is before the other are one
+pub key-equal : (a b : PageKey) → is_eq (key_cmp a b) ≡ true → a ≡ b
+key-equal a b same =
+    let algo : algo_value a.algo ≡ algo_value b.algo = grind (arith, nat_tests) in
+    let source : a.source ≡ b.source = grind (arith, nat_tests) in
+    let lead : a.lead ≡ b.lead = grind (arith, nat_tests) in
+    let number : a.number ≡ b.number = grind (arith, nat_tests) in
+    ap (λ (x : Algo). let k : PageKey = record { algo = x; source = a.source; lead = a.lead; number = a.number } in k) (same-algo a.algo b.algo algo)
+    ∙ ap (λ (x : ℕ). let k : PageKey = record { algo = b.algo; source = x; lead = a.lead; number = a.number } in k) source
+    ∙ ap (λ (x : ℕ). let k : PageKey = record { algo = b.algo; source = b.source; lead = x; number = a.number } in k) lead
+    ∙ ap (λ (x : ℕ). let k : PageKey = record { algo = b.algo; source = b.source; lead = b.lead; number = x } in k) number
+
+-- the page in the slot of a key has the key
+pub slot-key : (pages : List PageView) (key : PageKey) (j : ℕ) (p : PageView) → slot_of pages key ≡ Some j → slice_get pages j ≡ Some p → p.key ≡ key
+slot-key pages key j p at here =
+    let found = position-Some (λ q. is_eq (key_cmp q.key key)) pages j p at in
+    key-equal p.key key (rw (get_or_from_slice_get pages j p p here) at found.1)
+
+map-same : (pages : List PageView) → map (λ p. p) pages ≡ pages
+map-same [] = refl
+map-same (p ∷ pages) = ap (λ (rest : List PageView). p ∷ rest) (map-same pages)
+
+-- and each page is in the slot of its key
+pub slot-page : (pages : List PageView) → IsRising (keys_of pages) → (j : ℕ) (p : PageView) → slice_get pages j ≡ Some p → slot_of pages p.key ≡ Some j
+slot-page pages rising j p at =
+    let same : key_cmp p.key p.key ≡ Equal = grind (arith, nat_tests) in
+    let here : get_or pages j p ≡ p = get_or_from_slice_get pages j p p at in
+    let all : IsRising (keys_of (map (λ q. q) pages)) = rw (map-same pages) rising in
+    rw (map-same pages) at (found (λ q. q) pages all p.key j p (slice_get_within pages j p at) (rw here same))

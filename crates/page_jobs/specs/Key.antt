@@ -1,4 +1,4 @@
--- Keys of pages, and their order.
+-- Keys of pages, and their order. This project's choice.
 use Rattle.std.specs.Prelude.{◌≡◌, List}
 use Rattle.std.specs.List.{AllPairs}
 use Rattle.std.specs.Ordering.{nat_cmp, ordering_then}

@@ -1,4 +1,4 @@
--- What contracts see of a page.
+-- What contracts see of a page. This project's choice.
 use Rattle.std.specs.Prelude.{ℕ, List}
 use Rattle.rim_desc.specs.Page.{with_part, zeros}
 use Rattle.rim_desc.specs.Measurement.{measurement_of}

@@ -1,4 +1,4 @@
--- What contracts see of a row of digests.
+-- What contracts see of a row of digests. This project's choice.
 use Rattle.std.specs.Prelude.{◌≡◌, ℕ, List, length}
 use Rattle.rim_desc.specs.declared.measurement.Measurement.{Measurement}
 

@@ -1,4 +1,4 @@
--- What contracts see of a table of digests.
+-- What contracts see of a table of digests. This project's choice.
 use Rattle.std.specs.Prelude.{◌≡◌, ℕ, List, length, map, Option, Some, None, slice_get, slice_set, option_and_then}
 use Rattle.std.specs.List.{position}
 use Rattle.std.specs.Ordering.{is_eq}
@@ -35,6 +35,10 @@ slot_of pages key = position (λ p. is_eq (key_cmp p.key key)) pages
 -- the digest in a slot, where there is such a slot and it is filled
 abbrev pub digest_in : TableView → ℕ → Option Measurement
 digest_in t j = option_and_then (λ slot. slot) (slice_get t.digests j)
+
+-- the page that has the key, where there is one
+abbrev pub page_at : TableView → PageKey → Option PageView
+page_at t key = option_and_then (slice_get t.pages) (slot_of t.pages key)
 
 -- the digest of the page that has the key, where there is such a page and its slot is filled
 abbrev pub digest_at : TableView → PageKey → Option Measurement

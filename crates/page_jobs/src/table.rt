@@ -2,7 +2,7 @@
 ghost use Rattle.std.specs.Prelude.{◌≡◌, ◌<◌, ℕ, length, map, replicate, None, Some, IfOk, OnOk, IfErr, IfSome, IsTrue, ◌↔◌, slice_get};
 ghost use Rattle.page_jobs.specs.Key.{IsRising, key_cmp};
 ghost use Rattle.page_jobs.specs.Page.{digest_of, page_view};
-ghost use Rattle.page_jobs.specs.Table.{CanFill, digest_at, digest_in, keys_of, slot_of, with_digest};
+ghost use Rattle.page_jobs.specs.Table.{CanFill, digest_at, digest_in, keys_of, page_at, slot_of, with_digest};
 
 use crate::hashed::Hashed;
 use crate::page::{Page, PageKey};
@@ -85,7 +85,8 @@ impl<'a> Table<'a> {
 
     /// The digest of the page that has a key, where there is such a page and its slot is filled.
     pub fn get(&self, key: &PageKey) -> Option<Measurement>
-        ensures { result ≡ digest_at self.now key.now }
+        ensures value { result ≡ digest_at self.now key.now }
+        ensures own { IfSome result (λ m. IfSome (page_at self.now key.now) (λ p. (p.key ≡ key.now) × (m.bytes ≡ digest_of p))) }
     {
         let slot = self.slot_of(key)?;
         self.digest(slot)

@@ -30,6 +30,12 @@ fn check_fault(rt: &impl Abort, tables: &mut Tables, base: u64, end: u64, fault:
     }
 }
 
+fn check_faults(rt: &impl Abort, tables: &mut Tables, regions: &[(u64, u64)], fault: PlanFault) {
+    for (base, end) in regions {
+        check_fault(rt, tables, *base, *end, fault);
+    }
+}
+
 fn check_data_fault(rt: &impl Abort, tables: &mut Tables, base: u64, count: u64, fault: PlanFault) {
     if 1 <= count {
         assert_eq!(rt;
@@ -170,57 +176,18 @@ fn end_of_the_protected_half(rt: HostRuntime) {
 fn faults_in_their_order(rt: HostRuntime) {
     let mut tables = Tables::new(rt.alloc(), 33, 2);
     check_data_fault(&rt, &mut tables, 0x4000_0000, 1, PlanFault::NotRam);
-    check_fault(
-        &rt,
-        &mut tables,
-        0x4000_0001,
-        0x4000_2000,
-        PlanFault::Unaligned,
-    );
-    check_fault(
-        &rt,
-        &mut tables,
-        0x4000_0000,
-        0x4000_2001,
-        PlanFault::Unaligned,
-    );
-    check_region(
-        &rt,
-        &mut tables,
-        0x4000_0000,
-        0x4000_2000,
-        &[table(0x4000_0000, 3), run(0x4000_0000, 0x4000_2000, 3)],
-    );
-    check_fault(
-        &rt,
-        &mut tables,
-        0x4000_1000,
-        0x4000_3000,
-        PlanFault::RipasTwice,
-    );
-    check_fault(
-        &rt,
-        &mut tables,
-        0x3fff_f000,
-        0x4000_1000,
-        PlanFault::RipasTwice,
-    );
-    check_fault(
-        &rt,
-        &mut tables,
-        0x4000_0001,
-        0x1_0000_0001,
-        PlanFault::OutsideProtected,
-    );
+    let unaligned = [(0x4000_0001, 0x4000_2000), (0x4000_0000, 0x4000_2001)];
+    check_faults(&rt, &mut tables, &unaligned, PlanFault::Unaligned);
+    let acts = [table(0x4000_0000, 3), run(0x4000_0000, 0x4000_2000, 3)];
+    check_region(&rt, &mut tables, 0x4000_0000, 0x4000_2000, &acts);
+    let twice = [(0x4000_1000, 0x4000_3000), (0x3fff_f000, 0x4000_1000)];
+    check_faults(&rt, &mut tables, &twice, PlanFault::RipasTwice);
+    let outside = [(0x4000_0001, 0x1_0000_0001)];
+    check_faults(&rt, &mut tables, &outside, PlanFault::OutsideProtected);
     check_data_fault(&rt, &mut tables, 0x4000_0001, 1, PlanFault::Unaligned);
     check_data_fault(&rt, &mut tables, 0x4000_1000, 2, PlanFault::NotRam);
-    check_region(
-        &rt,
-        &mut tables,
-        0x4000_2000,
-        0x4000_3000,
-        &[run(0x4000_2000, 0x4000_3000, 3)],
-    );
+    let beside = [run(0x4000_2000, 0x4000_3000, 3)];
+    check_region(&rt, &mut tables, 0x4000_2000, 0x4000_3000, &beside);
 }
 
 #[test]

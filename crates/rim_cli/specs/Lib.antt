@@ -1,3 +1,4 @@
 pub mod Command
+pub mod Done
 pub mod Examples
 pub mod Status

@@ -1,5 +1,5 @@
--- Exit statuses and the names of faults, this project's choice.
-use Rattle.std.specs.Prelude.{ℕ, List, codes}
+-- Exit statuses and the words of faults. This project's choice.
+use Rattle.std.specs.Prelude.{ℕ, ◌<◌, List, length, Option, IfSome, codes}
 use Rattle.rim_cli.specs.declared.fault.Fault.{Fault}
 use Rattle.rim_cli.specs.declared.fault.Fault.TheVariants.{Manifest, Start, Show, FileUnreadable, FileTooLarge, OutputFailed, NoMemory}
 use Rattle.rim_manifest.specs.Faults.{kind_of}
@@ -16,19 +16,23 @@ status_of (Start start.NoMemory) = 4
 status_of (Show show.NoMemory) = 4
 status_of _ = 3
 
--- the name of a fault, as it is printed
-abbrev pub name_of : Fault → List ℕ
-name_of (Manifest fault) = kind_of fault
-name_of (Start fault) = start_kind_of fault
-name_of (Show fault) = show_kind_of fault
-name_of FileUnreadable = codes "file-unreadable"
-name_of FileTooLarge = codes "file-too-large"
-name_of OutputFailed = codes "output-failed"
-name_of NoMemory = codes "no-memory"
+-- the word that a fault is printed as
+abbrev pub word_of : Fault → List ℕ
+word_of (Manifest fault) = kind_of fault
+word_of (Start fault) = start_kind_of fault
+word_of (Show fault) = show_kind_of fault
+word_of FileUnreadable = codes "file-unreadable"
+word_of FileTooLarge = codes "file-too-large"
+word_of OutputFailed = codes "output-failed"
+word_of NoMemory = codes "no-memory"
 
--- a fault of reading files
-abbrev pub IsOfFiles : Fault → Type 0
-IsOfFiles FileUnreadable = Unit {0}
-IsOfFiles FileTooLarge = Unit {0}
-IsOfFiles NoMemory = Unit {0}
-IsOfFiles _ = ⊥
+-- the most bytes that a file may have
+abbrev pub file_limit : ℕ
+file_limit = 268435456
+
+-- a fault of reading a file, of whose bytes this is known
+abbrev pub IsFileFault : Option (List ℕ) → Fault → Type 0
+IsFileFault held FileUnreadable = Unit {0}
+IsFileFault held FileTooLarge = IfSome held (λ bytes. file_limit < length bytes)
+IsFileFault held NoMemory = Unit {0}
+IsFileFault held _ = ⊥

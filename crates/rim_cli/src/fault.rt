@@ -1,6 +1,6 @@
 //! Why a run of the program fails.
 ghost use Rattle.std.specs.Prelude.{◌≡◌, ◌≤◌};
-ghost use Rattle.rim_cli.specs.Status.{name_of, status_of};
+ghost use Rattle.rim_cli.specs.Status.{word_of, status_of};
 
 use rim_release::{ManifestFault, ShowFault, StartFault};
 
@@ -20,9 +20,9 @@ pub enum Fault {
 }
 
 impl Fault {
-    /// The name that is printed.
-    pub fn name(&self) -> &'static str
-        ensures { result.now ≡ name_of self.now }
+    /// The word that the fault is printed as.
+    pub fn kind(&self) -> &'static str
+        ensures { result.now ≡ word_of self.now }
     {
         match self {
             Fault::Manifest(fault) => fault.kind(),
@@ -38,7 +38,7 @@ impl Fault {
     /// The exit status: 4 for want of memory, 3 for all else.
     pub fn status(&self) -> u8
         ensures value { result ≡ status_of self.now }
-        ensures known { result ≤ 4 }
+        ensures known { (3 ≤ result) × (result ≤ 4) }
     {
         match self {
             Fault::NoMemory

@@ -1,6 +1,6 @@
 //! Files, opened by their paths and read whole.
-ghost use Rattle.std.specs.Prelude.{◌≡◌, ◌≤◌, IfErr, IfOk, IfSome, length, vec_len};
-ghost use Rattle.rim_cli.specs.Status.{IsOfFiles};
+ghost use Rattle.std.specs.Prelude.{◌≡◌, ◌≤◌, ℕ, IfErr, IfOk, IfSome, List, None, Option, Some, length, vec_len};
+ghost use Rattle.rim_cli.specs.Status.{IsFileFault, file_limit};
 
 use crate::fault::Fault;
 use crate::patient::Patient;
@@ -13,10 +13,14 @@ pub const FILE_LIMIT: u64 = 268_435_456;
 
 /// What opens files by their paths.
 pub trait Opener {
+    // The bytes of the file at a path, where they are known.
+    ghost held: { Self → List ℕ → Option (List ℕ) } = { λ _ _. None };
+
     type Reader: Read + Drop;
 
     /// Opens a file for reading, or answers `None`.
-    fn open(&mut self, path: &str) -> Option<Self::Reader>;
+    fn open(&mut self, path: &str) -> Option<Self::Reader>
+        ensures bytes { IfSome result (λ reader. IfSome (held self.old path.now) (λ bytes. Self.Reader.remaining reader ≡ Some bytes)) };
 }
 
 /// The bytes of each file of a release, in its order.
@@ -26,7 +30,7 @@ pub fn read_files<O: Opener>(
     release: &Release,
 ) -> Result<Files, Fault>
     ensures each { IfOk result (λ files. vec_len files ≡ length release.now.paths) }
-    ensures fault { IfErr result IsOfFiles }
+    ensures fault { IfErr result (IsFileFault None) }
 {
     let mut files = Vec::new(alloc);
     for i in 0..release.file_count() {
@@ -38,8 +42,9 @@ pub fn read_files<O: Opener>(
 
 /// The bytes of the file at a path.
 pub fn read_file<O: Opener>(alloc: Global, opener: &mut O, path: &str) -> Result<Vec<u8>, Fault>
-    ensures limit { IfOk result (λ bytes. length bytes.items ≤ 268435456) }
-    ensures fault { IfErr result IsOfFiles }
+    ensures limit { IfOk result (λ bytes. length bytes.items ≤ file_limit) }
+    ensures fault { IfErr result (IsFileFault (O.held opener.old path.now)) }
+    ensures whole { IfOk result (λ bytes. IfSome (O.held opener.old path.now) (λ held. bytes.items ≡ held)) }
 {
     let reader = opener.open(path).ok_or(Fault::FileUnreadable)?;
     read_whole(alloc, reader)
@@ -47,8 +52,8 @@ pub fn read_file<O: Opener>(alloc: Global, opener: &mut O, path: &str) -> Result
 
 /// All bytes of a reader, of which one more than the limit is read at the most.
 fn read_whole<R: Read + Drop>(alloc: Global, reader: R) -> Result<Vec<u8>, Fault>
-    ensures limit { IfOk result (λ bytes. length bytes.items ≤ 268435456) }
-    ensures fault { IfErr result IsOfFiles }
+    ensures limit { IfOk result (λ bytes. length bytes.items ≤ file_limit) }
+    ensures fault { IfErr result (IsFileFault (R.remaining reader)) }
     ensures whole { IfOk result (λ bytes. IfSome (R.remaining reader) (λ held. bytes.items ≡ held)) }
 {
     let mut bytes = Vec::new(alloc);

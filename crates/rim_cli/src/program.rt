@@ -1,5 +1,14 @@
 //! A run of the program, over any files and streams.
-ghost use Rattle.std.specs.Prelude.{◌≡◌, ◌≤◌};
+ghost use Rattle.std.specs.Prelude.{◌≡◌, ◌≢◌, ◌≤◌, ◌⊎◌, IfErr, IfOk, IfSome, Ok, OnOk, IsOkAnd, map, true};
+ghost use Rattle.std.specs.Io.KnownBytes.{Appends};
+ghost use Rattle.clap.specs.Words.{takes};
+ghost use Rattle.rim_manifest.specs.Manifest.{manifest_of};
+ghost use Rattle.rim_release.specs.Devicetrees.{ShowsDevicetree};
+ghost use Rattle.rim_release.specs.Report.{report_of};
+ghost use Rattle.rim_release.specs.Shown.{image_answer_of};
+ghost use Rattle.rim_cli.specs.Command.{rim};
+ghost use Rattle.rim_cli.specs.Done.{Answers, IsDone, Refuses, RefusesFdt, RefusesImage, RefusesManifest, path_of};
+ghost use Rattle.rim_cli.specs.Status.{status_of};
 
 use crate::command::{CommandFault, Request, command};
 use crate::fault::Fault;
@@ -14,6 +23,10 @@ use std::io::Write;
 /// Files are opened by `opener`, output goes to `out`, usage texts and the one line of a fault go to
 /// `err`. The answer is the exit status: 0 done, 1 some launch is refused, 2 usage, 3 a fault of the
 /// manifest, a file or the output, 4 want of memory. Output is made whole before any of it is written.
+///
+/// Where `clap` takes the words, 0 says that the text that they ask for was added to `out`, and 2 is
+/// not answered. After 2 and 4 `out` is as it was. What stands on `err` no clause says, since writing
+/// there may fail and changes no status.
 pub fn run<R, S: AsStr, O: Opener, W: Write, E: Write>(
     _rt: &R,
     alloc: Global,
@@ -22,7 +35,10 @@ pub fn run<R, S: AsStr, O: Opener, W: Write, E: Write>(
     out: &mut W,
     err: &mut E,
 ) -> u8
-    ensures { result ≤ 4 }
+    ensures known { result ≤ 4 }
+    ensures done { takes rim (map S.text words.now) ≡ true → result ≡ 0 → IsDone (map S.text words.now) (O.held opener.old) (W.contents out.old) (W.contents out.new) }
+    ensures usage { takes rim (map S.text words.now) ≡ true → result ≢ 2 }
+    ensures kept { (result ≡ 2) ⊎ (result ≡ 4) → out.new ≡ out.old }
 {
     let request = match command(alloc, words) {
         Ok(request) => request,
@@ -36,7 +52,10 @@ pub fn run<R, S: AsStr, O: Opener, W: Write, E: Write>(
 }
 
 /// The text that a request asks for.
-fn answer_to<O: Opener>(alloc: Global, request: Request, opener: &mut O) -> Result<Vec<u8>, Fault> {
+fn answer_to<O: Opener>(alloc: Global, request: Request, opener: &mut O) -> Result<Vec<u8>, Fault>
+    ensures answered { IfOk result (λ text. IfSome (O.held opener.old (path_of request.entry)) (λ bytes. Answers request.entry bytes text.items)) }
+    ensures refused { IfErr result (Refuses request.entry (O.held opener.old (path_of request.entry))) }
+{
     match request {
         Request::Measure { manifest, .. } => measure(alloc, opener, manifest),
         Request::Image { file } => image(alloc, opener, file),
@@ -45,7 +64,10 @@ fn answer_to<O: Opener>(alloc: Global, request: Request, opener: &mut O) -> Resu
 }
 
 /// The report of a manifest's launches.
-fn measure<O: Opener>(alloc: Global, opener: &mut O, path: &str) -> Result<Vec<u8>, Fault> {
+fn measure<O: Opener>(alloc: Global, opener: &mut O, path: &str) -> Result<Vec<u8>, Fault>
+    ensures answered { IfOk result (λ text. IfSome (O.held opener.old path.now) (λ bytes. IsOkAnd (manifest_of bytes) (λ r. text.items ≡ report_of r.launches))) }
+    ensures refused { IfErr result (RefusesManifest (O.held opener.old path.now)) }
+{
     let text = read_file(alloc, opener, path)?;
     let release = read_manifest(alloc, text.as_slice()).map_err(Fault::Manifest)?;
     let files = read_files(alloc, opener, &release)?;
@@ -53,13 +75,19 @@ fn measure<O: Opener>(alloc: Global, opener: &mut O, path: &str) -> Result<Vec<u
 }
 
 /// The header of the Image at a path.
-fn image<O: Opener>(alloc: Global, opener: &mut O, path: &str) -> Result<Vec<u8>, Fault> {
+fn image<O: Opener>(alloc: Global, opener: &mut O, path: &str) -> Result<Vec<u8>, Fault>
+    ensures answered { IfOk result (λ text. IfSome (O.held opener.old path.now) (λ bytes. image_answer_of bytes ≡ Ok text.items)) }
+    ensures refused { IfErr result (RefusesImage (O.held opener.old path.now)) }
+{
     let bytes = read_file(alloc, opener, path)?;
     show_image(alloc, bytes.as_slice()).map_err(Fault::Show)
 }
 
 /// The devicetree in the file at a path.
-fn fdt<O: Opener>(alloc: Global, opener: &mut O, path: &str) -> Result<Vec<u8>, Fault> {
+fn fdt<O: Opener>(alloc: Global, opener: &mut O, path: &str) -> Result<Vec<u8>, Fault>
+    ensures answered { IfOk result (λ text. IfSome (O.held opener.old path.now) (λ bytes. ShowsDevicetree bytes text.items)) }
+    ensures refused { IfErr result (RefusesFdt (O.held opener.old path.now)) }
+{
     let bytes = read_file(alloc, opener, path)?;
     show_fdt(alloc, bytes.as_slice()).map_err(Fault::Show)
 }
@@ -72,7 +100,8 @@ fn show_usage<W: Write, E: Write>(
     out: &mut W,
     err: &mut E,
 ) -> u8
-    ensures { result ≤ 4 }
+    ensures known { result ≤ 4 }
+    ensures kept { (result ≡ 2) ⊎ (result ≡ 4) → out.new ≡ out.old }
 {
     let Ok(text) = format!(in alloc; "{answer}") else {
         return report_fault(Fault::NoMemory, err);
@@ -86,7 +115,8 @@ fn show_usage<W: Write, E: Write>(
 
 /// Writes the text that a request asked for, and answers the exit status.
 fn finish<W: Write, E: Write>(text: &[u8], out: &mut W, err: &mut E) -> u8
-    ensures { result ≤ 4 }
+    ensures known { (result ≡ 0) ⊎ (result ≡ 3) }
+    ensures done { result ≡ 0 → Appends (W.contents out.old) (W.contents out.new) text.now }
 {
     match write_text(text, out) {
         Ok(()) => 0,
@@ -95,18 +125,20 @@ fn finish<W: Write, E: Write>(text: &[u8], out: &mut W, err: &mut E) -> u8
 }
 
 /// Writes a whole text.
-fn write_text<W: Write>(text: &[u8], out: &mut W) -> Result<(), Fault> {
-    if out.write_all(text).is_err() || out.flush().is_err() {
-        return Err(Fault::OutputFailed);
-    }
-    Ok(())
+fn write_text<W: Write>(text: &[u8], out: &mut W) -> Result<(), Fault>
+    ensures written { OnOk result (Appends (W.contents out.old) (W.contents out.new) text.now) }
+    ensures fault { IfErr result (λ e. e ≡ Fault.OutputFailed) }
+{
+    out.write_all(text).map_err(|_| Fault::OutputFailed)?;
+    out.flush().map_err(|_| Fault::OutputFailed)
 }
 
 /// Writes a fault's line, and answers the exit status.
 fn report_fault<E: Write>(fault: Fault, err: &mut E) -> u8
-    ensures { result ≤ 4 }
+    ensures value { result ≡ status_of fault }
+    ensures known { (3 ≤ result) × (result ≤ 4) }
 {
-    let name = fault.name();
-    let _ = writeln!(err, "rim: {name}");
+    let kind = fault.kind();
+    let _ = writeln!(err, "rim: {kind}");
     fault.status()
 }

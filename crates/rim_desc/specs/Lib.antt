@@ -6,3 +6,4 @@ pub mod RecInside
 pub mod Descriptor
 pub mod Part
 pub mod Number
+pub mod Refusal

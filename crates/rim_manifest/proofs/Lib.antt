@@ -1,4 +1,5 @@
 pub mod Answering
 pub mod Lowest
 pub mod Notes
+pub mod Numbered
 pub mod Trees

@@ -1,8 +1,8 @@
 -- The lowest of some faults: where it comes from, and what it is below.
-use Rattle.std.proofs.Common.{◌≡◌, ℕ, ◌≤◌, ◌<◌, List, [], ◌∷◌, ◌++◌, length, zero, suc, map, Bool, true, false, cond, not, Option, Some, None, Ok, Err, refl, ap, sym, ◌∙◌, arith, ◌⊎◌, inl, inr, codes}
+use Rattle.std.proofs.Common.{◌≡◌, ℕ, ◌≤◌, ◌<◌, List, [], ◌∷◌, ◌++◌, length, zero, suc, Bool, true, false, cond, not, Option, Some, None, Ok, Err, refl, ap, sym, ◌∙◌, arith, ◌⊎◌, inl, inr, codes}
 use Rattle.std.specs.Prelude.{nat_le, Contains, slice_index_or}
 use Rattle.std.specs.List.{AllByRecursion, flat_map}
-use Rattle.std.proofs.lemmas.Bool.Decides.{nat_tests}
+use Rattle.std.proofs.lemmas.Bool.{leb-false, leb-true}
 use Rattle.std.proofs.lemmas.List.Elements.{All-from_recursion, Contains-append_left, Contains-append_right}
 use Rattle.toml.specs.Data.{Data, Members, table, get_member}
 use Rattle.rim_manifest.specs.declared.fault.ManifestFault.{ManifestFault}
@@ -11,8 +11,8 @@ use Rattle.rim_manifest.specs.Faults.{IsLowest, fault_if, lower, lowest, noted, 
 use Rattle.rim_manifest.specs.Forms.{has_kind, is_over, is_required, is_within}
 use Rattle.rim_manifest.specs.Rules.{Rule, launch_rules, top_rules}
 use Rattle.rim_manifest.specs.Checks.{cell_faults, has_unknown_key, rule_faults, table_faults}
-use Rattle.rim_manifest.specs.Launches.{ReleaseData, launch_in}
-use Rattle.rim_manifest.specs.Manifest.{all_faults, fault_or_release, has_two_names, has_version, launch_faults, launches_at, manifest_faults, read_of}
+use Rattle.rim_manifest.specs.Launches.{ReleaseData}
+use Rattle.rim_manifest.specs.Manifest.{all_faults, fault_or_release, has_two_names, has_version, launch_faults, launches_at, launches_of, manifest_faults, read_of}
 
 -- f does not come behind what was found so far
 AtLeast : ManifestFault → Option ManifestFault → Type 0
@@ -34,17 +34,11 @@ at_head f g gs e = (0, omega arith, e)
 same_rank : (f g : ManifestFault) → Some g ≡ Some f → rank_of f ≤ rank_of g
 same_rank f g e = let same : g ≡ f = cc in let ranks : rank_of g ≡ rank_of f = ap rank_of same in omega arith
 
-le_of : (a b : ℕ) → nat_le a b ≡ true → a ≤ b
-le_of a b h = grind (arith, nat_tests)
-
-gt_of : (a b : ℕ) → nat_le a b ≡ false → b < a
-gt_of a b h = grind (arith, nat_tests)
-
 found_two : (x g : ManifestFault) (gs : List ManifestFault) (f : ManifestFault) (b : Bool) → nat_le (rank_of x) (rank_of g) ≡ b
     → Found (cond b (Some x) (Some g)) gs f → Found (Some x) (g ∷ gs) f
 unfolding AtLeast NotBehind
 found_two x g gs f true test h =
-    let order = le_of (rank_of x) (rank_of g) test in
+    let order = leb-true (rank_of x) (rank_of g) test in
     let start : rank_of f ≤ rank_of x = h.start in
     let head : rank_of f ≤ rank_of g = omega arith in
     record {
@@ -53,7 +47,7 @@ found_two x g gs f true test h =
       each = (head, h.each);
     }
 found_two x g gs f false test h =
-    let order = gt_of (rank_of x) (rank_of g) test in
+    let order = leb-false (rank_of x) (rank_of g) test in
     let head : rank_of f ≤ rank_of g = h.start in
     let start : rank_of f ≤ rank_of x = omega arith in
     record {
@@ -162,7 +156,7 @@ by_tables ms f g found e =
     record {
       holds = Contains-append_left (manifest_faults ms) _ f there;
       first = All-from_recursion (λ g. rank_of f ≤ rank_of g) (all_faults ms)
-          (behind_append f (manifest_faults ms) _ facts.each (behind_if f (has_two_names (map launch_in (launches_at ms))) TwoNames low));
+          (behind_append f (manifest_faults ms) _ facts.each (behind_if f (has_two_names (launches_of ms)) TwoNames low));
     }
 
 by_names : (ms : Members) (f : ManifestFault) (b : Bool) (release : ReleaseData) → manifest_faults ms ≡ [] → cond b (Err TwoNames) (Ok release) ≡ Err f
@@ -185,4 +179,4 @@ refused_by_lowest ms f h = by_fault (lowest (manifest_faults ms)) refl h
   where
     by_fault : (o : Option ManifestFault) → lowest (manifest_faults ms) ≡ o → fault_or_release ms o ≡ Err f → IsLowest f (all_faults ms)
     by_fault (Some g) found e = by_tables ms f g found (cc)
-    by_fault None found e = by_names ms f (has_two_names (map launch_in (launches_at ms))) _ (none_noted (manifest_faults ms) found) e
+    by_fault None found e = by_names ms f (has_two_names (launches_of ms)) _ (none_noted (manifest_faults ms) found) e

@@ -1,6 +1,6 @@
 -- What a manifest describes, or the lowest fault that holds anywhere in it. This project's choice;
 -- which document a text is, is TOML's, as the library `toml` defines it.
-use Rattle.std.specs.Prelude.{ℕ, Bool, false, not, pos, ◌==◌, ◌||◌, List, [], ◌∷◌, ◌++◌, map, Option, Some, None, Result, Ok, Err, codes, if◌then◌else◌}
+use Rattle.std.specs.Prelude.{ℕ, Bool, false, not, pos, ◌==◌, ◌||◌, List, [], ◌∷◌, ◌++◌, Option, Some, None, Result, Ok, Err, codes, if◌then◌else◌}
 use Rattle.std.specs.List.{flat_map, list_any}
 use Rattle.std.specs.Str.{is_utf8, bytes_eq}
 use Rattle.toml.specs.Data.{Data, integer, array, table, Members, get_member}
@@ -11,7 +11,7 @@ use Rattle.rim_manifest.specs.Faults.{fault_if, lowest}
 use Rattle.rim_manifest.specs.Forms.{items_list}
 use Rattle.rim_manifest.specs.Rules.{launch_rules, top_rules}
 use Rattle.rim_manifest.specs.Checks.{table_faults}
-use Rattle.rim_manifest.specs.Launches.{LaunchData, ReleaseData, launch_in}
+use Rattle.rim_manifest.specs.Launches.{NamedData, ReleaseData, launches_from}
 
 -- the document that some bytes are
 unfoldable pub document_of : List ℕ → Option Members
@@ -35,6 +35,10 @@ items_in None = []
 abbrev pub launches_at : Members → List Data
 launches_at ms = items_in (get_member (codes "launch") ms)
 
+-- the launches that a document without faults in its tables describes, numbered from 0
+abbrev pub launches_of : Members → List NamedData
+launches_of ms = launches_from 0 (launches_at ms)
+
 unfoldable pub launch_faults : Data → List ManifestFault
 launch_faults (table ms) = table_faults launch_rules ms
 launch_faults _ = []
@@ -45,26 +49,24 @@ manifest_faults ms =
     fault_if (not (has_version (get_member (codes "rim_manifest") ms))) Version
     ++ (table_faults top_rules ms ++ flat_map launch_faults (launches_at ms))
 
-abbrev pub name_in : List ℕ → LaunchData → Bool
+abbrev pub name_in : List ℕ → NamedData → Bool
 name_in name l = bytes_eq l.name name
 
 -- whether two launches share a name
-abbrev pub has_two_names : List LaunchData → Bool
+abbrev pub has_two_names : List NamedData → Bool
 has_two_names [] = false
 has_two_names (l ∷ ls) = list_any (name_in l.name) ls || has_two_names ls
 
 -- all faults that hold anywhere in a document
 abbrev pub all_faults : Members → List ManifestFault
-all_faults ms = manifest_faults ms ++ fault_if (has_two_names (map launch_in (launches_at ms))) TwoNames
+all_faults ms = manifest_faults ms ++ fault_if (has_two_names (launches_of ms)) TwoNames
 
 abbrev pub Answer : Type 0
 Answer = Result ReleaseData ManifestFault
 
 -- what a document without faults in its tables describes. No manifest names a file yet.
 abbrev pub release_of : Members → Answer
-release_of ms =
-    let ls = map launch_in (launches_at ms) in
-    if has_two_names ls then Err TwoNames else Ok (record { paths = []; launches = ls })
+release_of ms = if has_two_names (launches_of ms) then Err TwoNames else Ok (record { paths = []; launches = launches_of ms })
 
 abbrev pub fault_or_release : Members → Option ManifestFault → Answer
 fault_or_release ms (Some fault) = Err fault

@@ -44,7 +44,7 @@ pub enum ManifestFault {
 }
 
 impl ManifestFault {
-    /// The fault's name in lower case with hyphens, as the program prints it.
+    /// The fault's word, lower case with hyphens, as the program prints it.
     pub fn kind(&self) -> &'static str
         ensures { result.now ≡ kind_of self.now }
     {

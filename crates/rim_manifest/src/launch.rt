@@ -1,56 +1,31 @@
-//! The launches of a release.
-ghost use Rattle.std.specs.Prelude.{◌≡◌, IfOk, string_bytes};
+//! Reading the launches of a release.
+ghost use Rattle.std.specs.Prelude.{◌≡◌, ◌≤◌, IfOk, string_bytes, true};
 ghost use Rattle.toml.specs.Data.{get_member};
 ghost use Rattle.toml.specs.View.{table_view, view};
-ghost use Rattle.rim_manifest.specs.Launches.{LaunchData, algorithm_in, config_of, digits_in, launch_in, launch_of, small_in, text_in, truth_in};
+ghost use Rattle.ipa_layout.specs.Ranges.{config_in_range};
+ghost use Rattle.rim_manifest.specs.Launches.{NamedData, algorithm_in, bare_launch, config_of, digits_in, launch_in, launch_of, number_in, text_in, truth_in};
 
 use crate::check::cell;
+use ipa_layout::{Config, Launch};
 use rim_desc::Algo;
 use std::alloc::{AllocError, Global};
 use std::marker::Model;
 use toml::{Table, Value};
 
-/// The configuration of a launch: what the manifest's keys of these names say, or their defaults.
-#[derive(Clone, Copy, Debug, PartialEq, Eq)]
-pub struct Config {
-    /// The hash algorithm of the realm's measurements.
-    pub algo: Algo,
-    /// The width of an IPA in bits, 32 to 48.
-    pub s2sz: u8,
-    /// Whether the realm has SVE.
-    pub sve: bool,
-    /// Whether the realm has a PMU.
-    pub pmu: bool,
-    /// The SVE vector length, as the standard counts it.
-    pub sve_vl: u8,
-    /// The number of breakpoints.
-    pub num_bps: u8,
-    /// The number of watchpoints.
-    pub num_wps: u8,
-    /// The number of PMU counters.
-    pub pmu_num_ctrs: u8,
-    /// The Realm Personalization Value, which is not measured.
-    pub rpv: [u8; 64],
-    /// The lowest level of a block of RAM, 0 to 3.
-    pub block_level: u8,
-    /// The number of auxiliary granules of a REC, 0 to 16.
-    pub num_aux: u8,
-}
-
-/// A launch: a name and a configuration.
+/// A launch of a release, with the name that the manifest gives it.
 #[derive(Drop)]
-pub struct Launch {
+pub struct NamedLaunch {
     name: String,
-    config: Config,
+    launch: Launch,
 }
 
-impl Model for Launch {
-    ghost Value = { LaunchData };
+impl Model for NamedLaunch {
+    ghost Value = { NamedData };
 
-    ghost view = { λ l. record { name = string_bytes l.name; config = l.config } };
+    ghost view = { λ l. record { name = string_bytes l.name; launch = l.launch } };
 }
 
-impl Launch {
+impl NamedLaunch {
     /// The name of the launch.
     pub fn name(&self) -> &str
         ensures { result.now ≡ self.now.name }
@@ -58,30 +33,47 @@ impl Launch {
         self.name.as_str()
     }
 
-    /// The configuration of the launch.
-    pub fn config(&self) -> Config
-        ensures { result ≡ self.now.config }
+    /// The launch itself.
+    pub fn launch(&self) -> &Launch
+        ensures { result.now ≡ self.now.launch }
     {
-        self.config
+        &self.launch
     }
 }
 
-/// Reads a launch from a value without faults.
-pub fn read_launch(alloc: Global, value: &Value) -> Result<Launch, AllocError>
-    ensures { IfOk result (λ l. l ≡ launch_in (view value.now)) }
+/// Reads the launch of this number from a value without faults.
+pub fn read_launch(alloc: Global, number: usize, value: &Value) -> Result<NamedLaunch, AllocError>
+    ensures { IfOk result (λ l. l ≡ launch_in number (view value.now)) }
 {
     match value {
-        Value::Table(table) => read_table(alloc, table),
-        _ => read_table(alloc, &Table::new(alloc)),
+        Value::Table(table) => read_table(alloc, number, table),
+        _ => read_table(alloc, number, &Table::new(alloc)),
     }
 }
 
-fn read_table(alloc: Global, table: &Table) -> Result<Launch, AllocError>
-    ensures { IfOk result (λ l. l ≡ launch_of (table_view table.now)) }
+fn read_table(alloc: Global, number: usize, table: &Table) -> Result<NamedLaunch, AllocError>
+    ensures { IfOk result (λ l. l ≡ launch_of number (table_view table.now)) }
 {
     let name = String::from_str(alloc, text(table, "name"))?;
-    let config = read_config(table);
-    Ok(Launch { name, config })
+    let launch = bare_launch(alloc, number, read_config(table));
+    Ok(NamedLaunch { name, launch })
+}
+
+/// A launch of a configuration alone: it has no memory, items or RECs, and so breaks no condition of
+/// its type.
+fn bare_launch(alloc: Global, number: usize, config: Config) -> Launch
+    requires { config_in_range config ≡ true }
+    ensures { result ≡ bare_launch number config }
+{
+    let launch = Launch::new(
+        number,
+        config,
+        Vec::new(alloc),
+        Vec::new(alloc),
+        Vec::new(alloc),
+        Vec::new(alloc),
+    );
+    launch.unwrap()
 }
 
 #[tactic(auto, unfolding(crate::specs::Launches::config_of))]
@@ -90,16 +82,18 @@ fn read_config(table: &Table) -> Config
 {
     Config {
         algo: algorithm(table, "algo"),
-        s2sz: small(table, "s2sz", 0),
+        s2sz: number(table, "s2sz", 32, 48, 32),
         sve: truth(table, "sve"),
         pmu: truth(table, "pmu"),
-        sve_vl: small(table, "sve_vl", 0),
-        num_bps: small(table, "num_bps", 0),
-        num_wps: small(table, "num_wps", 0),
-        pmu_num_ctrs: small(table, "pmu_num_ctrs", 0),
+        sve_vl: number(table, "sve_vl", 0, 255, 0),
+        num_bps: number(table, "num_bps", 0, 255, 0),
+        num_wps: number(table, "num_wps", 0, 255, 0),
+        pmu_num_ctrs: number(table, "pmu_num_ctrs", 0, 255, 0),
         rpv: digits(table, "rpv"),
-        block_level: small(table, "block_level", 2),
-        num_aux: small(table, "num_aux", 0),
+        block_level: number(table, "block_level", 0, 3, 2),
+        num_aux: number(table, "num_aux", 0, 16, 0),
+        pool_base: 0x8_0000_0000,
+        pool_count: 16_777_216,
     }
 }
 
@@ -112,11 +106,12 @@ fn text<'a>(table: &'a Table, key: &str) -> &'a str
     }
 }
 
-fn small(table: &Table, key: &str, default: u8) -> u8
-    ensures { result ≡ small_in (get_member key.now (table_view table.now)) default }
+/// The number at a key that is from `low` to `high`, or a default.
+fn number(table: &Table, key: &str, low: u8, high: u8, default: u8) -> u8
+    ensures { result ≡ number_in low high default (get_member key.now (table_view table.now)) }
 {
     match cell(table, key) {
-        Some(Value::Integer(x)) => u8::try_from(*x).unwrap_or(default),
+        Some(Value::Integer(x)) if low as i64 <= *x && *x <= high as i64 => *x as u8,
         _ => default,
     }
 }

@@ -14,5 +14,5 @@ pub mod manifest;
 pub mod rules;
 
 pub use fault::ManifestFault;
-pub use launch::{Config, Launch};
+pub use launch::NamedLaunch;
 pub use manifest::{Release, read_manifest};

@@ -4,12 +4,12 @@ ghost use Rattle.std.specs.List.{flat_map, list_any};
 ghost use Rattle.toml.specs.Data.{get_member};
 ghost use Rattle.toml.specs.View.{table_view, view};
 ghost use Rattle.rim_manifest.specs.Faults.{lowest, noted};
-ghost use Rattle.rim_manifest.specs.Launches.{LaunchData, ReleaseData, launch_in};
+ghost use Rattle.rim_manifest.specs.Launches.{ReleaseData, launches_from};
 ghost use Rattle.rim_manifest.specs.Manifest.{has_two_names, has_version, items_of, launch_faults, launches_at, manifest_faults, manifest_of, name_in, release_of};
 
 use crate::check::{cell, check_table};
 use crate::fault::{ManifestFault, note_if};
-use crate::launch::{Launch, read_launch};
+use crate::launch::{NamedLaunch, read_launch};
 use crate::rules::{LAUNCH_RULES, TOP_RULES};
 use std::alloc::{AllocError, Global};
 use std::marker::Model;
@@ -19,7 +19,7 @@ use toml::{Table, Value};
 #[derive(Drop)]
 pub struct Release {
     paths: Vec<String>,
-    launches: Vec<Launch>,
+    launches: Vec<NamedLaunch>,
 }
 
 impl Model for Release {
@@ -61,7 +61,7 @@ impl Release {
     }
 
     /// All launches, in the manifest's order.
-    pub fn all_launches(&self) -> &[Launch]
+    pub fn all_launches(&self) -> &[NamedLaunch]
         ensures { result.now ≡ self.now.launches }
     {
         self.launches.as_slice()
@@ -159,18 +159,18 @@ fn read_release(alloc: Global, table: &Table) -> Result<Release, ManifestFault>
     })
 }
 
-fn read_launches(alloc: Global, items: &[Value]) -> Result<Vec<Launch>, AllocError>
-    ensures { IfOk result (λ ls. ls.items ≡ map launch_in (map view items.now)) }
+fn read_launches(alloc: Global, items: &[Value]) -> Result<Vec<NamedLaunch>, AllocError>
+    ensures { IfOk result (λ ls. ls.items ≡ launches_from 0 (map view items.now)) }
 {
     let mut launches = Vec::with_capacity(alloc, items.len())?;
-    for item in items {
-        launches.push(read_launch(alloc, item)?)?;
+    for (number, item) in items.iter().enumerate() {
+        launches.push(read_launch(alloc, number, item)?)?;
     }
     Ok(launches)
 }
 
 /// Whether two launches share a name.
-fn has_two_names(launches: &[Launch]) -> bool
+fn has_two_names(launches: &[NamedLaunch]) -> bool
     ensures { result ≡ has_two_names launches.now }
 {
     'launches: for i in 0..launches.len() {
@@ -181,7 +181,7 @@ fn has_two_names(launches: &[Launch]) -> bool
     false
 }
 
-fn is_named(launches: &[Launch], name: &str) -> bool
+fn is_named(launches: &[NamedLaunch], name: &str) -> bool
     ensures { result ≡ list_any (name_in name.now) launches.now }
 {
     launches.iter().any(|launch| launch.name() == name)

@@ -5,7 +5,7 @@ use Rattle.hex.specs.Hex.{encode_lower}
 use Rattle.rim_desc.specs.Part.{rim_of}
 use Rattle.rim_desc.specs.declared.measurement.Algo.{Algo}
 use Rattle.rim_desc.specs.declared.measurement.Algo.TheVariants.{Sha256, Sha512}
-use Rattle.rim_manifest.specs.Launches.{LaunchData}
+use Rattle.rim_manifest.specs.Launches.{NamedData}
 use Rattle.rim_release.specs.Measured.{measured_parts}
 
 -- the word of an algorithm, between spaces
@@ -23,9 +23,11 @@ abbrev pub digest_text : Algo → List ℕ → List ℕ
 digest_text algo rim = encode_lower (digest_bytes algo rim)
 
 -- a launch's line: its name, its algorithm and its Realm Initial Measurement
-unfoldable pub line_of : LaunchData → List ℕ
-line_of l = ((l.name ++ algo_word l.config.algo) ++ digest_text l.config.algo (rim_of l.config.algo (measured_parts l.config))) ++ codes "\n"
+unfoldable pub line_of : NamedData → List ℕ
+line_of l =
+    let config = l.launch.config in
+    ((l.name ++ algo_word config.algo) ++ digest_text config.algo (rim_of config.algo (measured_parts config))) ++ codes "\n"
 
 -- the whole report
-abbrev pub report_of : List LaunchData → List ℕ
+abbrev pub report_of : List NamedData → List ℕ
 report_of ls = (codes "rim-report 1\n" ++ flat_map line_of ls) ++ codes "pages 0\n"

@@ -21,7 +21,7 @@ pub enum StartFault {
 }
 
 impl StartFault {
-    /// The fault's name in lower case with hyphens, as the program prints it.
+    /// The fault's word, lower case with hyphens, as the program prints it.
     pub fn kind(&self) -> &'static str
         ensures { result.now ≡ start_kind_of self.now }
     {

@@ -9,6 +9,7 @@ pub mod show;
 
 pub use devicetree::show_fdt;
 pub use fault::{ShowFault, StartFault};
+pub use ipa_layout::{Config, Launch};
 pub use report::{Files, measure_alone};
-pub use rim_manifest::{Config, Launch, ManifestFault, Release, read_manifest};
+pub use rim_manifest::{ManifestFault, NamedLaunch, Release, read_manifest};
 pub use show::show_image;

@@ -7,8 +7,9 @@ ghost use Rattle.rim_release.specs.Measured.{measured_parts};
 
 use crate::fault::StartFault;
 use crate::measured::rim;
+use ipa_layout::Config;
 use rim_desc::{Algo, Measurement};
-use rim_manifest::{Config, Launch, Release};
+use rim_manifest::{NamedLaunch, Release};
 use std::alloc::{AllocError, Global};
 
 /// The bytes of a release's files, in the manifest's order.
@@ -28,7 +29,7 @@ pub fn measure_alone(alloc: Global, release: &Release, files: &Files) -> Result<
     }
 }
 
-fn report(alloc: Global, launches: &[Launch]) -> Result<Vec<u8>, AllocError>
+fn report(alloc: Global, launches: &[NamedLaunch]) -> Result<Vec<u8>, AllocError>
     ensures { IfOk result (λ text. text.items ≡ report_of launches.now) }
 {
     let mut text = Vec::new(alloc);
@@ -38,7 +39,7 @@ fn report(alloc: Global, launches: &[Launch]) -> Result<Vec<u8>, AllocError>
     Ok(text)
 }
 
-fn push_lines(alloc: Global, text: &mut Vec<u8>, launches: &[Launch]) -> Result<(), AllocError>
+fn push_lines(alloc: Global, text: &mut Vec<u8>, launches: &[NamedLaunch]) -> Result<(), AllocError>
     ensures { OnOk result (text.new.items ≡ text.old.items ++ flat_map line_of launches.now) }
 {
     for launch in launches {
@@ -48,12 +49,13 @@ fn push_lines(alloc: Global, text: &mut Vec<u8>, launches: &[Launch]) -> Result<
 }
 
 #[tactic(auto, unfolding(crate::specs::Report::line_of))]
-fn push_line(alloc: Global, text: &mut Vec<u8>, launch: &Launch) -> Result<(), AllocError>
+fn push_line(alloc: Global, text: &mut Vec<u8>, launch: &NamedLaunch) -> Result<(), AllocError>
     ensures { OnOk result (text.new.items ≡ text.old.items ++ line_of launch.now) }
 {
+    let config = launch.launch().config();
     text.extend_from_slice(launch.name().as_bytes())?;
-    text.extend_from_slice(algo_word(launch.config().algo))?;
-    push_digest(alloc, text, launch.config())?;
+    text.extend_from_slice(algo_word(config.algo))?;
+    push_digest(alloc, text, config)?;
     text.extend_from_slice(b"\n")?;
     Ok(())
 }

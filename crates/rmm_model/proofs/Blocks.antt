@@ -13,13 +13,6 @@ size-pos (suc zero) = omega arith
 size-pos (suc (suc zero)) = omega arith
 size-pos (suc (suc (suc n))) = omega arith
 
-pub size-most : (l : ℕ) → size l ≤ 549755813888
-unfolding size
-size-most zero = omega arith
-size-most (suc zero) = omega arith
-size-most (suc (suc zero)) = omega arith
-size-most (suc (suc (suc n))) = omega arith
-
 pub span-pos : (l : ℕ) → 0 < span l
 span-pos l = omega (arith, size-pos l)
 

@@ -2,7 +2,7 @@
 use Rattle.std.proofs.Common.{inl, inr, ◌≡◌, ℕ, ◌<◌, ◌≤◌, arith, true, max, leb, ltb, ◌&&◌, List, [], ◌∷◌}
 use Rattle.std.proofs.lemmas.Bool.Decides.{nat_tests}
 use Rattle.rmm_model.specs.Space.{are_some, is_ram, overlaps}
-use Rattle.rmm_model.proofs.Tests.{bool-cases}
+use Rattle.std.proofs.lemmas.Bool.{cases_Bool}
 
 ram-here : (r : ℕ × ℕ) (rs : List (ℕ × ℕ)) (x : ℕ) → r.0 ≤ x → x < r.1 → is_ram (r ∷ rs) x ≡ true
 ram-here r rs x lo hi = grind (arith, nat_tests)
@@ -14,7 +14,7 @@ ram-there r rs x h = grind (arith, nat_tests)
 pub overlaps-some : (rs : List (ℕ × ℕ)) (b t : ℕ) → are_some rs ≡ true → b < t → overlaps rs b t ≡ true → (y : ℕ) × (b ≤ y) × (y < t) × (is_ram rs y ≡ true)
 overlaps-some [] b t some lt = λ h. absurd (cc)
 overlaps-some (r ∷ rs) b t some lt =
-    elim (bool-cases (ltb r.0 t && ltb b r.1)) [
+    elim (cases_Bool (ltb r.0 t && ltb b r.1)) [
       | inl k ↦ (λ h. (let s : r.0 < r.1 = grind (arith, nat_tests) in
           let p : r.0 < t = grind (arith, nat_tests) in
           let q : b < r.1 = grind (arith, nat_tests) in
@@ -28,7 +28,7 @@ overlaps-some (r ∷ rs) b t some lt =
 pub some-overlaps : (rs : List (ℕ × ℕ)) (b t y : ℕ) → b ≤ y → y < t → is_ram rs y ≡ true → overlaps rs b t ≡ true
 some-overlaps [] b t y lo hi = λ h. h
 some-overlaps (r ∷ rs) b t y lo hi =
-    elim (bool-cases (leb r.0 y && ltb y r.1)) [
+    elim (cases_Bool (leb r.0 y && ltb y r.1)) [
       | inl k ↦ (λ h. grind (arith, nat_tests))
       | inr k ↦ rw k (λ h. (let i : overlaps rs b t ≡ true = some-overlaps rs b t y lo hi h in grind (arith, nat_tests)))
     ]

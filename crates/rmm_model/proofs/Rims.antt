@@ -1,6 +1,7 @@
 -- The measurement is made of exactly the parts that commands show.
 use Rattle.std.proofs.Common.{inl, inr, ◌≡◌, ◌∙◌, ℕ, sym, refl, ap, subst, true, false, List, [], ◌∷◌, ◌++◌, ◌⊎◌}
 use Rattle.std.specs.Prelude.{Some, None, Result, Ok, Err}
+use Rattle.std.proofs.lemmas.Option.{same_Some}
 use Rattle.rim_desc.specs.declared.command.Command.{Command}
 use Rattle.rim_desc.specs.declared.command.Command.TheVariants.{Delegate, RealmCreate, RttCreate, InitRipas, DataCreate, RecCreate, Activate}
 use Rattle.rim_desc.specs.declared.measurement.Algo.{Algo}
@@ -10,24 +11,17 @@ use Rattle.rmm_model.specs.declared.outcome.Refused.{Refused}
 use Rattle.rmm_model.specs.declared.outcome.Refused.TheVariants as refusal
 use Rattle.rmm_model.specs.State.{State, algo_of, empty_state, is_empty, is_new, measured_so_far}
 use Rattle.rmm_model.specs.declared.outcome.Phase.TheVariants.{Empty, New, Active}
-use Rattle.rmm_model.specs.Checks.{Check, checks}
+use Rattle.rmm_model.specs.Checks.{checks}
 use Rattle.rmm_model.specs.Effects.{changed, measured, parts}
-use Rattle.rmm_model.specs.Step.{step, unless_refused}
+use Rattle.rmm_model.specs.Step.{step}
 use Rattle.rmm_model.specs.Run.{after, parts_of, run, shown}
-use Rattle.rmm_model.proofs.Tests.{bool-cases}
+use Rattle.rmm_model.proofs.Refusals.{done-or-refused}
 
 -- ---- one step
 
-refused-or : (cs : List Check) (next : State) → (unless_refused cs next ≡ Ok next) ⊎ ((e : Refused) × (unless_refused cs next ≡ Err e))
-refused-or [] next = inl refl
-refused-or (check ∷ others) next = elim (bool-cases check.1) [
-  | inl holds ↦ inr (check.0, rw holds refl)
-  | inr passed ↦ rw passed (refused-or others next)
-]
-
 -- a command is taken with its effects and its parts, or refused
 pub step-cases : (s : State) (c : Command) → (step s c ≡ Ok (measured (changed s c) (parts s c))) ⊎ ((e : Refused) × (step s c ≡ Err e))
-step-cases s c = refused-or (checks s c) (measured (changed s c) (parts s c))
+step-cases s c = done-or-refused (checks s c) (measured (changed s c) (parts s c))
 
 measured-phase : (s : State) (ps : List Part) → (measured s ps).phase ≡ s.phase
 measured-phase s [] = refl
@@ -116,9 +110,6 @@ started s (DataCreate granule ipa content) h = IsRefused refusal.State (rw (new-
 started s (RecCreate rec params) h = IsRefused refusal.State (rw (new-not s h.phase) refl)
 started s Activate h = IsRefused refusal.State (rw (new-not s h.phase) refl)
 
-same-some : {A : Type 0} (a b : A) → Some a ≡ Some b → a ≡ b
-same-some a b h = cc
-
 bare-run : (cs : List Command) (s : State) (p : RealmParams) → IsBare s
     → (run s cs).params ≡ Some p → (run s cs).rim ≡ Some (rim_of p.algo (shown s cs))
 unfolding run shown
@@ -134,7 +125,7 @@ bare-run (c ∷ cs) s p h =
     λ q rim starts realm at.
     (let all : IsRealm (run next cs) q (extended_by q.algo rim (shown next cs)) = realm-run cs next q rim realm in
     subst Claim (sym at) (λ params.
-    (let same : q ≡ p = same-some q p (sym all.params ∙ params) in
+    (let same : q ≡ p = same_Some q p (sym all.params ∙ params) in
     all.at ∙ ap (λ m. Some m) (sym (starts (shown next cs))) ∙ ap (λ (r : RealmParams). Some (rim_of r.algo (parts s c ++ shown next cs))) same))) in
     elim (started s c h) [
       | IsRefused e at ↦ refused e at

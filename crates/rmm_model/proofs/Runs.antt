@@ -1,6 +1,7 @@
 -- Lists of commands, one after another.
-use Rattle.std.proofs.Common.{◌≡◌, ◌∙◌, sym, refl, ap, Bool, true, false, ◌&&◌, List, [], ◌∷◌, ◌++◌, append_assoc}
+use Rattle.std.proofs.Common.{◌≡◌, ◌∙◌, sym, refl, ap, ◌&&◌, List, [], ◌∷◌, ◌++◌, append_assoc}
 use Rattle.std.specs.Prelude.{Ok, is_ok}
+use Rattle.std.proofs.Math.Bool.{and_assoc}
 use Rattle.rim_desc.specs.declared.command.Command.{Command}
 use Rattle.rim_desc.specs.Part.{Part}
 use Rattle.rmm_model.specs.State.{State}
@@ -27,16 +28,12 @@ unfolding run
 run-append s [] ds = refl
 run-append s (c ∷ cs) ds = run-append (after s (step s c)) cs ds
 
-and-assoc : (a b c : Bool) → (a && (b && c)) ≡ ((a && b) && c)
-and-assoc true b c = refl
-and-assoc false b c = refl
-
 pub accepted-append : (s : State) (cs ds : List Command) → accepted s (cs ++ ds) ≡ (accepted s cs && accepted (run s cs) ds)
 unfolding accepted run
 accepted-append s [] ds = refl
 accepted-append s (c ∷ cs) ds =
     ap (λ b. is_ok (step s c) && b) (accepted-append (after s (step s c)) cs ds)
-    ∙ and-assoc (is_ok (step s c)) (accepted (after s (step s c)) cs) (accepted (run (after s (step s c)) cs) ds)
+    ∙ sym (and_assoc (is_ok (step s c)) (accepted (after s (step s c)) cs) (accepted (run (after s (step s c)) cs) ds))
 
 pub shown-append : (s : State) (cs ds : List Command) → shown s (cs ++ ds) ≡ shown s cs ++ shown (run s cs) ds
 unfolding shown run

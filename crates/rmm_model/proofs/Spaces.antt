@@ -12,7 +12,7 @@ use Rattle.std.proofs.lemmas.Bool.Decides.{nat_tests}
 use Rattle.std.proofs.lemmas.Map.Lookups.{CmpEqualImpliesEq, exact_unsigned}
 use Rattle.rmm_model.specs.declared.table.Table.{Table}
 use Rattle.rmm_model.specs.Space.{are_some, covers, deeper, has, is_ram, made, overlaps, table_cmp, walk}
-use Rattle.rmm_model.proofs.Tests.{neither}
+use Rattle.std.proofs.lemmas.Bool.{or_parts}
 
 or-same : (a b : Bool) → (a || b) ≡ (a || (a || b))
 or-same true b = refl
@@ -99,7 +99,7 @@ any-insert_entry p (e ∷ es) k v = placed (any-insert_entry p es k v) (nat_cmp 
 none-at : (ram : List (ℕ × ℕ)) (base top : ℕ) → are_some ram ≡ true → base < top → overlaps ram base top ≡ false → lookup (is_at (nat_cmp base)) ram ≡ None
 none-at [] base top some lt free = refl
 none-at (r ∷ rs) base top some lt free =
-    let parts = neither (ltb r.0 top && ltb base r.1) (overlaps rs base top) free in
+    let parts = or_parts (ltb r.0 top && ltb base r.1) (overlaps rs base top) free in
     let others : are_some rs ≡ true = grind (arith, nat_tests) in
     let i : lookup (is_at (nat_cmp base)) rs ≡ None = none-at rs base top others lt parts.1 in
     grind (arith, nat_tests)

@@ -1,7 +1,6 @@
 -- No granule is taken twice.
-use Rattle.std.proofs.Common.{inl, inr, ◌≡◌, ℕ, zero, suc, ◌+◌, ◌≤◌, ◌∙◌, sym, refl, subst, arith, Bool, true, false, not, ◌&&◌, ◌||◌, eqb, List, [], ◌∷◌, ◌++◌, ◌⊎◌, get_or}
+use Rattle.std.proofs.Common.{inl, inr, ◌≡◌, ℕ, zero, suc, ◌+◌, ◌≤◌, ◌∙◌, sym, refl, subst, arith, Bool, true, false, not, ◌&&◌, ◌||◌, eqb, List, [], ◌∷◌, ◌++◌, ◌⊎◌}
 use Rattle.std.specs.Prelude.{Option, Some, None, Result, Ok, Err, is_ok, is_some}
-use Rattle.std.specs.List.{list_any}
 use Rattle.std.proofs.lemmas.Bool.Decides.{nat_tests}
 use Rattle.rim_desc.specs.declared.command.Command.{Command}
 use Rattle.rim_desc.specs.declared.command.Command.TheVariants.{Delegate, RealmCreate, RttCreate, InitRipas, DataCreate, RecCreate, Activate}
@@ -14,13 +13,14 @@ use Rattle.rmm_model.specs.Blocks.{granules}
 use Rattle.rmm_model.specs.Space.{has}
 use Rattle.rmm_model.specs.Owners.{all_delegated, give, give_all, is_delegated, is_delegated_kind, kind_of, repeats}
 use Rattle.rmm_model.specs.State.{State}
-use Rattle.rmm_model.specs.Checks.{Check, checks, start_tables}
+use Rattle.rmm_model.specs.Checks.{checks, start_tables}
 use Rattle.rmm_model.specs.Effects.{changed, measured, parts}
-use Rattle.rmm_model.specs.Step.{step, unless_refused}
+use Rattle.rmm_model.specs.Step.{step}
 use Rattle.rmm_model.specs.Run.{accepted, after, taken, taken_by}
 use Rattle.rmm_model.proofs.Owners.{kind_of-here, kind_of-other}
+use Rattle.rmm_model.proofs.Refusals.{holds, none-holds, off-at}
 use Rattle.rmm_model.proofs.Rims.{step-cases}
-use Rattle.rmm_model.proofs.Tests.{bool-cases, both, eqb-is, neither}
+use Rattle.std.proofs.lemmas.Bool.{and_parts, cases_Bool, eqb-true, not-false, or_parts}
 
 -- ---- granules in use: those with a kind other than DELEGATED
 
@@ -40,8 +40,8 @@ used-here : (owners : List (ℕ × Kind)) (g : ℕ) (kind : Kind) → is_used_ki
 used-here owners g kind one = rw (kind_of-here owners g kind) one
 
 used-give : (owners : List (ℕ × Kind)) (g h : ℕ) (kind : Kind) → is_used_kind (Some kind) ≡ true → used owners h ≡ true → used (give owners g kind) h ≡ true
-used-give owners g h kind one old = elim (bool-cases (eqb h g)) [
-  | inl e ↦ (let same : h ≡ g = eqb-is h g e in rw same (used-here owners g kind one))
+used-give owners g h kind one old = elim (cases_Bool (eqb h g)) [
+  | inl e ↦ (let same : h ≡ g = eqb-true h g e in rw same (used-here owners g kind one))
   | inr n ↦ rw (kind_of-other owners g h kind (λ e. (let t : eqb h g ≡ true = grind (arith, nat_tests) in absurd (cc)))) old
 ]
 
@@ -53,16 +53,16 @@ used-give_all (g ∷ gs) owners h kind one old = used-give_all gs (give owners g
 used-in_all : (gs : List ℕ) (owners : List (ℕ × Kind)) (h : ℕ) (kind : Kind) → is_used_kind (Some kind) ≡ true → has gs h ≡ true → used (give_all owners gs kind) h ≡ true
 unfolding give_all
 used-in_all [] owners h kind one = λ there. absurd (cc)
-used-in_all (g ∷ gs) owners h kind one = elim (bool-cases (eqb g h)) [
-  | inl e ↦ (λ there. (let same : g ≡ h = eqb-is g h e in used-give_all gs (give owners g kind) h kind one (rw same (used-here owners h kind one))))
+used-in_all (g ∷ gs) owners h kind one = elim (cases_Bool (eqb g h)) [
+  | inl e ↦ (λ there. (let same : g ≡ h = eqb-true g h e in used-give_all gs (give owners g kind) h kind one (rw same (used-here owners h kind one))))
   | inr n ↦ rw n (λ there. used-in_all gs (give owners g kind) h kind one there)
 ]
 
 -- a granule that is given DELEGATED had no kind, so none in use is changed
 used-delegate : (owners : List (ℕ × Kind)) (g h : ℕ) → kind_of owners g ≡ None → used owners h ≡ true → used (give owners g Delegated) h ≡ true
 unfolding is_used_kind
-used-delegate owners g h free old = elim (bool-cases (eqb h g)) [
-  | inl e ↦ (let same : h ≡ g = eqb-is h g e in absurd (let none : used owners h ≡ false = rw (same, free) refl in cc))
+used-delegate owners g h free old = elim (cases_Bool (eqb h g)) [
+  | inl e ↦ (let same : h ≡ g = eqb-true h g e in absurd (let none : used owners h ≡ false = rw (same, free) refl in cc))
   | inr n ↦ rw (kind_of-other owners g h Delegated (λ e. (let t : eqb h g ≡ true = grind (arith, nat_tests) in absurd (cc)))) old
 ]
 
@@ -79,9 +79,9 @@ unused-delegated (Some RecAux) h = absurd (cc)
 unused-in_all : (gs : List ℕ) (owners : List (ℕ × Kind)) (h : ℕ) → all_delegated owners gs ≡ true → has gs h ≡ true → used owners h ≡ false
 unused-in_all [] owners h own = λ there. absurd (cc)
 unused-in_all (g ∷ gs) owners h own =
-    let parts = both (is_delegated owners g) (all_delegated owners gs) own in
-    elim (bool-cases (eqb g h)) [
-      | inl e ↦ (λ there. (let same : g ≡ h = eqb-is g h e in rw (← same) (unused-delegated (kind_of owners g) parts.0)))
+    let parts = and_parts (is_delegated owners g) (all_delegated owners gs) own in
+    elim (cases_Bool (eqb g h)) [
+      | inl e ↦ (λ there. (let same : g ≡ h = eqb-true g h e in rw (← same) (unused-delegated (kind_of owners g) parts.0)))
       | inr n ↦ rw n (λ there. unused-in_all gs owners h parts.1 there)
     ]
 
@@ -89,12 +89,12 @@ unused-in_all (g ∷ gs) owners h own =
 
 has-append : (xs ys : List ℕ) (x : ℕ) → has (xs ++ ys) x ≡ has xs x || has ys x
 has-append [] ys x = refl
-has-append (z ∷ xs) ys x = elim (bool-cases (eqb z x)) [ inl e ↦ rw e refl | inr n ↦ rw n (has-append xs ys x) ]
+has-append (z ∷ xs) ys x = elim (cases_Bool (eqb z x)) [ inl e ↦ rw e refl | inr n ↦ rw n (has-append xs ys x) ]
 
 repeats-append : (xs ys : List ℕ) → repeats xs ≡ false → repeats ys ≡ false → ((h : ℕ) → has xs h ≡ true → has ys h ≡ false) → repeats (xs ++ ys) ≡ false
 repeats-append [] ys first second apart = second
 repeats-append (x ∷ xs) ys first second apart =
-    let parts = neither (has xs x) (repeats xs) first in
+    let parts = or_parts (has xs x) (repeats xs) first in
     let here : has ys x ≡ false = apart x (grind (arith, nat_tests)) in
     let others : repeats (xs ++ ys) ≡ false = repeats-append xs ys parts.1 second (λ h there. apart h (grind (arith, nat_tests))) in
     rw (has-append xs ys x, parts.0, here, others) refl
@@ -103,15 +103,15 @@ granules-from : (n x y : ℕ) → has (granules n x) y ≡ true → x ≤ y
 unfolding granules
 granules-from zero x y = λ there. absurd (cc)
 granules-from (suc n) x y =
-    elim (bool-cases (eqb x y)) [
-      | inl e ↦ (λ there. (let same : x ≡ y = eqb-is x y e in omega arith))
+    elim (cases_Bool (eqb x y)) [
+      | inl e ↦ (λ there. (let same : x ≡ y = eqb-true x y e in omega arith))
       | inr no_match ↦ rw no_match (λ there. (let far : x + 4096 ≤ y = granules-from n (x + 4096) y there in omega arith))
     ]
 
 repeats-granules : (n x : ℕ) → repeats (granules n x) ≡ false
 unfolding granules
 repeats-granules zero x = refl
-repeats-granules (suc n) x = elim (bool-cases (has (granules n (x + 4096)) x)) [
+repeats-granules (suc n) x = elim (cases_Bool (has (granules n (x + 4096)) x)) [
   | inl there ↦ (let far : x + 4096 ≤ x = granules-from n (x + 4096) x there in absurd (omega arith))
   | inr apart ↦ rw (apart, repeats-granules n (x + 4096)) refl
 ]
@@ -126,27 +126,6 @@ record Takes (s : State) (c : Command) : Type 0 where
   free : (h : ℕ) → has (taken_by c) h ≡ true → used s.owners h ≡ false
   apart : repeats (taken_by c) ≡ false
 
--- none of these checks holds
-abbrev holds : List Check → Bool
-holds cs = list_any (λ check. check.1) cs
-
-none-holds : (cs : List Check) (next n : State) → unless_refused cs next ≡ Ok n → holds cs ≡ false
-none-holds [] next n = λ at. refl
-none-holds (check ∷ others) next n = elim (bool-cases check.1) [
-  | inl on ↦ rw on (λ at. absurd (cc))
-  | inr off ↦ rw off (λ at. none-holds others next n at)
-]
-
--- nor the one at a place
-off-at : (cs : List Check) (i : ℕ) → holds cs ≡ false → (get_or cs i (refusal.State, false)).1 ≡ false
-off-at [] i off = refl
-off-at (check ∷ others) zero off = (neither check.1 (holds others) off).0
-off-at (check ∷ others) (suc i) off = off-at others i ((neither check.1 (holds others) off).1)
-
-is-not : (b : Bool) → not b ≡ false → b ≡ true
-is-not true h = refl
-is-not false h = absurd (cc)
-
 no-some : {A : Type 0} (o : Option A) → is_some o ≡ false → o ≡ None
 no-some None h = refl
 no-some (Some a) h = absurd (cc)
@@ -156,12 +135,12 @@ nothing c none h = rw none (λ there. cc)
 
 -- one granule, which was DELEGATED
 one : (owners : List (ℕ × Kind)) (g h : ℕ) → has (g ∷ []) h ≡ true → g ≡ h
-one owners g h there = eqb-is g h (grind (arith, nat_tests))
+one owners g h there = eqb-true g h (grind (arith, nat_tests))
 
 takes : (s : State) (c : Command) → holds (checks s c) ≡ false → Takes s c
 unfolding is_used_kind
 takes s (Delegate granule) off =
-    let free : kind_of s.owners granule ≡ None = no-some (kind_of s.owners granule) (off-at (checks s (Delegate granule)) 1 off) in
+    let free : kind_of s.owners granule ≡ None = no-some (kind_of s.owners granule) (off-at (checks s (Delegate granule)) 1 refusal.State off) in
     record {
       keeps = λ h old. used-delegate s.owners granule h free old;
       uses = λ h there. absurd (cc);
@@ -169,7 +148,7 @@ takes s (Delegate granule) off =
       apart = refl;
     }
 takes s (RttCreate rtt ipa level) off =
-    let own : is_delegated s.owners rtt ≡ true = is-not (is_delegated s.owners rtt) (off-at (checks s (RttCreate rtt ipa level)) 5 off) in
+    let own : is_delegated s.owners rtt ≡ true = not-false (is_delegated s.owners rtt) (off-at (checks s (RttCreate rtt ipa level)) 5 refusal.State off) in
     record {
       keeps = λ h old. used-give s.owners rtt h Rtt refl old;
       uses = λ h there. rw (← one s.owners rtt h there) (used-here s.owners rtt Rtt refl);
@@ -183,7 +162,7 @@ takes s (InitRipas base top) off = record {
   apart = refl;
 }
 takes s (DataCreate granule ipa content) off =
-    let own : is_delegated s.owners granule ≡ true = is-not (is_delegated s.owners granule) (off-at (checks s (DataCreate granule ipa content)) 7 off) in
+    let own : is_delegated s.owners granule ≡ true = not-false (is_delegated s.owners granule) (off-at (checks s (DataCreate granule ipa content)) 7 refusal.State off) in
     record {
       keeps = λ h old. used-give s.owners granule h DataPage refl old;
       uses = λ h there. rw (← one s.owners granule h there) (used-here s.owners granule DataPage refl);
@@ -197,8 +176,8 @@ takes s Activate off = record {
   apart = refl;
 }
 takes s (RecCreate rec r) off =
-    let last = neither (not (all_delegated s.owners (rec ∷ r.aux))) (repeats (rec ∷ r.aux)) (off-at (checks s (RecCreate rec r)) 5 off) in
-    let own : all_delegated s.owners (rec ∷ r.aux) ≡ true = is-not (all_delegated s.owners (rec ∷ r.aux)) last.0 in
+    let last = or_parts (not (all_delegated s.owners (rec ∷ r.aux))) (repeats (rec ∷ r.aux)) (off-at (checks s (RecCreate rec r)) 5 refusal.State off) in
+    let own : all_delegated s.owners (rec ∷ r.aux) ≡ true = not-false (all_delegated s.owners (rec ∷ r.aux)) last.0 in
     record {
       keeps = λ h old. used-give_all r.aux (give s.owners rec Rec) h RecAux refl (used-give s.owners rec h Rec refl old);
       uses = λ h. used-first rec r.aux s.owners h;
@@ -207,16 +186,16 @@ takes s (RecCreate rec r) off =
     }
   where
     used-first : (g : ℕ) (gs : List ℕ) (owners : List (ℕ × Kind)) (h : ℕ) → has (g ∷ gs) h ≡ true → used (give_all (give owners g Rec) gs RecAux) h ≡ true
-    used-first g gs owners h = elim (bool-cases (eqb g h)) [
-      | inl e ↦ (λ there. (let same : g ≡ h = eqb-is g h e in rw same (used-give_all gs (give owners h Rec) h RecAux refl (used-here owners h Rec refl))))
+    used-first g gs owners h = elim (cases_Bool (eqb g h)) [
+      | inl e ↦ (λ there. (let same : g ≡ h = eqb-true g h e in rw same (used-give_all gs (give owners h Rec) h RecAux refl (used-here owners h Rec refl))))
       | inr n ↦ rw n (λ there. used-in_all gs (give owners g Rec) h RecAux refl there)
     ]
 takes s (RealmCreate rd p) off =
     let tables : List ℕ = start_tables p in
-    let last = neither (not (is_delegated s.owners rd) || not (all_delegated s.owners tables)) (has tables rd) (off-at (checks s (RealmCreate rd p)) 3 off) in
-    let owns = neither (not (is_delegated s.owners rd)) (not (all_delegated s.owners tables)) last.0 in
-    let own_rd : is_delegated s.owners rd ≡ true = is-not (is_delegated s.owners rd) owns.0 in
-    let own_tables : all_delegated s.owners tables ≡ true = is-not (all_delegated s.owners tables) owns.1 in
+    let last = or_parts (not (is_delegated s.owners rd) || not (all_delegated s.owners tables)) (has tables rd) (off-at (checks s (RealmCreate rd p)) 3 refusal.State off) in
+    let owns = or_parts (not (is_delegated s.owners rd)) (not (all_delegated s.owners tables)) last.0 in
+    let own_rd : is_delegated s.owners rd ≡ true = not-false (is_delegated s.owners rd) owns.0 in
+    let own_tables : all_delegated s.owners tables ≡ true = not-false (all_delegated s.owners tables) owns.1 in
     let rd_used : used (give_all (give s.owners rd Rd) tables Rtt) rd ≡ true = used-give_all tables (give s.owners rd Rd) rd Rtt refl (used-here s.owners rd Rd refl) in
     record {
       keeps = λ h old. used-give_all tables (give s.owners rd Rd) h Rtt refl (used-give s.owners rd h Rd refl old);
@@ -234,11 +213,11 @@ takes s (RealmCreate rd p) off =
     either-of : (gs : List ℕ) (g h : ℕ) → has (gs ++ g ∷ []) h ≡ true → (has gs h ≡ true) ⊎ (g ≡ h)
     either-of gs g h there =
         let split : has gs h || (eqb g h || false) ≡ true = sym (has-append gs (g ∷ []) h) ∙ there in
-        elim (bool-cases (has gs h)) [ inl among ↦ inl among | inr n ↦ inr (eqb-is g h (grind arith)) ]
+        elim (cases_Bool (has gs h)) [ inl among ↦ inl among | inr n ↦ inr (eqb-true g h (grind arith)) ]
 
     not-last : (h : ℕ) → has (start_tables p) h ≡ true → has (start_tables p) rd ≡ false → has (rd ∷ []) h ≡ false
-    not-last h among out = elim (bool-cases (eqb rd h)) [
-      | inl e ↦ (let same : rd ≡ h = eqb-is rd h e in let on : has (start_tables p) rd ≡ true = rw same among in absurd (cc))
+    not-last h among out = elim (cases_Bool (eqb rd h)) [
+      | inl e ↦ (let same : rd ≡ h = eqb-true rd h e in let on : has (start_tables p) rd ≡ true = rw same among in absurd (cc))
       | inr n ↦ rw n refl
     ]
 
@@ -264,14 +243,14 @@ taken-once (c ∷ cs) s =
     let takes_c : Takes s c = takes s c (none-holds (checks s c) next next at) in
     let same : next.owners ≡ (changed s c).owners = measured-owners (changed s c) (parts s c) in
     let later : (h : ℕ) → used (changed s c).owners h ≡ true → has (taken cs) h ≡ false = λ h now.
-    elim (bool-cases (has (taken cs) h)) [
+    elim (cases_Bool (has (taken cs) h)) [
       | inl there ↦ (let no_use : used next.owners h ≡ false = i.free h there in
           let in_use : used next.owners h ≡ true = rw same now in absurd (cc))
       | inr n ↦ n
     ] in
     record {
       once = repeats-append (taken_by c) (taken cs) takes_c.apart i.once (λ h there. later h (takes_c.uses h there));
-      free = λ h there. elim (bool-cases (used s.owners h)) [
+      free = λ h there. elim (cases_Bool (used s.owners h)) [
         | inl old ↦ (let gone : has (taken cs) h ≡ false = later h (takes_c.keeps h old) in
             let split : has (taken_by c) h || has (taken cs) h ≡ true = sym (has-append (taken_by c) (taken cs) h) ∙ there in
             let here : has (taken_by c) h ≡ true = grind arith in

@@ -1,21 +1,16 @@
--- Tests and what they tell.
-use Rattle.std.proofs.Common.{inl, inr, ◌≡◌, ℕ, refl, arith, Bool, true, false, ◌&&◌, ◌||◌, eqb, ◌⊎◌}
-use Rattle.std.proofs.lemmas.Bool.Decides.{nat_tests}
+-- Lists of what passes a test.
+use Rattle.std.proofs.Common.{◌≡◌, refl, Bool, List, [], ◌∷◌}
+use Rattle.std.specs.List.{filter, list_all, list_any}
 
-pub bool-cases : (b : Bool) → (b ≡ true) ⊎ (b ≡ false)
-bool-cases true = inl refl
-bool-cases false = inr refl
+-- tests that answer alike at each element
+pub list_any-same : {X : Type 0} (p q : X → Bool) (xs : List X) → ((x : X) → p x ≡ q x) → list_any p xs ≡ list_any q xs
+list_any-same p q [] h = refl
+list_any-same p q (x ∷ xs) h = rw (h x, list_any-same p q xs h) refl
 
-pub eqb-same : (a b : ℕ) → a ≡ b → eqb a b ≡ true
-eqb-same a b h = grind (arith, nat_tests)
+pub list_all-same : {X : Type 0} (p q : X → Bool) (xs : List X) → ((x : X) → p x ≡ q x) → list_all p xs ≡ list_all q xs
+list_all-same p q [] h = refl
+list_all-same p q (x ∷ xs) h = rw (h x, list_all-same p q xs h) refl
 
-pub eqb-is : (a b : ℕ) → eqb a b ≡ true → a ≡ b
-eqb-is a b h = grind (arith, nat_tests)
-
-pub both : (a b : Bool) → (a && b) ≡ true → (a ≡ true) × (b ≡ true)
-both true b h = (refl, h)
-both false b h = (h, absurd (cc))
-
-pub neither : (a b : Bool) → (a || b) ≡ false → (a ≡ false) × (b ≡ false)
-neither true b h = absurd (cc)
-neither false b h = (refl, h)
+pub filter-same : {X : Type 0} (p q : X → Bool) (xs : List X) → ((x : X) → p x ≡ q x) → filter p xs ≡ filter q xs
+filter-same p q [] h = refl
+filter-same p q (x ∷ xs) h = rw (h x, filter-same p q xs h) refl

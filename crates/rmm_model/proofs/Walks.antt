@@ -4,7 +4,7 @@ use Rattle.std.proofs.lemmas.Bool.Decides.{nat_tests}
 use Rattle.rmm_model.specs.declared.table.Table.{Table}
 use Rattle.rmm_model.specs.Blocks.{span}
 use Rattle.rmm_model.specs.Space.{covers, made, walk}
-use Rattle.rmm_model.proofs.Tests.{bool-cases, eqb-is, eqb-same}
+use Rattle.std.proofs.lemmas.Bool.{cases_Bool, eq-eqb, eqb-true}
 
 -- ---- which tables there are
 
@@ -24,7 +24,7 @@ unfolding walk
 walk-from start [] x = omega arith
 walk-from start (t ∷ ts) x =
     let i : start ≤ walk start ts x = walk-from start ts x in
-    elim (bool-cases (covers t x)) [ inl h ↦ rw h (omega arith) | inr h ↦ rw h i ]
+    elim (cases_Bool (covers t x)) [ inl h ↦ rw h (omega arith) | inr h ↦ rw h i ]
 
 -- no table that covers x is deeper
 pub walk-least : (start : ℕ) (ts : List Table) (x j b : ℕ) → made ts j b ≡ true → x / span j ≡ b / span j → j ≤ walk start ts x
@@ -33,15 +33,15 @@ walk-least start [] x j b m h = absurd (cc)
 walk-least start (t ∷ ts) x j b m h =
     elim (made-cases t ts j b m) [
       | inl w ↦
-          let c : covers t x ≡ true = rw (w.0, w.1) (eqb-same (x / span j) (b / span j) h) in
+          let c : covers t x ≡ true = rw (w.0, w.1) (eq-eqb (x / span j) (b / span j) h) in
           rw c (omega arith)
       | inr w ↦
           let i : j ≤ walk start ts x = walk-least start ts x j b w h in
-          elim (bool-cases (covers t x)) [ inl c ↦ rw c (omega arith) | inr c ↦ rw c i ]
+          elim (cases_Bool (covers t x)) [ inl c ↦ rw c (omega arith) | inr c ↦ rw c i ]
     ]
 
 max-cases : (a b : ℕ) → (max a b ≡ a) ⊎ (max a b ≡ b)
-max-cases a b = elim (bool-cases (leb a b)) [ inl h ↦ inr (grind (arith, nat_tests)) | inr h ↦ inl (grind (arith, nat_tests)) ]
+max-cases a b = elim (cases_Bool (leb a b)) [ inl h ↦ inr (grind (arith, nat_tests)) | inr h ↦ inl (grind (arith, nat_tests)) ]
 
 -- it ends at the start level, or at a table that covers x
 unfoldable pub EndsAt : ℕ → List Table → ℕ → ℕ → Type 0
@@ -54,7 +54,7 @@ ends-there start t ts x w (inr e) = inr (e.0, made-there t ts w (e.0) (e.1), e.2
 
 ends-here : (start : ℕ) (t : Table) (ts : List Table) (x : ℕ) → covers t x ≡ true → EndsAt start (t ∷ ts) x t.level
 unfolding EndsAt
-ends-here start t ts x c = inr (t.base, made-here t ts, eqb-is _ _ c)
+ends-here start t ts x c = inr (t.base, made-here t ts, eqb-true _ _ c)
 
 ends-start : (start : ℕ) (x : ℕ) → EndsAt start [] x start
 unfolding EndsAt
@@ -65,7 +65,7 @@ unfolding walk
 walk-ends start [] x = ends-start start x
 walk-ends start (t ∷ ts) x =
     let i : EndsAt start (t ∷ ts) x (walk start ts x) = ends-there start t ts x (walk start ts x) (walk-ends start ts x) in
-    elim (bool-cases (covers t x)) [
+    elim (cases_Bool (covers t x)) [
       | inl c ↦ rw c (elim (max-cases t.level (walk start ts x)) [
         | inl e ↦ rw e (ends-here start t ts x c)
         | inr e ↦ rw e i

@@ -21,12 +21,12 @@ down n x = x / n * n
 abbrev pub is_multiple : ℕ → ℕ → Bool
 is_multiple n x = x % n == 0
 
--- the first addresses of n granules, from x on
+-- the first addresses of n granules, or of n pages, side by side from x on
 unfoldable pub granules : ℕ → ℕ → List ℕ
 granules zero x = []
 granules (suc n) x = x ∷ granules n (x + 4096)
 
--- n stretches of s bytes from x on, each with its first address and the first past it
+-- n stretches of s bytes, one behind the other from x on: the first address of each and the first past it
 unfoldable pub stretches : ℕ → ℕ → ℕ → List (ℕ × ℕ)
 stretches zero s x = []
 stretches (suc n) s x = (x, x + s) ∷ stretches n s (x + s)

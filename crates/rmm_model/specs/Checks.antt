@@ -16,15 +16,12 @@ use Rattle.rim_desc.specs.declared.realm.RealmParams.{RealmParams}
 use Rattle.rim_desc.specs.Rec.{RecData}
 use Rattle.rmm_model.specs.declared.outcome.Refused.{Refused}
 use Rattle.rmm_model.specs.declared.outcome.Refused.TheVariants.{State, BadParams, Unaligned, OutsideProtected, WalkLevel, NotFresh, NotRam, Assigned, RecIndex, AuxCount, NotUndelegated, NotDelegated}
+use Rattle.rim_desc.specs.Refusal.{Check}
 use Rattle.rmm_model.specs.Blocks.{down, granules, is_multiple, size, span}
 use Rattle.rmm_model.specs.Start.{is_width, start_count, start_level}
 use Rattle.rmm_model.specs.Space.{Space, deeper, has, is_ram, overlaps, walk}
 use Rattle.rmm_model.specs.Owners.{all_delegated, is_delegated, kind_of, repeats}
 use Rattle.rmm_model.specs.State as monitor
-
--- a check: its name, and whether it holds
-abbrev pub Check : Type 0
-Check = Refused × Bool
 
 -- the level at which the walk of an address ends
 abbrev pub walk_of : Space → ℕ → ℕ
@@ -76,19 +73,19 @@ is_taken s level base top = overlaps s.ram base top || deeper s.tables level bas
 
 -- ---- the rows
 
-abbrev pub delegate_checks : monitor.State → ℕ → List Check
+abbrev pub delegate_checks : monitor.State → ℕ → List (Check Refused)
 delegate_checks s granule =
     (Unaligned, not (is_multiple 4096 granule))
     ∷ (NotUndelegated, is_some (kind_of s.owners granule)) ∷ []
 
-abbrev pub realm_checks : monitor.State → ℕ → RealmParams → List Check
+abbrev pub realm_checks : monitor.State → ℕ → RealmParams → List (Check Refused)
 realm_checks s rd p =
     (State, not (monitor.is_empty s.phase))
     ∷ (BadParams, is_bad_realm p)
     ∷ (Unaligned, not (is_multiple 4096 rd))
     ∷ (NotDelegated, not (is_delegated s.owners rd) || not (all_delegated s.owners (start_tables p)) || has (start_tables p) rd) ∷ []
 
-abbrev pub table_checks : monitor.State → ℕ → ℕ → ℕ → List Check
+abbrev pub table_checks : monitor.State → ℕ → ℕ → ℕ → List (Check Refused)
 table_checks s rtt ipa level =
     (State, monitor.is_empty s.phase)
     ∷ (BadParams, nat_le level s.space.start || nat_lt 3 level)
@@ -97,7 +94,7 @@ table_checks s rtt ipa level =
     ∷ (WalkLevel, not (walk_of s.space ipa == level - 1))
     ∷ (NotDelegated, not (is_delegated s.owners rtt)) ∷ []
 
-abbrev pub ripas_checks : monitor.State → ℕ → ℕ → List Check
+abbrev pub ripas_checks : monitor.State → ℕ → ℕ → List (Check Refused)
 ripas_checks s base top =
     (State, not (monitor.is_new s.phase))
     ∷ (BadParams, nat_le top base)
@@ -106,7 +103,7 @@ ripas_checks s base top =
     ∷ (WalkLevel, is_cut (walk_of s.space base) base top)
     ∷ (NotFresh, is_taken s.space (walk_of s.space base) base top) ∷ []
 
-abbrev pub data_checks : monitor.State → ℕ → ℕ → Option Measurement → List Check
+abbrev pub data_checks : monitor.State → ℕ → ℕ → Option Measurement → List (Check Refused)
 data_checks s granule ipa content =
     (State, not (monitor.is_new s.phase))
     ∷ (BadParams, is_bad_content (monitor.algo_of s.params) content)
@@ -117,7 +114,7 @@ data_checks s granule ipa content =
     ∷ (Assigned, has s.space.filled ipa)
     ∷ (NotDelegated, not (is_delegated s.owners granule)) ∷ []
 
-abbrev pub rec_checks : monitor.State → ℕ → RecData → List Check
+abbrev pub rec_checks : monitor.State → ℕ → RecData → List (Check Refused)
 rec_checks s rec r =
     (State, not (monitor.is_new s.phase))
     ∷ (BadParams, is_bad_rec r)
@@ -126,10 +123,10 @@ rec_checks s rec r =
     ∷ (AuxCount, not (length r.aux == s.aux))
     ∷ (NotDelegated, not (all_delegated s.owners (rec ∷ r.aux)) || repeats (rec ∷ r.aux)) ∷ []
 
-abbrev pub activate_checks : monitor.State → List Check
+abbrev pub activate_checks : monitor.State → List (Check Refused)
 activate_checks s = (State, not (monitor.is_new s.phase)) ∷ []
 
-abbrev pub checks : monitor.State → Command → List Check
+abbrev pub checks : monitor.State → Command → List (Check Refused)
 checks s (Delegate granule) = delegate_checks s granule
 checks s (RealmCreate rd params) = realm_checks s rd params
 checks s (RttCreate rtt ipa level) = table_checks s rtt ipa level

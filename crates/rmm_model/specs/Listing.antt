@@ -1,4 +1,4 @@
--- A worked list of commands: a realm with IPAs of 40 bits, its two start tables at 0x800000000, 2 GiB
+-- A worked list of commands, this project's choice: a realm with IPAs of 40 bits, its two start tables at 0x800000000, 2 GiB
 -- of RAM from 0x40000000 on as two entries of level 1, and a page of data that is not measured.
 use Rattle.std.specs.Prelude.{List, [], ◌∷◌, ◌++◌, None}
 use Rattle.rim_desc.specs.Page.{zeros}

@@ -1,4 +1,4 @@
--- What the granules of the realm world are used for.
+-- What granules are used for. DEN0137, granule states: a granule that is UNDELEGATED has no kind here.
 use Rattle.std.specs.Prelude.{ℕ, Bool, true, false, ◌||◌, List, [], ◌∷◌, Option, Some}
 use Rattle.std.specs.List.{list_all}
 use Rattle.std.specs.Map.{lookup}
@@ -8,7 +8,7 @@ use Rattle.rmm_model.specs.declared.outcome.Kind.{Kind}
 use Rattle.rmm_model.specs.declared.outcome.Kind.TheVariants.{Delegated}
 use Rattle.rmm_model.specs.Space.{has}
 
--- the kind of a granule; none for one that is UNDELEGATED
+-- the kind of a granule, if it has one
 abbrev pub kind_of : List (ℕ × Kind) → ℕ → Option Kind
 kind_of owners granule = lookup (is_at (nat_cmp granule)) owners
 
@@ -29,11 +29,11 @@ abbrev pub repeats : List ℕ → Bool
 repeats [] = false
 repeats (g ∷ gs) = has gs g || repeats gs
 
--- the owners with this granule given a kind
+-- the kinds after this granule was given one
 abbrev pub give : List (ℕ × Kind) → ℕ → Kind → List (ℕ × Kind)
 give owners granule kind = insert_entry nat_cmp owners granule kind
 
--- the same of several granules
+-- and after several granules were given it
 unfoldable pub give_all : List (ℕ × Kind) → List ℕ → Kind → List (ℕ × Kind)
 give_all owners [] kind = owners
 give_all owners (g ∷ gs) kind = give_all (give owners g kind) gs kind

@@ -1,12 +1,13 @@
--- The IPA space of a realm: which tables it has, which pages are RAM, and which have data.
-use Rattle.std.specs.Prelude.{ℕ, ◌/◌, max, nat_le, nat_lt, ◌==◌, ◌&&◌, cond, Bool, List, [], ◌∷◌}
+-- The IPA space of a realm: which tables it has, which pages are RAM, and which have data. DEN0137,
+-- "Realm Translation Table" and RIPAS; that RAM is kept as ranges is this project's choice.
+use Rattle.std.specs.Prelude.{◌≡◌, ℕ, ◌/◌, ◌<◌, ◌≤◌, max, nat_le, nat_lt, ◌==◌, ◌&&◌, cond, Bool, true, List, [], ◌∷◌}
 use Rattle.std.specs.List.{list_all, list_any}
 use Rattle.std.specs.Ordering.{nat_cmp, ordering_then}
 use Rattle.std.specs.declared.cmp.Ordering.{Ordering}
 use Rattle.std.specs.BTreeMap.{insert_entry}
 use Rattle.std.specs.BTreeSet.{insert_key}
 use Rattle.rmm_model.specs.declared.table.Table.{Table}
-use Rattle.rmm_model.specs.Blocks.{span}
+use Rattle.rmm_model.specs.Blocks.{down, span}
 
 -- tables by level, and tables of one level by address
 abbrev pub table_cmp : Table → Table → Ordering
@@ -42,6 +43,10 @@ walk start (t ∷ ts) x = cond (covers t x) (max t.level (walk start ts x)) (wal
 abbrev pub made : List Table → ℕ → ℕ → Bool
 made ts level base = list_any (λ t. t.level == level && t.base == base) ts
 
+-- each table is below the start level, and its first address is a multiple of what it covers
+pub record ArePlaced (start : ℕ) (ts : List Table) : Type 0 where
+  pub shape : (level base : ℕ) → made ts level base ≡ true → (start < level) × (level ≤ 3) × (down (span level) base ≡ base)
+
 -- whether a table of a level has its first address in the range
 abbrev pub has_table_in : List Table → ℕ → ℕ → ℕ → Bool
 has_table_in ts level base top = list_any (λ t. t.level == level && (nat_le base t.base && nat_lt t.base top)) ts
@@ -58,11 +63,11 @@ is_ram ram x = list_any (λ r. nat_le r.0 x && nat_lt x r.1) ram
 abbrev pub overlaps : List (ℕ × ℕ) → ℕ → ℕ → Bool
 overlaps ram base top = list_any (λ r. nat_lt r.0 top && nat_lt base r.1) ram
 
--- whether no range is empty
+-- whether each range has an address
 abbrev pub are_some : List (ℕ × ℕ) → Bool
 are_some ram = list_all (λ r. nat_lt r.0 r.1) ram
 
--- whether a number is in a list
+-- whether an address is in a list
 abbrev pub has : List ℕ → ℕ → Bool
 has xs x = list_any (λ y. y == x) xs
 

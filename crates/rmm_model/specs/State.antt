@@ -1,4 +1,5 @@
--- The state of a monitor with one realm.
+-- The state of a monitor. DEN0137, realm states and realm attributes; that there is one realm, and EMPTY
+-- before it was created, is this project's choice.
 use Rattle.std.specs.Prelude.{ℕ, List, [], Bool, true, false, Option, Some, None}
 use Rattle.rim_desc.specs.Page.{zeros}
 use Rattle.rim_desc.specs.declared.measurement.Algo.{Algo}

@@ -1,15 +1,11 @@
--- One command.
-use Rattle.std.specs.Prelude.{List, [], ◌∷◌, Result, Ok, Err, if◌then◌else◌}
+-- One command. DEN0137, failure conditions and success conditions of the RMI commands.
+use Rattle.std.specs.Prelude.{Result}
 use Rattle.rim_desc.specs.declared.command.Command.{Command}
 use Rattle.rmm_model.specs.declared.outcome.Refused.{Refused}
 use Rattle.rmm_model.specs.State.{State}
-use Rattle.rmm_model.specs.Checks.{Check, checks}
+use Rattle.rim_desc.specs.Refusal.{unless_refused}
+use Rattle.rmm_model.specs.Checks.{checks}
 use Rattle.rmm_model.specs.Effects.{changed, measured, parts}
-
--- the first check that holds refuses; else the next state
-abbrev pub unless_refused : List Check → State → Result State Refused
-unless_refused [] next = Ok next
-unless_refused (check ∷ others) next = if check.1 then Err check.0 else unless_refused others next
 
 -- the step of a command: its first check that holds, or the next state
 abbrev pub step : State → Command → Result State Refused

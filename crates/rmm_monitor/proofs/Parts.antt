@@ -1,5 +1,5 @@
 -- Parts of a list that pass a test.
-use Rattle.std.proofs.Common.{inl, inr, ◌≡◌, ℕ, ◌+◌, ◌<◌, ◌≤◌, ◌∙◌, sym, refl, arith, Bool, true, false, ◌&&◌, ◌||◌, ltb, List, [], ◌∷◌, ◌++◌, ◌⊎◌}
+use Rattle.std.proofs.Common.{inl, inr, ◌≡◌, ℕ, ◌+◌, ◌<◌, ◌≤◌, ◌∙◌, sym, refl, arith, Bool, true, false, ◌&&◌, ltb, List, [], ◌∷◌, ◌++◌, ◌⊎◌}
 use Rattle.std.specs.Prelude.{Option, Some, None, is_some, Result, Ok, Err, OnOk, OnErr}
 use Rattle.std.specs.BTreeMap.{insert_entry}
 use Rattle.std.specs.List.{filter, list_any}
@@ -7,7 +7,9 @@ use Rattle.std.specs.Ordering.{nat_cmp}
 use Rattle.std.specs.Map.Iter.{TakesFirst, TakesLast}
 use Rattle.std.proofs.lemmas.Bool.Decides.{nat_tests}
 use Rattle.rmm_model.specs.Space.{overlaps}
-use Rattle.rmm_model.proofs.Tests.{bool-cases, neither}
+use Rattle.std.proofs.Math.Bool.{or-false}
+use Rattle.rmm_model.proofs.Tests.{filter-same, list_any-same}
+use Rattle.std.proofs.lemmas.Bool.{cases_Bool, or_parts}
 use Rattle.rmm_monitor.specs.Apart.{are_apart}
 
 -- what a call left, whether it was refused or not
@@ -15,21 +17,13 @@ pub either : {T E : Type 0} {A B : Type 0} (r : Result T E) → OnOk r A → OnE
 either (Ok t) a b = inl a
 either (Err e) a b = inr b
 
-list_any-same : {X : Type 0} (p q : X → Bool) (xs : List X) → ((x : X) → p x ≡ q x) → list_any p xs ≡ list_any q xs
-list_any-same p q [] h = refl
-list_any-same p q (x ∷ xs) h = rw (h x, list_any-same p q xs h) refl
-
-filter-same : {X : Type 0} (p q : X → Bool) (xs : List X) → ((x : X) → p x ≡ q x) → filter p xs ≡ filter q xs
-filter-same p q [] h = refl
-filter-same p q (x ∷ xs) h = rw (h x, filter-same p q xs h) refl
-
 filter-none : {X : Type 0} (p : X → Bool) (xs : List X) → filter p xs ≡ [] → list_any p xs ≡ false
 filter-none p [] = λ h. refl
-filter-none p (x ∷ xs) = elim (bool-cases (p x)) [ inl t ↦ rw t (λ h. absurd (cc)) | inr f ↦ rw f (λ h. filter-none p xs h) ]
+filter-none p (x ∷ xs) = elim (cases_Bool (p x)) [ inl t ↦ rw t (λ h. absurd (cc)) | inr f ↦ rw f (λ h. filter-none p xs h) ]
 
 filter-some : {X : Type 0} (p : X → Bool) (xs : List X) (y : X) (ys : List X) → filter p xs ≡ y ∷ ys → list_any p xs ≡ true
 filter-some p [] y ys = λ h. absurd (cc)
-filter-some p (x ∷ xs) y ys = elim (bool-cases (p x)) [ inl t ↦ rw t (λ h. refl) | inr f ↦ rw f (λ h. filter-some p xs y ys h) ]
+filter-some p (x ∷ xs) y ys = elim (cases_Bool (p x)) [ inl t ↦ rw t (λ h. refl) | inr f ↦ rw f (λ h. filter-some p xs y ys h) ]
 
 -- whether something passes, by the first that does
 pub first-passes : {A X : Type 0} (shows : A → X) (p q : X → Bool) (xs s t : List X) (r : Option A) → ((x : X) → p x ≡ q x) → s ≡ filter p xs → TakesFirst shows s r t → is_some r ≡ list_any q xs
@@ -41,7 +35,7 @@ first-passes shows p q xs s t (Some x) same is taken = sym (filter-some p xs (sh
 -- none is below
 overlaps-none : (ram : List (ℕ × ℕ)) (base top : ℕ) → filter (λ (r : ℕ × ℕ). ltb r.0 top) ram ≡ [] → overlaps ram base top ≡ false
 overlaps-none [] base top = λ h. refl
-overlaps-none (r ∷ rs) base top = elim (bool-cases (ltb r.0 top)) [ inl t ↦ rw t (λ h. absurd (cc)) | inr f ↦ rw f (λ h. overlaps-none rs base top h) ]
+overlaps-none (r ∷ rs) base top = elim (cases_Bool (ltb r.0 top)) [ inl t ↦ rw t (λ h. absurd (cc)) | inr f ↦ rw f (λ h. overlaps-none rs base top h) ]
 
 no-end : (front : List (ℕ × ℕ)) (e : ℕ × ℕ) → [] ≡ front ++ e ∷ [] → ⊥
 no-end [] e h = cc
@@ -58,10 +52,6 @@ apart-parts : (r : ℕ × ℕ) (rs : List (ℕ × ℕ)) (low : ℕ) → are_apar
 unfolding are_apart
 apart-parts r rs low apart = (grind (arith, nat_tests), grind (arith, nat_tests), grind arith)
 
-or-false : (a b : Bool) → b ≡ false → (a || b) ≡ a
-or-false true b h = refl
-or-false false b h = h
-
 -- the last below decides: it ends last
 overlaps-last : (ram : List (ℕ × ℕ)) (low base top : ℕ) (front : List (ℕ × ℕ)) (e : ℕ × ℕ) → are_apart low ram ≡ true
     → filter (λ (r : ℕ × ℕ). ltb r.0 top) ram ≡ front ++ e ∷ [] → (overlaps ram base top ≡ ltb base e.1) × (low ≤ e.1)
@@ -72,11 +62,11 @@ overlaps-last (r ∷ rs) low base top front e apart =
     let from : low ≤ r.0 = parts.0 in
     let some : r.0 < r.1 = parts.1 in
     let others : are_apart r.1 rs ≡ true = parts.2 in
-    elim (bool-cases (ltb r.0 top)) [
+    elim (cases_Bool (ltb r.0 top)) [
       | inl t ↦ rw t (λ h. elim (first-or-last r e (filter (λ (r : ℕ × ℕ). ltb r.0 top) rs) front h) [
         | inl last ↦
             let none : overlaps rs base top ≡ false = overlaps-none rs base top last.0 in
-            rw (← last.1) (or-false (ltb base r.1) (overlaps rs base top) none, omega arith)
+            rw (← last.1) (rw none (or-false (ltb base r.1)), omega arith)
         | inr more ↦
             let i = overlaps-last rs r.1 base top more.0 e others more.1 in
             let same : overlaps rs base top ≡ ltb base e.1 = i.0 in
@@ -109,6 +99,6 @@ apart-insert (r ∷ rs) low base top apart from some =
     let some_here : r.0 < r.1 = whole.1 in
     let low_here : low ≤ r.0 = whole.0 in
     let others : are_apart r.1 rs ≡ true = whole.2 in
-    λ free. (let parts = neither (ltb r.0 top && ltb base r.1) (overlaps rs base top) free in
+    λ free. (let parts = or_parts (ltb r.0 top && ltb base r.1) (overlaps rs base top) free in
     let i : r.1 ≤ base → are_apart r.1 (insert_entry nat_cmp rs base top) ≡ true = λ le. apart-insert rs r.1 base top others le some parts.1 in
     grind (arith, nat_tests))

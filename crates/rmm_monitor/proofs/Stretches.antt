@@ -1,6 +1,7 @@
 -- Stretches that become RAM, one after another.
-use Rattle.std.proofs.Common.{◌≡◌, ℕ, zero, suc, ◌+◌, ◌-◌, ◌*◌, ◌/◌, ◌%◌, ◌<◌, ◌≤◌, ◌⊎◌, inl, inr, false, refl, ap, arith, List}
+use Rattle.std.proofs.Common.{◌≡◌, ℕ, zero, suc, ◌+◌, ◌-◌, ◌*◌, ◌/◌, ◌%◌, ◌<◌, ◌≤◌, inl, inr, false, refl, ap, arith, List}
 use Rattle.std.specs.Prelude.{Some}
+use Rattle.std.proofs.lemmas.Bool.{cases_lt}
 use Rattle.std.proofs.lemmas.Bool.Decides.{nat_tests}
 use Rattle.rim_desc.specs.declared.measurement.Algo.{Algo}
 use Rattle.rim_desc.specs.Descriptor.{ripas_descriptor_of}
@@ -44,7 +45,7 @@ measured-stretches s (suc n) size from some = refl
 
 -- multiples of n that differ, differ by n at least
 apart : (n base top : ℕ) → 0 < n → base % n ≡ 0 → top % n ≡ 0 → base < top → n ≤ top - base
-apart n base top pos low high lt = elim (less (top - base) n) [
+apart n base top pos low high lt = elim (cases_lt (top - base) n) [
   | inr more ↦ more
   | inl less ↦
       let from : down n base ≡ base = down-multiple n base pos low in
@@ -55,21 +56,16 @@ apart n base top pos low high lt = elim (less (top - base) n) [
       let same : down n top ≡ down n base = ap (λ q. q * n) block in
       absurd (omega arith)
 ]
-  where
-    less : (a b : ℕ) → (a < b) ⊎ (b ≤ a)
-    less a b = grind arith
 
 one-of : (n d : ℕ) → 0 < n → n ≤ d → 0 < d / n
-one-of n d pos le = elim (zero-or (d / n)) [
-  | inr some ↦ some
-  | inl none ↦
+one-of n d pos le = elim (cases_lt 0 (d / n)) [
+  | inl some ↦ some
+  | inr few ↦
+      let none : d / n ≡ 0 = omega arith in
       let under : d < down n d + n = down-lt n d pos in
       let zero_down : down n d ≡ 0 = rw none (omega arith) in
       absurd (omega arith)
 ]
-  where
-    zero-or : (a : ℕ) → (a ≡ 0) ⊎ (0 < a)
-    zero-or a = grind arith
 
 -- a range that is made of whole entries has one
 pub count-some : (level base top : ℕ) → base < top → is_cut level base top ≡ false → 0 < (top - base) / size level

@@ -1,4 +1,4 @@
--- Ranges in order.
+-- Ranges in order. This project's choice: RAM is kept as ranges of which none meets another.
 use Rattle.std.specs.Prelude.{ℕ, Bool, true, ◌&&◌, nat_le, nat_lt, List, [], ◌∷◌}
 
 -- whether each range has an address, and begins at `low` or where the one before it ends, or later

@@ -1,5 +1,5 @@
 pub mod Owned
+pub mod Growth
 pub mod Apart
-pub mod Formed
 pub mod SpaceInside
 pub mod MonitorInside

@@ -1,4 +1,4 @@
--- What callers see of a monitor's fields.
+-- What callers see of a monitor's fields. This project's choice.
 use Rattle.std.specs.Prelude.{option_map}
 use Rattle.rmm_model.specs.State.{State}
 use Rattle.rmm_monitor.specs.declared.monitor.Monitor.TheInside.{Inside}

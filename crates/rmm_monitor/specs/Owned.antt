@@ -1,4 +1,4 @@
--- Granules that have a kind.
+-- Granules that have a kind. DEN0137, granule states: all but UNDELEGATED.
 use Rattle.std.specs.Prelude.{ℕ, Bool, List, is_some}
 use Rattle.std.specs.List.{list_all}
 use Rattle.rmm_model.specs.declared.outcome.Kind.{Kind}

@@ -6,6 +6,7 @@ ghost use Rattle.rmm_model.specs.State.{empty_state};
 ghost use Rattle.rmm_model.specs.Owners.{all_delegated, is_delegated, kind_of, repeats};
 ghost use Rattle.rmm_model.specs.Space.{has};
 ghost use Rattle.rmm_model.specs.Step.{step};
+ghost use Rattle.rmm_monitor.specs.Growth.{adds_something};
 ghost use Rattle.rmm_monitor.specs.Owned.{all_owned};
 
 use crate::measuring::{
@@ -138,7 +139,7 @@ impl Monitor {
     fn realm_create(&mut self, rd: u64, params: &RealmParams) -> Result<(), Refused>
         ensures done { OnOk result (step self.old (RealmCreate rd params.now) ≡ Ok self.new) }
         ensures refused { IfErr result (λ e. step self.old (RealmCreate rd params.now) ≡ Err e) }
-        ensures memory { result ≡ Err Refused.NoMemory → IsOk (step self.old (RealmCreate rd params.now)) }
+        ensures growth { result ≡ Err Refused.NoMemory → ⊥ }
         ensures kept { OnErr result (self.new ≡ self.old) }
     {
         if self.phase != Phase::Empty {
@@ -250,7 +251,7 @@ impl Monitor {
     fn rec_create(&mut self, rec: u64, params: &RecParams) -> Result<(), Refused>
         ensures done { OnOk result (step self.old (RecCreate rec params.now) ≡ Ok self.new) }
         ensures refused { IfErr result (λ e. step self.old (RecCreate rec params.now) ≡ Err e) }
-        ensures memory { result ≡ Err Refused.NoMemory → IsOk (step self.old (RecCreate rec params.now)) }
+        ensures growth { result ≡ Err Refused.NoMemory → ⊥ }
         ensures kept { OnErr result (self.new ≡ self.old) }
     {
         if self.phase != Phase::New {
@@ -282,7 +283,7 @@ impl Monitor {
     fn activate(&mut self) -> Result<(), Refused>
         ensures done { OnOk result (step self.old Activate ≡ Ok self.new) }
         ensures refused { IfErr result (λ e. step self.old Activate ≡ Err e) }
-        ensures memory { result ≡ Err Refused.NoMemory → IsOk (step self.old Activate) }
+        ensures growth { result ≡ Err Refused.NoMemory → ⊥ }
         ensures kept { OnErr result (self.new ≡ self.old) }
     {
         if self.phase != Phase::New {
@@ -294,7 +295,7 @@ impl Monitor {
 
     /// Takes a command, or refuses it by the first check of its row that holds, and by NoMemory where a
     /// command that no check refuses wants memory that is not there. After a refusal the monitor is as
-    /// it was.
+    /// it was. RealmCreate, RecCreate and Activate take no memory and are never refused so.
     ///
     /// Delegate, RttCreate and DataCreate take the logarithm of the number of granules, tables, ranges and
     /// pages; InitRipas besides a hash for each entry, RealmCreate and DataCreate one, RecCreate two.
@@ -302,6 +303,7 @@ impl Monitor {
         ensures done { OnOk result (step self.old command.now ≡ Ok self.new) }
         ensures refused { IfErr result (λ e. (e ≡ Refused.NoMemory) ⊎ (step self.old command.now ≡ Err e)) }
         ensures memory { result ≡ Err Refused.NoMemory → IsOk (step self.old command.now) }
+        ensures growth { result ≡ Err Refused.NoMemory → adds_something command.now ≡ true }
         ensures kept { OnErr result (self.new ≡ self.old) }
     {
         match command {

@@ -18,12 +18,20 @@ const FREE: u64 = 0x9_0000_0000;
 
 const ODD: u64 = 0x9_0000_0800;
 
+/// Offers a command that is to be refused, and leaves the monitor as it was.
 fn refuse(rt: &impl Abort, monitor: &mut Monitor, command: &Command, refused: Refused) {
     let owners = monitor.owner_count();
     let rim = monitor.rim();
     assert_eq!(rt; monitor.apply(command), Err(refused), "{command:?}");
     assert_eq!(rt; monitor.owner_count(), owners);
     assert_eq!(rt; monitor.rim(), rim);
+}
+
+/// Offers commands, each of which is to be refused so.
+fn refuse_all(rt: &impl Abort, monitor: &mut Monitor, rows: &[(Command, Refused)]) {
+    for (command, refused) in rows {
+        refuse(rt, monitor, command, *refused);
+    }
 }
 
 fn delegate(granule: u64) -> Command {
@@ -56,18 +64,27 @@ fn rec(rec: u64, flags: u64, mpidr: u64, aux: [u64; 2]) -> Command {
 #[test]
 fn delegate_row(rt: HostRuntime) {
     let mut monitor = Monitor::new(rt.alloc(), 0);
-    refuse(&rt, &mut monitor, &delegate(0x800), Refused::Unaligned);
-    refuse(&rt, &mut monitor, &delegate(u64::MAX), Refused::Unaligned);
+    refuse_all(
+        &rt,
+        &mut monitor,
+        &[
+            (delegate(0x800), Refused::Unaligned),
+            (delegate(u64::MAX), Refused::Unaligned),
+        ],
+    );
     let last = delegate(u64::MAX - 4095);
     take_all(&rt, &mut monitor, &[delegate(0), delegate(u64::MAX - 4095)]);
     refuse(&rt, &mut monitor, &last, Refused::NotUndelegated);
 }
 
+fn create(rd: u64, params: RealmParams) -> Command {
+    Command::RealmCreate { rd, params }
+}
+
 #[test]
-fn realm_create_row(rt: HostRuntime) {
+fn realm_parameters(rt: HostRuntime) {
     let mut monitor = Monitor::new(rt.alloc(), 0);
     let good = worked_params();
-    let base = TABLES;
     let wrong = [
         RealmParams { flags: 1, ..good },
         RealmParams { flags: 8, ..good },
@@ -89,7 +106,7 @@ fn realm_create_row(rt: HostRuntime) {
             ..good
         },
         RealmParams {
-            rtt_base: base + 4096,
+            rtt_base: TABLES + 4096,
             ..good
         },
         RealmParams {
@@ -98,36 +115,46 @@ fn realm_create_row(rt: HostRuntime) {
         },
     ];
     for params in wrong {
-        let command = Command::RealmCreate { rd: ODD, params };
-        refuse(&rt, &mut monitor, &command, Refused::BadParams);
+        refuse(&rt, &mut monitor, &create(ODD, params), Refused::BadParams);
     }
-    let at = |rd: u64, params: RealmParams| Command::RealmCreate { rd, params };
-    refuse(&rt, &mut monitor, &at(ODD, good), Refused::Unaligned);
-    refuse(&rt, &mut monitor, &at(FREE, good), Refused::NotDelegated);
+    refuse(&rt, &mut monitor, &create(ODD, good), Refused::Unaligned);
+}
+
+#[test]
+fn realm_granules(rt: HostRuntime) {
+    let mut monitor = Monitor::new(rt.alloc(), 0);
+    let good = worked_params();
     let last = RealmParams {
         rtt_base: u64::MAX - 8191,
         ..good
     };
-    refuse(&rt, &mut monitor, &at(FREE, last), Refused::NotDelegated);
-    take_all(&rt, &mut monitor, &[delegate(base), delegate(FREE)]);
-    refuse(&rt, &mut monitor, &at(FREE, good), Refused::NotDelegated);
-    take_all(&rt, &mut monitor, &[delegate(base + 4096)]);
-    refuse(&rt, &mut monitor, &at(base, good), Refused::NotDelegated);
+    let none = [
+        (create(FREE, good), Refused::NotDelegated),
+        (create(FREE, last), Refused::NotDelegated),
+    ];
+    refuse_all(&rt, &mut monitor, &none);
+    take_all(&rt, &mut monitor, &[delegate(TABLES), delegate(FREE)]);
     refuse(
         &rt,
         &mut monitor,
-        &at(base + 4096, good),
+        &create(FREE, good),
         Refused::NotDelegated,
     );
+    take_all(&rt, &mut monitor, &[delegate(TABLES + 4096)]);
+    let twice = [
+        (create(TABLES, good), Refused::NotDelegated),
+        (create(TABLES + 4096, good), Refused::NotDelegated),
+    ];
+    refuse_all(&rt, &mut monitor, &twice);
     take_all(
         &rt,
         &mut monitor,
-        &[at(FREE, RealmParams { flags: 6, ..good })],
+        &[create(FREE, RealmParams { flags: 6, ..good })],
     );
     refuse(
         &rt,
         &mut monitor,
-        &at(ODD, RealmParams { flags: 1, ..good }),
+        &create(ODD, RealmParams { flags: 1, ..good }),
         Refused::State,
     );
 }
@@ -140,57 +167,26 @@ fn rtt_create_row(rt: HostRuntime) {
     for level in [0, 1, 4, 255] {
         refuse(&rt, &mut monitor, &table(ODD, 1, level), Refused::BadParams);
     }
-    refuse(&rt, &mut monitor, &table(ODD, HALF, 2), Refused::Unaligned);
-    refuse(
-        &rt,
-        &mut monitor,
-        &table(FREE, HALF + 0x20_0000, 2),
-        Refused::Unaligned,
-    );
-    refuse(
-        &rt,
-        &mut monitor,
-        &table(FREE, u64::MAX, 3),
-        Refused::Unaligned,
-    );
-    refuse(
-        &rt,
-        &mut monitor,
-        &table(FREE, HALF, 3),
-        Refused::OutsideProtected,
-    );
-    refuse(
-        &rt,
-        &mut monitor,
-        &table(FREE, u64::MAX - (GIB - 1), 2),
-        Refused::OutsideProtected,
-    );
-    refuse(
-        &rt,
-        &mut monitor,
-        &table(FREE, HALF - GIB, 3),
-        Refused::WalkLevel,
-    );
-    refuse(
-        &rt,
-        &mut monitor,
-        &table(FREE, HALF - GIB, 2),
-        Refused::NotDelegated,
-    );
+    let rows = [
+        (table(ODD, HALF, 2), Refused::Unaligned),
+        (table(FREE, HALF + 0x20_0000, 2), Refused::Unaligned),
+        (table(FREE, u64::MAX, 3), Refused::Unaligned),
+        (table(FREE, HALF, 3), Refused::OutsideProtected),
+        (
+            table(FREE, u64::MAX - (GIB - 1), 2),
+            Refused::OutsideProtected,
+        ),
+        (table(FREE, HALF - GIB, 3), Refused::WalkLevel),
+        (table(FREE, HALF - GIB, 2), Refused::NotDelegated),
+    ];
+    refuse_all(&rt, &mut monitor, &rows);
     let commands = [delegate(FREE), table(FREE, HALF - GIB, 2)];
     take_all(&rt, &mut monitor, &commands);
-    refuse(
-        &rt,
-        &mut monitor,
-        &table(FREE, HALF - GIB, 2),
-        Refused::WalkLevel,
-    );
-    refuse(
-        &rt,
-        &mut monitor,
-        &table(FREE, HALF - GIB, 3),
-        Refused::NotDelegated,
-    );
+    let later = [
+        (table(FREE, HALF - GIB, 2), Refused::WalkLevel),
+        (table(FREE, HALF - GIB, 3), Refused::NotDelegated),
+    ];
+    refuse_all(&rt, &mut monitor, &later);
     take_all(
         &rt,
         &mut monitor,
@@ -208,38 +204,29 @@ fn init_ripas_row(rt: HostRuntime) {
     let mut empty = Monitor::new(rt.alloc(), 0);
     refuse(&rt, &mut empty, &ripas(1, 0), Refused::State);
     let mut monitor = created(&rt, rt.alloc());
-    refuse(&rt, &mut monitor, &ripas(1, 1), Refused::BadParams);
-    refuse(&rt, &mut monitor, &ripas(u64::MAX, 0), Refused::BadParams);
-    refuse(&rt, &mut monitor, &ripas(1, u64::MAX), Refused::Unaligned);
-    refuse(&rt, &mut monitor, &ripas(0, HALF + 1), Refused::Unaligned);
-    refuse(
-        &rt,
-        &mut monitor,
-        &ripas(4096, HALF + 4096),
-        Refused::OutsideProtected,
-    );
-    refuse(&rt, &mut monitor, &ripas(4096, GIB), Refused::WalkLevel);
-    refuse(&rt, &mut monitor, &ripas(0, 4096), Refused::WalkLevel);
+    let rows = [
+        (ripas(1, 1), Refused::BadParams),
+        (ripas(u64::MAX, 0), Refused::BadParams),
+        (ripas(1, u64::MAX), Refused::Unaligned),
+        (ripas(0, HALF + 1), Refused::Unaligned),
+        (ripas(4096, HALF + 4096), Refused::OutsideProtected),
+        (ripas(4096, GIB), Refused::WalkLevel),
+        (ripas(0, 4096), Refused::WalkLevel),
+    ];
+    refuse_all(&rt, &mut monitor, &rows);
     let commands = [
         delegate(FREE),
         table(FREE, 2 * GIB, 2),
         ripas(HALF - GIB, HALF),
     ];
     take_all(&rt, &mut monitor, &commands);
-    refuse(
-        &rt,
-        &mut monitor,
-        &ripas(2 * GIB, 4 * GIB),
-        Refused::WalkLevel,
-    );
-    refuse(&rt, &mut monitor, &ripas(GIB, 3 * GIB), Refused::NotFresh);
-    refuse(
-        &rt,
-        &mut monitor,
-        &ripas(HALF - GIB, HALF),
-        Refused::NotFresh,
-    );
-    refuse(&rt, &mut monitor, &ripas(3 * GIB, HALF), Refused::NotFresh);
+    let later = [
+        (ripas(2 * GIB, 4 * GIB), Refused::WalkLevel),
+        (ripas(GIB, 3 * GIB), Refused::NotFresh),
+        (ripas(HALF - GIB, HALF), Refused::NotFresh),
+        (ripas(3 * GIB, HALF), Refused::NotFresh),
+    ];
+    refuse_all(&rt, &mut monitor, &later);
     take_all(
         &rt,
         &mut monitor,
@@ -278,111 +265,106 @@ fn start_tables_part_runs(rt: HostRuntime) {
     );
 }
 
-#[test]
-fn data_create_row(rt: HostRuntime) {
-    let mut empty = Monitor::new(rt.alloc(), 0);
-    refuse(&rt, &mut empty, &data(ODD, 1), Refused::State);
-    let mut monitor = created(&rt, rt.alloc());
+/// A page of which one byte of the content is 1.
+fn measured(granule: u64, ipa: u64, index: usize) -> Command {
     let mut bytes = [0; 64];
-    bytes[32] = 1;
-    let long = Command::DataCreate {
-        granule: ODD,
-        ipa: 1,
+    bytes[index % 64] = 1;
+    Command::DataCreate {
+        granule,
+        ipa,
         content: Some(Measurement { bytes }),
-    };
-    refuse(&rt, &mut monitor, &long, Refused::BadParams);
-    refuse(&rt, &mut monitor, &data(ODD, HALF), Refused::Unaligned);
-    refuse(&rt, &mut monitor, &data(FREE, HALF + 1), Refused::Unaligned);
-    refuse(
-        &rt,
-        &mut monitor,
-        &data(FREE, HALF),
-        Refused::OutsideProtected,
-    );
-    refuse(
-        &rt,
-        &mut monitor,
-        &data(FREE, HALF - 4096),
-        Refused::WalkLevel,
-    );
-    let base = HALF - GIB;
-    let commands = [
-        delegate(FREE),
-        delegate(FREE + 4096),
-        table(FREE, base, 2),
-        ripas(base, base + 0x20_0000),
-        table(FREE + 4096, base, 3),
-    ];
-    take_all(&rt, &mut monitor, &commands);
-    refuse(
-        &rt,
-        &mut monitor,
-        &data(ODD - 0x800, base + 0x20_0000),
-        Refused::WalkLevel,
-    );
-    refuse(&rt, &mut monitor, &data(FREE, base), Refused::NotDelegated);
-    take_all(
-        &rt,
-        &mut monitor,
-        &[delegate(FREE + 8192), data(FREE + 8192, base)],
-    );
-    refuse(&rt, &mut monitor, &data(FREE, base), Refused::Assigned);
-    let beside = [
-        delegate(FREE + 12288),
-        table(FREE + 12288, base + 0x20_0000, 3),
-    ];
-    take_all(&rt, &mut monitor, &beside);
-    refuse(
-        &rt,
-        &mut monitor,
-        &data(FREE, base + 0x20_0000),
-        Refused::NotRam,
-    );
-    bytes[32] = 0;
-    bytes[31] = 1;
-    let short = Command::DataCreate {
-        granule: FREE,
-        ipa: base + 0x1f_f000,
-        content: Some(Measurement { bytes }),
-    };
-    refuse(&rt, &mut monitor, &short, Refused::NotDelegated);
-    take_all(&rt, &mut monitor, &[Command::Activate]);
-    refuse(&rt, &mut monitor, &long, Refused::State);
+    }
 }
 
 #[test]
-fn rec_create_row(rt: HostRuntime) {
-    let mut empty = Monitor::new(rt.alloc(), 2);
-    refuse(&rt, &mut empty, &rec(ODD, 0, 0, [ODD, ODD]), Refused::State);
+fn data_parameters(rt: HostRuntime) {
+    let mut monitor = Monitor::new(rt.alloc(), 0);
+    refuse(&rt, &mut monitor, &data(ODD, 1), Refused::State);
     let mut monitor = created(&rt, rt.alloc());
-    for flags in [0, 2, 3, u64::MAX] {
-        refuse(
-            &rt,
-            &mut monitor,
-            &rec(ODD, flags, 0, [ODD, ODD]),
-            Refused::BadParams,
-        );
-    }
-    for mpidr in [1 << 4, 1 << 7, 1 << 32, 1 << 63, u64::MAX] {
-        refuse(
-            &rt,
-            &mut monitor,
-            &rec(ODD, 1, mpidr, [ODD, ODD]),
-            Refused::BadParams,
-        );
-    }
+    let rows = [
+        (measured(ODD, 1, 32), Refused::BadParams),
+        (data(ODD, HALF), Refused::Unaligned),
+        (data(FREE, HALF + 1), Refused::Unaligned),
+        (data(FREE, HALF), Refused::OutsideProtected),
+        (data(FREE, HALF - 4096), Refused::WalkLevel),
+    ];
+    refuse_all(&rt, &mut monitor, &rows);
+    take_all(&rt, &mut monitor, &[Command::Activate]);
+    refuse(&rt, &mut monitor, &measured(ODD, 1, 32), Refused::State);
+}
+
+#[test]
+fn data_pages(rt: HostRuntime) {
+    let mut monitor = created(&rt, rt.alloc());
+    let base = HALF - GIB;
+    let beside = base + 0x20_0000;
+    let tables = [
+        delegate(FREE),
+        delegate(FREE + 4096),
+        table(FREE, base, 2),
+        ripas(base, beside),
+        table(FREE + 4096, base, 3),
+    ];
+    take_all(&rt, &mut monitor, &tables);
+    let early = [
+        (data(ODD - 0x800, beside), Refused::WalkLevel),
+        (data(FREE, base), Refused::NotDelegated),
+    ];
+    refuse_all(&rt, &mut monitor, &early);
+    let page = [
+        delegate(FREE + 8192),
+        data(FREE + 8192, base),
+        delegate(FREE + 12288),
+        table(FREE + 12288, beside, 3),
+    ];
+    take_all(&rt, &mut monitor, &page);
+    let late = [
+        (data(FREE, base), Refused::Assigned),
+        (data(FREE, beside), Refused::NotRam),
+        (measured(FREE, beside - 4096, 31), Refused::NotDelegated),
+    ];
+    refuse_all(&rt, &mut monitor, &late);
+}
+
+#[test]
+fn rec_parameters(rt: HostRuntime) {
+    let mut monitor = Monitor::new(rt.alloc(), 2);
     refuse(
         &rt,
         &mut monitor,
-        &rec(ODD, 1, 1, [FREE, FREE]),
-        Refused::Unaligned,
+        &rec(ODD, 0, 0, [ODD, ODD]),
+        Refused::State,
     );
-    refuse(
-        &rt,
-        &mut monitor,
-        &rec(FREE, 1, 1, [FREE, ODD]),
-        Refused::Unaligned,
-    );
+    let mut monitor = created(&rt, rt.alloc());
+    let wrong = [
+        (0, 0),
+        (2, 0),
+        (3, 0),
+        (u64::MAX, 0),
+        (1, 1 << 4),
+        (1, 1 << 7),
+        (1, 1 << 32),
+        (1, 1 << 63),
+        (1, u64::MAX),
+    ];
+    for (flags, mpidr) in wrong {
+        refuse(
+            &rt,
+            &mut monitor,
+            &rec(ODD, flags, mpidr, [ODD, ODD]),
+            Refused::BadParams,
+        );
+    }
+}
+
+#[test]
+fn rec_indices(rt: HostRuntime) {
+    let mut monitor = created(&rt, rt.alloc());
+    let odd = [
+        (rec(ODD, 1, 1, [FREE, FREE]), Refused::Unaligned),
+        (rec(FREE, 1, 1, [FREE, ODD]), Refused::Unaligned),
+    ];
+    refuse_all(&rt, &mut monitor, &odd);
     for mpidr in [1, 1 << 8, 1 << 16, 1 << 24, 0xffff_ff0f] {
         refuse(
             &rt,
@@ -396,50 +378,31 @@ fn rec_create_row(rt: HostRuntime) {
         params: RecParams::new(1, 0, 0, [0; 8], &[FREE]),
     };
     refuse(&rt, &mut monitor, &bare, Refused::AuxCount);
+}
+
+#[test]
+fn rec_granules(rt: HostRuntime) {
+    let mut monitor = created(&rt, rt.alloc());
     let second = FREE + 4096;
     let third = FREE + 8192;
     take_all(&rt, &mut monitor, &[delegate(FREE), delegate(second)]);
-    refuse(
-        &rt,
-        &mut monitor,
-        &rec(FREE, 1, 0, [second, third]),
-        Refused::NotDelegated,
-    );
-    refuse(
-        &rt,
-        &mut monitor,
-        &rec(third, 1, 0, [FREE, second]),
-        Refused::NotDelegated,
-    );
-    refuse(
-        &rt,
-        &mut monitor,
-        &rec(FREE, 1, 0, [second, second]),
-        Refused::NotDelegated,
-    );
-    refuse(
-        &rt,
-        &mut monitor,
-        &rec(FREE, 1, 0, [second, FREE]),
-        Refused::NotDelegated,
-    );
+    let early = [
+        (rec(FREE, 1, 0, [second, third]), Refused::NotDelegated),
+        (rec(third, 1, 0, [FREE, second]), Refused::NotDelegated),
+        (rec(FREE, 1, 0, [second, second]), Refused::NotDelegated),
+        (rec(FREE, 1, 0, [second, FREE]), Refused::NotDelegated),
+    ];
+    refuse_all(&rt, &mut monitor, &early);
     take_all(
         &rt,
         &mut monitor,
         &[delegate(third), rec(FREE, 1, 0, [third, second])],
     );
-    refuse(
-        &rt,
-        &mut monitor,
-        &rec(FREE, 1, 0, [third, second]),
-        Refused::RecIndex,
-    );
-    refuse(
-        &rt,
-        &mut monitor,
-        &rec(FREE, 1, 1, [third, second]),
-        Refused::NotDelegated,
-    );
+    let late = [
+        (rec(FREE, 1, 0, [third, second]), Refused::RecIndex),
+        (rec(FREE, 1, 1, [third, second]), Refused::NotDelegated),
+    ];
+    refuse_all(&rt, &mut monitor, &late);
 }
 
 /// The sixteenth REC is the last with Aff1 zero.
@@ -454,17 +417,13 @@ fn recs_count_on(rt: HostRuntime) {
         let mpidr = index % 16 + 256 * (index / 16);
         take_all(&rt, &mut monitor, &[rec(granule, 1, mpidr, aux)]);
     }
-    refuse(
+    refuse_all(
         &rt,
         &mut monitor,
-        &rec(FREE, 1, 0x100, [FREE, FREE]),
-        Refused::RecIndex,
-    );
-    refuse(
-        &rt,
-        &mut monitor,
-        &rec(FREE, 1, 0x101, [FREE, FREE]),
-        Refused::NotDelegated,
+        &[
+            (rec(FREE, 1, 0x100, [FREE, FREE]), Refused::RecIndex),
+            (rec(FREE, 1, 0x101, [FREE, FREE]), Refused::NotDelegated),
+        ],
     );
 }
 
@@ -476,11 +435,12 @@ fn activate_row(rt: HostRuntime) {
     let rim = monitor.rim();
     take_all(&rt, &mut monitor, &[Command::Activate]);
     assert_eq!(rt; monitor.rim(), rim);
-    refuse(&rt, &mut monitor, &Command::Activate, Refused::State);
-    refuse(
+    refuse_all(
         &rt,
         &mut monitor,
-        &rec(ODD, 0, 0, [ODD, ODD]),
-        Refused::State,
+        &[
+            (Command::Activate, Refused::State),
+            (rec(ODD, 0, 0, [ODD, ODD]), Refused::State),
+        ],
     );
 }

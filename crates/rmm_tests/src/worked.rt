@@ -110,19 +110,6 @@ pub fn take_all(rt: &impl Abort, monitor: &mut Monitor, commands: &[Command]) {
     }
 }
 
-/// Applies some commands from a place on.
-fn take_some(
-    rt: &impl Abort,
-    monitor: &mut Monitor,
-    commands: &[Command],
-    from: usize,
-    count: usize,
-) {
-    for command in commands.iter().skip(from).take(count) {
-        assert_eq!(rt; monitor.apply(command), Ok(()), "{command:?}");
-    }
-}
-
 /// The worked realm, created.
 pub fn created(rt: &impl Abort, alloc: Global) -> Monitor {
     let mut monitor = Monitor::new(alloc, 2);
@@ -160,10 +147,11 @@ fn worked_list_is_taken(rt: HostRuntime) {
 fn level_3_before_level_2(rt: HostRuntime) {
     let mut monitor = Monitor::new(rt.alloc(), 0);
     let filling = filling();
+    let (first, rest) = filling.as_slice().split_at(2);
     take_all(&rt, &mut monitor, &creation());
-    take_some(&rt, &mut monitor, &filling, 0, 2);
+    take_all(&rt, &mut monitor, first);
     assert_eq!(rt; monitor.apply(&table_of_level_3()), Err(Refused::WalkLevel));
-    take_some(&rt, &mut monitor, &filling, 2, 6);
+    take_all(&rt, &mut monitor, rest);
     assert_eq!(rt; monitor.rim(), Some(Measurement { bytes: WORKED }));
 }
 
@@ -172,7 +160,7 @@ fn granules_have_one_owner(rt: HostRuntime) {
     let mut monitor = Monitor::new(rt.alloc(), 0);
     let filling = filling();
     take_all(&rt, &mut monitor, &creation());
-    take_some(&rt, &mut monitor, &filling, 0, 5);
+    take_all(&rt, &mut monitor, &filling[..5]);
     let again = Command::Delegate {
         granule: 0x8_0000_4000,
     };

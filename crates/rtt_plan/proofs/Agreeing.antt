@@ -1,12 +1,15 @@
 -- The tables that a block wants, beside those that are there.
-use Rattle.std.proofs.Common.{inl, inr, ◌≡◌, ℕ, zero, suc, ◌+◌, ◌-◌, ◌*◌, ◌/◌, ◌<◌, ◌≤◌, ◌∙◌, sym, refl, ap, arith, Bool, true, false, cond, not, eqb, List, [], ◌∷◌, ◌++◌, ◌⊎◌}
+use Rattle.std.proofs.Common.{inl, inr, ◌≡◌, ℕ, zero, suc, ◌+◌, ◌-◌, ◌*◌, ◌/◌, ◌<◌, ◌≤◌, ◌∙◌, sym, refl, ap, arith, Bool, true, false, cond, not, ◌&&◌, ◌||◌, eqb, List, ◌∷◌, ◌++◌, ◌⊎◌}
 use Rattle.std.specs.List.{filter}
 use Rattle.std.proofs.lemmas.Bool.Decides.{nat_tests}
 use Rattle.rmm_model.specs.Blocks.{down, size, span}
 use Rattle.rmm_model.specs.Space.{is_ram, made, walk}
 use Rattle.rmm_model.specs.declared.table.Table.{Table}
 use Rattle.rmm_model.proofs.Blocks.{down-in, nest, nest-le, size-step, span-pos, span-size}
-use Rattle.rmm_model.proofs.Tests.{bool-cases}
+use Rattle.std.proofs.Math.Bool.{or-true}
+use Rattle.std.proofs.Math.Nat.{eq-or-lt_of_le}
+use Rattle.std.proofs.lemmas.Bool.{cases_Bool, or_cases}
+use Rattle.std.proofs.lemmas.List.Folds.{list_any-append}
 use Rattle.rmm_model.proofs.Walks.{EndsAt, made-cases, made-here, made-there, walk-ends, walk-from, walk-least}
 use Rattle.rtt_plan.specs.Agreement.{IsFormed, IsFresh, IsUsed}
 use Rattle.rtt_plan.specs.Wanted.{needed, wanted}
@@ -14,29 +17,17 @@ use Rattle.rtt_plan.proofs.Rounding.{down-down, down-same}
 
 -- ---- which tables are there afterwards
 
+pub made-append : (ts us : List Table) (j b : ℕ) → made (ts ++ us) j b ≡ (made ts j b || made us j b)
+made-append ts us j b = list_any-append (λ t. eqb t.level j && eqb t.base b) ts us
+
 made-front : (ts us : List Table) (j b : ℕ) → made ts j b ≡ true → made (ts ++ us) j b ≡ true
-made-front [] us j b m = absurd (cc)
-made-front (t ∷ ts) us j b m = elim (made-cases t ts j b m) [
-  | inl e ↦ here e
-  | inr there ↦ made-there t (ts ++ us) j b (made-front ts us j b there)
-]
-  where
-    here : (t.level ≡ j) × (t.base ≡ b) → made (t ∷ (ts ++ us)) j b ≡ true
-    here e = grind (arith, nat_tests)
+made-front ts us j b m = rw (made-append ts us j b, m) refl
 
 made-back : (ts us : List Table) (j b : ℕ) → made us j b ≡ true → made (ts ++ us) j b ≡ true
-made-back [] us j b m = m
-made-back (t ∷ ts) us j b m = made-there t (ts ++ us) j b (made-back ts us j b m)
+made-back ts us j b m = rw (made-append ts us j b, m) (or-true (made ts j b))
 
 made-both : (ts us : List Table) (j b : ℕ) → made (ts ++ us) j b ≡ true → (made ts j b ≡ true) ⊎ (made us j b ≡ true)
-made-both [] us j b m = inr m
-made-both (t ∷ ts) us j b m = elim (made-cases t (ts ++ us) j b m) [
-  | inl e ↦ inl (here e)
-  | inr rest ↦ elim (made-both ts us j b rest) [ inl front ↦ inl (made-there t ts j b front) | inr back ↦ inr back ]
-]
-  where
-    here : (t.level ≡ j) × (t.base ≡ b) → made (t ∷ ts) j b ≡ true
-    here e = grind (arith, nat_tests)
+made-both ts us j b m = or_cases (made ts j b) (made us j b) (sym (made-append ts us j b) ∙ m)
 
 -- a wanted table is one of its level that covers x
 wanted-only : (ts : List Table) (n k x j b : ℕ) → made (filter (λ t. not (made ts t.level t.base)) (needed n k x)) j b ≡ true
@@ -67,7 +58,7 @@ wanted-all : (ts : List Table) (n k x j : ℕ) → k < j → j ≤ k + n
     → (made ts j (down (span j) x) ≡ true) ⊎ (made (filter (λ t. not (made ts t.level t.base)) (needed n k x)) j (down (span j) x) ≡ true)
 unfolding needed
 wanted-all ts zero k x j lo hi = absurd (omega arith)
-wanted-all ts (suc n) k x j lo hi = by_level (eqb (suc k) j) (bool-cases (eqb (suc k) j)) (λ up. wanted-all ts n (suc k) x j up (omega arith))
+wanted-all ts (suc n) k x j lo hi = by_level (eqb (suc k) j) (cases_Bool (eqb (suc k) j)) (λ up. wanted-all ts n (suc k) x j up (omega arith))
   where
     t : Table
     t = record { level = suc k; base = down (span (suc k)) x }
@@ -121,7 +112,7 @@ pub none-inside : (start l x : ℕ) (ts : List Table) (ram : List (ℕ × ℕ)) 
     → (j b : ℕ) → made ts j b ≡ true → l < j → b / size l ≡ x / size l → ⊥
 none-inside start l x ts ram formed used fresh j b m deeper inside =
     let u = used.used j b m in
-    let le : j ≤ 3 = (formed.shape j b m).1 in
+    let le : j ≤ 3 = (formed.placed.shape j b m).1 in
     let same : u.0 / size l ≡ b / size l = table-in-block l j (u.0) b deeper le (u.2) in
     let no : is_ram ram (u.0) ≡ false = fresh (u.0) (same ∙ inside) in
     let yes : is_ram ram (u.0) ≡ true = u.1 in
@@ -129,23 +120,20 @@ none-inside start l x ts ram formed used fresh j b m deeper inside =
 
 -- ---- where the walk ends
 
-lt-cases : (a b : ℕ) → a ≤ b → (a < b) ⊎ (a ≡ b)
-lt-cases a b h = elim (bool-cases (eqb a b)) [ inl t ↦ inr (grind (arith, nat_tests)) | inr f ↦ inl (grind (arith, nat_tests)) ]
-
 walk-after : (start : ℕ) (ts : List Table) (x l b : ℕ) → start ≤ l → (start < l → (made ts l b ≡ true) × (x / span l ≡ b / span l))
     → ((j c : ℕ) → made ts j c ≡ true → l < j → x / span j ≡ c / span j → ⊥)
     → walk start ts x ≡ l
 unfolding EndsAt
 walk-after start ts x l b o own none =
-    let low : l ≤ walk start ts x = elim (lt-cases start l o) [
-      | inl lt ↦ walk-least start ts x l b ((own lt).0) ((own lt).1)
-      | inr e ↦ (let f : start ≤ walk start ts x = walk-from start ts x in omega arith)
+    let low : l ≤ walk start ts x = elim (eq-or-lt_of_le o) [
+      | inr lt ↦ walk-least start ts x l b ((own lt).0) ((own lt).1)
+      | inl e ↦ (let f : start ≤ walk start ts x = walk-from start ts x in omega arith)
     ] in
     elim (walk-ends start ts x) [
       | inl e ↦ omega arith
-      | inr e ↦ elim (lt-cases l (walk start ts x) low) [
-        | inl lt ↦ absurd (none (walk start ts x) (e.0) (e.1) lt (e.2))
-        | inr same ↦ sym same
+      | inr e ↦ elim (eq-or-lt_of_le low) [
+        | inl same ↦ sym same
+        | inr lt ↦ absurd (none (walk start ts x) (e.0) (e.1) lt (e.2))
       ]
     ]
 
@@ -164,12 +152,12 @@ pub walk-fresh : (start l x : ℕ) (ts : List Table) (ram : List (ℕ × ℕ)) �
     → walk start (ts ++ wanted start ts l x) x ≡ l
 walk-fresh start l x ts ram o deep formed used fresh =
     walk-wanted start l x ts o (λ j c m deeper covers.
-    let le : j ≤ 3 = (formed.shape j c m).1 in
+    let le : j ≤ 3 = (formed.placed.shape j c m).1 in
     none-inside start l x ts ram formed used fresh j c m deeper (sym (table-in-block l j x c deeper le covers)))
 
 pub walk-page : (start x : ℕ) (ts : List Table) → start < 3 → IsFormed start ts → walk start (ts ++ wanted start ts 3 x) x ≡ 3
 walk-page start x ts o formed =
-    walk-wanted start 3 x ts (omega arith) (λ j c m deeper covers. let le : j ≤ 3 = (formed.shape j c m).1 in omega arith)
+    walk-wanted start 3 x ts (omega arith) (λ j c m deeper covers. let le : j ≤ 3 = (formed.placed.shape j c m).1 in omega arith)
 
 -- ---- what stays
 
@@ -184,10 +172,12 @@ down-up j x = down-same (span j) (down (span (suc j)) x) x (span-nest j (down (s
 
 pub formed-after : (start l x : ℕ) (ts : List Table) → l ≤ 3 → IsFormed start ts → IsFormed start (ts ++ wanted start ts l x)
 formed-after start l x ts deep formed = record {
-  shape = λ j b m. elim (made-wanted start ts l x j b m) [
-    | inl there ↦ formed.shape j b there
-    | inr new ↦ shaped j b new
-  ];
+  placed = record {
+    shape = λ j b m. elim (made-wanted start ts l x j b m) [
+      | inl there ↦ formed.placed.shape j b there
+      | inr new ↦ shaped j b new
+    ];
+  };
   chain = λ j b m lt. elim (made-wanted start ts l x (suc j) b m) [
     | inl there ↦ made-front ts (wanted start ts l x) j (down (span j) b) (formed.chain j b there lt)
     | inr new ↦ chained j b new lt

@@ -1,9 +1,10 @@
 -- The largest block of an address in a region.
-use Rattle.std.proofs.Common.{inl, inr, ◌≡◌, ℕ, zero, suc, ◌+◌, ◌-◌, ◌/◌, ◌%◌, ◌<◌, ◌≤◌, ◌∙◌, sym, refl, arith, true, false, leb, eqb, ◌⊎◌}
+use Rattle.std.proofs.Common.{inl, inr, ◌≡◌, ℕ, zero, suc, ◌+◌, ◌-◌, ◌/◌, ◌%◌, ◌<◌, ◌≤◌, ◌∙◌, sym, refl, arith, true, false, eqb}
 use Rattle.std.proofs.lemmas.Bool.Decides.{nat_tests}
 use Rattle.rmm_model.specs.Blocks.{down, size}
 use Rattle.rmm_model.proofs.Blocks.{down-le, down-lt, in-block, nest-le, size-pos}
-use Rattle.rmm_model.proofs.Tests.{bool-cases}
+use Rattle.std.proofs.Math.Nat.{eq-or-lt_of_le}
+use Rattle.std.proofs.lemmas.Bool.{cases_Bool, cases_lt}
 use Rattle.rtt_plan.specs.Entries.{block_level, first_fit, fits, is_first}
 use Rattle.rtt_plan.specs.Places.{IsRegion}
 use Rattle.rtt_plan.proofs.Rounding.{down-down, down-next, down-size, down-top, le-down}
@@ -23,7 +24,7 @@ pub first_fit-from : (base end n l x : ℕ) → l ≤ first_fit base end n l x
 unfolding first_fit
 first_fit-from base end zero l x = omega arith
 first_fit-from base end (suc n) l x =
-    elim (bool-cases (fits base end l x)) [
+    elim (cases_Bool (fits base end l x)) [
       | inl h ↦ rw h (omega arith)
       | inr h ↦ rw h (let i : suc l ≤ first_fit base end n (suc l) x = first_fit-from base end n (suc l) x in omega arith)
     ]
@@ -32,7 +33,7 @@ pub first_fit-to : (base end n l x : ℕ) → first_fit base end n l x ≤ l + n
 unfolding first_fit
 first_fit-to base end zero l x = omega arith
 first_fit-to base end (suc n) l x =
-    elim (bool-cases (fits base end l x)) [
+    elim (cases_Bool (fits base end l x)) [
       | inl h ↦ rw h (omega arith)
       | inr h ↦ rw h (let i : first_fit base end n (suc l) x ≤ suc l + n = first_fit-to base end n (suc l) x in omega arith)
     ]
@@ -42,7 +43,7 @@ pub first_fit-fits : (base end n l x : ℕ) → fits base end (l + n) x ≡ true
 unfolding first_fit
 first_fit-fits base end zero l x last = let e : l + 0 ≡ l = omega arith in rw e at last
 first_fit-fits base end (suc n) l x last =
-    elim (bool-cases (fits base end l x)) [
+    elim (cases_Bool (fits base end l x)) [
       | inl h ↦ rw h h
       | inr h ↦ rw h (first_fit-fits base end n (suc l) x (let e : l + suc n ≡ suc l + n = omega arith in rw e at last))
     ]
@@ -52,7 +53,7 @@ pub first_fit-same : (base end n l x y : ℕ) → x / size (first_fit base end n
 unfolding first_fit
 first_fit-same base end zero l x y = λ h. refl
 first_fit-same base end (suc n) l x y =
-    elim (bool-cases (fits base end l x)) [
+    elim (cases_Bool (fits base end l x)) [
       | inl t ↦ rw t (λ h. rw (sym (fits-same base end l x y h) ∙ t) refl)
       | inr f ↦ rw f (λ h.
           let up : suc l ≤ first_fit base end n (suc l) x = first_fit-from base end n (suc l) x in
@@ -66,9 +67,9 @@ pub first_fit-least : (base end n l m x : ℕ) → l ≤ m → fits base end m x
 unfolding first_fit
 first_fit-least base end zero l m x o h = o
 first_fit-least base end (suc n) l m x o h =
-    elim (bool-cases (fits base end l x)) [
+    elim (cases_Bool (fits base end l x)) [
       | inl t ↦ rw t o
-      | inr f ↦ rw f (elim (bool-cases (eqb l m)) [
+      | inr f ↦ rw f (elim (cases_Bool (eqb l m)) [
         | inl e ↦ absurd (let q : l ≡ m = grind (arith, nat_tests) in let z : fits base end m x ≡ false = rw q at f in cc)
         | inr e ↦ first_fit-least base end n (suc l) m x (grind (arith, nat_tests)) h
       ])
@@ -98,12 +99,6 @@ base-first base end lowest region low some =
     let d : down (size (block_level base end lowest base)) base ≤ base = down-le (size (block_level base end lowest base)) base in
     is-first base end lowest base (omega arith)
 
-eq-or : (d x : ℕ) → d ≤ x → (d ≡ x) ⊎ (d < x)
-eq-or d x h = elim (bool-cases (eqb d x)) [ inl t ↦ inl (grind (arith, nat_tests)) | inr f ↦ inr (grind (arith, nat_tests)) ]
-
-lt-or : (a b : ℕ) → (a < b) ⊎ (b ≤ a)
-lt-or a b = elim (bool-cases (leb b a)) [ inl t ↦ inr (grind (arith, nat_tests)) | inr f ↦ inl (grind (arith, nat_tests)) ]
-
 -- the page after a block is the first of its own block
 pub next-first : (base end lowest x : ℕ) → IsRegion base end → lowest ≤ 3 → base ≤ x → is_first base end lowest x ≡ true
     → x + size (block_level base end lowest x) < end → is_first base end lowest (x + size (block_level base end lowest x)) ≡ true
@@ -115,9 +110,9 @@ next-first base end lowest x region low lo first hi =
     let p : 0 < size m = size-pos m in
     let pk : 0 < size k = size-pos k in
     let atz : down (size m) z ≡ z = down-next (size m) x p at in
-    is-first base end lowest z (elim (lt-or k m) [
+    is-first base end lowest z (elim (cases_lt k m) [
       | inr ge ↦ down-size m k z ge atz
-      | inl lt ↦ elim (eq-or (down (size k) z) z (down-le (size k) z)) [
+      | inl lt ↦ elim (eq-or-lt_of_le (down-le (size k) z)) [
         | inl same ↦ same
         | inr less ↦
             let dd : down (size k) (down (size k) z) ≡ down (size k) z = down-down (size k) z pk in

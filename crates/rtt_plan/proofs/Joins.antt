@@ -3,7 +3,7 @@ use Rattle.std.proofs.Common.{inl, inr, ◌≡◌, ℕ, ◌+◌, ◌/◌, ◌<�
 use Rattle.std.proofs.lemmas.Bool.Decides.{nat_tests}
 use Rattle.rmm_model.specs.Blocks.{size, span}
 use Rattle.rmm_model.proofs.Blocks.{size-pos}
-use Rattle.rmm_model.proofs.Tests.{bool-cases}
+use Rattle.std.proofs.lemmas.Bool.{cases_Bool}
 use Rattle.rtt_plan.specs.declared.run.Run.{Run}
 use Rattle.rtt_plan.specs.Entries.{block_level}
 use Rattle.rtt_plan.specs.Places.{AtEntry, IsRegion}
@@ -26,7 +26,7 @@ join-same o l x [] e s =
 join-same o l x (r ∷ rs) e s =
     let t : eqb l o.level && eqb (x / span o.level) (o.base / span o.level) ≡ true = grind (arith, nat_tests) in
     let same : eqb r.level l && eqb (r.base / span l) (x / span l) ≡ eqb r.level o.level && eqb (r.base / span o.level) (o.base / span o.level) = rw (e, s) refl in
-    elim (bool-cases (eqb r.level o.level && eqb (r.base / span o.level) (o.base / span o.level))) [
+    elim (cases_Bool (eqb r.level o.level && eqb (r.base / span o.level) (o.base / span o.level))) [
       | inl h ↦ rw (same ∙ h) (rw t (rw h refl))
       | inr h ↦ rw (same ∙ h) (rw t (rw h refl))
     ]
@@ -35,7 +35,7 @@ pub join-apart : (o : Run) (l x : ℕ) (rs : List Run) → eqb l o.level && eqb 
     → join o (put l x rs) ≡ o ∷ put l x rs
 join-apart o l x [] f = rw f refl
 join-apart o l x (r ∷ rs) f =
-    elim (bool-cases (eqb r.level l && eqb (r.base / span l) (x / span l))) [
+    elim (cases_Bool (eqb r.level l && eqb (r.base / span l) (x / span l))) [
       | inl h ↦ rw h (rw f refl)
       | inr h ↦ rw h (rw f refl)
     ]

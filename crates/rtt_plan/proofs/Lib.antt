@@ -7,3 +7,4 @@ pub mod Wants
 pub mod Plans
 pub mod Asking
 pub mod Agreeing
+pub mod Alike

@@ -1,6 +1,6 @@
 -- Rounding down to blocks, beside what the model's proofs have.
 use Rattle.std.proofs.Common.{◌≡◌, ℕ, zero, suc, ◌+◌, ◌-◌, ◌*◌, ◌/◌, ◌<◌, ◌≤◌, ◌∙◌, sym, refl, ap, arith}
-use Rattle.std.proofs.Math.Nat.{div-lt_iff_lt-mul, mul-div_cancel, mul-le-mul_right, mul_assoc}
+use Rattle.std.proofs.Math.Nat.{div-lt_iff_lt-mul, mul-div_cancel, mul-le-mul_right, mul_assoc, mul_comm}
 use Rattle.rmm_model.specs.Blocks.{down, size}
 use Rattle.rmm_model.proofs.Blocks.{down-in, down-lt, size-pos, size-step}
 
@@ -42,13 +42,10 @@ size-multiple (suc d) l =
 pub multiple-down : (n k x : ℕ) → 0 < n → down n (k * n) ≡ k * n
 multiple-down n k x p = rw (mul-div_cancel k p) refl
 
-mul-comm : (a b : ℕ) → a * b ≡ b * a
-mul-comm a b = omega arith
-
 -- a multiple of n * k is a multiple of n
 pub down-part : (n k x : ℕ) → 0 < n → down (n * k) x ≡ x → down n x ≡ x
 down-part n k x p h =
-    let e : x / (n * k) * (n * k) ≡ x / (n * k) * k * n = omega (arith, mul_assoc (x / (n * k)) k n, mul-comm n k) in
+    let e : x / (n * k) * (n * k) ≡ x / (n * k) * k * n = omega (arith, mul_assoc (x / (n * k)) k n, mul_comm n k) in
     let f : x ≡ x / (n * k) * k * n = sym h ∙ e in
     ap (λ (z : ℕ). down n z) f ∙ (multiple-down n (x / (n * k) * k) x p ∙ sym f)
 

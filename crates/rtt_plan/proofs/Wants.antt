@@ -1,7 +1,6 @@
 -- Adding the tables that a block wants, one at a time.
 use Rattle.std.proofs.Common.{◌≡◌, ℕ, suc, ◌+◌, ◌-◌, ◌<◌, ◌≤◌, ◌∙◌, sym, refl, ap, arith, Bool, true, false, cond, not, List, [], ◌∷◌, ◌++◌, length, map, take, append_assoc, length-append}
 use Rattle.std.specs.List.{filter}
-use Rattle.std.proofs.Math.Seq.{take-length}
 use Rattle.std.proofs.lemmas.List.{append-nil, map-append, take-append-le}
 use Rattle.rmm_model.specs.Blocks.{down, span}
 use Rattle.rmm_model.specs.Space.{made}
@@ -47,9 +46,6 @@ unfolding needed
 between-none ts above level x h = let e : level - above ≡ 0 = omega arith in rw e refl
 
 -- ---- the steps of the loop
-
-pub adding-start : (start level x : ℕ) (old : List Table) (said : List Act) → IsAdding start level x old said start old said
-adding-start start level x old said = record { made_so_far = refl; said_so_far = refl; kept = take-length old; grown = omega arith }
 
 pub adding-next : (start level x : ℕ) (old : List Table) (said : List Act) (above : ℕ) (tables : List Table) (acts : List Act)
     → above < level → IsAdding start level x old said above tables acts

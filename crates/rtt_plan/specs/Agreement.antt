@@ -1,13 +1,13 @@
--- What is known of the tables and the RAM of a plan between two blocks.
-use Rattle.std.specs.Prelude.{◌≡◌, ℕ, suc, ◌/◌, ◌<◌, ◌≤◌, List, true, false}
+-- What is known of the tables and the RAM of a plan between two blocks. DEN0137, RMI_RTT_CREATE: a table
+-- is made below one that is there; that tables are made for RAM alone is this project's choice.
+use Rattle.std.specs.Prelude.{◌≡◌, ℕ, suc, ◌/◌, ◌<◌, List, true, false}
 use Rattle.rmm_model.specs.Blocks.{down, size, span}
-use Rattle.rmm_model.specs.Space.{is_ram, made}
+use Rattle.rmm_model.specs.Space.{ArePlaced, is_ram, made}
 use Rattle.rmm_model.specs.declared.table.Table.{Table}
 
--- each table is below the start level and stands at a multiple of what it covers, and the table above
--- it is there
+-- each table stands where it may, and the table above it is there
 pub record IsFormed (start : ℕ) (ts : List Table) : Type 0 where
-  pub shape : (level base : ℕ) → made ts level base ≡ true → (start < level) × (level ≤ 3) × (down (span level) base ≡ base)
+  pub placed : ArePlaced start ts
   pub chain : (level base : ℕ) → made ts (suc level) base ≡ true → start < level → made ts level (down (span level) base) ≡ true
 
 -- each table covers an address that is RAM

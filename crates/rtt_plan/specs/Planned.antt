@@ -1,6 +1,8 @@
--- What was planned so far, and what a call plans: its first fault, or its acts.
-use Rattle.std.specs.Prelude.{◌≡◌, ℕ, ◌+◌, ◌*◌, max, not, ◌||◌, nat_lt, Bool, List, [], ◌∷◌, ◌++◌, length, Result, Ok, Err, if◌then◌else◌}
+-- What was planned so far, and what a call plans: its first fault, or its acts. The names of the faults and
+-- their order are this project's choice.
+use Rattle.std.specs.Prelude.{◌≡◌, ℕ, ◌+◌, ◌*◌, max, not, ◌||◌, nat_lt, List, [], ◌∷◌, ◌++◌, length, Result}
 use Rattle.std.specs.List.{list_all, list_any}
+use Rattle.rim_desc.specs.Refusal.{Check, unless_refused}
 use Rattle.rmm_model.specs.Blocks.{granules, is_multiple}
 use Rattle.rmm_model.specs.Space.{Space, empty_space, has, is_ram, made, overlaps}
 use Rattle.rmm_model.specs.Start.{protected_end, start_level}
@@ -18,7 +20,7 @@ pub record Planned : Type 0 where
   -- how many entries all regions so far have
   pub entries : ℕ
 
--- nothing was planned. A block is no larger than an entry of a start table
+-- nothing was planned. A block of RAM is no larger than an entry of a start table
 abbrev pub nothing_planned : ℕ → ℕ → Planned
 nothing_planned s2sz block_level = record {
   space = empty_space (start_level s2sz) (protected_end s2sz);
@@ -30,20 +32,11 @@ nothing_planned s2sz block_level = record {
 abbrev pub entry_limit : ℕ
 entry_limit = 4194304
 
--- a check: its name, and whether it holds
-abbrev pub Check : Type 0
-Check = PlanFault × Bool
-
--- the first check that holds, else the acts
-abbrev pub unless_refused : List Check → List Act → Result (List Act) PlanFault
-unless_refused [] acts = Ok acts
-unless_refused (check ∷ others) acts = if check.1 then Err check.0 else unless_refused others acts
-
 -- how many entries a region has
 abbrev pub entry_count : Planned → ℕ → ℕ → ℕ
 entry_count p base end = length (region.entries base end p.lowest)
 
-abbrev pub region_checks : Planned → ℕ → ℕ → List Check
+abbrev pub region_checks : Planned → ℕ → ℕ → List (Check PlanFault)
 region_checks p base end =
     (OutsideProtected, nat_lt p.space.half end)
     ∷ (Unaligned, not (is_multiple 4096 base) || not (is_multiple 4096 end))
@@ -57,7 +50,7 @@ region_acts p base end = run_acts p.space.start p.space.tables (runs_of base end
 unfoldable pub plan_region : Planned → ℕ → ℕ → Result (List Act) PlanFault
 plan_region p base end = unless_refused (region_checks p base end) (region_acts p base end)
 
-abbrev pub data_checks : Planned → ℕ → ℕ → List Check
+abbrev pub data_checks : Planned → ℕ → ℕ → List (Check PlanFault)
 data_checks p base count =
     (OutsideProtected, nat_lt p.space.half (base + 4096 * count))
     ∷ (Unaligned, not (is_multiple 4096 base))
@@ -85,8 +78,8 @@ after_data p base count = record p {
   space = record p.space { tables = tables_after p.space.tables (data_acts p base count); filled = p.space.filled ++ granules count base };
 }
 
--- two plans that agree on every table, every address that is RAM and every page that has data,
--- whatever the order in which these are kept
+-- two plans that agree on every table, every range and address that is RAM, and every page that has data,
+-- whatever the order and the pieces in which these are kept
 pub record AgreesWith (p q : Planned) : Type 0 where
   pub start : p.space.start ≡ q.space.start
   pub half : p.space.half ≡ q.space.half
@@ -94,4 +87,5 @@ pub record AgreesWith (p q : Planned) : Type 0 where
   pub entries : p.entries ≡ q.entries
   pub tables : (level base : ℕ) → made p.space.tables level base ≡ made q.space.tables level base
   pub ram : (x : ℕ) → is_ram p.space.ram x ≡ is_ram q.space.ram x
+  pub ranges : (base end : ℕ) → overlaps p.space.ram base end ≡ overlaps q.space.ram base end
   pub filled : (x : ℕ) → has p.space.filled x ≡ has q.space.filled x

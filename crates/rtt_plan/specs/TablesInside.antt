@@ -1,4 +1,4 @@
--- What the fields of the planner keep.
+-- What callers see of the planner's fields, and what these keep. This project's choice.
 use Rattle.std.specs.Prelude.{◌≤◌, ◌^◌}
 use Rattle.rtt_plan.specs.Planned.{Planned}
 use Rattle.rtt_plan.specs.declared.tables.Tables.TheInside.{Inside}

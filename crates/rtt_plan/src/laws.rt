@@ -4,7 +4,27 @@ ghost use Rattle.rmm_model.specs.Blocks.{down, size, span};
 ghost use Rattle.rmm_model.specs.Space.{is_ram, made, walk};
 ghost use Rattle.rmm_model.specs.declared.table.Table.{Table};
 ghost use Rattle.rtt_plan.specs.Agreement.{IsFormed, IsFresh, IsUsed};
+ghost use Rattle.rtt_plan.specs.Entries.{block_level, fits};
+ghost use Rattle.rtt_plan.specs.Places.{IsRegion};
+ghost use Rattle.rtt_plan.specs.Planned.{AgreesWith, Planned, after_data, after_region, plan_data, plan_region};
 ghost use Rattle.rtt_plan.specs.Wanted.{wanted};
+
+/// The block of a page lies in its region and has an allowed level, and no larger block does.
+pub fn blocks_are_the_largest()
+    ensures inside { (base end lowest x : ℕ) → IsRegion base end → lowest ≤ 3 → base ≤ x → x < end → fits base end (block_level base end lowest x) x ≡ true }
+    ensures allowed { (base end lowest x : ℕ) → lowest ≤ block_level base end lowest x }
+    ensures largest { (base end lowest level x : ℕ) → lowest ≤ level → fits base end level x ≡ true → block_level base end lowest x ≤ level }
+{}
+
+/// Plans that agree answer alike, and agree afterwards: so what is known of a plan up to agreement is
+/// enough to say what its next calls answer.
+pub fn plans_that_agree_go_on_alike()
+    ensures region { (p q : Planned) (base end : ℕ) → AgreesWith p q → plan_region p base end ≡ plan_region q base end }
+    ensures data { (p q : Planned) (base count : ℕ) → AgreesWith p q → plan_data p base count ≡ plan_data q base count }
+    ensures walk { (p q : Planned) (x : ℕ) → AgreesWith p q → walk p.space.start p.space.tables x ≡ walk q.space.start q.space.tables x }
+    ensures after_region { (p q : Planned) (base end : ℕ) → AgreesWith p q → AgreesWith (after_region p base end) (after_region q base end) }
+    ensures after_data { (p q : Planned) (base count : ℕ) → AgreesWith p q → AgreesWith (after_data p base count) (after_data q base count) }
+{}
 
 /// When a block of which nothing is RAM is about to be set, no table that was made so far lies inside it.
 pub fn no_table_lies_inside_a_fresh_block()

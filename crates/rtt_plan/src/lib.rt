@@ -3,17 +3,17 @@
 #![tactic(auto)]
 
 pub mod act;
-pub mod block;
-pub mod counting;
+mod block;
+mod counting;
 pub mod fault;
 pub mod laws;
-pub mod longest;
-pub mod planning;
-pub mod questions;
-pub mod run;
+mod longest;
+mod planning;
+mod questions;
+mod run;
 pub mod start;
 pub mod tables;
-pub mod wanted;
+mod wanted;
 
 pub use act::Act;
 pub use fault::PlanFault;

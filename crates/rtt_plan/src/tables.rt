@@ -1,5 +1,5 @@
 //! What was planned so far.
-ghost use Rattle.std.specs.Prelude.{◌≡◌, ◌++◌, ◌∷◌, [], ◌⊎◌, ◌*◌, ◌+◌, ◌<◌, ◌≤◌, ◌^◌, Err, IfErr, IfOk, Ok, OnErr, OnOk, true};
+ghost use Rattle.std.specs.Prelude.{◌≡◌, ◌++◌, ◌∷◌, [], ◌⊎◌, ◌*◌, ◌+◌, ◌<◌, ◌≤◌, ◌^◌, Err, IfErr, IfOk, IsOk, Ok, OnErr, OnOk, true};
 ghost use Rattle.rmm_model.specs.Blocks.{granules};
 ghost use Rattle.rmm_model.specs.Space.{walk};
 ghost use Rattle.rmm_model.specs.Start.{is_width};
@@ -48,7 +48,7 @@ impl Model for Tables {
 
 impl Tables {
     /// Nothing planned, for a realm with IPAs of `s2sz` bits whose blocks of RAM have at least
-    /// `block_level`.
+    /// `block_level`. It takes no memory.
     pub fn new(alloc: Global, s2sz: u8, block_level: u8) -> Tables
         requires width { is_width s2sz ≡ true }
         requires deep { block_level ≤ 3 }
@@ -76,12 +76,14 @@ impl Tables {
     }
 
     /// The acts that make a region RAM, from `base` up to `end`: its runs in rising order, and before
-    /// each run the tables that it wants. After a fault the plan is as before.
+    /// each run the tables that it wants. NoMemory comes behind all other faults, and after a fault the
+    /// plan is as before.
     #[tactic(auto, unfolding(crate::specs::Planned::plan_region))]
     pub fn ripas_runs(&mut self, base: u64, end: u64) -> Result<Vec<Act>, PlanFault>
         requires { base < end }
         ensures acts { IfOk result (λ acts. plan_region self.old base end ≡ Ok acts.items) }
         ensures fault { IfErr result (λ e. (e ≡ PlanFault.NoMemory) ⊎ (plan_region self.old base end ≡ Err e)) }
+        ensures memory { result ≡ Err PlanFault.NoMemory → IsOk (plan_region self.old base end) }
         ensures after { OnOk result (AgreesWith self.new (after_region self.old base end)) }
         ensures kept { OnErr result (self.new ≡ self.old) }
     {
@@ -116,12 +118,14 @@ impl Tables {
     }
 
     /// The acts that give `count` pages from `base` on data: each page in rising order, and before it
-    /// the tables that it wants. After a fault the plan is as before.
+    /// the tables that it wants. NoMemory comes behind all other faults, and after a fault the plan is
+    /// as before.
     #[tactic(auto, unfolding(crate::specs::Planned::plan_data))]
     pub fn data_pages(&mut self, base: u64, count: u64) -> Result<Vec<Act>, PlanFault>
         requires { 1 ≤ count }
         ensures acts { IfOk result (λ acts. plan_data self.old base count ≡ Ok acts.items) }
         ensures fault { IfErr result (λ e. (e ≡ PlanFault.NoMemory) ⊎ (plan_data self.old base count ≡ Err e)) }
+        ensures memory { result ≡ Err PlanFault.NoMemory → IsOk (plan_data self.old base count) }
         ensures after { OnOk result (AgreesWith self.new (after_data self.old base count)) }
         ensures kept { OnErr result (self.new ≡ self.old) }
     {

@@ -57,54 +57,56 @@ fn pages_past_the_bytes_are_zero(rt: HostRuntime) {
     assert!(rt; empty.page(Algo::Sha256, 0).bytes().iter().all(|b| *b == 0));
 }
 
+/// Algorithm, lead and number of pages of the item, and the digest of each.
+const DIGESTS: [(Algo, u64, u64, &str); 7] = [
+    (
+        Algo::Sha256,
+        0,
+        0,
+        "0d356260eaf09e3b3dc81a65b2ad2399aa7c4921c0274bd2cbb54c2a21c46e3b",
+    ),
+    (
+        Algo::Sha256,
+        0,
+        1,
+        "2faf36c99cd01776e2b7ca3b9c65bb525111c9697a91ce463a75e136f0cb7942",
+    ),
+    (
+        Algo::Sha256,
+        4,
+        0,
+        "17dfa417e92a58b13bade8724977223be4485ccd3d831ab22e5d0ef29efb2bb4",
+    ),
+    (
+        Algo::Sha256,
+        4,
+        1,
+        "a4663780de907fcca9b7e27e617f2b200b7f33c43fbda67fe97f952f9efa68a3",
+    ),
+    (
+        Algo::Sha256,
+        4,
+        2,
+        "ad7facb2586fc6e966c004d7d1d16b024f5805ff7cb47c7a85dabd8b48892ca7",
+    ),
+    (
+        Algo::Sha512,
+        0,
+        0,
+        "efb56f47d015ebe00e16c78bb2df83e5377478abad618d7ec380ffb03371e302e03285d1ac341ffde98c676f14a46d3138b5400460fd290592037c88526e0066",
+    ),
+    (
+        Algo::Sha512,
+        4,
+        1,
+        "170596cec9b33e5a6d59ed75c5084f8778c4ec5ed2e2c632a988679308f8a03c3bb5461d3e8a7a04a4dfe47767b59f295554da839349ac13fc03afcc16b88d1a",
+    ),
+];
+
 #[test]
 fn digests(rt: HostRuntime) -> Result<(), Fail> {
     let item = item(rt.alloc())?;
-    let pages = [
-        (
-            Algo::Sha256,
-            0,
-            0,
-            "0d356260eaf09e3b3dc81a65b2ad2399aa7c4921c0274bd2cbb54c2a21c46e3b",
-        ),
-        (
-            Algo::Sha256,
-            0,
-            1,
-            "2faf36c99cd01776e2b7ca3b9c65bb525111c9697a91ce463a75e136f0cb7942",
-        ),
-        (
-            Algo::Sha256,
-            4,
-            0,
-            "17dfa417e92a58b13bade8724977223be4485ccd3d831ab22e5d0ef29efb2bb4",
-        ),
-        (
-            Algo::Sha256,
-            4,
-            1,
-            "a4663780de907fcca9b7e27e617f2b200b7f33c43fbda67fe97f952f9efa68a3",
-        ),
-        (
-            Algo::Sha256,
-            4,
-            2,
-            "ad7facb2586fc6e966c004d7d1d16b024f5805ff7cb47c7a85dabd8b48892ca7",
-        ),
-        (
-            Algo::Sha512,
-            0,
-            0,
-            "efb56f47d015ebe00e16c78bb2df83e5377478abad618d7ec380ffb03371e302e03285d1ac341ffde98c676f14a46d3138b5400460fd290592037c88526e0066",
-        ),
-        (
-            Algo::Sha512,
-            4,
-            1,
-            "170596cec9b33e5a6d59ed75c5084f8778c4ec5ed2e2c632a988679308f8a03c3bb5461d3e8a7a04a4dfe47767b59f295554da839349ac13fc03afcc16b88d1a",
-        ),
-    ];
-    for (algo, lead, number, digest) in pages {
+    for (algo, lead, number, digest) in DIGESTS {
         let page = Blob::new(0, lead, item.as_slice()).page(algo, number);
         let bytes = PageJob::new(page).run().digest.bytes;
         let text = hex::encode(rt.alloc(), bytes.as_slice())?;

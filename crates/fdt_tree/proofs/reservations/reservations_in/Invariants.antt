@@ -1,6 +1,7 @@
 use Rattle.std.proofs.Common.{◌≡◌, ◌-◌, length}
-use Rattle.fdt_tree.specs.Reservations.{pairs_at, behind_pairs}
+use Rattle.fdt_tree.specs.Steps.{with_front}
+use Rattle.fdt_tree.specs.Reservations.{pairs_at}
 use Rattle.fdt_tree.proofs.reservations.reservations_in.Given as goal
 
 abbrev pub invariant-loop : goal.invariant-loop
-invariant-loop l = behind_pairs l.reservations.items (pairs_at (length l.block - l.counter) l.rest) ≡ pairs_at (length l.block) l.block
+invariant-loop l = with_front l.reservations.items (pairs_at (length l.block - l.counter) l.rest) ≡ pairs_at (length l.block) l.block

@@ -1,25 +1,39 @@
 use Rattle.std.proofs.Common.{length}
 use Rattle.std.proofs.lemmas.Result.{err_from_is_err_and}
 use Rattle.fdt_tree.specs.LexemeViews.{token_of_lexeme}
-use Rattle.fdt_tree.specs.OpenNodes.{so_far, place_of}
 use Rattle.fdt_tree.proofs.Faults.{fails_so}
-use Rattle.fdt_tree.proofs.Scans.{goes_on, fails, ends, is_over, not_finish, at_place}
+use Rattle.fdt_tree.specs.OpenNodes.{place_of}
+use Rattle.fdt_tree.proofs.Scans.{scan_goes_on, scan_fails, scan_ends, scan_is_over, not_finish, at_place}
+use Rattle.fdt_tree.proofs.Fronts.{goes_on, fails, ends}
 use Rattle.fdt_tree.proofs.structure.run.Goals as goal
 
 pub returns-in_err-lexeme-clause-exact : goal.returns-in_err-lexeme-clause-exact
 returns-in_err-lexeme-clause-exact c =
     let p = err_from_is_err_and c.from_residual.result c.from_residual.ensures.1 in
-    rw (p.1, p.2) (fails_so c.in_err-lexeme.field-0.0 _ (fails c.args.strings.now.bytes.items (length c.args.block.now) c.loop.counter (place_of c.args.strings.now.bytes.items c.loop.nodes) c.loop.rest.now c.in_err-lexeme.field-0.0 (so_far c.args.strings.now.bytes.items c.loop.nodes) _ c.loop-test.true (at_place c.args.strings.now.bytes.items c.loop.rest.now _ (place_of c.args.strings.now.bytes.items c.loop.nodes) _ (c.place_in-place.ensures c.args.strings.now.bytes.items) c.in_err-lexeme.ensures.exact) c.loop.invariant))
+    let strings = c.args.strings.now.bytes.items in
+    let place = place_of strings c.loop.nodes in
+    let f = c.in_err-lexeme.field-0.0 in
+    let here = at_place strings c.loop.rest.now _ place _ (c.place_in-place.ensures strings) c.in_err-lexeme.ensures.exact in
+    rw (p.1, p.2) (fails_so f _ (fails _ _ _ f (scan_fails strings (length c.args.block.now) c.loop.counter place c.loop.rest.now f c.loop-test.true here) c.loop.invariant))
 
 pub returns-in-Finish-clause-exact : goal.returns-in-Finish-clause-exact
 returns-in-Finish-clause-exact c =
+    let strings = c.args.strings.now.bytes.items in
+    let place = place_of strings c.loop.nodes in
     let e = rw c.in-Finish.is at c.in_ok-lexeme.ensures.exact in
-    ends c.args.strings.now.bytes.items (length c.args.block.now) c.loop.counter (place_of c.args.strings.now.bytes.items c.loop.nodes) c.loop.rest.now c.in_ok-lexeme.after.now (so_far c.args.strings.now.bytes.items c.loop.nodes) _ c.loop-test.true (at_place c.args.strings.now.bytes.items c.loop.rest.now _ (place_of c.args.strings.now.bytes.items c.loop.nodes) _ (c.place_in-place.ensures c.args.strings.now.bytes.items) e) c.loop.invariant
+    let here = at_place strings c.loop.rest.now _ place _ (c.place_in-place.ensures strings) e in
+    ends _ _ _ (scan_ends strings (length c.args.block.now) c.loop.counter place c.loop.rest.now c.in_ok-lexeme.after.now c.loop-test.true here) c.loop.invariant
 
 pub loop-preserved : goal.loop-preserved
 loop-preserved c =
-    goes_on c.args.strings.now.bytes.items (length c.args.block.now) c.loop.counter (place_of c.args.strings.now.bytes.items c.loop.nodes) (place_of c.args.strings.now.bytes.items c.in_ok-nodes.nodes) c.loop.rest.now c.in_ok-lexeme.after.now (token_of_lexeme c.args.strings.now.bytes.items c.in_ok-lexeme.lexeme) (so_far c.args.strings.now.bytes.items c.loop.nodes) (so_far c.args.strings.now.bytes.items c.in_ok-nodes.nodes) _ c.loop-test.true (at_place c.args.strings.now.bytes.items c.loop.rest.now _ (place_of c.args.strings.now.bytes.items c.loop.nodes) _ (c.place_in-place.ensures c.args.strings.now.bytes.items) c.in_ok-lexeme.ensures.exact)
-    (not_finish c.args.strings.now.bytes.items c.in_ok-lexeme.lexeme c.in_default.not-Finish) (c.in_ok-nodes.ensures.tokens c.args.strings.now.bytes.items) (c.in_ok-nodes.ensures.place c.args.strings.now.bytes.items) c.loop.invariant
+    let strings = c.args.strings.now.bytes.items in
+    let place = place_of strings c.loop.nodes in
+    let here = at_place strings c.loop.rest.now _ place _ (c.place_in-place.ensures strings) c.in_ok-lexeme.ensures.exact in
+    let now = scan_goes_on strings (length c.args.block.now) c.loop.counter place (place_of strings c.in_ok-nodes.nodes) c.loop.rest.now c.in_ok-lexeme.after.now (token_of_lexeme strings c.in_ok-lexeme.lexeme) c.loop-test.true here
+    (not_finish strings c.in_ok-lexeme.lexeme c.in_default.not-Finish) (c.in_ok-nodes.ensures.place strings) in
+    goes_on _ _ _ _ _ _ now (c.in_ok-nodes.ensures.tokens strings) c.loop.invariant
 
 pub returns-clause-exact : goal.returns-clause-exact
-returns-clause-exact c = is_over c.args.strings.now.bytes.items (length c.args.block.now) c.loop.counter (place_of c.args.strings.now.bytes.items c.loop.nodes) c.loop.rest.now (so_far c.args.strings.now.bytes.items c.loop.nodes) _ c.loop-test.false c.loop.invariant
+returns-clause-exact c =
+    let strings = c.args.strings.now.bytes.items in
+    fails _ _ _ _ (scan_is_over strings (length c.args.block.now) c.loop.counter (place_of strings c.loop.nodes) c.loop.rest.now c.loop-test.false) c.loop.invariant

@@ -43,4 +43,4 @@ returns-clause-done t c = λ names h.
     let i = c.loop-child.child-index in
     let so_far : List Token = front_of s c.args.node.now ++ tokens_of_nodes s (take i items) in
     let k = c.loop-child.invariant names h in
-    ended s c.args.node.now items i names c.args.out.now c.loop-child.out c.put_node_end.new.out c.deref-child-items.ensures.value c.loop-child-test.false k (c.in_ok-put_node_end.ensures (names_after names so_far) k.known)
+    ended s c.args.node.now items i names c.args.out.now c.loop-child.out c.put_node_end.new.out c.deref-child-items.ensures.value c.loop-child-test.false k (c.in_ok-put_node_end.ensures s (names_after names so_far) k.known)

@@ -5,5 +5,5 @@ use Rattle.fdt_tree.proofs.writing.+put_node.Given as goal
 
 abbrev pub invariant-loop-child : goal.invariant-loop-child
 invariant-loop-child l =
-    (names : List (List ℕ)) → HasNames l.fn.out.names names
-    → HasTokens l.fn.out l.out names (front_of l.strings l.fn.node ++ tokens_of_nodes l.strings (take l.child-index l.child-items))
+    (names : List (List ℕ)) → HasNames l.strings l.fn.out.names names
+    → HasTokens l.strings l.fn.out l.out names (front_of l.strings l.fn.node ++ tokens_of_nodes l.strings (take l.child-index l.child-items))

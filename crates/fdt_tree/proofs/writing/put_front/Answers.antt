@@ -32,10 +32,10 @@ loop-entry-preserved c = λ names h.
     let begin = begin_node c.args.name.now in
     let front : List Token = begin ∷ tokens_of_entries s (take i ps) in
     let k = c.loop-entry.invariant names h in
-    subst (λ (ts : List Token). HasTokens c.args.out.now c.put_property.new.out names (begin ∷ ts)) (sym (one_more_entry s ps i c.entry-item.result c.loop-entry-test.true c.entry-item.is))
-    (HasTokens_then c.args.out.now c.loop-entry.out c.put_property.new.out names front (property (entry_of s c.entry-item.result) ∷ []) k (c.in_ok-put_property.ensures.done (names_after names front) k.known))
+    subst (λ (ts : List Token). HasTokens c.args.strings.now c.args.out.now c.put_property.new.out names (begin ∷ ts)) (sym (one_more_entry s ps i c.entry-item.result c.loop-entry-test.true c.entry-item.is))
+    (HasTokens_then s c.args.out.now c.loop-entry.out c.put_property.new.out names front (property (entry_of s c.entry-item.result) ∷ []) k (c.in_ok-put_property.ensures.done (names_after names front) k.known))
 
 pub returns-clause-done : goal.returns-clause-done
 returns-clause-done c = λ names h.
-    subst (λ (ps : List Property). HasTokens c.args.out.now c.loop-entry.out names (begin_node c.args.name.now ∷ tokens_of_entries c.args.strings.now ps)) (take_all c.loop-entry.entry-index c.args.properties.now c.loop-entry-test.false)
+    subst (λ (ps : List Property). HasTokens c.args.strings.now c.args.out.now c.loop-entry.out names (begin_node c.args.name.now ∷ tokens_of_entries c.args.strings.now ps)) (take_all c.loop-entry.entry-index c.args.properties.now c.loop-entry-test.false)
     (c.loop-entry.invariant names h)

@@ -6,5 +6,5 @@ use Rattle.fdt_tree.proofs.writing.put_front.Given as goal
 
 abbrev pub invariant-loop-entry : goal.invariant-loop-entry
 invariant-loop-entry l =
-    (names : List (List ℕ)) → HasNames l.fn.out.names names
-    → HasTokens l.fn.out l.out names (begin_node l.fn.name ∷ tokens_of_entries l.strings (take l.entry-index l.properties))
+    (names : List (List ℕ)) → HasNames l.strings l.fn.out.names names
+    → HasTokens l.strings l.fn.out l.out names (begin_node l.fn.name ∷ tokens_of_entries l.strings (take l.entry-index l.properties))

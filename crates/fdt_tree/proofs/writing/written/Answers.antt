@@ -1,4 +1,4 @@
-use Rattle.std.proofs.Common.{◌≡◌, ◌++◌, ◌∷◌, [], ℕ, List, IfOk, IfErr, length, ap, ◌∙◌, subst}
+use Rattle.std.proofs.Common.{◌≡◌, ◌<◌, ◌^◌, arith, ◌++◌, ◌∷◌, [], ℕ, List, IfOk, IfErr, length, ap, ◌∙◌, subst}
 use Rattle.std.proofs.lemmas.Result.{err_from_is_err_and}
 use Rattle.std.specs.Int.{w32, to_be_bytes}
 use Rattle.fdt_tree.specs.declared.tree.Reservation.{Reservation}
@@ -8,9 +8,10 @@ use Rattle.fdt_tree.specs.NameTables.{TooMuch}
 use Rattle.fdt_tree.specs.OutputViews.{size_of, tokens_of_nodes}
 use Rattle.fdt_tree.proofs.Writes.{written_is, size_within}
 use Rattle.fdt_tree.proofs.Faults.{more_than}
+use Rattle.fdt_tree.proofs.WrittenFile.{again_if_ok}
 use Rattle.fdt_tree.proofs.writing.written.Goals as goal
 
-whole : (c : goal.After-drop-out-3) → file_of c.args.contents.now.boot_cpu (reservations_text c.deref-2.result.now) c.in_ok-out.out.structure.items c.in_ok-out.out.names.strings.items ≡ written (tree_in c.args.contents.now)
+whole : (c : goal.After-drop-out-4) → file_of c.args.contents.now.boot_cpu (reservations_text c.deref-2.result.now) c.in_ok-out.out.structure.items c.in_ok-out.out.names.strings.items ≡ written (tree_in c.args.contents.now)
 whole c =
     let t = c.args.contents.now in
     let o = c.in_ok-out.out in
@@ -32,3 +33,9 @@ returns-in_err-out-clause-refused c =
     let p = err_from_is_err_and c.from_residual.result c.from_residual.ensures.1 in
     rw (p.1, p.2) (more_than e (size_of [] (tokens_of_nodes t.strings.items (t.root ∷ []))) (length (written (tree_in t))) (size_within t c.requires.unnamed)
     (subst (λ (s : List ℕ). TooMuch e (size_of [] (tokens_of_nodes s (t.root ∷ [])))) c.deref.ensures.value c.in_err-out.ensures.refused))
+
+pub returns-clause-again : goal.returns-clause-again
+returns-clause-again c =
+    let t = tree_in c.args.contents.now in
+    let boot : t.boot_cpu < 2 ^ 32 = omega arith in
+    again_if_ok c.assembled.result t c.requires.whole boot (returns-clause-done c)

@@ -1,7 +1,7 @@
 use Rattle.std.proofs.Common.{◌+◌, List, Vec, Global, Ok, ap, sym, ◌∙◌, drop, length, arith}
 use Rattle.std.proofs.lemmas.List.{append-nil, drop_all}
 use Rattle.std.proofs.lemmas.Result.{err_from_is_err_and}
-use Rattle.fdt_tree.specs.Scanning.{with_front}
+use Rattle.fdt_tree.specs.Steps.{with_front}
 use Rattle.ipa_layout.specs.declared.item.Item.{Item}
 use Rattle.ipa_layout.specs.declared.standing.Standing.{Standing}
 use Rattle.ipa_layout.specs.Placements.{stand_all}

@@ -1,5 +1,5 @@
 use Rattle.std.proofs.Common.{◌≡◌, ◌≤◌, drop}
-use Rattle.fdt_tree.specs.Scanning.{with_front}
+use Rattle.fdt_tree.specs.Steps.{with_front}
 use Rattle.ipa_layout.specs.Placements.{stand_all}
 use Rattle.ipa_layout.specs.PlacementViews.{contents, seen}
 use Rattle.ipa_layout.proofs.placement.stand_all.Given as goal

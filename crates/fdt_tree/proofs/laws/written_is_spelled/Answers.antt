@@ -1,0 +1,5 @@
+use Rattle.fdt_tree.proofs.WrittenFile.{written_again}
+use Rattle.fdt_tree.proofs.laws.written_is_spelled.Goals as goal
+
+pub returns : goal.returns
+returns c = written_again

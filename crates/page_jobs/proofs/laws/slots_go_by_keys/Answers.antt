@@ -1,0 +1,8 @@
+use Rattle.page_jobs.proofs.Keys.{slot-key, slot-page}
+use Rattle.page_jobs.proofs.laws.slots_go_by_keys.Goals as goal
+
+pub returns-clause-page : goal.returns-clause-page
+returns-clause-page c = slot-page
+
+pub returns-clause-key : goal.returns-clause-key
+returns-clause-key c = slot-key

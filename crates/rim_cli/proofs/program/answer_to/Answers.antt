@@ -1,0 +1,19 @@
+use Rattle.rim_cli.proofs.program.answer_to.Goals as goal
+
+pub returns-in-Measure-clause-answered : goal.returns-in-Measure-clause-answered
+returns-in-Measure-clause-answered g c = rw c.in-Measure.is c.measure.ensures.answered
+
+pub returns-in-Measure-clause-refused : goal.returns-in-Measure-clause-refused
+returns-in-Measure-clause-refused g c = rw c.in-Measure.is c.measure.ensures.refused
+
+pub returns-in-Image-clause-answered : goal.returns-in-Image-clause-answered
+returns-in-Image-clause-answered g c = rw c.in-Image.is c.image.ensures.answered
+
+pub returns-in-Image-clause-refused : goal.returns-in-Image-clause-refused
+returns-in-Image-clause-refused g c = rw c.in-Image.is c.image.ensures.refused
+
+pub returns-in-Fdt-clause-answered : goal.returns-in-Fdt-clause-answered
+returns-in-Fdt-clause-answered g c = rw c.in-Fdt.is c.fdt.ensures.answered
+
+pub returns-in-Fdt-clause-refused : goal.returns-in-Fdt-clause-refused
+returns-in-Fdt-clause-refused g c = rw c.in-Fdt.is c.fdt.ensures.refused
