@@ -1,3 +1,4 @@
+use Rattle.std.proofs.Common.{rules}
 use Rattle.page_jobs.specs.PageBytes.{front_of}
 use Rattle.page_jobs.proofs.Contents.{contents-whole}
 use Rattle.page_jobs.proofs.hashed.page_digest.Goals as goal
@@ -7,3 +8,6 @@ returns-then-page-eq-PAGE_SIZE c =
     let page = c.args.page.now in
     let whole = contents-whole (front_of page.key.lead page.key.number) page.bytes.now page.fits c.if-page-eq-PAGE_SIZE.true in
     rw (c.hash.ensures, whole)
+
+pub returns-else-page-eq-PAGE_SIZE : goal.returns-else-page-eq-PAGE_SIZE
+returns-else-page-eq-PAGE_SIZE c = search rules

@@ -1,0 +1,17 @@
+use Rattle.std.proofs.Common.{arith}
+use Rattle.std.proofs.lemmas.Grind.{common_steps}
+use Rattle.ipa_layout.specs.LaunchData.{is_launch}
+use Rattle.ipa_layout.proofs.launch.Launch.new.Goals as goal
+
+-- the one tactic that proves it, so that a wrong body is refused at once
+pub invariant_of-result : goal.invariant_of-result
+unfolding is_launch
+invariant_of-result c = grind (arith, common_steps)
+
+pub returns-then-steps_complete : goal.returns-then-steps_complete
+unfolding is_launch
+returns-then-steps_complete c = grind (arith, common_steps)
+
+pub returns-else-within_limits : goal.returns-else-within_limits
+unfolding is_launch
+returns-else-within_limits c = grind (arith, common_steps)

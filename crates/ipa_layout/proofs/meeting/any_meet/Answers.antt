@@ -1,0 +1,16 @@
+use Rattle.std.proofs.Common.{arith, rules}
+use Rattle.std.proofs.lemmas.Grind.{common_steps}
+use Rattle.ipa_layout.proofs.meeting.any_meet.Goals as goal
+
+-- the one tactic that proves it, so that a wrong body is refused at once
+pub loop-index-init : goal.loop-index-init
+loop-index-init c = search rules
+
+pub returns-then-meets_any : goal.returns-then-meets_any
+returns-then-meets_any c = grind (arith, common_steps)
+
+pub loop-index-preserved : goal.loop-index-preserved
+loop-index-preserved c = grind (arith, common_steps)
+
+pub returns : goal.returns
+returns c = grind (arith, common_steps)

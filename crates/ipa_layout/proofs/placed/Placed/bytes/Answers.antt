@@ -1,0 +1,13 @@
+use Rattle.std.proofs.Common.{arith, rules}
+use Rattle.std.proofs.lemmas.Grind.{common_steps}
+use Rattle.ipa_layout.proofs.placed.Placed.bytes.Goals as goal
+
+-- the one tactic that proves it, so that a wrong body is refused at once
+pub returns-in-Some : goal.returns-in-Some
+returns-in-Some c = grind (arith, common_steps)
+
+pub returns-in-None : goal.returns-in-None
+returns-in-None c = grind (arith, common_steps)
+
+pub returns-in-Edited : goal.returns-in-Edited
+returns-in-Edited c = search rules

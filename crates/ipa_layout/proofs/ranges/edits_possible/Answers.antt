@@ -1,0 +1,12 @@
+use Rattle.std.proofs.Common.{rules}
+use Rattle.ipa_layout.proofs.ranges.edits_possible.Goals as goal
+
+-- the one tactic that proves it, so that a wrong body is refused at once
+pub returns-then-not-is_empty : goal.returns-then-not-is_empty
+returns-then-not-is_empty c = search rules
+
+pub returns-else-not-is_empty : goal.returns-else-not-is_empty
+returns-else-not-is_empty c = search rules
+
+pub returns-else-not-initrd_wanted : goal.returns-else-not-initrd_wanted
+returns-else-not-initrd_wanted c = search rules

@@ -1,0 +1,5 @@
+use Rattle.std.proofs.Common.{rules}
+use Rattle.page_jobs.proofs.row.DigestRow.push.Goals as goal
+
+pub returns : goal.returns
+returns c = search rules

@@ -1,0 +1,4 @@
+use Rattle.rim_desc.proofs.rec.RecParams.aux.Goals as goal
+
+pub returns : goal.returns
+returns c = rw (← c.self.view_is)
