@@ -1,10 +1,11 @@
 -- The checks of each command. A command is refused by the first check of its row that holds.
 --
 -- The conditions are those of DEN0137 for the RMI command of that name, as far as they speak of what
--- is modelled. This project's choice are the names of the refusals and their order; that an
--- InitRipas is taken only where it can be carried out whole, in the table in which the walk of its
--- base ends (WalkLevel), and only where no page of its range is RAM and no deeper table lies in it
--- (NotFresh); that a DataCreate needs a page that is RAM (NotRam); and that a REC is runnable.
+-- is modelled. This project's choice are the names of the refusals and their order; that realms have
+-- no LPA2 (flag 0), and tables in the protected half alone; that an InitRipas is taken only where it
+-- can be carried out whole, in the table in which the walk of its base ends (WalkLevel), and only
+-- where no page of its range is RAM and no deeper table lies in it (NotFresh); that a DataCreate needs
+-- a page that is RAM (NotRam); and that a REC is runnable.
 use Rattle.std.specs.Prelude.{ℕ, ◌+◌, ◌-◌, ◌*◌, ◌/◌, ◌%◌, ◌^◌, ◌==◌, nat_le, nat_lt, not, ◌||◌, Bool, false, List, [], ◌∷◌, length, drop, is_some, Option, Some, None}
 use Rattle.std.specs.List.{list_all}
 use Rattle.rim_desc.specs.declared.command.Command.{Command}
