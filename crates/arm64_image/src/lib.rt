@@ -7,9 +7,6 @@ ghost use Rattle.arm64_image.specs.ImageHeader.{read_of, load_offset_of, extent_
 
 use byteorder::{ByteOrder, LittleEndian};
 
-#[cfg(test)]
-mod tests;
-
 /// How many bytes the header has.
 const HEADER_LEN: usize = 64;
 

@@ -1,4 +1,4 @@
-use crate::files::{BEGIN_NODE, END, END_NODE, PROP, file, words};
+use crate::files::{BEGIN_NODE, END, END_NODE, PROP, says, tree_of_words};
 use crate::vectors::{CHOSEN, EMPTY};
 use fdt_tree::{FdtFault, Node, Tree, read};
 use std::alloc::Global;
@@ -24,24 +24,30 @@ fn deep(alloc: Global, count: u32) -> Result<Vec<u8>, Fail> {
     Ok(path)
 }
 
-fn child_name(node: &Node, at: usize) -> Option<&[u8]> {
-    match node.children.get(at) {
-        None => None,
-        Some(child) => Some(child.name.as_slice()),
+// Whether the children have these names.
+fn has_children(node: &Node, names: &[&[u8]]) -> bool {
+    for (child, name) in node.children.iter().zip(names) {
+        if child.name.as_slice() != *name {
+            return false;
+        }
     }
+    node.children.len() == names.len()
 }
 
-fn property_name<'a>(tree: &'a Tree, node: &'a Node, at: usize) -> Option<&'a [u8]> {
-    match node.properties.get(at) {
-        None => None,
-        Some(property) => Some(property.name.bytes(tree.strings())),
+// Whether the properties have these names.
+fn has_properties(tree: &Tree, node: &Node, names: &[&[u8]]) -> bool {
+    for (property, name) in node.properties.iter().zip(names) {
+        if property.name.bytes(tree.strings()) != *name {
+            return false;
+        }
     }
+    node.properties.len() == names.len()
 }
 
 // A root with `reg` as 1 and as 2, and the nodes `n` and `n`.
-fn twice(alloc: Global) -> Result<Vec<u8>, Fail> {
+fn twice(alloc: Global) -> Result<Tree, Fail> {
     let node = 0x6e00_0000;
-    let block = words(
+    tree_of_words(
         alloc,
         &[
             BEGIN_NODE,
@@ -63,35 +69,50 @@ fn twice(alloc: Global) -> Result<Vec<u8>, Fail> {
             END_NODE,
             END,
         ],
-    )?;
-    file(alloc, block.as_slice(), b"reg\0")
+        b"reg\0",
+    )
 }
 
 // A root with the cells of addresses and of sizes in these values, and the nodes `memory-controller`
 // and `memory@8`.
-fn cells(alloc: Global, addresses: &[u8; 4], sizes: &[u8]) -> Result<Tree, Fail> {
+fn cells<'a>(alloc: Global, addresses: &'a [u8; 4], sizes: &'a [u8]) -> Result<Tree, Fail> {
     let mut tree = read(alloc, &EMPTY)?;
-    tree.set(alloc, b"/", b"#address-cells", addresses)?;
-    tree.set(alloc, b"/", b"#size-cells", sizes)?;
-    tree.set(alloc, b"/memory-controller", b"reg", b"c")?;
-    tree.set(alloc, b"/memory@8", b"reg", b"8")?;
-    tree.set(alloc, b"/memory", b"reg", b"m")?;
+    for (path, name, value) in [
+        (
+            b"/".as_slice(),
+            b"#address-cells".as_slice(),
+            addresses.as_slice(),
+        ),
+        (b"/", b"#size-cells", sizes),
+        (b"/memory-controller", b"reg", b"c"),
+        (b"/memory@8", b"reg", b"8"),
+        (b"/memory", b"reg", b"m"),
+    ] {
+        tree.set(alloc, path, name, value)?;
+    }
     Ok(tree)
 }
 
 #[test]
 fn a_node_that_was_not_there(rt: HostRuntime) -> Result<(), Fail> {
     let mut tree = read(rt.alloc(), &EMPTY)?;
-    tree.set(rt.alloc(), b"/chosen", b"bootargs", b"quiet\0")?;
-    assert!(rt; tree.get(b"/chosen", b"bootargs") == Some(b"quiet\0".as_slice()));
-    assert!(rt; child_name(tree.root(), 0) == Some(b"chosen".as_slice()));
-    assert!(rt; child_name(tree.root(), 1).is_none());
-    tree.set(rt.alloc(), b"/chosen/a/b", b"x", b"1")?;
-    tree.set(rt.alloc(), b"/other", b"y", b"2")?;
-    assert!(rt; tree.get(b"/chosen/a/b", b"x") == Some(b"1".as_slice()));
-    assert!(rt; child_name(tree.root(), 0) == Some(b"chosen".as_slice()));
-    assert!(rt; child_name(tree.root(), 1) == Some(b"other".as_slice()));
-    assert_eq!(rt; tree.root().children.len(), 2);
+    let chosen = [b"chosen".as_slice()];
+    let both = [b"chosen".as_slice(), b"other"];
+    for (path, name, value, children) in [
+        (
+            b"/chosen".as_slice(),
+            b"bootargs".as_slice(),
+            b"quiet\0".as_slice(),
+            chosen.as_slice(),
+        ),
+        (b"/chosen/a/b", b"x", b"1", &chosen),
+        (b"/other", b"y", b"2", &both),
+    ] {
+        tree.set(rt.alloc(), path, name, value)?;
+        assert!(rt; says(&tree, path, name, value), "at {path:?}");
+        assert!(rt; has_children(tree.root(), children), "at {path:?}");
+    }
+    assert!(rt; says(&tree, b"/chosen/a/b", b"x", b"1"));
     Ok(())
 }
 
@@ -100,19 +121,16 @@ fn a_property_that_was_there(rt: HostRuntime) -> Result<(), Fail> {
     let mut tree = read(rt.alloc(), &CHOSEN)?;
     tree.set(rt.alloc(), b"/chosen", b"bootargs", b"ro")?;
     tree.set(rt.alloc(), b"/chosen", b"second", b"")?;
-    assert!(rt; tree.get(b"/chosen", b"bootargs") == Some(b"ro".as_slice()));
+    assert!(rt; says(&tree, b"/chosen", b"bootargs", b"ro"));
     for child in &tree.root().children {
-        assert_eq!(rt; child.properties.len(), 2);
-        assert!(rt; property_name(&tree, child, 0) == Some(b"bootargs".as_slice()));
-        assert!(rt; property_name(&tree, child, 1) == Some(b"second".as_slice()));
+        assert!(rt; has_properties(&tree, child, &[b"bootargs", b"second"]));
     }
     Ok(())
 }
 
 #[test]
 fn the_first_of_equal_names(rt: HostRuntime) -> Result<(), Fail> {
-    let bytes = twice(rt.alloc())?;
-    let mut tree = read(rt.alloc(), bytes.as_slice())?;
+    let mut tree = twice(rt.alloc())?;
     tree.set(rt.alloc(), b"/", b"reg", b"new")?;
     tree.set(rt.alloc(), b"/n", b"x", b"")?;
     let mut values = tree.root().properties.iter().map(|p| p.value.as_slice());
@@ -125,36 +143,34 @@ fn the_first_of_equal_names(rt: HostRuntime) -> Result<(), Fail> {
     Ok(())
 }
 
+// Paths and names, of which one may not be.
+const BAD_NAMES: [(&[u8], &[u8]); 11] = [
+    (b"", b"reg"),
+    (b"n", b"reg"),
+    (b"//", b"reg"),
+    (b"/n/", b"reg"),
+    (b"//n", b"reg"),
+    (b"/n//n", b"reg"),
+    (b"/n n", b"reg"),
+    (b"/n", b""),
+    (b"/n", b"a/b"),
+    (b"/n", b"a b"),
+    (b"/n", b"\x7f"),
+];
+
 #[test]
 fn refusals_of_set(rt: HostRuntime) -> Result<(), Fail> {
     let alloc = rt.alloc();
-    for path in [
-        b"".as_slice(),
-        b"n",
-        b"//",
-        b"/n/",
-        b"//n",
-        b"/n//n",
-        b"/n n",
-    ] {
-        let fault = refusal(alloc, path, b"reg")?;
-        assert_eq!(rt; fault, Some(FdtFault::BadName), "at {path:?}");
-    }
-    for name in [b"".as_slice(), b"a/b", b"a b", b"\x7f"] {
-        let fault = refusal(alloc, b"/n", name)?;
-        assert_eq!(rt; fault, Some(FdtFault::BadName), "at {name:?}");
+    let bad = Some(FdtFault::BadName);
+    for (path, name) in &BAD_NAMES {
+        let fault = refusal(alloc, path, name)?;
+        assert_eq!(rt; fault, bad, "at {path:?}, {name:?}");
     }
     let low = deep(alloc, 63)?;
     let too_low = deep(alloc, 64)?;
-    assert_eq!(rt; refusal(alloc, low.as_slice(), b"reg")?, None);
-    assert_eq!(rt;
-        refusal(alloc, too_low.as_slice(), b"reg")?,
-        Some(FdtFault::TooDeep)
-    );
-    assert_eq!(rt;
-        refusal(alloc, too_low.as_slice(), b"a/b")?,
-        Some(FdtFault::BadName)
-    );
+    assert_eq!(rt; refusal(alloc, &low, b"reg")?, None);
+    assert_eq!(rt; refusal(alloc, &too_low, b"reg")?, Some(FdtFault::TooDeep));
+    assert_eq!(rt; refusal(alloc, &too_low, b"a/b")?, bad);
     Ok(())
 }
 
@@ -162,22 +178,28 @@ fn refusals_of_set(rt: HostRuntime) -> Result<(), Fail> {
 fn a_memory_node_that_was_not_there(rt: HostRuntime) -> Result<(), Fail> {
     let mut tree = read(rt.alloc(), &EMPTY)?;
     tree.set_memory(rt.alloc(), 0x4000_0000, 0x1000_0000)?;
-    assert!(rt; child_name(tree.root(), 0) == Some(b"memory@40000000".as_slice()));
-    assert!(rt; tree.get(b"/memory@40000000", b"device_type") == Some(b"memory\0".as_slice()));
+    assert!(rt; has_children(tree.root(), &[b"memory@40000000"]));
+    assert!(rt; says(&tree, b"/memory@40000000", b"device_type", b"memory\0"));
     assert!(rt;
-        tree.get(b"/memory@40000000", b"reg")
-            == Some([0, 0, 0, 0, 0x40, 0, 0, 0, 0x10, 0, 0, 0].as_slice())
+        says(
+            &tree,
+            b"/memory@40000000",
+            b"reg",
+            &[0, 0, 0, 0, 0x40, 0, 0, 0, 0x10, 0, 0, 0]
+        )
     );
     for child in &tree.root().children {
-        assert!(rt; property_name(&tree, child, 0) == Some(b"device_type".as_slice()));
-        assert!(rt; property_name(&tree, child, 1) == Some(b"reg".as_slice()));
-        assert_eq!(rt; child.properties.len(), 2);
+        assert!(rt; has_properties(&tree, child, &[b"device_type", b"reg"]));
     }
     tree.set_memory(rt.alloc(), 0, 1)?;
     assert_eq!(rt; tree.root().children.len(), 1);
     assert!(rt;
-        tree.get(b"/memory@40000000", b"reg")
-            == Some([0, 0, 0, 0, 0, 0, 0, 0, 0, 0, 0, 1].as_slice())
+        says(
+            &tree,
+            b"/memory@40000000",
+            b"reg",
+            &[0, 0, 0, 0, 0, 0, 0, 0, 0, 0, 0, 1]
+        )
     );
     Ok(())
 }
@@ -186,7 +208,7 @@ fn a_memory_node_that_was_not_there(rt: HostRuntime) -> Result<(), Fail> {
 fn a_memory_node_at_zero(rt: HostRuntime) -> Result<(), Fail> {
     let mut tree = read(rt.alloc(), &EMPTY)?;
     tree.set_memory(rt.alloc(), 0, 0xffff_ffff)?;
-    assert!(rt; child_name(tree.root(), 0) == Some(b"memory@0".as_slice()));
+    assert!(rt; has_children(tree.root(), &[b"memory@0"]));
     Ok(())
 }
 
@@ -194,10 +216,15 @@ fn a_memory_node_at_zero(rt: HostRuntime) -> Result<(), Fail> {
 fn the_first_memory_node(rt: HostRuntime) -> Result<(), Fail> {
     let mut tree = cells(rt.alloc(), &[0, 0, 0, 1], &[0, 0, 0, 2])?;
     tree.set_memory(rt.alloc(), 0x8000_0000, 0x1_0000_0002)?;
-    assert!(rt; tree.get(b"/memory-controller", b"reg") == Some(b"c".as_slice()));
-    assert!(rt; tree.get(b"/memory", b"reg") == Some(b"m".as_slice()));
+    assert!(rt; says(&tree, b"/memory-controller", b"reg", b"c"));
+    assert!(rt; says(&tree, b"/memory", b"reg", b"m"));
     assert!(rt;
-        tree.get(b"/memory@8", b"reg") == Some([0x80, 0, 0, 0, 0, 0, 0, 1, 0, 0, 0, 2].as_slice())
+        says(
+            &tree,
+            b"/memory@8",
+            b"reg",
+            &[0x80, 0, 0, 0, 0, 0, 0, 1, 0, 0, 0, 2]
+        )
     );
     assert!(rt; tree.get(b"/memory@8", b"device_type").is_none());
     Ok(())
@@ -219,27 +246,36 @@ fn cells_fault(
     Ok(fault)
 }
 
+const ONE: [u8; 4] = [0, 0, 0, 1];
+
+const TWO: [u8; 4] = [0, 0, 0, 2];
+
+const LARGE: u64 = 0x1_0000_0000;
+
+const BAD: Option<FdtFault> = Some(FdtFault::BadCells);
+
+// The cells of addresses and of sizes, a base, a size, and the fault.
+const CELLS: [([u8; 4], &[u8], u64, u64, Option<FdtFault>); 9] = [
+    (ONE, &ONE, 0xffff_ffff, 0xffff_ffff, None),
+    (TWO, &TWO, u64::MAX, u64::MAX, None),
+    (ONE, &TWO, LARGE, 0, BAD),
+    (TWO, &ONE, 0, LARGE, BAD),
+    ([0, 0, 0, 0], &ONE, 0, 0, BAD),
+    ([0, 0, 0, 3], &ONE, 0, 0, BAD),
+    ([1, 0, 0, 1], &ONE, 0, 0, BAD),
+    (ONE, &[0, 0, 1], 0, 0, BAD),
+    (ONE, &[0, 0, 0, 0, 1], 0, 0, BAD),
+];
+
 #[test]
 fn refusals_of_set_memory(rt: HostRuntime) -> Result<(), Fail> {
     let alloc = rt.alloc();
-    let bad = Some(FdtFault::BadCells);
     let mut tree = read(alloc, &EMPTY)?;
-    assert_eq!(rt; tree.set_memory(alloc, 0, 0x1_0000_0000).err(), bad);
+    assert_eq!(rt; tree.set_memory(alloc, 0, LARGE).err(), BAD);
     assert!(rt; tree.root().children.is_empty());
-    let one = [0, 0, 0, 1];
-    let two = [0, 0, 0, 2];
-    let large = 0x1_0000_0000;
-    assert_eq!(rt;
-        cells_fault(alloc, &one, &one, 0xffff_ffff, 0xffff_ffff)?,
-        None
-    );
-    assert_eq!(rt; cells_fault(alloc, &two, &two, u64::MAX, u64::MAX)?, None);
-    assert_eq!(rt; cells_fault(alloc, &one, &two, large, 0)?, bad);
-    assert_eq!(rt; cells_fault(alloc, &two, &one, 0, large)?, bad);
-    assert_eq!(rt; cells_fault(alloc, &[0, 0, 0, 0], &one, 0, 0)?, bad);
-    assert_eq!(rt; cells_fault(alloc, &[0, 0, 0, 3], &one, 0, 0)?, bad);
-    assert_eq!(rt; cells_fault(alloc, &[1, 0, 0, 1], &one, 0, 0)?, bad);
-    assert_eq!(rt; cells_fault(alloc, &one, &[0, 0, 1], 0, 0)?, bad);
-    assert_eq!(rt; cells_fault(alloc, &one, &[0, 0, 0, 0, 1], 0, 0)?, bad);
+    for (addresses, sizes, base, size, want) in &CELLS {
+        let fault = cells_fault(alloc, addresses, sizes, *base, *size)?;
+        assert_eq!(rt; fault, *want, "at {addresses:?}, {sizes:?}, {base}, {size}");
+    }
     Ok(())
 }

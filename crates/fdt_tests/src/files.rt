@@ -1,5 +1,6 @@
 //! Flattened devicetrees, put together from words.
 
+use fdt_tree::{Tree, read};
 use std::alloc::{AllocError, Global};
 use std::test::Fail;
 
@@ -62,4 +63,33 @@ pub fn with_word(alloc: Global, bytes: &[u8], at: usize, word: u32) -> Result<Ve
     push_word(&mut out, word)?;
     out.extend_from_slice(behind)?;
     Ok(out)
+}
+
+/// Such a file, its structure block put together from these words.
+pub fn file_of_words(alloc: Global, block: &[u32], strings: &[u8]) -> Result<Vec<u8>, Fail> {
+    let block = words(alloc, block)?;
+    file(alloc, &block, strings)
+}
+
+/// The tree of such a file.
+pub fn tree_of_words(alloc: Global, block: &[u32], strings: &[u8]) -> Result<Tree, Fail> {
+    let bytes = file_of_words(alloc, block, strings)?;
+    Ok(read(alloc, &bytes)?)
+}
+
+/// The same bytes with these changes in turn: a word, and the byte from which on it stands.
+pub fn with_words(alloc: Global, bytes: &[u8], changes: &[(usize, u32)]) -> Result<Vec<u8>, Fail> {
+    let mut out = bytes.to_vec(alloc)?;
+    for (at, word) in changes {
+        out = with_word(alloc, &out, *at, *word)?;
+    }
+    Ok(out)
+}
+
+/// Whether the property is there, with this value.
+pub fn says(tree: &Tree, path: &[u8], name: &[u8], value: &[u8]) -> bool {
+    match tree.get(path, name) {
+        Some(found) => found == value,
+        None => false,
+    }
 }

@@ -1,6 +1,6 @@
 //! Files as large as they may be. Each is to be read and written in a moment, whatever it holds.
 
-use crate::files::{BEGIN_NODE, END, END_NODE, PROP, file, push_word, words};
+use crate::files::{BEGIN_NODE, END, END_NODE, PROP, file, push_word, says, words};
 use crate::vectors::EMPTY;
 use fdt_tree::{FdtFault, Tree, read};
 use std::alloc::Global;
@@ -19,6 +19,25 @@ fn properties(alloc: Global, count: u32, places: u32) -> Result<Vec<u8>, Fail> {
     Ok(block)
 }
 
+// A file with such a root and these strings.
+fn file_of(alloc: Global, count: u32, places: u32, strings: &[u8]) -> Result<Vec<u8>, Fail> {
+    let block = properties(alloc, count, places)?;
+    file(alloc, &block, strings)
+}
+
+// A root with so many nodes `a`.
+fn nodes(alloc: Global, count: u32) -> Result<Vec<u8>, Fail> {
+    let mut block = words(alloc, &[BEGIN_NODE, 0])?;
+    for _ in 0..count {
+        push_word(&mut block, BEGIN_NODE)?;
+        push_word(&mut block, 0x6100_0000)?;
+        push_word(&mut block, END_NODE)?;
+    }
+    push_word(&mut block, END_NODE)?;
+    push_word(&mut block, END)?;
+    Ok(block)
+}
+
 // So many letters.
 fn letters(alloc: Global, count: u32) -> Result<Vec<u8>, Fail> {
     let mut out = Vec::new(alloc);
@@ -31,11 +50,10 @@ fn letters(alloc: Global, count: u32) -> Result<Vec<u8>, Fail> {
 #[test]
 fn many_properties(rt: HostRuntime) -> Result<(), Fail> {
     let alloc = rt.alloc();
-    let block = properties(alloc, 174_000, 1)?;
-    let bytes = file(alloc, block.as_slice(), b"reg\0")?;
-    let tree = read(alloc, bytes.as_slice())?;
+    let bytes = file_of(alloc, 174_000, 1, b"reg\0")?;
+    let tree = read(alloc, &bytes)?;
     assert_eq!(rt; tree.root().properties.len(), 174_000);
-    assert!(rt; tree.get(b"/", b"reg") == Some(b"".as_slice()));
+    assert!(rt; says(&tree, b"/", b"reg", b""));
     Ok(())
 }
 
@@ -44,9 +62,8 @@ fn many_ends_of_one_name(rt: HostRuntime) -> Result<(), Fail> {
     let alloc = rt.alloc();
     let mut strings = letters(alloc, 1_048_576)?;
     strings.push(0)?;
-    let block = properties(alloc, 80_000, 80_000)?;
-    let bytes = file(alloc, block.as_slice(), strings.as_slice())?;
-    let tree = read(alloc, bytes.as_slice())?;
+    let bytes = file_of(alloc, 80_000, 80_000, &strings)?;
+    let tree = read(alloc, &bytes)?;
     assert_eq!(rt; tree.root().properties.len(), 80_000);
     assert!(rt; tree.get(b"/", b"a").is_none());
     assert!(rt;
@@ -65,9 +82,8 @@ fn one_long_name_of_many(rt: HostRuntime) -> Result<(), Fail> {
     let alloc = rt.alloc();
     let mut strings = letters(alloc, 1_048_576)?;
     strings.push(0)?;
-    let block = properties(alloc, 60_000, 1)?;
-    let bytes = file(alloc, block.as_slice(), strings.as_slice())?;
-    let tree = read(alloc, bytes.as_slice())?;
+    let bytes = file_of(alloc, 60_000, 1, &strings)?;
+    let tree = read(alloc, &bytes)?;
     assert!(rt; tree.write(alloc)? == bytes);
     Ok(())
 }
@@ -76,12 +92,8 @@ fn one_long_name_of_many(rt: HostRuntime) -> Result<(), Fail> {
 fn strings_without_an_end(rt: HostRuntime) -> Result<(), Fail> {
     let alloc = rt.alloc();
     let strings = letters(alloc, 1_048_576)?;
-    let block = properties(alloc, 80_000, 80_000)?;
-    let bytes = file(alloc, block.as_slice(), strings.as_slice())?;
-    assert_eq!(rt;
-        read(alloc, bytes.as_slice()).err(),
-        Some(FdtFault::BadString)
-    );
+    let bytes = file_of(alloc, 80_000, 80_000, &strings)?;
+    assert_eq!(rt; read(alloc, &bytes).err(), Some(FdtFault::BadString));
     Ok(())
 }
 
@@ -98,23 +110,16 @@ fn one_large_value(rt: HostRuntime) -> Result<(), Fail> {
         bytes.push(0xff)?;
     }
     let tree = read(alloc, bytes.as_slice())?;
-    assert!(rt; tree.get(b"/", b"data") == Some(value.as_slice()));
+    assert!(rt; says(&tree, b"/", b"data", &value));
     Ok(())
 }
 
 #[test]
 fn many_nodes(rt: HostRuntime) -> Result<(), Fail> {
     let alloc = rt.alloc();
-    let mut block = words(alloc, &[BEGIN_NODE, 0])?;
-    for _ in 0..174_000 {
-        push_word(&mut block, BEGIN_NODE)?;
-        push_word(&mut block, 0x6100_0000)?;
-        push_word(&mut block, END_NODE)?;
-    }
-    push_word(&mut block, END_NODE)?;
-    push_word(&mut block, END)?;
-    let bytes = file(alloc, block.as_slice(), b"")?;
-    let tree = read(alloc, bytes.as_slice())?;
+    let block = nodes(alloc, 174_000)?;
+    let bytes = file(alloc, &block, b"")?;
+    let tree = read(alloc, &bytes)?;
     assert_eq!(rt; tree.root().children.len(), 174_000);
     Ok(())
 }

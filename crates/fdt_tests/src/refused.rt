@@ -1,5 +1,6 @@
 //! Where memory is refused. To be run with each allocation refused in turn, and without.
 
+use crate::files::says;
 use crate::vectors::{EMPTY, NOPS};
 use fdt_tree::{FdtFault, Reservation, Tree, read};
 use std::alloc::Global;
@@ -13,13 +14,6 @@ fn tree_of(alloc: Global, bytes: &[u8]) -> Result<Tree, FdtFault> {
     match read(alloc, bytes) {
         Err(FdtFault::NoMemory) => read(alloc, bytes),
         read => read,
-    }
-}
-
-fn says(tree: &Tree, path: &[u8], name: &[u8], value: &[u8]) -> bool {
-    match tree.get(path, name) {
-        Some(found) => found == value,
-        None => false,
     }
 }
 

@@ -1,4 +1,4 @@
-use crate::files::{BEGIN_NODE, END, END_NODE, NOP, PROP, file, with_word, words};
+use crate::files::{BEGIN_NODE, END, END_NODE, NOP, PROP, file_of_words, with_word};
 use crate::vectors::{CHOSEN, DTC, EMPTY, NOPS, SUFFIX};
 use fdt_tree::read;
 use std::alloc::Global;
@@ -10,17 +10,25 @@ fn again(alloc: Global, bytes: &[u8]) -> Result<Vec<u8>, Fail> {
     Ok(tree.write(alloc)?)
 }
 
-#[test]
-fn an_empty_root_comes_back(rt: HostRuntime) -> Result<(), Fail> {
-    let alloc = rt.alloc();
-    assert_eq!(rt; again(alloc, &EMPTY)?.as_slice(), EMPTY.as_slice());
-    Ok(())
+// Whether these bytes are written where the file was read.
+fn comes_back(alloc: Global, bytes: &[u8], want: &[u8]) -> Result<bool, Fail> {
+    let out = again(alloc, bytes)?;
+    Ok(out.as_slice() == want)
 }
 
 #[test]
-fn boot_arguments_come_back(rt: HostRuntime) -> Result<(), Fail> {
+fn files_come_back(rt: HostRuntime) -> Result<(), Fail> {
     let alloc = rt.alloc();
-    assert_eq!(rt; again(alloc, &CHOSEN)?.as_slice(), CHOSEN.as_slice());
+    for (bytes, want) in [
+        (EMPTY.as_slice(), EMPTY.as_slice()),
+        (&CHOSEN, &CHOSEN),
+        // with the reservation, and in dtc's order of names
+        (&DTC, &DTC),
+        // without the NOPs, the names that only they had, and the slack
+        (&NOPS, &DTC),
+    ] {
+        assert!(rt; comes_back(alloc, bytes, want)?, "{bytes:?}");
+    }
     Ok(())
 }
 
@@ -28,23 +36,7 @@ fn boot_arguments_come_back(rt: HostRuntime) -> Result<(), Fail> {
 fn the_boot_cpu_comes_back(rt: HostRuntime) -> Result<(), Fail> {
     let alloc = rt.alloc();
     let bytes = with_word(alloc, &CHOSEN, 28, 0x102_0304)?;
-    assert_eq!(rt; again(alloc, &bytes)?.as_slice(), bytes.as_slice());
-    Ok(())
-}
-
-// With the reservation, and in dtc's order of names.
-#[test]
-fn what_dtc_makes_comes_back(rt: HostRuntime) -> Result<(), Fail> {
-    let alloc = rt.alloc();
-    assert_eq!(rt; again(alloc, &DTC)?.as_slice(), DTC.as_slice());
-    Ok(())
-}
-
-// Without the NOPs, the names that only they had, and the slack.
-#[test]
-fn what_libfdt_took_out_is_left_out(rt: HostRuntime) -> Result<(), Fail> {
-    let alloc = rt.alloc();
-    assert_eq!(rt; again(alloc, &NOPS)?.as_slice(), DTC.as_slice());
+    assert!(rt; comes_back(alloc, &bytes, &bytes)?);
     Ok(())
 }
 
@@ -56,7 +48,7 @@ fn slack_behind_is_left_out(rt: HostRuntime) -> Result<(), Fail> {
     for _ in DTC.len()..512 {
         bytes.push(0)?;
     }
-    assert_eq!(rt; again(alloc, &bytes)?.as_slice(), DTC.as_slice());
+    assert!(rt; comes_back(alloc, &bytes, &DTC)?);
     Ok(())
 }
 
@@ -64,12 +56,12 @@ fn slack_behind_is_left_out(rt: HostRuntime) -> Result<(), Fail> {
 #[test]
 fn a_suffix_is_written_alone(rt: HostRuntime) -> Result<(), Fail> {
     let alloc = rt.alloc();
-    let block = words(alloc, &[BEGIN_NODE, 0, PROP, 0, 0, END_NODE, END])?;
-    let bytes = file(alloc, &block, b"reg\0")?;
+    let block = [BEGIN_NODE, 0, PROP, 0, 0, END_NODE, END];
+    let bytes = file_of_words(alloc, &block, b"reg\0")?;
     let out = again(alloc, &SUFFIX)?;
     assert_eq!(rt; out.len(), 88);
     assert_eq!(rt; out.as_slice(), bytes.as_slice());
-    assert_eq!(rt; again(alloc, &out)?.as_slice(), bytes.as_slice());
+    assert!(rt; comes_back(alloc, &out, &bytes)?);
     Ok(())
 }
 
@@ -78,7 +70,7 @@ fn a_suffix_is_written_alone(rt: HostRuntime) -> Result<(), Fail> {
 fn slack_is_left_out(rt: HostRuntime) -> Result<(), Fail> {
     let alloc = rt.alloc();
     let node = 0x6e00_0000;
-    let slack = words(
+    let bytes = file_of_words(
         alloc,
         &[
             NOP,
@@ -104,9 +96,9 @@ fn slack_is_left_out(rt: HostRuntime) -> Result<(), Fail> {
             END,
             7,
         ],
+        b"z\0a\0b\0a\0",
     )?;
-    let bytes = file(alloc, &slack, b"z\0a\0b\0a\0")?;
-    let block = words(
+    let expected = file_of_words(
         alloc,
         &[
             BEGIN_NODE,
@@ -127,8 +119,8 @@ fn slack_is_left_out(rt: HostRuntime) -> Result<(), Fail> {
             END_NODE,
             END,
         ],
+        b"b\0a\0",
     )?;
-    let expected = file(alloc, &block, b"b\0a\0")?;
-    assert_eq!(rt; again(alloc, &bytes)?.as_slice(), expected.as_slice());
+    assert!(rt; comes_back(alloc, &bytes, &expected)?);
     Ok(())
 }

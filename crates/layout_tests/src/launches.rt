@@ -64,11 +64,17 @@ fn launch(
 fn steps_name_each_part_once(rt: HostRuntime) -> Result<(), AllocError> {
     let alloc = rt.alloc();
     let all = [Step::Rec(0), Step::Item(0), Step::Ram(0)];
-    assert!(rt; launch(alloc, config(), &[false], &all)?.is_some());
-    assert!(rt; launch(alloc, config(), &[false, false], &all)?.is_none());
-    assert!(rt; launch(alloc, config(), &[], &all)?.is_none());
     let twice = [Step::Rec(0), Step::Item(0), Step::Ram(0), Step::Item(0)];
-    assert!(rt; launch(alloc, config(), &[false], &twice)?.is_none());
+    let cases: [(&[bool], &[Step], bool); 4] = [
+        (&[false], &all, true),
+        (&[false, false], &all, false),
+        (&[], &all, false),
+        (&[false], &twice, false),
+    ];
+    for (number, (kinds, steps, makes_one)) in cases.into_iter().enumerate() {
+        let made = launch(alloc, config(), kinds, steps)?;
+        assert_eq!(rt; made.is_some(), makes_one, "case {number}");
+    }
     Ok(())
 }
 
@@ -76,14 +82,20 @@ fn steps_name_each_part_once(rt: HostRuntime) -> Result<(), AllocError> {
 fn ranges_and_kinds(rt: HostRuntime) -> Result<(), AllocError> {
     let alloc = rt.alloc();
     let all = [Step::Ram(0), Step::Item(0), Step::Item(1), Step::Rec(0)];
-    assert!(rt; launch(alloc, config(), &[true, false], &all)?.is_some());
-    assert!(rt; launch(alloc, config(), &[true, true], &all)?.is_none());
     let mut wide = config();
     wide.s2sz = 49;
-    assert!(rt; launch(alloc, wide, &[true, false], &all)?.is_none());
     let mut odd = config();
     odd.pool_base = 0x1000;
-    assert!(rt; launch(alloc, odd, &[true, false], &all)?.is_none());
+    let cases = [
+        (config(), [true, false], true),
+        (config(), [true, true], false),
+        (wide, [true, false], false),
+        (odd, [true, false], false),
+    ];
+    for (number, (config, kinds, makes_one)) in cases.into_iter().enumerate() {
+        let made = launch(alloc, config, &kinds, &all)?;
+        assert_eq!(rt; made.is_some(), makes_one, "case {number}");
+    }
     Ok(())
 }
 
@@ -108,7 +120,9 @@ fn edits_need_their_parts(rt: HostRuntime) -> Result<(), AllocError> {
 #[test]
 fn command_lines(rt: HostRuntime) -> Result<(), AllocError> {
     let alloc = rt.alloc();
-    assert!(rt; Bootargs::new(String::from_str(alloc, "quiet")?).is_some());
-    assert!(rt; Bootargs::new(String::from_str(alloc, "qui\0et")?).is_none());
+    for (text, makes_one) in [("quiet", true), ("qui\0et", false)] {
+        let made = Bootargs::new(String::from_str(alloc, text)?);
+        assert_eq!(rt; made.is_some(), makes_one);
+    }
     Ok(())
 }

@@ -35,6 +35,29 @@ const LARGE: [Region; 1] = [Region {
     end: 0x8_8000_0000,
 }];
 
+/// What an item of a case is. Kernels are of file 0, initrds of file 1, devicetrees of file 2.
+#[derive(Clone, Copy)]
+enum What {
+    Kernel,
+    Initrd,
+    Dtb,
+    /// A devicetree that is told where RAM is.
+    Told,
+    /// Raw content of this file.
+    Raw(usize),
+}
+
+/// An item, the address that it is asked to stand at, and its size where it is stated.
+type Asked = (What, u64, Option<u64>);
+
+/// A launch of these items, and what becomes of it: the pages of its last item, or why it is refused.
+#[derive(Clone, Copy)]
+struct Case<'a> {
+    ram: &'a [Region],
+    items: &'a [Asked],
+    wanted: Result<u64, LayoutFault>,
+}
+
 /// An Image of 64 bytes with these numbers in its header.
 fn image(text_offset: u64, image_size: u64) -> [u8; 64] {
     let mut bytes = [0; 64];
@@ -44,40 +67,45 @@ fn image(text_offset: u64, image_size: u64) -> [u8; 64] {
     bytes
 }
 
-fn item(kind: Kind, at: u64) -> Item {
+/// A devicetree, and whether it is told where RAM is.
+fn dtb(memory: bool) -> Kind {
+    let edits = Edits {
+        bootargs: None,
+        initrd: false,
+        memory,
+    };
+    Kind::Dtb { file: 2, edits }
+}
+
+fn kind(what: What) -> Kind {
+    match what {
+        What::Kernel => Kind::Kernel { file: 0 },
+        What::Initrd => Kind::Initrd { file: 1 },
+        What::Dtb => dtb(false),
+        What::Told => dtb(true),
+        What::Raw(file) => Kind::Raw { file },
+    }
+}
+
+fn item(kind: Kind, at: u64, size: Option<u64>) -> Item {
     Item {
         kind,
         at,
-        size: None,
+        size,
         measured: true,
     }
 }
 
-fn kernel(at: u64) -> Item {
-    item(Kind::Kernel { file: 0 }, at)
+fn items(alloc: Global, asked: &[Asked]) -> Result<Vec<Item>, AllocError> {
+    let mut items = Vec::new(alloc);
+    for (what, at, size) in asked {
+        items.push(item(kind(*what), *at, *size))?;
+    }
+    Ok(items)
 }
 
-fn initrd(at: u64) -> Item {
-    item(Kind::Initrd { file: 1 }, at)
-}
-
-fn raw(file: usize, at: u64) -> Item {
-    item(Kind::Raw { file }, at)
-}
-
-fn dtb(edits: Edits, at: u64) -> Item {
-    item(Kind::Dtb { file: 2, edits }, at)
-}
-
-const PLAIN: Edits = Edits {
-    bootargs: None,
-    initrd: false,
-    memory: false,
-};
-
-/// Launch 3, with these regions and items, and two RECs that say nothing.
-fn launch(alloc: Global, ram: &[Region], items: Vec<Item>) -> Result<Option<Launch>, AllocError> {
-    let config = Config {
+fn config() -> Config {
+    Config {
         algo: Algo::Sha256,
         s2sz: 40,
         sve: false,
@@ -91,24 +119,35 @@ fn launch(alloc: Global, ram: &[Region], items: Vec<Item>) -> Result<Option<Laun
         num_aux: 0,
         pool_base: 0x8_0000_0000,
         pool_count: 16_777_216,
-    };
+    }
+}
+
+/// A step for each of these regions and items, and for two RECs.
+fn steps(alloc: Global, regions: usize, items: usize) -> Result<Vec<Step>, AllocError> {
+    let mut steps = Vec::new(alloc);
+    for number in 0..regions {
+        steps.push(Step::Ram(number))?;
+    }
+    for number in 0..items {
+        steps.push(Step::Item(number))?;
+    }
+    for number in 0..2 {
+        steps.push(Step::Rec(number))?;
+    }
+    Ok(steps)
+}
+
+/// Launch 3, with these regions and items, and two RECs that say nothing.
+fn launch(alloc: Global, ram: &[Region], items: Vec<Item>) -> Result<Option<Launch>, AllocError> {
     let rec = Rec {
         pc: None,
         x: None,
         runnable: true,
     };
-    let mut steps = Vec::new(alloc);
-    for number in 0..ram.len() {
-        steps.push(Step::Ram(number))?;
-    }
-    for number in 0..items.len() {
-        steps.push(Step::Item(number))?;
-    }
-    steps.push(Step::Rec(0))?;
-    steps.push(Step::Rec(1))?;
+    let steps = steps(alloc, ram.len(), items.len())?;
     let ram = Vec::from_slice(alloc, ram)?;
     let recs = Vec::from_slice(alloc, &[rec, rec])?;
-    Ok(Launch::new(3, config, ram, items, recs, steps))
+    Ok(Launch::new(3, config(), ram, items, recs, steps))
 }
 
 fn files(alloc: Global, contents: &[&[u8]]) -> Result<Vec<Vec<u8>>, AllocError> {
@@ -154,74 +193,43 @@ fn placed(
     }
 }
 
-fn item_of(rt: &impl Abort, placed: &Placed, number: usize) -> PlacedItem {
-    match placed.items().get(number) {
-        Some(item) => *item,
-        None => {
-            assert!(rt; false, "there is no item {number}");
-            PlacedItem {
-                source: Source::File(0),
-                address: 0,
-                lead: 0,
-                pages: 0,
-                measured: false,
-            }
-        }
-    }
+/// How many pages the last item has, where they are placed.
+fn last_pages(placed: &Placed) -> u64 {
+    placed.items().last().map_or(0, |item| item.pages)
 }
 
-fn rec_of(rt: &impl Abort, placed: &Placed, number: usize) -> PlacedRec {
-    match placed.recs().get(number) {
-        Some(rec) => *rec,
-        None => {
-            assert!(rt; false, "there is no REC {number}");
-            PlacedRec {
-                pc: 0,
-                x: [0; 8],
-                runnable: false,
-            }
-        }
-    }
+fn check_items(rt: &impl Abort, placed: &Placed, wanted: &[PlacedItem]) {
+    assert_eq!(rt; placed.items(), wanted);
 }
 
-/// How many pages the item of this number has.
-fn pages(
+fn check_case(
     rt: &impl Abort,
     alloc: Global,
-    ram: &[Region],
-    items: Vec<Item>,
     files: &[Vec<u8>],
+    case: &Case,
     number: usize,
-) -> Result<u64, AllocError> {
-    let placed = placed(rt, alloc, ram, items, files)?;
-    Ok(item_of(rt, &placed, number).pages)
-}
-
-fn check_fault(
-    rt: &impl Abort,
-    alloc: Global,
-    ram: &[Region],
-    items: Vec<Item>,
-    files: &[Vec<u8>],
-    fault: LayoutFault,
 ) -> Result<(), AllocError> {
-    match outcome(rt, alloc, ram, items, files)? {
-        Ok(_) => assert!(rt; false, "placed, and not {fault:?}"),
-        Err(found) => assert_eq!(rt; found, fault),
-    }
+    let found = match outcome(rt, alloc, case.ram, items(alloc, case.items)?, files)? {
+        Ok(placed) => {
+            assert_eq!(rt; placed.items().len(), case.items.len(), "case {number}");
+            Ok(last_pages(&placed))
+        }
+        Err(fault) => Err(fault),
+    };
+    assert_eq!(rt; found, case.wanted, "case {number}");
     Ok(())
 }
 
-fn one(alloc: Global, item: Item) -> Result<Vec<Item>, AllocError> {
-    let mut items = Vec::new(alloc);
-    items.push(item)?;
-    Ok(items)
-}
-
-fn two(alloc: Global, first: Item, second: Item) -> Result<Vec<Item>, AllocError> {
-    let mut items = one(alloc, first)?;
-    items.push(second)?;
-    Ok(items)
+fn check_cases(
+    rt: &impl Abort,
+    alloc: Global,
+    files: &[Vec<u8>],
+    cases: &[Case],
+) -> Result<(), AllocError> {
+    for number in 0..cases.len() {
+        check_case(rt, alloc, files, &cases[number], number)?;
+    }
+    Ok(())
 }
 
 #[test]
@@ -229,13 +237,16 @@ fn raw_items_with_a_lead(rt: HostRuntime) -> Result<(), AllocError> {
     let alloc = rt.alloc();
     let files = files(alloc, &[&[1; 4097]])?;
     for (at, lead) in [(0x4000_0000, 0), (0x4000_0004, 4)] {
-        let placed = placed(&rt, alloc, &SMALL, one(alloc, raw(0, at))?, &files)?;
-        let item = item_of(&rt, &placed, 0);
-        assert_eq!(rt; item.source, Source::File(0));
-        assert_eq!(rt; item.address, at);
-        assert_eq!(rt; item.lead, lead);
-        assert_eq!(rt; item.pages, 2);
-        assert!(rt; item.measured);
+        let items = items(alloc, &[(What::Raw(0), at, None)])?;
+        let placed = placed(&rt, alloc, &SMALL, items, &files)?;
+        let item = PlacedItem {
+            source: Source::File(0),
+            address: at,
+            lead,
+            pages: 2,
+            measured: true,
+        };
+        check_items(&rt, &placed, &[item]);
         assert!(rt; placed.edited().is_none());
         assert_eq!(rt; placed.bytes(&files, item.source).len(), 4097);
     }
@@ -246,42 +257,60 @@ fn raw_items_with_a_lead(rt: HostRuntime) -> Result<(), AllocError> {
 fn kernel_devicetree_and_initrd(rt: HostRuntime) -> Result<(), AllocError> {
     let alloc = rt.alloc();
     let files = files(alloc, &[&image(0, 0x20_0000), &[1; 4096], &EMPTY])?;
-    let near = two(alloc, kernel(0x4000_0000), dtb(PLAIN, 0x4010_0000))?;
-    check_fault(&rt, alloc, &LARGE, near, &files, LayoutFault::Overlap)?;
-    let odd = two(alloc, kernel(0x4000_0000), dtb(PLAIN, 0x4020_0004))?;
-    check_fault(&rt, alloc, &LARGE, odd, &files, LayoutFault::Unaligned)?;
-    let base = one(alloc, kernel(0x4010_0000))?;
-    check_fault(&rt, alloc, &LARGE, base, &files, LayoutFault::KernelBase)?;
-    let inside = two(alloc, kernel(0x4000_0000), initrd(0x8_0000_0000))?;
-    assert_eq!(rt;
-        placed(&rt, alloc, &LARGE, inside, &files)?.items().len(),
-        2
-    );
-    let outside = two(alloc, kernel(0x4000_0000), initrd(0x8_4000_0000))?;
-    check_fault(
-        &rt,
-        alloc,
-        &LARGE,
-        outside,
-        &files,
-        LayoutFault::InitrdWindow,
-    )
+    let kernel = (What::Kernel, 0x4000_0000, None);
+    let between = (What::Kernel, 0x4010_0000, None);
+    let cases = [
+        Case {
+            ram: &LARGE,
+            items: &[kernel, (What::Dtb, 0x4010_0000, None)],
+            wanted: Err(LayoutFault::Overlap),
+        },
+        Case {
+            ram: &LARGE,
+            items: &[kernel, (What::Dtb, 0x4020_0004, None)],
+            wanted: Err(LayoutFault::Unaligned),
+        },
+        Case {
+            ram: &LARGE,
+            items: &[between],
+            wanted: Err(LayoutFault::KernelBase),
+        },
+        Case {
+            ram: &LARGE,
+            items: &[kernel, (What::Initrd, 0x8_0000_0000, None)],
+            wanted: Ok(1),
+        },
+        Case {
+            ram: &LARGE,
+            items: &[kernel, (What::Initrd, 0x8_4000_0000, None)],
+            wanted: Err(LayoutFault::InitrdWindow),
+        },
+    ];
+    check_cases(&rt, alloc, &files, &cases)
 }
 
 #[test]
 fn boot_values(rt: HostRuntime) -> Result<(), AllocError> {
     let alloc = rt.alloc();
     let files = files(alloc, &[&image(0x8_0000, 0x20_0000), &[], &EMPTY])?;
-    let items = two(alloc, dtb(PLAIN, 0x4800_0000), kernel(0x4000_0000))?;
-    let placed = placed(&rt, alloc, &LARGE, items, &files)?;
-    assert_eq!(rt; item_of(&rt, &placed, 1).address, 0x4008_0000);
-    assert_eq!(rt; rec_of(&rt, &placed, 0).pc, 0x4008_0000);
-    assert_eq!(rt;
-        rec_of(&rt, &placed, 0).x,
-        [0x4800_0000, 0, 0, 0, 0, 0, 0, 0]
-    );
-    assert_eq!(rt; rec_of(&rt, &placed, 1).pc, 0);
-    assert_eq!(rt; rec_of(&rt, &placed, 1).x, [0; 8]);
+    let asked = [
+        (What::Dtb, 0x4800_0000, None),
+        (What::Kernel, 0x4000_0000, None),
+    ];
+    let placed = placed(&rt, alloc, &LARGE, items(alloc, &asked)?, &files)?;
+    let addresses = placed.items().iter().map(|item| item.address);
+    assert!(rt; addresses.eq([0x4800_0000, 0x4008_0000]));
+    let first = PlacedRec {
+        pc: 0x4008_0000,
+        x: [0x4800_0000, 0, 0, 0, 0, 0, 0, 0],
+        runnable: true,
+    };
+    let second = PlacedRec {
+        pc: 0,
+        x: [0; 8],
+        runnable: true,
+    };
+    assert_eq!(rt; placed.recs(), [first, second].as_slice());
     Ok(())
 }
 
@@ -294,18 +323,19 @@ fn command_line(rt: HostRuntime) -> Result<(), AllocError> {
         initrd: false,
         memory: false,
     };
-    let placed = placed(
-        &rt,
-        alloc,
-        &SMALL,
-        one(alloc, dtb(edits, 0x4000_0008))?,
-        &files,
-    )?;
-    assert_eq!(rt; item_of(&rt, &placed, 0).source, Source::Edited(3));
+    let mut items = Vec::new(alloc);
+    items.push(item(Kind::Dtb { file: 2, edits }, 0x4000_0008, None))?;
+    let placed = placed(&rt, alloc, &SMALL, items, &files)?;
+    let item = PlacedItem {
+        source: Source::Edited(3),
+        address: 0x4000_0008,
+        lead: 8,
+        pages: 1,
+        measured: true,
+    };
+    check_items(&rt, &placed, &[item]);
     assert_eq!(rt; placed.edited(), Some(CHOSEN.as_slice()));
     assert_eq!(rt; placed.bytes(&files, Source::Edited(3)), CHOSEN.as_slice());
-    assert_eq!(rt; item_of(&rt, &placed, 0).lead, 8);
-    assert_eq!(rt; item_of(&rt, &placed, 0).pages, 1);
     Ok(())
 }
 
@@ -318,10 +348,11 @@ fn places_of_initrd_and_memory(rt: HostRuntime) -> Result<(), AllocError> {
         initrd: true,
         memory: true,
     };
-    let mut long = initrd(0x4000_1000);
-    long.size = Some(4097);
-    let items = two(alloc, dtb(edits, 0x4000_0000), long)?;
+    let mut items = Vec::new(alloc);
+    items.push(item(Kind::Dtb { file: 2, edits }, 0x4000_0000, None))?;
+    items.push(item(kind(What::Initrd), 0x4000_1000, Some(4097)))?;
     let placed = placed(&rt, alloc, &SMALL, items, &files)?;
+    assert_eq!(rt; last_pages(&placed), 2);
     let Some(bytes) = placed.edited() else {
         assert!(rt; false, "no devicetree was changed");
         return Ok(());
@@ -329,161 +360,130 @@ fn places_of_initrd_and_memory(rt: HostRuntime) -> Result<(), AllocError> {
     let Ok(tree) = fdt_tree::read(alloc, bytes) else {
         return Err(AllocError);
     };
-    let start = [0, 0, 0, 0, 0x40, 0, 0x10, 0];
-    assert_eq!(rt;
-        tree.get(b"/chosen", b"linux,initrd-start"),
-        Some(start.as_slice())
-    );
-    let end = [0, 0, 0, 0, 0x40, 0, 0x10, 5];
-    assert_eq!(rt;
-        tree.get(b"/chosen", b"linux,initrd-end"),
-        Some(end.as_slice())
-    );
-    let reg = [0, 0, 0, 0, 0x40, 0, 0, 0, 0, 0x20, 0, 0];
-    assert_eq!(rt; tree.get(b"/memory@40000000", b"reg"), Some(reg.as_slice()));
-    assert_eq!(rt; item_of(&rt, &placed, 1).pages, 2);
+    let told: [(&[u8], &[u8], &[u8]); 3] = [
+        (
+            b"/chosen",
+            b"linux,initrd-start",
+            &[0, 0, 0, 0, 0x40, 0, 0x10, 0],
+        ),
+        (
+            b"/chosen",
+            b"linux,initrd-end",
+            &[0, 0, 0, 0, 0x40, 0, 0x10, 5],
+        ),
+        (
+            b"/memory@40000000",
+            b"reg",
+            &[0, 0, 0, 0, 0x40, 0, 0, 0, 0, 0x20, 0, 0],
+        ),
+    ];
+    for (path, name, value) in told {
+        assert_eq!(rt; tree.get(path, name), Some(value));
+    }
     Ok(())
 }
 
 #[test]
 fn faults_of_devicetrees(rt: HostRuntime) -> Result<(), AllocError> {
     let alloc = rt.alloc();
-    let asked = || Edits {
-        bootargs: None,
-        initrd: false,
-        memory: true,
-    };
     let whole = files(alloc, &[&[], &[], &EMPTY])?;
+    let cells = Case {
+        ram: &LARGE,
+        items: &[(What::Told, 0x4000_0004, None)],
+        wanted: Err(LayoutFault::Dtb(FdtFault::BadCells)),
+    };
+    check_case(&rt, alloc, &whole, &cells, 0)?;
     let cut = files(alloc, &[&[], &[], &EMPTY[..39]])?;
     let none = files(alloc, &[&[], &[], &[]])?;
-    let cells = LayoutFault::Dtb(FdtFault::BadCells);
-    check_fault(
-        &rt,
-        alloc,
-        &LARGE,
-        one(alloc, dtb(asked(), 0x4000_0004))?,
-        &whole,
-        cells,
-    )?;
-    let short = LayoutFault::Dtb(FdtFault::Short);
-    check_fault(
-        &rt,
-        alloc,
-        &SMALL,
-        one(alloc, dtb(asked(), 0x4000_0004))?,
-        &cut,
-        short,
-    )?;
-    check_fault(
-        &rt,
-        alloc,
-        &SMALL,
-        one(alloc, dtb(asked(), 0x4000_0000))?,
-        &none,
-        short,
-    )?;
-    let unread = placed(
-        &rt,
-        alloc,
-        &SMALL,
-        one(alloc, dtb(PLAIN, 0x4000_0000))?,
-        &cut,
-    )?;
-    assert_eq!(rt; item_of(&rt, &unread, 0).pages, 1);
-    let odd = one(alloc, dtb(PLAIN, 0x4000_0004))?;
-    check_fault(&rt, alloc, &SMALL, odd, &none, LayoutFault::Unaligned)
+    let short = Err(LayoutFault::Dtb(FdtFault::Short));
+    let of_cut = [
+        Case {
+            ram: &SMALL,
+            items: &[(What::Told, 0x4000_0004, None)],
+            wanted: short,
+        },
+        Case {
+            ram: &SMALL,
+            items: &[(What::Dtb, 0x4000_0000, None)],
+            wanted: Ok(1),
+        },
+    ];
+    check_cases(&rt, alloc, &cut, &of_cut)?;
+    let of_none = [
+        Case {
+            ram: &SMALL,
+            items: &[(What::Told, 0x4000_0000, None)],
+            wanted: short,
+        },
+        Case {
+            ram: &SMALL,
+            items: &[(What::Dtb, 0x4000_0004, None)],
+            wanted: Err(LayoutFault::Unaligned),
+        },
+    ];
+    check_cases(&rt, alloc, &none, &of_none)
 }
 
 #[test]
 fn sizes(rt: HostRuntime) -> Result<(), AllocError> {
     let alloc = rt.alloc();
     let files = files(alloc, &[&[], &[1; 64], &EMPTY])?;
-    for (size, pages) in [(64, 1), (4097, 2)] {
-        let mut stated = raw(1, 0x4000_0000);
-        stated.size = Some(size);
-        let placed = placed(&rt, alloc, &SMALL, one(alloc, stated)?, &files)?;
-        assert_eq!(rt; item_of(&rt, &placed, 0).pages, pages);
-    }
-    let mut small = raw(1, 0x4000_0000);
-    small.size = Some(63);
-    check_fault(
-        &rt,
-        alloc,
-        &SMALL,
-        one(alloc, small)?,
-        &files,
-        LayoutFault::Size,
-    )?;
-    let mut large = dtb(PLAIN, 0x4000_0000);
-    large.size = Some(0x20_0000);
-    assert_eq!(rt;
-        pages(&rt, alloc, &SMALL, one(alloc, large)?, &files, 0)?,
-        512
-    );
-    let mut larger = dtb(PLAIN, 0x4000_0000);
-    larger.size = Some(0x20_0001);
-    let fault = LayoutFault::Dtb(FdtFault::TooLarge);
-    check_fault(&rt, alloc, &LARGE, one(alloc, larger)?, &files, fault)
+    let large = LayoutFault::Dtb(FdtFault::TooLarge);
+    let cases = [
+        Case {
+            ram: &SMALL,
+            items: &[(What::Raw(1), 0x4000_0000, Some(64))],
+            wanted: Ok(1),
+        },
+        Case {
+            ram: &SMALL,
+            items: &[(What::Raw(1), 0x4000_0000, Some(4097))],
+            wanted: Ok(2),
+        },
+        Case {
+            ram: &SMALL,
+            items: &[(What::Raw(1), 0x4000_0000, Some(63))],
+            wanted: Err(LayoutFault::Size),
+        },
+        Case {
+            ram: &SMALL,
+            items: &[(What::Dtb, 0x4000_0000, Some(0x20_0000))],
+            wanted: Ok(512),
+        },
+        Case {
+            ram: &LARGE,
+            items: &[(What::Dtb, 0x4000_0000, Some(0x20_0001))],
+            wanted: Err(large),
+        },
+    ];
+    check_cases(&rt, alloc, &files, &cases)
 }
 
 #[test]
 fn kernels(rt: HostRuntime) -> Result<(), AllocError> {
     let alloc = rt.alloc();
+    let far = image(u64::MAX, 1);
+    let long = image(0, 0x20_0001);
+    let endless = image(0, u64::MAX);
     let short = LayoutFault::Kernel(ImageFault::Short);
-    let none = files(alloc, &[&[]])?;
-    check_fault(
-        &rt,
-        alloc,
-        &SMALL,
-        one(alloc, kernel(0x4010_0000))?,
-        &none,
-        short,
-    )?;
-    let far = files(alloc, &[&image(u64::MAX, 1)])?;
-    check_fault(
-        &rt,
-        alloc,
-        &SMALL,
-        one(alloc, kernel(0x4010_0000))?,
-        &far,
-        LayoutFault::KernelBase,
-    )?;
-    check_fault(
-        &rt,
-        alloc,
-        &SMALL,
-        one(alloc, kernel(0x4000_0000))?,
-        &far,
-        LayoutFault::OutsideRam,
-    )?;
-    let mut small = kernel(0x4000_0000);
-    small.size = Some(63);
-    check_fault(
-        &rt,
-        alloc,
-        &SMALL,
-        one(alloc, small)?,
-        &far,
-        LayoutFault::Size,
-    )?;
-    let long = files(alloc, &[&image(0, 0x20_0001)])?;
-    check_fault(
-        &rt,
-        alloc,
-        &SMALL,
-        one(alloc, kernel(0x4000_0000))?,
-        &long,
-        LayoutFault::OutsideRam,
-    )?;
-    let endless = files(alloc, &[&image(0, u64::MAX)])?;
-    check_fault(
-        &rt,
-        alloc,
-        &SMALL,
-        one(alloc, kernel(0x4000_0000))?,
-        &endless,
-        LayoutFault::OutsideRam,
-    )
+    let cases: [(&[u8], u64, Option<u64>, LayoutFault); 6] = [
+        (&[], 0x4010_0000, None, short),
+        (&far, 0x4010_0000, None, LayoutFault::KernelBase),
+        (&far, 0x4000_0000, None, LayoutFault::OutsideRam),
+        (&far, 0x4000_0000, Some(63), LayoutFault::Size),
+        (&long, 0x4000_0000, None, LayoutFault::OutsideRam),
+        (&endless, 0x4000_0000, None, LayoutFault::OutsideRam),
+    ];
+    for (number, (bytes, at, size, fault)) in cases.into_iter().enumerate() {
+        let files = files(alloc, &[bytes])?;
+        let case = Case {
+            ram: &SMALL,
+            items: &[(What::Kernel, at, size)],
+            wanted: Err(fault),
+        };
+        check_case(&rt, alloc, &files, &case, number)?;
+    }
+    Ok(())
 }
 
 #[test]
@@ -491,47 +491,68 @@ fn first_item_at_fault_decides(rt: HostRuntime) -> Result<(), AllocError> {
     let alloc = rt.alloc();
     let files = files(alloc, &[&[0; 64], &[1; 8], &EMPTY])?;
     let bad = LayoutFault::Kernel(ImageFault::BadMagic);
-    let first = two(alloc, raw(1, 0), kernel(0x4000_0000))?;
-    check_fault(&rt, alloc, &SMALL, first, &files, LayoutFault::OutsideRam)?;
-    let second = two(alloc, kernel(0x4000_0000), raw(1, 0))?;
-    check_fault(&rt, alloc, &SMALL, second, &files, bad)?;
-    let edits = Edits {
-        bootargs: None,
-        initrd: false,
-        memory: true,
-    };
-    let late = two(alloc, raw(1, 0), dtb(edits, 0x4000_0000))?;
-    check_fault(&rt, alloc, &LARGE, late, &files, LayoutFault::OutsideRam)?;
-    let same = two(alloc, raw(1, 0x4000_0ff8), raw(1, 0x4000_0000))?;
-    check_fault(&rt, alloc, &SMALL, same, &files, LayoutFault::Overlap)?;
-    let beside = two(alloc, raw(1, 0x4000_1000), raw(1, 0x4000_0ff8))?;
-    assert_eq!(rt;
-        placed(&rt, alloc, &SMALL, beside, &files)?.items().len(),
-        2
-    );
-    Ok(())
+    let kernel = (What::Kernel, 0x4000_0000, None);
+    let outside = (What::Raw(1), 0, None);
+    let end = (What::Raw(1), 0x4000_0ff8, None);
+    let cases = [
+        Case {
+            ram: &SMALL,
+            items: &[outside, kernel],
+            wanted: Err(LayoutFault::OutsideRam),
+        },
+        Case {
+            ram: &SMALL,
+            items: &[kernel, outside],
+            wanted: Err(bad),
+        },
+        Case {
+            ram: &LARGE,
+            items: &[outside, (What::Told, 0x4000_0000, None)],
+            wanted: Err(LayoutFault::OutsideRam),
+        },
+        Case {
+            ram: &SMALL,
+            items: &[end, (What::Raw(1), 0x4000_0000, None)],
+            wanted: Err(LayoutFault::Overlap),
+        },
+        Case {
+            ram: &SMALL,
+            items: &[(What::Raw(1), 0x4000_1000, None), end],
+            wanted: Ok(1),
+        },
+    ];
+    check_cases(&rt, alloc, &files, &cases)
 }
 
 #[test]
 fn most_pages(rt: HostRuntime) -> Result<(), AllocError> {
     let alloc = rt.alloc();
     let files = files(alloc, &[&[], &[1; 8], &[]])?;
-    let all = || {
-        let mut all = raw(0, 0x4000_0000);
-        all.size = Some(0x1_0000_0000);
-        all
-    };
-    assert_eq!(rt;
-        pages(&rt, alloc, &LARGE, one(alloc, all())?, &files, 0)?,
-        0x10_0000
-    );
-    let more = two(alloc, all(), raw(1, 0x2_0000_0000))?;
-    check_fault(&rt, alloc, &LARGE, more, &files, LayoutFault::Size)?;
-    let before = two(alloc, raw(1, 0x2_0000_0000), all())?;
-    check_fault(&rt, alloc, &LARGE, before, &files, LayoutFault::Size)?;
-    let none = two(alloc, all(), raw(0, 0x2_0000_0000))?;
-    assert_eq!(rt; pages(&rt, alloc, &LARGE, none, &files, 1)?, 0);
-    Ok(())
+    let all = (What::Raw(0), 0x4000_0000, Some(0x1_0000_0000));
+    let one = (What::Raw(1), 0x2_0000_0000, None);
+    let cases = [
+        Case {
+            ram: &LARGE,
+            items: &[all],
+            wanted: Ok(0x10_0000),
+        },
+        Case {
+            ram: &LARGE,
+            items: &[all, one],
+            wanted: Err(LayoutFault::Size),
+        },
+        Case {
+            ram: &LARGE,
+            items: &[one, all],
+            wanted: Err(LayoutFault::Size),
+        },
+        Case {
+            ram: &LARGE,
+            items: &[all, (What::Raw(0), 0x2_0000_0000, None)],
+            wanted: Ok(0),
+        },
+    ];
+    check_cases(&rt, alloc, &files, &cases)
 }
 
 #[test]
@@ -546,42 +567,56 @@ fn adjacent_regions_share_an_item(rt: HostRuntime) -> Result<(), AllocError> {
         base: 0x1000,
         end: 0x3000,
     };
-    let regions = [high, low];
-    for at in [0x1000, 0x2fff, 0x3fff] {
-        let items = one(alloc, raw(0, at))?;
-        assert_eq!(rt; pages(&rt, alloc, &regions, items, &files, 0)?, 3);
-    }
-    for at in [0xfff, 0x4000] {
-        let items = one(alloc, raw(0, at))?;
-        check_fault(&rt, alloc, &regions, items, &files, LayoutFault::OutsideRam)?;
-    }
     let split = Region {
         base: 0x1000,
         end: 0x2800,
     };
-    let unaligned = [split, high];
-    let items = one(alloc, raw(0, 0x2000))?;
-    check_fault(
-        &rt,
-        alloc,
-        &unaligned,
-        items,
-        &files,
-        LayoutFault::OutsideRam,
-    )
+    let outside = Err(LayoutFault::OutsideRam);
+    let cases = [
+        ([high, low], 0x1000, Ok(3)),
+        ([high, low], 0x2fff, Ok(3)),
+        ([high, low], 0x3fff, Ok(3)),
+        ([high, low], 0xfff, outside),
+        ([high, low], 0x4000, outside),
+        ([split, high], 0x2000, outside),
+    ];
+    for (number, (ram, at, wanted)) in cases.into_iter().enumerate() {
+        let case = Case {
+            ram: &ram,
+            items: &[(What::Raw(0), at, None)],
+            wanted,
+        };
+        check_case(&rt, alloc, &files, &case, number)?;
+    }
+    Ok(())
 }
 
 #[test]
 fn empty_items_need_nothing(rt: HostRuntime) -> Result<(), AllocError> {
     let alloc = rt.alloc();
     let files = files(alloc, &[&[], &[]])?;
-    let items = two(alloc, initrd(0), raw(0, 0x7fff_ffff_ffff_ffff))?;
-    let placed = placed(&rt, alloc, &SMALL, items, &files)?;
-    assert_eq!(rt; item_of(&rt, &placed, 0).pages, 0);
-    assert_eq!(rt; item_of(&rt, &placed, 1).lead, 0xfff);
-    let last = one(alloc, raw(0, 0x7fff_ffff_ffff_ffff))?;
-    assert!(rt; launch(alloc, &SMALL, last)?.is_some());
-    let past = one(alloc, raw(0, 0x8000_0000_0000_0000))?;
-    assert!(rt; launch(alloc, &SMALL, past)?.is_none());
+    let last = (What::Raw(0), 0x7fff_ffff_ffff_ffff, None);
+    let asked = [(What::Initrd, 0, None), last];
+    let placed = placed(&rt, alloc, &SMALL, items(alloc, &asked)?, &files)?;
+    let first = PlacedItem {
+        source: Source::File(1),
+        address: 0,
+        lead: 0,
+        pages: 0,
+        measured: true,
+    };
+    let second = PlacedItem {
+        source: Source::File(0),
+        address: 0x7fff_ffff_ffff_ffff,
+        lead: 0xfff,
+        pages: 0,
+        measured: true,
+    };
+    check_items(&rt, &placed, &[first, second]);
+    let past = (What::Raw(0), 0x8000_0000_0000_0000, None);
+    for (asked, makes_one) in [(last, true), (past, false)] {
+        let made = launch(alloc, &SMALL, items(alloc, &[asked])?)?;
+        assert_eq!(rt; made.is_some(), makes_one);
+    }
     Ok(())
 }

@@ -1,4 +1,4 @@
-//! Tests of pages, their digests and the table, with values from other programs.
+//! Tests of descriptors, pages, their digests and the table, with values from other programs.
 #![tactic(auto)]
 
 #[cfg(test)]

@@ -1,4 +1,5 @@
-//! The item of most tests has 4097 bytes, of which byte i is (7 * i + 3) mod 251.
+//! The item of most tests of pages has 4097 bytes, of which byte i is (7 * i + 3) mod 251.
+mod descriptors;
 mod pages;
 mod tables;
 

@@ -11,22 +11,33 @@ fn run(base: u64, top: u64, level: u8) -> Act {
     Act::Run { base, top, level }
 }
 
+/// Compares a plan from `base` on. There is one place for this, since each comparison is proved.
+fn check_acts(rt: &impl Abort, plan: Result<Vec<Act>, PlanFault>, base: u64, acts: &[Act]) {
+    match plan {
+        Ok(made) => assert_eq!(rt; made.as_slice(), acts, "at {base:x}"),
+        Err(fault) => assert!(rt; false, "{fault:?} at {base:x}"),
+    }
+}
+
 fn check_region(rt: &impl Abort, tables: &mut Tables, base: u64, end: u64, acts: &[Act]) {
     if base < end {
-        match tables.ripas_runs(base, end) {
-            Ok(made) => assert_eq!(rt; made.as_slice(), acts),
-            Err(fault) => assert!(rt; false, "{fault:?} at {base:x}"),
-        }
+        check_acts(rt, tables.ripas_runs(base, end), base, acts);
     }
+}
+
+fn check_data(rt: &impl Abort, tables: &mut Tables, base: u64, count: u64, acts: &[Act]) {
+    if 1 <= count {
+        check_acts(rt, tables.data_pages(base, count), base, acts);
+    }
+}
+
+fn check_refused(rt: &impl Abort, plan: Result<Vec<Act>, PlanFault>, base: u64, fault: PlanFault) {
+    assert_eq!(rt; plan.err(), Some(fault), "at {base:x}");
 }
 
 fn check_fault(rt: &impl Abort, tables: &mut Tables, base: u64, end: u64, fault: PlanFault) {
     if base < end {
-        assert_eq!(rt;
-            tables.ripas_runs(base, end).err(),
-            Some(fault),
-            "at {base:x}"
-        );
+        check_refused(rt, tables.ripas_runs(base, end), base, fault);
     }
 }
 
@@ -38,12 +49,12 @@ fn check_faults(rt: &impl Abort, tables: &mut Tables, regions: &[(u64, u64)], fa
 
 fn check_data_fault(rt: &impl Abort, tables: &mut Tables, base: u64, count: u64, fault: PlanFault) {
     if 1 <= count {
-        assert_eq!(rt;
-            tables.data_pages(base, count).err(),
-            Some(fault),
-            "at {base:x}"
-        );
+        check_refused(rt, tables.data_pages(base, count), base, fault);
     }
+}
+
+fn check_walk(rt: &impl Abort, tables: &Tables, ipa: u64, level: u8) {
+    assert_eq!(rt; tables.walk_level(ipa), level, "at {ipa:x}");
 }
 
 #[test]
@@ -55,8 +66,8 @@ fn region_that_ends_past_2_mib(rt: HostRuntime) {
         run(0x4020_0000, 0x4020_1000, 3),
     ];
     check_region(&rt, &mut tables, 0x4000_0000, 0x4020_1000, &acts);
-    assert_eq!(rt; tables.walk_level(0x4020_0fff), 3);
-    assert_eq!(rt; tables.walk_level(0x4000_0000), 2);
+    check_walk(&rt, &tables, 0x4020_0fff, 3);
+    check_walk(&rt, &tables, 0x4000_0000, 2);
 }
 
 #[test]
@@ -91,7 +102,7 @@ fn blocks_of_1_gib_and_of_2_mib(rt: HostRuntime) {
 }
 
 #[test]
-fn page_in_a_large_block_then_a_second_region(rt: HostRuntime) -> Result<(), Fail> {
+fn page_in_a_large_block_then_a_second_region(rt: HostRuntime) {
     let mut tables = Tables::new(rt.alloc(), 40, 1);
     check_region(
         &rt,
@@ -100,10 +111,6 @@ fn page_in_a_large_block_then_a_second_region(rt: HostRuntime) -> Result<(), Fai
         0xc000_0000,
         &[run(0x4000_0000, 0xc000_0000, 1)],
     );
-    let page = match tables.data_pages(0x4000_0000, 1) {
-        Ok(acts) => acts,
-        Err(_) => return Err(Fail::new("no plan")),
-    };
     let acts = [
         table(0x4000_0000, 2),
         table(0x4000_0000, 3),
@@ -112,7 +119,7 @@ fn page_in_a_large_block_then_a_second_region(rt: HostRuntime) -> Result<(), Fai
             count: 1,
         },
     ];
-    assert_eq!(rt; page.as_slice(), acts.as_slice());
+    check_data(&rt, &mut tables, 0x4000_0000, 1, &acts);
     check_data_fault(&rt, &mut tables, 0x4000_0000, 2, PlanFault::DataTwice);
     check_region(
         &rt,
@@ -128,7 +135,6 @@ fn page_in_a_large_block_then_a_second_region(rt: HostRuntime) -> Result<(), Fai
         0x8000_0000,
         PlanFault::RipasTwice,
     );
-    Ok(())
 }
 
 #[test]
@@ -191,7 +197,7 @@ fn faults_in_their_order(rt: HostRuntime) {
 }
 
 #[test]
-fn entries_of_a_launch(rt: HostRuntime) -> Result<(), Fail> {
+fn entries_of_a_launch(rt: HostRuntime) {
     let mut tables = Tables::new(rt.alloc(), 48, 3);
     check_fault(
         &rt,
@@ -200,13 +206,8 @@ fn entries_of_a_launch(rt: HostRuntime) -> Result<(), Fail> {
         0x4_0000_1000,
         PlanFault::TooManyEntries,
     );
-    match tables.ripas_runs(0, 0x20_0000) {
-        Ok(acts) => {
-            let first = [table(0, 1), table(0, 2), table(0, 3), run(0, 0x20_0000, 3)];
-            assert_eq!(rt; acts.as_slice(), first.as_slice());
-        }
-        Err(_) => return Err(Fail::new("no plan")),
-    }
+    let first = [table(0, 1), table(0, 2), table(0, 3), run(0, 0x20_0000, 3)];
+    check_region(&rt, &mut tables, 0, 0x20_0000, &first);
     check_fault(
         &rt,
         &mut tables,
@@ -214,7 +215,6 @@ fn entries_of_a_launch(rt: HostRuntime) -> Result<(), Fail> {
         0x4_0000_1000,
         PlanFault::TooManyEntries,
     );
-    Ok(())
 }
 
 #[test]

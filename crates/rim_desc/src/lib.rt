@@ -20,6 +20,3 @@ pub use number::push_digits;
 pub use page::PAGE_SIZE;
 pub use realm::{RealmParams, realm_page};
 pub use rec::{AUX_LIMIT, RecParams, rec_mpidr, rec_page};
-
-#[cfg(test)]
-mod tests;

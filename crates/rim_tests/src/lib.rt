@@ -8,6 +8,8 @@ mod fakes;
 #[cfg(test)]
 mod faults;
 #[cfg(test)]
+mod headers;
+#[cfg(test)]
 mod images;
 #[cfg(test)]
 mod kinds;

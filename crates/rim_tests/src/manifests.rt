@@ -17,202 +17,166 @@ fn fault_with(alloc: Global, line: &str) -> Result<Option<ManifestFault>, Fail> 
     Ok(fault_of(alloc, text.as_str()))
 }
 
-fn check_lines(
-    rt: &(impl Abort + AllocGlobal),
-    lines: &[&str],
-    fault: Option<ManifestFault>,
-) -> Result<(), Fail> {
-    for line in lines {
-        assert_eq!(rt; fault_with(rt.alloc(), line)?, fault, "at {line}");
+const SYNTAX: Option<ManifestFault> = Some(ManifestFault::Syntax);
+
+const VERSION: Option<ManifestFault> = Some(ManifestFault::Version);
+
+const WRONG_KIND: Option<ManifestFault> = Some(ManifestFault::WrongKind);
+
+const UNKNOWN_KEY: Option<ManifestFault> = Some(ManifestFault::UnknownKey);
+
+const MISSING_KEY: Option<ManifestFault> = Some(ManifestFault::MissingKey);
+
+const LIMIT: Option<ManifestFault> = Some(ManifestFault::Limit);
+
+const RANGE: Option<ManifestFault> = Some(ManifestFault::Range);
+
+/// A text and its fault. The tables are constants: each row of an array in a body is proved where it stands.
+type Row = (&'static str, Option<ManifestFault>);
+
+/// Each line, in a manifest that is well but for it, has its fault.
+fn check_lines(rt: &(impl Abort + AllocGlobal), rows: &[Row]) -> Result<(), Fail> {
+    for (line, fault) in rows {
+        assert_eq!(rt; fault_with(rt.alloc(), line)?, *fault, "at {line}");
     }
     Ok(())
 }
 
-fn check_texts(rt: &(impl Abort + AllocGlobal), texts: &[&str], fault: Option<ManifestFault>) {
-    for text in texts {
-        assert_eq!(rt; fault_of(rt.alloc(), text), fault, "at {text}");
+/// Each text has its fault.
+fn check_texts(rt: &(impl Abort + AllocGlobal), rows: &[Row]) {
+    for (text, fault) in rows {
+        assert_eq!(rt; fault_of(rt.alloc(), text), *fault, "at {text}");
     }
 }
 
+const NO_DOCUMENTS: [Row; 4] = [
+    ("a = ", SYNTAX),
+    ("[launch", SYNTAX),
+    ("a = 1\na = 2", SYNTAX),
+    ("rim_manifest = 9223372036854775808", SYNTAX),
+];
+
 #[test]
 fn no_document(rt: HostRuntime) {
-    check_texts(
-        &rt,
-        &[
-            "a = ",
-            "[launch",
-            "a = 1\na = 2",
-            "rim_manifest = 9223372036854775808",
-        ],
-        Some(ManifestFault::Syntax),
-    );
+    check_texts(&rt, &NO_DOCUMENTS);
     for bytes in [
         b"# \xff".as_slice(),
         b"\xc3",
         b"rim_manifest = 1\n# \xed\xa0\x80",
     ] {
         let fault = read_manifest(rt.alloc(), bytes).err();
-        assert_eq!(rt; fault, Some(ManifestFault::Syntax));
+        assert_eq!(rt; fault, SYNTAX);
     }
 }
 
+const VERSIONS: [Row; 11] = [
+    ("", VERSION),
+    ("rim_manifest = 3", VERSION),
+    ("rim_manifest = 0", VERSION),
+    ("rim_manifest = -1", VERSION),
+    ("rim_manifest = \"1\"", VERSION),
+    ("rim_manifest = 1.0", VERSION),
+    ("launch = []", VERSION),
+    ("rim_manifest = [1]", VERSION),
+    ("rim_manifest = 1", None),
+    ("rim_manifest = 1\nlaunch = []", None),
+    ("rim_manifest = 0x1", None),
+];
+
 #[test]
 fn versions(rt: HostRuntime) {
-    check_texts(
-        &rt,
-        &[
-            "",
-            "rim_manifest = 3",
-            "rim_manifest = 0",
-            "rim_manifest = -1",
-            "rim_manifest = \"1\"",
-            "rim_manifest = 1.0",
-            "launch = []",
-            "rim_manifest = [1]",
-        ],
-        Some(ManifestFault::Version),
-    );
-    check_texts(
-        &rt,
-        &[
-            "rim_manifest = 1",
-            "rim_manifest = 1\nlaunch = []",
-            "rim_manifest = 0x1",
-        ],
-        None,
-    );
+    check_texts(&rt, &VERSIONS);
 }
+
+const TOPS: [Row; 12] = [
+    ("rim_manifest = 1\nlaunch = 3", WRONG_KIND),
+    ("rim_manifest = 1\nlaunch = [1]", WRONG_KIND),
+    ("rim_manifest = 1\n[launch]", WRONG_KIND),
+    ("rim_manifest = 1\nlaunch = [{}, \"a\"]", WRONG_KIND),
+    ("rim_manifest = 1\nlaunc = 3", UNKNOWN_KEY),
+    ("rim_manifest = 1\n[files]", UNKNOWN_KEY),
+    ("rim_manifest = 1\nfile = 3", LIMIT),
+    ("rim_manifest = 1\n[[file]]", LIMIT),
+    ("rim_manifest = 1\n[[launch]]", MISSING_KEY),
+    (
+        "rim_manifest = 1\n[[launch]]\nname = \"a\"\nalgo = \"sha256\"",
+        MISSING_KEY,
+    ),
+    (
+        "rim_manifest = 1\n[[launch]]\nname = \"a\"\ns2sz = 33",
+        MISSING_KEY,
+    ),
+    (
+        "rim_manifest = 1\n[[launch]]\nalgo = \"sha256\"\ns2sz = 33",
+        MISSING_KEY,
+    ),
+];
 
 #[test]
 fn kinds_at_the_top(rt: HostRuntime) {
-    check_texts(
-        &rt,
-        &[
-            "rim_manifest = 1\nlaunch = 3",
-            "rim_manifest = 1\nlaunch = [1]",
-            "rim_manifest = 1\n[launch]",
-            "rim_manifest = 1\nlaunch = [{}, \"a\"]",
-        ],
-        Some(ManifestFault::WrongKind),
-    );
-    check_texts(
-        &rt,
-        &["rim_manifest = 1\nlaunc = 3", "rim_manifest = 1\n[files]"],
-        Some(ManifestFault::UnknownKey),
-    );
-    check_texts(
-        &rt,
-        &["rim_manifest = 1\nfile = 3", "rim_manifest = 1\n[[file]]"],
-        Some(ManifestFault::Limit),
-    );
-    check_texts(
-        &rt,
-        &[
-            "rim_manifest = 1\n[[launch]]",
-            "rim_manifest = 1\n[[launch]]\nname = \"a\"\nalgo = \"sha256\"",
-            "rim_manifest = 1\n[[launch]]\nname = \"a\"\ns2sz = 33",
-            "rim_manifest = 1\n[[launch]]\nalgo = \"sha256\"\ns2sz = 33",
-        ],
-        Some(ManifestFault::MissingKey),
-    );
+    check_texts(&rt, &TOPS);
 }
+
+const LATER_KEYS: [Row; 9] = [
+    ("pool_base = 0", LIMIT),
+    ("pool_count = 1", LIMIT),
+    ("ram = []", LIMIT),
+    ("item = 3", LIMIT),
+    ("rec = []", LIMIT),
+    ("steps = \"a\"", LIMIT),
+    ("file = 3", UNKNOWN_KEY),
+    ("rec_rule = \"all\"", UNKNOWN_KEY),
+    ("Name = 1", UNKNOWN_KEY),
+];
 
 #[test]
 fn later_keys(rt: HostRuntime) -> Result<(), Fail> {
-    check_lines(
-        &rt,
-        &[
-            "pool_base = 0",
-            "pool_count = 1",
-            "ram = []",
-            "item = 3",
-            "rec = []",
-            "steps = \"a\"",
-        ],
-        Some(ManifestFault::Limit),
-    )?;
-    check_lines(
-        &rt,
-        &["file = 3", "rec_rule = \"all\"", "Name = 1"],
-        Some(ManifestFault::UnknownKey),
-    )
+    check_lines(&rt, &LATER_KEYS)
 }
+
+const WRONG_KINDS: [Row; 9] = [
+    ("sve = 1", WRONG_KIND),
+    ("pmu = \"true\"", WRONG_KIND),
+    ("sve_vl = 1.0", WRONG_KIND),
+    ("num_bps = \"1\"", WRONG_KIND),
+    ("num_wps = true", WRONG_KIND),
+    ("pmu_num_ctrs = []", WRONG_KIND),
+    ("rpv = 0", WRONG_KIND),
+    ("block_level = {}", WRONG_KIND),
+    ("num_aux = 1979-05-27", WRONG_KIND),
+];
 
 #[test]
 fn wrong_kinds(rt: HostRuntime) -> Result<(), Fail> {
-    check_lines(
-        &rt,
-        &[
-            "sve = 1",
-            "pmu = \"true\"",
-            "sve_vl = 1.0",
-            "num_bps = \"1\"",
-            "num_wps = true",
-        ],
-        Some(ManifestFault::WrongKind),
-    )?;
-    check_lines(
-        &rt,
-        &[
-            "pmu_num_ctrs = []",
-            "rpv = 0",
-            "block_level = {}",
-            "num_aux = 1979-05-27",
-        ],
-        Some(ManifestFault::WrongKind),
-    )
+    check_lines(&rt, &WRONG_KINDS)
 }
 
-#[test]
-fn good_values(rt: HostRuntime) -> Result<(), Fail> {
-    check_lines(
-        &rt,
-        &[
-            "sve = true",
-            "pmu = false",
-            "sve_vl = 255",
-            "num_bps = 0",
-            "num_wps = 255",
-            "pmu_num_ctrs = 255",
-        ],
-        None,
-    )?;
-    check_lines(
-        &rt,
-        &[
-            "block_level = 0",
-            "block_level = 3",
-            "num_aux = 0",
-            "num_aux = 16",
-            "# a comment",
-        ],
-        None,
-    )
-}
+const VALUES: [Row; 20] = [
+    ("sve = true", None),
+    ("pmu = false", None),
+    ("sve_vl = 255", None),
+    ("num_bps = 0", None),
+    ("num_wps = 255", None),
+    ("pmu_num_ctrs = 255", None),
+    ("block_level = 0", None),
+    ("block_level = 3", None),
+    ("num_aux = 0", None),
+    ("num_aux = 16", None),
+    ("# a comment", None),
+    ("sve_vl = 256", RANGE),
+    ("sve_vl = -1", RANGE),
+    ("num_bps = 256", RANGE),
+    ("num_wps = 256", RANGE),
+    ("pmu_num_ctrs = 256", RANGE),
+    ("block_level = 4", RANGE),
+    ("block_level = -1", RANGE),
+    ("num_aux = 17", RANGE),
+    ("rpv = \"00\"", RANGE),
+];
 
 #[test]
-fn values_past_their_range(rt: HostRuntime) -> Result<(), Fail> {
-    check_lines(
-        &rt,
-        &[
-            "sve_vl = 256",
-            "sve_vl = -1",
-            "num_bps = 256",
-            "num_wps = 256",
-            "pmu_num_ctrs = 256",
-        ],
-        Some(ManifestFault::Range),
-    )?;
-    check_lines(
-        &rt,
-        &[
-            "block_level = 4",
-            "block_level = -1",
-            "num_aux = 17",
-            "rpv = \"00\"",
-        ],
-        Some(ManifestFault::Range),
-    )
+fn values_at_their_ends_and_past_them(rt: HostRuntime) -> Result<(), Fail> {
+    check_lines(&rt, &VALUES)
 }
 
 /// The fault of a manifest of one launch that has these lines alone.
@@ -230,56 +194,71 @@ fn letters(alloc: Global, count: usize) -> Result<String, Fail> {
     Ok(text)
 }
 
+const WIDTHS: [Row; 6] = [
+    ("31", RANGE),
+    ("32", None),
+    ("48", None),
+    ("49", RANGE),
+    ("-33", RANGE),
+    ("\"33\"", WRONG_KIND),
+];
+
 #[test]
-fn required_values(rt: HostRuntime) -> Result<(), Fail> {
-    for (s2sz, fault) in [
-        ("31", Some(ManifestFault::Range)),
-        ("32", None),
-        ("48", None),
-        ("49", Some(ManifestFault::Range)),
-        ("-33", Some(ManifestFault::Range)),
-        ("\"33\"", Some(ManifestFault::WrongKind)),
-    ] {
+fn widths(rt: HostRuntime) -> Result<(), Fail> {
+    for (s2sz, fault) in &WIDTHS {
         let lines = format!(in rt.alloc(); "name = \"a\"\nalgo = \"sha512\"\ns2sz = {s2sz}")?;
-        assert_eq!(rt;
-            fault_of_launch(rt.alloc(), lines.as_str())?,
-            fault,
-            "s2sz {s2sz}"
-        );
+        let found = fault_of_launch(rt.alloc(), lines.as_str())?;
+        assert_eq!(rt; found, *fault, "s2sz {s2sz}");
     }
-    for (algo, fault) in [
-        ("\"sha384\"", Some(ManifestFault::Range)),
-        ("\"SHA256\"", Some(ManifestFault::Range)),
-        ("0", Some(ManifestFault::WrongKind)),
-    ] {
+    Ok(())
+}
+
+const ALGORITHMS: [Row; 3] = [
+    ("\"sha384\"", RANGE),
+    ("\"SHA256\"", RANGE),
+    ("0", WRONG_KIND),
+];
+
+#[test]
+fn algorithms(rt: HostRuntime) -> Result<(), Fail> {
+    for (algo, fault) in &ALGORITHMS {
         let lines = format!(in rt.alloc(); "name = \"a\"\nalgo = {algo}\ns2sz = 33")?;
-        assert_eq!(rt;
-            fault_of_launch(rt.alloc(), lines.as_str())?,
-            fault,
-            "algo {algo}"
-        );
+        let found = fault_of_launch(rt.alloc(), lines.as_str())?;
+        assert_eq!(rt; found, *fault, "algo {algo}");
+    }
+    Ok(())
+}
+
+/// The fault of a launch of this name.
+fn fault_of_name(alloc: Global, name: &str) -> Result<Option<ManifestFault>, Fail> {
+    let lines = format!(in alloc; "name = \"{name}\"\nalgo = \"sha256\"\ns2sz = 33")?;
+    fault_of_launch(alloc, lines.as_str())
+}
+
+const NAMES: [Row; 5] = [
+    ("", RANGE),
+    ("A-z_0.9", None),
+    ("a b", RANGE),
+    ("a/b", RANGE),
+    ("\u{e4}", RANGE),
+];
+
+#[test]
+fn names(rt: HostRuntime) -> Result<(), Fail> {
+    for (name, fault) in &NAMES {
+        assert_eq!(rt; fault_of_name(rt.alloc(), name)?, *fault, "name {name}");
     }
     Ok(())
 }
 
 #[test]
-fn names(rt: HostRuntime) -> Result<(), Fail> {
-    let longest = letters(rt.alloc(), 64)?;
-    let longer = letters(rt.alloc(), 65)?;
-    for (name, fault) in [
-        ("", Some(ManifestFault::Range)),
-        ("A-z_0.9", None),
-        ("a b", Some(ManifestFault::Range)),
-        ("a/b", Some(ManifestFault::Range)),
-        ("\u{e4}", Some(ManifestFault::Range)),
-        (longest.as_str(), None),
-        (longer.as_str(), Some(ManifestFault::Range)),
-    ] {
-        let lines = format!(in rt.alloc(); "name = \"{name}\"\nalgo = \"sha256\"\ns2sz = 33")?;
+fn longest_name(rt: HostRuntime) -> Result<(), Fail> {
+    for (count, fault) in [(64, None), (65, RANGE)] {
+        let name = letters(rt.alloc(), count)?;
         assert_eq!(rt;
-            fault_of_launch(rt.alloc(), lines.as_str())?,
+            fault_of_name(rt.alloc(), name.as_str())?,
             fault,
-            "name {name}"
+            "{count} letters"
         );
     }
     Ok(())
@@ -292,21 +271,15 @@ fn fault_of_digits(alloc: Global, count: usize, last: &str) -> Result<Option<Man
     fault_with(alloc, line.as_str())
 }
 
+/// What stands behind 126 digits, and the fault.
+const ENDS: [Row; 4] = [("Fa", None), ("F", RANGE), ("Fab", RANGE), ("Fg", RANGE)];
+
 #[test]
 fn personalization_values(rt: HostRuntime) -> Result<(), Fail> {
-    assert_eq!(rt; fault_of_digits(rt.alloc(), 126, "Fa")?, None);
-    assert_eq!(rt;
-        fault_of_digits(rt.alloc(), 126, "F")?,
-        Some(ManifestFault::Range)
-    );
-    assert_eq!(rt;
-        fault_of_digits(rt.alloc(), 126, "Fab")?,
-        Some(ManifestFault::Range)
-    );
-    assert_eq!(rt;
-        fault_of_digits(rt.alloc(), 126, "Fg")?,
-        Some(ManifestFault::Range)
-    );
+    for (end, fault) in &ENDS {
+        let found = fault_of_digits(rt.alloc(), 126, end)?;
+        assert_eq!(rt; found, *fault, "ends in {end}");
+    }
     Ok(())
 }
 
@@ -330,47 +303,39 @@ fn how_many_launches(rt: HostRuntime) -> Result<(), Fail> {
     assert_eq!(rt; release.launch_named("n1023"), Some(1023));
     assert_eq!(rt; release.launch_named("n1024"), None);
     let more = many(rt.alloc(), 1025)?;
-    assert_eq!(rt;
-        fault_of(rt.alloc(), more.as_str()),
-        Some(ManifestFault::Limit)
-    );
+    assert_eq!(rt; fault_of(rt.alloc(), more.as_str()), LIMIT);
     Ok(())
 }
 
-/// The lower of two faults is answered, in whatever order they stand.
-fn check_both_orders(
-    rt: &(impl Abort + AllocGlobal),
-    first: &str,
-    second: &str,
-    fault: ManifestFault,
-) -> Result<(), Fail> {
-    let forth = format!(in rt.alloc(); "{first}\n{second}")?;
-    let back = format!(in rt.alloc(); "{second}\n{first}")?;
-    assert_eq!(rt;
-        fault_with(rt.alloc(), forth.as_str())?,
-        Some(fault),
-        "{first}, {second}"
-    );
-    assert_eq!(rt;
-        fault_with(rt.alloc(), back.as_str())?,
-        Some(fault),
-        "{second}, {first}"
-    );
-    Ok(())
+/// Two lines, and the lower of their faults.
+const PAIRS: [(&str, &str, Option<ManifestFault>); 4] = [
+    ("sve = 1", "other = 1", WRONG_KIND),
+    ("other = 1", "num_aux = 17", UNKNOWN_KEY),
+    ("num_aux = 17", "item = 1", LIMIT),
+    ("item = 1", "sve = 1", WRONG_KIND),
+];
+
+/// The fault of these lines, one behind the other.
+fn fault_of_both(alloc: Global, first: &str, second: &str) -> Result<Option<ManifestFault>, Fail> {
+    let lines = format!(in alloc; "{first}\n{second}")?;
+    fault_with(alloc, lines.as_str())
 }
 
 #[test]
 fn two_faults_at_once(rt: HostRuntime) -> Result<(), Fail> {
-    check_both_orders(&rt, "sve = 1", "other = 1", ManifestFault::WrongKind)?;
-    check_both_orders(&rt, "other = 1", "num_aux = 17", ManifestFault::UnknownKey)?;
-    check_both_orders(&rt, "num_aux = 17", "item = 1", ManifestFault::Limit)?;
-    check_both_orders(&rt, "item = 1", "sve = 1", ManifestFault::WrongKind)?;
+    for (first, second, fault) in &PAIRS {
+        let forth = fault_of_both(rt.alloc(), first, second)?;
+        let back = fault_of_both(rt.alloc(), second, first)?;
+        assert_eq!(rt; (forth, back), (*fault, *fault), "{first}, {second}");
+    }
+    Ok(())
+}
+
+#[test]
+fn two_launches_of_one_name(rt: HostRuntime) -> Result<(), Fail> {
     let two = "[[launch]]\nname = \"a\"\nalgo = \"sha256\"\ns2sz = 33\n";
-    assert_eq!(rt; fault_with(rt.alloc(), two)?, Some(ManifestFault::TwoNames));
-    let after = format!(in rt.alloc(); "num_aux = 17\n{two}")?;
-    assert_eq!(rt;
-        fault_with(rt.alloc(), after.as_str())?,
-        Some(ManifestFault::Range)
-    );
+    let names = fault_with(rt.alloc(), two)?;
+    let range = fault_of_both(rt.alloc(), "num_aux = 17", two)?;
+    assert_eq!(rt; (names, range), (Some(ManifestFault::TwoNames), RANGE));
     Ok(())
 }

@@ -1,5 +1,6 @@
 //! Each check of each command at its edge, with the next check holding too where both can.
-use crate::worked::{created, take_all, worked_params};
+use crate::checks::{check_answer, check_owner_count, check_rim, take_all};
+use crate::worked::{created, worked_params};
 use rim_desc::{Command, Measurement, RealmParams, RecParams};
 use rmm_model::Refused;
 use rmm_monitor::Monitor;
@@ -22,9 +23,9 @@ const ODD: u64 = 0x9_0000_0800;
 fn refuse(rt: &impl Abort, monitor: &mut Monitor, command: &Command, refused: Refused) {
     let owners = monitor.owner_count();
     let rim = monitor.rim();
-    assert_eq!(rt; monitor.apply(command), Err(refused), "{command:?}");
-    assert_eq!(rt; monitor.owner_count(), owners);
-    assert_eq!(rt; monitor.rim(), rim);
+    check_answer(rt, monitor, command, Err(refused));
+    check_owner_count(rt, monitor, owners);
+    check_rim(rt, monitor, rim);
 }
 
 /// Offers commands, each of which is to be refused so.
@@ -434,7 +435,7 @@ fn activate_row(rt: HostRuntime) {
     let mut monitor = created(&rt, rt.alloc());
     let rim = monitor.rim();
     take_all(&rt, &mut monitor, &[Command::Activate]);
-    assert_eq!(rt; monitor.rim(), rim);
+    check_rim(&rt, &monitor, rim);
     refuse_all(
         &rt,
         &mut monitor,

@@ -1,5 +1,6 @@
 //! Whole lists of commands. The measurements are those of Python's hashlib over pages and descriptors
 //! that were laid out by hand.
+use crate::checks::{check_answer, check_owner, check_owner_count, check_rim, take_all};
 use rim_desc::{Algo, Command, Measurement, RealmParams, RecParams};
 use rmm_model::{Kind, Refused};
 use rmm_monitor::Monitor;
@@ -103,13 +104,6 @@ fn filling() -> [Command; 8] {
     ]
 }
 
-/// Applies commands, all of which are to be taken.
-pub fn take_all(rt: &impl Abort, monitor: &mut Monitor, commands: &[Command]) {
-    for command in commands {
-        assert_eq!(rt; monitor.apply(command), Ok(()), "{command:?}");
-    }
-}
-
 /// The worked realm, created.
 pub fn created(rt: &impl Abort, alloc: Global) -> Monitor {
     let mut monitor = Monitor::new(alloc, 2);
@@ -120,12 +114,12 @@ pub fn created(rt: &impl Abort, alloc: Global) -> Monitor {
 #[test]
 fn worked_list_is_taken(rt: HostRuntime) {
     let mut monitor = Monitor::new(rt.alloc(), 0);
-    assert_eq!(rt; monitor.rim(), None);
+    check_rim(&rt, &monitor, None);
     take_all(&rt, &mut monitor, &creation());
-    assert_eq!(rt; monitor.rim(), Some(Measurement { bytes: CREATED }));
+    check_rim(&rt, &monitor, Some(Measurement { bytes: CREATED }));
     take_all(&rt, &mut monitor, &filling());
-    assert_eq!(rt; monitor.rim(), Some(Measurement { bytes: WORKED }));
-    assert_eq!(rt; monitor.owner_count(), 6);
+    check_rim(&rt, &monitor, Some(Measurement { bytes: WORKED }));
+    check_owner_count(&rt, &monitor, 6);
     let kinds = [
         Kind::Rtt,
         Kind::Rtt,
@@ -135,12 +129,14 @@ fn worked_list_is_taken(rt: HostRuntime) {
         Kind::DataPage,
     ];
     for (index, kind) in kinds.iter().enumerate() {
-        assert_eq!(rt;
-            monitor.owner(0x8_0000_0000 + 4096 * index as u64),
-            Some(*kind)
+        check_owner(
+            &rt,
+            &monitor,
+            0x8_0000_0000 + 4096 * index as u64,
+            Some(*kind),
         );
     }
-    assert_eq!(rt; monitor.owner(0x8_0000_6000), None);
+    check_owner(&rt, &monitor, 0x8_0000_6000, None);
 }
 
 #[test]
@@ -150,9 +146,14 @@ fn level_3_before_level_2(rt: HostRuntime) {
     let (first, rest) = filling.as_slice().split_at(2);
     take_all(&rt, &mut monitor, &creation());
     take_all(&rt, &mut monitor, first);
-    assert_eq!(rt; monitor.apply(&table_of_level_3()), Err(Refused::WalkLevel));
+    check_answer(
+        &rt,
+        &mut monitor,
+        &table_of_level_3(),
+        Err(Refused::WalkLevel),
+    );
     take_all(&rt, &mut monitor, rest);
-    assert_eq!(rt; monitor.rim(), Some(Measurement { bytes: WORKED }));
+    check_rim(&rt, &monitor, Some(Measurement { bytes: WORKED }));
 }
 
 #[test]
@@ -164,15 +165,15 @@ fn granules_have_one_owner(rt: HostRuntime) {
     let again = Command::Delegate {
         granule: 0x8_0000_4000,
     };
-    assert_eq!(rt; monitor.apply(&again), Err(Refused::NotUndelegated));
+    check_answer(&rt, &mut monitor, &again, Err(Refused::NotUndelegated));
     let in_table = Command::DataCreate {
         granule: 0x8_0000_4000,
         ipa: 0x4000_0000,
         content: None,
     };
-    assert_eq!(rt; monitor.apply(&in_table), Err(Refused::NotDelegated));
-    assert_eq!(rt; monitor.owner(0x8_0000_4000), Some(Kind::Rtt));
-    assert_eq!(rt; monitor.owner_count(), 5);
+    check_answer(&rt, &mut monitor, &in_table, Err(Refused::NotDelegated));
+    check_owner(&rt, &monitor, 0x8_0000_4000, Some(Kind::Rtt));
+    check_owner_count(&rt, &monitor, 5);
 }
 
 #[test]
@@ -225,9 +226,9 @@ fn sha512_with_data_and_rec(rt: HostRuntime) {
         Command::Activate,
     ];
     take_all(&rt, &mut monitor, &commands);
-    assert_eq!(rt; monitor.rim(), Some(Measurement { bytes: MIXED }));
-    assert_eq!(rt; monitor.owner(0x10_b000), Some(Kind::Rec));
-    assert_eq!(rt; monitor.owner(0x10_c000), Some(Kind::RecAux));
+    check_rim(&rt, &monitor, Some(Measurement { bytes: MIXED }));
+    check_owner(&rt, &monitor, 0x10_b000, Some(Kind::Rec));
+    check_owner(&rt, &monitor, 0x10_c000, Some(Kind::RecAux));
 }
 
 /// Applies commands, each of which changes nothing where it wants memory, and is taken at the next try.
@@ -236,9 +237,9 @@ fn retry_all(rt: &impl Abort, monitor: &mut Monitor, commands: &[Command]) {
         let rim = monitor.rim();
         let owners = monitor.owner_count();
         if monitor.apply(command) == Err(Refused::NoMemory) {
-            assert_eq!(rt; monitor.rim(), rim);
-            assert_eq!(rt; monitor.owner_count(), owners);
-            assert_eq!(rt; monitor.apply(command), Ok(()), "{command:?}");
+            check_rim(rt, monitor, rim);
+            check_owner_count(rt, monitor, owners);
+            check_answer(rt, monitor, command, Ok(()));
         }
     }
 }
@@ -249,6 +250,6 @@ fn refused_growth_changes_nothing(rt: HostRuntime) {
     let mut monitor = Monitor::new(rt.alloc(), 0);
     retry_all(&rt, &mut monitor, &creation());
     retry_all(&rt, &mut monitor, &filling());
-    assert_eq!(rt; monitor.rim(), Some(Measurement { bytes: WORKED }));
-    assert_eq!(rt; monitor.owner_count(), 6);
+    check_rim(&rt, &monitor, Some(Measurement { bytes: WORKED }));
+    check_owner_count(&rt, &monitor, 6);
 }

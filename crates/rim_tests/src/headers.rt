@@ -1,4 +1,5 @@
-use super::*;
+//! The header of an Image as it is read, laid out by hand from booting.rst.
+use arm64_image::{Header, ImageFault, read};
 use std::test::Fail;
 
 // A header as a distribution's kernel carries it: `MZ` and a branch, text_offset 0, image_size

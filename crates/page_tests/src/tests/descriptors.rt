@@ -1,5 +1,5 @@
 //! Values from outside: pages and descriptors laid out by hand in Python, their digests by its hashlib.
-use crate::{
+use rim_desc::{
     Algo, Measurement, RealmParams, RecParams, data_descriptor, extend, hash, push_digits,
     realm_page, rec_descriptor, rec_mpidr, rec_page, ripas_descriptor,
 };
