@@ -1,5 +1,5 @@
 //! Devicetrees as they are shown, written out by hand from the Devicetree Specification, chapter 5.
-use crate::fakes::ran_on;
+use crate::fakes::{check, ran_on};
 use rim_release::{ShowFault, show_fdt};
 use std::test::Fail;
 
@@ -38,41 +38,44 @@ const NESTED: [u8; 155] = [
     0, 0, 2, 0, 0, 0, 2, 0, 0, 0, 9, 0x78, 0x61, 0,
 ];
 
+const WORDS: [&str; 3] = ["rim", "fdt", "manifest.toml"];
+
+/// Files, and what is shown of them.
+const SHOWN: [(&[u8], &str); 3] = [
+    (
+        &CHOSEN,
+        "boot_cpu 0\nnode /\nnode /chosen\nprop bootargs 717569657400\n",
+    ),
+    (&SUFFIX, "boot_cpu 0\nnode /\nprop reg\n"),
+    (
+        &NESTED,
+        "boot_cpu 7\nreserve 0000000080000000 0000000000010000\nnode /\nprop a ff\nnode /b@1\nnode /b@1/c\nprop xa\nnode /d\n",
+    ),
+];
+
 #[test]
 fn shown(rt: HostRuntime) {
-    let cases: [(&'static [u8], &str); 3] = [
-        (
-            &CHOSEN,
-            "boot_cpu 0\nnode /\nnode /chosen\nprop bootargs 717569657400\n",
-        ),
-        (&SUFFIX, "boot_cpu 0\nnode /\nprop reg\n"),
-        (
-            &NESTED,
-            "boot_cpu 7\nreserve 0000000080000000 0000000000010000\nnode /\nprop a ff\nnode /b@1\nnode /b@1/c\nprop xa\nnode /d\n",
-        ),
-    ];
-    for (bytes, text) in cases {
-        let ran = ran_on(rt.alloc(), &["rim", "fdt", "manifest.toml"], bytes);
-        assert_eq!(rt; ran.status, 0);
-        assert_eq!(rt; ran.err.len(), 0);
-        assert_eq!(rt; ran.out.as_slice(), text.as_bytes());
+    for (bytes, text) in &SHOWN {
+        let ran = ran_on(rt.alloc(), &WORDS, bytes);
+        check(&rt, &ran, 0, text.as_bytes(), b"");
     }
 }
 
+/// Files that are no devicetree, and what is said of them.
+const REFUSED: [(&[u8], &str); 3] = [
+    (&LATE, "rim: dtb-late-property\n"),
+    (&[], "rim: dtb-short\n"),
+    (&[0; 40], "rim: dtb-bad-magic\n"),
+];
+
 #[test]
 fn no_devicetree(rt: HostRuntime) {
-    let cases: [(&'static [u8], &str); 4] = [
-        (&LATE, "rim: dtb-late-property\n"),
-        (&[], "rim: dtb-short\n"),
-        (&[0; 40], "rim: dtb-bad-magic\n"),
-        (&CHOSEN[..116], "rim: dtb-bad-block\n"),
-    ];
-    for (bytes, text) in cases {
-        let ran = ran_on(rt.alloc(), &["rim", "fdt", "manifest.toml"], bytes);
-        assert_eq!(rt; ran.status, 3);
-        assert_eq!(rt; ran.err.as_slice(), text.as_bytes());
-        assert_eq!(rt; ran.out.len(), 0);
+    for (bytes, text) in &REFUSED {
+        let ran = ran_on(rt.alloc(), &WORDS, bytes);
+        check(&rt, &ran, 3, b"", text.as_bytes());
     }
+    let ran = ran_on(rt.alloc(), &WORDS, &CHOSEN[..116]);
+    check(&rt, &ran, 3, b"", b"rim: dtb-bad-block\n");
 }
 
 #[test]

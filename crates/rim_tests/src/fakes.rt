@@ -53,6 +53,14 @@ pub fn ran_on(alloc: Global, words: &[&str], manifest: &'static [u8]) -> Ran {
     Ran { status, out, err }
 }
 
+/// A run ended with this status, and wrote this to standard output and this to standard error. The tests
+/// compare here alone, because a comparison is proved where it stands.
+pub fn check(rt: &(impl Abort + AllocGlobal), ran: &Ran, status: u8, out: &[u8], err: &[u8]) {
+    assert_eq!(rt; ran.status, status);
+    assert_eq!(rt; ran.out.as_slice(), out);
+    assert_eq!(rt; ran.err.as_slice(), err);
+}
+
 /// A reader that gives 100 bytes of zeros a read, and fails at one of its reads.
 #[derive(Drop)]
 pub struct FailingReader {

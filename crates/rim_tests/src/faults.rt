@@ -1,136 +1,112 @@
 //! Faults: one line on standard error, nothing on standard output, and their exit status.
 use super::fakes::{
-    EndlessFiles, FailingFiles, FailingFlush, FailingWriter, InterruptedFiles, OneFile, SMALLEST,
-    SMALLEST_REPORT, ran_on,
+    EndlessFiles, FailingFiles, FailingFlush, FailingWriter, InterruptedFiles, OneFile, Ran,
+    SMALLEST, SMALLEST_REPORT, check, ran_on,
 };
 use rim_cli::{Opener, run};
 use std::alloc::Global;
+use std::io::Write;
 
-/// The status and the standard error of a run over some files, which is to write nothing.
-fn faulty<O: Opener>(alloc: Global, opener: &mut O) -> (u8, Vec<u8>, usize) {
+const MEASURE: [&str; 3] = ["rim", "measure", "manifest.toml"];
+
+const OTHER: [&str; 3] = ["rim", "measure", "other.toml"];
+
+const UNREADABLE: &[u8] = b"rim: file-unreadable\n";
+
+const OUTPUT_FAILED: &[u8] = b"rim: output-failed\n";
+
+/// A run over some files.
+fn ran_over<O: Opener>(alloc: Global, opener: &mut O) -> Ran {
     let mut out = Vec::new(alloc);
     let mut err = Vec::new(alloc);
-    let words = ["rim", "measure", "manifest.toml"];
-    let status = run(&(), alloc, words.as_slice(), opener, &mut out, &mut err);
-    (status, err, out.len())
+    let status = run(&(), alloc, &MEASURE, opener, &mut out, &mut err);
+    Ran { status, out, err }
+}
+
+/// A run that writes to this; what it wrote is not looked at.
+fn ran_to<W: Write>(alloc: Global, words: &[&str], out: &mut W) -> Ran {
+    let mut err = Vec::new(alloc);
+    let status = run(&(), alloc, words, &mut OneFile(SMALLEST), out, &mut err);
+    Ran {
+        status,
+        out: Vec::new(alloc),
+        err,
+    }
 }
 
 #[test]
 fn manifest_faults(rt: HostRuntime) {
-    let ran = ran_on(
-        rt.alloc(),
-        &["rim", "measure", "manifest.toml"],
-        b"rim_manifest = 3".as_slice(),
-    );
-    assert_eq!(rt; ran.status, 3);
-    assert_eq!(rt; ran.err.as_slice(), b"rim: version\n".as_slice());
-    assert_eq!(rt; ran.out.len(), 0);
+    let ran = ran_on(rt.alloc(), &MEASURE, b"rim_manifest = 3");
+    check(&rt, &ran, 3, b"", b"rim: version\n");
 }
 
 #[test]
 fn missing_file(rt: HostRuntime) {
-    let ran = ran_on(rt.alloc(), &["rim", "measure", "other.toml"], SMALLEST);
-    assert_eq!(rt; ran.status, 3);
-    assert_eq!(rt; ran.err.as_slice(), b"rim: file-unreadable\n".as_slice());
-    assert_eq!(rt; ran.out.len(), 0);
+    let ran = ran_on(rt.alloc(), &OTHER, SMALLEST);
+    check(&rt, &ran, 3, b"", UNREADABLE);
 }
 
 #[test]
 fn failing_reader(rt: HostRuntime) {
     for reads in 0..4u8 {
-        let (status, err, written) = faulty(rt.alloc(), &mut FailingFiles(reads));
-        assert_eq!(rt; status, 3, "after {reads} reads");
-        assert_eq!(rt; err.as_slice(), b"rim: file-unreadable\n".as_slice());
-        assert_eq!(rt; written, 0);
+        let ran = ran_over(rt.alloc(), &mut FailingFiles(reads));
+        check(&rt, &ran, 3, b"", UNREADABLE);
     }
 }
 
 #[test]
 fn interrupted_reader(rt: HostRuntime) {
-    let (status, err, _) = faulty(rt.alloc(), &mut InterruptedFiles(1023));
-    assert_eq!(rt; status, 0);
-    assert_eq!(rt; err.len(), 0);
-    let (status, err, written) = faulty(rt.alloc(), &mut InterruptedFiles(u32::MAX));
-    assert_eq!(rt; status, 3);
-    assert_eq!(rt; err.as_slice(), b"rim: file-unreadable\n".as_slice());
-    assert_eq!(rt; written, 0);
+    let ran = ran_over(rt.alloc(), &mut InterruptedFiles(1023));
+    check(&rt, &ran, 0, SMALLEST_REPORT, b"");
+    let ran = ran_over(rt.alloc(), &mut InterruptedFiles(u32::MAX));
+    check(&rt, &ran, 3, b"", UNREADABLE);
 }
 
 #[test]
 fn endless_reader(rt: HostRuntime) {
-    let (status, err, written) = faulty(rt.alloc(), &mut EndlessFiles);
-    assert_eq!(rt; status, 3);
-    assert_eq!(rt; err.as_slice(), b"rim: file-too-large\n".as_slice());
-    assert_eq!(rt; written, 0);
+    let ran = ran_over(rt.alloc(), &mut EndlessFiles);
+    check(&rt, &ran, 3, b"", b"rim: file-too-large\n");
 }
 
 #[test]
 fn failing_output(rt: HostRuntime) {
-    let words = ["rim", "measure", "manifest.toml"];
     let needed = (SMALLEST_REPORT.len() / 10 + 1) as u8;
     for writes in 0..needed {
-        let mut err = Vec::new(rt.alloc());
         let mut out = FailingWriter {
             writes_left: writes,
         };
-        let status = run(
-            &(),
-            rt.alloc(),
-            words.as_slice(),
-            &mut OneFile(SMALLEST),
-            &mut out,
-            &mut err,
-        );
-        assert_eq!(rt; status, 3, "after {writes} writes");
-        assert_eq!(rt; err.as_slice(), b"rim: output-failed\n".as_slice());
+        let ran = ran_to(rt.alloc(), &MEASURE, &mut out);
+        check(&rt, &ran, 3, b"", OUTPUT_FAILED);
     }
-    let mut err = Vec::new(rt.alloc());
-    let status = run(
-        &(),
-        rt.alloc(),
-        words.as_slice(),
-        &mut OneFile(SMALLEST),
-        &mut FailingFlush,
-        &mut err,
-    );
-    assert_eq!(rt; status, 3);
-    assert_eq!(rt; err.as_slice(), b"rim: output-failed\n".as_slice());
+}
+
+#[test]
+fn failing_flush(rt: HostRuntime) {
+    let ran = ran_to(rt.alloc(), &MEASURE, &mut FailingFlush);
+    check(&rt, &ran, 3, b"", OUTPUT_FAILED);
 }
 
 #[test]
 fn failing_help(rt: HostRuntime) {
-    let mut err = Vec::new(rt.alloc());
     let mut out = FailingWriter { writes_left: 2 };
-    let words = ["rim", "--help"];
-    let status = run(
-        &(),
-        rt.alloc(),
-        words.as_slice(),
-        &mut OneFile(SMALLEST),
-        &mut out,
-        &mut err,
-    );
-    assert_eq!(rt; status, 3);
-    assert_eq!(rt; err.as_slice(), b"rim: output-failed\n".as_slice());
+    let ran = ran_to(rt.alloc(), &["rim", "--help"], &mut out);
+    check(&rt, &ran, 3, b"", OUTPUT_FAILED);
 }
 
 #[test]
 fn failing_standard_error(rt: HostRuntime) {
-    let words = ["rim", "measure", "other.toml"];
     for writes in 0..2u8 {
         let mut out = Vec::new(rt.alloc());
         let mut err = FailingWriter {
             writes_left: writes,
         };
-        let status = run(
-            &(),
-            rt.alloc(),
-            words.as_slice(),
-            &mut OneFile(SMALLEST),
-            &mut out,
-            &mut err,
-        );
-        assert_eq!(rt; status, 3);
-        assert_eq!(rt; out.len(), 0);
+        let opener = &mut OneFile(SMALLEST);
+        let status = run(&(), rt.alloc(), &OTHER, opener, &mut out, &mut err);
+        let ran = Ran {
+            status,
+            out,
+            err: Vec::new(rt.alloc()),
+        };
+        check(&rt, &ran, 3, b"", b"");
     }
 }

@@ -1,5 +1,5 @@
 //! The header of an Image as it is shown, laid out by hand from booting.rst.
-use crate::fakes::ran_on;
+use crate::fakes::{check, ran_on};
 use rim_release::{ShowFault, show_image};
 use std::test::Fail;
 
@@ -10,15 +10,14 @@ const KERNEL: [u8; 64] = [
     0, 0, 0, 0x41, 0x52, 0x4d, 0x64, 0x40, 0, 0, 0,
 ];
 
+const WORDS: [&str; 3] = ["rim", "image", "manifest.toml"];
+
 #[test]
-fn kernel(rt: HostRuntime) -> Result<(), Fail> {
-    let ran = ran_on(rt.alloc(), &["rim", "image", "manifest.toml"], &KERNEL);
-    assert_eq!(rt; ran.status, 0);
-    assert_eq!(rt; ran.err.len(), 0);
+fn kernel(rt: HostRuntime) {
+    let ran = ran_on(rt.alloc(), &WORDS, &KERNEL);
     let expected =
-        "text_offset 0000000000000000\nimage_size 00000000029f0000\nflags 000000000000000a\nload_offset 0000000000000000\nextent 00000000029f0000\n";
-    assert_eq!(rt; ran.out.as_slice(), expected.as_bytes());
-    Ok(())
+        b"text_offset 0000000000000000\nimage_size 00000000029f0000\nflags 000000000000000a\nload_offset 0000000000000000\nextent 00000000029f0000\n";
+    check(&rt, &ran, 0, expected, b"");
 }
 
 #[test]
@@ -34,25 +33,21 @@ fn size_not_stated(rt: HostRuntime) -> Result<(), Fail> {
 }
 
 #[test]
-fn no_image(rt: HostRuntime) -> Result<(), Fail> {
-    let short = ran_on(
-        rt.alloc(),
-        &["rim", "image", "manifest.toml"],
-        &KERNEL[..63],
-    );
-    assert_eq!(rt; short.status, 3);
-    assert_eq!(rt; short.err.as_slice(), b"rim: kernel-short\n".as_slice());
-    assert_eq!(rt; short.out.len(), 0);
-    let other = ran_on(rt.alloc(), &["rim", "image", "manifest.toml"], &[0; 64]);
-    assert_eq!(rt; other.status, 3);
-    assert_eq!(rt; other.err.as_slice(), b"rim: kernel-bad-magic\n".as_slice());
-    let faults = [
-        show_image(rt.alloc(), b"").err(),
-        show_image(rt.alloc(), &[0; 65]).err(),
-    ];
-    for fault in faults {
-        let shown = format!(in rt.alloc(); "{}", fault.unwrap_or(ShowFault::NoMemory))?;
-        assert_eq!(rt; shown.as_str(), fault.unwrap_or(ShowFault::NoMemory).kind());
+fn no_image(rt: HostRuntime) {
+    let short = ran_on(rt.alloc(), &WORDS, &KERNEL[..63]);
+    check(&rt, &short, 3, b"", b"rim: kernel-short\n");
+    let other = ran_on(rt.alloc(), &WORDS, &[0; 64]);
+    check(&rt, &other, 3, b"", b"rim: kernel-bad-magic\n");
+}
+
+#[test]
+fn words_of_the_faults(rt: HostRuntime) -> Result<(), Fail> {
+    for bytes in [b"".as_slice(), &[0; 65]] {
+        let fault = show_image(rt.alloc(), bytes)
+            .err()
+            .unwrap_or(ShowFault::NoMemory);
+        let shown = format!(in rt.alloc(); "{fault}")?;
+        assert_eq!(rt; shown.as_str(), fault.kind());
     }
     Ok(())
 }
