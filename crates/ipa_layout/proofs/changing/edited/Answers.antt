@@ -2,7 +2,6 @@ use Rattle.std.proofs.Common.{rules}
 use Rattle.ipa_layout.specs.Changes.{edited}
 use Rattle.ipa_layout.proofs.changing.edited.Goals as goal
 
--- the one tactic that proves it, so that a wrong body is refused at once
 pub returns-in_err-tree : goal.returns-in_err-tree
 unfolding edited
 returns-in_err-tree c = search rules

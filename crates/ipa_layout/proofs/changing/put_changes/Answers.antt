@@ -1,7 +1,6 @@
 use Rattle.std.proofs.Common.{rules}
 use Rattle.ipa_layout.proofs.changing.put_changes.Goals as goal
 
--- the one tactic that proves it, so that a wrong body is refused at once
 pub returns-in_err-put_bootargs : goal.returns-in_err-put_bootargs
 returns-in_err-put_bootargs c = search rules
 

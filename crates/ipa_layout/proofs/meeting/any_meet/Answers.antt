@@ -2,7 +2,6 @@ use Rattle.std.proofs.Common.{arith, rules}
 use Rattle.std.proofs.lemmas.Grind.{common_steps}
 use Rattle.ipa_layout.proofs.meeting.any_meet.Goals as goal
 
--- the one tactic that proves it, so that a wrong body is refused at once
 pub loop-index-init : goal.loop-index-init
 loop-index-init c = search rules
 

@@ -1,7 +1,6 @@
 use Rattle.std.proofs.Common.{rules}
 use Rattle.ipa_layout.proofs.meeting.meets.Goals as goal
 
--- the one tactic that proves it, so that a wrong body is refused at once
 pub returns-then-a-end_page : goal.returns-then-a-end_page
 returns-then-a-end_page c = search rules
 

@@ -1,7 +1,6 @@
 use Rattle.std.proofs.Common.{rules}
 use Rattle.ipa_layout.proofs.memory.holds.Goals as goal
 
--- the one tactic that proves it, so that a wrong body is refused at once
 pub returns-then-region-page : goal.returns-then-region-page
 returns-then-region-page c = search rules
 

@@ -1,7 +1,6 @@
 use Rattle.std.proofs.Common.{rules}
 use Rattle.ipa_layout.proofs.placement.bytes_of.Goals as goal
 
--- the one tactic that proves it, so that a wrong body is refused at once
 pub returns-in-Ok-Some : goal.returns-in-Ok-Some
 returns-in-Ok-Some c = search rules
 

@@ -1,7 +1,6 @@
 use Rattle.std.proofs.Common.{rules}
 use Rattle.ipa_layout.proofs.placement.changes_of.Goals as goal
 
--- the one tactic that proves it, so that a wrong body is refused at once
 pub returns-in_default : goal.returns-in_default
 returns-in_default c = search rules
 

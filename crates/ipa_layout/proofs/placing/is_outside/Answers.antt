@@ -1,7 +1,6 @@
 use Rattle.std.proofs.Common.{rules}
 use Rattle.ipa_layout.proofs.placing.is_outside.Goals as goal
 
--- the one tactic that proves it, so that a wrong body is refused at once
 pub returns-then-asked-ge18446744073709551616 : goal.returns-then-asked-ge18446744073709551616
 returns-then-asked-ge18446744073709551616 c = search rules
 

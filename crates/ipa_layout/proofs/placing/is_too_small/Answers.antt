@@ -1,7 +1,6 @@
 use Rattle.std.proofs.Common.{rules}
 use Rattle.ipa_layout.proofs.placing.is_too_small.Goals as goal
 
--- the one tactic that proves it, so that a wrong body is refused at once
 pub overflow_add-result : goal.overflow_add-result
 overflow_add-result c = search rules
 

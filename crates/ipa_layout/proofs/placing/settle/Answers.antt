@@ -2,7 +2,6 @@ use Rattle.std.proofs.Common.{rules}
 use Rattle.ipa_layout.specs.Placing.{settled}
 use Rattle.ipa_layout.proofs.placing.settle.Goals as goal
 
--- the one tactic that proves it, so that a wrong body is refused at once
 pub returns-then-asked-gt-MOST_DTB-clause-exact : goal.returns-then-asked-gt-MOST_DTB-clause-exact
 unfolding settled
 returns-then-asked-gt-MOST_DTB-clause-exact c = search rules

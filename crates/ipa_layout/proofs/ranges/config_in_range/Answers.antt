@@ -1,7 +1,6 @@
 use Rattle.std.proofs.Common.{rules}
 use Rattle.ipa_layout.proofs.ranges.config_in_range.Goals as goal
 
--- the one tactic that proves it, so that a wrong body is refused at once
 pub returns-then-config-ge1 : goal.returns-then-config-ge1
 returns-then-config-ge1 c = search rules
 

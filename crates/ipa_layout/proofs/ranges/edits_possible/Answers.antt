@@ -1,7 +1,6 @@
 use Rattle.std.proofs.Common.{rules}
 use Rattle.ipa_layout.proofs.ranges.edits_possible.Goals as goal
 
--- the one tactic that proves it, so that a wrong body is refused at once
 pub returns-then-not-is_empty : goal.returns-then-not-is_empty
 returns-then-not-is_empty c = search rules
 

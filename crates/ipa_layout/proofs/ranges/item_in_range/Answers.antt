@@ -1,7 +1,6 @@
 use Rattle.std.proofs.Common.{rules}
 use Rattle.ipa_layout.proofs.ranges.item_in_range.Goals as goal
 
--- the one tactic that proves it, so that a wrong body is refused at once
 pub returns-then-item-lt-NUMBER_END : goal.returns-then-item-lt-NUMBER_END
 returns-then-item-lt-NUMBER_END c = search rules
 

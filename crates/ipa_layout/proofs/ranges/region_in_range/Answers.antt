@@ -1,7 +1,6 @@
 use Rattle.std.proofs.Common.{rules}
 use Rattle.ipa_layout.proofs.ranges.region_in_range.Goals as goal
 
--- the one tactic that proves it, so that a wrong body is refused at once
 pub returns-then-region : goal.returns-then-region
 returns-then-region c = search rules
 

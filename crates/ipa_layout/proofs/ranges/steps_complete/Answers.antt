@@ -1,7 +1,6 @@
 use Rattle.std.proofs.Common.{rules}
 use Rattle.ipa_layout.proofs.ranges.steps_complete.Goals as goal
 
--- the one tactic that proves it, so that a wrong body is refused at once
 pub returns-then-each_once-2 : goal.returns-then-each_once-2
 returns-then-each_once-2 c = search rules
 

@@ -1,7 +1,6 @@
 use Rattle.std.proofs.Common.{rules}
 use Rattle.ipa_layout.proofs.standing.page_count.Goals as goal
 
--- the one tactic that proves it, so that a wrong body is refused at once
 pub returns-then-size-eq0 : goal.returns-then-size-eq0
 returns-then-size-eq0 c = search rules
 

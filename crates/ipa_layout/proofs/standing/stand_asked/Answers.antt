@@ -2,7 +2,6 @@ use Rattle.std.proofs.Common.{rules}
 use Rattle.ipa_layout.specs.Standings.{asked_of}
 use Rattle.ipa_layout.proofs.standing.stand_asked.Goals as goal
 
--- the one tactic that proves it, so that a wrong body is refused at once
 pub returns-in_ok-header-clause-exact : goal.returns-in_ok-header-clause-exact
 unfolding asked_of
 returns-in_ok-header-clause-exact c = search rules

@@ -1,7 +1,6 @@
 use Rattle.std.proofs.Common.{rules}
 use Rattle.ipa_layout.proofs.item.Kind.file.Goals as goal
 
--- the one tactic that proves it, so that a wrong body is refused at once
 pub returns-in-Kernel : goal.returns-in-Kernel
 returns-in-Kernel c = search rules
 

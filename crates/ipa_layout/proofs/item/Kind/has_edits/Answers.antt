@@ -1,7 +1,6 @@
 use Rattle.std.proofs.Common.{rules}
 use Rattle.ipa_layout.proofs.item.Kind.has_edits.Goals as goal
 
--- the one tactic that proves it, so that a wrong body is refused at once
 pub returns-then-edits : goal.returns-then-edits
 returns-then-edits c = search rules
 

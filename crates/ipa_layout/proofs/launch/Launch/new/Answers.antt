@@ -3,7 +3,6 @@ use Rattle.std.proofs.lemmas.Grind.{common_steps}
 use Rattle.ipa_layout.specs.LaunchData.{is_launch}
 use Rattle.ipa_layout.proofs.launch.Launch.new.Goals as goal
 
--- the one tactic that proves it, so that a wrong body is refused at once
 pub invariant_of-result : goal.invariant_of-result
 unfolding is_launch
 invariant_of-result c = grind (arith, common_steps)

@@ -2,7 +2,6 @@ use Rattle.std.proofs.Common.{arith, rules}
 use Rattle.std.proofs.lemmas.Grind.{common_steps}
 use Rattle.ipa_layout.proofs.placed.Placed.bytes.Goals as goal
 
--- the one tactic that proves it, so that a wrong body is refused at once
 pub returns-in-Some : goal.returns-in-Some
 returns-in-Some c = grind (arith, common_steps)
 
