@@ -2,3 +2,4 @@ pub mod Entering
 pub mod Fitting
 pub mod Values
 pub mod Reading
+pub mod Refusing

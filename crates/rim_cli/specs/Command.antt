@@ -1,11 +1,16 @@
 -- The command line of `rim`, as this project chooses it, in the words of `clap`'s definition for simple
 -- commands; and what the words of a command line ask for.
-use Rattle.std.specs.Prelude.{◌≡◌, ◌≤◌, ◌⊎◌, ℕ, true, pos, List, Option, Some, None, IfSome, codes, is_some}
+use Rattle.std.specs.Prelude.{◌≡◌, ◌≢◌, ◌≤◌, ◌⊎◌, ℕ, Bool, true, false, not, pos, List, [], Option, Some, None, IfSome, codes, is_some}
+use Rattle.std.specs.List.{list_all}
 use Rattle.std.specs.Str.Parse.{digits_value, without_leading_plus}
-use Rattle.clap.specs.Words.{App, Row, Rule, Text, first_of, new_app, new_rule, with_rule, with_subcommand}
+use Rattle.clap.specs.Words.{App, IsAmong, Kinds, Row, Rule, Text, fault_of, first_of, kind_of, new_app, new_rule, with_rule, with_subcommand}
 use Rattle.clap.specs.Simple.{on_top}
 use Rattle.clap.specs.Values.{IsSignedIn}
 use Rattle.clap.specs.declared.builder.value_parser.ValueParser.TheVariants as parser
+use Rattle.clap.specs.declared.error.kind.ErrorKind.{ErrorKind}
+use Rattle.clap.specs.declared.error.kind.ErrorKind.TheVariants as kind
+use Rattle.rim_cli.specs.declared.command.CommandFault.{CommandFault}
+use Rattle.rim_cli.specs.declared.command.CommandFault.TheVariants.{Usage, NoMemory}
 use Rattle.rim_cli.specs.declared.command.Request.{Request}
 use Rattle.rim_cli.specs.declared.command.Request.TheVariants.{Measure, Image, Fdt}
 
@@ -62,3 +67,24 @@ IsShowing verb name rows = (name ≡ verb) × (is_some (first_of (codes "file") 
 -- and of those of some subcommand: a further one is a further case
 abbrev pub IsEntered : Text → List Row → Type 0
 IsEntered name rows = IsMeasure name rows ⊎ (IsShowing (codes "image") name rows ⊎ IsShowing (codes "fdt") name rows)
+
+-- help and the version are asked for; each other kind of error is a mistake in the words
+abbrev pub is_asked : ErrorKind → Bool
+is_asked kind.DisplayHelp = true
+is_asked kind.DisplayVersion = true
+is_asked _ = false
+
+-- the definition refuses the words, and each kind of error that it may give there passes the test
+abbrev pub IsRefusedBy : (ErrorKind → Bool) → List Text → Type 0
+IsRefusedBy test words = (fault_of rim words ≢ []) × (list_all test (fault_of rim words) ≡ true)
+
+abbrev pub IsMistaken : List Text → Type 0
+IsMistaken words = IsRefusedBy (λ k. not (is_asked k)) words
+
+abbrev pub AsksForHelp : List Text → Type 0
+AsksForHelp words = IsRefusedBy is_asked words
+
+-- a refusal is of a kind that the definition gives, where memory did not run out
+abbrev pub IsRefusalOf : Kinds → CommandFault → Type 0
+IsRefusalOf kinds (Usage error) = IsAmong (kind_of error) kinds
+IsRefusalOf kinds NoMemory = Unit {0}

@@ -14,7 +14,7 @@ use Rattle.rim_cli.specs.declared.command.Request.TheVariants.{Measure, Image, F
 use Rattle.rim_cli.specs.declared.fault.Fault.{Fault}
 use Rattle.rim_cli.specs.declared.fault.Fault.TheVariants.{Manifest, Start, Show}
 use Rattle.rim_cli.specs.Command.{ReadsRequest, rim}
-use Rattle.rim_cli.specs.Status.{IsFileFault}
+use Rattle.rim_cli.specs.Files.{IsFileFault}
 
 -- the path of the file that a request is about
 abbrev pub path_of : Request → List ℕ

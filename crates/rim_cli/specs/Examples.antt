@@ -1,7 +1,7 @@
 -- Examples of command lines, read by the definition of `clap`.
 use Rattle.std.specs.Prelude.{◌≡◌, ℕ, true, false, List, [], ◌∷◌, Option, Some, None, codes, option_map}
 use Rattle.clap.specs.Words.{Text, first_of, subcommand_of, takes}
-use Rattle.rim_cli.specs.Command.{CountsWorkers, rim}
+use Rattle.rim_cli.specs.Command.{AsksForHelp, CountsWorkers, IsMistaken, rim}
 
 abbrev pub plain : List Text
 plain = codes "rim" ∷ codes "measure" ∷ codes "manifest.toml" ∷ []
@@ -30,3 +30,8 @@ abbrev pub ReadsExamples : Type 0
 ReadsExamples = (read_in plain ≡ Some (Some (codes "manifest.toml"), None))
     × (read_in with_seven ≡ Some (Some (codes "manifest.toml"), Some (codes "7")))
     × ((n : ℕ) → CountsWorkers None n → n ≡ 4) × ((n : ℕ) → CountsWorkers (Some (codes "7")) n → n ≡ 7)
+
+-- help and the version are asked for, and not a mistake; too many workers, another subcommand and none are
+abbrev pub RefusesExamples : Type 0
+RefusesExamples = AsksForHelp (codes "rim" ∷ codes "--help" ∷ []) × AsksForHelp (codes "rim" ∷ codes "measure" ∷ codes "--help" ∷ [])
+    × AsksForHelp (codes "rim" ∷ codes "--version" ∷ []) × IsMistaken too_many × IsMistaken (codes "rim" ∷ codes "list" ∷ []) × IsMistaken (codes "rim" ∷ [])

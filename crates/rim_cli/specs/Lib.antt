@@ -1,4 +1,5 @@
 pub mod Command
 pub mod Done
 pub mod Examples
+pub mod Files
 pub mod Status

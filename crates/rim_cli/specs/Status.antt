@@ -1,5 +1,5 @@
 -- Exit statuses and the words of faults. This project's choice.
-use Rattle.std.specs.Prelude.{ℕ, ◌<◌, List, length, Option, IfSome, codes}
+use Rattle.std.specs.Prelude.{ℕ, List, codes}
 use Rattle.rim_cli.specs.declared.fault.Fault.{Fault}
 use Rattle.rim_cli.specs.declared.fault.Fault.TheVariants.{Manifest, Start, Show, FileUnreadable, FileTooLarge, OutputFailed, NoMemory}
 use Rattle.rim_manifest.specs.Faults.{kind_of}
@@ -25,14 +25,3 @@ word_of FileUnreadable = codes "file-unreadable"
 word_of FileTooLarge = codes "file-too-large"
 word_of OutputFailed = codes "output-failed"
 word_of NoMemory = codes "no-memory"
-
--- the most bytes that a file may have
-abbrev pub file_limit : ℕ
-file_limit = 268435456
-
--- a fault of reading a file, of whose bytes this is known
-abbrev pub IsFileFault : Option (List ℕ) → Fault → Type 0
-IsFileFault held FileUnreadable = Unit {0}
-IsFileFault held FileTooLarge = IfSome held (λ bytes. file_limit < length bytes)
-IsFileFault held NoMemory = Unit {0}
-IsFileFault held _ = ⊥

@@ -1,8 +1,8 @@
 //! What the words of a command line ask for.
-ghost use Rattle.std.specs.Prelude.{◌≡◌, IfOk, IfErr, IfSome, Some, true, pos, map, codes, is_some, option_map};
+ghost use Rattle.std.specs.Prelude.{◌≡◌, ◌≢◌, [], IfOk, IfErr, IfSome, Some, true, pos, map, codes, is_some, option_map};
 ghost use Rattle.clap.specs.Values.{IsSignedIn};
-ghost use Rattle.clap.specs.Words.{first_of, found_of, kind_of, rows_of, subcommand_of, takes};
-ghost use Rattle.rim_cli.specs.Command.{CountsWorkers, IsEntered, ReadsRequest, ReadsRow, rim};
+ghost use Rattle.clap.specs.Words.{HasKind, Kinds, fault_of, first_of, found_of, kind_of, rows_of, subcommand_of, takes};
+ghost use Rattle.rim_cli.specs.Command.{CountsWorkers, IsEntered, IsRefusalOf, ReadsRequest, ReadsRow, rim};
 
 use crate::definition::rim_command;
 use clap::ArgMatches;
@@ -38,6 +38,8 @@ pub fn command<'a, S: AsStr>(alloc: Global, words: &'a [S]) -> Result<Request<'a
     // the subcommand, its operands and the workers are those that the words have by `clap`'s definition
     ensures reads { IfOk result (ReadsRequest (subcommand_of rim (map S.text words.entry.now))) }
     ensures takes { takes rim (map S.text words.entry.now) ≡ true → IfErr result (λ e. e ≡ CommandFault.NoMemory) }
+    ensures sound { IfOk result (λ _. fault_of rim (map S.text words.entry.now) ≡ []) }
+    ensures refused { IfErr result (IsRefusalOf (fault_of rim (map S.text words.entry.now))) }
 {
     let Ok(rim) = rim_command(alloc) else {
         return Err(CommandFault::NoMemory);
@@ -74,7 +76,9 @@ fn request_of<'a>(name: &str, given: &ArgMatches<'a>) -> Request<'a>
 
 /// What a refused parse is answered as.
 fn fault_of(error: clap::Error) -> CommandFault
-    ensures { kind_of error ≡ ErrorKind.OutOfMemory → result ≡ CommandFault.NoMemory }
+    ensures memory { kind_of error ≡ ErrorKind.OutOfMemory → result ≡ CommandFault.NoMemory }
+    ensures usage { kind_of error ≢ ErrorKind.OutOfMemory → result ≡ CommandFault.Usage error }
+    ensures kinds { (kinds : Kinds) → HasKind kinds error → IsRefusalOf kinds result }
 {
     match error.kind() {
         ErrorKind::OutOfMemory => CommandFault::NoMemory,

@@ -1,6 +1,6 @@
 //! Files, opened by their paths and read whole.
-ghost use Rattle.std.specs.Prelude.{◌≡◌, ◌≤◌, ℕ, IfErr, IfOk, IfSome, List, None, Option, Some, length, vec_len};
-ghost use Rattle.rim_cli.specs.Status.{IsFileFault, file_limit};
+ghost use Rattle.std.specs.Prelude.{◌≡◌, ◌≤◌, ℕ, IfErr, IfOk, IfSome, List, None, Option, Some, length, map, vec_len};
+ghost use Rattle.rim_cli.specs.Files.{AreRead, IsFileFault, file_limit};
 
 use crate::fault::Fault;
 use crate::patient::Patient;
@@ -20,7 +20,8 @@ pub trait Opener {
 
     /// Opens a file for reading, or answers `None`.
     fn open(&mut self, path: &str) -> Option<Self::Reader>
-        ensures bytes { IfSome result (λ reader. IfSome (held self.old path.now) (λ bytes. Self.Reader.remaining reader ≡ Some bytes)) };
+        ensures bytes { IfSome result (λ reader. IfSome (held self.old path.now) (λ bytes. Self.Reader.remaining reader ≡ Some bytes)) }
+        ensures stays { held self.new ≡ held self.old };
 }
 
 /// The bytes of each file of a release, in its order.
@@ -29,7 +30,8 @@ pub fn read_files<O: Opener>(
     opener: &mut O,
     release: &Release,
 ) -> Result<Files, Fault>
-    ensures each { IfOk result (λ files. vec_len files ≡ length release.now.paths) }
+    ensures count { IfOk result (λ files. vec_len files ≡ length release.now.paths) }
+    ensures each { IfOk result (λ files. AreRead (O.held opener.old) release.now.paths (map (λ file. file.items) files.items)) }
     ensures fault { IfErr result (IsFileFault None) }
 {
     let mut files = Vec::new(alloc);
@@ -45,6 +47,7 @@ pub fn read_file<O: Opener>(alloc: Global, opener: &mut O, path: &str) -> Result
     ensures limit { IfOk result (λ bytes. length bytes.items ≤ file_limit) }
     ensures fault { IfErr result (IsFileFault (O.held opener.old path.now)) }
     ensures whole { IfOk result (λ bytes. IfSome (O.held opener.old path.now) (λ held. bytes.items ≡ held)) }
+    ensures stays { O.held opener.new ≡ O.held opener.old }
 {
     let reader = opener.open(path).ok_or(Fault::FileUnreadable)?;
     read_whole(alloc, reader)

@@ -1,12 +1,12 @@
 //! Laws for readers of the definitions, proved.
 ghost use Rattle.std.specs.Prelude.{◌≡◌};
-ghost use Rattle.rim_cli.specs.Examples.{TakesExamples, ReadsExamples};
+ghost use Rattle.rim_cli.specs.Examples.{ReadsExamples, RefusesExamples, TakesExamples};
 
 /// The command line is not vacuous: `clap`'s definition takes `rim measure manifest.toml`, also with
-/// `--workers=7`, and has 4 and 7 workers there; it takes `rim image Image` and `rim fdt
-/// virt.dtb`, and neither 65 workers, nor
-/// `help`, nor no word.
+/// `--workers=7`, and has 4 and 7 workers there; it takes `rim image Image` and `rim fdt virt.dtb`,
+/// and neither 65 workers, nor `help`, nor no word. `--help` and `--version` ask for a text.
 pub fn examples_are_read()
     ensures taken { TakesExamples }
     ensures read { ReadsExamples }
+    ensures refused { RefusesExamples }
 {}

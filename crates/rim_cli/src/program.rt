@@ -1,12 +1,12 @@
 //! A run of the program, over any files and streams.
-ghost use Rattle.std.specs.Prelude.{◌≡◌, ◌≢◌, ◌≤◌, ◌⊎◌, IfErr, IfOk, IfSome, Ok, OnOk, IsOkAnd, map, true};
+ghost use Rattle.std.specs.Prelude.{◌≡◌, ◌≢◌, ◌≤◌, ◌⊎◌, IfErr, IfOk, IfSome, Ok, OnOk, IsOkAnd, false, map, true};
 ghost use Rattle.std.specs.Io.KnownBytes.{Appends};
-ghost use Rattle.clap.specs.Words.{takes};
+ghost use Rattle.clap.specs.Words.{kind_of, takes};
 ghost use Rattle.rim_manifest.specs.Manifest.{manifest_of};
 ghost use Rattle.rim_release.specs.Devicetrees.{ShowsDevicetree};
 ghost use Rattle.rim_release.specs.Report.{report_of};
 ghost use Rattle.rim_release.specs.Shown.{image_answer_of};
-ghost use Rattle.rim_cli.specs.Command.{rim};
+ghost use Rattle.rim_cli.specs.Command.{AsksForHelp, IsMistaken, is_asked, rim};
 ghost use Rattle.rim_cli.specs.Done.{Answers, IsDone, Refuses, RefusesFdt, RefusesImage, RefusesManifest, path_of};
 ghost use Rattle.rim_cli.specs.Status.{status_of};
 
@@ -35,9 +35,11 @@ pub fn run<R, S: AsStr, O: Opener, W: Write, E: Write>(
     out: &mut W,
     err: &mut E,
 ) -> u8
-    ensures known { result ≤ 4 }
+    ensures known { (result ≤ 4) × (result ≢ 1) }
     ensures done { takes rim (map S.text words.now) ≡ true → result ≡ 0 → IsDone (map S.text words.now) (O.held opener.old) (W.contents out.old) (W.contents out.new) }
     ensures usage { takes rim (map S.text words.now) ≡ true → result ≢ 2 }
+    ensures mistaken { IsMistaken (map S.text words.now) → (result ≡ 2) ⊎ (result ≡ 4) }
+    ensures helps { AsksForHelp (map S.text words.now) → result ≢ 2 }
     ensures kept { (result ≡ 2) ⊎ (result ≡ 4) → out.new ≡ out.old }
 {
     let request = match command(alloc, words) {
@@ -100,7 +102,9 @@ fn show_usage<W: Write, E: Write>(
     out: &mut W,
     err: &mut E,
 ) -> u8
-    ensures known { result ≤ 4 }
+    ensures known { (result ≤ 4) × (result ≢ 1) }
+    ensures mistaken { is_asked (kind_of answer.now) ≡ false → (result ≡ 2) ⊎ (result ≡ 4) }
+    ensures helps { is_asked (kind_of answer.now) ≡ true → result ≢ 2 }
     ensures kept { (result ≡ 2) ⊎ (result ≡ 4) → out.new ≡ out.old }
 {
     let Ok(text) = format!(in alloc; "{answer}") else {

@@ -1,5 +1,5 @@
-use Rattle.std.proofs.Common.{◌∙◌, ◌≡◌, List, sym, ap, map}
-use Rattle.clap.specs.Words.{App, Text, HasMatchesOf, fault_of, found_of, is_simple, is_simple_and_free, rows_of, subcommand_of, subcommand_rows_of, takes}
+use Rattle.std.proofs.Common.{◌∙◌, ◌≡◌, List, sym, ap, map, subst}
+use Rattle.clap.specs.Words.{App, HasKind, HasMatchesOf, Text, fault_of, found_of, is_simple, is_simple_and_free, rows_of, subcommand_of, subcommand_rows_of, takes}
 use Rattle.clap.specs.declared.parser.matches.ArgMatches.{ArgMatches}
 use Rattle.rim_cli.specs.Command.{rim}
 use Rattle.rim_cli.proofs.Entering.{entered_good, rows_met}
@@ -26,4 +26,16 @@ returns-clause-reads g c =
 
 pub returns-in-Err-clause-takes : goal.returns-in-Err-clause-takes
 returns-in-Err-clause-takes g c t =
-    c.fault_of.ensures (c.in-Err.ensures.passes (ap (λ (a : App). takes a (map g.S.AsStr.text c.args.words.now)) c.in-Ok.ensures.shape ∙ t))
+    c.fault_of.ensures.memory (c.in-Err.ensures.passes (ap (λ (a : App). takes a (map g.S.AsStr.text c.args.words.now)) c.in-Ok.ensures.shape ∙ t))
+
+pub returns-in-Err-clause-refused : goal.returns-in-Err-clause-refused
+returns-in-Err-clause-refused g c =
+    let words = map g.S.AsStr.text c.args.words.now in
+    let kinds : HasKind (fault_of rim words) c.in-Err.error = subst (λ (a : App). HasKind (fault_of a words) c.in-Err.error) c.in-Ok.ensures.shape (c.in-Err.ensures.kinds (ap is_simple_and_free c.in-Ok.ensures.shape)) in
+    c.fault_of.ensures.kinds (fault_of rim words) kinds
+
+pub returns-clause-sound : goal.returns-clause-sound
+returns-clause-sound g c =
+    let words = map g.S.AsStr.text c.args.words.now in
+    let none = c.in-Ok-try_get_matches_from.ensures.kinds (ap is_simple_and_free c.in-Ok.ensures.shape) in
+    ap (λ (a : App). fault_of a words) (sym c.in-Ok.ensures.shape) ∙ none

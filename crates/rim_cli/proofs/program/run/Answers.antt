@@ -1,0 +1,26 @@
+use Rattle.std.proofs.Common.{map, rules}
+use Rattle.rim_cli.proofs.Refusing.{asked_kind, mistaken_kind}
+use Rattle.rim_cli.proofs.program.run.Goals as goal
+
+pub returns-in-Err-Usage-clause-mistaken : goal.returns-in-Err-Usage-clause-mistaken
+returns-in-Err-Usage-clause-mistaken g c mistaken =
+    c.show_usage.ensures.mistaken (mistaken_kind (map g.S.AsStr.text c.args.words.now) _ _ c.in-Err-Usage.field-0-is mistaken c.in-Err-Usage.ensures.refused)
+
+pub returns-in-Err-Usage-clause-helps : goal.returns-in-Err-Usage-clause-helps
+returns-in-Err-Usage-clause-helps g c asks =
+    c.show_usage.ensures.helps (asked_kind (map g.S.AsStr.text c.args.words.now) _ _ c.in-Err-Usage.field-0-is asks c.in-Err-Usage.ensures.refused)
+
+pub returns-in-Ok-answer_to-clause-done : goal.returns-in-Ok-answer_to-clause-done
+returns-in-Ok-answer_to-clause-done g c taken done = record {
+  written = rw (← c.as_slice.ensures.value) (c.finish.ensures.done done);
+  request = c.in-Ok.request;
+  text = c.in-Ok-answer_to.text.items;
+  asked = c.in-Ok.ensures.reads;
+  answer = c.in-Ok-answer_to.ensures.answered;
+}
+
+pub returns-in-Err-NoMemory-clause-usage : goal.returns-in-Err-NoMemory-clause-usage
+returns-in-Err-NoMemory-clause-usage g c = search rules
+
+pub returns-in-Err-NoMemory-clause-kept : goal.returns-in-Err-NoMemory-clause-kept
+returns-in-Err-NoMemory-clause-kept g c = search rules
