@@ -3,3 +3,4 @@ pub mod Lowest
 pub mod Notes
 pub mod Numbered
 pub mod Trees
+pub mod Given

@@ -82,7 +82,7 @@ unfolding lower
 some_noted x [] h = cc
 some_noted x (g ∷ gs) h = kept x g gs (nat_le (rank_of x) (rank_of g)) (λ y. some_noted y gs) h
 
-none_noted : (fs : List ManifestFault) → lowest fs ≡ None → fs ≡ []
+pub none_noted : (fs : List ManifestFault) → lowest fs ≡ None → fs ≡ []
 unfolding lower
 none_noted [] h = refl
 none_noted (f ∷ fs) h = absurd (some_noted f fs h)

@@ -4,3 +4,4 @@ pub mod Rules
 pub mod Checks
 pub mod Launches
 pub mod Manifest
+pub mod Given
