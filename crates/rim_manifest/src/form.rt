@@ -7,6 +7,9 @@ ghost use Rattle.rim_manifest.specs.Forms.{has_kind, is_name, is_name_byte, is_o
 
 use toml::Value;
 
+/// How many characters a name may have.
+const LONGEST_NAME: usize = 64;
+
 /// What a key may hold.
 #[derive(Clone, Copy, Debug)]
 pub enum Form {
@@ -93,7 +96,7 @@ pub fn is_within(form: Form, value: &Value) -> bool
 fn is_name(text: &str) -> bool
     ensures { result ≡ is_name text.now }
 {
-    1 <= text.len() && text.len() <= 64 && are_name_bytes(text.as_bytes())
+    1 <= text.len() && text.len() <= LONGEST_NAME && are_name_bytes(text.as_bytes())
 }
 
 fn are_tables(items: &[Value]) -> bool

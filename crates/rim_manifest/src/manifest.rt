@@ -15,6 +15,9 @@ use std::alloc::{AllocError, Global};
 use std::marker::Model;
 use toml::{Table, Value};
 
+/// The number of the format.
+const VERSION: i64 = 1;
+
 /// What a manifest describes: files by their paths, and launches.
 #[derive(Drop)]
 pub struct Release {
@@ -102,7 +105,7 @@ fn lowest_fault(table: &Table) -> Option<ManifestFault>
 fn has_version(table: &Table) -> bool
     ensures { result ≡ has_version (get_member (codes "rim_manifest") (table_view table.now)) }
 {
-    matches!(cell(table, "rim_manifest"), Some(Value::Integer(1)))
+    matches!(cell(table, "rim_manifest"), Some(Value::Integer(x)) if *x == VERSION)
 }
 
 /// The values in the array of launches.

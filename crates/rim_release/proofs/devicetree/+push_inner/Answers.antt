@@ -1,4 +1,4 @@
-use Rattle.std.proofs.Common.{◌≡◌, ◌++◌, ◌∙◌, length, map, take, refl, ap}
+use Rattle.std.proofs.Common.{◌≡◌, ◌++◌, ◌∙◌, map, refl, ap}
 use Rattle.std.specs.List.{flat_map}
 use Rattle.fdt_tree.specs.NodeViews.{entry_of}
 use Rattle.fdt_tree.specs.declared.node.Node.TheViews.{out-Node}
@@ -13,10 +13,9 @@ pub loop-child-preserved : goal.loop-child-preserved
 loop-child-preserved t c =
     let n = c.child-item.result in
     let stepped : c.push_step.new.path.items ≡ path_below c.loop-child.path.items (out-Node n).name.items =
-    c.in_ok-push_step.ensures ∙ ap (path_below c.loop-child.path.items) c.as_slice.ensures.value in
+    rw (← c.as_slice.ensures.value) c.in_ok-push_step.ensures in
     record {
-      path = c.truncate.ensures.items ∙ ap (λ p. take (length p) c.push_inner.new.path.items) c.as_slice-above.ensures.value
-          ∙ ap (take (length c.args.path.now.items)) c.in_ok-push_inner.ensures.path ∙ cut_back _ _ _ _ stepped c.loop-child.invariant.path;
+      path = rw (c.truncate.ensures.items, c.as_slice-above.ensures.value, c.in_ok-push_inner.ensures.path) (cut_back _ _ _ _ stepped c.loop-child.invariant.path);
       text = child_step _ _ _ _ _ _ c.push_step.new.path.items _ _ n c.loop-child-test.true c.child-item.is
           (stepped ∙ ap (λ p. path_below p (out-Node n).name.items) c.loop-child.invariant.path)
           c.loop-child.invariant.text

@@ -1,0 +1,16 @@
+use Rattle.toml.specs.View.{view}
+use Rattle.rim_manifest.specs.Manifest.{launch_faults, manifest_faults}
+use Rattle.rim_manifest.proofs.Notes.{flat_map_map, noted_append}
+use Rattle.rim_manifest.proofs.manifest.lowest_fault.Goals as goal
+
+pub returns : goal.returns
+unfolding manifest_faults
+returns c = rw (
+  noted_append,
+  noted_append,
+  ← c.has_version.ensures,
+  ← c.note_if.ensures,
+  ← c.check_table.ensures,
+  ← c.launches.ensures,
+  flat_map_map launch_faults view c.launches.result.now,
+) c.check_launches.ensures
