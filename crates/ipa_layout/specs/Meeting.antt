@@ -1,6 +1,6 @@
 -- Items in each other's way. That no two share a page is this project's choice. The window: Linux,
--- booting.rst, "Setup the device tree" and "Call the kernel image": the initrd and the kernel lie in a
--- range of 32 GiB that is aligned to 1 GiB.
+-- booting.rst, "Call the kernel image": the initrd lies in a window of up to 32 GiB, aligned to 1 GiB, that
+-- covers the kernel too.
 use Rattle.std.specs.Prelude.{ℕ, ◌+◌, ◌-◌, ◌/◌, min, max, List, [], ◌∷◌, Option, Some, Result, Ok, Err, if◌then◌else◌, Bool, false, not, ◌&&◌, ◌||◌, ◌==◌, nat_lt}
 use Rattle.std.specs.List.{list_any}
 use Rattle.ipa_layout.specs.declared.standing.Standing.{Standing}

@@ -1,7 +1,7 @@
 -- Whether an item may stand where it is asked to, and the first reason why not. That a devicetree stands
--- at a multiple of 8 and has at most 2 MiB, and that a kernel's base is a multiple of 2 MiB: Linux,
--- booting.rst. The rest is this project's choice.
-use Rattle.std.specs.Prelude.{ℕ, ◌+◌, ◌-◌, ◌%◌, ◌^◌, List, [], ◌∷◌, length, Bool, Result, Ok, Err, not, ◌&&◌, ◌||◌, ◌==◌, nat_lt, nat_le, if◌then◌else◌}
+-- at a multiple of 8 and has at most 2 MiB: Linux, booting.rst, "Setup the device tree"; that a kernel's base
+-- is a multiple of 2 MiB: "Call the kernel image". The rest is this project's choice.
+use Rattle.std.specs.Prelude.{ℕ, ◌+◌, ◌-◌, ◌%◌, ◌^◌, List, [], ◌∷◌, length, Bool, Result, Ok, Err, not, ◌&&◌, ◌||◌, ◌==◌, nat_lt, nat_le}
 use Rattle.rim_desc.specs.Refusal.{Check, unless_refused}
 use Rattle.fdt_tree.specs.declared.fault.FdtFault.TheVariants.{TooLarge}
 use Rattle.ipa_layout.specs.declared.item.Item.{Item}

@@ -1,4 +1,4 @@
-use Rattle.std.proofs.Common.{◌≡◌, ◌∙◌, sym, arith}
+use Rattle.std.proofs.Common.{◌≡◌, ◌∙◌, sym, arith, refl}
 use Rattle.rtt_plan.proofs.Fits.{first_fit-end, first_fit-here, first_fit-next}
 use Rattle.rtt_plan.proofs.block.block_level.Goals as goal
 
@@ -14,3 +14,6 @@ pub returns-clause-value : goal.returns-clause-value
 returns-clause-value c =
     let last : c.loop-level.level ≡ 3 = omega arith in
     sym (first_fit-end _ _ _ _ last) ∙ c.loop-level.invariant
+
+pub loop-level-init : goal.loop-level-init
+loop-level-init c = refl

@@ -1,5 +1,6 @@
 use Rattle.std.proofs.Common.{◌≡◌, ◌+◌, ◌*◌, ◌≤◌, ◌∷◌, [], ◌++◌, ◌∙◌, true, not, is_ok, sym, ap, arith, length, append_assoc, length-append}
 use Rattle.std.proofs.lemmas.List.{append-nil, take-append-le}
+use Rattle.std.proofs.lemmas.Grind.{common_steps}
 use Rattle.rtt_plan.proofs.Plans.{granules-end, granules-next}
 use Rattle.rtt_plan.proofs.tables.push_pages.Goals as goal
 
@@ -19,3 +20,6 @@ loop-index-preserved c =
 pub returns-clause-filled : goal.returns-clause-filled
 returns-clause-filled c =
     sym (append-nil c.loop-index.filled.items) ∙ ap (λ ps. c.loop-index.filled.items ++ ps) (sym (granules-end _ _ _ c.loop-index-test.false)) ∙ c.loop-index.invariant.filled
+
+pub returns-then-is_err-clause-kept : goal.returns-then-is_err-clause-kept
+returns-then-is_err-clause-kept c = grind (arith, common_steps) steps 300000

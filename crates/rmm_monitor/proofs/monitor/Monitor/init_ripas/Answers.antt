@@ -1,4 +1,4 @@
-use Rattle.std.proofs.Common.{◌≡◌, ◌∙◌, ◌<◌, ◌-◌, ◌/◌, sym, refl, false, arith}
+use Rattle.std.proofs.Common.{◌≡◌, ◌∙◌, ◌<◌, ◌-◌, ◌/◌, sym, refl, false, arith, rules}
 use Rattle.std.proofs.lemmas.Grind.{common_steps}
 use Rattle.rmm_model.specs.Blocks.{size}
 use Rattle.rmm_model.specs.Checks.{is_cut, walk_of}
@@ -11,3 +11,18 @@ returns-clause-done c =
     let whole : is_cut c.walk_level-level.result c.args.base c.args.top ≡ false = sym c.if-is_cut.ensures in
     let some : 0 < (c.args.top - c.args.base) / size (walk_of c.args.self.now.space c.args.base) = rw (← level) (count-some c.walk_level-level.result c.args.base c.args.top (omega arith) whole) in
     rw (measured-stretches _ _ _ _ some) (grind (arith, common_steps))
+
+pub returns-then-base-ne0-clause-refused : goal.returns-then-base-ne0-clause-refused
+returns-then-base-ne0-clause-refused c = search rules fits 100
+
+pub returns-then-top-half-clause-refused : goal.returns-then-top-half-clause-refused
+returns-then-top-half-clause-refused c = grind (arith, common_steps) steps 300000
+
+pub returns-then-is_cut-clause-refused : goal.returns-then-is_cut-clause-refused
+returns-then-is_cut-clause-refused c = grind (arith, common_steps) steps 300000
+
+pub returns-then-is_taken-clause-refused : goal.returns-then-is_taken-clause-refused
+returns-then-is_taken-clause-refused c = grind (arith, common_steps) steps 300000
+
+pub returns-then-is_err-clause-memory : goal.returns-then-is_err-clause-memory
+returns-then-is_err-clause-memory c = grind (arith, common_steps) steps 300000
