@@ -4,11 +4,11 @@ use Rattle.fdt_tree.proofs.lexing.kind_of.Goals as goal
 
 pub returns-in_err-name-in-1-clause-exact : goal.returns-in_err-name-in-1-clause-exact
 unfolding kind_at
-returns-in_err-name-in-1-clause-exact c = search rules
+returns-in_err-name-in-1-clause-exact c = search rules fits 100
 
 pub returns-in_ok-name-in-1-clause-exact : goal.returns-in_ok-name-in-1-clause-exact
 unfolding kind_at
-returns-in_ok-name-in-1-clause-exact c = search rules
+returns-in_ok-name-in-1-clause-exact c = search rules fits 100
 
 pub returns-in-2-clause-exact : goal.returns-in-2-clause-exact
 unfolding kind_at
@@ -28,4 +28,4 @@ returns-in-9-clause-exact c = search rules
 
 pub returns-in_default-clause-exact : goal.returns-in_default-clause-exact
 unfolding kind_at
-returns-in_default-clause-exact c = search rules
+returns-in_default-clause-exact c = search rules fits 100
