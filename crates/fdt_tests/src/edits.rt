@@ -1,4 +1,4 @@
-use crate::files::{BEGIN_NODE, END, END_NODE, PROP, says, tree_of_words};
+use crate::files::{BEGIN_NODE, END, END_NODE, N, PROP, says, tree_of_words};
 use crate::vectors::{CHOSEN, EMPTY};
 use fdt_tree::{FdtFault, Node, Tree, read};
 use std::alloc::Global;
@@ -45,69 +45,57 @@ fn has_properties(tree: &Tree, node: &Node, names: &[&[u8]]) -> bool {
 }
 
 // A root with `reg` as 1 and as 2, and the nodes `n` and `n`.
-fn twice(alloc: Global) -> Result<Tree, Fail> {
-    let node = 0x6e00_0000;
-    tree_of_words(
-        alloc,
-        &[
-            BEGIN_NODE,
-            0,
-            PROP,
-            1,
-            0,
-            0x3100_0000,
-            PROP,
-            1,
-            0,
-            0x3200_0000,
-            BEGIN_NODE,
-            node,
-            END_NODE,
-            BEGIN_NODE,
-            node,
-            END_NODE,
-            END_NODE,
-            END,
-        ],
-        b"reg\0",
-    )
-}
+const TWICE: [u32; 18] = [
+    BEGIN_NODE,
+    0,
+    PROP,
+    1,
+    0,
+    0x3100_0000,
+    PROP,
+    1,
+    0,
+    0x3200_0000,
+    BEGIN_NODE,
+    N,
+    END_NODE,
+    BEGIN_NODE,
+    N,
+    END_NODE,
+    END_NODE,
+    END,
+];
+
+// Nodes, and their `reg`.
+const MEMORIES: [(&[u8], &[u8]); 3] = [
+    (b"/memory-controller", b"c"),
+    (b"/memory@8", b"8"),
+    (b"/memory", b"m"),
+];
 
 // A root with the cells of addresses and of sizes in these values, and the nodes `memory-controller`
 // and `memory@8`.
 fn cells<'a>(alloc: Global, addresses: &'a [u8; 4], sizes: &'a [u8]) -> Result<Tree, Fail> {
     let mut tree = read(alloc, &EMPTY)?;
-    for (path, name, value) in [
-        (
-            b"/".as_slice(),
-            b"#address-cells".as_slice(),
-            addresses.as_slice(),
-        ),
-        (b"/", b"#size-cells", sizes),
-        (b"/memory-controller", b"reg", b"c"),
-        (b"/memory@8", b"reg", b"8"),
-        (b"/memory", b"reg", b"m"),
-    ] {
-        tree.set(alloc, path, name, value)?;
+    tree.set(alloc, b"/", b"#address-cells", addresses)?;
+    tree.set(alloc, b"/", b"#size-cells", sizes)?;
+    for (path, value) in &MEMORIES {
+        tree.set(alloc, path, b"reg", value)?;
     }
     Ok(tree)
 }
 
+// A path, a name, a value, and the children of the root once it was put there.
+const NEW_NODES: [(&[u8], &[u8], &[u8], &[&[u8]]); 3] = [
+    (b"/chosen", b"bootargs", b"quiet\0", &[b"chosen"]),
+    (b"/chosen/a/b", b"x", b"1", &[b"chosen"]),
+    (b"/other", b"y", b"2", &[b"chosen", b"other"]),
+];
+
 #[test]
 fn a_node_that_was_not_there(rt: HostRuntime) -> Result<(), Fail> {
     let mut tree = read(rt.alloc(), &EMPTY)?;
-    let chosen = [b"chosen".as_slice()];
-    let both = [b"chosen".as_slice(), b"other"];
-    for (path, name, value, children) in [
-        (
-            b"/chosen".as_slice(),
-            b"bootargs".as_slice(),
-            b"quiet\0".as_slice(),
-            chosen.as_slice(),
-        ),
-        (b"/chosen/a/b", b"x", b"1", &chosen),
-        (b"/other", b"y", b"2", &both),
-    ] {
+    for (path, name, value, children) in &NEW_NODES {
         tree.set(rt.alloc(), path, name, value)?;
         assert!(rt; says(&tree, path, name, value), "at {path:?}");
         assert!(rt; has_children(tree.root(), children), "at {path:?}");
@@ -130,7 +118,7 @@ fn a_property_that_was_there(rt: HostRuntime) -> Result<(), Fail> {
 
 #[test]
 fn the_first_of_equal_names(rt: HostRuntime) -> Result<(), Fail> {
-    let mut tree = twice(rt.alloc())?;
+    let mut tree = tree_of_words(rt.alloc(), &TWICE, b"reg\0")?;
     tree.set(rt.alloc(), b"/", b"reg", b"new")?;
     tree.set(rt.alloc(), b"/n", b"x", b"")?;
     let mut values = tree.root().properties.iter().map(|p| p.value.as_slice());

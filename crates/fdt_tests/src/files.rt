@@ -14,6 +14,9 @@ pub const NOP: u32 = 4;
 
 pub const END: u32 = 9;
 
+/// The name `n`.
+pub const N: u32 = 0x6e00_0000;
+
 pub fn push_word(out: &mut Vec<u8>, word: u32) -> Result<(), AllocError> {
     out.extend_from_slice(&word.to_be_bytes())
 }

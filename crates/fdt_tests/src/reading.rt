@@ -1,5 +1,5 @@
 use crate::files::{
-    BEGIN_NODE, END, END_NODE, NOP, PROP, file, file_of_words, push_word, says, tree_of_words,
+    BEGIN_NODE, END, END_NODE, N, NOP, PROP, file, file_of_words, push_word, says, tree_of_words,
     with_word, with_words, words,
 };
 use crate::vectors::{CHOSEN, EMPTY, LATE, SUFFIX};
@@ -40,21 +40,24 @@ fn an_empty_root(rt: HostRuntime) -> Result<(), Fail> {
     Ok(())
 }
 
+// Paths and names of which nothing is found.
+const NOT_THERE: [(&[u8], &[u8]); 9] = [
+    (b"/", b"bootargs"),
+    (b"", b"bootargs"),
+    (b"chosen", b"bootargs"),
+    (b"/chosen/", b"bootargs"),
+    (b"//chosen", b"bootargs"),
+    (b"/chosen/chosen", b"bootargs"),
+    (b"/chose", b"bootargs"),
+    (b"/chosen", b"bootarg"),
+    (b"/chosen", b""),
+];
+
 #[test]
 fn a_node_with_a_property(rt: HostRuntime) -> Result<(), Fail> {
     let tree = read(rt.alloc(), &CHOSEN)?;
     assert!(rt; says(&tree, b"/chosen", b"bootargs", b"quiet\0"));
-    for (path, name) in [
-        (b"/".as_slice(), b"bootargs".as_slice()),
-        (b"", b"bootargs"),
-        (b"chosen", b"bootargs"),
-        (b"/chosen/", b"bootargs"),
-        (b"//chosen", b"bootargs"),
-        (b"/chosen/chosen", b"bootargs"),
-        (b"/chose", b"bootargs"),
-        (b"/chosen", b"bootarg"),
-        (b"/chosen", b""),
-    ] {
+    for (path, name) in &NOT_THERE {
         assert!(rt; tree.get(path, name).is_none(), "at {path:?}, {name:?}");
     }
     Ok(())
@@ -71,45 +74,42 @@ fn the_end_of_another_name(rt: HostRuntime) -> Result<(), Fail> {
     Ok(())
 }
 
+// A root with `reg` as 1 and as 2, a node `n` with `reg` as 3 and a node `n` in it, and another with 4.
+const EQUAL_NAMES: [u32; 29] = [
+    BEGIN_NODE,
+    0,
+    PROP,
+    1,
+    0,
+    0x3100_0000,
+    PROP,
+    1,
+    4,
+    0x3200_0000,
+    BEGIN_NODE,
+    N,
+    PROP,
+    1,
+    4,
+    0x3300_0000,
+    BEGIN_NODE,
+    N,
+    END_NODE,
+    END_NODE,
+    BEGIN_NODE,
+    N,
+    PROP,
+    1,
+    0,
+    0x3400_0000,
+    END_NODE,
+    END_NODE,
+    END,
+];
+
 #[test]
 fn equal_names(rt: HostRuntime) -> Result<(), Fail> {
-    let alloc = rt.alloc();
-    let node = 0x6e00_0000;
-    let tree = tree_of_words(
-        alloc,
-        &[
-            BEGIN_NODE,
-            0,
-            PROP,
-            1,
-            0,
-            0x3100_0000,
-            PROP,
-            1,
-            4,
-            0x3200_0000,
-            BEGIN_NODE,
-            node,
-            PROP,
-            1,
-            4,
-            0x3300_0000,
-            BEGIN_NODE,
-            node,
-            END_NODE,
-            END_NODE,
-            BEGIN_NODE,
-            node,
-            PROP,
-            1,
-            0,
-            0x3400_0000,
-            END_NODE,
-            END_NODE,
-            END,
-        ],
-        b"reg\0reg\0",
-    )?;
+    let tree = tree_of_words(rt.alloc(), &EQUAL_NAMES, b"reg\0reg\0")?;
     assert!(rt; says(&tree, b"/", b"reg", b"1"));
     assert!(rt; says(&tree, b"/n", b"reg", b"3"));
     assert!(rt; tree.get(b"/n/n", b"reg").is_none());
@@ -301,97 +301,92 @@ fn reservations_in_the_structure_block(rt: HostRuntime) -> Result<(), Fail> {
     Ok(())
 }
 
+// The header, three reservations and the pair of zeros, and an empty root.
+const RESERVED: [u32; 30] = [
+    0xd00d_feed,
+    120,
+    104,
+    120,
+    40,
+    17,
+    16,
+    3,
+    0,
+    16,
+    0,
+    0,
+    0,
+    1,
+    0x8000_0000,
+    0,
+    0,
+    0,
+    0xffff_ffff,
+    0xffff_ffff,
+    1,
+    2,
+    0,
+    0,
+    0,
+    0,
+    BEGIN_NODE,
+    0,
+    END_NODE,
+    END,
+];
+
+const RESERVATIONS: [Reservation; 3] = [
+    Reservation {
+        address: 0,
+        size: 1,
+    },
+    Reservation {
+        address: 1 << 63,
+        size: 0,
+    },
+    Reservation {
+        address: u64::MAX,
+        size: 0x1_0000_0002,
+    },
+];
+
 #[test]
 fn reservations(rt: HostRuntime) -> Result<(), Fail> {
     let alloc = rt.alloc();
-    let bytes = words(
-        alloc,
-        &[
-            // the header
-            0xd00d_feed,
-            120,
-            104,
-            120,
-            40,
-            17,
-            16,
-            3,
-            0,
-            16,
-            // three pairs, and the one of zeros
-            0,
-            0,
-            0,
-            1,
-            0x8000_0000,
-            0,
-            0,
-            0,
-            0xffff_ffff,
-            0xffff_ffff,
-            1,
-            2,
-            0,
-            0,
-            0,
-            0,
-            BEGIN_NODE,
-            0,
-            END_NODE,
-            END,
-        ],
-    )?;
+    let bytes = words(alloc, &RESERVED)?;
     let tree = read(alloc, bytes.as_slice())?;
     assert_eq!(rt; tree.boot_cpu(), 3);
-    assert_eq!(rt;
-        tree.reservations(),
-        [
-            Reservation {
-                address: 0,
-                size: 1
-            },
-            Reservation {
-                address: 1 << 63,
-                size: 0
-            },
-            Reservation {
-                address: u64::MAX,
-                size: 0x1_0000_0002
-            },
-        ]
-        .as_slice()
-    );
+    assert_eq!(rt; tree.reservations(), RESERVATIONS.as_slice());
     Ok(())
 }
+
+// The header, an empty root, and the pair of zeros behind it.
+const ZEROS_BEHIND: [u32; 18] = [
+    0xd00d_feed,
+    72,
+    40,
+    72,
+    56,
+    17,
+    16,
+    0,
+    0,
+    16,
+    BEGIN_NODE,
+    0,
+    END_NODE,
+    END,
+    0,
+    0,
+    0,
+    0,
+];
 
 // The pair of zeros ends where totalsize does; then a byte before that.
 #[test]
 fn reservations_at_the_end(rt: HostRuntime) -> Result<(), Fail> {
     let alloc = rt.alloc();
-    let bytes = words(
-        alloc,
-        &[
-            // the header
-            0xd00d_feed,
-            72,
-            40,
-            72,
-            56,
-            17,
-            16,
-            0,
-            0,
-            16,
-            BEGIN_NODE,
-            0,
-            END_NODE,
-            END,
-            0,
-            0,
-            0,
-            0,
-        ],
-    )?;
+    let bytes = words(alloc, &ZEROS_BEHIND)?;
     assert_eq!(rt; fault(alloc, bytes.as_slice()), None);
     let cut = changed_fault(alloc, &bytes, &[(4, 71)])?;
     assert_eq!(rt; cut, Some(FdtFault::BadBlock));
@@ -400,35 +395,32 @@ fn reservations_at_the_end(rt: HostRuntime) -> Result<(), Fail> {
     Ok(())
 }
 
+const NOPS_BEFORE: [u32; 20] = [
+    NOP,
+    NOP,
+    BEGIN_NODE,
+    0,
+    NOP,
+    PROP,
+    4,
+    0,
+    7,
+    NOP,
+    BEGIN_NODE,
+    A,
+    NOP,
+    END_NODE,
+    NOP,
+    END_NODE,
+    NOP,
+    NOP,
+    END,
+    0xffff_ffff,
+];
+
 #[test]
 fn nops_before_each_token(rt: HostRuntime) -> Result<(), Fail> {
-    let alloc = rt.alloc();
-    let tree = tree_of_words(
-        alloc,
-        &[
-            NOP,
-            NOP,
-            BEGIN_NODE,
-            0,
-            NOP,
-            PROP,
-            4,
-            0,
-            7,
-            NOP,
-            BEGIN_NODE,
-            0x6100_0000,
-            NOP,
-            END_NODE,
-            NOP,
-            END_NODE,
-            NOP,
-            NOP,
-            END,
-            0xffff_ffff,
-        ],
-        b"reg\0",
-    )?;
+    let tree = tree_of_words(rt.alloc(), &NOPS_BEFORE, b"reg\0")?;
     assert!(rt; says(&tree, b"/", b"reg", &[0, 0, 0, 7]));
     assert_eq!(rt; tree.root().children.len(), 1);
     Ok(())
@@ -642,19 +634,22 @@ fn deep(alloc: Global, depth: u32, bad: bool) -> Result<Vec<u8>, Fail> {
     Ok(block)
 }
 
+// A depth, whether the deepest name is bad, and the fault.
+const DEPTHS: [(u32, bool, Option<FdtFault>); 5] = [
+    (63, false, None),
+    (64, false, None),
+    (64, true, Some(FdtFault::BadName)),
+    (65, false, Some(FdtFault::TooDeep)),
+    (65, true, Some(FdtFault::BadName)),
+];
+
 #[test]
 fn depths(rt: HostRuntime) -> Result<(), Fail> {
     let alloc = rt.alloc();
-    for (depth, bad, want) in [
-        (63, false, None),
-        (64, false, None),
-        (64, true, Some(FdtFault::BadName)),
-        (65, false, Some(FdtFault::TooDeep)),
-        (65, true, Some(FdtFault::BadName)),
-    ] {
-        let block = deep(alloc, depth, bad)?;
+    for (depth, bad, want) in &DEPTHS {
+        let block = deep(alloc, *depth, *bad)?;
         let bytes = file(alloc, &block, b"")?;
-        assert_eq!(rt; fault(alloc, &bytes), want, "{depth} deep");
+        assert_eq!(rt; fault(alloc, &bytes), *want, "{depth} deep");
     }
     Ok(())
 }

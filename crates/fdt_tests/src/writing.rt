@@ -1,4 +1,4 @@
-use crate::files::{BEGIN_NODE, END, END_NODE, NOP, PROP, file_of_words, with_word};
+use crate::files::{BEGIN_NODE, END, END_NODE, N, NOP, PROP, file_of_words, with_word};
 use crate::vectors::{CHOSEN, DTC, EMPTY, NOPS, SUFFIX};
 use fdt_tree::read;
 use std::alloc::Global;
@@ -65,62 +65,58 @@ fn a_suffix_is_written_alone(rt: HostRuntime) -> Result<(), Fail> {
     Ok(())
 }
 
-// NOPs, words behind END, a name that is not used, and another that stands twice are left out.
+// A block with NOPs and a word behind END, in front of strings of which one is not used and another stands
+// twice.
+const SLACK: [u32; 22] = [
+    NOP,
+    BEGIN_NODE,
+    0,
+    NOP,
+    PROP,
+    1,
+    4,
+    0x31ff_ffff,
+    PROP,
+    0,
+    2,
+    BEGIN_NODE,
+    N,
+    PROP,
+    0,
+    6,
+    NOP,
+    END_NODE,
+    END_NODE,
+    NOP,
+    END,
+    7,
+];
+
+const WITHOUT_SLACK: [u32; 17] = [
+    BEGIN_NODE,
+    0,
+    PROP,
+    1,
+    0,
+    0x3100_0000,
+    PROP,
+    0,
+    2,
+    BEGIN_NODE,
+    N,
+    PROP,
+    0,
+    2,
+    END_NODE,
+    END_NODE,
+    END,
+];
+
 #[test]
 fn slack_is_left_out(rt: HostRuntime) -> Result<(), Fail> {
     let alloc = rt.alloc();
-    let node = 0x6e00_0000;
-    let bytes = file_of_words(
-        alloc,
-        &[
-            NOP,
-            BEGIN_NODE,
-            0,
-            NOP,
-            PROP,
-            1,
-            4,
-            0x31ff_ffff,
-            PROP,
-            0,
-            2,
-            BEGIN_NODE,
-            node,
-            PROP,
-            0,
-            6,
-            NOP,
-            END_NODE,
-            END_NODE,
-            NOP,
-            END,
-            7,
-        ],
-        b"z\0a\0b\0a\0",
-    )?;
-    let expected = file_of_words(
-        alloc,
-        &[
-            BEGIN_NODE,
-            0,
-            PROP,
-            1,
-            0,
-            0x3100_0000,
-            PROP,
-            0,
-            2,
-            BEGIN_NODE,
-            node,
-            PROP,
-            0,
-            2,
-            END_NODE,
-            END_NODE,
-            END,
-        ],
-        b"b\0a\0",
-    )?;
+    let bytes = file_of_words(alloc, &SLACK, b"z\0a\0b\0a\0")?;
+    let expected = file_of_words(alloc, &WITHOUT_SLACK, b"b\0a\0")?;
     assert!(rt; comes_back(alloc, &bytes, &expected)?);
     Ok(())
 }
