@@ -13,8 +13,8 @@ use Rattle.ipa_layout.specs.declared.item.Region.{Region}
 use Rattle.ipa_layout.specs.declared.rec.Rec.{Rec}
 use Rattle.ipa_layout.specs.declared.rec.PlacedRec.{PlacedRec}
 use Rattle.ipa_layout.specs.declared.standing.Standing.{Standing}
-use Rattle.ipa_layout.specs.declared.placed.Source.{Source}
-use Rattle.ipa_layout.specs.declared.placed.Source.TheVariants.{File, Edited}
+use Rattle.rim_desc.specs.declared.source.Source.{Source}
+use Rattle.rim_desc.specs.declared.source.Source.TheVariants.{File, Edited}
 use Rattle.ipa_layout.specs.declared.placed.PlacedItem.{PlacedItem}
 use Rattle.ipa_layout.specs.declared.fault.LayoutFault.{LayoutFault}
 use Rattle.ipa_layout.specs.declared.fault.LayoutFault.TheVariants as fault

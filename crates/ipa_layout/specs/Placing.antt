@@ -2,7 +2,7 @@
 -- at a multiple of 8 and has at most 2 MiB: Linux, booting.rst, "Setup the device tree"; that a kernel's base
 -- is a multiple of 2 MiB: "Call the kernel image". The rest is this project's choice.
 use Rattle.std.specs.Prelude.{ℕ, ◌+◌, ◌-◌, ◌%◌, ◌^◌, List, [], ◌∷◌, length, Bool, Result, Ok, Err, not, ◌&&◌, ◌||◌, ◌==◌, nat_lt, nat_le}
-use Rattle.rim_desc.specs.Refusal.{Check, unless_refused}
+use Rattle.refusal.specs.Checks.{Check, unless_refused}
 use Rattle.fdt_tree.specs.declared.fault.FdtFault.TheVariants.{TooLarge}
 use Rattle.ipa_layout.specs.declared.item.Item.{Item}
 use Rattle.ipa_layout.specs.declared.item.Region.{Region}

@@ -1,15 +1,7 @@
 //! Where a launch's items stand, as the layers above use it.
 use crate::rec::PlacedRec;
+use rim_desc::Source;
 use std::marker::Model;
-
-/// Where the bytes of an item's contents come from. Files come before edited devicetrees.
-#[derive(Clone, Copy, Debug, PartialEq, Eq)]
-pub enum Source {
-    /// The file of this number.
-    File(usize),
-    /// The devicetree that was changed for the launch of this number.
-    Edited(usize),
-}
 
 /// An item that has its place.
 #[derive(Clone, Copy, Debug, PartialEq, Eq)]

@@ -15,11 +15,12 @@ use crate::fault::LayoutFault;
 use crate::item::{Item, Kind, Region};
 use crate::launch::Launch;
 use crate::meeting::check_apart;
-use crate::placed::{Placed, PlacedItem, Source};
+use crate::placed::{Placed, PlacedItem};
 use crate::placing::place_item;
 use crate::rec::{PlacedRec, Rec};
 use crate::standing::{Standing, lead};
 use fdt_tree::FdtFault;
+use rim_desc::Source;
 use std::alloc::{AllocError, Global};
 
 /// The bytes of an item's file.

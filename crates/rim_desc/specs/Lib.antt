@@ -6,4 +6,3 @@ pub mod RecInside
 pub mod Descriptor
 pub mod Part
 pub mod Number
-pub mod Refusal

@@ -2,7 +2,7 @@
 ghost use Rattle.std.specs.Prelude.{◌≡◌, ◌++◌, OnErr, OnOk};
 ghost use Rattle.rim_desc.specs.Number.{digits_of};
 
-use crate::memory::NoMemory;
+use refusal::NoMemory;
 
 /// Adds a 64-bit number to a text, as 16 lower case hexadecimal digits. Where memory is wanting the
 /// text stays as it was.

@@ -3,7 +3,7 @@ use Rattle.std.proofs.Common.{inl, inr, ◌≡◌, ℕ, zero, suc, refl, Bool, f
 use Rattle.std.specs.Prelude.{Ok, Err}
 use Rattle.std.specs.List.{list_any}
 use Rattle.std.proofs.lemmas.Bool.{cases_Bool, or_parts}
-use Rattle.rim_desc.specs.Refusal.{Check, unless_refused}
+use Rattle.refusal.specs.Checks.{Check, unless_refused}
 
 -- the answer is what was asked for, or a refusal
 pub done-or-refused : {A Refusal : Type 0} (checks : List (Check Refusal)) (done : A)

@@ -17,7 +17,7 @@ use Rattle.rim_desc.specs.declared.realm.RealmParams.{RealmParams}
 use Rattle.rim_desc.specs.Rec.{RecData}
 use Rattle.rmm_model.specs.declared.outcome.Refused.{Refused}
 use Rattle.rmm_model.specs.declared.outcome.Refused.TheVariants.{State, BadParams, Unaligned, OutsideProtected, WalkLevel, NotFresh, NotRam, Assigned, RecIndex, AuxCount, NotUndelegated, NotDelegated}
-use Rattle.rim_desc.specs.Refusal.{Check}
+use Rattle.refusal.specs.Checks.{Check}
 use Rattle.rmm_model.specs.Blocks.{down, granules, is_multiple, size, span}
 use Rattle.rmm_model.specs.Start.{is_width, start_count, start_level}
 use Rattle.rmm_model.specs.Space.{Space, deeper, has, is_ram, overlaps, walk}

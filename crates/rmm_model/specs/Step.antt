@@ -3,7 +3,7 @@ use Rattle.std.specs.Prelude.{Result}
 use Rattle.rim_desc.specs.declared.command.Command.{Command}
 use Rattle.rmm_model.specs.declared.outcome.Refused.{Refused}
 use Rattle.rmm_model.specs.State.{State}
-use Rattle.rim_desc.specs.Refusal.{unless_refused}
+use Rattle.refusal.specs.Checks.{unless_refused}
 use Rattle.rmm_model.specs.Checks.{checks}
 use Rattle.rmm_model.specs.Effects.{changed, measured, parts}
 

@@ -2,7 +2,7 @@
 use Rattle.std.proofs.Common.{inl, inr, ◌≡◌, ℕ, ◌-◌, ◌≤◌, ◌∙◌, sym, refl, ap, arith, not, ◌&&◌, ◌||◌, ltb, leb, eqb, List, [], ◌∷◌, ◌++◌, map}
 use Rattle.std.proofs.lemmas.List.Folds.{list_any-append}
 use Rattle.rmm_model.specs.Blocks.{granules}
-use Rattle.rim_desc.specs.Refusal.{unless_refused}
+use Rattle.refusal.specs.Checks.{unless_refused}
 use Rattle.rmm_model.specs.Space.{has, is_ram, made, overlaps, walk}
 use Rattle.rmm_model.specs.declared.table.Table.{Table}
 use Rattle.rmm_model.proofs.Tests.{filter-same, list_all-same, list_any-same}

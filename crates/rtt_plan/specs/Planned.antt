@@ -2,7 +2,7 @@
 -- their order are this project's choice.
 use Rattle.std.specs.Prelude.{◌≡◌, ℕ, ◌+◌, ◌*◌, max, not, ◌||◌, nat_lt, List, [], ◌∷◌, ◌++◌, length, Result}
 use Rattle.std.specs.List.{list_all, list_any}
-use Rattle.rim_desc.specs.Refusal.{Check, unless_refused}
+use Rattle.refusal.specs.Checks.{Check, unless_refused}
 use Rattle.rmm_model.specs.Blocks.{granules, is_multiple}
 use Rattle.rmm_model.specs.Space.{Space, empty_space, has, is_ram, made, overlaps}
 use Rattle.rmm_model.specs.Start.{protected_end, start_level}

@@ -1,6 +1,6 @@
 //! The error of a call that can fail by want of memory alone.
 ghost use Rattle.std.specs.Prelude.{◌≡◌};
-ghost use Rattle.rim_desc.specs.declared.memory.NoMemory.{NoMemory};
+ghost use Rattle.refusal.specs.declared.memory.NoMemory.{NoMemory};
 
 use std::alloc::{AllocError, AllocFailed};
 
