@@ -1,4 +1,8 @@
 //! The words of the monitor's state and answers.
+ghost use Rattle.std.specs.Prelude.{◌≡◌};
+ghost use Rattle.rmm_model.specs.declared.outcome.Refused.TheVariants as refused;
+
+use refusal::NoMemory;
 
 /// What a granule is used for (DEN0137, granule states). A granule that is UNDELEGATED has none.
 #[derive(Clone, Copy, Debug, PartialEq, Eq)]
@@ -58,4 +62,12 @@ pub enum Refused {
     NotDelegated,
     /// The allocator refused a growth.
     NoMemory,
+}
+
+impl From<NoMemory> for Refused {
+    ghost from_gives = { λ _ e. e ≡ refused.NoMemory };
+
+    fn from(_error: NoMemory) -> Refused {
+        Refused::NoMemory
+    }
 }

@@ -1,6 +1,6 @@
 -- Parts of a list that pass a test.
 use Rattle.std.proofs.Common.{inl, inr, ◌≡◌, ℕ, ◌+◌, ◌<◌, ◌≤◌, ◌∙◌, sym, refl, arith, Bool, true, false, ◌&&◌, ltb, List, [], ◌∷◌, ◌++◌, ◌⊎◌}
-use Rattle.std.specs.Prelude.{Option, Some, None, is_some, Result, Ok, Err, OnOk, OnErr}
+use Rattle.std.specs.Prelude.{Option, Some, None, is_some}
 use Rattle.std.specs.BTreeMap.{insert_entry}
 use Rattle.std.specs.List.{filter, list_any}
 use Rattle.std.specs.Ordering.{nat_cmp}
@@ -11,11 +11,6 @@ use Rattle.std.proofs.Math.Bool.{or-false}
 use Rattle.rmm_model.proofs.Tests.{filter-same, list_any-same}
 use Rattle.std.proofs.lemmas.Bool.{cases_Bool, or_parts}
 use Rattle.rmm_monitor.specs.Apart.{are_apart}
-
--- what a call left, whether it was refused or not
-pub either : {T E : Type 0} {A B : Type 0} (r : Result T E) → OnOk r A → OnErr r B → A ⊎ B
-either (Ok t) a b = inl a
-either (Err e) a b = inr b
 
 filter-none : {X : Type 0} (p : X → Bool) (xs : List X) → filter p xs ≡ [] → list_any p xs ≡ false
 filter-none p [] = λ h. refl

@@ -9,3 +9,4 @@ mod parameters;
 mod space;
 
 pub use monitor::Monitor;
+pub use rmm_model::{Kind, Refused};

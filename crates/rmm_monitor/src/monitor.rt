@@ -1,6 +1,7 @@
 //! The monitor.
-ghost use Rattle.std.specs.Prelude.{◌≡◌, ◌≤◌, ◌⊎◌, not, ◌||◌, ◌∷◌, Ok, Err, OnOk, IfErr, IsOk, OnErr, length, option_map, true};
+ghost use Rattle.std.specs.Prelude.{◌≡◌, ◌≤◌, not, ◌||◌, ◌∷◌, Err, length, option_map, true};
 ghost use Rattle.std.specs.Bool.{OnFalse};
+ghost use Rattle.refusal.specs.Answer.{Applies};
 ghost use Rattle.rim_desc.specs.declared.command.Command.TheVariants.{Delegate, RealmCreate, RttCreate, InitRipas, DataCreate, RecCreate, Activate};
 ghost use Rattle.rmm_model.specs.State.{empty_state};
 ghost use Rattle.rmm_model.specs.Owners.{all_delegated, is_delegated, kind_of, repeats};
@@ -88,10 +89,7 @@ impl Monitor {
     }
 
     fn delegate(&mut self, granule: u64) -> Result<(), Refused>
-        ensures done { OnOk result (step self.old (Delegate granule) ≡ Ok self.new) }
-        ensures refused { IfErr result (λ e. (e ≡ Refused.NoMemory) ⊎ (step self.old (Delegate granule) ≡ Err e)) }
-        ensures memory { result ≡ Err Refused.NoMemory → IsOk (step self.old (Delegate granule)) }
-        ensures kept { OnErr result (self.new ≡ self.old) }
+        ensures { Applies Refused.NoMemory self.old self.new result (step self.old (Delegate granule)) }
     {
         if granule % 4096 != 0 {
             return Err(Refused::Unaligned);
@@ -99,17 +97,12 @@ impl Monitor {
         if self.owners.kind_of(granule).is_some() {
             return Err(Refused::NotUndelegated);
         }
-        match self.owners.add(granule, Kind::Delegated) {
-            Ok(()) => Ok(()),
-            Err(_) => Err(Refused::NoMemory),
-        }
+        self.owners.add(granule, Kind::Delegated)?;
+        Ok(())
     }
 
     fn rtt_create(&mut self, rtt: u64, ipa: u64, level: u8) -> Result<(), Refused>
-        ensures done { OnOk result (step self.old (RttCreate rtt ipa level) ≡ Ok self.new) }
-        ensures refused { IfErr result (λ e. (e ≡ Refused.NoMemory) ⊎ (step self.old (RttCreate rtt ipa level) ≡ Err e)) }
-        ensures memory { result ≡ Err Refused.NoMemory → IsOk (step self.old (RttCreate rtt ipa level)) }
-        ensures kept { OnErr result (self.new ≡ self.old) }
+        ensures { Applies Refused.NoMemory self.old self.new result (step self.old (RttCreate rtt ipa level)) }
     {
         if self.phase == Phase::Empty {
             return Err(Refused::State);
@@ -129,18 +122,14 @@ impl Monitor {
         if !self.owners.is_delegated(rtt) {
             return Err(Refused::NotDelegated);
         }
-        if self.space.add_table(level, ipa).is_err() {
-            return Err(Refused::NoMemory);
-        }
+        self.space.add_table(level, ipa)?;
         self.owners.give(rtt, Kind::Rtt);
         Ok(())
     }
 
     fn realm_create(&mut self, rd: u64, params: &RealmParams) -> Result<(), Refused>
-        ensures done { OnOk result (step self.old (RealmCreate rd params.now) ≡ Ok self.new) }
-        ensures refused { IfErr result (λ e. step self.old (RealmCreate rd params.now) ≡ Err e) }
+        ensures exact { Applies Refused.NoMemory self.old self.new result (step self.old (RealmCreate rd params.now)) }
         ensures growth { result ≡ Err Refused.NoMemory → ⊥ }
-        ensures kept { OnErr result (self.new ≡ self.old) }
     {
         if self.phase != Phase::Empty {
             return Err(Refused::State);
@@ -170,10 +159,7 @@ impl Monitor {
     }
 
     fn init_ripas(&mut self, base: u64, top: u64) -> Result<(), Refused>
-        ensures done { OnOk result (step self.old (InitRipas base top) ≡ Ok self.new) }
-        ensures refused { IfErr result (λ e. (e ≡ Refused.NoMemory) ⊎ (step self.old (InitRipas base top) ≡ Err e)) }
-        ensures memory { result ≡ Err Refused.NoMemory → IsOk (step self.old (InitRipas base top)) }
-        ensures kept { OnErr result (self.new ≡ self.old) }
+        ensures { Applies Refused.NoMemory self.old self.new result (step self.old (InitRipas base top)) }
     {
         if self.phase != Phase::New {
             return Err(Refused::State);
@@ -194,9 +180,7 @@ impl Monitor {
         if self.space.is_taken(level, base, top) {
             return Err(Refused::NotFresh);
         }
-        if self.space.add_run(base, top).is_err() {
-            return Err(Refused::NoMemory);
-        }
+        self.space.add_run(base, top)?;
         let entry = size_of_level(level);
         let rim = measured_so_far(self.rim);
         let count = (top - base) / entry;
@@ -210,10 +194,7 @@ impl Monitor {
         ipa: u64,
         content: Option<Measurement>,
     ) -> Result<(), Refused>
-        ensures done { OnOk result (step self.old (DataCreate granule ipa content) ≡ Ok self.new) }
-        ensures refused { IfErr result (λ e. (e ≡ Refused.NoMemory) ⊎ (step self.old (DataCreate granule ipa content) ≡ Err e)) }
-        ensures memory { result ≡ Err Refused.NoMemory → IsOk (step self.old (DataCreate granule ipa content)) }
-        ensures kept { OnErr result (self.new ≡ self.old) }
+        ensures { Applies Refused.NoMemory self.old self.new result (step self.old (DataCreate granule ipa content)) }
     {
         if self.phase != Phase::New {
             return Err(Refused::State);
@@ -240,19 +221,15 @@ impl Monitor {
         if !self.owners.is_delegated(granule) {
             return Err(Refused::NotDelegated);
         }
-        if self.space.add_page(ipa).is_err() {
-            return Err(Refused::NoMemory);
-        }
+        self.space.add_page(ipa)?;
         self.owners.give(granule, Kind::DataPage);
         self.rim = Some(extended_by_data(algo, measured_so_far(self.rim), ipa, content));
         Ok(())
     }
 
     fn rec_create(&mut self, rec: u64, params: &RecParams) -> Result<(), Refused>
-        ensures done { OnOk result (step self.old (RecCreate rec params.now) ≡ Ok self.new) }
-        ensures refused { IfErr result (λ e. step self.old (RecCreate rec params.now) ≡ Err e) }
+        ensures exact { Applies Refused.NoMemory self.old self.new result (step self.old (RecCreate rec params.now)) }
         ensures growth { result ≡ Err Refused.NoMemory → ⊥ }
-        ensures kept { OnErr result (self.new ≡ self.old) }
     {
         if self.phase != Phase::New {
             return Err(Refused::State);
@@ -281,10 +258,8 @@ impl Monitor {
     }
 
     fn activate(&mut self) -> Result<(), Refused>
-        ensures done { OnOk result (step self.old Activate ≡ Ok self.new) }
-        ensures refused { IfErr result (λ e. step self.old Activate ≡ Err e) }
+        ensures exact { Applies Refused.NoMemory self.old self.new result (step self.old Activate) }
         ensures growth { result ≡ Err Refused.NoMemory → ⊥ }
-        ensures kept { OnErr result (self.new ≡ self.old) }
     {
         if self.phase != Phase::New {
             return Err(Refused::State);
@@ -300,11 +275,8 @@ impl Monitor {
     /// Delegate, RttCreate and DataCreate take the logarithm of the number of granules, tables, ranges and
     /// pages; InitRipas besides a hash for each entry, RealmCreate and DataCreate one, RecCreate two.
     pub fn apply(&mut self, command: &Command) -> Result<(), Refused>
-        ensures done { OnOk result (step self.old command.now ≡ Ok self.new) }
-        ensures refused { IfErr result (λ e. (e ≡ Refused.NoMemory) ⊎ (step self.old command.now ≡ Err e)) }
-        ensures memory { result ≡ Err Refused.NoMemory → IsOk (step self.old command.now) }
+        ensures exact { Applies Refused.NoMemory self.old self.new result (step self.old command.now) }
         ensures growth { result ≡ Err Refused.NoMemory → adds_something command.now ≡ true }
-        ensures kept { OnErr result (self.new ≡ self.old) }
     {
         match command {
             Command::Delegate { granule } => self.delegate(*granule),

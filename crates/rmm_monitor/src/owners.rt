@@ -3,7 +3,7 @@ ghost use Rattle.std.specs.Prelude.{◌≡◌, true, OnOk, OnErr, is_some, lengt
 ghost use Rattle.rmm_model.specs.Owners.{all_delegated, give, give_all, is_delegated, kind_of};
 ghost use Rattle.rmm_monitor.specs.Owned.{all_owned};
 
-use rim_desc::NoMemory;
+use refusal::NoMemory;
 use rmm_model::Kind;
 use std::alloc::Global;
 use std::collections::BTreeMap;
@@ -67,10 +67,8 @@ impl Owners {
         ensures ok { OnOk result (self.new ≡ give self.old granule kind) }
         ensures err { OnErr result (self.new ≡ self.old) }
     {
-        match self.by_granule.insert(granule, kind) {
-            Ok(_) => Ok(()),
-            Err(_) => Err(NoMemory),
-        }
+        self.by_granule.insert(granule, kind)?;
+        Ok(())
     }
 
     /// Gives a granule that has a kind another.

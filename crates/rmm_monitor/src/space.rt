@@ -5,7 +5,7 @@ ghost use Rattle.rmm_model.specs.Space.{after_page, after_run, after_table, deep
 ghost use Rattle.rmm_model.specs.Checks.{is_taken};
 ghost use Rattle.rmm_monitor.specs.Apart.{are_apart};
 
-use rim_desc::NoMemory;
+use refusal::NoMemory;
 use rmm_model::Table;
 use rmm_model::size::table_base;
 use std::alloc::Global;
@@ -134,10 +134,8 @@ impl IpaSpace {
         ensures ok { OnOk result (self.new ≡ after_table self.old level base) }
         ensures err { OnErr result (self.new ≡ self.old) }
     {
-        match self.tables.insert(Table { level, base }) {
-            Ok(_) => Ok(()),
-            Err(_) => Err(NoMemory),
-        }
+        self.tables.insert(Table { level, base })?;
+        Ok(())
     }
 
     /// Makes a range RAM of which nothing is RAM.
@@ -147,10 +145,8 @@ impl IpaSpace {
         ensures ok { OnOk result (self.new ≡ after_run self.old base top) }
         ensures err { OnErr result (self.new ≡ self.old) }
     {
-        match self.ram.insert(base, top) {
-            Ok(_) => Ok(()),
-            Err(_) => Err(NoMemory),
-        }
+        self.ram.insert(base, top)?;
+        Ok(())
     }
 
     /// Gives a page data.
@@ -158,10 +154,8 @@ impl IpaSpace {
         ensures ok { OnOk result (self.new ≡ after_page self.old ipa) }
         ensures err { OnErr result (self.new ≡ self.old) }
     {
-        match self.filled.insert(ipa) {
-            Ok(_) => Ok(()),
-            Err(_) => Err(NoMemory),
-        }
+        self.filled.insert(ipa)?;
+        Ok(())
     }
 }
 

@@ -1,28 +1,13 @@
-use Rattle.std.proofs.Common.{◌≡◌, ◌∙◌, ◌<◌, ◌-◌, ◌/◌, sym, refl, false, arith, rules}
+use Rattle.std.proofs.Common.{◌≡◌, ◌∙◌, ◌<◌, ◌-◌, ◌/◌, sym, refl, false, arith}
 use Rattle.std.proofs.lemmas.Grind.{common_steps}
 use Rattle.rmm_model.specs.Blocks.{size}
 use Rattle.rmm_model.specs.Checks.{is_cut, walk_of}
 use Rattle.rmm_monitor.proofs.Stretches.{count-some, measured-stretches}
 use Rattle.rmm_monitor.proofs.monitor.Monitor.init_ripas.Goals as goal
 
-pub returns-clause-done : goal.returns-clause-done
-returns-clause-done c =
+pub returns : goal.returns
+returns c =
     let level : c.walk_level-level.result ≡ walk_of c.args.self.now.space c.args.base = c.walk_level-level.ensures.value ∙ rw (← c.self.view_is) refl in
     let whole : is_cut c.walk_level-level.result c.args.base c.args.top ≡ false = sym c.if-is_cut.ensures in
     let some : 0 < (c.args.top - c.args.base) / size (walk_of c.args.self.now.space c.args.base) = rw (← level) (count-some c.walk_level-level.result c.args.base c.args.top (omega arith) whole) in
     rw (measured-stretches _ _ _ _ some) (grind (arith, common_steps))
-
-pub returns-then-base-ne0-clause-refused : goal.returns-then-base-ne0-clause-refused
-returns-then-base-ne0-clause-refused c = search rules fits 100
-
-pub returns-then-top-half-clause-refused : goal.returns-then-top-half-clause-refused
-returns-then-top-half-clause-refused c = grind (arith, common_steps) steps 300000
-
-pub returns-then-is_cut-clause-refused : goal.returns-then-is_cut-clause-refused
-returns-then-is_cut-clause-refused c = grind (arith, common_steps) steps 300000
-
-pub returns-then-is_taken-clause-refused : goal.returns-then-is_taken-clause-refused
-returns-then-is_taken-clause-refused c = grind (arith, common_steps) steps 300000
-
-pub returns-then-is_err-clause-memory : goal.returns-then-is_err-clause-memory
-returns-then-is_err-clause-memory c = grind (arith, common_steps) steps 300000

@@ -1,5 +1,4 @@
 use Rattle.std.proofs.Common.{◌≡◌, ◌-◌, ◌<◌, ◌≤◌, ◌%◌, ℕ, suc, arith}
-use Rattle.std.proofs.lemmas.Grind.{common_steps}
 use Rattle.rmm_model.specs.Blocks.{down, size, span}
 use Rattle.rmm_model.proofs.Blocks.{down-multiple, size-pos, span-size}
 use Rattle.rmm_monitor.proofs.monitor.Monitor.rtt_create.Goals as goal
@@ -13,24 +12,3 @@ at-table level x above deepest multiple =
 
 pub add_table-requires-clause-multiple : goal.add_table-requires-clause-multiple
 add_table-requires-clause-multiple c = at-table c.args.level c.args.ipa (omega arith) (omega arith) (rw c.size_of_level.ensures.value at c.if-ipa-size_of_level-ne0.false)
-
-pub returns-then-level-start-clause-refused : goal.returns-then-level-start-clause-refused
-returns-then-level-start-clause-refused c = grind (arith, common_steps) steps 300000
-
-pub returns-then-ipa-half-clause-refused : goal.returns-then-ipa-half-clause-refused
-returns-then-ipa-half-clause-refused c = grind (arith, common_steps) steps 300000
-
-pub returns-then-walk_level-level-clause-refused : goal.returns-then-walk_level-level-clause-refused
-returns-then-walk_level-level-clause-refused c = grind (arith, common_steps) steps 300000
-
-pub returns-then-not-is_delegated-clause-refused : goal.returns-then-not-is_delegated-clause-refused
-returns-then-not-is_delegated-clause-refused c = grind (arith, common_steps) steps 300000
-
-pub returns-then-is_err-clause-memory : goal.returns-then-is_err-clause-memory
-returns-then-is_err-clause-memory c = grind (arith, common_steps) steps 300000
-
-pub returns-clause-done : goal.returns-clause-done
-returns-clause-done c = grind (arith, common_steps) steps 500000
-
-pub returns-then-eq-clause-refused : goal.returns-then-eq-clause-refused
-returns-then-eq-clause-refused c = grind (arith, common_steps) steps 300000
