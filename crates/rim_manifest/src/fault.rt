@@ -1,7 +1,9 @@
 //! Why a manifest is refused.
 ghost use Rattle.std.specs.Prelude.{◌≡◌, Option};
+ghost use Rattle.rim_manifest.specs.declared.fault.ManifestFault.TheVariants as fault;
 ghost use Rattle.rim_manifest.specs.Faults.{fault_if, kind_of, lower, noted};
 
+use std::alloc::AllocError;
 use thiserror::Error;
 
 /// Why a manifest is refused. Of the faults that hold anywhere in it the first of this list is
@@ -41,6 +43,14 @@ pub enum ManifestFault {
     /// The allocator refused a growth.
     #[error("no-memory")]
     NoMemory,
+}
+
+impl From<AllocError> for ManifestFault {
+    ghost from_gives = { λ _ e. e ≡ fault.NoMemory };
+
+    fn from(_error: AllocError) -> ManifestFault {
+        ManifestFault::NoMemory
+    }
 }
 
 impl ManifestFault {

@@ -1,6 +1,7 @@
 //! Reading a manifest.
-ghost use Rattle.std.specs.Prelude.{◌≡◌, ◌<◌, ◌⊎◌, Err, IfOk, Some, codes, length, map, position, slice_get, string_bytes};
+ghost use Rattle.std.specs.Prelude.{◌≡◌, ◌<◌, IfOk, Some, codes, length, map, position, slice_get, string_bytes};
 ghost use Rattle.std.specs.List.{flat_map, list_any};
+ghost use Rattle.refusal.specs.Answer.{Answers};
 ghost use Rattle.toml.specs.Data.{get_member};
 ghost use Rattle.toml.specs.View.{table_view, view};
 ghost use Rattle.rim_manifest.specs.Faults.{lowest, noted};
@@ -73,7 +74,7 @@ impl Release {
 
 /// Reads a manifest, or answers the lowest fault that holds anywhere in it.
 pub fn read_manifest(alloc: Global, text: &[u8]) -> Result<Release, ManifestFault>
-    ensures { (result ≡ Err ManifestFault.NoMemory) ⊎ (result ≡ manifest_of text.now) }
+    ensures { Answers ManifestFault.NoMemory (λ release. release) result (manifest_of text.now) }
 {
     let table = match toml::table_from_slice(alloc, text) {
         Ok(table) => table,
@@ -147,11 +148,9 @@ fn check_launch(item: &Value, found: &mut Option<ManifestFault>)
 
 /// Reads what a document without faults in its tables describes.
 fn read_release(alloc: Global, table: &Table) -> Result<Release, ManifestFault>
-    ensures { (result ≡ Err ManifestFault.NoMemory) ⊎ (result ≡ release_of (table_view table.now)) }
+    ensures { Answers ManifestFault.NoMemory (λ release. release) result (release_of (table_view table.now)) }
 {
-    let Ok(launches) = read_launches(alloc, launches(table)) else {
-        return Err(ManifestFault::NoMemory);
-    };
+    let launches = read_launches(alloc, launches(table))?;
     // The search is quadratic in the launches, of which there are at most 1,024 by now.
     if has_two_names(launches.as_slice()) {
         return Err(ManifestFault::TwoNames);

@@ -37,3 +37,9 @@ abbrev pub show_kind_of : ShowFault → List ℕ
 show_kind_of (show.Image fault) = image_kind_of fault
 show_kind_of (show.Dtb fault) = devicetree_kind_of fault
 show_kind_of show.NoMemory = codes "no-memory"
+
+-- Why a devicetree is not shown. Want of memory is never reported as a fault of the devicetree, nor the
+-- other way round.
+abbrev pub shown_fault : FdtFault → ShowFault
+shown_fault fdt.NoMemory = show.NoMemory
+shown_fault fault = show.Dtb fault

@@ -6,8 +6,9 @@ ghost use Rattle.fdt_tree.specs.Trees.{devicetree_of};
 ghost use Rattle.rim_release.specs.Devicetrees.{IsDevicetreeFault, ShowsDevicetree, boot_line, devicetree_text, inner_text, node_line, path_below, property_line, reservation_line, value_text};
 
 use crate::fault::ShowFault;
-use fdt_tree::{FdtFault, Node, Property, Reservation, Tree};
-use rim_desc::{NoMemory, push_digits};
+use fdt_tree::{Node, Property, Reservation, Tree};
+use refusal::NoMemory;
+use rim_desc::push_digits;
 use std::alloc::Global;
 
 /// A flattened devicetree, node by node: a line `boot_cpu N`; for each reservation its address and its
@@ -17,14 +18,9 @@ pub fn show_fdt(alloc: Global, bytes: &[u8]) -> Result<Vec<u8>, ShowFault>
     ensures shown { IfOk result (λ text. ShowsDevicetree bytes.now text.items) }
     ensures refused { IfErr result (IsDevicetreeFault bytes.now) }
 {
-    match fdt_tree::read(alloc, bytes) {
-        Ok(tree) => match tree_text(alloc, &tree) {
-            Ok(text) => Ok(text),
-            Err(NoMemory) => Err(ShowFault::NoMemory),
-        },
-        Err(FdtFault::NoMemory) => Err(ShowFault::NoMemory),
-        Err(fault) => Err(ShowFault::Dtb(fault)),
-    }
+    let tree = fdt_tree::read(alloc, bytes)?;
+    let text = tree_text(alloc, &tree)?;
+    Ok(text)
 }
 
 fn tree_text(alloc: Global, tree: &Tree) -> Result<Vec<u8>, NoMemory>

@@ -1,9 +1,12 @@
 //! Why a call of this crate is refused.
 ghost use Rattle.std.specs.Prelude.{◌≡◌};
-ghost use Rattle.rim_release.specs.Faults.{devicetree_kind_of, image_kind_of, show_kind_of, start_kind_of};
+ghost use Rattle.rim_release.specs.Faults.{devicetree_kind_of, image_kind_of, show_kind_of, shown_fault, start_kind_of};
+ghost use Rattle.rim_release.specs.declared.fault.ShowFault.TheVariants as show;
+ghost use Rattle.rim_release.specs.declared.fault.StartFault.TheVariants as start;
 
 use arm64_image::ImageFault;
 use fdt_tree::FdtFault;
+use refusal::NoMemory;
 use thiserror::Error;
 
 /// Why the measuring of a release does not start.
@@ -18,6 +21,14 @@ pub enum StartFault {
     /// The allocator refused a growth.
     #[error("no-memory")]
     NoMemory,
+}
+
+impl From<NoMemory> for StartFault {
+    ghost from_gives = { λ _ e. e ≡ start.NoMemory };
+
+    fn from(_error: NoMemory) -> StartFault {
+        StartFault::NoMemory
+    }
 }
 
 impl StartFault {
@@ -45,6 +56,34 @@ pub enum ShowFault {
     /// The allocator refused a growth.
     #[error("no-memory")]
     NoMemory,
+}
+
+impl From<NoMemory> for ShowFault {
+    ghost from_gives = { λ _ e. e ≡ show.NoMemory };
+
+    fn from(_error: NoMemory) -> ShowFault {
+        ShowFault::NoMemory
+    }
+}
+
+impl From<ImageFault> for ShowFault {
+    ghost from_gives = { λ fault e. e ≡ show.Image fault };
+
+    fn from(fault: ImageFault) -> ShowFault {
+        ShowFault::Image(fault)
+    }
+}
+
+/// A devicetree's own fault stays its own; want of memory is the outer fault's.
+impl From<FdtFault> for ShowFault {
+    ghost from_gives = { λ fault e. e ≡ shown_fault fault };
+
+    fn from(fault: FdtFault) -> ShowFault {
+        match fault {
+            FdtFault::NoMemory => ShowFault::NoMemory,
+            fault => ShowFault::Dtb(fault),
+        }
+    }
 }
 
 impl ShowFault {

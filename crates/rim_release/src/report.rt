@@ -1,6 +1,7 @@
 //! The report of a release.
-ghost use Rattle.std.specs.Prelude.{◌≡◌, ◌++◌, IfErr, IfOk, OnOk, length, vec_len};
+ghost use Rattle.std.specs.Prelude.{◌≡◌, ◌++◌, IfOk, Ok, OnOk, length, vec_len};
 ghost use Rattle.std.specs.List.{flat_map};
+ghost use Rattle.refusal.specs.Answer.{Answers};
 ghost use Rattle.rim_release.specs.Report.{algo_word, digest_bytes, digest_text, line_of, report_of};
 ghost use Rattle.rim_desc.specs.Part.{rim_of};
 ghost use Rattle.rim_release.specs.Measured.{measured_parts};
@@ -8,9 +9,10 @@ ghost use Rattle.rim_release.specs.Measured.{measured_parts};
 use crate::fault::StartFault;
 use crate::measured::rim;
 use ipa_layout::Config;
+use refusal::NoMemory;
 use rim_desc::{Algo, Measurement};
 use rim_manifest::{NamedLaunch, Release};
-use std::alloc::{AllocError, Global};
+use std::alloc::Global;
 
 /// The bytes of a release's files, in the manifest's order.
 pub type Files = Vec<Vec<u8>>;
@@ -19,17 +21,14 @@ pub type Files = Vec<Vec<u8>>;
 /// `NAME ALGO HEX` for each launch in the manifest's order, and a line `pages N`.
 pub fn measure_alone(alloc: Global, release: &Release, files: &Files) -> Result<Vec<u8>, StartFault>
     requires { vec_len files.now ≡ length release.now.paths }
-    ensures report { IfOk result (λ text. text.items ≡ report_of release.now.launches) }
-    ensures fault { IfErr result (λ e. e ≡ StartFault.NoMemory) }
+    ensures { Answers StartFault.NoMemory (λ text. text.items) result (Ok (report_of release.now.launches)) }
 {
     let _ = files;
-    match report(alloc, release.all_launches()) {
-        Ok(text) => Ok(text),
-        Err(_) => Err(StartFault::NoMemory),
-    }
+    let text = report(alloc, release.all_launches())?;
+    Ok(text)
 }
 
-fn report(alloc: Global, launches: &[NamedLaunch]) -> Result<Vec<u8>, AllocError>
+fn report(alloc: Global, launches: &[NamedLaunch]) -> Result<Vec<u8>, NoMemory>
     ensures { IfOk result (λ text. text.items ≡ report_of launches.now) }
 {
     let mut text = Vec::new(alloc);
@@ -39,7 +38,7 @@ fn report(alloc: Global, launches: &[NamedLaunch]) -> Result<Vec<u8>, AllocError
     Ok(text)
 }
 
-fn push_lines(alloc: Global, text: &mut Vec<u8>, launches: &[NamedLaunch]) -> Result<(), AllocError>
+fn push_lines(alloc: Global, text: &mut Vec<u8>, launches: &[NamedLaunch]) -> Result<(), NoMemory>
     ensures { OnOk result (text.new.items ≡ text.old.items ++ flat_map line_of launches.now) }
 {
     for launch in launches {
@@ -49,7 +48,7 @@ fn push_lines(alloc: Global, text: &mut Vec<u8>, launches: &[NamedLaunch]) -> Re
 }
 
 #[tactic(auto, unfolding(crate::specs::Report::line_of))]
-fn push_line(alloc: Global, text: &mut Vec<u8>, launch: &NamedLaunch) -> Result<(), AllocError>
+fn push_line(alloc: Global, text: &mut Vec<u8>, launch: &NamedLaunch) -> Result<(), NoMemory>
     ensures { OnOk result (text.new.items ≡ text.old.items ++ line_of launch.now) }
 {
     let config = launch.launch().config();
@@ -70,7 +69,7 @@ fn algo_word(algo: Algo) -> &'static [u8]
     }
 }
 
-fn push_digest(alloc: Global, text: &mut Vec<u8>, config: Config) -> Result<(), AllocError>
+fn push_digest(alloc: Global, text: &mut Vec<u8>, config: Config) -> Result<(), NoMemory>
     ensures { OnOk result (text.new.items ≡ text.old.items ++ digest_text config.algo (rim_of config.algo (measured_parts config))) }
 {
     let rim = rim(config);

@@ -1,26 +1,23 @@
 //! The texts that show an Image.
-ghost use Rattle.std.specs.Prelude.{◌≡◌, ◌++◌, ◌⊎◌, Err, IfErr, IfOk, Ok, OnOk};
+ghost use Rattle.std.specs.Prelude.{◌≡◌, ◌++◌, IfOk, OnOk};
+ghost use Rattle.refusal.specs.Answer.{Answers};
 ghost use Rattle.rim_release.specs.Shown.{field_line, image_answer_of, image_text_of};
 
 use crate::fault::ShowFault;
 use arm64_image::Header;
-use rim_desc::{NoMemory, push_digits};
+use refusal::NoMemory;
+use rim_desc::push_digits;
 use std::alloc::Global;
 
 /// The header of an arm64 Image, a line for each number: `text_offset`, `image_size` and `flags` as
 /// they stand in it, and the load offset and the extent in bytes that follow from them. A number is 16
 /// lower case hexadecimal digits.
 pub fn show_image(alloc: Global, bytes: &[u8]) -> Result<Vec<u8>, ShowFault>
-    ensures shown { IfOk result (λ text. image_answer_of bytes.now ≡ Ok text.items) }
-    ensures refused { IfErr result (λ e. (e ≡ ShowFault.NoMemory) ⊎ (image_answer_of bytes.now ≡ Err e)) }
+    ensures { Answers ShowFault.NoMemory (λ text. text.items) result (image_answer_of bytes.now) }
 {
-    match arm64_image::read(bytes) {
-        Ok(header) => match image_text(alloc, &header, bytes.len() as u64) {
-            Ok(text) => Ok(text),
-            Err(NoMemory) => Err(ShowFault::NoMemory),
-        },
-        Err(fault) => Err(ShowFault::Image(fault)),
-    }
+    let header = arm64_image::read(bytes)?;
+    let text = image_text(alloc, &header, bytes.len() as u64)?;
+    Ok(text)
 }
 
 fn image_text(alloc: Global, header: &Header, file_len: u64) -> Result<Vec<u8>, NoMemory>

@@ -62,6 +62,14 @@ fn rec(rec: u64, flags: u64, mpidr: u64, aux: [u64; 2]) -> Command {
     }
 }
 
+/// A REC with one auxiliary granule, where the monitor's RECs have two.
+fn with_one_aux(mpidr: u64) -> Command {
+    Command::RecCreate {
+        rec: FREE,
+        params: RecParams::new(1, mpidr, 0, [0; 8], &[FREE]),
+    }
+}
+
 #[test]
 fn delegate_row(rt: HostRuntime) {
     let mut monitor = Monitor::new(rt.alloc(), 0);
@@ -226,6 +234,11 @@ fn init_ripas_row(rt: HostRuntime) {
         (ripas(GIB, 3 * GIB), Refused::NotFresh),
         (ripas(HALF - GIB, HALF), Refused::NotFresh),
         (ripas(3 * GIB, HALF), Refused::NotFresh),
+        (ripas(HALF - GIB + 4096, HALF), Refused::WalkLevel),
+        (
+            ripas(HALF - GIB + 4096, HALF + 4096),
+            Refused::OutsideProtected,
+        ),
     ];
     refuse_all(&rt, &mut monitor, &later);
     take_all(
@@ -374,11 +387,11 @@ fn rec_indices(rt: HostRuntime) {
             Refused::RecIndex,
         );
     }
-    let bare = Command::RecCreate {
-        rec: FREE,
-        params: RecParams::new(1, 0, 0, [0; 8], &[FREE]),
-    };
-    refuse(&rt, &mut monitor, &bare, Refused::AuxCount);
+    let bare = [
+        (with_one_aux(1), Refused::RecIndex),
+        (with_one_aux(0), Refused::AuxCount),
+    ];
+    refuse_all(&rt, &mut monitor, &bare);
 }
 
 #[test]

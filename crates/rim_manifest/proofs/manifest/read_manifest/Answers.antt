@@ -7,17 +7,14 @@ use Rattle.rim_manifest.proofs.manifest.read_manifest.Goals as goal
 pub returns : goal.returns
 returns c =
     let document = document_read c.args.text.now _ c.in-Ok.ensures.ok.0 c.in-Ok.ensures.ok.1 in
-    elim c.read_release.ensures [
-      | inl memory ↦ inl memory
-      | inr answer ↦ inr (answer ∙ answered c.args.text.now _ None document c.in-None.ensures)
-    ]
+    rw (← answered c.args.text.now _ None document c.in-None.ensures) c.read_release.ensures
 
 pub returns-in-Some : goal.returns-in-Some
 returns-in-Some c =
     let document = document_read c.args.text.now _ c.in-Ok.ensures.ok.0 c.in-Ok.ensures.ok.1 in
-    inr (answered c.args.text.now _ (Some c.in-Some.fault) document c.in-Some.ensures)
+    inr (sym (answered c.args.text.now _ (Some c.in-Some.fault) document c.in-Some.ensures))
 
 pub returns-in-Err : goal.returns-in-Err
 returns-in-Err c =
     let not_memory : ¬ (IsMemory c.in-Err.error) = λ m. let t : c.is_memory.result ≡ true = c.is_memory.ensures.1 m in false≢true (sym c.if-is_memory.false ∙ t) in
-    inr (refused c.args.text.now (document_refused c.args.text.now (c.in-Err.ensures.refused not_memory)))
+    inr (sym (refused c.args.text.now (document_refused c.args.text.now (c.in-Err.ensures.refused not_memory))))

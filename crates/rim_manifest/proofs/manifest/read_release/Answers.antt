@@ -6,9 +6,9 @@ use Rattle.rim_manifest.proofs.Answering.{release_one, release_two}
 use Rattle.rim_manifest.proofs.manifest.read_release.Goals as goal
 
 pub returns : goal.returns
-returns c = inr (sym (release_one (table_view c.args.table.now) _ c.in-Ok.launches.items (ap (map string_bytes) c.new.ensures.items)
-    (c.in-Ok.ensures ∙ ap (launches_from 0) c.launches.ensures) (ap has_two_names (sym c.as_slice.ensures.value) ∙ sym c.has_two_names.ensures ∙ c.if-has_two_names.false)))
+returns c = release_one (table_view c.args.table.now) _ c.in_ok-launches.launches.items (ap (map string_bytes) c.new.ensures.items)
+    (c.in_ok-launches.ensures ∙ ap (launches_from 0) c.launches.ensures) (ap has_two_names (sym c.as_slice.ensures.value) ∙ sym c.has_two_names.ensures ∙ c.if-has_two_names.false)
 
 pub returns-then-has_two_names : goal.returns-then-has_two_names
-returns-then-has_two_names c = inr (sym (release_two (table_view c.args.table.now) c.in-Ok.launches.items (c.in-Ok.ensures ∙ ap (launches_from 0) c.launches.ensures)
-    (ap has_two_names (sym c.as_slice.ensures.value) ∙ sym c.has_two_names.ensures ∙ c.if-has_two_names.true)))
+returns-then-has_two_names c = inr (release_two (table_view c.args.table.now) c.in_ok-launches.launches.items (c.in_ok-launches.ensures ∙ ap (launches_from 0) c.launches.ensures)
+    (ap has_two_names (sym c.as_slice.ensures.value) ∙ sym c.has_two_names.ensures ∙ c.if-has_two_names.true))

@@ -1,12 +1,24 @@
-use Rattle.std.proofs.Common.{◌≡◌, ◌≢◌, Option, Some, refl, rules}
-use Rattle.fdt_tree.specs.Reading.{IsRefusal}
+use Rattle.std.proofs.Common.{◌≡◌, ℕ, List}
+use Rattle.std.specs.Prelude.{Result, Ok, Err, IfOk, IfErr}
+use Rattle.std.specs.Result.{IsErrAnd}
+use Rattle.fdt_tree.specs.Reading.{IsRefusal, refusal_of}
 use Rattle.fdt_tree.specs.declared.fault.FdtFault.{FdtFault}
 use Rattle.fdt_tree.specs.declared.fault.FdtFault.TheVariants as fdt
+use Rattle.rim_release.specs.Devicetrees.{IsDevicetreeFault}
+use Rattle.rim_release.specs.Faults.{shown_fault}
+use Rattle.rim_release.specs.declared.fault.ShowFault.{ShowFault}
 use Rattle.rim_release.proofs.devicetree.show_fdt.Goals as goal
 
-not_memory : (e : FdtFault) (r : Option FdtFault) → IsRefusal e r → e ≢ fdt.NoMemory → r ≡ Some e
-not_memory fdt.NoMemory r h n = absurd (n refl)
-not_memory e r h n = h
+own_fault : (bytes : List ℕ) (fault : FdtFault) (shown : ShowFault) → IsRefusal fault (refusal_of bytes) → shown ≡ shown_fault fault → IsDevicetreeFault bytes shown
+own_fault bytes fdt.NoMemory shown h e = rw e tt
+own_fault bytes fault shown h e = rw e h
 
-pub returns : goal.returns
-returns c = record { shown = tt; refused = not_memory _ _ c.in-Err.ensures.refused (search rules) }
+refused : {X : Type 0} (P : X → Type 0) (bytes : List ℕ) (fault : FdtFault) (r : Result X ShowFault) → IsRefusal fault (refusal_of bytes)
+    → IsErrAnd r (λ shown. shown ≡ shown_fault fault) → IfOk r P × IfErr r (IsDevicetreeFault bytes)
+refused P bytes fault (Ok x) h e = absurd e
+refused P bytes fault (Err shown) h e = (tt, own_fault bytes fault shown h e)
+
+pub returns-in_err-tree : goal.returns-in_err-tree
+returns-in_err-tree c =
+    let both = refused _ c.args.bytes.now c.in_err-tree.field-0.0 c.from_residual.result c.in_err-tree.ensures.refused c.from_residual.ensures.1 in
+    record { shown = both.0; refused = both.1 }

@@ -1,3 +1,4 @@
+use Rattle.std.proofs.lemmas.Grind.{common_steps}
 use Rattle.std.proofs.Common.{◌≡◌, ◌-◌, ◌<◌, ◌≤◌, ◌%◌, ℕ, suc, arith}
 use Rattle.rmm_model.specs.Blocks.{down, size, span}
 use Rattle.rmm_model.proofs.Blocks.{down-multiple, size-pos, span-size}
@@ -12,3 +13,12 @@ at-table level x above deepest multiple =
 
 pub add_table-requires-clause-multiple : goal.add_table-requires-clause-multiple
 add_table-requires-clause-multiple c = at-table c.args.level c.args.ipa (omega arith) (omega arith) (rw c.size_of_level.ensures.value at c.if-ipa-size_of_level-ne0.false)
+
+pub returns : goal.returns
+returns c = grind (arith, common_steps) steps 500000
+
+pub returns-then-not-is_delegated : goal.returns-then-not-is_delegated
+returns-then-not-is_delegated c = grind (arith, common_steps) steps 500000
+
+pub returns-in_err-add_table : goal.returns-in_err-add_table
+returns-in_err-add_table c = grind (arith, common_steps) steps 500000
