@@ -2,7 +2,11 @@ pub mod Refusals
 pub mod Tests
 pub mod Blocks
 pub mod Walks
+pub mod LookUps
 pub mod Ranges
+pub mod Appends
+pub mod Same
+pub mod Granules
 pub mod Owners
 pub mod Spaces
 pub mod Runs
