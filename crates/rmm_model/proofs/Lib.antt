@@ -5,10 +5,10 @@ pub mod Walks
 pub mod LookUps
 pub mod Ranges
 pub mod Appends
-pub mod Same
 pub mod Granules
 pub mod Owners
 pub mod Spaces
+pub mod Same
 pub mod Runs
 pub mod Steps
 pub mod Rims

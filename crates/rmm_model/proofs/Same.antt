@@ -2,11 +2,13 @@
 use Rattle.std.proofs.Common.{inl, inr, ◌≡◌, ℕ, ◌<◌, ◌≤◌, ◌∙◌, sym, refl, ap, arith, Bool, true, false, ◌&&◌, ◌||◌, leb, ltb, List, [], ◌∷◌, ◌++◌}
 use Rattle.std.proofs.lemmas.Bool.{cases_Bool}
 use Rattle.std.proofs.lemmas.Bool.Decides.{nat_tests}
+use Rattle.std.specs.BTreeSet.{insert_key}
 use Rattle.rmm_model.specs.declared.table.Table.{Table}
-use Rattle.rmm_model.specs.Space.{ArePlaced, SameSpace, Space, are_some, deeper, is_ram, made, overlaps, walk}
+use Rattle.rmm_model.specs.Space.{ArePlaced, SameSpace, SameTables, Space, are_some, deeper, is_ram, made, overlaps, table_cmp, walk}
 use Rattle.rmm_model.specs.Checks.{walk_of}
 use Rattle.rmm_model.proofs.Appends.{made-append}
 use Rattle.rmm_model.proofs.Ranges.{overlaps-some, some-overlaps}
+use Rattle.rmm_model.proofs.Spaces.{made-insert}
 use Rattle.rmm_model.proofs.Walks.{EndsAt, made-here, made-there, walk-ends, walk-from, walk-least}
 
 -- tests that hold together are the same
@@ -17,25 +19,29 @@ both-ways false false there back = refl
 
 -- ---- tables
 
--- the same tables, in whatever order
-abbrev pub AreAlike : List Table → List Table → Type 0
-AreAlike ts us = (level base : ℕ) → made ts level base ≡ made us level base
-
-pub append-alike : (ts us new : List Table) → AreAlike ts us → AreAlike (ts ++ new) (us ++ new)
+pub append-alike : (ts us new : List Table) → SameTables ts us → SameTables (ts ++ new) (us ++ new)
 append-alike ts us new alike level base =
     made-append ts new level base ∙ ap (λ b. b || made new level base) (alike level base) ∙ sym (made-append us new level base)
 
-pub placed-alike : (start : ℕ) (ts us : List Table) → AreAlike ts us → ArePlaced start ts → ArePlaced start us
+-- a table put in its place in the order, and put at the end
+pub insert-alike : (ts us : List Table) (t : Table) → SameTables ts us → SameTables (insert_key table_cmp ts t) (us ++ t ∷ [])
+insert-alike ts us t alike level base =
+    let h = made-insert ts t level base in
+    let k = made-append us (t ∷ []) level base in
+    let old = alike level base in
+    grind (arith, nat_tests)
+
+pub placed-alike : (start : ℕ) (ts us : List Table) → SameTables ts us → ArePlaced start ts → ArePlaced start us
 placed-alike start ts us alike placed = record { shape = λ level base m. placed.shape level base (alike level base ∙ m) }
 
-walk-below : (start x : ℕ) (ts us : List Table) → AreAlike ts us → walk start ts x ≤ walk start us x
+walk-below : (start x : ℕ) (ts us : List Table) → SameTables ts us → walk start ts x ≤ walk start us x
 unfolding EndsAt
 walk-below start x ts us alike = elim (walk-ends start ts x) [
   | inl e ↦ (let from : start ≤ walk start us x = walk-from start us x in omega arith)
   | inr e ↦ walk-least start us x (walk start ts x) (e.0) (sym (alike (walk start ts x) (e.0)) ∙ e.1) (e.2)
 ]
 
-pub walk-alike : (start x : ℕ) (ts us : List Table) → AreAlike ts us → walk start ts x ≡ walk start us x
+pub walk-alike : (start x : ℕ) (ts us : List Table) → SameTables ts us → walk start ts x ≡ walk start us x
 walk-alike start x ts us alike =
     omega (arith, walk-below start x ts us alike, walk-below start x us ts (λ level base. sym (alike level base)))
 
@@ -56,7 +62,7 @@ deeper-none (t ∷ ts) l base top none =
     let n : l < t.level → base ≤ t.base → t.base < top → ⊥ = none t.level t.base (made-here t ts) in
     grind (arith, nat_tests)
 
-deeper-below : (ts us : List Table) (l base top : ℕ) → AreAlike ts us → deeper ts l base top ≡ true → deeper us l base top ≡ true
+deeper-below : (ts us : List Table) (l base top : ℕ) → SameTables ts us → deeper ts l base top ≡ true → deeper us l base top ≡ true
 deeper-below ts us l base top alike h = elim (cases_Bool (deeper us l base top)) [
   | inl on ↦ on
   | inr off ↦
@@ -70,7 +76,7 @@ deeper-below ts us l base top alike h = elim (cases_Bool (deeper us l base top))
     made-not (u ∷ us) j b l base top off = λ m lt lo hi.
         (let i : deeper us l base top ≡ false → made us j b ≡ true → ⊥ = λ none there. made-not us j b l base top none there lt lo hi in grind (arith, nat_tests))
 
-pub deeper-alike : (ts us : List Table) (l base top : ℕ) → AreAlike ts us → deeper ts l base top ≡ deeper us l base top
+pub deeper-alike : (ts us : List Table) (l base top : ℕ) → SameTables ts us → deeper ts l base top ≡ deeper us l base top
 deeper-alike ts us l base top alike =
     both-ways (deeper ts l base top) (deeper us l base top) (deeper-below ts us l base top alike) (deeper-below us ts l base top (λ j b. sym (alike j b)))
 
