@@ -9,7 +9,8 @@ use Rattle.rmm_model.specs.Space.{is_ram}
 use Rattle.rmm_model.proofs.Blocks.{down-lt, down-same, size-pos, span-pos}
 use Rattle.rtt_plan.specs.Entries.{block_level, entries, entries_from}
 use Rattle.rtt_plan.specs.Places.{AtEntry, IsRegion}
-use Rattle.rtt_plan.specs.Runs.{AreRuns, IsRun, block_of, blocks_of, group, put, ranges_of, runs_from, runs_of}
+use Rattle.rtt_plan.specs.Following.{AreRuns, IsRun, block_of, blocks_of, ranges_of}
+use Rattle.rtt_plan.specs.Runs.{group, put, runs_from, runs_of}
 use Rattle.rtt_plan.specs.declared.run.Run.{Run}
 use Rattle.rtt_plan.proofs.Fits.{first-at, first_fit-from, first_fit-to}
 use Rattle.rtt_plan.proofs.Joins.{runs-next}

@@ -13,7 +13,8 @@ use Rattle.rtt_plan.specs.declared.run.Run.{Run}
 use Rattle.rtt_plan.specs.Agreement.{IsFormed, IsUsed}
 use Rattle.rtt_plan.specs.Places.{IsRegion}
 use Rattle.rtt_plan.specs.Planned.{IsPlanned, Planned, after_data, after_region, nothing_planned}
-use Rattle.rtt_plan.specs.Runs.{AreRuns, IsRun, runs_of}
+use Rattle.rtt_plan.specs.Following.{AreRuns, IsRun}
+use Rattle.rtt_plan.specs.Runs.{runs_of}
 use Rattle.rtt_plan.specs.Wanted.{page_tables, run_tables, wanted}
 use Rattle.rtt_plan.proofs.Agreeing.{formed-after, placed-after, used-after, used-more}
 use Rattle.rtt_plan.proofs.Following.{region-runs}

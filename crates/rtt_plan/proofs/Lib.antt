@@ -11,5 +11,6 @@ pub mod Kept
 pub mod Alike
 pub mod Wants
 pub mod Plans
+pub mod Among
 pub mod Asking
 pub mod Filled

@@ -13,7 +13,8 @@ use Rattle.rtt_plan.specs.declared.run.Run.{Run}
 use Rattle.rtt_plan.specs.Agreement.{IsFormed, IsFresh, IsUsed}
 use Rattle.rtt_plan.specs.InTurn.{AreFilledInTurn, AreSetInTurn, CanBeSet, CanGetData}
 use Rattle.rtt_plan.specs.Places.{IsRegion}
-use Rattle.rtt_plan.specs.Runs.{AreRuns, IsRun, runs_of}
+use Rattle.rtt_plan.specs.Following.{AreRuns, IsRun}
+use Rattle.rtt_plan.specs.Runs.{runs_of}
 use Rattle.rtt_plan.specs.Wanted.{wanted}
 use Rattle.rtt_plan.proofs.Agreeing.{formed-after, made-wanted, none-inside, used-after, used-more, walk-fresh, walk-page}
 use Rattle.rtt_plan.proofs.Following.{region-runs}

@@ -1,8 +1,10 @@
 pub mod Entries
 pub mod Runs
+pub mod Following
 pub mod Places
 pub mod Wanted
 pub mod Agreement
+pub mod Among
 pub mod Planned
 pub mod InTurn
 pub mod PageRanges

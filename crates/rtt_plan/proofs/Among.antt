@@ -1,0 +1,54 @@
+-- What is among the acts of runs and of pages, beside tables.
+use Rattle.std.proofs.Common.{◌≡◌, ℕ, ◌∙◌, refl, ap, List, [], ◌∷◌, ◌++◌, map}
+use Rattle.rmm_model.specs.Blocks.{granules}
+use Rattle.rmm_model.specs.declared.table.Table.{Table}
+use Rattle.rtt_plan.specs.declared.act.Act.{Act}
+use Rattle.rtt_plan.specs.declared.act.Act.TheVariants as act
+use Rattle.rtt_plan.specs.declared.run.Run.{Run}
+use Rattle.rtt_plan.specs.Among.{pages_among, runs_among}
+use Rattle.rtt_plan.specs.Wanted.{page_acts, run_acts, table_act, wanted}
+
+-- tables are neither
+runs-tables : (ts : List Table) (rest : List Act) → runs_among (map table_act ts ++ rest) ≡ runs_among rest
+unfolding runs_among
+runs-tables [] rest = refl
+runs-tables (t ∷ ts) rest = runs-tables ts rest
+
+pages-tables : (ts : List Table) (rest : List Act) → pages_among (map table_act ts ++ rest) ≡ pages_among rest
+unfolding pages_among
+pages-tables [] rest = refl
+pages-tables (t ∷ ts) rest = pages-tables ts rest
+
+runs-of_runs : (start : ℕ) (runs : List Run) (ts : List Table) → runs_among (run_acts start ts runs) ≡ runs
+unfolding runs_among run_acts
+runs-of_runs start [] ts = refl
+runs-of_runs start (r ∷ rs) ts =
+    let new : List Table = wanted start ts r.level r.base in
+    runs-tables new (act.Run r.base r.top r.level ∷ run_acts start (ts ++ new) rs) ∙ ap (λ others. r ∷ others) (runs-of_runs start rs (ts ++ new))
+
+pages-of_runs : (start : ℕ) (runs : List Run) (ts : List Table) → pages_among (run_acts start ts runs) ≡ []
+unfolding pages_among run_acts
+pages-of_runs start [] ts = refl
+pages-of_runs start (r ∷ rs) ts =
+    let new : List Table = wanted start ts r.level r.base in
+    pages-tables new (act.Run r.base r.top r.level ∷ run_acts start (ts ++ new) rs) ∙ pages-of_runs start rs (ts ++ new)
+
+pages-of_pages : (start : ℕ) (pages : List ℕ) (ts : List Table) → pages_among (page_acts start ts pages) ≡ pages
+unfolding pages_among page_acts granules
+pages-of_pages start [] ts = refl
+pages-of_pages start (x ∷ xs) ts =
+    let new : List Table = wanted start ts 3 x in
+    pages-tables new (act.Pages x 1 ∷ page_acts start (ts ++ new) xs) ∙ ap (λ others. x ∷ others) (pages-of_pages start xs (ts ++ new))
+
+runs-of_pages : (start : ℕ) (pages : List ℕ) (ts : List Table) → runs_among (page_acts start ts pages) ≡ []
+unfolding runs_among page_acts
+runs-of_pages start [] ts = refl
+runs-of_pages start (x ∷ xs) ts =
+    let new : List Table = wanted start ts 3 x in
+    runs-tables new (act.Pages x 1 ∷ page_acts start (ts ++ new) xs) ∙ runs-of_pages start xs (ts ++ new)
+
+pub among-runs : (start : ℕ) (runs : List Run) (ts : List Table) → (runs_among (run_acts start ts runs) ≡ runs) × (pages_among (run_acts start ts runs) ≡ [])
+among-runs start runs ts = (runs-of_runs start runs ts, pages-of_runs start runs ts)
+
+pub among-pages : (start : ℕ) (pages : List ℕ) (ts : List Table) → (pages_among (page_acts start ts pages) ≡ pages) × (runs_among (page_acts start ts pages) ≡ [])
+among-pages start pages ts = (pages-of_pages start pages ts, runs-of_pages start pages ts)
