@@ -7,10 +7,10 @@ ghost use Rattle.rim_release.specs.Devicetrees.{ShowsDevicetree};
 ghost use Rattle.rim_release.specs.Report.{report_of};
 ghost use Rattle.rim_release.specs.Shown.{image_answer_of};
 ghost use Rattle.rim_cli.specs.Command.{AsksForHelp, IsMistaken, is_asked, rim};
-ghost use Rattle.rim_cli.specs.Done.{Answers, IsDone, Refuses, RefusesFdt, RefusesImage, RefusesManifest, path_of};
+ghost use Rattle.rim_cli.specs.Done.{IsAnswer, IsDone, Refuses, RefusesFdt, RefusesImage, RefusesManifest, path_of};
 ghost use Rattle.rim_cli.specs.Status.{status_of};
 
-use crate::command::{CommandFault, Request, command};
+use crate::words::{CommandFault, Request, command};
 use crate::fault::Fault;
 use crate::file::{Opener, read_file, read_files};
 use rim_release::{measure_alone, read_manifest, show_fdt, show_image};
@@ -55,7 +55,7 @@ pub fn run<R, S: AsStr, O: Opener, W: Write, E: Write>(
 
 /// The text that a request asks for.
 fn answer_to<O: Opener>(alloc: Global, request: Request, opener: &mut O) -> Result<Vec<u8>, Fault>
-    ensures answered { IfOk result (λ text. IfSome (O.held opener.old (path_of request.entry)) (λ bytes. Answers request.entry bytes text.items)) }
+    ensures answered { IfOk result (λ text. IfSome (O.held opener.old (path_of request.entry)) (λ bytes. IsAnswer request.entry bytes text.items)) }
     ensures refused { IfErr result (Refuses request.entry (O.held opener.old (path_of request.entry))) }
 {
     match request {

@@ -1,5 +1,5 @@
 use Rattle.std.proofs.Common.{rules}
-use Rattle.rim_cli.proofs.command.workers.Goals as goal
+use Rattle.rim_cli.proofs.words.workers.Goals as goal
 
 pub returns-in-Some : goal.returns-in-Some
 returns-in-Some c = search rules

@@ -3,7 +3,7 @@ use Rattle.clap.specs.Words.{App, HasKind, HasMatchesOf, Text, fault_of, found_o
 use Rattle.clap.specs.declared.parser.matches.ArgMatches.{ArgMatches}
 use Rattle.rim_cli.specs.Command.{rim}
 use Rattle.rim_cli.proofs.Entering.{entered_good, rows_met}
-use Rattle.rim_cli.proofs.command.command.Goals as goal
+use Rattle.rim_cli.proofs.words.command.Goals as goal
 
 -- what the definition has on the words is what the matches have
 words_met : (a : App) (words : List Text) (m : ArgMatches) → a ≡ rim → HasMatchesOf a words m → subcommand_rows_of m ≡ subcommand_of rim words
