@@ -1,5 +1,7 @@
 -- Exit statuses and the words of faults. This project's choice.
 use Rattle.std.specs.Prelude.{ℕ, List, codes}
+use Rattle.std.specs.declared.io.ErrorKind.{ErrorKind}
+use Rattle.std.specs.declared.io.ErrorKind.TheVariants as error
 use Rattle.rim_cli.specs.declared.fault.Fault.{Fault}
 use Rattle.rim_cli.specs.declared.fault.Fault.TheVariants.{Manifest, Start, Show, FileUnreadable, FileTooLarge, OutputFailed, NoMemory}
 use Rattle.rim_manifest.specs.Faults.{kind_of}
@@ -25,3 +27,8 @@ word_of FileUnreadable = codes "file-unreadable"
 word_of FileTooLarge = codes "file-too-large"
 word_of OutputFailed = codes "output-failed"
 word_of NoMemory = codes "no-memory"
+
+-- a command line that cannot be read is a mistake of usage, unless there was no memory for its words
+abbrev pub unreadable_status : ErrorKind → ℕ
+unreadable_status error.OutOfMemory = 4
+unreadable_status _ = 2

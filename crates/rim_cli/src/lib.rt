@@ -10,5 +10,5 @@ mod program;
 mod words;
 
 pub use file::Opener;
-pub use program::run;
+pub use program::{report_unreadable, run};
 pub use words::{CommandFault, Request, command};
