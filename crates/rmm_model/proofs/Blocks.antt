@@ -78,3 +78,21 @@ down-multiple n x h m = omega (arith, mod-add-div n x)
   where
     mod-add-div : (n x : ℕ) → x / n * n + x % n ≡ x
     mod-add-div n x = grind arith
+
+pub down-same : (n x y : ℕ) → x / n ≡ y / n → down n x ≡ down n y
+down-same n x y h = rw h refl
+
+pub down-down : (n x : ℕ) → 0 < n → down n (down n x) ≡ down n x
+down-down n x h = down-same n (down n x) x (down-in n x h)
+
+-- ---- tables
+
+-- two addresses that one table covers are covered by one table of the level above
+pub span-nest : (j x y : ℕ) → x / span (suc j) ≡ y / span (suc j) → x / span j ≡ y / span j
+span-nest j x y h =
+    let e : span j ≡ span (suc j) * ((size-step j).0) = grind (arith, (size-step j).1) in
+    rw e (nest (span (suc j)) ((size-step j).0) x y h)
+
+-- the first address of a table is in the table above it that covers the same address
+pub down-up : (j x : ℕ) → down (span j) (down (span (suc j)) x) ≡ down (span j) x
+down-up j x = down-same (span j) (down (span (suc j)) x) x (span-nest j (down (span (suc j)) x) x (down-in (span (suc j)) x (span-pos (suc j))))

@@ -2,9 +2,13 @@ pub mod Refusals
 pub mod Tests
 pub mod Blocks
 pub mod Walks
+pub mod LookUps
 pub mod Ranges
+pub mod Appends
+pub mod Granules
 pub mod Owners
 pub mod Spaces
+pub mod Same
 pub mod Runs
 pub mod Steps
 pub mod Rims

@@ -4,10 +4,10 @@ use Rattle.std.proofs.lemmas.Bool.Decides.{nat_tests}
 use Rattle.rmm_model.specs.Space.{are_some, is_ram, overlaps}
 use Rattle.std.proofs.lemmas.Bool.{cases_Bool}
 
-ram-here : (r : ℕ × ℕ) (rs : List (ℕ × ℕ)) (x : ℕ) → r.0 ≤ x → x < r.1 → is_ram (r ∷ rs) x ≡ true
+pub ram-here : (r : ℕ × ℕ) (rs : List (ℕ × ℕ)) (x : ℕ) → r.0 ≤ x → x < r.1 → is_ram (r ∷ rs) x ≡ true
 ram-here r rs x lo hi = grind (arith, nat_tests)
 
-ram-there : (r : ℕ × ℕ) (rs : List (ℕ × ℕ)) (x : ℕ) → is_ram rs x ≡ true → is_ram (r ∷ rs) x ≡ true
+pub ram-there : (r : ℕ × ℕ) (rs : List (ℕ × ℕ)) (x : ℕ) → is_ram rs x ≡ true → is_ram (r ∷ rs) x ≡ true
 ram-there r rs x h = grind (arith, nat_tests)
 
 -- where a range meets base to top, some address between is RAM

@@ -13,6 +13,7 @@ use Rattle.std.proofs.lemmas.Map.Lookups.{CmpEqualImpliesEq, exact_unsigned}
 use Rattle.rmm_model.specs.declared.table.Table.{Table}
 use Rattle.rmm_model.specs.Space.{are_some, covers, deeper, has, is_ram, made, overlaps, table_cmp, walk}
 use Rattle.std.proofs.lemmas.Bool.{or_parts}
+use Rattle.rmm_model.proofs.Tests.{list_any-same}
 
 or-same : (a b : Bool) → (a || b) ≡ (a || (a || b))
 or-same true b = refl
@@ -47,6 +48,10 @@ exact_tables t u same =
 pub made-insert : (ts : List Table) (t : Table) (level base : ℕ)
     → made (insert_key table_cmp ts t) level base ≡ (eqb t.level level && eqb t.base base) || made ts level base
 made-insert ts t level base = any-insert table_cmp exact_tables (λ u. eqb u.level level && eqb u.base base) ts t
+
+-- the table that an ordered set finds is the one that is made
+pub made-contains : (ts : List Table) (t : Table) → list_any (is_at (table_cmp t)) ts ≡ made ts t.level t.base
+made-contains ts t = list_any-same (is_at (table_cmp t)) (λ u. eqb u.level t.level && eqb u.base t.base) ts (λ u. grind (arith, nat_tests))
 
 pub deeper-insert : (ts : List Table) (t : Table) (level base top : ℕ)
     → deeper (insert_key table_cmp ts t) level base top ≡ (ltb level t.level && (leb base t.base && ltb t.base top)) || deeper ts level base top

@@ -1,5 +1,5 @@
 -- No granule is taken twice.
-use Rattle.std.proofs.Common.{inl, inr, ◌≡◌, ℕ, zero, suc, ◌+◌, ◌≤◌, ◌∙◌, sym, refl, subst, arith, Bool, true, false, not, ◌&&◌, ◌||◌, eqb, List, [], ◌∷◌, ◌++◌, ◌⊎◌}
+use Rattle.std.proofs.Common.{inl, inr, ◌≡◌, ℕ, ◌∙◌, sym, refl, subst, arith, Bool, true, false, not, ◌&&◌, ◌||◌, eqb, List, [], ◌∷◌, ◌++◌, ◌⊎◌}
 use Rattle.std.specs.Prelude.{Option, Some, None, Result, Ok, Err, is_ok, is_some}
 use Rattle.std.proofs.lemmas.Bool.Decides.{nat_tests}
 use Rattle.rim_desc.specs.declared.command.Command.{Command}
@@ -9,7 +9,6 @@ use Rattle.rmm_model.specs.declared.outcome.Kind.{Kind}
 use Rattle.rmm_model.specs.declared.outcome.Kind.TheVariants.{Delegated, Rd, Rtt, DataPage, Rec, RecAux}
 use Rattle.rmm_model.specs.declared.outcome.Refused.{Refused}
 use Rattle.rmm_model.specs.declared.outcome.Refused.TheVariants as refusal
-use Rattle.rmm_model.specs.Blocks.{granules}
 use Rattle.rmm_model.specs.Space.{has}
 use Rattle.rmm_model.specs.Owners.{all_delegated, give, give_all, is_delegated, is_delegated_kind, kind_of, repeats}
 use Rattle.rmm_model.specs.State.{State}
@@ -17,6 +16,8 @@ use Rattle.rmm_model.specs.Checks.{checks, start_tables}
 use Rattle.rmm_model.specs.Effects.{changed, measured, parts}
 use Rattle.rmm_model.specs.Step.{step}
 use Rattle.rmm_model.specs.Run.{accepted, after, taken, taken_by}
+use Rattle.rmm_model.proofs.Appends.{has-append}
+use Rattle.rmm_model.proofs.Granules.{repeats-granules}
 use Rattle.rmm_model.proofs.Owners.{kind_of-here, kind_of-other}
 use Rattle.rmm_model.proofs.Refusals.{holds, none-holds, off-at}
 use Rattle.rmm_model.proofs.Rims.{step-cases}
@@ -87,10 +88,6 @@ unused-in_all (g ∷ gs) owners h own =
 
 -- ---- lists without repeats
 
-has-append : (xs ys : List ℕ) (x : ℕ) → has (xs ++ ys) x ≡ has xs x || has ys x
-has-append [] ys x = refl
-has-append (z ∷ xs) ys x = elim (cases_Bool (eqb z x)) [ inl e ↦ rw e refl | inr n ↦ rw n (has-append xs ys x) ]
-
 repeats-append : (xs ys : List ℕ) → repeats xs ≡ false → repeats ys ≡ false → ((h : ℕ) → has xs h ≡ true → has ys h ≡ false) → repeats (xs ++ ys) ≡ false
 repeats-append [] ys first second apart = second
 repeats-append (x ∷ xs) ys first second apart =
@@ -98,23 +95,6 @@ repeats-append (x ∷ xs) ys first second apart =
     let here : has ys x ≡ false = apart x (grind (arith, nat_tests)) in
     let others : repeats (xs ++ ys) ≡ false = repeats-append xs ys parts.1 second (λ h there. apart h (grind (arith, nat_tests))) in
     rw (has-append xs ys x, parts.0, here, others) refl
-
-granules-from : (n x y : ℕ) → has (granules n x) y ≡ true → x ≤ y
-unfolding granules
-granules-from zero x y = λ there. absurd (cc)
-granules-from (suc n) x y =
-    elim (cases_Bool (eqb x y)) [
-      | inl e ↦ (λ there. (let same : x ≡ y = eqb-true x y e in omega arith))
-      | inr no_match ↦ rw no_match (λ there. (let far : x + 4096 ≤ y = granules-from n (x + 4096) y there in omega arith))
-    ]
-
-repeats-granules : (n x : ℕ) → repeats (granules n x) ≡ false
-unfolding granules
-repeats-granules zero x = refl
-repeats-granules (suc n) x = elim (cases_Bool (has (granules n (x + 4096)) x)) [
-  | inl there ↦ (let far : x + 4096 ≤ x = granules-from n (x + 4096) x there in absurd (omega arith))
-  | inr apart ↦ rw (apart, repeats-granules n (x + 4096)) refl
-]
 
 -- ---- what a command that no check refuses takes
 

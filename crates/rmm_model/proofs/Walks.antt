@@ -1,9 +1,10 @@
 -- Where walks end.
-use Rattle.std.proofs.Common.{inl, inr, ◌≡◌, ℕ, ◌/◌, ◌≤◌, refl, arith, true, max, leb, List, [], ◌∷◌, ◌⊎◌}
+use Rattle.std.proofs.Common.{inl, inr, ◌≡◌, ℕ, ◌/◌, ◌<◌, ◌≤◌, sym, refl, arith, true, max, leb, List, [], ◌∷◌, ◌⊎◌}
 use Rattle.std.proofs.lemmas.Bool.Decides.{nat_tests}
 use Rattle.rmm_model.specs.declared.table.Table.{Table}
 use Rattle.rmm_model.specs.Blocks.{span}
 use Rattle.rmm_model.specs.Space.{covers, made, walk}
+use Rattle.std.proofs.Math.Nat.{eq-or-lt_of_le}
 use Rattle.std.proofs.lemmas.Bool.{cases_Bool, eq-eqb, eqb-true}
 
 -- ---- which tables there are
@@ -71,4 +72,22 @@ walk-ends start (t ∷ ts) x =
         | inr e ↦ rw e i
       ])
       | inr c ↦ rw c i
+    ]
+
+-- where the table of a level that covers x is made, and no deeper one is, the walk ends at that level
+pub walk-after : (start : ℕ) (ts : List Table) (x l b : ℕ) → start ≤ l → (start < l → (made ts l b ≡ true) × (x / span l ≡ b / span l))
+    → ((j c : ℕ) → made ts j c ≡ true → l < j → x / span j ≡ c / span j → ⊥)
+    → walk start ts x ≡ l
+unfolding EndsAt
+walk-after start ts x l b o own none =
+    let low : l ≤ walk start ts x = elim (eq-or-lt_of_le o) [
+      | inr lt ↦ walk-least start ts x l b ((own lt).0) ((own lt).1)
+      | inl e ↦ (let f : start ≤ walk start ts x = walk-from start ts x in omega arith)
+    ] in
+    elim (walk-ends start ts x) [
+      | inl e ↦ omega arith
+      | inr e ↦ elim (eq-or-lt_of_le low) [
+        | inl same ↦ sym same
+        | inr lt ↦ absurd (none (walk start ts x) (e.0) (e.1) lt (e.2))
+      ]
     ]

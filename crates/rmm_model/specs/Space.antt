@@ -82,3 +82,20 @@ after_run s base top = record s { ram = insert_entry nat_cmp s.ram base top }
 -- the space after a page got data
 abbrev pub after_page : Space → ℕ → Space
 after_page s x = record s { filled = insert_key nat_cmp s.filled x }
+
+-- the same tables, in whatever order
+abbrev pub SameTables : List Table → List Table → Type 0
+SameTables ts us = (level base : ℕ) → made ts level base ≡ made us level base
+
+-- Two spaces that agree in all that a command asks of a space: whatever the order in which tables and pages
+-- are kept, and the pieces in which RAM is.
+pub record SameSpace (s t : Space) : Type 0 where
+  pub start : s.start ≡ t.start
+  pub half : s.half ≡ t.half
+  pub tables : SameTables s.tables t.tables
+  -- which addresses are RAM
+  pub ram : (x : ℕ) → is_ram s.ram x ≡ is_ram t.ram x
+  -- which ranges have RAM
+  pub ranges : (base top : ℕ) → base < top → overlaps s.ram base top ≡ overlaps t.ram base top
+  -- which pages have data
+  pub filled : (x : ℕ) → has s.filled x ≡ has t.filled x

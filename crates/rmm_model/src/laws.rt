@@ -1,16 +1,19 @@
 //! Laws for readers of the definitions, proved.
-ghost use Rattle.std.specs.Prelude.{◌≡◌, ◌⊎◌, ◌↔◌, ◌<◌, ◌≤◌, ◌/◌, ℕ, List, true, false, length, None, Some, Err, ◌∷◌, []};
+ghost use Rattle.std.specs.Prelude.{◌≡◌, ◌⊎◌, ◌↔◌, ◌<◌, ◌≤◌, ◌/◌, ◌+◌, ◌*◌, ◌==◌, ◌&&◌, ◌||◌, nat_le, nat_lt, ℕ, List, map, true, false, length, None, Some, Err, ◌∷◌, []};
+ghost use Rattle.std.specs.List.{range_with_len};
 ghost use Rattle.rim_desc.specs.Part.{rim_of};
 ghost use Rattle.rim_desc.specs.declared.command.Command.{Command};
 ghost use Rattle.rim_desc.specs.declared.realm.RealmParams.{RealmParams};
 ghost use Rattle.rim_desc.specs.declared.command.Command.TheVariants.{Delegate, DataCreate};
+ghost use Rattle.rmm_model.specs.declared.outcome.Kind.{Kind};
 ghost use Rattle.rmm_model.specs.declared.outcome.Refused.TheVariants.{NotDelegated, NotUndelegated, WalkLevel};
 ghost use Rattle.rmm_model.specs.declared.table.Table.{Table};
-ghost use Rattle.rmm_model.specs.Blocks.{span};
+ghost use Rattle.rmm_model.specs.Blocks.{granules, span};
+ghost use Rattle.rmm_model.specs.Checks.{walk_of};
 ghost use Rattle.rmm_model.specs.Start.{start_of};
-ghost use Rattle.rmm_model.specs.Space.{are_some, is_ram, made, overlaps, walk};
+ghost use Rattle.rmm_model.specs.Space.{SameSpace, Space, after_page, after_run, after_table, are_some, deeper, has, is_ram, made, overlaps, walk};
 ghost use Rattle.rmm_model.specs.State.{State, empty_state};
-ghost use Rattle.rmm_model.specs.Owners.{repeats};
+ghost use Rattle.rmm_model.specs.Owners.{give, kind_of, repeats};
 ghost use Rattle.rmm_model.specs.Step.{step};
 ghost use Rattle.rmm_model.specs.Run.{accepted, run, shown, taken};
 ghost use Rattle.rmm_model.specs.Listing.{before_tables, table_of_level_3, with_tables, worked_listing, worked_parts};
@@ -73,4 +76,54 @@ pub fn rim_is_of_its_parts()
 /// Commands that are all accepted take no granule twice.
 pub fn no_granule_is_taken_twice()
     ensures { (state : State) (commands : List Command) → accepted state commands ≡ true → repeats (taken commands) ≡ false }
+{}
+
+/// A granule that is given a kind has that kind, and each other granule the kind that it had.
+pub fn kinds_after_a_gift()
+    ensures given { (owners : List (ℕ × Kind)) (granule : ℕ) (kind : Kind) → kind_of (give owners granule kind) granule ≡ Some kind }
+    ensures others { (owners : List (ℕ × Kind)) (granule other : ℕ) (kind : Kind) → (other ≡ granule → ⊥) → kind_of (give owners granule kind) other ≡ kind_of owners other }
+{}
+
+/// After RttCreate its table is made, and each table that was.
+pub fn tables_after_one_more()
+    ensures { (s : Space) (level base j b : ℕ) → made (after_table s level base).tables j b ≡ ((level == j && base == b) || made s.tables j b) }
+{}
+
+/// After InitRipas the addresses of its range are RAM, and each that was; where nothing of the range was RAM before.
+pub fn ram_after_a_run()
+    ensures addresses { (s : Space) (base top x : ℕ) → are_some s.ram ≡ true → base < top → overlaps s.ram base top ≡ false
+        → is_ram (after_run s base top).ram x ≡ ((nat_le base x && nat_lt x top) || is_ram s.ram x) }
+    ensures ranges { (s : Space) (base top from to : ℕ) → are_some s.ram ≡ true → base < top → overlaps s.ram base top ≡ false
+        → overlaps (after_run s base top).ram from to ≡ ((nat_lt base to && nat_lt from top) || overlaps s.ram from to) }
+    ensures some { (s : Space) (base top : ℕ) → are_some s.ram ≡ true → base < top → are_some (after_run s base top).ram ≡ true }
+{}
+
+/// After DataCreate its page has data, and each page that had.
+pub fn pages_after_one_more()
+    ensures { (s : Space) (page x : ℕ) → has (after_page s page).filled x ≡ ((page == x) || has s.filled x) }
+{}
+
+/// A space is the same as itself; so are two in either order; and so is the first of three as the last.
+pub fn being_the_same_is_an_equivalence()
+    ensures itself { (s : Space) → SameSpace s s }
+    ensures turned { (s t : Space) → SameSpace s t → SameSpace t s }
+    ensures onward { (r s t : Space) → SameSpace r s → SameSpace s t → SameSpace r t }
+{}
+
+/// In spaces that are the same, walks end at the same levels, and deeper tables lie in the same ranges.
+pub fn same_spaces_answer_alike()
+    ensures walk { (s t : Space) (x : ℕ) → SameSpace s t → walk_of s x ≡ walk_of t x }
+    ensures deeper { (s t : Space) (level base top : ℕ) → SameSpace s t → deeper s.tables level base top ≡ deeper t.tables level base top }
+{}
+
+/// Which addresses are RAM decides which ranges have RAM, in whatever pieces RAM is kept.
+pub fn addresses_decide_ranges()
+    ensures { (ram other : List (ℕ × ℕ)) → are_some ram ≡ true → are_some other ≡ true → ((x : ℕ) → is_ram ram x ≡ is_ram other x)
+        → (base top : ℕ) → base < top → overlaps ram base top ≡ overlaps other base top }
+{}
+
+/// Granules, or pages, side by side: number k begins 4096 * k bytes after the first, and no two are one.
+pub fn granules_are_side_by_side()
+    ensures places { (n x : ℕ) → granules n x ≡ map (λ k. x + 4096 * k) (range_with_len 0 n) }
+    ensures apart { (n x : ℕ) → repeats (granules n x) ≡ false }
 {}

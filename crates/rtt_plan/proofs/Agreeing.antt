@@ -1,33 +1,18 @@
--- The tables that a block wants, beside those that are there.
-use Rattle.std.proofs.Common.{inl, inr, ◌≡◌, ℕ, zero, suc, ◌+◌, ◌-◌, ◌*◌, ◌/◌, ◌<◌, ◌≤◌, ◌∙◌, sym, refl, ap, arith, Bool, true, false, cond, not, ◌&&◌, ◌||◌, eqb, List, ◌∷◌, ◌++◌, ◌⊎◌}
+-- The tables that a block needs, beside those that were made.
+use Rattle.std.proofs.Common.{inl, inr, ◌≡◌, ℕ, zero, suc, ◌+◌, ◌-◌, ◌/◌, ◌<◌, ◌≤◌, ◌∙◌, sym, refl, ap, arith, Bool, true, false, cond, not, eqb, List, ◌∷◌, ◌++◌, ◌⊎◌}
 use Rattle.std.specs.List.{filter}
 use Rattle.std.proofs.lemmas.Bool.Decides.{nat_tests}
 use Rattle.rmm_model.specs.Blocks.{down, size, span}
-use Rattle.rmm_model.specs.Space.{is_ram, made, walk}
+use Rattle.rmm_model.specs.Space.{ArePlaced, is_ram, made, walk}
 use Rattle.rmm_model.specs.declared.table.Table.{Table}
-use Rattle.rmm_model.proofs.Blocks.{down-in, nest, nest-le, size-step, span-pos, span-size}
-use Rattle.std.proofs.Math.Bool.{or-true}
-use Rattle.std.proofs.Math.Nat.{eq-or-lt_of_le}
-use Rattle.std.proofs.lemmas.Bool.{cases_Bool, or_cases}
-use Rattle.std.proofs.lemmas.List.Folds.{list_any-append}
-use Rattle.rmm_model.proofs.Walks.{EndsAt, made-cases, made-here, made-there, walk-ends, walk-from, walk-least}
+use Rattle.rmm_model.proofs.Blocks.{down-down, down-in, down-up, nest-le, span-pos, span-size}
+use Rattle.std.proofs.lemmas.Bool.{cases_Bool}
+use Rattle.rmm_model.proofs.Appends.{made-back, made-both, made-front}
+use Rattle.rmm_model.proofs.Walks.{made-cases, made-here, made-there, walk-after}
 use Rattle.rtt_plan.specs.Agreement.{IsFormed, IsFresh, IsUsed}
 use Rattle.rtt_plan.specs.Wanted.{needed, wanted}
-use Rattle.rtt_plan.proofs.Rounding.{down-down, down-same}
 
--- ---- which tables are there afterwards
-
-pub made-append : (ts us : List Table) (j b : ℕ) → made (ts ++ us) j b ≡ (made ts j b || made us j b)
-made-append ts us j b = list_any-append (λ t. eqb t.level j && eqb t.base b) ts us
-
-made-front : (ts us : List Table) (j b : ℕ) → made ts j b ≡ true → made (ts ++ us) j b ≡ true
-made-front ts us j b m = rw (made-append ts us j b, m) refl
-
-made-back : (ts us : List Table) (j b : ℕ) → made us j b ≡ true → made (ts ++ us) j b ≡ true
-made-back ts us j b m = rw (made-append ts us j b, m) (or-true (made ts j b))
-
-made-both : (ts us : List Table) (j b : ℕ) → made (ts ++ us) j b ≡ true → (made ts j b ≡ true) ⊎ (made us j b ≡ true)
-made-both ts us j b m = or_cases (made ts j b) (made us j b) (sym (made-append ts us j b) ∙ m)
+-- ---- which tables are made afterwards
 
 -- a wanted table is one of its level that covers x
 wanted-only : (ts : List Table) (n k x j b : ℕ) → made (filter (λ t. not (made ts t.level t.base)) (needed n k x)) j b ≡ true
@@ -53,7 +38,7 @@ wanted-only ts (suc n) k x j b m = by_test (made ts (suc k) (down (span (suc k))
     by_test true later m = more (later m)
     by_test false later m = elim (made-cases t rest j b m) [ inl e ↦ first e | inr there ↦ more (later there) ]
 
--- each table of those levels that covers x is there, or is wanted
+-- each table of those levels that covers x is made, or is wanted
 wanted-all : (ts : List Table) (n k x j : ℕ) → k < j → j ≤ k + n
     → (made ts j (down (span j) x) ≡ true) ⊎ (made (filter (λ t. not (made ts t.level t.base)) (needed n k x)) j (down (span j) x) ≡ true)
 unfolding needed
@@ -120,25 +105,8 @@ none-inside start l x ts ram formed used fresh j b m deeper inside =
 
 -- ---- where the walk ends
 
-walk-after : (start : ℕ) (ts : List Table) (x l b : ℕ) → start ≤ l → (start < l → (made ts l b ≡ true) × (x / span l ≡ b / span l))
-    → ((j c : ℕ) → made ts j c ≡ true → l < j → x / span j ≡ c / span j → ⊥)
-    → walk start ts x ≡ l
-unfolding EndsAt
-walk-after start ts x l b o own none =
-    let low : l ≤ walk start ts x = elim (eq-or-lt_of_le o) [
-      | inr lt ↦ walk-least start ts x l b ((own lt).0) ((own lt).1)
-      | inl e ↦ (let f : start ≤ walk start ts x = walk-from start ts x in omega arith)
-    ] in
-    elim (walk-ends start ts x) [
-      | inl e ↦ omega arith
-      | inr e ↦ elim (eq-or-lt_of_le low) [
-        | inl same ↦ sym same
-        | inr lt ↦ absurd (none (walk start ts x) (e.0) (e.1) lt (e.2))
-      ]
-    ]
-
 -- where no deeper table covers x, the walk ends at the level of the tables that were wanted
-walk-wanted : (start l x : ℕ) (ts : List Table) → start ≤ l → ((j c : ℕ) → made ts j c ≡ true → l < j → x / span j ≡ c / span j → ⊥)
+pub walk-wanted : (start l x : ℕ) (ts : List Table) → start ≤ l → ((j c : ℕ) → made ts j c ≡ true → l < j → x / span j ≡ c / span j → ⊥)
     → walk start (ts ++ wanted start ts l x) x ≡ l
 walk-wanted start l x ts o none =
     walk-after start (ts ++ wanted start ts l x) x l (down (span l) x) o
@@ -161,26 +129,11 @@ walk-page start x ts o formed =
 
 -- ---- what stays
 
-span-nest : (j x y : ℕ) → x / span (suc j) ≡ y / span (suc j) → x / span j ≡ y / span j
-span-nest j x y h =
-    let e : span j ≡ span (suc j) * ((size-step j).0) = grind (arith, (size-step j).1) in
-    rw e (nest (span (suc j)) ((size-step j).0) x y h)
-
--- the first address of a table is in the table above it that covers the same address
-down-up : (j x : ℕ) → down (span j) (down (span (suc j)) x) ≡ down (span j) x
-down-up j x = down-same (span j) (down (span (suc j)) x) x (span-nest j (down (span (suc j)) x) x (down-in (span (suc j)) x (span-pos (suc j))))
-
-pub formed-after : (start l x : ℕ) (ts : List Table) → l ≤ 3 → IsFormed start ts → IsFormed start (ts ++ wanted start ts l x)
-formed-after start l x ts deep formed = record {
-  placed = record {
-    shape = λ j b m. elim (made-wanted start ts l x j b m) [
-      | inl there ↦ formed.placed.shape j b there
-      | inr new ↦ shaped j b new
-    ];
-  };
-  chain = λ j b m lt. elim (made-wanted start ts l x (suc j) b m) [
-    | inl there ↦ made-front ts (wanted start ts l x) j (down (span j) b) (formed.chain j b there lt)
-    | inr new ↦ chained j b new lt
+pub placed-after : (start l x : ℕ) (ts : List Table) → l ≤ 3 → ArePlaced start ts → ArePlaced start (ts ++ wanted start ts l x)
+placed-after start l x ts deep placed = record {
+  shape = λ j b m. elim (made-wanted start ts l x j b m) [
+    | inl there ↦ placed.shape j b there
+    | inr new ↦ shaped j b new
   ];
 }
   where
@@ -190,12 +143,24 @@ formed-after start l x ts deep formed = record {
         let hi : j ≤ start + (l - start) = new.1 in
         (lo, omega arith, rw (new.2) (down-down (span j) x (span-pos j)))
 
+pub formed-after : (start l x : ℕ) (ts : List Table) → l ≤ 3 → IsFormed start ts → IsFormed start (ts ++ wanted start ts l x)
+formed-after start l x ts deep formed = record {
+  placed = placed-after start l x ts deep formed.placed;
+  chain = λ j b m lt. elim (made-wanted start ts l x (suc j) b m) [
+    | inl there ↦ made-front ts (wanted start ts l x) j (down (span j) b) (formed.chain j b there lt)
+    | inr new ↦ chained j b new lt
+  ];
+}
+  where
     chained : (j b : ℕ) → (start < suc j) × (suc j ≤ start + (l - start)) × (b ≡ down (span (suc j)) x) → start < j
         → made (ts ++ wanted start ts l x) j (down (span j) b) ≡ true
     chained j b new lt =
         let hi : suc j ≤ start + (l - start) = new.1 in
         let e : down (span j) b ≡ down (span j) x = ap (down (span j)) (new.2) ∙ down-up j x in
         rw e (there-after start ts l x j lt (omega arith))
+
+pub used-more : (ts : List Table) (ram more : List (ℕ × ℕ)) → IsUsed ts ram → ((y : ℕ) → is_ram ram y ≡ true → is_ram more y ≡ true) → IsUsed ts more
+used-more ts ram more used grows = record { used = λ j b m. (let u = used.used j b m in (u.0, grows (u.0) (u.1), u.2)) }
 
 pub used-after : (start l x : ℕ) (ts : List Table) (ram : List (ℕ × ℕ)) → IsUsed ts ram → is_ram ram x ≡ true → IsUsed (ts ++ wanted start ts l x) ram
 used-after start l x ts ram used here = record {

@@ -1,48 +1,44 @@
 -- Plans that agree go on alike.
-use Rattle.std.proofs.Common.{inl, inr, ◌≡◌, ℕ, ◌-◌, ◌≤◌, ◌∙◌, sym, refl, ap, arith, not, ◌&&◌, ◌||◌, ltb, leb, eqb, List, [], ◌∷◌, ◌++◌, map}
-use Rattle.std.proofs.lemmas.List.Folds.{list_any-append}
-use Rattle.rmm_model.specs.Blocks.{granules}
+use Rattle.std.proofs.Common.{◌≡◌, ℕ, ◌-◌, ◌<◌, ◌∙◌, sym, refl, ap, not, ◌||◌, List, [], ◌∷◌, ◌++◌, map}
 use Rattle.refusal.specs.Checks.{unless_refused}
-use Rattle.rmm_model.specs.Space.{has, is_ram, made, overlaps, walk}
+use Rattle.rmm_model.specs.Blocks.{granules}
+use Rattle.rmm_model.specs.Checks.{walk_of}
+use Rattle.rmm_model.specs.Space.{SameTables, has, is_ram, made, overlaps}
 use Rattle.rmm_model.specs.declared.table.Table.{Table}
+use Rattle.rmm_model.proofs.Appends.{has-append, overlaps-append, ram-append}
+use Rattle.rmm_model.proofs.Same.{append-alike, same-refl, same-sym, same-trans, walk-same}
 use Rattle.rmm_model.proofs.Tests.{filter-same, list_all-same, list_any-same}
-use Rattle.rmm_model.proofs.Walks.{EndsAt, walk-ends, walk-from, walk-least}
-use Rattle.rtt_plan.specs.declared.act.Act.{Act}
 use Rattle.rtt_plan.specs.declared.act.Act.TheVariants as act
 use Rattle.rtt_plan.specs.declared.run.Run.{Run}
 use Rattle.rtt_plan.specs.Planned.{AgreesWith, Planned, after_data, after_region, data_acts, data_checks, plan_data, plan_region, region_acts, region_checks}
 use Rattle.rtt_plan.specs.Runs.{runs_of}
-use Rattle.rtt_plan.specs.Wanted.{needed, page_acts, run_acts, table_act, tables_after, wanted}
-use Rattle.rtt_plan.proofs.Agreeing.{made-append}
+use Rattle.rtt_plan.specs.Wanted.{needed, page_acts, page_tables, run_acts, run_tables, table_act, wanted}
 
 -- ---- tables
 
--- the same tables, in whatever order
-abbrev pub AreAlike : List Table → List Table → Type 0
-AreAlike ts us = (level base : ℕ) → made ts level base ≡ made us level base
-
-append-alike : (ts us new : List Table) → AreAlike ts us → AreAlike (ts ++ new) (us ++ new)
-append-alike ts us new alike level base =
-    made-append ts new level base ∙ ap (λ b. b || made new level base) (alike level base) ∙ sym (made-append us new level base)
-
-wanted-alike : (start level x : ℕ) (ts us : List Table) → AreAlike ts us → wanted start ts level x ≡ wanted start us level x
+pub wanted-alike : (start level x : ℕ) (ts us : List Table) → SameTables ts us → wanted start ts level x ≡ wanted start us level x
 wanted-alike start level x ts us alike =
     filter-same (λ t. not (made ts t.level t.base)) (λ t. not (made us t.level t.base)) (needed (level - start) start x) (λ t. ap not (alike t.level t.base))
 
-walk-below : (start x : ℕ) (ts us : List Table) → AreAlike ts us → walk start ts x ≤ walk start us x
-unfolding EndsAt
-walk-below start x ts us alike = elim (walk-ends start ts x) [
-  | inl e ↦ (let from : start ≤ walk start us x = walk-from start us x in omega arith)
-  | inr e ↦ walk-least start us x (walk start ts x) (e.0) (sym (alike (walk start ts x) (e.0)) ∙ e.1) (e.2)
-]
+-- the tables after a block's were added
+pub more-alike : (start level x : ℕ) (ts us : List Table) → SameTables ts us → SameTables (ts ++ wanted start ts level x) (us ++ wanted start us level x)
+more-alike start level x ts us alike = rw (wanted-alike start level x ts us alike) (append-alike ts us (wanted start us level x) alike)
 
-walk-alike : (start x : ℕ) (ts us : List Table) → AreAlike ts us → walk start ts x ≡ walk start us x
-walk-alike start x ts us alike =
-    omega (arith, walk-below start x ts us alike, walk-below start x us ts (λ level base. sym (alike level base)))
+pub run_tables-alike : (start : ℕ) (runs : List Run) (ts us : List Table) → SameTables ts us → SameTables (run_tables start ts runs) (run_tables start us runs)
+unfolding run_tables
+run_tables-alike start [] ts us alike = alike
+run_tables-alike start (r ∷ rs) ts us alike =
+    run_tables-alike start rs (ts ++ wanted start ts r.level r.base) (us ++ wanted start us r.level r.base) (more-alike start r.level r.base ts us alike)
+
+pub page_tables-alike : (start : ℕ) (pages : List ℕ) (ts us : List Table) → SameTables ts us → SameTables (page_tables start ts pages) (page_tables start us pages)
+unfolding page_tables
+page_tables-alike start [] ts us alike = alike
+page_tables-alike start (x ∷ xs) ts us alike =
+    page_tables-alike start xs (ts ++ wanted start ts 3 x) (us ++ wanted start us 3 x) (more-alike start 3 x ts us alike)
 
 -- ---- acts
 
-run_acts-alike : (start : ℕ) (runs : List Run) (ts us : List Table) → AreAlike ts us → run_acts start ts runs ≡ run_acts start us runs
+pub run_acts-alike : (start : ℕ) (runs : List Run) (ts us : List Table) → SameTables ts us → run_acts start ts runs ≡ run_acts start us runs
 unfolding run_acts
 run_acts-alike start [] ts us alike = refl
 run_acts-alike start (r ∷ rs) ts us alike =
@@ -50,7 +46,7 @@ run_acts-alike start (r ∷ rs) ts us alike =
     rw (wanted-alike start r.level r.base ts us alike)
     (ap (λ acts. map table_act new ++ (act.Run r.base r.top r.level ∷ acts)) (run_acts-alike start rs (ts ++ new) (us ++ new) (append-alike ts us new alike)))
 
-page_acts-alike : (start : ℕ) (pages : List ℕ) (ts us : List Table) → AreAlike ts us → page_acts start ts pages ≡ page_acts start us pages
+pub page_acts-alike : (start : ℕ) (pages : List ℕ) (ts us : List Table) → SameTables ts us → page_acts start ts pages ≡ page_acts start us pages
 unfolding page_acts
 page_acts-alike start [] ts us alike = refl
 page_acts-alike start (x ∷ xs) ts us alike =
@@ -58,79 +54,78 @@ page_acts-alike start (x ∷ xs) ts us alike =
     rw (wanted-alike start 3 x ts us alike)
     (ap (λ acts. map table_act new ++ (act.Pages x 1 ∷ acts)) (page_acts-alike start xs (ts ++ new) (us ++ new) (append-alike ts us new alike)))
 
-tables_after-alike : (acts : List Act) (ts us : List Table) → AreAlike ts us → AreAlike (tables_after ts acts) (tables_after us acts)
-unfolding tables_after
-tables_after-alike [] ts us alike = alike
-tables_after-alike (act.Table base level ∷ acts) ts us alike =
-    let new : List Table = record { level = level; base = base } ∷ [] in
-    tables_after-alike acts (ts ++ new) (us ++ new) (append-alike ts us new alike)
-tables_after-alike (act.Run base top level ∷ acts) ts us alike = tables_after-alike acts ts us alike
-tables_after-alike (act.Pages base count ∷ acts) ts us alike = tables_after-alike acts ts us alike
-
 -- ---- plans
 
-region_acts-alike : (p q : Planned) (base end : ℕ) → AgreesWith p q → region_acts p base end ≡ region_acts q base end
+pub agrees-refl : (p : Planned) → AgreesWith p p
+agrees-refl p = record { space = same-refl p.space; lowest = refl; entries = refl }
+
+pub agrees-sym : (p q : Planned) → AgreesWith p q → AgreesWith q p
+agrees-sym p q agrees = record { space = same-sym p.space q.space agrees.space; lowest = sym agrees.lowest; entries = sym agrees.entries }
+
+pub agrees-trans : (p q r : Planned) → AgreesWith p q → AgreesWith q r → AgreesWith p r
+agrees-trans p q r first second = record {
+  space = same-trans p.space q.space r.space first.space second.space;
+  lowest = first.lowest ∙ second.lowest;
+  entries = first.entries ∙ second.entries;
+}
+
+pub region_acts-alike : (p q : Planned) (base end : ℕ) → AgreesWith p q → region_acts p base end ≡ region_acts q base end
 region_acts-alike p q base end agrees =
-    ap (λ start. run_acts start p.space.tables (runs_of base end p.lowest)) agrees.start
+    ap (λ start. run_acts start p.space.tables (runs_of base end p.lowest)) agrees.space.start
     ∙ ap (λ lowest. run_acts q.space.start p.space.tables (runs_of base end lowest)) agrees.lowest
-    ∙ run_acts-alike q.space.start (runs_of base end q.lowest) p.space.tables q.space.tables agrees.tables
+    ∙ run_acts-alike q.space.start (runs_of base end q.lowest) p.space.tables q.space.tables agrees.space.tables
 
-data_acts-alike : (p q : Planned) (base count : ℕ) → AgreesWith p q → data_acts p base count ≡ data_acts q base count
+pub data_acts-alike : (p q : Planned) (base count : ℕ) → AgreesWith p q → data_acts p base count ≡ data_acts q base count
 data_acts-alike p q base count agrees =
-    ap (λ start. page_acts start p.space.tables (granules count base)) agrees.start
-    ∙ page_acts-alike q.space.start (granules count base) p.space.tables q.space.tables agrees.tables
+    ap (λ start. page_acts start p.space.tables (granules count base)) agrees.space.start
+    ∙ page_acts-alike q.space.start (granules count base) p.space.tables q.space.tables agrees.space.tables
 
-pub walks-alike : (p q : Planned) (x : ℕ) → AgreesWith p q → walk p.space.start p.space.tables x ≡ walk q.space.start q.space.tables x
-walks-alike p q x agrees =
-    ap (λ start. walk start p.space.tables x) agrees.start ∙ walk-alike q.space.start x p.space.tables q.space.tables agrees.tables
+pub walks-alike : (p q : Planned) (x : ℕ) → AgreesWith p q → walk_of p.space x ≡ walk_of q.space x
+walks-alike p q x agrees = walk-same p.space q.space x agrees.space
 
-pub plan_region-alike : (p q : Planned) (base end : ℕ) → AgreesWith p q → plan_region p base end ≡ plan_region q base end
+pub plan_region-alike : (p q : Planned) (base end : ℕ) → base < end → AgreesWith p q → plan_region p base end ≡ plan_region q base end
 unfolding plan_region
-plan_region-alike p q base end agrees =
-    rw (agrees.half, agrees.ranges base end, agrees.entries, agrees.lowest, agrees.start)
-    (ap (unless_refused (region_checks q base end)) (run_acts-alike q.space.start (runs_of base end q.lowest) p.space.tables q.space.tables agrees.tables))
+plan_region-alike p q base end lt agrees =
+    rw (agrees.space.half, agrees.space.ranges base end lt, agrees.entries, agrees.lowest, agrees.space.start)
+    (ap (unless_refused (region_checks q base end)) (run_acts-alike q.space.start (runs_of base end q.lowest) p.space.tables q.space.tables agrees.space.tables))
 
 pub plan_data-alike : (p q : Planned) (base count : ℕ) → AgreesWith p q → plan_data p base count ≡ plan_data q base count
 unfolding plan_data
 plan_data-alike p q base count agrees =
     rw (
-      agrees.half,
-      list_all-same (is_ram p.space.ram) (is_ram q.space.ram) (granules count base) agrees.ram,
-      list_any-same (has p.space.filled) (has q.space.filled) (granules count base) agrees.filled,
+      agrees.space.half,
+      list_all-same (is_ram p.space.ram) (is_ram q.space.ram) (granules count base) agrees.space.ram,
+      list_any-same (has p.space.filled) (has q.space.filled) (granules count base) agrees.space.filled,
     )
     (ap (unless_refused (data_checks q base count)) (data_acts-alike p q base count agrees))
 
-ram-append : (base end x : ℕ) (rs : List (ℕ × ℕ)) → is_ram (rs ++ (base, end) ∷ []) x ≡ (is_ram rs x || is_ram ((base, end) ∷ []) x)
-ram-append base end x rs = list_any-append (λ r. leb r.0 x && ltb x r.1) rs ((base, end) ∷ [])
-
-overlaps-append : (base end from to : ℕ) (rs : List (ℕ × ℕ)) → overlaps (rs ++ (base, end) ∷ []) from to ≡ (overlaps rs from to || overlaps ((base, end) ∷ []) from to)
-overlaps-append base end from to rs = list_any-append (λ r. ltb r.0 to && ltb from r.1) rs ((base, end) ∷ [])
-
-has-append : (xs ys : List ℕ) (x : ℕ) → has (xs ++ ys) x ≡ (has xs x || has ys x)
-has-append xs ys x = list_any-append (λ y. eqb y x) xs ys
-
 pub after_region-alike : (p q : Planned) (base end : ℕ) → AgreesWith p q → AgreesWith (after_region p base end) (after_region q base end)
 after_region-alike p q base end agrees = record {
-  start = agrees.start;
-  half = agrees.half;
+  space = record {
+    start = agrees.space.start;
+    half = agrees.space.half;
+    tables = rw (agrees.space.start, agrees.lowest) (run_tables-alike q.space.start (runs_of base end q.lowest) p.space.tables q.space.tables agrees.space.tables);
+    ram = λ x. ram-append p.space.ram ((base, end) ∷ []) x ∙ ap (λ b. b || is_ram ((base, end) ∷ []) x) (agrees.space.ram x)
+        ∙ sym (ram-append q.space.ram ((base, end) ∷ []) x);
+    ranges = λ from to lt. overlaps-append p.space.ram ((base, end) ∷ []) from to ∙ ap (λ b. b || overlaps ((base, end) ∷ []) from to) (agrees.space.ranges from to lt)
+        ∙ sym (overlaps-append q.space.ram ((base, end) ∷ []) from to);
+    filled = agrees.space.filled;
+  };
   lowest = agrees.lowest;
   entries = rw (agrees.entries, agrees.lowest) refl;
-  tables = λ level b. rw (region_acts-alike p q base end agrees) (tables_after-alike (region_acts q base end) p.space.tables q.space.tables agrees.tables level b);
-  ram = λ x. ram-append base end x p.space.ram ∙ ap (λ b. b || is_ram ((base, end) ∷ []) x) (agrees.ram x) ∙ sym (ram-append base end x q.space.ram);
-  ranges = λ from to. overlaps-append base end from to p.space.ram ∙ ap (λ b. b || overlaps ((base, end) ∷ []) from to) (agrees.ranges from to)
-      ∙ sym (overlaps-append base end from to q.space.ram);
-  filled = agrees.filled;
 }
 
 pub after_data-alike : (p q : Planned) (base count : ℕ) → AgreesWith p q → AgreesWith (after_data p base count) (after_data q base count)
 after_data-alike p q base count agrees = record {
-  start = agrees.start;
-  half = agrees.half;
+  space = record {
+    start = agrees.space.start;
+    half = agrees.space.half;
+    tables = rw (agrees.space.start) (page_tables-alike q.space.start (granules count base) p.space.tables q.space.tables agrees.space.tables);
+    ram = agrees.space.ram;
+    ranges = agrees.space.ranges;
+    filled = λ x. has-append p.space.filled (granules count base) x ∙ ap (λ b. b || has (granules count base) x) (agrees.space.filled x)
+        ∙ sym (has-append q.space.filled (granules count base) x);
+  };
   lowest = agrees.lowest;
   entries = agrees.entries;
-  tables = λ level b. rw (data_acts-alike p q base count agrees) (tables_after-alike (data_acts q base count) p.space.tables q.space.tables agrees.tables level b);
-  ram = agrees.ram;
-  ranges = agrees.ranges;
-  filled = λ x. has-append p.space.filled (granules count base) x ∙ ap (λ b. b || has (granules count base) x) (agrees.filled x)
-      ∙ sym (has-append q.space.filled (granules count base) x);
 }

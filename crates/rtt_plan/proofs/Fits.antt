@@ -2,12 +2,12 @@
 use Rattle.std.proofs.Common.{inl, inr, ◌≡◌, ℕ, zero, suc, ◌+◌, ◌-◌, ◌/◌, ◌%◌, ◌<◌, ◌≤◌, ◌∙◌, sym, refl, arith, true, false, eqb}
 use Rattle.std.proofs.lemmas.Bool.Decides.{nat_tests}
 use Rattle.rmm_model.specs.Blocks.{down, size}
-use Rattle.rmm_model.proofs.Blocks.{down-le, down-lt, in-block, nest-le, size-pos}
+use Rattle.rmm_model.proofs.Blocks.{down-down, down-le, down-lt, in-block, nest-le, size-pos}
 use Rattle.std.proofs.Math.Nat.{eq-or-lt_of_le}
 use Rattle.std.proofs.lemmas.Bool.{cases_Bool, cases_lt}
 use Rattle.rtt_plan.specs.Entries.{block_level, first_fit, fits, is_first}
 use Rattle.rtt_plan.specs.Places.{IsRegion}
-use Rattle.rtt_plan.proofs.Rounding.{down-down, down-next, down-size, down-top, le-down}
+use Rattle.rtt_plan.proofs.Rounding.{down-next, down-size, down-top, le-down}
 
 -- whether a block fits is said of the block alone
 pub fits-same : (base end l x y : ℕ) → x / size l ≡ y / size l → fits base end l x ≡ fits base end l y

@@ -3,8 +3,13 @@ pub mod Fits
 pub mod Jumps
 pub mod Steps
 pub mod Joins
+pub mod Following
+pub mod Agreeing
+pub mod InTurn
+pub mod Setting
+pub mod Kept
+pub mod Alike
 pub mod Wants
 pub mod Plans
 pub mod Asking
-pub mod Agreeing
-pub mod Alike
+pub mod Filled

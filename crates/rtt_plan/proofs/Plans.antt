@@ -1,71 +1,100 @@
 -- The acts of runs and of pages, one step at a time.
-use Rattle.std.proofs.Common.{◌≡◌, ℕ, suc, ◌+◌, ◌-◌, ◌*◌, ◌<◌, ◌≤◌, ◌∙◌, sym, refl, ap, arith, List, [], ◌∷◌, ◌++◌, length, map, take, append_assoc, length-append}
-use Rattle.std.proofs.Math.Seq.{take-length}
-use Rattle.std.proofs.lemmas.List.{append-nil, take-append-le}
+use Rattle.std.proofs.Common.{◌≡◌, ℕ, suc, ◌+◌, ◌-◌, ◌*◌, ◌<◌, ◌≤◌, ◌∙◌, sym, refl, ap, arith, List, [], ◌∷◌, ◌++◌, map, append_assoc}
+use Rattle.std.proofs.lemmas.List.{append-nil}
 use Rattle.rmm_model.specs.Blocks.{granules}
+use Rattle.rmm_model.specs.Space.{SameTables}
 use Rattle.rmm_model.specs.declared.table.Table.{Table}
 use Rattle.rtt_plan.specs.declared.act.Act.{Act}
 use Rattle.rtt_plan.specs.declared.act.Act.TheVariants as act
 use Rattle.rtt_plan.specs.declared.run.Run.{Run}
-use Rattle.rtt_plan.specs.Wanted.{page_acts, run_acts, table_act, tables_after, wanted}
+use Rattle.rtt_plan.specs.Wanted.{page_acts, page_tables, run_acts, run_tables, table_act, tables_after, wanted}
+use Rattle.rtt_plan.proofs.Alike.{page_acts-alike, page_tables-alike, run_acts-alike, run_tables-alike}
 
--- how far acts have come: what is there, and what the tables there still ask for, make the whole
-pub record IsPlanning (old : List Table) (said : List Act) (whole : List Act) (tables : List Table) (acts rest : List Act) : Type 0 where
-  pub said_so_far : acts ++ rest ≡ said ++ whole
-  pub made_so_far : tables_after tables rest ≡ tables_after old whole
-  pub kept : take (length old) tables ≡ old
-  pub grown : length old ≤ length tables
+-- ---- the tables among acts
 
-pub planning-start : (old : List Table) (said whole : List Act) → IsPlanning old said whole old said whole
-planning-start old said whole = record { said_so_far = refl; made_so_far = refl; kept = take-length old; grown = omega arith }
-
-pub planning-end : (old : List Table) (said whole : List Act) (tables : List Table) (acts rest : List Act) → rest ≡ []
-    → IsPlanning old said whole tables acts rest → (acts ≡ said ++ whole) × (tables ≡ tables_after old whole)
-unfolding tables_after
-planning-end old said whole tables acts rest none planning = (
-  sym (append-nil acts) ∙ ap (λ more. acts ++ more) (sym none) ∙ planning.said_so_far,
-  sym (ap (tables_after tables) none) ∙ planning.made_so_far,
-)
-
-tables-made : (ts new : List Table) (rest : List Act) → tables_after ts (map table_act new ++ rest) ≡ tables_after (ts ++ new) rest
+pub tables-made : (ts new : List Table) (rest : List Act) → tables_after ts (map table_act new ++ rest) ≡ tables_after (ts ++ new) rest
 unfolding tables_after
 tables-made ts [] rest = ap (λ us. tables_after us rest) (sym (append-nil ts))
 tables-made ts (t ∷ new) rest = tables-made (ts ++ t ∷ []) new rest ∙ ap (λ us. tables_after us rest) (append_assoc ts (t ∷ []) new)
 
--- the same tables and acts that go on from a run or a page, which is no table
-planning-step : (old : List Table) (said whole : List Act) (tables : List Table) (acts rest : List Act) (new : List Table) (one : Act) (others : List Act)
-    → rest ≡ map table_act new ++ (one ∷ others) → ((ts : List Table) → tables_after ts (one ∷ others) ≡ tables_after ts others)
-    → IsPlanning old said whole tables acts rest
-    → IsPlanning old said whole (tables ++ new) ((acts ++ map table_act new) ++ one ∷ []) others
-planning-step old said whole tables acts rest new one others parts plain planning =
-    let grown : length old ≤ length tables = planning.grown in
+pub run-tables : (start : ℕ) (runs : List Run) (ts : List Table) → tables_after ts (run_acts start ts runs) ≡ run_tables start ts runs
+unfolding tables_after run_acts run_tables
+run-tables start [] ts = refl
+run-tables start (r ∷ rs) ts =
+    tables-made ts (wanted start ts r.level r.base) (act.Run r.base r.top r.level ∷ run_acts start (ts ++ wanted start ts r.level r.base) rs)
+    ∙ run-tables start rs (ts ++ wanted start ts r.level r.base)
+
+pub page-tables : (start : ℕ) (pages : List ℕ) (ts : List Table) → tables_after ts (page_acts start ts pages) ≡ page_tables start ts pages
+unfolding tables_after page_acts page_tables
+page-tables start [] ts = refl
+page-tables start (x ∷ xs) ts =
+    tables-made ts (wanted start ts 3 x) (act.Pages x 1 ∷ page_acts start (ts ++ wanted start ts 3 x) xs)
+    ∙ page-tables start xs (ts ++ wanted start ts 3 x)
+
+-- ---- how far acts have come
+
+-- The acts so far and those that are left are the acts that were said before and the whole; and the tables that are
+-- left to come are those of the whole.
+pub record IsPlanning (said whole acts rest : List Act) (all left : List Table) : Type 0 where
+  pub said_so_far : acts ++ rest ≡ said ++ whole
+  pub made_so_far : SameTables left all
+
+pub planning-start : (said whole : List Act) (all : List Table) → IsPlanning said whole said whole all all
+planning-start said whole all = record { said_so_far = refl; made_so_far = λ level base. refl }
+
+-- one run more: `now` are the tables with those that it needs
+pub planning-run : (start : ℕ) (said whole acts : List Act) (all tables now : List Table) (runs : List Run) (r : Run) (rs : List Run)
+    → runs ≡ r ∷ rs → SameTables now (tables ++ wanted start tables r.level r.base)
+    → IsPlanning said whole acts (run_acts start tables runs) all (run_tables start tables runs)
+    → IsPlanning said whole ((acts ++ map table_act (wanted start tables r.level r.base)) ++ act.Run r.base r.top r.level ∷ [])
+    (run_acts start now rs) all (run_tables start now rs)
+unfolding run_acts run_tables
+planning-run start said whole acts all tables now runs r rs parts alike planning =
+    let new : List Table = wanted start tables r.level r.base in
+    let one : Act = act.Run r.base r.top r.level in
+    let rest : List Act = run_acts start (tables ++ new) rs in
     record {
-      said_so_far = append_assoc (acts ++ map table_act new) (one ∷ []) others ∙ append_assoc acts (map table_act new) (one ∷ others)
-          ∙ ap (λ more. acts ++ more) (sym parts) ∙ planning.said_so_far;
-      made_so_far = sym (plain (tables ++ new)) ∙ sym (tables-made tables new (one ∷ others)) ∙ ap (tables_after tables) (sym parts) ∙ planning.made_so_far;
-      kept = take-append-le (length old) tables new grown ∙ planning.kept;
-      grown = omega (arith, length-append tables new);
+      said_so_far = ap (λ more. ((acts ++ map table_act new) ++ one ∷ []) ++ more) (run_acts-alike start rs now (tables ++ new) alike)
+          ∙ append_assoc (acts ++ map table_act new) (one ∷ []) rest ∙ append_assoc acts (map table_act new) (one ∷ rest)
+          ∙ ap (λ more. acts ++ more) (sym (ap (run_acts start tables) parts)) ∙ planning.said_so_far;
+      made_so_far = λ level base. run_tables-alike start rs now (tables ++ new) alike level base
+          ∙ (let h = planning.made_so_far level base in rw parts at h);
     }
 
-pub planning-run : (start : ℕ) (old : List Table) (said whole : List Act) (tables : List Table) (acts : List Act) (runs : List Run) (r : Run) (rs : List Run)
-    → runs ≡ r ∷ rs → IsPlanning old said whole tables acts (run_acts start tables runs)
-    → IsPlanning old said whole (tables ++ wanted start tables r.level r.base)
-    ((acts ++ map table_act (wanted start tables r.level r.base)) ++ act.Run r.base r.top r.level ∷ [])
-    (run_acts start (tables ++ wanted start tables r.level r.base) rs)
-unfolding run_acts tables_after
-planning-run start old said whole tables acts runs r rs parts planning =
-    planning-step old said whole tables acts (run_acts start tables runs) (wanted start tables r.level r.base) (act.Run r.base r.top r.level) _
-    (ap (run_acts start tables) parts) (λ ts. refl) planning
+pub planning-page : (start : ℕ) (said whole acts : List Act) (all tables now : List Table) (pages : List ℕ) (x : ℕ) (xs : List ℕ)
+    → pages ≡ x ∷ xs → SameTables now (tables ++ wanted start tables 3 x)
+    → IsPlanning said whole acts (page_acts start tables pages) all (page_tables start tables pages)
+    → IsPlanning said whole ((acts ++ map table_act (wanted start tables 3 x)) ++ act.Pages x 1 ∷ [])
+    (page_acts start now xs) all (page_tables start now xs)
+unfolding page_acts page_tables
+planning-page start said whole acts all tables now pages x xs parts alike planning =
+    let new : List Table = wanted start tables 3 x in
+    let one : Act = act.Pages x 1 in
+    let rest : List Act = page_acts start (tables ++ new) xs in
+    record {
+      said_so_far = ap (λ more. ((acts ++ map table_act new) ++ one ∷ []) ++ more) (page_acts-alike start xs now (tables ++ new) alike)
+          ∙ append_assoc (acts ++ map table_act new) (one ∷ []) rest ∙ append_assoc acts (map table_act new) (one ∷ rest)
+          ∙ ap (λ more. acts ++ more) (sym (ap (page_acts start tables) parts)) ∙ planning.said_so_far;
+      made_so_far = λ level base. page_tables-alike start xs now (tables ++ new) alike level base
+          ∙ (let h = planning.made_so_far level base in rw parts at h);
+    }
 
-pub planning-page : (start : ℕ) (old : List Table) (said whole : List Act) (tables : List Table) (acts : List Act) (pages : List ℕ) (x : ℕ) (xs : List ℕ)
-    → pages ≡ x ∷ xs → IsPlanning old said whole tables acts (page_acts start tables pages)
-    → IsPlanning old said whole (tables ++ wanted start tables 3 x)
-    ((acts ++ map table_act (wanted start tables 3 x)) ++ act.Pages x 1 ∷ [])
-    (page_acts start (tables ++ wanted start tables 3 x) xs)
-unfolding page_acts tables_after
-planning-page start old said whole tables acts pages x xs parts planning =
-    planning-step old said whole tables acts (page_acts start tables pages) (wanted start tables 3 x) (act.Pages x 1) _
-    (ap (page_acts start tables) parts) (λ ts. refl) planning
+-- nothing is left
+pub planning-runs_end : (start : ℕ) (said whole acts : List Act) (all tables : List Table) (runs : List Run) → runs ≡ []
+    → IsPlanning said whole acts (run_acts start tables runs) all (run_tables start tables runs) → (acts ≡ said ++ whole) × SameTables tables all
+unfolding run_acts run_tables
+planning-runs_end start said whole acts all tables runs none planning = (
+  sym (append-nil acts) ∙ ap (λ more. acts ++ more) (sym (ap (run_acts start tables) none)) ∙ planning.said_so_far,
+  λ level base. let h = planning.made_so_far level base in rw none at h,
+)
+
+pub planning-pages_end : (start : ℕ) (said whole acts : List Act) (all tables : List Table) (pages : List ℕ) → pages ≡ []
+    → IsPlanning said whole acts (page_acts start tables pages) all (page_tables start tables pages) → (acts ≡ said ++ whole) × SameTables tables all
+unfolding page_acts page_tables
+planning-pages_end start said whole acts all tables pages none planning = (
+  sym (append-nil acts) ∙ ap (λ more. acts ++ more) (sym (ap (page_acts start tables) none)) ∙ planning.said_so_far,
+  λ level base. let h = planning.made_so_far level base in rw none at h,
+)
 
 -- the pages that are left
 pub granules-next : (count base index : ℕ) → index < count
@@ -79,11 +108,3 @@ granules-next count base index h =
 pub granules-end : (count base index : ℕ) → count ≤ index → granules (count - index) (base + 4096 * index) ≡ []
 unfolding granules
 granules-end count base index h = let e : count - index ≡ 0 = omega arith in rw e refl
-
-pub no-pages : (start : ℕ) (ts : List Table) (pages : List ℕ) → pages ≡ [] → page_acts start ts pages ≡ []
-unfolding page_acts
-no-pages start ts pages none = ap (page_acts start ts) none
-
-pub no-runs : (start : ℕ) (ts : List Table) (runs : List Run) → runs ≡ [] → run_acts start ts runs ≡ []
-unfolding run_acts
-no-runs start ts runs none = ap (run_acts start ts) none

@@ -2,7 +2,7 @@
 use Rattle.std.proofs.Common.{◌≡◌, ℕ, zero, suc, ◌+◌, ◌-◌, ◌*◌, ◌/◌, ◌<◌, ◌≤◌, ◌∙◌, sym, refl, ap, arith}
 use Rattle.std.proofs.Math.Nat.{div-lt_iff_lt-mul, mul-div_cancel, mul-le-mul_right, mul_assoc, mul_comm}
 use Rattle.rmm_model.specs.Blocks.{down, size}
-use Rattle.rmm_model.proofs.Blocks.{down-in, down-lt, size-pos, size-step}
+use Rattle.rmm_model.proofs.Blocks.{down-lt, size-pos, size-step}
 
 -- rounding down keeps order, and an address before a rounded top has its block before it
 pub le-down : (n x b : ℕ) → 0 < n → down n x ≡ x → x ≤ b → x ≤ down n b
@@ -23,12 +23,6 @@ down-top n b t p at h =
     let m : suc (b / n) * n ≤ t / n * n = mul-le-mul_right n le in
     let e : suc (b / n) * n ≡ b / n * n + n = omega arith in
     omega arith
-
-pub down-same : (n x y : ℕ) → x / n ≡ y / n → down n x ≡ down n y
-down-same n x y h = rw h refl
-
-pub down-down : (n x : ℕ) → 0 < n → down n (down n x) ≡ down n x
-down-down n x h = down-same n (down n x) x (down-in n x h)
 
 -- a multiple of a large size is a multiple of each smaller size
 pub size-multiple : (d l : ℕ) → (k : ℕ) × (size l ≡ size (l + d) * k)

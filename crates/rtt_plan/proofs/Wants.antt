@@ -1,26 +1,33 @@
--- Adding the tables that a block wants, one at a time.
-use Rattle.std.proofs.Common.{◌≡◌, ℕ, suc, ◌+◌, ◌-◌, ◌<◌, ◌≤◌, ◌∙◌, sym, refl, ap, arith, Bool, true, false, cond, not, List, [], ◌∷◌, ◌++◌, length, map, take, append_assoc, length-append}
+-- Adding the tables that a block needs, one at a time.
+use Rattle.std.proofs.Common.{◌≡◌, ℕ, suc, ◌+◌, ◌-◌, ◌<◌, ◌≤◌, ◌∙◌, sym, refl, ap, arith, true, false, not, eqb, List, [], ◌∷◌, ◌++◌, map, append_assoc}
 use Rattle.std.specs.List.{filter}
-use Rattle.std.proofs.lemmas.List.{append-nil, map-append, take-append-le}
+use Rattle.std.specs.BTreeSet.{insert_key}
+use Rattle.std.proofs.lemmas.Bool.Decides.{nat_tests}
+use Rattle.std.proofs.lemmas.List.{append-nil}
 use Rattle.rmm_model.specs.Blocks.{down, span}
-use Rattle.rmm_model.specs.Space.{made}
+use Rattle.rmm_model.specs.Space.{SameTables, made, table_cmp}
 use Rattle.rmm_model.specs.declared.table.Table.{Table}
+use Rattle.rmm_model.proofs.Same.{append-alike, insert-alike}
+use Rattle.rmm_model.proofs.Spaces.{made-insert}
 use Rattle.rtt_plan.specs.declared.act.Act.{Act}
-use Rattle.rtt_plan.specs.Wanted.{needed, table_act, unless_made, wanted}
+use Rattle.rtt_plan.specs.Wanted.{needed, table_act, wanted}
 
--- the tables that x wants between two levels
+-- the tables that x needs between two levels
 abbrev pub wanted_between : List Table → ℕ → ℕ → ℕ → List Table
 wanted_between ts above level x = filter (λ t. not (made ts t.level t.base)) (needed (level - above) above x)
 
 abbrev pub table_at : ℕ → ℕ → Table
 table_at level x = record { level = level; base = down (span level) x }
 
--- how far the adding has come: `old` and `said` are the tables and the acts at its start
+-- How far the adding has come: `old` and `said` are the tables and the acts at its start, and none was added below
+-- the level that was reached.
 pub record IsAdding (start level x : ℕ) (old : List Table) (said : List Act) (above : ℕ) (tables : List Table) (acts : List Act) : Type 0 where
-  pub made_so_far : tables ++ wanted_between old above level x ≡ old ++ wanted start old level x
+  pub made_so_far : SameTables (tables ++ wanted_between old above level x) (old ++ wanted start old level x)
   pub said_so_far : acts ++ map table_act (wanted_between old above level x) ≡ said ++ map table_act (wanted start old level x)
-  pub kept : take (length old) tables ≡ old
-  pub grown : length old ≤ length tables
+  pub ahead : (j b : ℕ) → above < j → made tables j b ≡ made old j b
+
+pub adding-start : (start level x : ℕ) (old : List Table) (said : List Act) → IsAdding start level x old said start old said
+adding-start start level x old said = record { made_so_far = λ j b. refl; said_so_far = refl; ahead = λ j b lt. refl }
 
 needed-next : (above level x : ℕ) → above < level → needed (level - above) above x ≡ table_at (above + 1) x ∷ needed (level - (above + 1)) (above + 1) x
 unfolding needed
@@ -29,17 +36,13 @@ needed-next above level x h =
     let f : above + 1 ≡ suc above = omega arith in
     rw (e, f) refl
 
-between-next : (ts : List Table) (above level x : ℕ) → above < level
-    → wanted_between ts above level x ≡ unless_made ts (table_at (above + 1) x) ++ wanted_between ts (above + 1) level x
-between-next ts above level x h =
-    ap (filter (λ t. not (made ts t.level t.base))) (needed-next above level x h) ∙ by_test (made ts (above + 1) (down (span (above + 1)) x))
-  where
-    rest : List Table
-    rest = wanted_between ts (above + 1) level x
+between-made : (ts : List Table) (above level x : ℕ) → above < level → made ts (above + 1) (down (span (above + 1)) x) ≡ true
+    → wanted_between ts above level x ≡ wanted_between ts (above + 1) level x
+between-made ts above level x h there = ap (filter (λ t. not (made ts t.level t.base))) (needed-next above level x h) ∙ rw there refl
 
-    by_test : (b : Bool) → cond (not b) (table_at (above + 1) x ∷ rest) rest ≡ cond b [] (table_at (above + 1) x ∷ []) ++ rest
-    by_test true = refl
-    by_test false = refl
+between-new : (ts : List Table) (above level x : ℕ) → above < level → made ts (above + 1) (down (span (above + 1)) x) ≡ false
+    → wanted_between ts above level x ≡ table_at (above + 1) x ∷ wanted_between ts (above + 1) level x
+between-new ts above level x h out = ap (filter (λ t. not (made ts t.level t.base))) (needed-next above level x h) ∙ rw out refl
 
 between-none : (ts : List Table) (above level x : ℕ) → level ≤ above → wanted_between ts above level x ≡ []
 unfolding needed
@@ -47,28 +50,43 @@ between-none ts above level x h = let e : level - above ≡ 0 = omega arith in r
 
 -- ---- the steps of the loop
 
-pub adding-next : (start level x : ℕ) (old : List Table) (said : List Act) (above : ℕ) (tables : List Table) (acts : List Act)
-    → above < level → IsAdding start level x old said above tables acts
-    → IsAdding start level x old said (above + 1) (tables ++ unless_made old (table_at (above + 1) x)) (acts ++ map table_act (unless_made old (table_at (above + 1) x)))
-adding-next start level x old said above tables acts h adding =
-    let more = unless_made old (table_at (above + 1) x) in
-    let rest = wanted_between old (above + 1) level x in
-    let next = between-next old above level x h in
-    let grown : length old ≤ length tables = adding.grown in
+-- the table of the next level was made before
+pub adding-made : (start level x : ℕ) (old : List Table) (said : List Act) (above : ℕ) (tables : List Table) (acts : List Act)
+    → above < level → made tables (above + 1) (down (span (above + 1)) x) ≡ true → IsAdding start level x old said above tables acts
+    → IsAdding start level x old said (above + 1) tables acts
+adding-made start level x old said above tables acts h there adding =
+    let was : made old (above + 1) (down (span (above + 1)) x) ≡ true = sym (adding.ahead (above + 1) (down (span (above + 1)) x) (omega arith)) ∙ there in
+    let next = between-made old above level x h was in
     record {
-      made_so_far = append_assoc tables more rest ∙ ap (λ ts. tables ++ ts) (sym next) ∙ adding.made_so_far;
-      said_so_far = append_assoc acts (map table_act more) (map table_act rest)
-          ∙ ap (λ ts. acts ++ ts) (sym (map-append table_act more rest) ∙ ap (map table_act) (sym next)) ∙ adding.said_so_far;
-      kept = take-append-le (length old) tables more grown ∙ adding.kept;
-      grown = omega (arith, length-append tables more);
+      made_so_far = rw (← next) adding.made_so_far;
+      said_so_far = ap (λ ts. acts ++ map table_act ts) (sym next) ∙ adding.said_so_far;
+      ahead = λ j b lt. adding.ahead j b (omega arith);
+    }
+
+-- it was not, and is put in its place
+pub adding-new : (start level x : ℕ) (old : List Table) (said : List Act) (above : ℕ) (tables : List Table) (acts : List Act)
+    → above < level → made tables (above + 1) (down (span (above + 1)) x) ≡ false → IsAdding start level x old said above tables acts
+    → IsAdding start level x old said (above + 1) (insert_key table_cmp tables (table_at (above + 1) x)) (acts ++ table_act (table_at (above + 1) x) ∷ [])
+adding-new start level x old said above tables acts h out adding =
+    let t : Table = table_at (above + 1) x in
+    let was : made old (above + 1) (down (span (above + 1)) x) ≡ false = sym (adding.ahead (above + 1) (down (span (above + 1)) x) (omega arith)) ∙ out in
+    let rest : List Table = wanted_between old (above + 1) level x in
+    let next : wanted_between old above level x ≡ t ∷ rest = between-new old above level x h was in
+    let put : SameTables (insert_key table_cmp tables t) (tables ++ t ∷ []) = insert-alike tables tables t (λ j b. refl) in
+    record {
+      made_so_far = λ j b. append-alike (insert_key table_cmp tables t) (tables ++ t ∷ []) rest put j b
+          ∙ ap (λ ts. made ts j b) (append_assoc tables (t ∷ []) rest ∙ ap (λ ts. tables ++ ts) (sym next)) ∙ adding.made_so_far j b;
+      said_so_far = append_assoc acts (table_act t ∷ []) (map table_act rest) ∙ ap (λ ts. acts ++ map table_act ts) (sym next) ∙ adding.said_so_far;
+      ahead = λ j b lt. (let e : eqb (above + 1) j ≡ false = grind (arith, nat_tests) in
+          made-insert tables t j b ∙ rw e (adding.ahead j b (omega arith)));
     }
 
 -- no level is left
 pub adding-end : (start level x : ℕ) (old : List Table) (said : List Act) (above : ℕ) (tables : List Table) (acts : List Act) → level ≤ above
     → IsAdding start level x old said above tables acts
-    → (tables ≡ old ++ wanted start old level x) × (acts ≡ said ++ map table_act (wanted start old level x))
+    → SameTables tables (old ++ wanted start old level x) × (acts ≡ said ++ map table_act (wanted start old level x))
 adding-end start level x old said above tables acts h adding =
     let none = between-none old above level x h in (
-      sym (append-nil tables) ∙ ap (λ ts. tables ++ ts) (sym none) ∙ adding.made_so_far,
+      λ j b. ap (λ ts. made ts j b) (sym (append-nil tables) ∙ ap (λ ts. tables ++ ts) (sym none)) ∙ adding.made_so_far j b,
       sym (append-nil acts) ∙ ap (λ ts. acts ++ map table_act ts) (sym none) ∙ adding.said_so_far,
     )

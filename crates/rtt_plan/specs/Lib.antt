@@ -2,6 +2,8 @@ pub mod Entries
 pub mod Runs
 pub mod Places
 pub mod Wanted
-pub mod Planned
-pub mod TablesInside
 pub mod Agreement
+pub mod Planned
+pub mod InTurn
+pub mod PageRanges
+pub mod TablesInside

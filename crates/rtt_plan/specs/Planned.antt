@@ -1,17 +1,18 @@
 -- What was planned so far, and what a call plans: its first fault, or its acts. The names of the faults and
 -- their order are this project's choice.
-use Rattle.std.specs.Prelude.{◌≡◌, ℕ, ◌+◌, ◌*◌, max, not, ◌||◌, nat_lt, List, [], ◌∷◌, ◌++◌, length, Result}
+use Rattle.std.specs.Prelude.{◌≡◌, ◌≤◌, ℕ, ◌+◌, ◌*◌, max, not, ◌||◌, nat_lt, List, [], ◌∷◌, ◌++◌, length, Result}
 use Rattle.std.specs.List.{list_all, list_any}
 use Rattle.refusal.specs.Checks.{Check, unless_refused}
 use Rattle.rmm_model.specs.Blocks.{granules, is_multiple}
-use Rattle.rmm_model.specs.Space.{Space, empty_space, has, is_ram, made, overlaps}
+use Rattle.rmm_model.specs.Space.{SameSpace, Space, empty_space, has, is_ram, overlaps}
 use Rattle.rmm_model.specs.Start.{protected_end, start_level}
 use Rattle.rtt_plan.specs.declared.act.Act.{Act}
 use Rattle.rtt_plan.specs.declared.fault.PlanFault.{PlanFault}
 use Rattle.rtt_plan.specs.declared.fault.PlanFault.TheVariants.{OutsideProtected, Unaligned, RipasTwice, NotRam, DataTwice, TooManyEntries}
 use Rattle.rtt_plan.specs.Entries as region
 use Rattle.rtt_plan.specs.Runs.{runs_of}
-use Rattle.rtt_plan.specs.Wanted.{page_acts, run_acts, tables_after}
+use Rattle.rtt_plan.specs.Agreement.{IsFormed, IsUsed}
+use Rattle.rtt_plan.specs.Wanted.{page_acts, page_tables, run_acts, run_tables}
 
 pub record Planned : Type 0 where
   pub space : Space
@@ -64,28 +65,36 @@ data_acts p base count = page_acts p.space.start p.space.tables (granules count 
 unfoldable pub plan_data : Planned → ℕ → ℕ → Result (List Act) PlanFault
 plan_data p base count = unless_refused (data_checks p base count) (data_acts p base count)
 
--- what is known after a region's acts
+-- the plan after a region: the tables of its runs, and the region as RAM
 abbrev pub after_region : Planned → ℕ → ℕ → Planned
 after_region p base end = record {
-  space = record p.space { tables = tables_after p.space.tables (region_acts p base end); ram = p.space.ram ++ (base, end) ∷ [] };
+  space = record p.space {
+    tables = run_tables p.space.start p.space.tables (runs_of base end p.lowest);
+    ram = p.space.ram ++ (base, end) ∷ [];
+  };
   lowest = p.lowest;
   entries = p.entries + entry_count p base end;
 }
 
--- and after those of pages of data
+-- and after pages of data: the tables of the pages, and the pages
 abbrev pub after_data : Planned → ℕ → ℕ → Planned
 after_data p base count = record p {
-  space = record p.space { tables = tables_after p.space.tables (data_acts p base count); filled = p.space.filled ++ granules count base };
+  space = record p.space {
+    tables = page_tables p.space.start p.space.tables (granules count base);
+    filled = p.space.filled ++ granules count base;
+  };
 }
 
--- two plans that agree on every table, every range and address that is RAM, and every page that has data,
--- whatever the order and the pieces in which these are kept
+-- two plans whose spaces are the same, with the same lowest level and number of entries
 pub record AgreesWith (p q : Planned) : Type 0 where
-  pub start : p.space.start ≡ q.space.start
-  pub half : p.space.half ≡ q.space.half
+  pub space : SameSpace p.space q.space
   pub lowest : p.lowest ≡ q.lowest
   pub entries : p.entries ≡ q.entries
-  pub tables : (level base : ℕ) → made p.space.tables level base ≡ made q.space.tables level base
-  pub ram : (x : ℕ) → is_ram p.space.ram x ≡ is_ram q.space.ram x
-  pub ranges : (base end : ℕ) → overlaps p.space.ram base end ≡ overlaps q.space.ram base end
-  pub filled : (x : ℕ) → has p.space.filled x ≡ has q.space.filled x
+
+-- what each plan keeps: its tables are formed and used, and its levels are in order
+pub record IsPlanned (p : Planned) : Type 0 where
+  pub formed : IsFormed p.space.start p.space.tables
+  pub used : IsUsed p.space.tables p.space.ram
+  pub highest : p.space.start ≤ 2
+  pub allowed : p.space.start ≤ p.lowest
+  pub deepest : p.lowest ≤ 3

@@ -1,7 +1,7 @@
 -- Runs: the longest groups of neighbouring entries of one level in one table. Each is set by one
 -- InitRipas (this project's choice).
-use Rattle.std.specs.Prelude.{ℕ, ◌+◌, ◌/◌, ◌&&◌, ◌==◌, Bool, List, [], ◌∷◌, if◌then◌else◌}
-use Rattle.rmm_model.specs.Blocks.{size, span}
+use Rattle.std.specs.Prelude.{◌≡◌, ℕ, ◌+◌, ◌-◌, ◌/◌, ◌<◌, ◌≤◌, ◌&&◌, ◌==◌, Bool, List, [], ◌∷◌, ◌++◌, map, if◌then◌else◌}
+use Rattle.rmm_model.specs.Blocks.{down, size, span, stretches}
 use Rattle.rtt_plan.specs.Entries.{block_level, entries_from}
 use Rattle.rtt_plan.specs.declared.run.Run.{Run}
 
@@ -28,3 +28,33 @@ runs_from base end lowest x = group (block_level base end lowest) (entries_from 
 -- the runs of a region
 abbrev pub runs_of : ℕ → ℕ → ℕ → List Run
 runs_of base end lowest = runs_from base end lowest base
+
+-- ---- what runs are
+
+-- A run is of an allowed level, has an address, begins and ends at multiples of its entries, and is in one table
+-- of its level.
+pub record IsRun (lowest : ℕ) (r : Run) : Type 0 where
+  pub allowed : lowest ≤ r.level
+  pub deepest : r.level ≤ 3
+  pub some : r.base < r.top
+  pub base_at : down (size r.level) r.base ≡ r.base
+  pub top_at : down (size r.level) r.top ≡ r.top
+  pub in_table : r.top ≤ down (span r.level) r.base + span r.level
+
+-- runs that follow one another from x to end, without a gap
+unfoldable pub AreRuns : ℕ → ℕ → ℕ → List Run → Type 0
+AreRuns lowest x end [] = x ≡ end
+AreRuns lowest x end (r ∷ rs) = IsRun lowest r × (r.base ≡ x) × (r.top ≤ end) × AreRuns lowest r.top end rs
+
+-- the ranges that runs make RAM
+abbrev pub ranges_of : List Run → List (ℕ × ℕ)
+ranges_of runs = map (λ r. (r.base, r.top)) runs
+
+-- the blocks of runs, one for each entry that a run changes: the first address and the first past it
+unfoldable pub blocks_of : List Run → List (ℕ × ℕ)
+blocks_of [] = []
+blocks_of (r ∷ rs) = stretches ((r.top - r.base) / size r.level) (size r.level) r.base ++ blocks_of rs
+
+-- the block of an entry of a region
+abbrev pub block_of : ℕ → ℕ → ℕ → ℕ → ℕ × ℕ
+block_of base end lowest x = (x, x + size (block_level base end lowest x))

@@ -1,11 +1,13 @@
 -- What callers see of the planner's fields, and what these keep. This project's choice.
-use Rattle.std.specs.Prelude.{◌≤◌, ◌^◌}
+use Rattle.std.specs.Prelude.{◌≡◌, ◌≤◌, ◌^◌, true}
+use Rattle.rmm_model.specs.Space.{ArePlaced}
+use Rattle.rtt_plan.specs.PageRanges.{are_pages, pages_of}
 use Rattle.rtt_plan.specs.Planned.{Planned}
 use Rattle.rtt_plan.specs.declared.tables.Tables.TheInside.{Inside}
 
 abbrev pub shown_plan : Inside → Planned
 shown_plan t = record {
-  space = record { start = t.start; half = t.half; tables = t.tables.items; ram = t.ram.items; filled = t.filled.items };
+  space = record { start = t.start; half = t.half; tables = t.tables.keys; ram = t.ram.items; filled = pages_of t.filled.items };
   lowest = t.lowest;
   entries = t.entries;
 }
@@ -15,3 +17,5 @@ pub record IsWellFormed (t : Inside) : Type 0 where
   pub lowest : t.lowest ≤ 3
   pub half : t.half ≤ 2 ^ 47
   pub entries : t.entries ≤ 4194304
+  pub tables : ArePlaced t.start t.tables.keys
+  pub filled : are_pages t.filled.items ≡ true

@@ -1,4 +1,8 @@
 //! Why a call plans nothing.
+ghost use Rattle.std.specs.Prelude.{◌≡◌};
+ghost use Rattle.rtt_plan.specs.declared.fault.PlanFault.TheVariants as fault;
+
+use refusal::NoMemory;
 
 /// Why a call plans nothing. The first that holds, in the order of the call's checks, is answered.
 #[derive(Clone, Copy, Debug, PartialEq, Eq)]
@@ -17,4 +21,12 @@ pub enum PlanFault {
     TooManyEntries,
     /// The allocator refused a growth.
     NoMemory,
+}
+
+impl From<NoMemory> for PlanFault {
+    ghost from_gives = { λ _ e. e ≡ fault.NoMemory };
+
+    fn from(_error: NoMemory) -> PlanFault {
+        PlanFault::NoMemory
+    }
 }

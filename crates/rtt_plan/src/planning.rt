@@ -1,20 +1,21 @@
 //! The acts of a region of RAM, and of pages of data.
-ghost use Rattle.std.specs.Prelude.{◌≡◌, ◌++◌, ◌*◌, ◌+◌, ◌<◌, ◌≤◌, ◌^◌, OnOk, length, take};
+ghost use Rattle.std.specs.Prelude.{◌≡◌, ◌++◌, ◌*◌, ◌+◌, ◌<◌, ◌≤◌, ◌^◌, OnOk};
 ghost use Rattle.rmm_model.specs.Blocks.{granules};
+ghost use Rattle.rmm_model.specs.Space.{SameTables};
 ghost use Rattle.rtt_plan.specs.Places.{IsRegion};
 ghost use Rattle.rtt_plan.specs.Runs.{runs_of};
-ghost use Rattle.rtt_plan.specs.Wanted.{page_acts, run_acts, tables_after};
+ghost use Rattle.rtt_plan.specs.Wanted.{page_acts, page_tables, run_acts, run_tables};
 
 use crate::act::Act;
 use crate::longest::run_from;
 use crate::wanted::push_wanted;
-use rim_desc::NoMemory;
+use refusal::NoMemory;
 use rmm_model::Table;
+use std::collections::BTreeSet;
 
-/// Adds the acts of a region's runs, and the tables among them. Where memory is wanting, the tables that
-/// were there before are still there, first.
+/// Adds the acts of a region's runs, and the tables among them.
 pub fn push_region(
-    tables: &mut Vec<Table>,
+    tables: &mut BTreeSet<Table>,
     acts: &mut Vec<Act>,
     start: u8,
     lowest: u8,
@@ -26,9 +27,8 @@ pub fn push_region(
     requires small { end ≤ 2 ^ 47 }
     requires low { start ≤ lowest }
     requires deep { lowest ≤ 3 }
-    ensures acts { OnOk result (acts.new.items ≡ acts.old.items ++ run_acts start tables.old.items (runs_of base end lowest)) }
-    ensures tables { OnOk result (tables.new.items ≡ tables_after tables.old.items (run_acts start tables.old.items (runs_of base end lowest))) }
-    ensures kept { take (length tables.old.items) tables.new.items ≡ tables.old.items }
+    ensures acts { OnOk result (acts.new.items ≡ acts.old.items ++ run_acts start tables.old.keys (runs_of base end lowest)) }
+    ensures tables { OnOk result (SameTables tables.new.keys (run_tables start tables.old.keys (runs_of base end lowest))) }
 {
     let mut x = base;
     while x < end {
@@ -44,10 +44,9 @@ pub fn push_region(
     Ok(())
 }
 
-/// Adds the acts of so many pages from `base` on, and the tables among them. Where memory is wanting,
-/// the tables that were there before are still there, first.
+/// Adds the acts of so many pages from `base` on, and the tables among them.
 pub fn push_data(
-    tables: &mut Vec<Table>,
+    tables: &mut BTreeSet<Table>,
     acts: &mut Vec<Act>,
     start: u8,
     base: u64,
@@ -55,9 +54,8 @@ pub fn push_data(
 ) -> Result<(), NoMemory>
     requires small { base + 4096 * count ≤ 2 ^ 47 }
     requires deep { start ≤ 3 }
-    ensures acts { OnOk result (acts.new.items ≡ acts.old.items ++ page_acts start tables.old.items (granules count base)) }
-    ensures tables { OnOk result (tables.new.items ≡ tables_after tables.old.items (page_acts start tables.old.items (granules count base))) }
-    ensures kept { take (length tables.old.items) tables.new.items ≡ tables.old.items }
+    ensures acts { OnOk result (acts.new.items ≡ acts.old.items ++ page_acts start tables.old.keys (granules count base)) }
+    ensures tables { OnOk result (SameTables tables.new.keys (page_tables start tables.old.keys (granules count base))) }
 {
     for index in 0..count {
         let page = base + 4096 * index;

@@ -1,40 +1,45 @@
-//! Questions to what was planned so far. Each goes through the whole list that it asks: this is the
-//! plain form of the planner, which ordered maps and spans are to replace under the same contracts.
-ghost use Rattle.std.specs.Prelude.{◌≡◌, ◌*◌, ◌+◌, ◌≤◌, ◌<◌, ◌^◌, nat_lt};
+//! Questions to what was planned so far.
+ghost use Rattle.std.specs.Prelude.{◌≡◌, ◌*◌, ◌+◌, ◌%◌, ◌≤◌, ◌<◌, ◌^◌, nat_lt, true};
 ghost use Rattle.std.specs.List.{list_all, list_any};
-ghost use Rattle.rmm_model.specs.Blocks.{granules};
-ghost use Rattle.rmm_model.specs.Space.{covers, has, is_ram, overlaps, walk};
+ghost use Rattle.rmm_model.specs.Blocks.{down, granules, span};
+ghost use Rattle.rmm_model.specs.Space.{ArePlaced, has, is_ram, made, overlaps, walk};
+ghost use Rattle.rtt_plan.specs.PageRanges.{are_pages, pages_of};
 
 use rmm_model::Table;
-use rmm_model::size::span_of_level;
+use rmm_model::size::table_base;
+use std::collections::BTreeSet;
 
-/// Whether a table covers an IPA.
-fn covers(table: &Table, ipa: u64) -> bool
-    ensures { result ≡ covers table.now ipa }
+/// Whether the table of a level that covers an IPA is made.
+fn is_made(tables: &BTreeSet<Table>, level: u8, ipa: u64) -> bool
+    ensures { result ≡ made tables.now.keys level (down (span level) ipa) }
 {
-    let table = *table;
-    let span = span_of_level(table.level);
-    ipa / span == table.base / span
+    tables.contains(&Table {
+        level,
+        base: table_base(level, ipa),
+    })
 }
 
-/// The level at which the walk of an IPA ends. It takes as long as there are tables.
-pub fn walk_level(start: u8, tables: &[Table], ipa: u64) -> u8
-    ensures { result ≡ walk start tables.now ipa }
+/// The level at which the walk of an IPA ends: the deepest table that covers it decides.
+pub fn walk_level(start: u8, tables: &BTreeSet<Table>, ipa: u64) -> u8
+    requires { ArePlaced start tables.now.keys }
+    ensures { result ≡ walk start tables.now.keys ipa }
 {
-    let mut level = start;
-    for table in tables {
-        if covers(table, ipa) {
-            level = level.max(table.level);
-        }
+    if is_made(tables, 3, ipa) {
+        3
+    } else if is_made(tables, 2, ipa) {
+        2
+    } else if is_made(tables, 1, ipa) {
+        1
+    } else {
+        start
     }
-    level
 }
 
-/// Whether some address from `base` on and below `top` is RAM.
-pub fn overlaps(ram: &[(u64, u64)], base: u64, top: u64) -> bool
-    ensures { result ≡ overlaps ram.now base top }
+/// Whether some address from `base` on and below `top` is in a range.
+pub fn overlaps(ranges: &[(u64, u64)], base: u64, top: u64) -> bool
+    ensures { result ≡ overlaps ranges.now base top }
 {
-    ram.iter().any(|range| range.0 < top && base < range.1)
+    ranges.iter().any(|range| range.0 < top && base < range.1)
 }
 
 /// Whether an address is RAM.
@@ -42,13 +47,6 @@ fn is_ram(ram: &[(u64, u64)], ipa: u64) -> bool
     ensures { result ≡ is_ram ram.now ipa }
 {
     ram.iter().any(|range| range.0 <= ipa && ipa < range.1)
-}
-
-/// Whether a page has data.
-fn has(filled: &[u64], page: u64) -> bool
-    ensures { result ≡ has filled.now page }
-{
-    filled.contains(&page)
 }
 
 /// Whether so many pages from `base` on end past an address.
@@ -71,15 +69,13 @@ pub fn all_ram(ram: &[(u64, u64)], base: u64, count: u64) -> bool
     true
 }
 
-/// Whether one of so many pages from `base` on has data.
-pub fn any_filled(filled: &[u64], base: u64, count: u64) -> bool
-    requires { base + 4096 * count ≤ 2 ^ 47 }
-    ensures { result ≡ list_any (has filled.now) (granules count base) }
+/// Whether one of so many pages from `base` on is in a range of pages. Ranges are compared, and no page is visited.
+pub fn any_filled(filled: &[(u64, u64)], base: u64, count: u64) -> bool
+    requires whole { are_pages filled.now ≡ true }
+    requires at { base % 4096 ≡ 0 }
+    requires some { 1 ≤ count }
+    requires small { base + 4096 * count ≤ 2 ^ 47 }
+    ensures { result ≡ list_any (has (pages_of filled.now)) (granules count base) }
 {
-    for index in 0..count {
-        if has(filled, base + 4096 * index) {
-            return true;
-        }
-    }
-    false
+    overlaps(filled, base, base + 4096 * count)
 }

@@ -1,26 +1,32 @@
-use Rattle.std.proofs.Common.{◌-◌, arith}
+use Rattle.std.proofs.Common.{◌≡◌, ◌-◌, ◌++◌, arith}
+use Rattle.rmm_model.specs.Space.{SameTables}
+use Rattle.rtt_plan.specs.Wanted.{wanted}
 use Rattle.rtt_plan.proofs.Fits.{first_fit-from}
 use Rattle.rtt_plan.proofs.Joins.{runs-end}
-use Rattle.rtt_plan.proofs.Plans.{no-runs, planning-end, planning-run, planning-start}
+use Rattle.rtt_plan.proofs.Plans.{planning-run, planning-runs_end, planning-start}
 use Rattle.rtt_plan.proofs.Steps.{at-base}
 use Rattle.rtt_plan.proofs.planning.push_region.Goals as goal
 
 pub loop-x-init : goal.loop-x-init
-loop-x-init c = (at-base _ _ _ c.requires.region c.requires.deep c.requires.some, planning-start _ _ _)
+loop-x-init c = record { at = at-base _ _ _ c.requires.region c.requires.deep c.requires.some; planning = planning-start _ _ _ }
 
 pub push_wanted-requires-clause-low : goal.push_wanted-requires-clause-low
 push_wanted-requires-clause-low c =
     omega (arith, c.requires.low, c.run_from-run.ensures.level, first_fit-from c.args.base c.args.end (3 - c.args.lowest) c.args.lowest c.loop-x.x)
 
 pub loop-x-preserved : goal.loop-x-preserved
-loop-x-preserved c = (
-  c.run_from-run.ensures.next,
-  rw (c.in_ok-push.ensures.items, c.in_ok-push_wanted.ensures.acts, c.in_ok-push_wanted.ensures.tables)
-      (rw c.run_from-run.ensures.base at (planning-run _ _ _ _ _ _ _ c.run_from-run.result _ c.run_from-run.ensures.runs c.loop-x.invariant.1)),
-)
+loop-x-preserved c = record {
+  at = c.run_from-run.ensures.next;
+  planning =
+      let run = c.run_from-run.result in
+      let here : run.base ≡ c.loop-x.x = c.run_from-run.ensures.base in
+      let tables : SameTables c.push_wanted.new.tables.keys (c.loop-x.tables.keys ++ wanted c.args.start c.loop-x.tables.keys run.level run.base) = rw here c.in_ok-push_wanted.ensures.tables in
+      rw (c.in_ok-push.ensures.items, c.in_ok-push_wanted.ensures.acts)
+      (rw here at (planning-run _ _ _ _ _ _ _ _ run _ c.run_from-run.ensures.runs tables c.loop-x.invariant.planning));
+}
 
 pub returns-clause-acts : goal.returns-clause-acts
-returns-clause-acts c = (planning-end _ _ _ _ _ _ (no-runs _ _ _ (runs-end _ _ _ _ c.loop-x-test.false)) c.loop-x.invariant.1).0
+returns-clause-acts c = (planning-runs_end _ _ _ _ _ _ _ (runs-end _ _ _ _ c.loop-x-test.false) c.loop-x.invariant.planning).0
 
 pub returns-clause-tables : goal.returns-clause-tables
-returns-clause-tables c = (planning-end _ _ _ _ _ _ (no-runs _ _ _ (runs-end _ _ _ _ c.loop-x-test.false)) c.loop-x.invariant.1).1
+returns-clause-tables c = (planning-runs_end _ _ _ _ _ _ _ (runs-end _ _ _ _ c.loop-x-test.false) c.loop-x.invariant.planning).1

@@ -2,4 +2,4 @@ use Rattle.rtt_plan.proofs.Wants.{IsAdding}
 use Rattle.rtt_plan.proofs.wanted.push_wanted.Given as goal
 
 abbrev pub invariant-loop-above : goal.invariant-loop-above
-invariant-loop-above l = IsAdding l.start l.level l.x l.initial.tables.items l.initial.acts.items l.above l.tables.items l.acts.items
+invariant-loop-above l = IsAdding l.start l.level l.x l.initial.tables.keys l.initial.acts.items l.above l.tables.keys l.acts.items

@@ -1,7 +1,8 @@
-use Rattle.std.proofs.Common.{arith}
-use Rattle.std.proofs.lemmas.Grind.{common_steps}
-use Rattle.rtt_plan.specs.Planned.{plan_region}
+use Rattle.std.proofs.Common.{sym}
+use Rattle.rmm_model.proofs.Same.{placed-alike}
 use Rattle.rtt_plan.proofs.Fits.{whole-region}
+use Rattle.rtt_plan.proofs.Following.{region-runs}
+use Rattle.rtt_plan.proofs.Kept.{runs-placed}
 use Rattle.rtt_plan.proofs.tables.Tables.ripas_runs.Goals as goal
 
 pub total_entries-requires-clause-region : goal.total_entries-requires-clause-region
@@ -10,26 +11,14 @@ total_entries-requires-clause-region c = whole-region _ _ c.if-base-ne0.false c.
 pub add_region-requires-clause-region : goal.add_region-requires-clause-region
 add_region-requires-clause-region c = whole-region _ _ c.if-base-ne0.false c.if-end-ne0.false
 
-pub returns-in_default-clause-memory : goal.returns-in_default-clause-memory
-unfolding plan_region
-returns-in_default-clause-memory c = grind (arith, common_steps) steps 300000
-
-pub returns-then-overlaps-clause-fault : goal.returns-then-overlaps-clause-fault
-unfolding plan_region
-returns-then-overlaps-clause-fault c = grind (arith, common_steps) steps 300000
-
-pub returns-in_default-clause-fault : goal.returns-in_default-clause-fault
-unfolding plan_region
-returns-in_default-clause-fault c = grind (arith, common_steps) steps 300000
-
-pub returns-in-Ok-clause-acts : goal.returns-in-Ok-clause-acts
-unfolding plan_region
-returns-in-Ok-clause-acts c = grind (arith, common_steps) steps 300000
-
-pub returns-in-Ok-clause-after : goal.returns-in-Ok-clause-after
-unfolding plan_region
-returns-in-Ok-clause-after c = grind (arith, common_steps) steps 300000
-
-pub returns-in-Err-clause-memory : goal.returns-in-Err-clause-memory
-unfolding plan_region
-returns-in-Err-clause-memory c = grind (arith, common_steps) steps 300000
+pub invariant_of-self-2 : goal.invariant_of-self-2
+invariant_of-self-2 c = record {
+  start = c.self.invariant.start;
+  lowest = c.self.invariant.lowest;
+  half = c.self.invariant.half;
+  entries = c.in-Some.ensures.limit;
+  tables = placed-alike _ _ _ (λ level base. sym (c.in_ok-acts.ensures.tables level base))
+      (runs-placed _ _ _ _ _ (region-runs _ _ _ _ c.self.invariant.start (whole-region _ _ c.if-base-ne0.false c.if-end-ne0.false) c.self.invariant.lowest c.requires)
+      c.self.invariant.tables);
+  filled = c.self.invariant.filled;
+}

@@ -1,0 +1,5 @@
+use Rattle.rmm_model.proofs.Same.{overlaps-same}
+use Rattle.rmm_model.proofs.laws.addresses_decide_ranges.Goals as goal
+
+pub returns : goal.returns
+returns c = overlaps-same

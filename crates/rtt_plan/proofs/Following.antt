@@ -1,0 +1,161 @@
+-- The runs of a region follow one another from its base to its end, each in one table, and their blocks are
+-- the region's entries.
+use Rattle.std.proofs.Common.{inl, inr, ◌≡◌, ℕ, zero, suc, ◌+◌, ◌-◌, ◌/◌, ◌<◌, ◌≤◌, ◌∙◌, sym, refl, ap, arith, ◌&&◌, leb, ltb, eqb, List, [], ◌∷◌, map}
+use Rattle.std.proofs.lemmas.Bool.{cases_Bool}
+use Rattle.std.proofs.lemmas.Bool.Decides.{nat_tests}
+use Rattle.std.proofs.Math.Nat.{add-div_right, div_self, eq-or-lt_of_le}
+use Rattle.rmm_model.specs.Blocks.{down, size, span, stretches}
+use Rattle.rmm_model.specs.Space.{is_ram}
+use Rattle.rmm_model.proofs.Blocks.{down-lt, down-same, size-pos, span-pos}
+use Rattle.rtt_plan.specs.Entries.{block_level, entries, entries_from}
+use Rattle.rtt_plan.specs.Places.{AtEntry, IsRegion}
+use Rattle.rtt_plan.specs.Runs.{AreRuns, IsRun, block_of, blocks_of, group, put, ranges_of, runs_from, runs_of}
+use Rattle.rtt_plan.specs.declared.run.Run.{Run}
+use Rattle.rtt_plan.proofs.Fits.{first-at, first_fit-from, first_fit-to}
+use Rattle.rtt_plan.proofs.Joins.{runs-next}
+use Rattle.rtt_plan.proofs.Rounding.{down-next, down-part, down-top, multiple-down}
+use Rattle.rtt_plan.proofs.Steps.{at-base, at-next, entries-end, entries-next, entry-fits}
+
+-- ---- one entry
+
+entry-in-table : (l x : ℕ) → down (size l) x ≡ x → x + size l ≤ down (span l) x + span l
+entry-in-table l x at =
+    let p : 0 < size l = size-pos l in
+    let ps : 0 < span l = span-pos l in
+    let multiple : down (span l) (down (span l) x + span l) ≡ down (span l) x + span l = down-next (span l) (down (span l) x) ps (multiple-down (span l) (x / span l) x ps) in
+    let part : down (size l) (down (span l) x + span l) ≡ down (span l) x + span l = down-part (size l) 512 (down (span l) x + span l) p multiple in
+    let lt : x < down (span l) x + span l = down-lt (span l) x ps in
+    let d : down (size l) x + size l ≤ down (span l) x + span l = down-top (size l) x (down (span l) x + span l) p part lt in
+    omega arith
+
+single : (lowest l x : ℕ) → lowest ≤ l → l ≤ 3 → down (size l) x ≡ x → IsRun lowest (record { base = x; top = x + size l; level = l })
+single lowest l x o deep at = record {
+  allowed = o;
+  deepest = deep;
+  some = omega (arith, size-pos l);
+  base_at = at;
+  top_at = down-next (size l) x (size-pos l) at;
+  in_table = entry-in-table l x at;
+}
+
+-- ---- an entry in front of runs
+
+put-runs : (lowest l x end : ℕ) (rs : List Run) → lowest ≤ l → l ≤ 3 → down (size l) x ≡ x → x + size l ≤ end
+    → AreRuns lowest (x + size l) end rs → AreRuns lowest x end (put l x rs)
+unfolding AreRuns
+put-runs lowest l x end [] o deep at le runs = (single lowest l x o deep at, refl, le, runs)
+put-runs lowest l x end (r ∷ rs) o deep at le runs =
+    elim (cases_Bool (eqb r.level l && eqb (r.base / span l) (x / span l))) [
+      | inr f ↦ rw f (single lowest l x o deep at, refl, le, runs)
+      | inl t ↦ rw t
+          (let run : IsRun lowest r = runs.0 in
+          let e : r.level ≡ l = grind (arith, nat_tests) in
+          let s : r.base / span l ≡ x / span l = grind (arith, nat_tests) in
+          let b : r.base ≡ x + size l = runs.1 in
+          let some : r.base < r.top = run.some in
+          let p : 0 < size l = size-pos l in
+          let first : IsRun lowest (record { base = x; top = r.top; level = l }) = record {
+            allowed = o;
+            deepest = deep;
+            some = omega arith;
+            base_at = at;
+            top_at = rw e at run.top_at;
+            in_table = (let w : r.top ≤ down (span l) r.base + span l = rw e at run.in_table in
+                let d : down (span l) r.base ≡ down (span l) x = down-same (span l) r.base x s in omega arith);
+          } in
+          (first, refl, runs.2, runs.3))
+    ]
+
+one : (s x : ℕ) → 0 < s → (x + s - x) / s ≡ 1
+one s x p = let e : x + s - x ≡ s = omega arith in rw e (div_self p)
+
+one-more : (s x b t : ℕ) → 0 < s → b ≡ x + s → b ≤ t → (t - x) / s ≡ suc ((t - b) / s)
+one-more s x b t p e o = let f : t - x ≡ (t - b) + s = omega arith in omega (arith, ap (λ (z : ℕ). z / s) f, add-div_right (t - b) p)
+
+put-blocks : (lowest l x end : ℕ) (rs : List Run) → AreRuns lowest (x + size l) end rs → blocks_of (put l x rs) ≡ (x, x + size l) ∷ blocks_of rs
+unfolding blocks_of stretches AreRuns
+put-blocks lowest l x end [] runs =
+    let e : (x + size l - x) / size l ≡ 1 = one (size l) x (size-pos l) in rw e refl
+put-blocks lowest l x end (r ∷ rs) runs =
+    elim (cases_Bool (eqb r.level l && eqb (r.base / span l) (x / span l))) [
+      | inr f ↦ rw f (let e : (x + size l - x) / size l ≡ 1 = one (size l) x (size-pos l) in rw e refl)
+      | inl t ↦ rw t
+          (let run : IsRun lowest r = runs.0 in
+          let some : r.base < r.top = run.some in
+          let e : r.level ≡ l = grind (arith, nat_tests) in
+          let b : r.base ≡ x + size l = runs.1 in
+          let n : (r.top - x) / size l ≡ suc ((r.top - r.base) / size l) = one-more (size l) x r.base r.top (size-pos l) b (omega arith) in
+          rw (e, n, b) refl)
+    ]
+
+-- ---- the runs of a region, from an entry on
+
+record Follow (start base end lowest x : ℕ) : Type 0 where
+  runs : AreRuns start x end (runs_from base end lowest x)
+  blocks : blocks_of (runs_from base end lowest x) ≡ map (block_of base end lowest) (entries_from base end lowest x)
+
+at-end : (start base end lowest x : ℕ) → x ≡ end → Follow start base end lowest x
+unfolding AreRuns blocks_of group
+at-end start base end lowest x e = let none = entries-end base end lowest x (omega arith) in record { runs = rw none e; blocks = rw none refl }
+
+at-entry : (start base end lowest x : ℕ) → start ≤ lowest → IsRegion base end → lowest ≤ 3 → AtEntry base end lowest x → x < end
+    → Follow start base end lowest (x + size (block_level base end lowest x)) → Follow start base end lowest x
+at-entry start base end lowest x o region low at some next =
+    let m : ℕ = block_level base end lowest x in
+    let from : lowest ≤ m = first_fit-from base end (3 - lowest) lowest x in
+    let to : m ≤ lowest + (3 - lowest) = first_fit-to base end (3 - lowest) lowest x in
+    let here : down (size m) x ≡ x = first-at base end lowest x (at.first some) in
+    let rest : List Run = runs_from base end lowest (x + size m) in
+    let split : runs_from base end lowest x ≡ put m x rest = runs-next base end lowest x region low at some in
+    let first : entries_from base end lowest x ≡ x ∷ entries_from base end lowest (x + size m) = entries-next base end lowest x region low at some in
+    record {
+      runs = rw split (put-runs start m x end rest (omega arith) (omega arith) here (entry-fits base end lowest x region low at some) next.runs);
+      blocks = ap blocks_of split ∙ (put-blocks start m x end rest next.runs
+          ∙ (ap (λ ys. (x, x + size m) ∷ ys) next.blocks ∙ sym (ap (map (block_of base end lowest)) first)));
+    }
+
+follow-from : (start base end lowest fuel x : ℕ) → start ≤ lowest → IsRegion base end → lowest ≤ 3 → AtEntry base end lowest x → end ≤ x + fuel
+    → Follow start base end lowest x
+follow-from start base end lowest zero x o region low at room = at-end start base end lowest x (let h : x ≤ end = at.high in omega arith)
+follow-from start base end lowest (suc fuel) x o region low at room =
+    elim (eq-or-lt_of_le at.high) [
+      | inl e ↦ at-end start base end lowest x e
+      | inr some ↦
+          let p : 0 < size (block_level base end lowest x) = size-pos (block_level base end lowest x) in
+          at-entry start base end lowest x o region low at some
+          (follow-from start base end lowest fuel (x + size (block_level base end lowest x)) o region low (at-next base end lowest x region low at some) (omega arith))
+    ]
+
+follow : (start base end lowest : ℕ) → start ≤ lowest → IsRegion base end → lowest ≤ 3 → base < end → Follow start base end lowest base
+follow start base end lowest o region low some = follow-from start base end lowest end base o region low (at-base base end lowest region low some) (omega arith)
+
+pub region-runs : (start base end lowest : ℕ) → start ≤ lowest → IsRegion base end → lowest ≤ 3 → base < end → AreRuns start base end (runs_of base end lowest)
+region-runs start base end lowest o region low some = (follow start base end lowest o region low some).runs
+
+pub region-blocks : (base end lowest : ℕ) → IsRegion base end → lowest ≤ 3 → base < end
+    → blocks_of (runs_of base end lowest) ≡ map (block_of base end lowest) (entries base end lowest)
+region-blocks base end lowest region low some = (follow lowest base end lowest (omega arith) region low some).blocks
+
+-- ---- what runs make RAM
+
+pub runs-to : (lowest x end : ℕ) (rs : List Run) → AreRuns lowest x end rs → x ≤ end
+unfolding AreRuns
+runs-to lowest x end [] runs = omega arith
+runs-to lowest x end (r ∷ rs) runs =
+    let run : IsRun lowest r = runs.0 in
+    let some : r.base < r.top = run.some in
+    let at : r.base ≡ x = runs.1 in
+    let le : r.top ≤ end = runs.2 in
+    omega arith
+
+-- the addresses of runs that follow one another are those from the first base to the last top
+pub ram-runs : (lowest x end : ℕ) (rs : List Run) → AreRuns lowest x end rs → (y : ℕ) → is_ram (ranges_of rs) y ≡ (leb x y && ltb y end)
+unfolding AreRuns
+ram-runs lowest x end [] runs y = grind (arith, nat_tests)
+ram-runs lowest x end (r ∷ rs) runs y =
+    let run : IsRun lowest r = runs.0 in
+    let some : r.base < r.top = run.some in
+    let at : r.base ≡ x = runs.1 in
+    let le : r.top ≤ end = runs.2 in
+    let i : is_ram (ranges_of rs) y ≡ (leb r.top y && ltb y end) = ram-runs lowest r.top end rs (runs.3) y in
+    rw (i, at) (grind (arith, nat_tests))

@@ -1,0 +1,121 @@
+-- The runs of a region can be set, and pages can get data, one after another.
+use Rattle.std.proofs.Common.{inl, inr, ◌≡◌, ℕ, zero, suc, ◌+◌, ◌-◌, ◌<◌, ◌≤◌, refl, arith, true, false, eqb, List, [], ◌∷◌, ◌++◌}
+use Rattle.std.specs.List.{list_all, list_any}
+use Rattle.std.proofs.lemmas.Bool.{and_parts, cases_Bool, or_parts}
+use Rattle.std.proofs.lemmas.Bool.Decides.{nat_tests}
+use Rattle.rmm_model.specs.Blocks.{down, granules, size}
+use Rattle.rmm_model.specs.Space.{has, is_ram, made, overlaps}
+use Rattle.rmm_model.specs.declared.table.Table.{Table}
+use Rattle.rmm_model.proofs.Blocks.{down-le, down-lt, down-same, size-pos}
+use Rattle.rmm_model.proofs.Ranges.{ram-there, some-overlaps}
+use Rattle.rmm_model.proofs.Same.{deeper-none}
+use Rattle.rtt_plan.specs.declared.run.Run.{Run}
+use Rattle.rtt_plan.specs.Agreement.{IsFormed, IsFresh, IsUsed}
+use Rattle.rtt_plan.specs.InTurn.{AreFilledInTurn, AreSetInTurn, CanBeSet, CanGetData}
+use Rattle.rtt_plan.specs.Places.{IsRegion}
+use Rattle.rtt_plan.specs.Runs.{AreRuns, IsRun, runs_of}
+use Rattle.rtt_plan.specs.Wanted.{wanted}
+use Rattle.rtt_plan.proofs.Agreeing.{formed-after, made-wanted, none-inside, used-after, used-more, walk-fresh, walk-page}
+use Rattle.rtt_plan.proofs.Following.{region-runs}
+use Rattle.rtt_plan.proofs.InTurn.{wanted-in-turn}
+use Rattle.rtt_plan.proofs.Rounding.{down-top, le-down}
+
+-- ---- ranges that have no RAM
+
+no-ram : (rs : List (ℕ × ℕ)) (b t y : ℕ) → overlaps rs b t ≡ false → b ≤ y → y < t → is_ram rs y ≡ false
+no-ram rs b t y free lo hi = elim (cases_Bool (is_ram rs y)) [
+  | inr n ↦ n
+  | inl h ↦ (let some : overlaps rs b t ≡ true = some-overlaps rs b t y lo hi h in absurd (cc))
+]
+
+overlaps-part : (rs : List (ℕ × ℕ)) (x end b t : ℕ) → overlaps rs x end ≡ false → x ≤ b → t ≤ end → overlaps rs b t ≡ false
+overlaps-part [] x end b t h lo hi = refl
+overlaps-part (r ∷ rs) x end b t h lo hi =
+    let i : overlaps rs x end ≡ false → overlaps rs b t ≡ false = λ w. overlaps-part rs x end b t w lo hi in
+    grind (arith, nat_tests)
+
+overlaps-next : (r : ℕ × ℕ) (rs : List (ℕ × ℕ)) (b t : ℕ) → overlaps rs b t ≡ false → r.1 ≤ b → overlaps (r ∷ rs) b t ≡ false
+overlaps-next r rs b t h lo = grind (arith, nat_tests)
+
+-- nothing of a block is RAM, where nothing of a range of whole blocks that has it is
+fresh-block : (rs : List (ℕ × ℕ)) (l base top b : ℕ) → down (size l) base ≡ base → down (size l) top ≡ top → overlaps rs base top ≡ false
+    → base ≤ b → b < top → IsFresh rs l b
+fresh-block rs l base top b at to free lo hi = λ y e.
+    let p : 0 < size l = size-pos l in
+    let same : down (size l) y ≡ down (size l) b = down-same (size l) y b e in
+    let low : base ≤ down (size l) b = le-down (size l) base b p at lo in
+    let high : down (size l) b + size l ≤ top = down-top (size l) b top p to hi in
+    let le : down (size l) y ≤ y = down-le (size l) y in
+    let lt : y < down (size l) y + size l = down-lt (size l) y p in
+    no-ram rs base top y free (omega arith) (omega arith)
+
+-- ---- runs
+
+none-in-run : (start : ℕ) (ts : List Table) (ram : List (ℕ × ℕ)) (r : Run) → IsFormed start ts → IsUsed ts ram → IsRun start r → overlaps ram r.base r.top ≡ false
+    → (j b : ℕ) → made (ts ++ wanted start ts r.level r.base) j b ≡ true → r.level < j → r.base ≤ b → b < r.top → ⊥
+none-in-run start ts ram r formed used run free j b m o lo hi =
+    elim (made-wanted start ts r.level r.base j b m) [
+      | inl w ↦ none-inside start r.level b ts ram formed used (fresh-block ram r.level r.base r.top b run.base_at run.top_at free lo hi) j b w o refl
+      | inr w ↦ (let from : start ≤ r.level = run.allowed in let g : j ≤ start + (r.level - start) = w.1 in absurd (omega arith))
+    ]
+
+run-can : (start : ℕ) (ts : List Table) (ram : List (ℕ × ℕ)) (r : Run) → IsFormed start ts → IsUsed ts ram → IsRun start r → overlaps ram r.base r.top ≡ false
+    → CanBeSet start (ts ++ wanted start ts r.level r.base) ram r
+run-can start ts ram r formed used run free =
+    let some : r.base < r.top = run.some in
+    record {
+      ends = walk-fresh start r.level r.base ts ram run.allowed run.deepest formed used (fresh-block ram r.level r.base r.top r.base run.base_at run.top_at free (omega arith) some);
+      free = free;
+      none_deeper = deeper-none (ts ++ wanted start ts r.level r.base) r.level r.base r.top (none-in-run start ts ram r formed used run free);
+    }
+
+pub runs-in-turn : (start end : ℕ) (rs : List Run) (x : ℕ) (ts : List Table) (ram : List (ℕ × ℕ)) → AreRuns start x end rs
+    → IsFormed start ts → IsUsed ts ram → overlaps ram x end ≡ false → AreSetInTurn start ts ram rs
+unfolding AreRuns AreSetInTurn
+runs-in-turn start end [] x ts ram runs formed used free = tt
+runs-in-turn start end (r ∷ rs) x ts ram runs formed used free =
+    let run : IsRun start r = runs.0 in
+    let some : r.base < r.top = run.some in
+    let at : r.base ≡ x = runs.1 in
+    let le : r.top ≤ end = runs.2 in
+    let here : overlaps ram r.base r.top ≡ false = overlaps-part ram x end r.base r.top free (omega arith) le in
+    let rest : overlaps ((r.base, r.top) ∷ ram) r.top end ≡ false = overlaps-next (r.base, r.top) ram r.top end (overlaps-part ram x end r.top end free (omega arith) (omega arith)) (omega arith) in
+    let more : IsUsed ts ((r.base, r.top) ∷ ram) = used-more ts ram ((r.base, r.top) ∷ ram) used (λ y h. ram-there (r.base, r.top) ram y h) in
+    let begins : is_ram ((r.base, r.top) ∷ ram) r.base ≡ true = grind (arith, nat_tests) in (
+      wanted-in-turn start r.level r.base ts run.deepest formed,
+      run-can start ts ram r formed used run here,
+      runs-in-turn start end rs r.top (ts ++ wanted start ts r.level r.base) ((r.base, r.top) ∷ ram) (runs.3)
+          (formed-after start r.level r.base ts run.deepest formed)
+          (used-after start r.level r.base ts ((r.base, r.top) ∷ ram) more begins) rest,
+    )
+
+pub region-in-turn : (start base end lowest : ℕ) (ts : List Table) (ram : List (ℕ × ℕ)) → start ≤ lowest → lowest ≤ 3 → base < end → IsRegion base end
+    → IsFormed start ts → IsUsed ts ram → overlaps ram base end ≡ false → AreSetInTurn start ts ram (runs_of base end lowest)
+region-in-turn start base end lowest ts ram o low some region formed used free =
+    runs-in-turn start end (runs_of base end lowest) base ts ram (region-runs start base end lowest o region low some) formed used free
+
+-- ---- pages of data
+
+-- pages after x have no data where they had none
+free-after : (filled : List ℕ) (x n y : ℕ) → x < y → list_any (has filled) (granules n y) ≡ false → list_any (has (x ∷ filled)) (granules n y) ≡ false
+unfolding granules
+free-after filled x zero y lo none = refl
+free-after filled x (suc n) y lo none =
+    let parts = or_parts (has filled y) (list_any (has filled) (granules n (y + 4096))) none in
+    let i : list_any (has (x ∷ filled)) (granules n (y + 4096)) ≡ false = free-after filled x n (y + 4096) (omega arith) parts.1 in
+    let e : eqb x y ≡ false = grind (arith, nat_tests) in
+    rw (e, parts.0, i) refl
+
+pub pages-in-turn : (n start x : ℕ) (ts : List Table) (ram : List (ℕ × ℕ)) (filled : List ℕ) → start < 3 → IsFormed start ts
+    → list_all (is_ram ram) (granules n x) ≡ true → list_any (has filled) (granules n x) ≡ false → AreFilledInTurn start ts ram filled (granules n x)
+unfolding granules AreFilledInTurn
+pages-in-turn zero start x ts ram filled low formed all none = tt
+pages-in-turn (suc n) start x ts ram filled low formed all none =
+    let in_ram = and_parts (is_ram ram x) (list_all (is_ram ram) (granules n (x + 4096))) all in
+    let free = or_parts (has filled x) (list_any (has filled) (granules n (x + 4096))) none in
+    let page : CanGetData start (ts ++ wanted start ts 3 x) ram filled x = record { ends = walk-page start x ts low formed; in_ram = in_ram.0; free = free.0 } in (
+      wanted-in-turn start 3 x ts (omega arith) formed,
+      page,
+      pages-in-turn n start (x + 4096) (ts ++ wanted start ts 3 x) ram (x ∷ filled) low (formed-after start 3 x ts (omega arith) formed)
+          in_ram.1 (free-after filled x n (x + 4096) (omega arith) free.1),
+    )

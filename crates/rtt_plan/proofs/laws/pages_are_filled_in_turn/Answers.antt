@@ -1,0 +1,5 @@
+use Rattle.rtt_plan.proofs.Setting.{pages-in-turn}
+use Rattle.rtt_plan.proofs.laws.pages_are_filled_in_turn.Goals as goal
+
+pub returns : goal.returns
+returns c = pages-in-turn

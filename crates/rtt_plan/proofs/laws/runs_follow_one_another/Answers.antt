@@ -1,0 +1,6 @@
+use Rattle.std.proofs.Common.{arith}
+use Rattle.rtt_plan.proofs.Following.{region-runs}
+use Rattle.rtt_plan.proofs.laws.runs_follow_one_another.Goals as goal
+
+pub returns : goal.returns
+returns c base end lowest region low some = region-runs lowest base end lowest (omega arith) region low some
