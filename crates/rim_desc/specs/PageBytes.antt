@@ -1,7 +1,7 @@
 -- The pages of an item, over plain lists and numbers. DEN0137, RMI_DATA_CREATE measures whole pages of
 -- 4096 bytes; that an item may begin inside a page, `lead` bytes after the page's first byte, and that
 -- what it leaves of its first and last page is zero, is this project's choice.
-use Rattle.std.specs.Prelude.{ℕ, ◌+◌, ◌-◌, ◌*◌, ◌==◌, List, map, nat_lt, slice_index, take, drop, if◌then◌else◌}
+use Rattle.std.specs.Prelude.{ℕ, ◌+◌, ◌-◌, ◌*◌, List, map, nat_lt, slice_index, if◌then◌else◌}
 use Rattle.std.specs.List.{range_with_len}
 
 -- byte j of page k is byte 4096 * k + j - lead of the item, and zero where there is no such byte
@@ -11,11 +11,3 @@ page_byte lead item k j = if nat_lt (4096 * k + j) lead then 0 else slice_index 
 -- page k, whole
 unfoldable pub page_bytes : ℕ → List ℕ → ℕ → List ℕ
 page_bytes lead item k = map (page_byte lead item k) (range_with_len 0 4096)
-
--- how many zeros stand in front of the item's bytes in page k: the lead, in the first page
-abbrev pub front_of : ℕ → ℕ → ℕ
-front_of lead k = if k == 0 then lead else 0
-
--- the bytes of the item that fall in page k
-abbrev pub lent_of : ℕ → List ℕ → ℕ → List ℕ
-lent_of lead item k = take (4096 - front_of lead k) (drop (4096 * k - lead) item)
