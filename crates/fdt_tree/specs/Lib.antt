@@ -1,7 +1,6 @@
 pub mod Devicetree
 pub mod Names
 pub mod NodeViews
-pub mod Steps
 pub mod Scanning
 pub mod LetterRuns
 pub mod LexemeViews

@@ -3,6 +3,7 @@
 ghost use Rattle.std.specs.Prelude.{◌≡◌};
 ghost use Rattle.fdt_tree.specs.declared.fault.FdtFault.TheVariants.{NoMemory};
 
+use refusal::NoMemory;
 use std::alloc::{AllocError, AllocFailed};
 
 /// Why a devicetree cannot be read, changed or written.
@@ -36,10 +37,18 @@ pub enum FdtFault {
     NoMemory,
 }
 
+impl From<NoMemory> for FdtFault {
+    ghost from_gives = { λ _ e. e ≡ NoMemory };
+
+    fn from(_error: NoMemory) -> FdtFault {
+        FdtFault::NoMemory
+    }
+}
+
 impl From<AllocError> for FdtFault {
     ghost from_gives = { λ _ e. e ≡ NoMemory };
 
-    fn from(_e: AllocError) -> FdtFault {
+    fn from(_error: AllocError) -> FdtFault {
         FdtFault::NoMemory
     }
 }
@@ -47,7 +56,7 @@ impl From<AllocError> for FdtFault {
 impl<T: Drop> From<AllocFailed<T>> for FdtFault {
     ghost from_gives = { λ _ e. e ≡ NoMemory };
 
-    fn from(_e: AllocFailed<T>) -> FdtFault {
+    fn from(_error: AllocFailed<T>) -> FdtFault {
         FdtFault::NoMemory
     }
 }
