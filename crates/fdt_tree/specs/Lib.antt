@@ -1,5 +1,6 @@
 pub mod Devicetree
 pub mod Names
+pub mod Faults
 pub mod NodeViews
 pub mod Scanning
 pub mod LetterRuns

@@ -37,6 +37,22 @@ pub enum FdtFault {
     NoMemory,
 }
 
+impl FdtFault {
+    ghost use Rattle.std.specs.Prelude.{◌≡◌};
+    ghost use Rattle.fdt_tree.specs.Faults.{own_fault};
+
+    /// The devicetree's own fault; or `NoMemory`, where memory was refused. A caller that reports both
+    /// keeps them apart by this.
+    pub fn own_fault(self) -> Result<FdtFault, NoMemory>
+        ensures { result ≡ own_fault self }
+    {
+        match self {
+            FdtFault::NoMemory => Err(NoMemory),
+            fault => Ok(fault),
+        }
+    }
+}
+
 impl From<NoMemory> for FdtFault {
     ghost from_gives = { λ _ e. e ≡ NoMemory };
 
