@@ -4,6 +4,7 @@
 
 mod changing;
 mod config;
+mod dtb;
 mod fault;
 mod item;
 mod launch;

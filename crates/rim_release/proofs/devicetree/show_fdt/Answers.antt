@@ -1,4 +1,4 @@
-use Rattle.std.proofs.Common.{◌≡◌, ℕ, List}
+use Rattle.std.proofs.Common.{◌≡◌, ℕ, List, inl, inr}
 use Rattle.std.specs.Prelude.{Result, Ok, Err, IfOk, IfErr}
 use Rattle.std.specs.Result.{IsErrAnd}
 use Rattle.fdt_tree.specs.Reading.{IsRefusal, refusal_of}
@@ -11,7 +11,8 @@ use Rattle.rim_release.proofs.devicetree.show_fdt.Goals as goal
 
 own_fault : (bytes : List ℕ) (fault : FdtFault) (shown : ShowFault) → IsRefusal fault (refusal_of bytes) → shown ≡ shown_fault fault → IsDevicetreeFault bytes shown
 own_fault bytes fdt.NoMemory shown h e = rw e tt
-own_fault bytes fault shown h e = rw e h
+own_fault bytes fault shown (inl memory) e = absurd (cc)
+own_fault bytes fault shown (inr h) e = rw e h
 
 refused : {X : Type 0} (P : X → Type 0) (bytes : List ℕ) (fault : FdtFault) (r : Result X ShowFault) → IsRefusal fault (refusal_of bytes)
     → IsErrAnd r (λ shown. shown ≡ shown_fault fault) → IfOk r P × IfErr r (IsDevicetreeFault bytes)
