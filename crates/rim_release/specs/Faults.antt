@@ -1,18 +1,20 @@
 -- The words of faults. This project's choice.
-use Rattle.std.specs.Prelude.{ℕ, List, codes}
+use Rattle.std.specs.Prelude.{ℕ, List, Result, Ok, Err, codes}
+use Rattle.refusal.specs.declared.memory.NoMemory.{NoMemory}
 use Rattle.arm64_image.specs.declared.ImageFault.{ImageFault}
 use Rattle.arm64_image.specs.declared.ImageFault.TheVariants.{Short, BadMagic}
+use Rattle.fdt_tree.specs.Faults.{own_fault}
 use Rattle.fdt_tree.specs.declared.fault.FdtFault.{FdtFault}
 use Rattle.fdt_tree.specs.declared.fault.FdtFault.TheVariants as fdt
 use Rattle.rim_release.specs.declared.fault.ShowFault.{ShowFault}
 use Rattle.rim_release.specs.declared.fault.ShowFault.TheVariants as show
 use Rattle.rim_release.specs.declared.fault.StartFault.{StartFault}
-use Rattle.rim_release.specs.declared.fault.StartFault.TheVariants.{Workers, TooManyPages, NoMemory}
+use Rattle.rim_release.specs.declared.fault.StartFault.TheVariants as start
 
 abbrev pub start_kind_of : StartFault → List ℕ
-start_kind_of Workers = codes "workers"
-start_kind_of TooManyPages = codes "too-many-pages"
-start_kind_of NoMemory = codes "no-memory"
+start_kind_of start.Workers = codes "workers"
+start_kind_of start.TooManyPages = codes "too-many-pages"
+start_kind_of start.NoMemory = codes "no-memory"
 
 abbrev pub image_kind_of : ImageFault → List ℕ
 image_kind_of Short = codes "kernel-short"
@@ -38,8 +40,10 @@ show_kind_of (show.Image fault) = image_kind_of fault
 show_kind_of (show.Dtb fault) = devicetree_kind_of fault
 show_kind_of show.NoMemory = codes "no-memory"
 
--- Why a devicetree is not shown. Want of memory is never reported as a fault of the devicetree, nor the
--- other way round.
+-- why a devicetree is not shown: its own fault, or want of memory, which is no fault of the devicetree
+abbrev pub shown_own : Result FdtFault NoMemory → ShowFault
+shown_own (Ok own) = show.Dtb own
+shown_own (Err memory) = show.NoMemory
+
 abbrev pub shown_fault : FdtFault → ShowFault
-shown_fault fdt.NoMemory = show.NoMemory
-shown_fault fault = show.Dtb fault
+shown_fault fault = shown_own (own_fault fault)

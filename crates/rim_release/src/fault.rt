@@ -74,14 +74,13 @@ impl From<ImageFault> for ShowFault {
     }
 }
 
-/// A devicetree's own fault stays its own; want of memory is the outer fault's.
 impl From<FdtFault> for ShowFault {
     ghost from_gives = { λ fault e. e ≡ shown_fault fault };
 
     fn from(fault: FdtFault) -> ShowFault {
-        match fault {
-            FdtFault::NoMemory => ShowFault::NoMemory,
-            fault => ShowFault::Dtb(fault),
+        match fault.own_fault() {
+            Ok(own) => ShowFault::Dtb(own),
+            Err(NoMemory) => ShowFault::NoMemory,
         }
     }
 }

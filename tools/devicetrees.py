@@ -1,7 +1,7 @@
 #!/usr/bin/env python3
 """Compares `rim fdt` with libfdt on devicetrees made by dtc, dumped by QEMU, and named on the command line.
 
-Usage: tests/devicetrees.py [FILE.dtb ..]
+Usage: tools/devicetrees.py [FILE.dtb ..]
 
 It needs dtc and libfdt's Python module (Debian: device-tree-compiler, python3-libfdt), and uses
 qemu-system-aarch64 (Debian: qemu-system-arm) where it is there. Where one of the first two is missing,
