@@ -1,7 +1,6 @@
 //! Regions and pages, and the acts that they ask for.
 use rtt_plan::{Act, PlanFault, Tables, start_of};
 use std::process::Abort;
-use std::test::Fail;
 
 fn table(base: u64, level: u8) -> Act {
     Act::Table { base, level }
@@ -28,6 +27,13 @@ fn check_region(rt: &impl Abort, tables: &mut Tables, base: u64, end: u64, acts:
 fn check_data(rt: &impl Abort, tables: &mut Tables, base: u64, count: u64, acts: &[Act]) {
     if 1 <= count {
         check_acts(rt, tables.data_pages(base, count), base, acts);
+    }
+}
+
+fn check_count(rt: &impl Abort, plan: Result<Vec<Act>, PlanFault>, base: u64, count: usize) {
+    match plan {
+        Ok(made) => assert_eq!(rt; made.len(), count, "at {base:x}"),
+        Err(fault) => assert!(rt; false, "{fault:?} at {base:x}"),
     }
 }
 
@@ -186,11 +192,18 @@ fn faults_in_their_order(rt: HostRuntime) {
     check_faults(&rt, &mut tables, &unaligned, PlanFault::Unaligned);
     let acts = [table(0x4000_0000, 3), run(0x4000_0000, 0x4000_2000, 3)];
     check_region(&rt, &mut tables, 0x4000_0000, 0x4000_2000, &acts);
+    check_faults(&rt, &mut tables, &unaligned, PlanFault::Unaligned);
     let twice = [(0x4000_1000, 0x4000_3000), (0x3fff_f000, 0x4000_1000)];
     check_faults(&rt, &mut tables, &twice, PlanFault::RipasTwice);
     let outside = [(0x4000_0001, 0x1_0000_0001)];
     check_faults(&rt, &mut tables, &outside, PlanFault::OutsideProtected);
     check_data_fault(&rt, &mut tables, 0x4000_0001, 1, PlanFault::Unaligned);
+    let page = [Act::Pages {
+        base: 0x4000_1000,
+        count: 1,
+    }];
+    check_data(&rt, &mut tables, 0x4000_1000, 1, &page);
+    check_data_fault(&rt, &mut tables, 0x4000_0000, 2, PlanFault::DataTwice);
     check_data_fault(&rt, &mut tables, 0x4000_1000, 2, PlanFault::NotRam);
     let beside = [run(0x4000_2000, 0x4000_3000, 3)];
     check_region(&rt, &mut tables, 0x4000_2000, 0x4000_3000, &beside);
@@ -208,6 +221,13 @@ fn entries_of_a_launch(rt: HostRuntime) {
     );
     let first = [table(0, 1), table(0, 2), table(0, 3), run(0, 0x20_0000, 3)];
     check_region(&rt, &mut tables, 0, 0x20_0000, &first);
+    check_fault(
+        &rt,
+        &mut tables,
+        0x1f_f000,
+        0x4_0020_0000,
+        PlanFault::RipasTwice,
+    );
     check_fault(
         &rt,
         &mut tables,
@@ -236,12 +256,14 @@ fn start_tables(rt: HostRuntime) {
 
 /// 16 GiB of pages of 4 KiB: 8,192 runs, their tables of level 3, 16 of level 2 and one of level 1.
 #[test]
-fn most_entries(rt: HostRuntime) -> Result<(), Fail> {
+fn most_entries(rt: HostRuntime) {
     let mut tables = Tables::new(rt.alloc(), 48, 3);
-    match tables.ripas_runs(0, 0x4_0000_0000) {
-        Ok(acts) => assert_eq!(rt; acts.len(), 8192 + 8192 + 16 + 1),
-        Err(_) => return Err(Fail::new("no plan")),
-    }
+    check_count(
+        &rt,
+        tables.ripas_runs(0, 0x4_0000_0000),
+        0,
+        8192 + 8192 + 16 + 1,
+    );
     check_fault(
         &rt,
         &mut tables,
@@ -249,5 +271,17 @@ fn most_entries(rt: HostRuntime) -> Result<(), Fail> {
         0x4_0000_1000,
         PlanFault::TooManyEntries,
     );
-    Ok(())
+}
+
+/// 4 GiB of RAM as blocks of 2 MiB, and data in each page of it, by two calls: 524,288 pages each, and a table
+/// of level 3 for each 512.
+#[test]
+fn most_pages(rt: HostRuntime) {
+    let mut tables = Tables::new(rt.alloc(), 33, 2);
+    check_count(&rt, tables.ripas_runs(0, 0x1_0000_0000), 0, 4);
+    for base in [0, 0x8000_0000] {
+        check_count(&rt, tables.data_pages(base, 524_288), base, 1024 + 524_288);
+    }
+    check_data_fault(&rt, &mut tables, 0x7fff_f000, 1, PlanFault::DataTwice);
+    check_data_fault(&rt, &mut tables, 0, 1_048_576, PlanFault::DataTwice);
 }
