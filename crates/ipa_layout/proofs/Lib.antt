@@ -5,3 +5,4 @@ pub mod Sequences
 pub mod Conditions
 pub mod Rows
 pub mod Marks
+pub mod Defaults

@@ -26,4 +26,4 @@ pub use placed::{Placed, PlacedItem};
 pub use placement::place;
 pub use rec::{PlacedRec, Rec};
 pub use rim_desc::Source;
-pub use step::Step;
+pub use step::{Step, default_steps};
