@@ -4,10 +4,10 @@ use Rattle.std.specs.Io.KnownBytes.{Appends}
 use Rattle.clap.specs.Words.{Text, subcommand_of}
 use Rattle.rim_manifest.specs.Manifest.{manifest_of}
 use Rattle.rim_manifest.specs.declared.fault.ManifestFault.TheVariants as manifest
-use Rattle.rim_release.specs.Devicetrees.{IsDevicetreeFault, ShowsDevicetree}
+use Rattle.rim_release.specs.ShownDevicetree.{IsDevicetreeFault, ShowsDevicetree}
 use Rattle.rim_release.specs.Report.{report_of}
-use Rattle.rim_release.specs.Shown.{image_answer_of}
-use Rattle.rim_release.specs.declared.fault.ShowFault.TheVariants as show
+use Rattle.rim_release.specs.ShownImage.{image_answer_of}
+use Rattle.rim_release.specs.declared.show.fault.ShowFault.TheVariants as show
 use Rattle.rim_release.specs.declared.fault.StartFault.TheVariants as start
 use Rattle.rim_cli.specs.declared.words.Request.{Request}
 use Rattle.rim_cli.specs.declared.words.Request.TheVariants.{Measure, Image, Fdt}

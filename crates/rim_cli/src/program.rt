@@ -3,9 +3,9 @@ ghost use Rattle.std.specs.Prelude.{◌≡◌, ◌≢◌, ◌≤◌, ◌⊎◌, 
 ghost use Rattle.std.specs.Io.KnownBytes.{Appends};
 ghost use Rattle.clap.specs.Words.{kind_of, takes};
 ghost use Rattle.rim_manifest.specs.Manifest.{manifest_of};
-ghost use Rattle.rim_release.specs.Devicetrees.{ShowsDevicetree};
+ghost use Rattle.rim_release.specs.ShownDevicetree.{ShowsDevicetree};
 ghost use Rattle.rim_release.specs.Report.{report_of};
-ghost use Rattle.rim_release.specs.Shown.{image_answer_of};
+ghost use Rattle.rim_release.specs.ShownImage.{image_answer_of};
 ghost use Rattle.rim_cli.specs.Command.{AsksForHelp, IsMistaken, is_asked, rim};
 ghost use Rattle.rim_cli.specs.Done.{IsAnswer, IsDone, Refuses, RefusesFdt, RefusesImage, RefusesManifest, path_of};
 ghost use Rattle.std.specs.IoError.{error_kind};

@@ -7,8 +7,8 @@ use Rattle.fdt_tree.specs.Devicetree.{Branch, Devicetree, Entry, Nodes, Root, no
 use Rattle.fdt_tree.specs.Reading.{Spells, refusal_of}
 use Rattle.fdt_tree.specs.declared.tree.Reservation.{Reservation}
 use Rattle.rim_desc.specs.Number.{digits_of}
-use Rattle.rim_release.specs.declared.fault.ShowFault.{ShowFault}
-use Rattle.rim_release.specs.declared.fault.ShowFault.TheVariants as show
+use Rattle.rim_release.specs.declared.show.fault.ShowFault.{ShowFault}
+use Rattle.rim_release.specs.declared.show.fault.ShowFault.TheVariants as show
 
 -- the number of the processor that boots
 abbrev pub boot_line : ℕ → List ℕ

@@ -2,9 +2,9 @@ use Rattle.std.proofs.Common.{◌≡◌, ◌++◌, ◌∙◌, map, refl, ap}
 use Rattle.std.specs.List.{flat_map}
 use Rattle.fdt_tree.specs.NodeViews.{entry_of}
 use Rattle.fdt_tree.specs.declared.node.Node.TheViews.{out-Node}
-use Rattle.rim_release.specs.Devicetrees.{node_line, path_below, property_line}
+use Rattle.rim_release.specs.ShownDevicetree.{node_line, path_below, property_line}
 use Rattle.rim_release.proofs.Nodes.{all_told, child_step, cut_back, none_yet}
-use Rattle.rim_release.proofs.devicetree.+push_inner.Goals as goal
+use Rattle.rim_release.proofs.show.devicetree.+push_inner.Goals as goal
 
 pub loop-child-init : goal.loop-child-init
 loop-child-init t c = record { path = refl; text = none_yet _ _ }

@@ -4,8 +4,8 @@ use Rattle.std.proofs.Math.Dec.{eqb-suc-zero}
 use Rattle.std.proofs.lemmas.Bool.{true≢false}
 use Rattle.std.proofs.lemmas.List.{append-nil}
 use Rattle.hex.specs.Hex.{encode_lower}
-use Rattle.rim_release.specs.Devicetrees.{value_text}
-use Rattle.rim_release.proofs.devicetree.push_value.Goals as goal
+use Rattle.rim_release.specs.ShownDevicetree.{value_text}
+use Rattle.rim_release.proofs.show.devicetree.push_value.Goals as goal
 
 no_value : (value : List ℕ) → true ≡ (length value == 0) → value_text value ≡ []
 no_value [] h = refl

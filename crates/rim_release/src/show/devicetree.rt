@@ -3,9 +3,9 @@ ghost use Rattle.std.specs.Prelude.{◌≡◌, ◌++◌, IfErr, IfOk, OnOk, ℕ,
 ghost use Rattle.std.specs.List.{flat_map};
 ghost use Rattle.fdt_tree.specs.NodeViews.{branch, entry_of};
 ghost use Rattle.fdt_tree.specs.Trees.{devicetree_of};
-ghost use Rattle.rim_release.specs.Devicetrees.{IsDevicetreeFault, ShowsDevicetree, boot_line, devicetree_text, inner_text, node_line, path_below, property_line, reservation_line, value_text};
+ghost use Rattle.rim_release.specs.ShownDevicetree.{IsDevicetreeFault, ShowsDevicetree, boot_line, devicetree_text, inner_text, node_line, path_below, property_line, reservation_line, value_text};
 
-use crate::fault::ShowFault;
+use crate::show::fault::ShowFault;
 use fdt_tree::{Node, Property, Reservation, Tree};
 use refusal::NoMemory;
 use rim_desc::push_digits;
@@ -54,7 +54,7 @@ fn push_reservations(text: &mut Vec<u8>, reservations: &[Reservation]) -> Result
     Ok(())
 }
 
-#[tactic(auto, unfolding(crate::specs::Devicetrees::reservation_line))]
+#[tactic(auto, unfolding(crate::specs::ShownDevicetree::reservation_line))]
 fn push_reservation(text: &mut Vec<u8>, reservation: &Reservation) -> Result<(), NoMemory>
     ensures { OnOk result (text.new.items ≡ text.old.items ++ reservation_line reservation.now) }
 {
@@ -67,7 +67,7 @@ fn push_reservation(text: &mut Vec<u8>, reservation: &Reservation) -> Result<(),
     Ok(())
 }
 
-#[tactic(auto, unfolding(crate::specs::Devicetrees::node_line))]
+#[tactic(auto, unfolding(crate::specs::ShownDevicetree::node_line))]
 fn push_path(text: &mut Vec<u8>, path: &[u8]) -> Result<(), NoMemory>
     ensures { OnOk result (text.new.items ≡ text.old.items ++ node_line path.now) }
 {
@@ -91,7 +91,7 @@ fn push_properties(
     Ok(())
 }
 
-#[tactic(auto, unfolding(crate::specs::Devicetrees::property_line))]
+#[tactic(auto, unfolding(crate::specs::ShownDevicetree::property_line))]
 fn push_property(
     alloc: Global,
     text: &mut Vec<u8>,

@@ -1,4 +1,4 @@
-use Rattle.rim_release.proofs.show.image_text.Goals as goal
+use Rattle.rim_release.proofs.show.image.image_text.Goals as goal
 
 pub returns : goal.returns
 returns c = rw (

@@ -1,8 +1,8 @@
 use Rattle.std.proofs.Common.{◌≡◌, ◌++◌, take}
 use Rattle.fdt_tree.specs.Devicetree.{joined}
 use Rattle.fdt_tree.specs.NodeViews.{branches}
-use Rattle.rim_release.specs.Devicetrees.{nodes_text}
-use Rattle.rim_release.proofs.devicetree.+push_inner.Given as goal
+use Rattle.rim_release.specs.ShownDevicetree.{nodes_text}
+use Rattle.rim_release.proofs.show.devicetree.+push_inner.Given as goal
 
 abbrev pub invariant-loop-child : goal.invariant-loop-child
 invariant-loop-child l = record {

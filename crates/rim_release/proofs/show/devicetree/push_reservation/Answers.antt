@@ -1,6 +1,6 @@
 use Rattle.std.proofs.Common.{append_assoc}
-use Rattle.rim_release.specs.Devicetrees.{reservation_line}
-use Rattle.rim_release.proofs.devicetree.push_reservation.Goals as goal
+use Rattle.rim_release.specs.ShownDevicetree.{reservation_line}
+use Rattle.rim_release.proofs.show.devicetree.push_reservation.Goals as goal
 
 pub returns : goal.returns
 unfolding reservation_line

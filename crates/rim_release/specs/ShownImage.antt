@@ -4,8 +4,8 @@ use Rattle.arm64_image.specs.ImageHeader.{extent_of, load_offset_of, read_of}
 use Rattle.arm64_image.specs.declared.Header.{Header}
 use Rattle.arm64_image.specs.declared.ImageFault.{ImageFault}
 use Rattle.rim_desc.specs.Number.{digits_of}
-use Rattle.rim_release.specs.declared.fault.ShowFault.{ShowFault}
-use Rattle.rim_release.specs.declared.fault.ShowFault.TheVariants.{Image}
+use Rattle.rim_release.specs.declared.show.fault.ShowFault.{ShowFault}
+use Rattle.rim_release.specs.declared.show.fault.ShowFault.TheVariants.{Image}
 
 -- a label and a number
 unfoldable pub field_line : List ℕ → ℕ → List ℕ

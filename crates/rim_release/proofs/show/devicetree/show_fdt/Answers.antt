@@ -4,10 +4,10 @@ use Rattle.std.specs.Result.{IsErrAnd}
 use Rattle.fdt_tree.specs.Reading.{IsRefusal, refusal_of}
 use Rattle.fdt_tree.specs.declared.fault.FdtFault.{FdtFault}
 use Rattle.fdt_tree.specs.declared.fault.FdtFault.TheVariants as fdt
-use Rattle.rim_release.specs.Devicetrees.{IsDevicetreeFault}
-use Rattle.rim_release.specs.Faults.{shown_fault}
-use Rattle.rim_release.specs.declared.fault.ShowFault.{ShowFault}
-use Rattle.rim_release.proofs.devicetree.show_fdt.Goals as goal
+use Rattle.rim_release.specs.ShownDevicetree.{IsDevicetreeFault}
+use Rattle.rim_release.specs.ShowFaults.{shown_fault}
+use Rattle.rim_release.specs.declared.show.fault.ShowFault.{ShowFault}
+use Rattle.rim_release.proofs.show.devicetree.show_fdt.Goals as goal
 
 own_fault : (bytes : List ℕ) (fault : FdtFault) (shown : ShowFault) → IsRefusal fault (refusal_of bytes) → shown ≡ shown_fault fault → IsDevicetreeFault bytes shown
 own_fault bytes fdt.NoMemory shown h e = rw e tt
