@@ -73,11 +73,14 @@ pub down-in : (n x : ℕ) → 0 < n → down n x / n ≡ x / n
 down-in n x h = in-block n x (down n x) (omega arith) (omega (arith, h))
 
 -- the first address of a block is a multiple, and a multiple is the first of its block
+mod-add-div : (n x : ℕ) → x / n * n + x % n ≡ x
+mod-add-div n x = grind arith
+
 pub down-multiple : (n x : ℕ) → 0 < n → x % n ≡ 0 → down n x ≡ x
 down-multiple n x h m = omega (arith, mod-add-div n x)
-  where
-    mod-add-div : (n x : ℕ) → x / n * n + x % n ≡ x
-    mod-add-div n x = grind arith
+
+pub multiple-of : (n x : ℕ) → down n x ≡ x → x % n ≡ 0
+multiple-of n x at = omega (arith, mod-add-div n x)
 
 pub down-same : (n x y : ℕ) → x / n ≡ y / n → down n x ≡ down n y
 down-same n x y h = rw h refl

@@ -1,5 +1,5 @@
 -- Ranges of RAM.
-use Rattle.std.proofs.Common.{inl, inr, ◌≡◌, ℕ, ◌<◌, ◌≤◌, arith, true, max, leb, ltb, ◌&&◌, List, [], ◌∷◌}
+use Rattle.std.proofs.Common.{inl, inr, ◌≡◌, ℕ, ◌<◌, ◌≤◌, refl, arith, true, false, max, leb, ltb, ◌&&◌, List, [], ◌∷◌}
 use Rattle.std.proofs.lemmas.Bool.Decides.{nat_tests}
 use Rattle.rmm_model.specs.Space.{are_some, is_ram, overlaps}
 use Rattle.std.proofs.lemmas.Bool.{cases_Bool}
@@ -32,3 +32,32 @@ some-overlaps (r ∷ rs) b t y lo hi =
       | inl k ↦ (λ h. grind (arith, nat_tests))
       | inr k ↦ rw k (λ h. (let i : overlaps rs b t ≡ true = some-overlaps rs b t y lo hi h in grind (arith, nat_tests)))
     ]
+
+-- ---- ranges that have no RAM
+
+pub no-ram : (rs : List (ℕ × ℕ)) (b t y : ℕ) → overlaps rs b t ≡ false → b ≤ y → y < t → is_ram rs y ≡ false
+no-ram rs b t y free lo hi = elim (cases_Bool (is_ram rs y)) [
+  | inr n ↦ n
+  | inl h ↦ (let some : overlaps rs b t ≡ true = some-overlaps rs b t y lo hi h in absurd (cc))
+]
+
+pub overlaps-none : (rs : List (ℕ × ℕ)) (b t : ℕ) → are_some rs ≡ true → b < t → ((y : ℕ) → b ≤ y → y < t → is_ram rs y ≡ false) → overlaps rs b t ≡ false
+overlaps-none rs b t some lt free = elim (cases_Bool (overlaps rs b t)) [
+  | inr n ↦ n
+  | inl h ↦
+      let o = overlaps-some rs b t some lt h in
+      let no : is_ram rs (o.0) ≡ false = free (o.0) (o.1) (o.2) in
+      let yes : is_ram rs (o.0) ≡ true = o.3 in
+      absurd (cc)
+]
+
+-- a part of such a range has none
+pub overlaps-part : (rs : List (ℕ × ℕ)) (x end b t : ℕ) → overlaps rs x end ≡ false → x ≤ b → t ≤ end → overlaps rs b t ≡ false
+overlaps-part [] x end b t h lo hi = refl
+overlaps-part (r ∷ rs) x end b t h lo hi =
+    let i : overlaps rs x end ≡ false → overlaps rs b t ≡ false = λ w. overlaps-part rs x end b t w lo hi in
+    grind (arith, nat_tests)
+
+-- nor has one after a range, with that range
+pub overlaps-next : (r : ℕ × ℕ) (rs : List (ℕ × ℕ)) (b t : ℕ) → overlaps rs b t ≡ false → r.1 ≤ b → overlaps (r ∷ rs) b t ≡ false
+overlaps-next r rs b t h lo = grind (arith, nat_tests)

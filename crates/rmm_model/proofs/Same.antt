@@ -1,14 +1,14 @@
 -- Spaces that are the same, whatever the order and the pieces in which they are kept.
-use Rattle.std.proofs.Common.{inl, inr, ◌≡◌, ℕ, ◌<◌, ◌≤◌, ◌∙◌, sym, refl, ap, arith, Bool, true, false, ◌&&◌, ◌||◌, leb, ltb, List, [], ◌∷◌, ◌++◌}
+use Rattle.std.proofs.Common.{inl, inr, ◌≡◌, ℕ, ◌<◌, ◌≤◌, ◌∙◌, sym, refl, ap, arith, Bool, true, false, ◌&&◌, ◌||◌, leb, ltb, eqb, List, [], ◌∷◌, ◌++◌}
 use Rattle.std.proofs.lemmas.Bool.{cases_Bool}
 use Rattle.std.proofs.lemmas.Bool.Decides.{nat_tests}
 use Rattle.std.specs.BTreeSet.{insert_key}
 use Rattle.rmm_model.specs.declared.table.Table.{Table}
-use Rattle.rmm_model.specs.Space.{ArePlaced, SameSpace, SameTables, Space, are_some, deeper, is_ram, made, overlaps, table_cmp, walk}
+use Rattle.rmm_model.specs.Space.{ArePlaced, SameSpace, SameTables, Space, after_page, after_run, after_table, are_some, deeper, is_ram, made, overlaps, table_cmp, walk}
 use Rattle.rmm_model.specs.Checks.{walk_of}
 use Rattle.rmm_model.proofs.Appends.{made-append}
 use Rattle.rmm_model.proofs.Ranges.{overlaps-some, some-overlaps}
-use Rattle.rmm_model.proofs.Spaces.{made-insert}
+use Rattle.rmm_model.proofs.Spaces.{has-insert, is_ram-insert, made-insert, overlaps-insert}
 use Rattle.rmm_model.proofs.Walks.{EndsAt, made-here, made-there, walk-ends, walk-from, walk-least}
 
 -- tests that hold together are the same
@@ -122,3 +122,44 @@ same-trans r s t first second = record {
 
 pub walk-same : (s t : Space) (x : ℕ) → SameSpace s t → walk_of s x ≡ walk_of t x
 walk-same s t x same = ap (λ start. walk start s.tables x) same.start ∙ walk-alike t.start x s.tables t.tables same.tables
+
+-- ---- steps
+
+pub same-table : (s t : Space) (level base : ℕ) → SameSpace s t → SameSpace (after_table s level base) (after_table t level base)
+same-table s t level base same = record {
+  start = same.start;
+  half = same.half;
+  tables = λ j b. made-insert s.tables (record { level = level; base = base }) j b
+      ∙ ap (λ old. (eqb level j && eqb base b) || old) (same.tables j b)
+      ∙ sym (made-insert t.tables (record { level = level; base = base }) j b);
+  ram = same.ram;
+  ranges = same.ranges;
+  filled = same.filled;
+}
+
+pub same-run : (s t : Space) (base top : ℕ) → are_some s.ram ≡ true → are_some t.ram ≡ true → base < top → overlaps s.ram base top ≡ false
+    → SameSpace s t → SameSpace (after_run s base top) (after_run t base top)
+same-run s t base top some some_other lt free same =
+    let free_other : overlaps t.ram base top ≡ false = sym (same.ranges base top lt) ∙ free in
+    record {
+      start = same.start;
+      half = same.half;
+      tables = same.tables;
+      ram = λ x. is_ram-insert s.ram base top x some lt free
+          ∙ ap (λ old. (leb base x && ltb x top) || old) (same.ram x)
+          ∙ sym (is_ram-insert t.ram base top x some_other lt free_other);
+      ranges = λ from to below. overlaps-insert s.ram base top from to some lt free
+          ∙ ap (λ old. (ltb base to && ltb from top) || old) (same.ranges from to below)
+          ∙ sym (overlaps-insert t.ram base top from to some_other lt free_other);
+      filled = same.filled;
+    }
+
+pub same-page : (s t : Space) (page : ℕ) → SameSpace s t → SameSpace (after_page s page) (after_page t page)
+same-page s t page same = record {
+  start = same.start;
+  half = same.half;
+  tables = same.tables;
+  ram = same.ram;
+  ranges = same.ranges;
+  filled = λ x. has-insert s.filled page x ∙ ap (λ old. eqb page x || old) (same.filled x) ∙ sym (has-insert t.filled page x);
+}

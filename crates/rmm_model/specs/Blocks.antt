@@ -26,7 +26,7 @@ unfoldable pub granules : ℕ → ℕ → List ℕ
 granules zero x = []
 granules (suc n) x = x ∷ granules n (x + 4096)
 
--- n stretches of s bytes, one behind the other from x on: the first address of each and the first past it
+-- n stretches of s bytes, one after the other from x on: the first address of each and the first past it
 unfoldable pub stretches : ℕ → ℕ → ℕ → List (ℕ × ℕ)
 stretches zero s x = []
 stretches (suc n) s x = (x, x + s) ∷ stretches n s (x + s)

@@ -34,7 +34,7 @@ walk_of s x = walk s.start s.tables x
 abbrev pub has_other_flags : ℕ → Bool
 has_other_flags flags = not (flags % 2 == 0) || nat_le 8 flags
 
--- where the start tables stand
+-- where the start tables are
 abbrev pub start_tables : RealmParams → List ℕ
 start_tables p = granules p.rtt_num_start p.rtt_base
 

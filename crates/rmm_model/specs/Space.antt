@@ -39,7 +39,7 @@ unfoldable pub walk : ℕ → List Table → ℕ → ℕ
 walk start [] x = start
 walk start (t ∷ ts) x = cond (covers t x) (max t.level (walk start ts x)) (walk start ts x)
 
--- whether the table of that level and first address is there
+-- whether the table of that level and first address is made
 abbrev pub made : List Table → ℕ → ℕ → Bool
 made ts level base = list_any (λ t. t.level == level && t.base == base) ts
 
@@ -59,7 +59,7 @@ deeper ts level base top = list_any (λ t. nat_lt level t.level && (nat_le base 
 abbrev pub is_ram : List (ℕ × ℕ) → ℕ → Bool
 is_ram ram x = list_any (λ r. nat_le r.0 x && nat_lt x r.1) ram
 
--- whether some address from base on and below top is RAM, told from the ends of the ranges
+-- whether some address from base on and below top is RAM, by the ends of the ranges
 abbrev pub overlaps : List (ℕ × ℕ) → ℕ → ℕ → Bool
 overlaps ram base top = list_any (λ r. nat_lt r.0 top && nat_lt base r.1) ram
 

@@ -116,6 +116,14 @@ pub fn same_spaces_answer_alike()
     ensures deeper { (s t : Space) (level base top : ℕ) → SameSpace s t → deeper s.tables level base top ≡ deeper t.tables level base top }
 {}
 
+/// Spaces that are the same stay so under the same step.
+pub fn steps_keep_spaces_the_same()
+    ensures table { (s t : Space) (level base : ℕ) → SameSpace s t → SameSpace (after_table s level base) (after_table t level base) }
+    ensures run { (s t : Space) (base top : ℕ) → are_some s.ram ≡ true → are_some t.ram ≡ true → base < top → overlaps s.ram base top ≡ false
+        → SameSpace s t → SameSpace (after_run s base top) (after_run t base top) }
+    ensures page { (s t : Space) (page : ℕ) → SameSpace s t → SameSpace (after_page s page) (after_page t page) }
+{}
+
 /// Which addresses are RAM decides which ranges have RAM, in whatever pieces RAM is kept.
 pub fn addresses_decide_ranges()
     ensures { (ram other : List (ℕ × ℕ)) → are_some ram ≡ true → are_some other ≡ true → ((x : ℕ) → is_ram ram x ≡ is_ram other x)

@@ -1,5 +1,5 @@
 //! The model of the Realm Management Monitor (Arm DEN0137 1.0) up to activation: its state, the checks
-//! and effects of each command, and what a list of commands measures. The definitions stand in
+//! and effects of each command, and what a list of commands measures. The definitions are in
 //! `specs/`; the code here has the words that they share with programs, and laws for their readers.
 #![tactic(auto)]
 

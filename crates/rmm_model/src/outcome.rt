@@ -21,7 +21,7 @@ pub enum Kind {
     RecAux,
 }
 
-/// Where the realm stands in its life (DEN0137, realm states), with EMPTY for no realm.
+/// Where the realm is in its life (DEN0137, realm states), with EMPTY for no realm.
 #[derive(Clone, Copy, Debug, PartialEq, Eq)]
 pub enum Phase {
     /// There is no realm.

@@ -1,4 +1,4 @@
--- An growing run and the runs of the entries behind it.
+-- A growing run and the runs of the entries after it.
 use Rattle.std.proofs.Common.{inl, inr, ◌≡◌, ℕ, ◌+◌, ◌/◌, ◌<◌, ◌≤◌, ◌∙◌, sym, ap, refl, arith, true, false, cond, ◌&&◌, eqb, List, [], ◌∷◌}
 use Rattle.std.proofs.lemmas.Bool.Decides.{nat_tests}
 use Rattle.rmm_model.specs.Blocks.{size, span}
@@ -18,7 +18,7 @@ join o (r ∷ rs) =
     (record { base = o.base; top = r.top; level = o.level } ∷ rs)
     (o ∷ r ∷ rs)
 
--- an growing run meets the next entry: it grows where level and table are equal, and is closed elsewhere
+-- a growing run meets the next entry: it grows where level and table are equal, and is closed elsewhere
 pub join-same : (o : Run) (l x : ℕ) (rs : List Run) → l ≡ o.level → x / span o.level ≡ o.base / span o.level
     → join o (put l x rs) ≡ join (record { base = o.base; top = x + size l; level = o.level }) rs
 join-same o l x [] e s =
@@ -45,13 +45,13 @@ pub join-put : (l x : ℕ) (rs : List Run) → join (record { base = x; top = x 
 join-put l x [] = refl
 join-put l x (r ∷ rs) = refl
 
--- a run that is growing at an entry of the region: with the entries behind it, it makes the runs from its base on
+-- a run that is growing at an entry of the region: with the entries after it, it makes the runs from its base on
 pub record IsGrowing (base end lowest : ℕ) (o : Run) : Type 0 where
   pub at : AtEntry base end lowest o.top
   pub grows : o.base < o.top
   pub whole : join o (runs_from base end lowest o.top) ≡ runs_from base end lowest o.base
 
--- the runs from an entry on: its block in front of the runs behind it
+-- the runs from an entry on: its block in front of the runs after it
 pub runs-next : (base end lowest x : ℕ) → IsRegion base end → lowest ≤ 3 → AtEntry base end lowest x → x < end
     → runs_from base end lowest x ≡ put (block_level base end lowest x) x (runs_from base end lowest (x + size (block_level base end lowest x)))
 unfolding group

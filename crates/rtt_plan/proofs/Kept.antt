@@ -27,7 +27,7 @@ runs-placed start x end (r ∷ rs) ts runs placed =
     let run : IsRun start r = runs.0 in
     runs-placed start r.top end rs (ts ++ wanted start ts r.level r.base) (runs.3) (placed-after start r.level r.base ts run.deepest placed)
 
-runs-formed : (start x end : ℕ) (rs : List Run) (ts : List Table) → AreRuns start x end rs → IsFormed start ts → IsFormed start (run_tables start ts rs)
+pub runs-formed : (start x end : ℕ) (rs : List Run) (ts : List Table) → AreRuns start x end rs → IsFormed start ts → IsFormed start (run_tables start ts rs)
 unfolding AreRuns run_tables
 runs-formed start x end [] ts runs formed = formed
 runs-formed start x end (r ∷ rs) ts runs formed =
@@ -35,7 +35,7 @@ runs-formed start x end (r ∷ rs) ts runs formed =
     runs-formed start r.top end rs (ts ++ wanted start ts r.level r.base) (runs.3) (formed-after start r.level r.base ts run.deepest formed)
 
 -- where all addresses of the runs are RAM
-runs-used : (start x end : ℕ) (rs : List Run) (ts : List Table) (ram : List (ℕ × ℕ)) → AreRuns start x end rs → ((y : ℕ) → x ≤ y → y < end → is_ram ram y ≡ true)
+pub runs-used : (start x end : ℕ) (rs : List Run) (ts : List Table) (ram : List (ℕ × ℕ)) → AreRuns start x end rs → ((y : ℕ) → x ≤ y → y < end → is_ram ram y ≡ true)
     → IsUsed ts ram → IsUsed (run_tables start ts rs) ram
 unfolding AreRuns run_tables
 runs-used start x end [] ts ram runs all used = used
@@ -54,12 +54,12 @@ unfolding page_tables
 pages-placed start [] ts placed = placed
 pages-placed start (x ∷ xs) ts placed = pages-placed start xs (ts ++ wanted start ts 3 x) (placed-after start 3 x ts (omega arith) placed)
 
-pages-formed : (start : ℕ) (xs : List ℕ) (ts : List Table) → IsFormed start ts → IsFormed start (page_tables start ts xs)
+pub pages-formed : (start : ℕ) (xs : List ℕ) (ts : List Table) → IsFormed start ts → IsFormed start (page_tables start ts xs)
 unfolding page_tables
 pages-formed start [] ts formed = formed
 pages-formed start (x ∷ xs) ts formed = pages-formed start xs (ts ++ wanted start ts 3 x) (formed-after start 3 x ts (omega arith) formed)
 
-pages-used : (start : ℕ) (xs : List ℕ) (ts : List Table) (ram : List (ℕ × ℕ)) → IsUsed ts ram → list_all (is_ram ram) xs ≡ true → IsUsed (page_tables start ts xs) ram
+pub pages-used : (start : ℕ) (xs : List ℕ) (ts : List Table) (ram : List (ℕ × ℕ)) → IsUsed ts ram → list_all (is_ram ram) xs ≡ true → IsUsed (page_tables start ts xs) ram
 unfolding page_tables
 pages-used start [] ts ram used all = used
 pages-used start (x ∷ xs) ts ram used all =

@@ -1,13 +1,13 @@
 -- The runs of a region can be set, and pages can get data, one after another.
 use Rattle.std.proofs.Common.{inl, inr, ◌≡◌, ℕ, zero, suc, ◌+◌, ◌-◌, ◌<◌, ◌≤◌, refl, arith, true, false, eqb, List, [], ◌∷◌, ◌++◌}
 use Rattle.std.specs.List.{list_all, list_any}
-use Rattle.std.proofs.lemmas.Bool.{and_parts, cases_Bool, or_parts}
+use Rattle.std.proofs.lemmas.Bool.{and_parts, or_parts}
 use Rattle.std.proofs.lemmas.Bool.Decides.{nat_tests}
 use Rattle.rmm_model.specs.Blocks.{down, granules, size}
 use Rattle.rmm_model.specs.Space.{has, is_ram, made, overlaps}
 use Rattle.rmm_model.specs.declared.table.Table.{Table}
 use Rattle.rmm_model.proofs.Blocks.{down-le, down-lt, down-same, size-pos}
-use Rattle.rmm_model.proofs.Ranges.{ram-there, some-overlaps}
+use Rattle.rmm_model.proofs.Ranges.{no-ram, overlaps-next, overlaps-part, ram-there}
 use Rattle.rmm_model.proofs.Same.{deeper-none}
 use Rattle.rtt_plan.specs.declared.run.Run.{Run}
 use Rattle.rtt_plan.specs.Agreement.{IsFormed, IsFresh, IsUsed}
@@ -20,25 +20,10 @@ use Rattle.rtt_plan.proofs.Following.{region-runs}
 use Rattle.rtt_plan.proofs.InTurn.{wanted-in-turn}
 use Rattle.rtt_plan.proofs.Rounding.{down-top, le-down}
 
--- ---- ranges that have no RAM
-
-no-ram : (rs : List (ℕ × ℕ)) (b t y : ℕ) → overlaps rs b t ≡ false → b ≤ y → y < t → is_ram rs y ≡ false
-no-ram rs b t y free lo hi = elim (cases_Bool (is_ram rs y)) [
-  | inr n ↦ n
-  | inl h ↦ (let some : overlaps rs b t ≡ true = some-overlaps rs b t y lo hi h in absurd (cc))
-]
-
-overlaps-part : (rs : List (ℕ × ℕ)) (x end b t : ℕ) → overlaps rs x end ≡ false → x ≤ b → t ≤ end → overlaps rs b t ≡ false
-overlaps-part [] x end b t h lo hi = refl
-overlaps-part (r ∷ rs) x end b t h lo hi =
-    let i : overlaps rs x end ≡ false → overlaps rs b t ≡ false = λ w. overlaps-part rs x end b t w lo hi in
-    grind (arith, nat_tests)
-
-overlaps-next : (r : ℕ × ℕ) (rs : List (ℕ × ℕ)) (b t : ℕ) → overlaps rs b t ≡ false → r.1 ≤ b → overlaps (r ∷ rs) b t ≡ false
-overlaps-next r rs b t h lo = grind (arith, nat_tests)
+-- ---- runs
 
 -- nothing of a block is RAM, where nothing of a range of whole blocks that has it is
-fresh-block : (rs : List (ℕ × ℕ)) (l base top b : ℕ) → down (size l) base ≡ base → down (size l) top ≡ top → overlaps rs base top ≡ false
+pub fresh-block : (rs : List (ℕ × ℕ)) (l base top b : ℕ) → down (size l) base ≡ base → down (size l) top ≡ top → overlaps rs base top ≡ false
     → base ≤ b → b < top → IsFresh rs l b
 fresh-block rs l base top b at to free lo hi = λ y e.
     let p : 0 < size l = size-pos l in
@@ -49,9 +34,7 @@ fresh-block rs l base top b at to free lo hi = λ y e.
     let lt : y < down (size l) y + size l = down-lt (size l) y p in
     no-ram rs base top y free (omega arith) (omega arith)
 
--- ---- runs
-
-none-in-run : (start : ℕ) (ts : List Table) (ram : List (ℕ × ℕ)) (r : Run) → IsFormed start ts → IsUsed ts ram → IsRun start r → overlaps ram r.base r.top ≡ false
+pub none-in-run : (start : ℕ) (ts : List Table) (ram : List (ℕ × ℕ)) (r : Run) → IsFormed start ts → IsUsed ts ram → IsRun start r → overlaps ram r.base r.top ≡ false
     → (j b : ℕ) → made (ts ++ wanted start ts r.level r.base) j b ≡ true → r.level < j → r.base ≤ b → b < r.top → ⊥
 none-in-run start ts ram r formed used run free j b m o lo hi =
     elim (made-wanted start ts r.level r.base j b m) [
@@ -59,7 +42,7 @@ none-in-run start ts ram r formed used run free j b m o lo hi =
       | inr w ↦ (let from : start ≤ r.level = run.allowed in let g : j ≤ start + (r.level - start) = w.1 in absurd (omega arith))
     ]
 
-run-can : (start : ℕ) (ts : List Table) (ram : List (ℕ × ℕ)) (r : Run) → IsFormed start ts → IsUsed ts ram → IsRun start r → overlaps ram r.base r.top ≡ false
+pub run-can : (start : ℕ) (ts : List Table) (ram : List (ℕ × ℕ)) (r : Run) → IsFormed start ts → IsUsed ts ram → IsRun start r → overlaps ram r.base r.top ≡ false
     → CanBeSet start (ts ++ wanted start ts r.level r.base) ram r
 run-can start ts ram r formed used run free =
     let some : r.base < r.top = run.some in
@@ -97,7 +80,7 @@ region-in-turn start base end lowest ts ram o low some region formed used free =
 -- ---- pages of data
 
 -- pages after x have no data where they had none
-free-after : (filled : List ℕ) (x n y : ℕ) → x < y → list_any (has filled) (granules n y) ≡ false → list_any (has (x ∷ filled)) (granules n y) ≡ false
+pub free-after : (filled : List ℕ) (x n y : ℕ) → x < y → list_any (has filled) (granules n y) ≡ false → list_any (has (x ∷ filled)) (granules n y) ≡ false
 unfolding granules
 free-after filled x zero y lo none = refl
 free-after filled x (suc n) y lo none =

@@ -1,4 +1,4 @@
--- Where a loop over the entries of a region may stand. This project's choice.
+-- Where a loop over the entries of a region may be. This project's choice.
 use Rattle.std.specs.Prelude.{◌≡◌, ℕ, ◌<◌, ◌≤◌, true}
 use Rattle.rmm_model.specs.Blocks.{down, size}
 use Rattle.rtt_plan.specs.Entries.{is_first}

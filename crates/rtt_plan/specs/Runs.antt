@@ -5,7 +5,7 @@ use Rattle.rmm_model.specs.Blocks.{down, size, span, stretches}
 use Rattle.rtt_plan.specs.Entries.{block_level, entries_from}
 use Rattle.rtt_plan.specs.declared.run.Run.{Run}
 
--- whether an entry of a level at x stands in the table of a run, at its level
+-- whether an entry of a level at x is in the table of a run, at its level
 abbrev pub goes_with : ℕ → ℕ → Run → Bool
 goes_with l x r = r.level == l && r.base / span l == x / span l
 

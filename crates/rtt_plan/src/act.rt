@@ -7,6 +7,6 @@ pub enum Act {
     Table { base: u64, level: u8 },
     /// Entries of one level in one table, from `base` up to `top`, become RAM.
     Run { base: u64, top: u64, level: u8 },
-    /// So many pages from `base` on get data.
+    /// `count` pages from `base` on get data.
     Pages { base: u64, count: u64 },
 }

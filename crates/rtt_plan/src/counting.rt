@@ -9,7 +9,7 @@ use rmm_model::size::size_of_level;
 /// The most entries of a launch.
 pub const ENTRY_LIMIT: u64 = 4_194_304;
 
-/// The entries of a region and so many before them; none where they are more than the limit.
+/// The entries of a region and those before it together; none where they are more than the limit.
 pub fn total_entries(before: u64, base: u64, end: u64, lowest: u8) -> Option<u64>
     requires region { IsRegion base end }
     requires some { base < end }

@@ -44,7 +44,7 @@ pub fn push_region(
     Ok(())
 }
 
-/// Adds the acts of so many pages from `base` on, and the tables among them.
+/// Adds the acts of `count` pages from `base` on, and the tables among them.
 pub fn push_data(
     tables: &mut BTreeSet<Table>,
     acts: &mut Vec<Act>,

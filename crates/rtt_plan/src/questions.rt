@@ -49,14 +49,14 @@ fn is_ram(ram: &[(u64, u64)], ipa: u64) -> bool
     ram.iter().any(|range| range.0 <= ipa && ipa < range.1)
 }
 
-/// Whether so many pages from `base` on end past an address.
+/// Whether `count` pages from `base` on end past an address.
 pub fn ends_past(end: u64, base: u64, count: u64) -> bool
     ensures { result ≡ nat_lt end (base + 4096 * count) }
 {
     base > end || (end - base) / 4096 < count
 }
 
-/// Whether so many pages from `base` on are all RAM.
+/// Whether `count` pages from `base` on are all RAM.
 pub fn all_ram(ram: &[(u64, u64)], base: u64, count: u64) -> bool
     requires { base + 4096 * count ≤ 2 ^ 47 }
     ensures { result ≡ list_all (is_ram ram.now) (granules count base) }
@@ -69,7 +69,7 @@ pub fn all_ram(ram: &[(u64, u64)], base: u64, count: u64) -> bool
     true
 }
 
-/// Whether one of so many pages from `base` on is in a range of pages. Ranges are compared, and no page is visited.
+/// Whether one of `count` pages from `base` on is in a range of pages. Ranges are compared, and no page is visited.
 pub fn any_filled(filled: &[(u64, u64)], base: u64, count: u64) -> bool
     requires whole { are_pages filled.now ≡ true }
     requires at { base % 4096 ≡ 0 }

@@ -15,7 +15,7 @@ pub struct Run {
     pub level: u8,
 }
 
-/// Whether the entry at `x` has this level and stands in the table of this level that holds `first`.
+/// Whether the entry at `x` has this level and is in the table of this level that holds `first`.
 pub fn goes_on(base: u64, end: u64, lowest: u8, level: u8, first: u64, x: u64) -> bool
     requires low { lowest ≤ 3 }
     requires small { x < 2 ^ 48 }

@@ -180,7 +180,7 @@ fn add_region(
     Ok(acts)
 }
 
-/// The acts of so many pages from `base` on. The tables among them and the range of the pages are added;
+/// The acts of `count` pages from `base` on. The tables among them and the range of the pages are added;
 /// where memory is refused, nothing is.
 fn add_data(
     alloc: Global,
