@@ -1,8 +1,8 @@
 -- A search in keys that rise.
-use Rattle.std.proofs.Common.{◌≡◌, ℕ, ◌+◌, ◌<◌, false, List, [], ◌∷◌, length, map, Some, None, get_or, refl, ap, sym, ◌∙◌, arith, inl, inr, nat_lt, lt-ltb}
+use Rattle.std.proofs.Common.{◌≡◌, ℕ, ◌+◌, ◌<◌, false, List, [], ◌∷◌, length, map, Some, None, get_or, refl, ap, sym, ◌∙◌, arith, inl, inr, nat_lt, lt-ltb, suc}
 use Rattle.std.specs.Prelude.{Result, Ok, Err, slice_get}
 use Rattle.std.specs.Result.{result_ok}
-use Rattle.std.specs.List.{position_or_len}
+use Rattle.std.specs.List.{All, position_or_len}
 use Rattle.std.proofs.lemmas.List.Quantifiers.{position-Some}
 use Rattle.std.proofs.lemmas.List.Sums.{position_or_len_is}
 use Rattle.std.proofs.lemmas.Option.{get_or_from_slice_get, slice_get_within}
@@ -14,8 +14,9 @@ use Rattle.std.specs.Cmp.{alike_right, tied_itself}
 use Rattle.std.specs.declared.cmp.Ordering.TheVariants.{Less, Equal}
 use Rattle.std.proofs.lemmas.List.{get_or-map}
 use Rattle.std.proofs.lemmas.List.Sorted.{searchable_from_sorted}
+use Rattle.rim_desc.specs.declared.source.Source.{Source}
 use Rattle.page_jobs.specs.Key.{IsRising, key_cmp}
-use Rattle.page_jobs.specs.Page.{IsPageOf, PageView, page_of}
+use Rattle.page_jobs.specs.Page.{IsPageOf, PageView, page_named}
 use Rattle.page_jobs.specs.Table.{keys_of, slot_of}
 use Rattle.std.proofs.lemmas.List.{length-map}
 use Rattle.page_jobs.specs.declared.page.PageKey.{PageKey}
@@ -113,7 +114,12 @@ slot-page pages rising j p at =
     let all : IsRising (keys_of (map (λ q. q) pages)) = rw (map-same pages) rising in
     rw (map-same pages) at (found (λ q. q) pages all p.key j p (slice_get_within pages j p at) (rw here same))
 
--- pages of the same bytes with one key are one
-pub same-page : (item : List ℕ) (p q : PageView) → IsPageOf item p → IsPageOf item q → p.key ≡ q.key → p ≡ q
-same-page item p q first second one =
-    first ∙ ap (λ (k : PageKey). page_of k.algo k.source k.lead item k.number) one ∙ sym second
+-- pages of items go by their keys
+pub same-page : (items : Source → List ℕ) (p q : PageView) → IsPageOf items p → IsPageOf items q → p.key ≡ q.key → p ≡ q
+same-page items p q first second one = first ∙ ap (page_named items) one ∙ sym second
+
+pub pages-named : (items : Source → List ℕ) (pages : List PageView) → All (IsPageOf items) pages → pages ≡ map (page_named items) (keys_of pages)
+pages-named items [] all = refl
+pages-named items (p ∷ pages) all =
+    ap (λ (q : PageView). q ∷ pages) (all 0 p (omega arith))
+    ∙ ap (λ (rest : List PageView). page_named items p.key ∷ rest) (pages-named items pages (λ k d low. all (suc k) d (omega arith)))

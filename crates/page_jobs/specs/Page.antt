@@ -23,9 +23,13 @@ page_of algo source lead item k = record {
   bytes = lent_of lead item k;
 }
 
--- the page is the one that its key names in an item of these bytes
-abbrev pub IsPageOf : List ℕ → PageView → Type 0
-IsPageOf item p = p ≡ page_of p.key.algo p.key.source p.key.lead item p.key.number
+-- the page that a key names, where `items` gives the bytes of each source's item
+abbrev pub page_named : (Source → List ℕ) → PageKey → PageView
+page_named items key = page_of key.algo key.source key.lead (items key.source) key.number
+
+-- a page of these items is the one that its key names
+abbrev pub IsPageOf : (Source → List ℕ) → PageView → Type 0
+IsPageOf items p = p ≡ page_named items p.key
 
 -- the 4096 bytes of a page: zeros in front, the item's bytes, and zeros after them
 abbrev pub contents_of : PageView → List ℕ

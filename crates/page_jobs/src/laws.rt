@@ -1,11 +1,11 @@
 //! Laws for readers of the definitions, proved.
-ghost use Rattle.std.specs.Prelude.{◌≡◌, ℕ, List, ◌<◌, ◌↔◌, Some, slice_get};
-ghost use Rattle.std.specs.List.{Contains};
+ghost use Rattle.std.specs.Prelude.{◌≡◌, ℕ, List, ◌<◌, ◌↔◌, Some, map, slice_get};
+ghost use Rattle.std.specs.List.{All, Contains};
 ghost use Rattle.rim_desc.specs.PageBytes.{page_bytes};
 ghost use Rattle.rim_desc.specs.declared.measurement.Algo.{Algo};
 ghost use Rattle.rim_desc.specs.declared.source.Source.{Source};
 ghost use Rattle.page_jobs.specs.Key.{IsRising, key_cmp, rising_keys};
-ghost use Rattle.page_jobs.specs.Page.{IsPageOf, PageView, contents_of, page_of};
+ghost use Rattle.page_jobs.specs.Page.{IsPageOf, PageView, contents_of, page_named, page_of};
 ghost use Rattle.page_jobs.specs.Table.{keys_of, slot_of};
 ghost use Rattle.page_jobs.specs.declared.page.PageKey.{PageKey};
 
@@ -14,10 +14,11 @@ pub fn contents_are_page_bytes()
     ensures { (algo : Algo) (source : Source) (lead k : ℕ) (item : List ℕ) → lead < 4096 → contents_of (page_of algo source lead item k) ≡ page_bytes lead item k }
 {}
 
-/// Two pages of the same bytes that have one key are one page. So where each source has bytes of its
-/// own, equal keys mean equal pages.
-pub fn equal_keys_mean_equal_pages()
-    ensures { (item : List ℕ) (p q : PageView) → IsPageOf item p → IsPageOf item q → p.key ≡ q.key → p ≡ q }
+/// Where each source has its item's bytes, pages of these items are one page if they have one key, and a
+/// list of them is the list of the pages that their keys name.
+pub fn pages_go_by_keys()
+    ensures one { (items : Source → List ℕ) (p q : PageView) → IsPageOf items p → IsPageOf items q → p.key ≡ q.key → p ≡ q }
+    ensures all { (items : Source → List ℕ) (pages : List PageView) → All (IsPageOf items) pages → pages ≡ map (page_named items) (keys_of pages) }
 {}
 
 /// Keys are compared as their definition says: by algorithm, source, lead and number.

@@ -6,7 +6,7 @@ ghost use Rattle.page_jobs.specs.Lent.{front_of, lent_of};
 use rim_desc::page::{put, zero_page};
 use rim_desc::{Algo, PAGE_SIZE, Source};
 
-/// What tells a page from all others. Keys are ordered by their fields, in this order.
+/// What distinguishes a page from all others. Keys are ordered by their fields, in this order.
 #[derive(Clone, Copy, Debug, PartialEq, Eq, PartialOrd, Ord)]
 pub struct PageKey {
     /// The algorithm that hashes it.
@@ -30,8 +30,8 @@ pub struct Blob<'a> {
     pub ghost inside: { lead < 4096 },
 }
 
-/// A page of 4096 bytes. In an item's first page as many zeros as the lead stand in front of the item's
-/// bytes; zeros fill what is after them.
+/// A page of 4096 bytes. An item's first page begins with as many zeros as the lead, and zeros fill what
+/// is after the item's bytes.
 #[derive(Clone, Copy)]
 pub struct Page<'a> {
     pub key: PageKey,

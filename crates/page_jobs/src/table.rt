@@ -114,7 +114,7 @@ fn search(pages: &[Page], key: &PageKey) -> Option<usize>
     pages.binary_search_by(|page| compare(page, key)).ok()
 }
 
-/// How a page's key stands to a key.
+/// The order of a page's key and a key.
 fn compare(page: &Page, key: &PageKey) -> Ordering
     ensures { result ≡ key_cmp (page_view page.now).key key.now }
 {
