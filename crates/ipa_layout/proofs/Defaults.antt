@@ -1,8 +1,8 @@
 -- The steps of a launch that names none are complete.
-use Rattle.std.proofs.Common.{◌≡◌, ℕ, zero, suc, ◌+◌, ◌<◌, ◌≤◌, Bool, true, false, cond, eqb, List, [], ◌∷◌, ◌++◌, length, map, refl, sym, ap, subst, ◌∙◌, arith}
+use Rattle.std.proofs.Common.{◌≡◌, ℕ, zero, suc, ◌+◌, ◌<◌, ◌≤◌, Bool, true, false, cond, eqb, List, [], ◌∷◌, ◌++◌, length, map, refl, ap, subst, ◌∙◌, arith}
 use Rattle.std.specs.Prelude.{◌==◌, ◌&&◌, nat_lt, filter}
 use Rattle.std.specs.List.{enumerate_from, list_all, range_with_len}
-use Rattle.std.proofs.lemmas.Bool.{eq-eqb, eqb-true, lt-ltb, ne_eqb}
+use Rattle.std.proofs.lemmas.Bool.{eq-eqb, eqb-false, eqb-true, lt-ltb, ne_eqb}
 use Rattle.std.proofs.lemmas.List.Sums.{sum_by-append}
 use Rattle.ipa_layout.specs.declared.item.Item.{Item}
 use Rattle.ipa_layout.specs.declared.item.Kind.{Kind}
@@ -12,7 +12,7 @@ use Rattle.ipa_layout.specs.declared.step.Step.TheVariants as step
 use Rattle.ipa_layout.specs.declared.ranges.Part.{Part}
 use Rattle.ipa_layout.specs.declared.ranges.Part.TheVariants as part
 use Rattle.ipa_layout.specs.Kinds.{is_kernel, is_initrd, is_dtb, is_raw}
-use Rattle.ipa_layout.specs.Steps.{names, names_something, times, each_once, steps_complete, item_steps, default_steps}
+use Rattle.ipa_layout.specs.Steps.{names, names_something, times, each_once, steps_complete, default_steps}
 
 times-append : (p : Part) (k : ℕ) (xs ys : List Step) → times p k (xs ++ ys) ≡ times p k xs + times p k ys
 times-append p k xs ys = sum_by-append (λ x. cond (names p k x) 1 0) xs ys
@@ -30,10 +30,6 @@ times-next p k x xs b e =
     let counts : cond {A = ℕ} (names p k x) 1 0 ≡ cond {A = ℕ} b 1 0 = ap (λ (c : Bool). cond c 1 0) e in
     omega (arith, first, counts)
 
--- numbers that are told apart are not the same
-differ : (a k : ℕ) → eqb a k ≡ false → a ≡ k → ⊥
-differ a k e same = let t : eqb a k ≡ true = eq-eqb a k same in let r : true ≡ false = sym t ∙ e in absurd cc
-
 -- ---- steps of a row of numbers
 
 module _ (make : ℕ → Step) (p : Part) (own : (n k : ℕ) → names p k (make n) ≡ (n == k)) where
@@ -49,7 +45,7 @@ module _ (make : ℕ → Step) (p : Part) (own : (n k : ℕ) → names p k (make
     where
       go : (b : Bool) → eqb a k ≡ b → (a + 1 ≤ k → times p k (map make (range_with_len (a + 1) n)) ≡ 1) → times p k (map make (range_with_len a (suc n))) ≡ 1
       go true e rest = omega (arith, times-next p k (make a) (map make (range_with_len (a + 1) n)) true (own a k ∙ e), row-none (a + 1) n k (omega (arith, eqb-true a k e)))
-      go false e rest = omega (arith, times-next p k (make a) (map make (range_with_len (a + 1) n)) false (own a k ∙ e), rest (omega (arith, differ a k e)))
+      go false e rest = omega (arith, times-next p k (make a) (map make (range_with_len (a + 1) n)) false (own a k ∙ e), rest (omega (arith, eqb-false a k e)))
 
 -- steps of another part
 module _ (make : ℕ → Step) (p : Part) (other : (n k : ℕ) → names p k (make n) ≡ false) where
@@ -127,7 +123,7 @@ items-once a k (i ∷ items) low high = go (eqb a k) refl (λ above. items-once 
         subst (λ (m : ℕ). counted m a (i ∷ items) ≡ 1) (eqb-true a k e)
         (omega (arith, items-first is_kernel a i items, items-first is_initrd a i items, items-first is_dtb a i items, items-first is_raw a i items, one-kind i.kind))
     go false e rest =
-        omega (arith, items-later is_kernel a k i items e, items-later is_initrd a k i items e, items-later is_dtb a k i items e, items-later is_raw a k i items e, rest (omega (arith, differ a k e)))
+        omega (arith, items-later is_kernel a k i items e, items-later is_initrd a k i items e, items-later is_dtb a k i items e, items-later is_raw a k i items e, rest (omega (arith, eqb-false a k e)))
 
 items-there : (test : Kind → Bool) (regions count recs a : ℕ) (items : List Item) → a + length items ≤ count → list_all (names_something regions count recs) (from test a items) ≡ true
 unfolding from

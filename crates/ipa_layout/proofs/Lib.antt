@@ -6,3 +6,5 @@ pub mod Conditions
 pub mod Rows
 pub mod Marks
 pub mod Defaults
+pub mod PlacedRows
+pub mod PlacedFacts

@@ -13,3 +13,4 @@ pub mod Changes
 pub mod ChangeViews
 pub mod Placements
 pub mod PlacementViews
+pub mod PlacedFacts
