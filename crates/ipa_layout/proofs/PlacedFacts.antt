@@ -127,5 +127,5 @@ module _ (l : LaunchData) (files : List (List ℕ)) (p : PlacedData) (h : IsPlac
     where
       go : (bytes : List ℕ) (b : Bool) → has_edits asked.kind ≡ b → (let r : Result (List ℕ) LayoutFault = cond b (edited_bytes (edited_dtb l files)) (Ok (file_bytes files asked.kind)) in r) ≡ Ok bytes
           → IsSourceOf l p asked (cond b (Edited l.number) (File (file_of asked.kind)))
-      go bytes true e q = (refl, rw (ap (λ (x : PlacedData). x.edited) (parts l files p h).is) (changed-some asked k bytes it.asked_for e q))
-      go bytes false e q = refl
+      go bytes true e q = (e, refl, rw (ap (λ (x : PlacedData). x.edited) (parts l files p h).is) (changed-some asked k bytes it.asked_for e q))
+      go bytes false e q = (e, refl)

@@ -1,12 +1,12 @@
 -- What holds of each launch that is placed, for the layers that go on from it. This project's choice.
-use Rattle.std.specs.Prelude.{◌≡◌, ℕ, ◌+◌, ◌<◌, ◌≤◌, Some, IsSome, sum_by}
+use Rattle.std.specs.Prelude.{◌≡◌, ℕ, ◌+◌, ◌<◌, ◌≤◌, true, false, Some, IsSome, sum_by}
 use Rattle.std.specs.List.{slice_get}
 use Rattle.rim_desc.specs.declared.source.Source.{Source}
 use Rattle.rim_desc.specs.declared.source.Source.TheVariants.{File, Edited}
 use Rattle.ipa_layout.specs.declared.item.Item.{Item}
 use Rattle.ipa_layout.specs.declared.placed.PlacedItem.{PlacedItem}
 use Rattle.ipa_layout.specs.LaunchData.{LaunchData}
-use Rattle.ipa_layout.specs.Kinds.{file_of}
+use Rattle.ipa_layout.specs.Kinds.{file_of, has_edits}
 use Rattle.ipa_layout.specs.Standings.{first_page}
 use Rattle.ipa_layout.specs.Placements.{PlacedData}
 
@@ -17,8 +17,8 @@ pub record IsItem (l : LaunchData) (p : PlacedData) (number : ℕ) (asked : Item
 
 -- its bytes are those of its own file, or of the devicetree that this launch changed, which has some
 abbrev pub IsSourceOf : LaunchData → PlacedData → Item → Source → Type 0
-IsSourceOf l p asked (File n) = n ≡ file_of asked.kind
-IsSourceOf l p asked (Edited launch) = (launch ≡ l.number) × IsSome p.edited
+IsSourceOf l p asked (File n) = (has_edits asked.kind ≡ false) × (n ≡ file_of asked.kind)
+IsSourceOf l p asked (Edited launch) = (has_edits asked.kind ≡ true) × (launch ≡ l.number) × IsSome p.edited
 
 -- the number of the first page after an item's pages
 abbrev pub page_end : PlacedItem → ℕ
