@@ -11,7 +11,7 @@ use Rattle.fdt_tree.specs.Devicetree.{Token, begin_node, property, end_node, nop
 use Rattle.fdt_tree.specs.NodeViews.{entry_of, branch, branches}
 use Rattle.fdt_tree.specs.Writing.{places_text, versions_text, reservations_text, file_text, structure_text, written, noted, is_among, names_after, strings_text, text_after}
 use Rattle.fdt_tree.specs.NameTables.{HasNames, TooMuch}
-use Rattle.fdt_tree.specs.OutputViews.{AreLengths, HasTokens, size_of, tokens_of_entries, tokens_of_nodes, front_of}
+use Rattle.fdt_tree.specs.OutputViews.{AreLengths, HasTokens, size_of, tokens_of_entries, tokens_of_nodes}
 use Rattle.fdt_tree.specs.declared.writing.Lengths.{Lengths}
 use Rattle.fdt_tree.specs.declared.tree.Reservation.{Reservation}
 use Rattle.fdt_tree.specs.declared.tree.Contents.{Contents}
@@ -125,6 +125,10 @@ nodes_split strings ns i n lt is =
     ∙ ap (λ (x : List Token). tokens_of_nodes strings (take i ns) ++ x) (at_drop_more (tokens_of_nodes strings) ns i n lt ∙ ap (λ (x : Node). tokens_of_nodes strings (x ∷ drop (i + 1) ns)) (sym is) ∙ nodes_in_memory_append strings (n ∷ []) (drop (i + 1) ns))
 
 -- ---- a node
+
+-- a node's begin and its properties
+abbrev pub front_of : List ℕ → Node → List Token
+front_of strings n = begin_node (out-Node n).name.items ∷ tokens_of_entries strings (out-Node n).properties.items
 
 node_tokens : (strings : List ℕ) (n : Node) → tokens_of_nodes strings (n ∷ []) ≡ front_of strings n ++ (tokens_of_nodes strings (out-Node n).children.items ++ end_node ∷ [])
 node_tokens strings n = ap (λ (b : Branch). tokens (joined (b ∷ []))) (branch_out strings n)
