@@ -9,7 +9,7 @@ use Rattle.fdt_tree.specs.declared.place.Place.{Place}
 use Rattle.fdt_tree.specs.Devicetree.{Devicetree, Entry, Nodes, none, node, Root, Token, begin_node, property, end_node, nop, finish, tokens, root_tokens}
 use Rattle.fdt_tree.specs.Scanning.{start, scan}
 use Rattle.fdt_tree.specs.Reading.{Spells, Parts, parts_of, parts_at, refusal_of}
-use Rattle.fdt_tree.specs.Steps.{◌>>=◌}
+use Rattle.refusal.specs.Answer.{◌>>=◌}
 use Rattle.fdt_tree.specs.Blocks.{reserve_block, structure_block, strings_block, header_at}
 use Rattle.fdt_tree.specs.Reservations.{reservations_at}
 use Rattle.fdt_tree.specs.Grammar.{without_nops}

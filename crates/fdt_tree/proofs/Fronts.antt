@@ -2,7 +2,7 @@
 use Rattle.std.proofs.Common.{◌≡◌, List, [], ◌++◌, Result, Ok, Err, sym, ap, ◌∙◌, append_assoc, refl}
 use Rattle.std.proofs.lemmas.List.{append-nil}
 use Rattle.fdt_tree.specs.declared.fault.FdtFault.{FdtFault}
-use Rattle.fdt_tree.specs.Steps.{with_front}
+use Rattle.refusal.specs.Answer.{with_front}
 
 regroup : {A : Type 0} (front new : List A) (more : Result (List A) FdtFault) → with_front front (with_front new more) ≡ with_front (front ++ new) more
 regroup {A} front new (Ok xs) = ap (λ (ys : List A). Ok ys) (sym (append_assoc front new xs))

@@ -1,21 +1,16 @@
 -- What a new memory makes of a tree.
-use Rattle.std.proofs.Common.{◌≡◌, ℕ, zero, suc, ◌+◌, ◌/◌, ◌%◌, ◌^◌, ◌<◌, Bool, true, false, cond, nat_lt, eqb, IsTrue, List, [], ◌∷◌, ◌++◌, length, codes, Option, Some, None, Result, Ok, Err, OnOk, OnErr, IsOk, refl, sym, ap, ◌∙◌, arith}
+use Rattle.std.proofs.Common.{◌≡◌, ℕ, zero, suc, ◌+◌, ◌/◌, ◌%◌, ◌<◌, Bool, true, false, cond, nat_lt, eqb, IsTrue, List, [], ◌∷◌, length, codes, Result, Ok, Err, OnOk, OnErr, IsOk, refl, sym, ap, ◌∙◌, arith}
 use Rattle.std.specs.Fmt.{digits, digits_onto, digit_glyph}
-use Rattle.std.specs.Str.{bytes_eq}
-use Rattle.std.specs.Int.{w32, w64, to_be_bytes}
 use Rattle.std.proofs.lemmas.Bool.{lt-ltb, ne_eqb}
 use Rattle.fdt_tree.specs.declared.fault.FdtFault.{FdtFault}
-use Rattle.fdt_tree.specs.declared.fault.FdtFault.TheVariants.{BadCells}
 use Rattle.fdt_tree.specs.declared.tree.Reservation.{Reservation}
 use Rattle.fdt_tree.specs.declared.node.Node.{Node}
-use Rattle.fdt_tree.specs.Steps.{◌>>=◌}
-use Rattle.fdt_tree.specs.Devicetree.{Entry, Branch, branch_of_root}
+use Rattle.fdt_tree.specs.Devicetree.{Branch, branch_of_root}
 use Rattle.fdt_tree.specs.Names.{letter, all_letters, legal}
 use Rattle.fdt_tree.specs.NodeViews.{branch, root_of}
 use Rattle.fdt_tree.specs.Wholeness.{IsWhole}
-use Rattle.fdt_tree.specs.Lookup.{first_value}
-use Rattle.fdt_tree.specs.Edits.{with_root, Refuses}
-use Rattle.fdt_tree.specs.Memory.{cells_or, in_cells, reg_value, names_memory, memory_name, reg_put, new_memory, memory_put, set_memory_at}
+use Rattle.fdt_tree.specs.Edits.{with_root}
+use Rattle.fdt_tree.specs.Memory.{reg_value, names_memory, memory_name, reg_put, new_memory, memory_put, set_memory_at}
 use Rattle.fdt_tree.proofs.Settings.{values_legal, first_legal, tree_with}
 
 -- ---- the name of a new node is legal
@@ -69,46 +64,9 @@ pub may_be_put : (base size : ℕ) (reg s : List ℕ) (rs : List Reservation) (b
 unfolding set_memory_at
 may_be_put base size reg s rs boot old e = rw e refl
 
-cells_fault : (presumed : ℕ) (o : Option (List ℕ)) (e : FdtFault) → cells_or presumed o ≡ Err e → e ≡ BadCells
-cells_fault presumed None e h = absurd cc
-cells_fault presumed (Some v) e h = go (bytes_eq v (to_be_bytes w32 1)) (bytes_eq v (to_be_bytes w32 2)) h
-  where
-    go : (a b : Bool) → (let r : Result ℕ FdtFault = cond a (Ok 1) (cond b (Ok 2) (Err BadCells)) in r) ≡ Err e → e ≡ BadCells
-    go true b q = absurd cc
-    go false true q = absurd cc
-    go false false q = cc
-
-number_fault : (cells n : ℕ) (e : FdtFault) → in_cells cells n ≡ Err e → e ≡ BadCells
-number_fault cells n e h = go (eqb cells 1) (nat_lt n (2 ^ 32)) h
-  where
-    go : (a b : Bool) → (let r : Result (List ℕ) FdtFault = cond a (cond b (Ok (to_be_bytes w32 n)) (Err BadCells)) (Ok (to_be_bytes w64 n)) in r) ≡ Err e → e ≡ BadCells
-    go true true q = absurd cc
-    go true false q = cc
-    go false b q = absurd cc
-
-step_fault : {A B : Type 0} (r : Result A FdtFault) (f : A → Result B FdtFault) (e : FdtFault) → (r ≡ Err e → e ≡ BadCells) → ((x : A) → f x ≡ Err e → e ≡ BadCells) → r >>= f ≡ Err e → e ≡ BadCells
-step_fault (Ok x) f e first next h = next x h
-step_fault (Err g) f e first next h = let same : g ≡ e = cc in first (ap Err same)
-
-fourth : ℕ → ℕ → List ℕ → Result (List ℕ) FdtFault
-fourth cells size x = in_cells cells size >>= λ y. Ok (x ++ y)
-
-reg_fault : (base size : ℕ) (es : List Entry) (e : FdtFault) → reg_value base size es ≡ Err e → e ≡ BadCells
-unfolding reg_value fourth
-reg_fault base size es e h =
-    let o = first_value (codes "#address-cells") es in
-    let p = first_value (codes "#size-cells") es in
-    step_fault (cells_or 2 o) (λ a. cells_or 1 p >>= λ b. in_cells a base >>= λ x. fourth b size x) e (cells_fault 2 o e)
-    (λ a q. step_fault (cells_or 1 p) (λ b. in_cells a base >>= λ x. fourth b size x) e (cells_fault 1 p e)
-    (λ b r. step_fault (in_cells a base) (λ x. fourth b size x) e (number_fault a base e)
-    (λ x k. step_fault (in_cells b size) (λ y. Ok (x ++ y)) e (number_fault b size e) (λ y j. absurd cc) k) r) q)
-    h
-
-pub memory_refused : (base size : ℕ) (s : List ℕ) (rs : List Reservation) (boot : ℕ) (old : Node) (e : FdtFault) → reg_value base size (branch s old).entries ≡ Err e → Refuses e (set_memory_at base size (tree_with rs boot s old))
+pub memory_refused : (base size : ℕ) (s : List ℕ) (rs : List Reservation) (boot : ℕ) (old : Node) (e : FdtFault) → reg_value base size (branch s old).entries ≡ Err e → set_memory_at base size (tree_with rs boot s old) ≡ Err e
 unfolding set_memory_at
-memory_refused base size s rs boot old e h =
-    let bad = reg_fault base size (branch s old).entries e h in
-    rw bad (rw h (ap (λ (f : FdtFault). Err f) bad))
+memory_refused base size s rs boot old e h = rw h refl
 
 memory_whole : (base : ℕ) (reg s : List ℕ) (rs : List Reservation) (boot : ℕ) (old new : Node) → branch s new ≡ memory_put base reg (branch s old) → IsWhole (tree_with rs boot s old) → IsWhole (tree_with rs boot s new)
 memory_whole base reg s rs boot old new made w =

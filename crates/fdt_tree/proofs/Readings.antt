@@ -3,7 +3,7 @@ use Rattle.std.proofs.Common.{◌≡◌, ℕ, List, length, Result, Ok, refl, sy
 use Rattle.fdt_tree.specs.declared.fault.FdtFault.{FdtFault}
 use Rattle.fdt_tree.specs.declared.header.Header.{Header}
 use Rattle.fdt_tree.specs.declared.tree.Reservation.{Reservation}
-use Rattle.fdt_tree.specs.Steps.{◌>>=◌}
+use Rattle.refusal.specs.Answer.{◌>>=◌}
 use Rattle.fdt_tree.specs.Devicetree.{Devicetree, Token, root_tokens}
 use Rattle.fdt_tree.specs.Blocks.{reserve_block, structure_block, strings_block, header_at}
 use Rattle.fdt_tree.specs.Reservations.{reservations_at}

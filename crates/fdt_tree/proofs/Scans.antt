@@ -6,7 +6,7 @@ use Rattle.fdt_tree.specs.declared.lexing.Lexeme.{Lexeme}
 use Rattle.fdt_tree.specs.declared.lexing.Lexeme.TheVariants as lexemes
 use Rattle.fdt_tree.specs.LexemeViews.{token_of_lexeme}
 use Rattle.fdt_tree.specs.Devicetree.{Token, begin_node, property, end_node, nop, finish}
-use Rattle.fdt_tree.specs.Steps.{◌>>=◌, with_front}
+use Rattle.refusal.specs.Answer.{◌>>=◌, with_front}
 use Rattle.fdt_tree.specs.declared.place.Place.{Place}
 use Rattle.fdt_tree.specs.Scanning.{after, token_at, joins, scan}
 use Rattle.fdt_tree.specs.OpenNodes.{added}

@@ -1,5 +1,5 @@
 -- What a new value makes of a tree.
-use Rattle.std.proofs.Common.{◌≡◌, ℕ, ◌+◌, ◌<◌, Bool, true, false, cond, ◌&&◌, nat_lt, IsTrue, List, [], ◌∷◌, length, Option, Some, None, Result, Ok, Err, IsOk, OnOk, OnErr, refl, sym, ap, ◌∙◌, arith}
+use Rattle.std.proofs.Common.{◌≡◌, ℕ, ◌+◌, ◌<◌, Bool, true, false, cond, ◌&&◌, nat_lt, IsTrue, List, [], ◌∷◌, length, Result, Ok, Err, IsOk, OnOk, OnErr, refl, sym, ap, ◌∙◌, arith}
 use borrow.Author.Tests.{ltb-true}
 use Rattle.std.specs.Str.{bytes_eq}
 use Rattle.fdt_tree.specs.declared.fault.FdtFault.{FdtFault}
@@ -12,7 +12,7 @@ use Rattle.fdt_tree.specs.NodeViews.{branch, root_of}
 use Rattle.fdt_tree.specs.OpenNodes.{bare}
 use Rattle.fdt_tree.specs.Wholeness.{IsWhole}
 use Rattle.fdt_tree.specs.Lookup.{names_on}
-use Rattle.fdt_tree.specs.Edits.{with_value, value_put, first_such, in_front_of, changed_below, all_legal, with_root, path_names, may_stand, set_at, Refuses}
+use Rattle.fdt_tree.specs.Edits.{with_value, value_put, first_such, in_front_of, changed_below, all_legal, root_in, with_root, path_names, may_stand, set_at}
 
 -- ---- what is legal stays legal
 
@@ -82,23 +82,17 @@ set_done path name value s names rs boot old new u e f unnamed made =
     let named : branch_of_root (root_of s old) ≡ branch s old = ap (λ (n : List ℕ). let b : Branch = record { name = n; entries = (branch s old).entries; kids = (branch s old).kids } in b) (sym unnamed) in
     rw (e, f) (ap (λ (b : Branch). Ok (with_root t b)) (ap put named ∙ sym made))
 
-pub path_refused : (path name value : List ℕ) (t : Devicetree) (e : FdtFault) → path_names (names_on path) ≡ Err e → Refuses e (set_at path name value t)
+pub path_refused : (path name value : List ℕ) (t : Devicetree) (e : FdtFault) → path_names (names_on path) ≡ Err e → set_at path name value t ≡ Err e
 unfolding set_at
-path_refused path name value t e h = rw (bad (names_on path) h) (rw h (ap (λ (f : FdtFault). Err f) (bad (names_on path) h)))
-  where
-    bad : (o : Option (List (List ℕ))) → path_names o ≡ Err e → e ≡ BadName
-    bad None q = cc
-    bad (Some names) q = absurd cc
+path_refused path name value t e h = rw h refl
 
-pub name_refused : (path name value : List ℕ) (names : List (List ℕ)) (t : Devicetree) (e : FdtFault) → path_names (names_on path) ≡ Ok names → may_stand names name ≡ Err e → Refuses e (set_at path name value t)
+pub name_refused : (path name value : List ℕ) (names : List (List ℕ)) (t : Devicetree) (e : FdtFault) → path_names (names_on path) ≡ Ok names → may_stand names name ≡ Err e → set_at path name value t ≡ Err e
 unfolding set_at
-name_refused path name value names t e g h = go (all_legal names) (legal name) (nat_lt (length names) 64) h (rw (g, h) refl)
-  where
-    go : (a b d : Bool) → (let r : Result (Unit {0}) FdtFault = cond a (cond b (cond d (Ok tt) (Err TooDeep)) (Err BadName)) (Err BadName) in r) ≡ Err e → set_at path name value t ≡ Err e → Refuses e (set_at path name value t)
-    go true true true q k = absurd cc
-    go true true false q k = let same : e ≡ TooDeep = cc in rw same (k ∙ ap (λ (f : FdtFault). Err f) same)
-    go true false d q k = let same : e ≡ BadName = cc in rw same (k ∙ ap (λ (f : FdtFault). Err f) same)
-    go false b d q k = let same : e ≡ BadName = cc in rw same (k ∙ ap (λ (f : FdtFault). Err f) same)
+name_refused path name value names t e g h = rw (g, h) refl
+
+-- a root that stays the same
+pub tree_kept : (s : List ℕ) (rs : List Reservation) (boot : ℕ) (old new : Node) → branch s new ≡ branch s old → tree_with rs boot s new ≡ tree_with rs boot s old
+tree_kept s rs boot old new same = ap (λ (b : Branch). let t : Devicetree = record { reservations = rs; boot_cpu = boot; root = root_in b } in t) same
 
 pub may_be_set : (path name value : List ℕ) (names : List (List ℕ)) (t : Devicetree) (u : Unit {0}) → path_names (names_on path) ≡ Ok names → may_stand names name ≡ Ok u → IsOk (set_at path name value t)
 unfolding set_at

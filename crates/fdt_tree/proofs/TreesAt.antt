@@ -3,7 +3,7 @@ use Rattle.std.proofs.Common.{◌≡◌, ℕ, List, [], ◌∷◌, ◌++◌, map
 use Rattle.std.proofs.lemmas.List.{append-nil}
 use Rattle.fdt_tree.specs.declared.fault.FdtFault.{FdtFault}
 use Rattle.fdt_tree.specs.Devicetree.{Devicetree, Entry, Nodes, none, node, Token, begin_node, property, end_node, tokens, Root, root_tokens}
-use Rattle.fdt_tree.specs.Steps.{◌>>=◌}
+use Rattle.refusal.specs.Answer.{◌>>=◌}
 use Rattle.fdt_tree.specs.Reading.{Spells, Parts, parts_of, parts_at}
 use Rattle.fdt_tree.specs.TreeAt.{Behind, nothing_behind, with_token, behind_of, root_at, tree_of, tree_at}
 use Rattle.fdt_tree.proofs.Takes.{IsBytes}

@@ -9,9 +9,9 @@ use Rattle.fdt_tree.specs.declared.node.Node.TheViews.{out-Node}
 use Rattle.fdt_tree.specs.declared.writing.Output.{Output}
 use Rattle.fdt_tree.specs.Devicetree.{Token, begin_node, property, end_node, nop, finish, Branch, joined, tokens}
 use Rattle.fdt_tree.specs.NodeViews.{entry_of, branch, branches}
-use Rattle.fdt_tree.specs.Writing.{places_text, versions_text, reservations_text, file_of, structure_text, written, noted, is_among, names_after, strings_text, text_after}
+use Rattle.fdt_tree.specs.Writing.{places_text, versions_text, reservations_text, file_text, structure_text, written, noted, is_among, names_after, strings_text, text_after}
 use Rattle.fdt_tree.specs.NameTables.{HasNames, TooMuch}
-use Rattle.fdt_tree.specs.OutputViews.{AreLengths, HasTokens, size_of, tokens_of_entries, tokens_of_nodes, front_of}
+use Rattle.fdt_tree.specs.OutputViews.{AreLengths, HasTokens, size_of, tokens_of_entries, tokens_of_nodes}
 use Rattle.fdt_tree.specs.declared.writing.Lengths.{Lengths}
 use Rattle.fdt_tree.specs.declared.tree.Reservation.{Reservation}
 use Rattle.fdt_tree.specs.declared.tree.Contents.{Contents}
@@ -126,6 +126,10 @@ nodes_split strings ns i n lt is =
 
 -- ---- a node
 
+-- a node's begin and its properties
+abbrev pub front_of : List ℕ → Node → List Token
+front_of strings n = begin_node (out-Node n).name.items ∷ tokens_of_entries strings (out-Node n).properties.items
+
 node_tokens : (strings : List ℕ) (n : Node) → tokens_of_nodes strings (n ∷ []) ≡ front_of strings n ++ (tokens_of_nodes strings (out-Node n).children.items ++ end_node ∷ [])
 node_tokens strings n = ap (λ (b : Branch). tokens (joined (b ∷ []))) (branch_out strings n)
 
@@ -190,7 +194,7 @@ pub reservations_len : (rs : List Reservation) → length (reservations_text rs)
 reservations_len [] = refl
 reservations_len (r ∷ rs) = omega (arith, reservations_len rs)
 
-pub file_len : (boot : ℕ) (reserve structure strings : List ℕ) → length (file_of boot reserve structure strings) ≡ 40 + length reserve + length structure + length strings
+pub file_len : (boot : ℕ) (reserve structure strings : List ℕ) → length (file_text boot reserve structure strings) ≡ 40 + length reserve + length structure + length strings
 file_len boot reserve structure strings = omega (arith, length-append reserve (structure ++ strings), length-append structure strings)
 
 pub root_tokens_are : (c : Contents) → (branch c.strings.items c.root).name ≡ [] → tokens_of_nodes c.strings.items (c.root ∷ []) ≡ root_tokens (root_of c.strings.items c.root)
@@ -209,11 +213,11 @@ size_within c h =
 pub written_is : (c : Contents) (structure strings : List ℕ) → (branch c.strings.items c.root).name ≡ []
     → structure ≡ text_after [] (tokens_of_nodes c.strings.items (c.root ∷ [])) ++ to_be_bytes w32 9
     → strings ≡ strings_text (names_after [] (tokens_of_nodes c.strings.items (c.root ∷ [])))
-    → file_of c.boot_cpu (reservations_text c.reservations.items) structure strings ≡ written (tree_in c)
+    → file_text c.boot_cpu (reservations_text c.reservations.items) structure strings ≡ written (tree_in c)
 written_is c structure strings h e f =
     let toks = root_tokens_are c h in
-    ap (λ (x : List ℕ). file_of c.boot_cpu (reservations_text c.reservations.items) x strings) (e ∙ ap (λ (ts : List Token). text_after [] ts ++ to_be_bytes w32 9) toks)
-    ∙ ap (λ (x : List ℕ). file_of c.boot_cpu (reservations_text c.reservations.items) (structure_text (tree_in c)) x) (f ∙ ap (λ (ts : List Token). strings_text (names_after [] ts)) toks)
+    ap (λ (x : List ℕ). file_text c.boot_cpu (reservations_text c.reservations.items) x strings) (e ∙ ap (λ (ts : List Token). text_after [] ts ++ to_be_bytes w32 9) toks)
+    ∙ ap (λ (x : List ℕ). file_text c.boot_cpu (reservations_text c.reservations.items) (structure_text (tree_in c)) x) (f ∙ ap (λ (ts : List Token). strings_text (names_after [] ts)) toks)
 
 abbrev word : ℕ → List ℕ
 word n = to_be_bytes w32 n
@@ -225,7 +229,7 @@ five_words front a b c d e v w x y z p q r s t =
 
 pub assembled_is : (l : Lengths) (boot : ℕ) (reserve structure strings o v w x y z : List ℕ) → AreLengths l (length reserve) (length structure) (length strings) → o ≡ []
     → v ≡ o ++ places_text l.reserve l.structure l.strings → w ≡ v ++ versions_text l.structure l.strings boot → x ≡ w ++ reserve → y ≡ x ++ structure → z ≡ y ++ strings
-    → z ≡ file_of boot reserve structure strings
+    → z ≡ file_text boot reserve structure strings
 assembled_is l boot reserve structure strings o v w x y z h e p q r s t =
     two w reserve (structure ++ strings) x z r (two x structure strings y z s t)
     ∙ ap (λ (u : List ℕ). u ++ (reserve ++ (structure ++ strings)))
@@ -234,8 +238,8 @@ assembled_is l boot reserve structure strings o v w x y z h e p q r s t =
     ∙ ap (λ (n : ℕ). places_text (length reserve) n l.strings ++ versions_text n l.strings boot) h.structure_is
     ∙ ap (λ (n : ℕ). places_text (length reserve) (length structure) n ++ versions_text (length structure) n boot) h.strings_is)
 
-pub assembled_within : (l : Lengths) (boot : ℕ) (reserve structure strings z : List ℕ) → AreLengths l (length reserve) (length structure) (length strings) → z ≡ file_of boot reserve structure strings → length z ≤ 2097152
+pub assembled_within : (l : Lengths) (boot : ℕ) (reserve structure strings z : List ℕ) → AreLengths l (length reserve) (length structure) (length strings) → z ≡ file_text boot reserve structure strings → length z ≤ 2097152
 assembled_within l boot reserve structure strings z h e = omega (arith, ap length e, file_len boot reserve structure strings, h.fits)
 
-pub file_too_long : (boot : ℕ) (reserve structure strings : List ℕ) (e : FdtFault) → TooMuch e (40 + length reserve + length structure + length strings) → TooMuch e (length (file_of boot reserve structure strings))
+pub file_too_long : (boot : ℕ) (reserve structure strings : List ℕ) (e : FdtFault) → TooMuch e (40 + length reserve + length structure + length strings) → TooMuch e (length (file_text boot reserve structure strings))
 file_too_long boot reserve structure strings e h = subst (TooMuch e) (sym (file_len boot reserve structure strings)) h

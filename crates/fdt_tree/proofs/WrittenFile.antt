@@ -12,7 +12,7 @@ use Rattle.fdt_tree.specs.Reservations.{AreReservations, SpellsReservations, pai
 use Rattle.fdt_tree.specs.Grammar.{SpellsRoot}
 use Rattle.fdt_tree.specs.Reading.{Spells}
 use Rattle.fdt_tree.specs.Wholeness.{IsWhole}
-use Rattle.fdt_tree.specs.Writing.{names_after, strings_text, text_after, structure_text, reservations_text, header_text, file_of, written}
+use Rattle.fdt_tree.specs.Writing.{names_after, strings_text, text_after, structure_text, reservations_text, header_text, file_text, written}
 use Rattle.fdt_tree.proofs.Writes.{reservations_len, file_len}
 use Rattle.fdt_tree.proofs.WrittenText.{text_again, no_nop_in_root}
 
@@ -48,7 +48,7 @@ module _ (boot : ℕ) (reserve structure strings z : List ℕ) where
   }
 
   abbrev file : List ℕ
-  file = file_of boot reserve structure strings
+  file = file_text boot reserve structure strings
 
   abbrev head : List ℕ
   head = header_text (length reserve) (length structure) (length strings) boot

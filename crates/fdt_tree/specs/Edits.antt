@@ -1,16 +1,15 @@
 -- A devicetree with another value of a property, and why it may be refused. Paths are those of looking
 -- up (Devicetree Specification 0.4, section 2.2.3); where a new property or node stands is this
 -- project's choice.
-use Rattle.std.specs.Prelude.{◌≡◌, ℕ, List, [], ◌∷◌, length, Bool, true, Option, Some, None, Result, Ok, Err, nat_lt, ◌&&◌, if◌then◌else◌}
+use Rattle.std.specs.Prelude.{ℕ, List, [], ◌∷◌, length, Bool, true, Option, Some, None, Result, Ok, Err, nat_lt, ◌&&◌, if◌then◌else◌}
 use Rattle.std.specs.Str.{bytes_eq}
-use Rattle.std.specs.Result.{IsOk}
 use Rattle.fdt_tree.specs.declared.fault.FdtFault.{FdtFault}
 use Rattle.fdt_tree.specs.declared.fault.FdtFault.TheVariants.{BadName, TooDeep}
 use Rattle.fdt_tree.specs.Devicetree.{Entry, Nodes, none, node, Branch, Root, branch_of_root, Devicetree}
 use Rattle.fdt_tree.specs.Names.{legal}
 use Rattle.fdt_tree.specs.OpenNodes.{bare}
 use Rattle.fdt_tree.specs.Lookup.{names_on}
-use Rattle.fdt_tree.specs.Steps.{◌>>=◌, MemoryOr}
+use Rattle.refusal.specs.Answer.{◌>>=◌}
 
 -- the first property of the name with this value, or else one more
 abbrev pub with_value : List ℕ → List ℕ → List Entry → List Entry
@@ -66,7 +65,3 @@ set_at path name value t = do
   names ← path_names (names_on path)
   _ ← may_stand names name
   Ok (with_root t (changed_below names (value_put name value) (branch_of_root t.root)))
-
--- It is refused for this; memory is only asked for behind every other refusal.
-abbrev pub Refuses : {Y : Type 0} → FdtFault → Result Y FdtFault → Type 0
-Refuses e wanted = MemoryOr e (IsOk wanted) (wanted ≡ Err e)

@@ -1,7 +1,7 @@
 pub mod Devicetree
 pub mod Names
+pub mod Faults
 pub mod NodeViews
-pub mod Steps
 pub mod Scanning
 pub mod LetterRuns
 pub mod LexemeViews

@@ -10,7 +10,7 @@ use Rattle.fdt_tree.specs.Devicetree.{Entry, Branch, branch_of_root, Devicetree}
 use Rattle.fdt_tree.specs.OpenNodes.{bare}
 use Rattle.fdt_tree.specs.Lookup.{first_value}
 use Rattle.fdt_tree.specs.Edits.{value_put, first_such, with_root}
-use Rattle.fdt_tree.specs.Steps.{◌>>=◌}
+use Rattle.refusal.specs.Answer.{◌>>=◌}
 
 -- how many cells, words of 4 bytes, such a property says: one or two
 abbrev pub cells_said : List ℕ → Result ℕ FdtFault

@@ -1,13 +1,12 @@
 -- What the table of names is, and when bytes are too many.
-use Rattle.std.specs.Prelude.{◌≡◌, ℕ, ◌<◌, List, take, drop, Option, Some, None, if◌then◌else◌}
+use Rattle.std.specs.Prelude.{◌≡◌, ◌⊎◌, ℕ, ◌<◌, List, take, drop, Option, Some, None, if◌then◌else◌}
 use Rattle.std.specs.Ordering.{nat_cmp}
 use Rattle.std.specs.Cmp.Lexicographic.{slice_cmp}
 use Rattle.std.specs.BTreeMap.{get_by}
 use Rattle.fdt_tree.specs.declared.fault.FdtFault.{FdtFault}
-use Rattle.fdt_tree.specs.declared.fault.FdtFault.TheVariants.{TooLarge}
+use Rattle.fdt_tree.specs.declared.fault.FdtFault.TheVariants.{NoMemory, TooLarge}
 use Rattle.fdt_tree.specs.declared.names.NameTable.{NameTable}
 use Rattle.fdt_tree.specs.declared.names.KnownRange.{KnownRange}
-use Rattle.fdt_tree.specs.Steps.{MemoryOr}
 use Rattle.fdt_tree.specs.Writing.{is_among, strings_text, offset_in}
 
 -- where a name begins, if it is there
@@ -23,4 +22,4 @@ pub record HasNames (source : List ℕ) (t : NameTable) (names : List (List ℕ)
 
 -- it is too many bytes, or memory was refused
 abbrev pub TooMuch : FdtFault → ℕ → Type 0
-TooMuch e n = MemoryOr e (Unit {0}) ((e ≡ TooLarge) × (2097152 < n))
+TooMuch e n = (e ≡ NoMemory) ⊎ ((e ≡ TooLarge) × (2097152 < n))

@@ -26,10 +26,6 @@ tokens_of_entries strings ps = map property (map (entry_of strings) ps)
 abbrev pub tokens_of_nodes : List ℕ → List Node → List Token
 tokens_of_nodes strings ns = tokens (joined (branches strings ns))
 
--- a node's begin and its properties
-abbrev pub front_of : List ℕ → Node → List Token
-front_of strings n = begin_node (out-Node n).name.items ∷ tokens_of_entries strings (out-Node n).properties.items
-
 -- these are the lengths of blocks that are not too long
 pub record AreLengths (l : Lengths) (reserve structure strings : ℕ) : Type 0 where
   pub reserve_is : l.reserve ≡ reserve

@@ -1,10 +1,11 @@
 -- What bytes spell, and why others are refused.
-use Rattle.std.specs.Prelude.{◌≡◌, ℕ, List, Result, Ok, Option, Some}
+use Rattle.std.specs.Prelude.{◌≡◌, ◌⊎◌, ℕ, List, Result, Ok, Option, Some}
 use Rattle.std.specs.Result.{result_err}
 use Rattle.fdt_tree.specs.declared.fault.FdtFault.{FdtFault}
+use Rattle.fdt_tree.specs.declared.fault.FdtFault.TheVariants.{NoMemory}
 use Rattle.fdt_tree.specs.declared.header.Header.{Header}
 use Rattle.fdt_tree.specs.declared.tree.Reservation.{Reservation}
-use Rattle.fdt_tree.specs.Steps.{◌>>=◌, MemoryOr}
+use Rattle.refusal.specs.Answer.{◌>>=◌}
 use Rattle.fdt_tree.specs.Devicetree.{Devicetree, Token, root_tokens}
 use Rattle.fdt_tree.specs.Blocks.{HasHeader, reserve_block, structure_block, strings_block, header_at}
 use Rattle.fdt_tree.specs.Reservations.{SpellsReservations, reservations_at}
@@ -40,6 +41,6 @@ parts_at bytes = do
 abbrev pub refusal_of : List ℕ → Option FdtFault
 refusal_of bytes = result_err (parts_at bytes)
 
--- an error is the refusal, or memory was refused
+-- an error is `NoMemory`, or the refusal
 abbrev pub IsRefusal : FdtFault → Option FdtFault → Type 0
-IsRefusal e refusal = MemoryOr e (Unit {0}) (refusal ≡ Some e)
+IsRefusal e refusal = (e ≡ NoMemory) ⊎ (refusal ≡ Some e)

@@ -4,7 +4,7 @@ use Rattle.std.specs.Int.{w64, to_be_bytes, from_be_bytes}
 use Rattle.fdt_tree.specs.declared.fault.FdtFault.{FdtFault}
 use Rattle.fdt_tree.specs.declared.fault.FdtFault.TheVariants.{BadReserve}
 use Rattle.fdt_tree.specs.declared.tree.Reservation.{Reservation}
-use Rattle.fdt_tree.specs.Steps.{◌>>=◌}
+use Rattle.refusal.specs.Answer.{◌>>=◌}
 
 -- two numbers of 64 bits, of which one at least is no zero
 abbrev pub IsReservation : Reservation → Type 0

@@ -4,7 +4,7 @@ use Rattle.std.specs.Prelude.{ℕ, List, [], ◌∷◌, Result, Ok}
 use Rattle.fdt_tree.specs.declared.fault.FdtFault.{FdtFault}
 use Rattle.fdt_tree.specs.Devicetree.{Entry, Nodes, none, node, Token, begin_node, property, end_node, Root, Devicetree}
 use Rattle.fdt_tree.specs.Reading.{Parts, parts_at}
-use Rattle.fdt_tree.specs.Steps.{◌>>=◌}
+use Rattle.refusal.specs.Answer.{◌>>=◌}
 
 -- what tokens say of a node that began in front of them: its properties, and its children
 pub record Behind : Type 0 where

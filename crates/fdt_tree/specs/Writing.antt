@@ -1,8 +1,10 @@
 -- The bytes that are written: Devicetree Specification 0.4, chapter 5. The order of the blocks and of the
 -- names is this project's choice.
-use Rattle.std.specs.Prelude.{ℕ, ◌+◌, ◌-◌, ◌%◌, List, [], ◌∷◌, ◌++◌, length, Bool, true, false, replicate, if◌then◌else◌}
+use Rattle.std.specs.Prelude.{ℕ, ◌+◌, ◌-◌, ◌%◌, List, [], ◌∷◌, ◌++◌, length, Bool, true, false, Result, Ok, Err, nat_lt, replicate, if◌then◌else◌}
 use Rattle.std.specs.Int.{w32, to_be_bytes}
 use Rattle.std.specs.Str.{bytes_eq}
+use Rattle.fdt_tree.specs.declared.fault.FdtFault.{FdtFault}
+use Rattle.fdt_tree.specs.declared.fault.FdtFault.TheVariants.{TooLarge}
 use Rattle.fdt_tree.specs.declared.tree.Reservation.{Reservation}
 use Rattle.fdt_tree.specs.Devicetree.{Token, begin_node, property, end_node, nop, finish, Devicetree, root_tokens}
 use Rattle.fdt_tree.specs.Reservations.{pair_text}
@@ -82,10 +84,15 @@ abbrev pub header_text : ℕ → ℕ → ℕ → ℕ → List ℕ
 header_text reserve structure strings boot_cpu = places_text reserve structure strings ++ versions_text structure strings boot_cpu
 
 -- the header, the reservations, the structure block and the strings, and nothing between or behind them
-abbrev pub file_of : ℕ → List ℕ → List ℕ → List ℕ → List ℕ
-file_of boot_cpu reserve structure strings =
+abbrev pub file_text : ℕ → List ℕ → List ℕ → List ℕ → List ℕ
+file_text boot_cpu reserve structure strings =
     header_text (length reserve) (length structure) (length strings) boot_cpu ++ (reserve ++ (structure ++ strings))
 
 abbrev pub written : Devicetree → List ℕ
 written t =
-    file_of t.boot_cpu (reservations_text t.reservations) (structure_text t) (strings_text (names_after [] (root_tokens t.root)))
+    file_text t.boot_cpu (reservations_text t.reservations) (structure_text t) (strings_text (names_after [] (root_tokens t.root)))
+
+-- what is written of a tree, unless it is more than a file may have (Linux, booting.rst, "Setup the device
+-- tree": 2 MiB)
+abbrev pub file_of : Devicetree → Result (List ℕ) FdtFault
+file_of t = if nat_lt 2097152 (length (written t)) then Err TooLarge else Ok (written t)

@@ -3,6 +3,7 @@
 ghost use Rattle.std.specs.Prelude.{◌≡◌};
 ghost use Rattle.fdt_tree.specs.declared.fault.FdtFault.TheVariants.{NoMemory};
 
+use refusal::NoMemory;
 use std::alloc::{AllocError, AllocFailed};
 
 /// Why a devicetree cannot be read, changed or written.
@@ -36,10 +37,34 @@ pub enum FdtFault {
     NoMemory,
 }
 
+impl FdtFault {
+    ghost use Rattle.std.specs.Prelude.{◌≡◌};
+    ghost use Rattle.fdt_tree.specs.Faults.{own_fault};
+
+    /// The devicetree's own fault; or `NoMemory`, where memory was refused. A caller that reports both
+    /// keeps them apart by this.
+    pub fn own_fault(self) -> Result<FdtFault, NoMemory>
+        ensures { result ≡ own_fault self }
+    {
+        match self {
+            FdtFault::NoMemory => Err(NoMemory),
+            fault => Ok(fault),
+        }
+    }
+}
+
+impl From<NoMemory> for FdtFault {
+    ghost from_gives = { λ _ e. e ≡ NoMemory };
+
+    fn from(_error: NoMemory) -> FdtFault {
+        FdtFault::NoMemory
+    }
+}
+
 impl From<AllocError> for FdtFault {
     ghost from_gives = { λ _ e. e ≡ NoMemory };
 
-    fn from(_e: AllocError) -> FdtFault {
+    fn from(_error: AllocError) -> FdtFault {
         FdtFault::NoMemory
     }
 }
@@ -47,7 +72,7 @@ impl From<AllocError> for FdtFault {
 impl<T: Drop> From<AllocFailed<T>> for FdtFault {
     ghost from_gives = { λ _ e. e ≡ NoMemory };
 
-    fn from(_e: AllocFailed<T>) -> FdtFault {
+    fn from(_error: AllocFailed<T>) -> FdtFault {
         FdtFault::NoMemory
     }
 }

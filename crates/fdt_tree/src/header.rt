@@ -1,7 +1,7 @@
 //! The header: what a flattened devicetree says of itself.
 
 ghost use Rattle.std.specs.Prelude.{◌≡◌, ◌+◌, ◌≤◌, length, nat_le, IfOk};
-ghost use Rattle.fdt_tree.specs.Steps.{Matches};
+ghost use Rattle.refusal.specs.Answer.{Matches};
 ghost use Rattle.fdt_tree.specs.Blocks.{BlocksFit, word_at, header_of, blocks_fit, is_known_version, header_at, reserve_block, structure_block, strings_block};
 
 use crate::fault::FdtFault;

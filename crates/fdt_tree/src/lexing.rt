@@ -3,7 +3,7 @@
 ghost use Rattle.std.specs.Prelude.{◌≡◌, ◌<◌, ◌≤◌, ℕ, List, length, IfOk, IfSome};
 ghost use Rattle.fdt_tree.specs.Devicetree.{begin_node};
 ghost use Rattle.fdt_tree.specs.Names.{legal, all_letters};
-ghost use Rattle.fdt_tree.specs.Steps.{Matches};
+ghost use Rattle.refusal.specs.Answer.{Matches};
 ghost use Rattle.fdt_tree.specs.LexemeViews.{token_of_lexeme, FitsPlace};
 ghost use Rattle.fdt_tree.specs.Scanning.{number_at, padded_at, string_at, until_zero, begin_at, property_at, kind_at, token_at};
 

@@ -4,7 +4,7 @@ ghost use Rattle.std.specs.Prelude.{◌≡◌, ◌<◌, ◌++◌, length, option
 ghost use Rattle.std.specs.List.{position_from};
 ghost use Rattle.fdt_tree.specs.declared.node.Node.TheViews.{out-Node};
 ghost use Rattle.fdt_tree.specs.NodeViews.{branch};
-ghost use Rattle.fdt_tree.specs.Steps.{Matches};
+ghost use Rattle.refusal.specs.Answer.{Matches};
 ghost use Rattle.fdt_tree.specs.Memory.{cells_or, cells_said, in_cells, reg_value, names_memory, new_memory, memory_put};
 ghost use Rattle.fdt_tree.specs.MemoryViews.{cells_text};
 

@@ -2,7 +2,7 @@
 
 ghost use Rattle.std.specs.Prelude.{◌≡◌, [], List, ℕ, Ok, Err, IfOk, IfErr, length};
 ghost use Rattle.fdt_tree.specs.Devicetree.{Devicetree};
-ghost use Rattle.fdt_tree.specs.Steps.{Gives};
+ghost use Rattle.refusal.specs.Answer.{Answers};
 ghost use Rattle.fdt_tree.specs.NodeViews.{branch};
 ghost use Rattle.fdt_tree.specs.Wholeness.{tree_in};
 ghost use Rattle.fdt_tree.specs.Trees.{devicetree_of};
@@ -19,7 +19,7 @@ use std::alloc::Global;
 
 #[tactic(auto, unfolding(crate::specs::Reading::parts_at))]
 fn contents_of(alloc: Global, bytes: &[u8]) -> Result<Contents, FdtFault>
-    ensures exact { Gives (λ c. parts_of (tree_in c)) result (parts_at bytes.now) }
+    ensures exact { Answers FdtFault.NoMemory (λ c. parts_of (tree_in c)) result (parts_at bytes.now) }
     ensures unnamed { IfOk result (λ c. (branch c.strings.items c.root).name ≡ []) }
 {
     let header = header_in(bytes)?;
@@ -45,11 +45,11 @@ pub fn read(alloc: Global, bytes: &[u8]) -> Result<Tree, FdtFault>
     // What is read is spelled so.
     ensures found { IfOk result (λ t. Spells bytes.now (devicetree_of t)) }
     // What is spelled so is read, unless memory is refused.
-    ensures only { (t : Devicetree) → Spells bytes.now t → Gives devicetree_of result (Ok t) }
+    ensures only { (t : Devicetree) → Spells bytes.now t → Answers FdtFault.NoMemory devicetree_of result (Ok t) }
     // Which fault it is.
     ensures refused { IfErr result (λ e. IsRefusal e (refusal_of bytes.now)) }
     // The same, by the function that other definitions go on from.
-    ensures exact { Gives devicetree_of result (tree_at bytes.now) }
+    ensures exact { Answers FdtFault.NoMemory devicetree_of result (tree_at bytes.now) }
 {
     let contents = contents_of(alloc, bytes)?;
     Ok(Tree::of(contents))

@@ -2,7 +2,7 @@
 
 ghost use Rattle.std.specs.Prelude.{◌≡◌, length};
 ghost use Rattle.std.specs.Int.{w64, from_be_bytes};
-ghost use Rattle.fdt_tree.specs.Steps.{Matches, Gives};
+ghost use Rattle.refusal.specs.Answer.{Answers, Matches};
 ghost use Rattle.fdt_tree.specs.Reservations.{pair_at, is_end, reservations_at};
 
 use crate::fault::FdtFault;
@@ -38,7 +38,7 @@ fn is_end(pair: Reservation) -> bool
 
 /// The reservations in front of a block.
 pub fn reservations_in(alloc: Global, block: &[u8]) -> Result<Vec<Reservation>, FdtFault>
-    ensures { Gives (λ v. v.items) result (reservations_at block.now) }
+    ensures { Answers FdtFault.NoMemory (λ v. v.items) result (reservations_at block.now) }
 {
     let mut reservations = Vec::new(alloc);
     let mut rest = block;

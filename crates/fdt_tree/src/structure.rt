@@ -3,7 +3,7 @@
 ghost use Rattle.std.specs.Prelude.{◌≡◌, ◌++◌, ◌∷◌, [], ℕ, List, length, IfOk};
 ghost use Rattle.fdt_tree.specs.Devicetree.{begin_node, root_tokens};
 ghost use Rattle.fdt_tree.specs.NodeViews.{branch, entry_of, root_of};
-ghost use Rattle.fdt_tree.specs.Steps.{Gives, with_front};
+ghost use Rattle.refusal.specs.Answer.{Answers, with_front};
 ghost use Rattle.fdt_tree.specs.LexemeViews.{token_of_lexeme, FitsPlace};
 ghost use Rattle.fdt_tree.specs.Scanning.{structure_at, start, after};
 ghost use Rattle.fdt_tree.specs.OpenNodes.{so_far, place_of, added, bare, with_entry, with_kid};
@@ -134,7 +134,7 @@ fn place_in(nodes: &OpenNodes) -> Place
 /// The open nodes where END stands: the outermost, with the root in it.
 fn run(alloc: Global, strings: &Strings, block: &[u8]) -> Result<OpenNodes, FdtFault>
     ensures outermost { IfOk result (λ p. length p.outer.items ≡ 0) }
-    ensures exact { Gives (λ p. so_far strings.now.bytes.items p) result
+    ensures exact { Answers FdtFault.NoMemory (λ p. so_far strings.now.bytes.items p) result
         (with_front (begin_node [] ∷ []) (structure_at strings.now.bytes.items block.now)) }
 {
     let mut nodes = no_node_open(alloc);
@@ -153,7 +153,7 @@ fn run(alloc: Global, strings: &Strings, block: &[u8]) -> Result<OpenNodes, FdtF
 
 /// The root alone.
 pub fn root_in(alloc: Global, strings: &Strings, block: &[u8]) -> Result<Node, FdtFault>
-    ensures exact { Gives (λ n. root_tokens (root_of strings.now.bytes.items n)) result
+    ensures exact { Answers FdtFault.NoMemory (λ n. root_tokens (root_of strings.now.bytes.items n)) result
         (structure_at strings.now.bytes.items block.now) }
     ensures unnamed { IfOk result (λ n. (branch strings.now.bytes.items n).name ≡ []) }
 {

@@ -39,12 +39,12 @@ pub struct Tree {
 }
 
 impl Tree {
-    ghost use Rattle.std.specs.Prelude.{option_map, ℕ, List, ◌++◌, Ok, IfErr, IfOk, OnOk, OnErr, length, ◌≤◌};
+    ghost use Rattle.std.specs.Prelude.{option_map, ℕ, List, ◌++◌, IfOk, length, ◌≤◌};
+    ghost use Rattle.refusal.specs.Answer.{Answers, Applies};
     ghost use Rattle.fdt_tree.specs.Reading.{Spells};
-    ghost use Rattle.fdt_tree.specs.Writing.{written};
-    ghost use Rattle.fdt_tree.specs.NameTables.{TooMuch};
+    ghost use Rattle.fdt_tree.specs.Writing.{file_of};
     ghost use Rattle.fdt_tree.specs.Memory.{set_memory_at};
-    ghost use Rattle.fdt_tree.specs.Edits.{set_at, Refuses};
+    ghost use Rattle.fdt_tree.specs.Edits.{set_at};
     ghost use Rattle.fdt_tree.specs.Devicetree.{branch_of_root};
     ghost use Rattle.fdt_tree.specs.Trees.{devicetree_of, strings_of};
     ghost use Rattle.fdt_tree.specs.Lookup.{value_at};
@@ -112,11 +112,8 @@ impl Tree {
         name: &[u8],
         value: &[u8],
     ) -> Result<(), FdtFault>
-        ensures done { OnOk result (set_at path.now name.now value.now (devicetree_of self.old)
-            ≡ Ok (devicetree_of self.new)) }
-        ensures refused { IfErr result (λ e. Refuses e
-            (set_at path.now name.now value.now (devicetree_of self.old))) }
-        ensures unchanged { OnErr result (devicetree_of self.new ≡ devicetree_of self.old) }
+        ensures { Applies FdtFault.NoMemory (devicetree_of self.old) (devicetree_of self.new) result
+            (set_at path.now name.now value.now (devicetree_of self.old)) }
     {
         let way = way_of(path)?;
         check_names(way, name)?;
@@ -133,11 +130,8 @@ impl Tree {
     /// cells of 4 bytes each number has. `BadCells`: one of them is not 4 bytes that say 1 or 2, or a
     /// number does not fit. Then memory may be refused. The tree stays as it was after each.
     pub fn set_memory(&mut self, alloc: Global, base: u64, size: u64) -> Result<(), FdtFault>
-        ensures done { OnOk result (set_memory_at base size (devicetree_of self.old)
-            ≡ Ok (devicetree_of self.new)) }
-        ensures refused { IfErr result (λ e. Refuses e
-            (set_memory_at base size (devicetree_of self.old))) }
-        ensures unchanged { OnErr result (devicetree_of self.new ≡ devicetree_of self.old) }
+        ensures { Applies FdtFault.NoMemory (devicetree_of self.old) (devicetree_of self.new) result
+            (set_memory_at base size (devicetree_of self.old)) }
     {
         let Contents { strings, root, .. } = &self.contents;
         let reg = reg_of(strings, root, base, size)?;
@@ -153,12 +147,11 @@ impl Tree {
     ///
     /// `TooLarge`: the file would have more than 2,097,152 bytes. Else only memory may be refused.
     pub fn write(&self, alloc: Global) -> Result<Vec<u8>, FdtFault>
-        ensures done { IfOk result (λ v. v.items ≡ written (devicetree_of self.now)) }
+        ensures exact { Answers FdtFault.NoMemory (λ v. v.items) result (file_of (devicetree_of self.now)) }
         // The bytes spell this tree again, whatever follows them.
         ensures again { IfOk result (λ v. (z : List ℕ) → length (v.items ++ z) ≤ 2097152
             → Spells (v.items ++ z) (devicetree_of self.now)) }
         ensures within { IfOk result (λ v. length v.items ≤ 2097152) }
-        ensures refused { IfErr result (λ e. TooMuch e (length (written (devicetree_of self.now)))) }
     {
         written(alloc, &self.contents)
     }

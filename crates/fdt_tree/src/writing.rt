@@ -5,7 +5,7 @@ ghost use Rattle.std.specs.Int.{w32, w64, to_be_bytes};
 ghost use Rattle.fdt_tree.specs.Devicetree.{property, begin_node, end_node};
 ghost use Rattle.fdt_tree.specs.NodeViews.{entry_of, branch};
 ghost use Rattle.fdt_tree.specs.Reservations.{pair_text};
-ghost use Rattle.fdt_tree.specs.Writing.{zeros_behind, begin_text, property_text, text_after, names_after, strings_text, reservations_text, places_text, versions_text, file_of, written};
+ghost use Rattle.fdt_tree.specs.Writing.{zeros_behind, begin_text, property_text, text_after, names_after, strings_text, reservations_text, places_text, versions_text, file_text, written};
 ghost use Rattle.fdt_tree.specs.NameTables.{HasNames, TooMuch};
 ghost use Rattle.fdt_tree.specs.Wholeness.{IsWhole, tree_in};
 ghost use Rattle.fdt_tree.specs.Reading.{Spells};
@@ -246,10 +246,10 @@ fn assembled(
     reservations: &[Reservation],
     out: &Output,
 ) -> Result<Vec<u8>, FdtFault>
-    ensures done { IfOk result (λ v. v.items ≡ file_of boot_cpu (reservations_text reservations.now)
+    ensures done { IfOk result (λ v. v.items ≡ file_text boot_cpu (reservations_text reservations.now)
         out.now.structure.items out.now.names.strings.items) }
     ensures within { IfOk result (λ v. length v.items ≤ 2097152) }
-    ensures refused { IfErr result (λ e. TooMuch e (length (file_of boot_cpu
+    ensures refused { IfErr result (λ e. TooMuch e (length (file_text boot_cpu
         (reservations_text reservations.now) out.now.structure.items out.now.names.strings.items))) }
 {
     let lengths = lengths_of(reservations, out)?;

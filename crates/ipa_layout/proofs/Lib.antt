@@ -5,3 +5,6 @@ pub mod Sequences
 pub mod Conditions
 pub mod Rows
 pub mod Marks
+pub mod Defaults
+pub mod PlacedRows
+pub mod PlacedFacts

@@ -10,7 +10,7 @@ use Rattle.std.proofs.lemmas.List.Sums.{count_by_more_yes, count_by_more_no, sum
 use Rattle.ipa_layout.specs.declared.step.Step.{Step}
 use Rattle.ipa_layout.specs.declared.ranges.Part.{Part}
 use Rattle.ipa_layout.specs.Steps.{number_of, is_number, names, times, each_once}
-use Rattle.ipa_layout.specs.StepMarks.{AreMarks}
+use Rattle.ipa_layout.specs.StepViews.{AreMarks}
 
 count_in : {X : Type 0} (t : X → Bool) (n : ℕ) (xs : List X) → count_by t (take n xs) ≤ count_by t xs
 count_in t n xs = omega (arith, ap (count_by t) (sym (take-append-drop n xs)), sum_by-append (λ x. cond (t x) 1 0) (take n xs) (drop n xs))

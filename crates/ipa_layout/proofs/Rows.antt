@@ -1,8 +1,7 @@
 -- Items that stand one behind another.
 use Rattle.std.proofs.Common.{◌≡◌, ℕ, ◌+◌, ◌<◌, List, [], ◌∷◌, ◌++◌, length, get_or, drop, Option, Result, Ok, Err, refl, sym, ap, ◌∙◌, append_assoc}
 use Rattle.fdt_tree.specs.declared.fault.FdtFault.{FdtFault}
-use Rattle.fdt_tree.specs.Steps.{◌>>=◌}
-use Rattle.fdt_tree.specs.Steps.{with_front}
+use Rattle.refusal.specs.Answer.{◌>>=◌, with_front}
 use Rattle.ipa_layout.specs.declared.item.Item.{Item}
 use Rattle.ipa_layout.specs.declared.item.Region.{Region}
 use Rattle.ipa_layout.specs.declared.standing.Standing.{Standing}
@@ -10,8 +9,7 @@ use Rattle.ipa_layout.specs.declared.fault.LayoutFault.{LayoutFault}
 use Rattle.ipa_layout.specs.Standings.{page_count_of}
 use Rattle.ipa_layout.specs.Placing.{placed_of}
 use Rattle.std.proofs.lemmas.List.{drop_more}
-use Rattle.ipa_layout.specs.declared.fault.LayoutFault.TheVariants as fault
-use Rattle.ipa_layout.specs.Placements.{Gives, bytes_of, stand_all}
+use Rattle.ipa_layout.specs.Placements.{bytes_of, stand_all}
 
 pub with_none : {X E : Type 0} (r : Result (List X) E) → with_front [] r ≡ r
 with_none (Ok xs) = refl
@@ -38,15 +36,3 @@ module _ (ram : List Region) (edited : Result (Option (List ℕ)) FdtFault) (fil
 -- the items from this one on
 pub next_item : (items : List Item) (k : ℕ) (i : Item) → k < length items → i ≡ get_or items k i → drop k items ≡ i ∷ drop (k + 1) items
 next_item items k i lt is = drop_more items k i lt ∙ ap (λ (j : Item). j ∷ drop (k + 1) items) (sym is)
-
--- a fault that is wanted is given
-pub gives_fault : {X Y : Type 0} (view : X → Y) (e : LayoutFault) (wanted : Result Y LayoutFault) → wanted ≡ Err e → (let r : Result X LayoutFault = Err e in Gives view r wanted)
-gives_fault view (fault.Kernel f) wanted h = h
-gives_fault view (fault.Dtb f) wanted h = h
-gives_fault view fault.Unaligned wanted h = h
-gives_fault view fault.KernelBase wanted h = h
-gives_fault view fault.OutsideRam wanted h = h
-gives_fault view fault.Overlap wanted h = h
-gives_fault view fault.InitrdWindow wanted h = h
-gives_fault view fault.Size wanted h = h
-gives_fault view fault.NoMemory wanted h = tt

@@ -1,16 +1,15 @@
 -- What a devicetree is told before it is placed. The node /chosen and its property bootargs: Devicetree
 -- Specification 0.4, section 3.6; its properties on the initrd are those that Linux reads. The order of
 -- the changes is this project's choice.
-use Rattle.std.specs.Prelude.{ℕ, ◌-◌, List, [], ◌∷◌, ◌++◌, length, Option, Some, None, Result, Ok, Err, nat_lt, codes, if◌then◌else◌}
+use Rattle.std.specs.Prelude.{ℕ, ◌-◌, List, [], ◌∷◌, ◌++◌, Option, Some, None, Result, Ok, codes}
 use Rattle.std.specs.Int.{w64, to_be_bytes}
+use Rattle.refusal.specs.Answer.{◌>>=◌}
 use Rattle.fdt_tree.specs.declared.fault.FdtFault.{FdtFault}
-use Rattle.fdt_tree.specs.declared.fault.FdtFault.TheVariants.{TooLarge}
 use Rattle.fdt_tree.specs.Devicetree.{Devicetree}
-use Rattle.fdt_tree.specs.Steps.{◌>>=◌}
 use Rattle.fdt_tree.specs.TreeAt.{tree_at}
 use Rattle.fdt_tree.specs.Edits.{set_at}
 use Rattle.fdt_tree.specs.Memory.{set_memory_at}
-use Rattle.fdt_tree.specs.Writing.{written}
+use Rattle.fdt_tree.specs.Writing.{file_of}
 use Rattle.ipa_layout.specs.declared.item.Region.{Region}
 
 -- what it is told, if anything: the command line, the addresses of the initrd's bytes, and the first
@@ -49,10 +48,6 @@ changed c t = do
   commanded ← with_bootargs c.bootargs t
   started ← with_initrd c.initrd commanded
   with_memory c.memory started
-
--- what is written of a tree, unless it is more than a devicetree may have
-abbrev pub file_of : Devicetree → Result (List ℕ) FdtFault
-file_of t = if nat_lt 2097152 (length (written t)) then Err TooLarge else Ok (written t)
 
 -- the bytes of a devicetree that was changed, or why it cannot be: reading, changing, writing
 unfoldable pub edited : Told → List ℕ → Result (List ℕ) FdtFault

@@ -18,6 +18,10 @@ abbrev pub is_dtb : Kind → Bool
 is_dtb (Dtb file edits) = true
 is_dtb _ = false
 
+abbrev pub is_raw : Kind → Bool
+is_raw (Raw file) = true
+is_raw _ = false
+
 -- the file that its bytes come from
 abbrev pub file_of : Kind → ℕ
 file_of (Kernel file) = file

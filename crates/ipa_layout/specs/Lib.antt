@@ -3,7 +3,7 @@ pub mod Recs
 pub mod Ranges
 pub mod Kinds
 pub mod Steps
-pub mod StepMarks
+pub mod StepViews
 pub mod LaunchData
 pub mod Standings
 pub mod Memory
@@ -13,3 +13,4 @@ pub mod Changes
 pub mod ChangeViews
 pub mod Placements
 pub mod PlacementViews
+pub mod PlacedFacts

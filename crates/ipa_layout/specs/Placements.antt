@@ -1,11 +1,11 @@
 -- Where the items of a launch stand and with which bytes, or the first reason why they cannot. The order
 -- is this project's choice: each item's own reasons, item by item, then those of all items together.
-use Rattle.std.specs.Prelude.{◌≡◌, ℕ, ◌+◌, List, [], ◌∷◌, length, map, get_or, Option, Some, None, option_map, unwrap_or, Result, Ok, Err, Bool, nat_lt, if◌then◌else◌}
+use Rattle.std.specs.Prelude.{◌≡◌, ℕ, ◌+◌, List, [], ◌∷◌, length, map, get_or, Option, Some, None, option_map, unwrap_or, Result, Ok, Err, Bool, true, nat_lt, ◌==◌, if◌then◌else◌}
 use Rattle.std.specs.List.{find, list_all, position_from, slice_get, enumerate_from, zip}
 use Rattle.std.specs.Option.{option_and_then}
 use Rattle.std.specs.Result.{result_unwrap_or}
+use Rattle.refusal.specs.Answer.{◌>>=◌}
 use Rattle.fdt_tree.specs.declared.fault.FdtFault.{FdtFault}
-use Rattle.fdt_tree.specs.Steps.{◌>>=◌}
 use Rattle.ipa_layout.specs.declared.item.Kind.{Kind}
 use Rattle.ipa_layout.specs.declared.item.Kind.TheVariants.{Dtb}
 use Rattle.ipa_layout.specs.declared.item.Item.{Item}
@@ -110,6 +110,8 @@ abbrev pub recs_at : ℕ → ℕ → List Rec → List PlacedRec
 recs_at kernel dtb recs = map (λ r. rec_of r.0 kernel dtb r.1) (enumerate_from 0 recs)
 
 pub record PlacedData : Type 0 where
+  -- the launch's number in the release
+  pub number : ℕ
   pub items : List PlacedItem
   pub recs : List PlacedRec
   -- the bytes of the changed devicetree
@@ -117,6 +119,7 @@ pub record PlacedData : Type 0 where
 
 abbrev pub placed_at : LaunchData → Option (List ℕ) → List Standing → PlacedData
 placed_at l edited standings = record {
+  number = l.number;
   items = items_at l.number l.items standings;
   recs = recs_at (address_of (standing_of is_kernel l.items standings)) (address_of (standing_of is_dtb l.items standings)) l.recs;
   edited = edited;
@@ -132,13 +135,13 @@ places l files = do
   _ ← apart l.items standings
   Ok (placed_at l (result_unwrap_or (edited_dtb l files) None) standings)
 
--- the bytes of a placed item's contents
+-- The launch is placed so with these files, of which it names no other. What is planned and measured of a
+-- placed launch goes on from this.
+pub record IsPlaced (l : LaunchData) (files : List (List ℕ)) (p : PlacedData) : Type 0 where
+  pub there : has_files l (length files) ≡ true
+  pub placed : places l files ≡ Ok p
+
+-- the bytes that a placed launch has from a source: a file, or the devicetree that this launch changed
 abbrev pub contents_of : List (List ℕ) → PlacedData → Source → List ℕ
 contents_of files p (File n) = get_or files n []
-contents_of files p (Edited launch) = unwrap_or p.edited []
-
--- What a function returned is what is wanted, unless memory was refused.
-abbrev pub Gives : {X Y : Type 0} → (X → Y) → Result X LayoutFault → Result Y LayoutFault → Type 0
-Gives view (Ok x) wanted = wanted ≡ Ok (view x)
-Gives view (Err fault.NoMemory) wanted = Unit {0}
-Gives view (Err e) wanted = wanted ≡ Err e
+contents_of files p (Edited launch) = if launch == p.number then unwrap_or p.edited [] else []

@@ -1,8 +1,11 @@
 -- The steps of a launch: each region, each item and each REC has one. This project's choice.
-use Rattle.std.specs.Prelude.{ℕ, List, Bool, ◌&&◌, ◌==◌, nat_lt, count_by, false, Option, Some, None}
-use Rattle.std.specs.List.{list_all, range_with_len}
+use Rattle.std.specs.Prelude.{ℕ, List, Bool, ◌&&◌, ◌==◌, ◌++◌, nat_lt, count_by, filter, map, false, Option, Some, None}
+use Rattle.std.specs.List.{enumerate_from, list_all, range_with_len}
+use Rattle.ipa_layout.specs.declared.item.Kind.{Kind}
+use Rattle.ipa_layout.specs.declared.item.Item.{Item}
 use Rattle.ipa_layout.specs.declared.step.Step.{Step}
 use Rattle.ipa_layout.specs.declared.step.Step.TheVariants as step
+use Rattle.ipa_layout.specs.Kinds.{is_kernel, is_initrd, is_dtb, is_raw}
 use Rattle.ipa_layout.specs.declared.ranges.Part.{Part}
 use Rattle.ipa_layout.specs.declared.ranges.Part.TheVariants as part
 
@@ -39,3 +42,15 @@ each_once p steps n = list_all (λ k. times p k steps == 1) (range_with_len 0 n)
 abbrev pub steps_complete : ℕ → ℕ → ℕ → List Step → Bool
 steps_complete regions items recs steps = list_all (names_something regions items recs) steps
     && each_once part.Ram steps regions && each_once part.Item steps items && each_once part.Rec steps recs
+
+-- ---- the steps of a launch that names none
+
+-- a step for each item of a kind, in their order
+abbrev pub item_steps : (Kind → Bool) → List Item → List Step
+item_steps test items = map (λ p. step.Item p.0) (filter (λ p. test p.1.kind) (enumerate_from 0 items))
+
+-- the regions, the kernel, the initrd, the devicetree, the other items, the RECs
+unfoldable pub default_steps : ℕ → List Item → ℕ → List Step
+default_steps regions items recs =
+    map step.Ram (range_with_len 0 regions) ++ item_steps is_kernel items ++ item_steps is_initrd items
+    ++ item_steps is_dtb items ++ item_steps is_raw items ++ map step.Rec (range_with_len 0 recs)

@@ -1,9 +1,9 @@
 //! A devicetree that is told how its realm is booted, before it is placed.
 ghost use Rattle.std.specs.Prelude.{◌≡◌, option_map};
 ghost use Rattle.std.specs.Int.{w64, to_be_bytes};
-ghost use Rattle.fdt_tree.specs.Steps.{Gives};
+ghost use Rattle.refusal.specs.Answer.{Answers};
 ghost use Rattle.fdt_tree.specs.Trees.{devicetree_of};
-ghost use Rattle.ipa_layout.specs.Changes.{changed, chosen, edited, file_of, with_bootargs, with_initrd, with_memory};
+ghost use Rattle.ipa_layout.specs.Changes.{changed, chosen, edited, with_bootargs, with_initrd, with_memory};
 ghost use Rattle.ipa_layout.specs.ChangeViews.{told};
 
 use crate::item::{Bootargs, Region};
@@ -12,7 +12,7 @@ use std::alloc::Global;
 
 /// Puts a property into `/chosen`.
 fn put_chosen(alloc: Global, tree: &mut Tree, name: &[u8], value: &[u8]) -> Result<(), FdtFault>
-    ensures { Gives (λ u. devicetree_of tree.new) result
+    ensures { Answers FdtFault.NoMemory (λ u. devicetree_of tree.new) result
         (chosen name.now value.now (devicetree_of tree.old)) }
 {
     tree.set(alloc, b"/chosen", name, value)
@@ -20,7 +20,7 @@ fn put_chosen(alloc: Global, tree: &mut Tree, name: &[u8], value: &[u8]) -> Resu
 
 /// Puts the command line, where there is one.
 fn put_bootargs(alloc: Global, tree: &mut Tree, bootargs: Option<&Bootargs>) -> Result<(), FdtFault>
-    ensures { Gives (λ u. devicetree_of tree.new) result
+    ensures { Answers FdtFault.NoMemory (λ u. devicetree_of tree.new) result
         (with_bootargs (option_map (λ b. b.now) bootargs.entry) (devicetree_of tree.old)) }
 {
     let Some(bootargs) = bootargs else {
@@ -33,7 +33,7 @@ fn put_bootargs(alloc: Global, tree: &mut Tree, bootargs: Option<&Bootargs>) -> 
 
 /// Puts an address into a property of `/chosen`, as 8 bytes.
 fn put_address(alloc: Global, tree: &mut Tree, name: &[u8], address: u64) -> Result<(), FdtFault>
-    ensures { Gives (λ u. devicetree_of tree.new) result
+    ensures { Answers FdtFault.NoMemory (λ u. devicetree_of tree.new) result
         (chosen name.now (to_be_bytes w64 address) (devicetree_of tree.old)) }
 {
     put_chosen(alloc, tree, name, &address.to_be_bytes())
@@ -41,7 +41,7 @@ fn put_address(alloc: Global, tree: &mut Tree, name: &[u8], address: u64) -> Res
 
 /// Puts the addresses of the initrd's first byte and of the first behind it, where there is one.
 fn put_initrd(alloc: Global, tree: &mut Tree, initrd: Option<Region>) -> Result<(), FdtFault>
-    ensures { Gives (λ u. devicetree_of tree.new) result
+    ensures { Answers FdtFault.NoMemory (λ u. devicetree_of tree.new) result
         (with_initrd initrd (devicetree_of tree.old)) }
 {
     let Some(region) = initrd else {
@@ -53,7 +53,7 @@ fn put_initrd(alloc: Global, tree: &mut Tree, initrd: Option<Region>) -> Result<
 
 /// Puts the place of memory, where it is told.
 fn put_memory(alloc: Global, tree: &mut Tree, memory: Option<Region>) -> Result<(), FdtFault>
-    ensures { Gives (λ u. devicetree_of tree.new) result
+    ensures { Answers FdtFault.NoMemory (λ u. devicetree_of tree.new) result
         (with_memory memory (devicetree_of tree.old)) }
 {
     let Some(region) = memory else {
@@ -73,7 +73,7 @@ pub struct Changes<'a> {
 
 /// Puts all three.
 fn put_changes(alloc: Global, tree: &mut Tree, changes: Changes) -> Result<(), FdtFault>
-    ensures { Gives (λ u. devicetree_of tree.new) result
+    ensures { Answers FdtFault.NoMemory (λ u. devicetree_of tree.new) result
         (changed (told changes.entry) (devicetree_of tree.old)) }
 {
     put_bootargs(alloc, tree, changes.bootargs)?;
@@ -81,19 +81,12 @@ fn put_changes(alloc: Global, tree: &mut Tree, changes: Changes) -> Result<(), F
     put_memory(alloc, tree, changes.memory)
 }
 
-/// The bytes of a tree.
-fn write(alloc: Global, tree: &Tree) -> Result<Vec<u8>, FdtFault>
-    ensures { Gives (λ v. v.items) result (file_of (devicetree_of tree.now)) }
-{
-    tree.write(alloc)
-}
-
 /// The bytes of a devicetree that is told these.
 #[tactic(auto, unfolding(crate::specs::Changes::edited))]
 pub fn edited(alloc: Global, bytes: &[u8], changes: Changes) -> Result<Vec<u8>, FdtFault>
-    ensures { Gives (λ v. v.items) result (edited (told changes.entry) bytes.now) }
+    ensures { Answers FdtFault.NoMemory (λ v. v.items) result (edited (told changes.entry) bytes.now) }
 {
     let mut tree = fdt_tree::read(alloc, bytes)?;
     put_changes(alloc, &mut tree, changes)?;
-    write(alloc, &tree)
+    tree.write(alloc)
 }

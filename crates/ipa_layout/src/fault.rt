@@ -4,6 +4,7 @@ ghost use Rattle.ipa_layout.specs.declared.fault.LayoutFault.TheVariants.{Kernel
 
 use arm64_image::ImageFault;
 use fdt_tree::FdtFault;
+use refusal::NoMemory;
 use std::alloc::{AllocError, AllocFailed};
 
 /// Why a launch cannot be laid out.
@@ -37,10 +38,18 @@ impl From<ImageFault> for LayoutFault {
     }
 }
 
+impl From<NoMemory> for LayoutFault {
+    ghost from_gives = { λ _ e. e ≡ NoMemory };
+
+    fn from(_error: NoMemory) -> LayoutFault {
+        LayoutFault::NoMemory
+    }
+}
+
 impl From<AllocError> for LayoutFault {
     ghost from_gives = { λ _ e. e ≡ NoMemory };
 
-    fn from(_e: AllocError) -> LayoutFault {
+    fn from(_error: AllocError) -> LayoutFault {
         LayoutFault::NoMemory
     }
 }
@@ -48,7 +57,7 @@ impl From<AllocError> for LayoutFault {
 impl<T: Drop> From<AllocFailed<T>> for LayoutFault {
     ghost from_gives = { λ _ e. e ≡ NoMemory };
 
-    fn from(_e: AllocFailed<T>) -> LayoutFault {
+    fn from(_error: AllocFailed<T>) -> LayoutFault {
         LayoutFault::NoMemory
     }
 }

@@ -4,9 +4,11 @@
 
 mod changing;
 mod config;
+mod dtb;
 mod fault;
 mod item;
 mod launch;
+mod laws;
 mod meeting;
 mod memory;
 mod placed;
@@ -21,8 +23,11 @@ pub use config::Config;
 pub use fault::LayoutFault;
 pub use item::{Bootargs, Edits, Item, Kind, Region};
 pub use launch::Launch;
+pub use laws::{
+    each_placed_item, pages_are_apart, pages_of_a_placed_launch, parts_of_a_placed_launch,
+};
 pub use placed::{Placed, PlacedItem};
 pub use placement::place;
 pub use rec::{PlacedRec, Rec};
 pub use rim_desc::Source;
-pub use step::Step;
+pub use step::{Step, default_steps};

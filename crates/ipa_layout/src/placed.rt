@@ -21,6 +21,7 @@ pub struct PlacedItem {
 /// A launch that has its place in the realm's address space.
 #[derive(Drop)]
 pub struct Placed {
+    number: usize,
     items: Vec<PlacedItem>,
     recs: Vec<PlacedRec>,
     edited: Option<Vec<u8>>,
@@ -32,7 +33,7 @@ impl Model for Placed {
 
     ghost Value = { PlacedData };
 
-    ghost view = { λ p. record { items = p.items.items; recs = p.recs.items; edited = option_map (λ v. v.items) p.edited } };
+    ghost view = { λ p. record { number = p.number; items = p.items.items; recs = p.recs.items; edited = option_map (λ v. v.items) p.edited } };
 }
 
 impl Placed {
@@ -42,13 +43,15 @@ impl Placed {
 
     /// These parts.
     pub(crate) fn new(
+        number: usize,
         items: Vec<PlacedItem>,
         recs: Vec<PlacedRec>,
         edited: Option<Vec<u8>>,
     ) -> Placed
-        ensures { result ≡ record { items = items.items; recs = recs.items; edited = option_map (λ v. v.items) edited } }
+        ensures { result ≡ record { number = number; items = items.items; recs = recs.items; edited = option_map (λ v. v.items) edited } }
     {
         Placed {
+            number,
             items,
             recs,
             edited,
@@ -79,7 +82,8 @@ impl Placed {
         }
     }
 
-    /// The bytes that come from a source: a file of the release, or the changed devicetree.
+    /// The bytes that come from a source: a file of the release, or the devicetree that this launch
+    /// changed. A source of another launch has none here.
     pub fn bytes<'a>(&'a self, files: &'a [Vec<u8>], source: Source) -> &'a [u8]
         ensures { result.now ≡ contents_of (contents files.now) self.now source }
     {
@@ -88,7 +92,8 @@ impl Placed {
                 Some(bytes) => bytes.as_slice(),
                 None => &[],
             },
-            Source::Edited(_) => self.edited().unwrap_or(&[]),
+            Source::Edited(launch) if launch == self.number => self.edited().unwrap_or(&[]),
+            Source::Edited(_) => &[],
         }
     }
 }

@@ -1,16 +1,17 @@
 //! Where the items of a launch stand and with which bytes, or the first reason why they cannot.
-ghost use Rattle.std.specs.Prelude.{◌≡◌, ◌+◌, ◌^◌, ◌<◌, ◌≤◌, length, true, Ok, IfOk, IfSome, option_map};
+ghost use Rattle.std.specs.Prelude.{◌≡◌, ◌+◌, ◌^◌, ◌<◌, ◌≤◌, length, true, None, Ok, IfOk, IfSome, option_map};
 ghost use Rattle.std.specs.List.{find, position_from, slice_get};
 ghost use Rattle.std.specs.Option.{option_and_then};
-ghost use Rattle.std.specs.Result.{result_map_both};
+ghost use Rattle.refusal.specs.Answer.{Answers, Matches};
 ghost use Rattle.ipa_layout.specs.LaunchData.{is_launch};
 ghost use Rattle.ipa_layout.specs.Kinds.{file_of, has_edits, is_dtb, is_initrd, is_kernel};
 ghost use Rattle.ipa_layout.specs.Standings.{page_count_of};
 ghost use Rattle.ipa_layout.specs.ChangeViews.{told};
-ghost use Rattle.ipa_layout.specs.Placements.{Gives, address_of, apart, bytes_of, edited_dtb, file_bytes, has_files, initrd_region, item_at, items_at, placed_at, places, recs_at, source_of, stand_all, standing_of, told_of};
+ghost use Rattle.ipa_layout.specs.Placements.{address_of, apart, bytes_of, edited_dtb, file_bytes, has_files, initrd_region, item_at, items_at, placed_at, places, recs_at, source_of, stand_all, standing_of, told_of};
 ghost use Rattle.ipa_layout.specs.PlacementViews.{contents, seen};
 
 use crate::changing::{Changes, edited};
+use crate::dtb::Dtb;
 use crate::fault::LayoutFault;
 use crate::item::{Item, Kind, Region};
 use crate::launch::Launch;
@@ -19,7 +20,7 @@ use crate::placed::{Placed, PlacedItem};
 use crate::placing::place_item;
 use crate::rec::{PlacedRec, Rec};
 use crate::standing::{Standing, lead};
-use fdt_tree::FdtFault;
+use refusal::NoMemory;
 use rim_desc::Source;
 use std::alloc::{AllocError, Global};
 
@@ -95,43 +96,32 @@ fn changed_item(launch: &Launch) -> Option<&Item>
     launch.items().iter().find(|item| item.kind.has_edits())
 }
 
-/// The launch's devicetree as it is changed, where it has one to be changed; or why it cannot be. Want of
-/// memory is told apart from these.
-fn edited_dtb(
-    alloc: Global,
-    launch: &Launch,
-    files: &[Vec<u8>],
-) -> Result<Result<Option<Vec<u8>>, FdtFault>, AllocError>
+/// What is placed of the launch's devicetree.
+fn prepare_dtb(alloc: Global, launch: &Launch, files: &[Vec<u8>]) -> Result<Dtb, NoMemory>
     requires { has_files launch.now (length files.now) ≡ true }
-    ensures { IfOk result (λ r. seen r ≡ edited_dtb launch.now (contents files.now)) }
+    ensures exact { IfOk result (λ d. seen d ≡ edited_dtb launch.now (contents files.now)) }
+    // Where no devicetree is changed no memory is taken.
+    ensures as_file { find (λ i. has_edits i.kind) launch.now.items ≡ None → result ≡ Ok Dtb.AsFile }
 {
     let Some(item) = changed_item(launch) else {
-        return Ok(Ok(None));
+        return Ok(Dtb::AsFile);
     };
     let changes = changes_of(launch, files, &item.kind);
-    match edited(alloc, file_bytes(files, &item.kind), changes) {
-        Ok(bytes) => Ok(Ok(Some(bytes))),
-        Err(FdtFault::NoMemory) => Err(AllocError),
-        Err(fault) => Ok(Err(fault)),
-    }
+    Dtb::of(edited(alloc, file_bytes(files, &item.kind), changes))
 }
 
 /// The bytes that are placed: those of an item's file, or the changed devicetree.
-fn bytes_of<'a>(
-    edited: &'a Result<Option<Vec<u8>>, FdtFault>,
-    files: &'a [Vec<u8>],
-    item: &Item,
-) -> Result<&'a [u8], LayoutFault>
+fn bytes_of<'a>(dtb: &'a Dtb, files: &'a [Vec<u8>], item: &Item) -> Result<&'a [u8], LayoutFault>
     requires { file_of item.now.kind < length files.now }
-    ensures { result_map_both (λ b. b.now) (λ e. e) result ≡ bytes_of (seen edited.now) (contents files.now) item.now }
+    ensures { Matches (λ b. b.now) result (bytes_of (seen dtb.now) (contents files.now) item.now) }
 {
     if !item.kind.has_edits() {
         return Ok(file_bytes(files, &item.kind));
     }
-    match edited {
-        Ok(Some(bytes)) => Ok(bytes.as_slice()),
-        Ok(None) => Ok(&[]),
-        Err(fault) => Err(LayoutFault::Dtb(*fault)),
+    match dtb {
+        Dtb::Edited(bytes) => Ok(bytes.as_slice()),
+        Dtb::AsFile => Ok(&[]),
+        Dtb::Refused(fault) => Err(LayoutFault::Dtb(*fault)),
     }
 }
 
@@ -140,16 +130,16 @@ fn stand_all(
     alloc: Global,
     launch: &Launch,
     files: &[Vec<u8>],
-    edited: &Result<Option<Vec<u8>>, FdtFault>,
+    dtb: &Dtb,
 ) -> Result<Vec<Standing>, LayoutFault>
     requires { has_files launch.now (length files.now) ≡ true }
-    ensures { Gives (λ v. v.items) result
-        (stand_all launch.now.ram (seen edited.now) (contents files.now) 0 launch.now.items) }
+    ensures { Answers LayoutFault.NoMemory (λ v. v.items) result
+        (stand_all launch.now.ram (seen dtb.now) (contents files.now) 0 launch.now.items) }
 {
     let mut standings = Vec::with_capacity(alloc, launch.items().len())?;
     let mut pages = 0;
     for item in launch.items() {
-        let bytes = bytes_of(edited, files, item)?;
+        let bytes = bytes_of(dtb, files, item)?;
         let standing = place_item(launch.ram(), pages, item, bytes)?;
         pages += standing.page_count();
         standings.push(standing)?;
@@ -264,12 +254,12 @@ fn address_of(standing: Option<Standing>) -> u64
 /// `InitrdWindow`. `NoMemory` may come before any of them, where memory was refused.
 pub fn place(alloc: Global, launch: &Launch, files: &[Vec<u8>]) -> Result<Placed, LayoutFault>
     requires { has_files launch.now (length files.now) ≡ true }
-    ensures { Gives (λ p. p) result (places launch.now (contents files.now)) }
+    ensures { Answers LayoutFault.NoMemory (λ p. p) result (places launch.now (contents files.now)) }
 {
-    let edited = edited_dtb(alloc, launch, files)?;
-    let standings = stand_all(alloc, launch, files, &edited)?;
+    let dtb = prepare_dtb(alloc, launch, files)?;
+    let standings = stand_all(alloc, launch, files, &dtb)?;
     check_items(launch.items(), &standings)?;
-    gather(alloc, launch, &standings, edited.unwrap_or(None))
+    gather(alloc, launch, &standings, dtb.into_bytes())
 }
 
 /// A launch whose items stand here.
@@ -279,11 +269,12 @@ fn gather(
     standings: &[Standing],
     edited: Option<Vec<u8>>,
 ) -> Result<Placed, LayoutFault>
-    ensures { Gives (λ p. p) result (Ok (placed_at launch.now (option_map (λ v. v.items) edited) standings.now)) }
+    ensures { Answers LayoutFault.NoMemory (λ p. p) result (Ok (placed_at launch.now (option_map (λ v. v.items) edited) standings.now)) }
 {
     let kernel = standing_at(standings, kernel_index(launch.items()));
     let dtb = standing_at(standings, dtb_index(launch.items()));
-    let items = items_at(alloc, launch.number(), launch.items(), standings)?;
+    let number = launch.number();
+    let items = items_at(alloc, number, launch.items(), standings)?;
     let recs = recs_at(alloc, launch.recs(), address_of(kernel), address_of(dtb))?;
-    Ok(Placed::new(items, recs, edited))
+    Ok(Placed::new(number, items, recs, edited))
 }

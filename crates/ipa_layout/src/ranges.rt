@@ -4,7 +4,7 @@ ghost use Rattle.std.specs.List.{list_all, list_any};
 ghost use Rattle.ipa_layout.specs.Ranges.{config_in_range, region_in_range, item_in_range};
 ghost use Rattle.ipa_layout.specs.Kinds.{is_kernel, is_initrd, is_dtb, file_of, has_edits, once_each, wants_initrd, wants_memory, edits_possible};
 ghost use Rattle.ipa_layout.specs.Steps.{names_something, number_of, each_once, steps_complete};
-ghost use Rattle.ipa_layout.specs.StepMarks.{AreMarks, IsNext};
+ghost use Rattle.ipa_layout.specs.StepViews.{AreMarks, IsNext};
 ghost use Rattle.ipa_layout.specs.declared.step.Step.{Step};
 
 use crate::config::Config;

@@ -10,14 +10,14 @@ use std::alloc::{AllocError, Global};
 use std::process::Abort;
 
 /// A root without anything in it, written out by hand.
-const EMPTY: [u8; 72] = [
+pub const EMPTY: [u8; 72] = [
     0xd0, 0x0d, 0xfe, 0xed, 0, 0, 0, 0x48, 0, 0, 0, 0x38, 0, 0, 0, 0x48, 0, 0, 0, 0x28, 0, 0, 0,
     0x11, 0, 0, 0, 0x10, 0, 0, 0, 0, 0, 0, 0, 0, 0, 0, 0, 0x10, 0, 0, 0, 0, 0, 0, 0, 0, 0, 0, 0, 0,
     0, 0, 0, 0, 0, 0, 0, 1, 0, 0, 0, 0, 0, 0, 0, 2, 0, 0, 0, 9,
 ];
 
 /// A root with a node `chosen`, whose one property `bootargs` is `quiet` and a zero byte.
-const CHOSEN: [u8; 117] = [
+pub const CHOSEN: [u8; 117] = [
     0xd0, 0x0d, 0xfe, 0xed, 0, 0, 0, 0x75, 0, 0, 0, 0x38, 0, 0, 0, 0x6c, 0, 0, 0, 0x28, 0, 0, 0,
     0x11, 0, 0, 0, 0x10, 0, 0, 0, 0, 0, 0, 0, 9, 0, 0, 0, 0x34, 0, 0, 0, 0, 0, 0, 0, 0, 0, 0, 0, 0,
     0, 0, 0, 0, 0, 0, 0, 1, 0, 0, 0, 0, 0, 0, 0, 1, 0x63, 0x68, 0x6f, 0x73, 0x65, 0x6e, 0, 0, 0, 0,
@@ -30,32 +30,32 @@ const SMALL: [Region; 1] = [Region {
     end: 0x4020_0000,
 }];
 
-const LARGE: [Region; 1] = [Region {
+pub const LARGE: [Region; 1] = [Region {
     base: 0x4000_0000,
     end: 0x8_8000_0000,
 }];
 
 /// What an item of a case is. Kernels are of file 0, initrds of file 1, devicetrees of file 2.
 #[derive(Clone, Copy)]
-enum What {
+pub enum What {
     Kernel,
     Initrd,
     Dtb,
-    /// A devicetree that is told where RAM is.
-    Told,
+    /// A devicetree that is to say where RAM is.
+    Edited,
     /// Raw content of this file.
     Raw(usize),
 }
 
 /// An item, the address that it is asked to stand at, and its size where it is stated.
-type Asked = (What, u64, Option<u64>);
+pub type Asked = (What, u64, Option<u64>);
 
 /// A launch of these items, and what becomes of it: the pages of its last item, or why it is refused.
 #[derive(Clone, Copy)]
-struct Case<'a> {
-    ram: &'a [Region],
-    items: &'a [Asked],
-    wanted: Result<u64, LayoutFault>,
+pub struct Case<'a> {
+    pub ram: &'a [Region],
+    pub items: &'a [Asked],
+    pub wanted: Result<u64, LayoutFault>,
 }
 
 /// An Image of 64 bytes with these numbers in its header.
@@ -67,7 +67,7 @@ fn image(text_offset: u64, image_size: u64) -> [u8; 64] {
     bytes
 }
 
-/// A devicetree, and whether it is told where RAM is.
+/// A devicetree, and whether it is to say where RAM is.
 fn dtb(memory: bool) -> Kind {
     let edits = Edits {
         bootargs: None,
@@ -82,7 +82,7 @@ fn kind(what: What) -> Kind {
         What::Kernel => Kind::Kernel { file: 0 },
         What::Initrd => Kind::Initrd { file: 1 },
         What::Dtb => dtb(false),
-        What::Told => dtb(true),
+        What::Edited => dtb(true),
         What::Raw(file) => Kind::Raw { file },
     }
 }
@@ -150,7 +150,7 @@ fn launch(alloc: Global, ram: &[Region], items: Vec<Item>) -> Result<Option<Laun
     Ok(Launch::new(3, config(), ram, items, recs, steps))
 }
 
-fn files(alloc: Global, contents: &[&[u8]]) -> Result<Vec<Vec<u8>>, AllocError> {
+pub fn files(alloc: Global, contents: &[&[u8]]) -> Result<Vec<Vec<u8>>, AllocError> {
     let mut files = Vec::new(alloc);
     for bytes in contents {
         files.push(Vec::from_slice(alloc, bytes)?)?;
@@ -202,7 +202,7 @@ fn check_items(rt: &impl Abort, placed: &Placed, wanted: &[PlacedItem]) {
     assert_eq!(rt; placed.items(), wanted);
 }
 
-fn check_case(
+pub fn check_case(
     rt: &impl Abort,
     alloc: Global,
     files: &[Vec<u8>],
@@ -336,6 +336,7 @@ fn command_line(rt: HostRuntime) -> Result<(), AllocError> {
     check_items(&rt, &placed, &[item]);
     assert_eq!(rt; placed.edited(), Some(CHOSEN.as_slice()));
     assert_eq!(rt; placed.bytes(&files, Source::Edited(3)), CHOSEN.as_slice());
+    assert!(rt; placed.bytes(&files, Source::Edited(4)).is_empty());
     Ok(())
 }
 
@@ -360,7 +361,7 @@ fn places_of_initrd_and_memory(rt: HostRuntime) -> Result<(), AllocError> {
     let Ok(tree) = fdt_tree::read(alloc, bytes) else {
         return Err(AllocError);
     };
-    let told: [(&[u8], &[u8], &[u8]); 3] = [
+    let changed: [(&[u8], &[u8], &[u8]); 3] = [
         (
             b"/chosen",
             b"linux,initrd-start",
@@ -377,43 +378,22 @@ fn places_of_initrd_and_memory(rt: HostRuntime) -> Result<(), AllocError> {
             &[0, 0, 0, 0, 0x40, 0, 0, 0, 0, 0x20, 0, 0],
         ),
     ];
-    for (path, name, value) in told {
+    for (path, name, value) in changed {
         assert_eq!(rt; tree.get(path, name), Some(value));
     }
     Ok(())
 }
 
+// A devicetree that is not changed is not read.
 #[test]
-fn faults_of_devicetrees(rt: HostRuntime) -> Result<(), AllocError> {
+fn unread_devicetrees(rt: HostRuntime) -> Result<(), AllocError> {
     let alloc = rt.alloc();
-    let whole = files(alloc, &[&[], &[], &EMPTY])?;
-    let cells = Case {
-        ram: &LARGE,
-        items: &[(What::Told, 0x4000_0004, None)],
-        wanted: Err(LayoutFault::Dtb(FdtFault::BadCells)),
-    };
-    check_case(&rt, alloc, &whole, &cells, 0)?;
-    let cut = files(alloc, &[&[], &[], &EMPTY[..39]])?;
-    let none = files(alloc, &[&[], &[], &[]])?;
-    let short = Err(LayoutFault::Dtb(FdtFault::Short));
-    let of_cut = [
-        Case {
-            ram: &SMALL,
-            items: &[(What::Told, 0x4000_0004, None)],
-            wanted: short,
-        },
+    let files = files(alloc, &[&[], &[], &EMPTY[..39]])?;
+    let cases = [
         Case {
             ram: &SMALL,
             items: &[(What::Dtb, 0x4000_0000, None)],
             wanted: Ok(1),
-        },
-    ];
-    check_cases(&rt, alloc, &cut, &of_cut)?;
-    let of_none = [
-        Case {
-            ram: &SMALL,
-            items: &[(What::Told, 0x4000_0000, None)],
-            wanted: short,
         },
         Case {
             ram: &SMALL,
@@ -421,7 +401,7 @@ fn faults_of_devicetrees(rt: HostRuntime) -> Result<(), AllocError> {
             wanted: Err(LayoutFault::Unaligned),
         },
     ];
-    check_cases(&rt, alloc, &none, &of_none)
+    check_cases(&rt, alloc, &files, &cases)
 }
 
 #[test]
@@ -507,7 +487,7 @@ fn first_item_at_fault_decides(rt: HostRuntime) -> Result<(), AllocError> {
         },
         Case {
             ram: &LARGE,
-            items: &[outside, (What::Told, 0x4000_0000, None)],
+            items: &[outside, (What::Edited, 0x4000_0000, None)],
             wanted: Err(LayoutFault::OutsideRam),
         },
         Case {

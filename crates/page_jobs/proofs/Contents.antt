@@ -3,21 +3,13 @@ use Rattle.std.proofs.Common.{◌≡◌, ℕ, ◌+◌, ◌-◌, ◌*◌, ◌<◌
 use Rattle.std.specs.Prelude.{nat_le}
 use Rattle.std.proofs.lemmas.Bool.Decides.{nat_tests}
 use Rattle.std.proofs.lemmas.List.{ext_get_or, get_or-drop, get_or-take, get_or_past, length-take, length-take-le, nil_from_length}
-use Rattle.std.proofs.lemmas.List.FromFn.{get_or-map-range_with_len, length-map-range_with_len}
 use Rattle.std.proofs.Math.ListN.{get_or-append}
 use Rattle.std.proofs.Math.Seq.{get_or-append_right}
 use Rattle.rim_desc.specs.Page.{with_part, zeros}
 use Rattle.rim_desc.proofs.Pages.{beside, get_or-zeros, length-with_part, length-zeros}
-use Rattle.page_jobs.specs.PageBytes.{front_of, lent_of, page_byte, page_bytes}
-
--- byte j of page k
-pub page_bytes-at : (lead k j : ℕ) (item : List ℕ) → j < 4096 → get_or (page_bytes lead item k) j 0 ≡ page_byte lead item k j
-unfolding page_bytes
-page_bytes-at lead k j item low = get_or-map-range_with_len (page_byte lead item k) 0 4096 j j 0 low (omega arith)
-
-length-page_bytes : (lead k : ℕ) (item : List ℕ) → length (page_bytes lead item k) ≡ 4096
-unfolding page_bytes
-length-page_bytes lead k item = length-map-range_with_len (page_byte lead item k) 0 4096
+use Rattle.rim_desc.specs.PageBytes.{page_bytes}
+use Rattle.rim_desc.proofs.PageBytes.{length-page_bytes, page_bytes-at}
+use Rattle.page_jobs.specs.Lent.{front_of, lent_of}
 
 -- a byte of the part
 within : (page part : List ℕ) (at k : ℕ) → at + length part ≤ length page → at ≤ k → k < at + length part → get_or (with_part page at part) k 0 ≡ get_or part (k - at) 0

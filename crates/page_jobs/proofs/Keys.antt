@@ -1,8 +1,8 @@
--- The order of keys, and a search in keys that rise.
-use Rattle.std.proofs.Common.{◌≡◌, ℕ, ◌+◌, ◌<◌, false, List, [], ◌∷◌, length, map, Some, None, get_or, refl, ap, sym, ◌∙◌, arith, inl, inr, nat_lt, lt-ltb, true}
+-- A search in keys that rise.
+use Rattle.std.proofs.Common.{◌≡◌, ℕ, ◌+◌, ◌<◌, false, List, [], ◌∷◌, length, map, Some, None, get_or, refl, ap, sym, ◌∙◌, arith, inl, inr, nat_lt, lt-ltb, suc}
 use Rattle.std.specs.Prelude.{Result, Ok, Err, slice_get}
 use Rattle.std.specs.Result.{result_ok}
-use Rattle.std.specs.List.{position_or_len}
+use Rattle.std.specs.List.{All, position_or_len}
 use Rattle.std.proofs.lemmas.List.Quantifiers.{position-Some}
 use Rattle.std.proofs.lemmas.List.Sums.{position_or_len_is}
 use Rattle.std.proofs.lemmas.Option.{get_or_from_slice_get, slice_get_within}
@@ -10,23 +10,17 @@ use Rattle.std.proofs.lemmas.Bool.{cases_lt}
 use Rattle.std.proofs.lemmas.Bool.Decides.{nat_tests}
 use Rattle.std.specs.List.Sorted.{IsBinarySearchResult, IsNonDecreasingBy, IsSearchInRange}
 use Rattle.std.specs.Ordering.{is_eq, is_lt, ordering_index, ordering_reverse}
-use Rattle.std.specs.Cmp.{IsTotalOrder, alike_right, nat_cmp_total, on_total, then_total}
+use Rattle.std.specs.Cmp.{alike_right, tied_itself}
 use Rattle.std.specs.declared.cmp.Ordering.TheVariants.{Less, Equal}
 use Rattle.std.proofs.lemmas.List.{get_or-map}
 use Rattle.std.proofs.lemmas.List.Sorted.{searchable_from_sorted}
-use Rattle.rim_desc.specs.Measurement.{algo_value}
-use Rattle.rim_desc.specs.declared.measurement.Algo.{Algo}
-use Rattle.rim_desc.specs.declared.measurement.Algo.TheVariants.{Sha256, Sha512}
+use Rattle.rim_desc.specs.declared.source.Source.{Source}
 use Rattle.page_jobs.specs.Key.{IsRising, key_cmp}
-use Rattle.page_jobs.specs.Page.{PageView}
+use Rattle.page_jobs.specs.Page.{IsPageOf, PageView, page_named}
 use Rattle.page_jobs.specs.Table.{keys_of, slot_of}
 use Rattle.std.proofs.lemmas.List.{length-map}
 use Rattle.page_jobs.specs.declared.page.PageKey.{PageKey}
-
-pub key_total : IsTotalOrder key_cmp
-key_total = then_total (on_total (λ (k : PageKey). algo_value k.algo) nat_cmp_total)
-    (then_total (on_total (λ (k : PageKey). k.source) nat_cmp_total)
-    (then_total (on_total (λ (k : PageKey). k.lead) nat_cmp_total) (on_total (λ (k : PageKey). k.number) nat_cmp_total)))
+use Rattle.page_jobs.proofs.Order.{key-equal, key_total}
 
 module _ {X : Type 0} (view : X → PageView) (xs : List X) (rising : IsRising (keys_of (map view xs))) where
   below : (i j : ℕ) (d : X) → i < j → j < length xs → key_cmp (view (get_or xs i d)).key (view (get_or xs j d)).key ≡ Less
@@ -102,24 +96,6 @@ search-slot_of view (x ∷ xs) rising key r low found = answered view (x ∷ xs)
 
 -- ---- keys, pages and slots
 
-same-algo : (a b : Algo) → algo_value a ≡ algo_value b → a ≡ b
-same-algo Sha256 Sha256 same = refl
-same-algo Sha256 Sha512 same = absurd (omega arith)
-same-algo Sha512 Sha256 same = absurd (omega arith)
-same-algo Sha512 Sha512 same = refl
-
--- keys of which none is before the other are one
-pub key-equal : (a b : PageKey) → is_eq (key_cmp a b) ≡ true → a ≡ b
-key-equal a b same =
-    let algo : algo_value a.algo ≡ algo_value b.algo = grind (arith, nat_tests) in
-    let source : a.source ≡ b.source = grind (arith, nat_tests) in
-    let lead : a.lead ≡ b.lead = grind (arith, nat_tests) in
-    let number : a.number ≡ b.number = grind (arith, nat_tests) in
-    ap (λ (x : Algo). let k : PageKey = record { algo = x; source = a.source; lead = a.lead; number = a.number } in k) (same-algo a.algo b.algo algo)
-    ∙ ap (λ (x : ℕ). let k : PageKey = record { algo = b.algo; source = x; lead = a.lead; number = a.number } in k) source
-    ∙ ap (λ (x : ℕ). let k : PageKey = record { algo = b.algo; source = b.source; lead = x; number = a.number } in k) lead
-    ∙ ap (λ (x : ℕ). let k : PageKey = record { algo = b.algo; source = b.source; lead = b.lead; number = x } in k) number
-
 -- the page in the slot of a key has the key
 pub slot-key : (pages : List PageView) (key : PageKey) (j : ℕ) (p : PageView) → slot_of pages key ≡ Some j → slice_get pages j ≡ Some p → p.key ≡ key
 slot-key pages key j p at here =
@@ -133,7 +109,17 @@ map-same (p ∷ pages) = ap (λ (rest : List PageView). p ∷ rest) (map-same pa
 -- and each page is in the slot of its key
 pub slot-page : (pages : List PageView) → IsRising (keys_of pages) → (j : ℕ) (p : PageView) → slice_get pages j ≡ Some p → slot_of pages p.key ≡ Some j
 slot-page pages rising j p at =
-    let same : key_cmp p.key p.key ≡ Equal = grind (arith, nat_tests) in
+    let same : key_cmp p.key p.key ≡ Equal = tied_itself key_total p.key in
     let here : get_or pages j p ≡ p = get_or_from_slice_get pages j p p at in
     let all : IsRising (keys_of (map (λ q. q) pages)) = rw (map-same pages) rising in
     rw (map-same pages) at (found (λ q. q) pages all p.key j p (slice_get_within pages j p at) (rw here same))
+
+-- pages of items go by their keys
+pub same-page : (items : Source → List ℕ) (p q : PageView) → IsPageOf items p → IsPageOf items q → p.key ≡ q.key → p ≡ q
+same-page items p q first second one = first ∙ ap (page_named items) one ∙ sym second
+
+pub pages-named : (items : Source → List ℕ) (pages : List PageView) → All (IsPageOf items) pages → pages ≡ map (page_named items) (keys_of pages)
+pages-named items [] all = refl
+pages-named items (p ∷ pages) all =
+    ap (λ (q : PageView). q ∷ pages) (all 0 p (omega arith))
+    ∙ ap (λ (rest : List PageView). page_named items p.key ∷ rest) (pages-named items pages (λ k d low. all (suc k) d (omega arith)))

@@ -1,3 +1,6 @@
 pub mod Contents
+pub mod Order
 pub mod Keys
+pub mod Rising
+pub mod Once
 pub mod Slots

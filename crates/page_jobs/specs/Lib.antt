@@ -1,4 +1,4 @@
-pub mod PageBytes
+pub mod Lent
 pub mod Key
 pub mod Page
 pub mod Table

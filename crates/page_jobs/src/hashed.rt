@@ -28,8 +28,8 @@ impl<'a> PageJob<'a> {
         PageJob { page }
     }
 
-    /// Hashes the page. A whole page is hashed where it lies; only a page with zeros in front or behind
-    /// is copied first.
+    /// Hashes the page. A whole page is hashed where it lies; only a page with zeros before or after its
+    /// bytes is copied first.
     pub fn run(self) -> Hashed<'a>
         ensures { result.page ≡ self.entry.page }
     {

@@ -1,12 +1,14 @@
 //! Pages of measured items, their digests, and the table that keeps them.
 #![tactic(auto)]
 
+pub mod distinct;
 pub mod hashed;
 pub mod laws;
 pub mod page;
 pub mod row;
 pub mod table;
 
+pub use distinct::distinct_pages;
 pub use hashed::{Hashed, PageJob};
 pub use page::{Blob, Page, PageKey};
 pub use row::DigestRow;

@@ -1,17 +1,18 @@
 //! Pages: their keys, and the bytes of an item that fall in them, which are lent.
 ghost use Rattle.std.specs.Prelude.{◌≡◌, ◌+◌, ◌^◌, ◌<◌, ◌≤◌, ◌↔◌, IsTrue, length};
-ghost use Rattle.page_jobs.specs.PageBytes.{front_of, lent_of, page_bytes};
+ghost use Rattle.rim_desc.specs.PageBytes.{page_bytes};
+ghost use Rattle.page_jobs.specs.Lent.{front_of, lent_of};
 
 use rim_desc::page::{put, zero_page};
-use rim_desc::{Algo, PAGE_SIZE};
+use rim_desc::{Algo, PAGE_SIZE, Source};
 
-/// What tells a page from all others. Keys are ordered by their fields, in this order.
+/// What distinguishes a page from all others. Keys are ordered by their fields, in this order.
 #[derive(Clone, Copy, Debug, PartialEq, Eq, PartialOrd, Ord)]
 pub struct PageKey {
     /// The algorithm that hashes it.
     pub algo: Algo,
-    /// The number of the source of its item's bytes.
-    pub source: usize,
+    /// Where its item's bytes come from.
+    pub source: Source,
     /// The offset of the item's first byte in its first page, in bytes.
     pub lead: u64,
     /// Its number among the item's pages, from 0 on.
@@ -22,15 +23,15 @@ pub struct PageKey {
 #[derive(Clone, Copy)]
 pub struct Blob<'a> {
     pub bytes: &'a [u8],
-    /// The number of their source.
-    pub source: usize,
+    /// Where they come from.
+    pub source: Source,
     /// The offset of the first byte in its page, in bytes.
     pub lead: u64,
     pub ghost inside: { lead < 4096 },
 }
 
-/// A page of 4096 bytes. In an item's first page as many zeros as the lead stand in front of the item's
-/// bytes; zeros fill what is behind them.
+/// A page of 4096 bytes. An item's first page begins with as many zeros as the lead, and zeros fill what
+/// is after the item's bytes.
 #[derive(Clone, Copy)]
 pub struct Page<'a> {
     pub key: PageKey,
@@ -43,7 +44,7 @@ impl<'a> Blob<'a> {
     ghost use Rattle.page_jobs.specs.Page.{contents_of, page_of, page_view};
 
     /// The bytes of a source, which begin `lead` bytes after the start of a page.
-    pub fn new(source: usize, lead: u64, bytes: &'a [u8]) -> Blob<'a>
+    pub fn new(source: Source, lead: u64, bytes: &'a [u8]) -> Blob<'a>
         requires { lead < 4096 }
         ensures source { result.source ≡ source }
         ensures lead { result.lead ≡ lead }
@@ -59,7 +60,7 @@ impl<'a> Blob<'a> {
     /// A page of these bytes, for an algorithm that is to hash it.
     pub fn page(self, algo: Algo, number: u64) -> Page<'a>
         requires { number < 2 ^ 52 }
-        ensures page { page_view result ≡ page_of algo self.entry number }
+        ensures page { page_view result ≡ page_of algo self.entry.source self.entry.lead self.entry.bytes.now number }
         ensures contents { contents_of (page_view result) ≡ page_bytes self.entry.lead self.entry.bytes.now number }
     {
         let key = PageKey {

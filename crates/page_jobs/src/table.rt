@@ -1,8 +1,8 @@
 //! The table of digests: a slot for each of the pages of a run, in the order of their keys.
-ghost use Rattle.std.specs.Prelude.{◌≡◌, ◌<◌, ℕ, length, map, replicate, None, Some, IfOk, OnOk, IfErr, IfSome, IsTrue, ◌↔◌, slice_get};
+ghost use Rattle.std.specs.Prelude.{◌≡◌, ◌<◌, length, map, replicate, None, Some, IfOk, OnOk, OnErr, IfErr, IfSome, IsTrue, ◌↔◌, slice_get};
 ghost use Rattle.page_jobs.specs.Key.{IsRising, key_cmp};
 ghost use Rattle.page_jobs.specs.Page.{digest_of, page_view};
-ghost use Rattle.page_jobs.specs.Table.{CanFill, digest_at, digest_in, keys_of, page_at, slot_of, with_digest};
+ghost use Rattle.page_jobs.specs.Table.{CanFill, IsTable, digest_at, digest_in, keys_of, page_at, slot_of, with_digest};
 
 use crate::hashed::Hashed;
 use crate::page::{Page, PageKey};
@@ -31,19 +31,21 @@ impl<'a> Model for Table<'a> {
 }
 
 impl<'a> Table<'a> {
-    /// A table for these pages, with all slots empty.
+    /// A table for these pages, with all slots empty. One for no pages takes no memory.
     pub fn reserve(alloc: Global, pages: &'a [Page<'a>]) -> Result<Table<'a>, NoMemory>
         requires { IsRising (keys_of (map page_view pages.now)) }
         ensures pages { IfOk result (λ t. t.pages ≡ map page_view pages.entry.now) }
         ensures empty { IfOk result (λ t. t.digests ≡ replicate (length pages.entry.now) None) }
+        ensures growth { OnErr result (0 < length pages.entry.now) }
     {
-        let digests = vec![in alloc; None; pages.len()]?;
+        let digests = empty_slots(alloc, pages.len())?;
         Ok(Table { pages, digests })
     }
 
-    /// The pages that it was reserved for.
+    /// The pages that it was reserved for. Their keys rise, and each has a slot.
     pub fn pages(&self) -> &'a [Page<'a>]
-        ensures { map page_view result.now ≡ self.now.pages }
+        ensures pages { map page_view result.now ≡ self.now.pages }
+        ensures table { IsTable self.now }
     {
         self.pages
     }
@@ -93,6 +95,17 @@ impl<'a> Table<'a> {
     }
 }
 
+/// As many empty slots.
+fn empty_slots(alloc: Global, count: usize) -> Result<Vec<Option<Measurement>>, NoMemory>
+    ensures empty { IfOk result (λ slots. slots.items ≡ replicate count None) }
+    ensures growth { OnErr result (0 < count) }
+{
+    if count == 0 {
+        return Ok(Vec::new(alloc));
+    }
+    Ok(vec![in alloc; None; count]?)
+}
+
 /// The place of the page that has a key, in a list whose keys rise.
 fn search(pages: &[Page], key: &PageKey) -> Option<usize>
     requires { IsRising (keys_of (map page_view pages.now)) }
@@ -101,7 +114,7 @@ fn search(pages: &[Page], key: &PageKey) -> Option<usize>
     pages.binary_search_by(|page| compare(page, key)).ok()
 }
 
-/// How a page's key stands to a key.
+/// The order of a page's key and a key.
 fn compare(page: &Page, key: &PageKey) -> Ordering
     ensures { result ≡ key_cmp (page_view page.now).key key.now }
 {

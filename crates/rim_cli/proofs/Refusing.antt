@@ -5,8 +5,8 @@ use Rattle.clap.specs.Words.{IsAmong, Kinds, Text, fault_of, kind_of}
 use Rattle.clap.proofs.WalkLemmas.{both}
 use Rattle.clap.specs.declared.error.kind.ErrorKind.{ErrorKind}
 use Rattle.clap.specs.declared.error.Error.{Error}
-use Rattle.rim_cli.specs.declared.command.CommandFault.{CommandFault}
-use Rattle.rim_cli.specs.declared.command.CommandFault.TheVariants.{Usage}
+use Rattle.rim_cli.specs.declared.words.CommandFault.{CommandFault}
+use Rattle.rim_cli.specs.declared.words.CommandFault.TheVariants.{Usage}
 use Rattle.rim_cli.specs.Command.{AsksForHelp, IsMistaken, IsRefusalOf, is_asked, rim}
 
 -- a kind that is one of some passes a test that all of them pass

@@ -9,10 +9,10 @@ use Rattle.clap.specs.Values.{IsSignedIn}
 use Rattle.clap.specs.declared.builder.value_parser.ValueParser.TheVariants as parser
 use Rattle.clap.specs.declared.error.kind.ErrorKind.{ErrorKind}
 use Rattle.clap.specs.declared.error.kind.ErrorKind.TheVariants as kind
-use Rattle.rim_cli.specs.declared.command.CommandFault.{CommandFault}
-use Rattle.rim_cli.specs.declared.command.CommandFault.TheVariants.{Usage, NoMemory}
-use Rattle.rim_cli.specs.declared.command.Request.{Request}
-use Rattle.rim_cli.specs.declared.command.Request.TheVariants.{Measure, Image, Fdt}
+use Rattle.rim_cli.specs.declared.words.CommandFault.{CommandFault}
+use Rattle.rim_cli.specs.declared.words.CommandFault.TheVariants.{Usage, NoMemory}
+use Rattle.rim_cli.specs.declared.words.Request.{Request}
+use Rattle.rim_cli.specs.declared.words.Request.TheVariants.{Measure, Image, Fdt}
 
 -- an operand that has to be given, with a name that usage texts show
 abbrev pub operand_rule : Text → Rule

@@ -4,13 +4,13 @@ use Rattle.std.specs.Io.KnownBytes.{Appends}
 use Rattle.clap.specs.Words.{Text, subcommand_of}
 use Rattle.rim_manifest.specs.Manifest.{manifest_of}
 use Rattle.rim_manifest.specs.declared.fault.ManifestFault.TheVariants as manifest
-use Rattle.rim_release.specs.Devicetrees.{IsDevicetreeFault, ShowsDevicetree}
+use Rattle.rim_release.specs.ShownDevicetree.{IsDevicetreeFault, ShowsDevicetree}
 use Rattle.rim_release.specs.Report.{report_of}
-use Rattle.rim_release.specs.Shown.{image_answer_of}
-use Rattle.rim_release.specs.declared.fault.ShowFault.TheVariants as show
+use Rattle.rim_release.specs.ShownImage.{image_answer_of}
+use Rattle.rim_release.specs.declared.show.fault.ShowFault.TheVariants as show
 use Rattle.rim_release.specs.declared.fault.StartFault.TheVariants as start
-use Rattle.rim_cli.specs.declared.command.Request.{Request}
-use Rattle.rim_cli.specs.declared.command.Request.TheVariants.{Measure, Image, Fdt}
+use Rattle.rim_cli.specs.declared.words.Request.{Request}
+use Rattle.rim_cli.specs.declared.words.Request.TheVariants.{Measure, Image, Fdt}
 use Rattle.rim_cli.specs.declared.fault.Fault.{Fault}
 use Rattle.rim_cli.specs.declared.fault.Fault.TheVariants.{Manifest, Start, Show}
 use Rattle.rim_cli.specs.Command.{ReadsRequest, rim}
@@ -23,10 +23,10 @@ path_of (Image file) = file.now
 path_of (Fdt file) = file.now
 
 -- the text that a request asks for, where its file has these bytes
-abbrev pub Answers : Request → List ℕ → List ℕ → Type 0
-Answers (Measure path workers) bytes text = IsOkAnd (manifest_of bytes) (λ r. text ≡ report_of r.launches)
-Answers (Image file) bytes text = image_answer_of bytes ≡ Ok text
-Answers (Fdt file) bytes text = ShowsDevicetree bytes text
+abbrev pub IsAnswer : Request → List ℕ → List ℕ → Type 0
+IsAnswer (Measure path workers) bytes text = IsOkAnd (manifest_of bytes) (λ r. text ≡ report_of r.launches)
+IsAnswer (Image file) bytes text = image_answer_of bytes ≡ Ok text
+IsAnswer (Fdt file) bytes text = ShowsDevicetree bytes text
 
 -- why the report of a manifest, an Image or a devicetree is refused, where of its file's bytes this is known
 abbrev pub RefusesManifest : Option (List ℕ) → Fault → Type 0
@@ -54,5 +54,5 @@ pub record IsDone (words : List Text) (held : List ℕ → Option (List ℕ)) (b
   pub request : Request
   pub text : List ℕ
   pub asked : ReadsRequest (subcommand_of rim words) request
-  pub answer : IfSome (held (path_of request)) (λ bytes. Answers request bytes text)
+  pub answer : IfSome (held (path_of request)) (λ bytes. IsAnswer request bytes text)
   pub written : Appends before after text

@@ -1,11 +1,14 @@
 -- Exit statuses and the words of faults. This project's choice.
 use Rattle.std.specs.Prelude.{ℕ, List, codes}
+use Rattle.std.specs.declared.io.ErrorKind.{ErrorKind}
+use Rattle.std.specs.declared.io.ErrorKind.TheVariants as error
 use Rattle.rim_cli.specs.declared.fault.Fault.{Fault}
 use Rattle.rim_cli.specs.declared.fault.Fault.TheVariants.{Manifest, Start, Show, FileUnreadable, FileTooLarge, OutputFailed, NoMemory}
 use Rattle.rim_manifest.specs.Faults.{kind_of}
 use Rattle.rim_manifest.specs.declared.fault.ManifestFault.TheVariants as manifest
-use Rattle.rim_release.specs.Faults.{show_kind_of, start_kind_of}
-use Rattle.rim_release.specs.declared.fault.ShowFault.TheVariants as show
+use Rattle.rim_release.specs.Faults.{start_kind_of}
+use Rattle.rim_release.specs.ShowFaults.{show_kind_of}
+use Rattle.rim_release.specs.declared.show.fault.ShowFault.TheVariants as show
 use Rattle.rim_release.specs.declared.fault.StartFault.TheVariants as start
 
 -- want of memory, wherever it was met, is 4; each other fault is 3
@@ -25,3 +28,8 @@ word_of FileUnreadable = codes "file-unreadable"
 word_of FileTooLarge = codes "file-too-large"
 word_of OutputFailed = codes "output-failed"
 word_of NoMemory = codes "no-memory"
+
+-- a command line that cannot be read is a mistake of usage, unless there was no memory for its words
+abbrev pub unreadable_status : ErrorKind → ℕ
+unreadable_status error.OutOfMemory = 4
+unreadable_status _ = 2

@@ -1,13 +1,14 @@
 //! The command line of `rim`, and a run of the program over any files and streams.
 #![tactic(auto)]
 
-pub mod command;
 mod definition;
 mod fault;
 mod file;
 pub mod laws;
 mod patient;
 mod program;
+mod words;
 
 pub use file::Opener;
-pub use program::run;
+pub use program::{report_unreadable, run};
+pub use words::{CommandFault, Request, command};

@@ -3,20 +3,22 @@ ghost use Rattle.std.specs.Prelude.{◌≡◌, ◌≢◌, ◌≤◌, ◌⊎◌, 
 ghost use Rattle.std.specs.Io.KnownBytes.{Appends};
 ghost use Rattle.clap.specs.Words.{kind_of, takes};
 ghost use Rattle.rim_manifest.specs.Manifest.{manifest_of};
-ghost use Rattle.rim_release.specs.Devicetrees.{ShowsDevicetree};
+ghost use Rattle.rim_release.specs.ShownDevicetree.{ShowsDevicetree};
 ghost use Rattle.rim_release.specs.Report.{report_of};
-ghost use Rattle.rim_release.specs.Shown.{image_answer_of};
+ghost use Rattle.rim_release.specs.ShownImage.{image_answer_of};
 ghost use Rattle.rim_cli.specs.Command.{AsksForHelp, IsMistaken, is_asked, rim};
-ghost use Rattle.rim_cli.specs.Done.{Answers, IsDone, Refuses, RefusesFdt, RefusesImage, RefusesManifest, path_of};
-ghost use Rattle.rim_cli.specs.Status.{status_of};
+ghost use Rattle.rim_cli.specs.Done.{IsAnswer, IsDone, Refuses, RefusesFdt, RefusesImage, RefusesManifest, path_of};
+ghost use Rattle.std.specs.IoError.{error_kind};
+ghost use Rattle.rim_cli.specs.Status.{status_of, unreadable_status};
 
-use crate::command::{CommandFault, Request, command};
+use crate::words::{CommandFault, Request, command};
 use crate::fault::Fault;
 use crate::file::{Opener, read_file, read_files};
 use rim_release::{measure_alone, read_manifest, show_fdt, show_image};
 use std::alloc::Global;
 use std::convert::AsStr;
-use std::io::Write;
+use std::io;
+use std::io::{ErrorKind, Write};
 
 /// Runs the program on the words of a command line, of which the first is the program's name.
 ///
@@ -55,7 +57,7 @@ pub fn run<R, S: AsStr, O: Opener, W: Write, E: Write>(
 
 /// The text that a request asks for.
 fn answer_to<O: Opener>(alloc: Global, request: Request, opener: &mut O) -> Result<Vec<u8>, Fault>
-    ensures answered { IfOk result (λ text. IfSome (O.held opener.old (path_of request.entry)) (λ bytes. Answers request.entry bytes text.items)) }
+    ensures answered { IfOk result (λ text. IfSome (O.held opener.old (path_of request.entry)) (λ bytes. IsAnswer request.entry bytes text.items)) }
     ensures refused { IfErr result (Refuses request.entry (O.held opener.old (path_of request.entry))) }
 {
     match request {
@@ -145,4 +147,16 @@ fn report_fault<E: Write>(fault: Fault, err: &mut E) -> u8
     let kind = fault.kind();
     let _ = writeln!(err, "rim: {kind}");
     fault.status()
+}
+
+/// Reports a command line whose words cannot be read, in one line, and answers the exit status: 4 where
+/// there is no memory for them, 2 where a word is not UTF-8.
+pub fn report_unreadable<E: Write>(error: &io::Error, err: &mut E) -> u8
+    ensures { result ≡ unreadable_status (error_kind error.now) }
+{
+    if error.kind() == ErrorKind::OutOfMemory {
+        return report_fault(Fault::NoMemory, err);
+    }
+    let _ = writeln!(err, "rim: a word of the command line is not UTF-8");
+    2
 }

@@ -1,1 +1,4 @@
 pub mod Pages
+pub mod PageBytes
+pub mod Parts
+pub mod Sources

@@ -15,7 +15,7 @@ length-with_part page part at fits =
     let front : length (take at page) ≡ at = length-take-le at page (omega arith) in
     simp (length-append, length-drop, front) (omega arith)
 
--- and the bytes before it and behind it
+-- and the bytes before it and after it
 before : (page part : List ℕ) (at k : ℕ) → at + length part ≤ length page → k < at → get_or (with_part page at part) k 0 ≡ get_or page k 0
 unfolding with_part
 before page part at k fits low =

@@ -21,11 +21,11 @@ rec_descriptor_fields rim content = heading 1 rim ++ (bytes 0x50 content ∷ [])
 abbrev pub ripas_fields : List ℕ → ℕ → ℕ → List Field
 ripas_fields rim base top = heading 2 rim ++ (word 0x50 base ∷ word 0x58 top ∷ [])
 
-abbrev pub data_descriptor_of : List ℕ → ℕ → Option (List ℕ) → List ℕ
+unfoldable pub data_descriptor_of : List ℕ → ℕ → Option (List ℕ) → List ℕ
 data_descriptor_of rim ipa content = with_fields (zeros 256) (data_fields rim ipa content)
 
-abbrev pub rec_descriptor_of : List ℕ → List ℕ → List ℕ
+unfoldable pub rec_descriptor_of : List ℕ → List ℕ → List ℕ
 rec_descriptor_of rim content = with_fields (zeros 256) (rec_descriptor_fields rim content)
 
-abbrev pub ripas_descriptor_of : List ℕ → ℕ → ℕ → List ℕ
+unfoldable pub ripas_descriptor_of : List ℕ → ℕ → ℕ → List ℕ
 ripas_descriptor_of rim base top = with_fields (zeros 256) (ripas_fields rim base top)

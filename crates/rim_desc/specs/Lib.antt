@@ -1,4 +1,6 @@
 pub mod Page
+pub mod Source
+pub mod PageBytes
 pub mod Measurement
 pub mod Realm
 pub mod Rec

@@ -11,7 +11,7 @@ with_part page at part = take at page ++ (part ++ drop (length part) (drop at pa
 unfoldable pub zeros : ℕ → List ℕ
 zeros n = replicate n 0
 
--- some bytes, and the offset at which they stand
+-- some bytes, and the offset at which they are
 pub record Field : Type 0 where
   pub at : ℕ
   pub part : List ℕ

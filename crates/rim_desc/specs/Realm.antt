@@ -11,5 +11,5 @@ realm_fields p = word 0x0 p.flags ∷ byte 0x8 p.s2sz ∷ byte 0x10 p.sve_vl ∷
     ∷ byte 0x20 p.num_wps ∷ byte 0x28 p.pmu_num_ctrs ∷ byte 0x30 (algo_value p.algo) ∷ []
 
 -- the page: a byte at no listed offset is zero
-abbrev pub realm_page_of : RealmParams → List ℕ
+unfoldable pub realm_page_of : RealmParams → List ℕ
 realm_page_of p = with_fields (zeros 4096) (realm_fields p)

@@ -22,7 +22,7 @@ rec_fields r = word 0x0 r.flags ∷ word 0x200 r.pc
     ∷ word 0x330 (slice_index r.gprs 6) ∷ word 0x338 (slice_index r.gprs 7) ∷ []
 
 -- the page: a byte at no listed offset is zero
-abbrev pub rec_page_of : RecData → List ℕ
+unfoldable pub rec_page_of : RecData → List ℕ
 rec_page_of r = with_fields (zeros 4096) (rec_fields r)
 
 -- The MPIDR of REC n: Aff0 is n mod 16 in bits 3:0, and Aff1, from bit 8 on, counts the sixteens.

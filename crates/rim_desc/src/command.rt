@@ -27,7 +27,7 @@ pub enum Command {
         base: u64,
         top: u64,
     },
-    /// RMI_DATA_CREATE: puts a page at an IPA, measured where the measurement of its bytes is there.
+    /// RMI_DATA_CREATE: puts a page at an IPA, measured if it comes with the measurement of its bytes.
     DataCreate {
         granule: u64,
         ipa: u64,

@@ -14,7 +14,7 @@ pub enum Algo {
     Sha512,
 }
 
-/// A measurement: 64 bytes, of which a SHA-256 digest takes the first 32 and leaves zeros behind it.
+/// A measurement: 64 bytes, of which a SHA-256 digest takes the first 32 and leaves zeros after it.
 #[derive(Clone, Copy, Debug, PartialEq, Eq)]
 pub struct Measurement {
     pub bytes: [u8; 64],

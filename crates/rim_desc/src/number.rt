@@ -4,8 +4,8 @@ ghost use Rattle.rim_desc.specs.Number.{digits_of};
 
 use refusal::NoMemory;
 
-/// Adds a 64-bit number to a text, as 16 lower case hexadecimal digits. Where memory is wanting the
-/// text stays as it was.
+/// Adds a 64-bit number to a text, as 16 lower case hexadecimal digits. After want of memory the text is
+/// as it was.
 pub fn push_digits(text: &mut Vec<u8>, number: u64) -> Result<(), NoMemory>
     ensures added { OnOk result (text.new.items ≡ text.old.items ++ digits_of number) }
     ensures kept { OnErr result (text.new.items ≡ text.old.items) }

@@ -8,7 +8,7 @@ use Rattle.fdt_tree.specs.NodeViews.{branch, branches, entry_of}
 use Rattle.fdt_tree.specs.declared.node.Node.TheViews.{out-Node}
 use Rattle.fdt_tree.proofs.Open.{branch_out}
 use Rattle.fdt_tree.specs.declared.node.Node.{Node}
-use Rattle.rim_release.specs.Devicetrees.{inner_text, node_line, nodes_text, path_below, property_line}
+use Rattle.rim_release.specs.ShownDevicetree.{inner_text, node_line, nodes_text, path_below, property_line}
 
 -- a node as a child of a path
 abbrev pub child_text : List ℕ → Branch → List ℕ

@@ -1,5 +1,6 @@
 pub mod Faults
 pub mod Measured
 pub mod Report
-pub mod Shown
-pub mod Devicetrees
+pub mod ShowFaults
+pub mod ShownImage
+pub mod ShownDevicetree

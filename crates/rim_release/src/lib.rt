@@ -1,15 +1,15 @@
 //! A release: its manifest, and the report of the Realm Initial Measurements of its launches.
 #![tactic(auto)]
 
-pub mod devicetree;
 pub mod fault;
 pub mod measured;
 pub mod report;
 pub mod show;
 
-pub use devicetree::show_fdt;
-pub use fault::{ShowFault, StartFault};
+pub use fault::StartFault;
 pub use ipa_layout::{Config, Launch};
 pub use report::{Files, measure_alone};
 pub use rim_manifest::{ManifestFault, NamedLaunch, Release, read_manifest};
-pub use show::show_image;
+pub use show::devicetree::show_fdt;
+pub use show::fault::ShowFault;
+pub use show::image::show_image;

@@ -122,6 +122,28 @@ impl Opener for InterruptedFiles {
     }
 }
 
+/// A reader for whose bytes there is no memory.
+#[derive(Drop)]
+pub struct MemorylessReader;
+
+impl Read for MemorylessReader {
+    fn read(&mut self, _buf: &mut [u8]) -> io::Result<usize> {
+        Err(io::Error::from(ErrorKind::OutOfMemory))
+    }
+}
+
+/// Opens every path as such a reader.
+#[derive(Drop)]
+pub struct MemorylessFiles;
+
+impl Opener for MemorylessFiles {
+    type Reader = MemorylessReader;
+
+    fn open(&mut self, _path: &str) -> Option<MemorylessReader> {
+        Some(MemorylessReader)
+    }
+}
+
 /// A reader without an end.
 #[derive(Drop)]
 pub struct EndlessFiles;

@@ -1,11 +1,12 @@
 //! Faults: one line on standard error, nothing on standard output, and their exit status.
 use super::fakes::{
-    EndlessFiles, FailingFiles, FailingFlush, FailingWriter, InterruptedFiles, OneFile, Ran,
-    SMALLEST, SMALLEST_REPORT, check, ran_on,
+    EndlessFiles, FailingFiles, FailingFlush, FailingWriter, InterruptedFiles, MemorylessFiles,
+    OneFile, Ran, SMALLEST, SMALLEST_REPORT, check, ran_on,
 };
-use rim_cli::{Opener, run};
+use rim_cli::{Opener, report_unreadable, run};
 use std::alloc::Global;
-use std::io::Write;
+use std::io;
+use std::io::{ErrorKind, Write};
 
 const MEASURE: [&str; 3] = ["rim", "measure", "manifest.toml"];
 
@@ -109,4 +110,33 @@ fn failing_standard_error(rt: HostRuntime) {
         };
         check(&rt, &ran, 3, b"", b"");
     }
+}
+
+/// Errors of reading the words of a command line, and what is reported of them.
+const UNREADABLE_WORDS: [(ErrorKind, u8, &[u8]); 2] = [
+    (ErrorKind::OutOfMemory, 4, b"rim: no-memory\n"),
+    (
+        ErrorKind::InvalidData,
+        2,
+        b"rim: a word of the command line is not UTF-8\n",
+    ),
+];
+
+#[test]
+fn unreadable_words(rt: HostRuntime) {
+    for (kind, status, text) in &UNREADABLE_WORDS {
+        let mut err = Vec::new(rt.alloc());
+        let ran = Ran {
+            status: report_unreadable(&io::Error::from(*kind), &mut err),
+            out: Vec::new(rt.alloc()),
+            err,
+        };
+        check(&rt, &ran, *status, b"", text);
+    }
+}
+
+#[test]
+fn no_memory_for_a_file(rt: HostRuntime) {
+    let ran = ran_over(rt.alloc(), &mut MemorylessFiles);
+    check(&rt, &ran, 4, b"", b"rim: no-memory\n");
 }

@@ -30,6 +30,16 @@ fn smallest_manifest_by_sha512(rt: HostRuntime) -> Result<(), Fail> {
     )
 }
 
+/// The personalization value is no part of the measurement.
+#[test]
+fn another_personalization_value(rt: HostRuntime) -> Result<(), Fail> {
+    check_report(
+        &rt,
+        "rim_manifest = 1\n[[launch]]\nname = \"small\"\nalgo = \"sha256\"\ns2sz = 33\nrpv = \"0123456789abcdef0123456789abcdef0123456789abcdef0123456789abcdef0123456789abcdef0123456789abcdef0123456789abcdef0123456789abcdef\"\n",
+        "rim-report 1\nsmall sha256 bf97de388b1abb45577017aa8a9a8d1f160889b11df8e5803e2bf9d8a33e788c\npages 0\n",
+    )
+}
+
 #[test]
 fn nothing_is_measured(rt: HostRuntime) -> Result<(), Fail> {
     check_report(&rt, "rim_manifest = 1", "rim-report 1\npages 0\n")

@@ -21,7 +21,7 @@ fn smallest(algo: Algo) -> RealmParams {
     }
 }
 
-/// The first eight bytes of a digest, which tell it from any other here.
+/// The first eight bytes of a digest, which distinguish it from any other here.
 fn front(measurement: &Measurement) -> u64 {
     let b = &measurement.bytes;
     u64::from_be_bytes([b[0], b[1], b[2], b[3], b[4], b[5], b[6], b[7]])

@@ -1,7 +1,7 @@
 //! Pages and their digests. The digests were computed by Python's hashlib.
 use super::item;
-use page_jobs::{Blob, Page, PageJob, PageKey};
-use rim_desc::Algo;
+use page_jobs::{Blob, Page, PageJob, PageKey, distinct_pages};
+use rim_desc::{Algo, Source};
 use std::mem::size_of;
 use std::test::Fail;
 
@@ -9,7 +9,7 @@ use std::test::Fail;
 fn second_page_has_one_byte(rt: HostRuntime) -> Result<(), Fail> {
     let bytes = item(rt.alloc())?;
     let item = bytes.as_slice();
-    let blob = Blob::new(5, 0, item);
+    let blob = Blob::new(Source::File(5), 0, item);
     assert_eq!(rt;
         blob.page(Algo::Sha256, 0).bytes().as_slice(),
         item.get(..4096).expect(&rt, "a whole page")
@@ -19,7 +19,7 @@ fn second_page_has_one_byte(rt: HostRuntime) -> Result<(), Fail> {
     assert!(rt; page[1..].iter().all(|b| *b == 0));
     let key = PageKey {
         algo: Algo::Sha256,
-        source: 5,
+        source: Source::File(5),
         lead: 0,
         number: 1,
     };
@@ -33,7 +33,7 @@ fn lead_puts_zeros_in_front(rt: HostRuntime) -> Result<(), Fail> {
     let bytes = item(rt.alloc())?;
     let item = bytes.as_slice();
     assert_eq!(rt; item.len(), 4097);
-    let blob = Blob::new(5, 4, item);
+    let blob = Blob::new(Source::File(5), 4, item);
     let page = blob.page(Algo::Sha512, 0).bytes();
     assert_eq!(rt; &page[..4], [0, 0, 0, 0].as_slice());
     assert_eq!(rt; &page[4..], item.get(..4092).expect(&rt, "most of a page"));
@@ -45,7 +45,7 @@ fn lead_puts_zeros_in_front(rt: HostRuntime) -> Result<(), Fail> {
 
 #[test]
 fn pages_past_the_bytes_are_zero(rt: HostRuntime) {
-    let blob = Blob::new(0, 4095, &[9, 8]);
+    let blob = Blob::new(Source::File(0), 4095, &[9, 8]);
     assert_eq!(rt; blob.page(Algo::Sha256, 0).bytes()[4095], 9);
     assert_eq!(rt; blob.page(Algo::Sha256, 1).bytes()[0], 8);
     for number in [2, 1_048_576, (1 << 52) - 1] {
@@ -53,7 +53,7 @@ fn pages_past_the_bytes_are_zero(rt: HostRuntime) {
         assert_eq!(rt; page.bytes.len(), 0);
         assert!(rt; page.bytes().iter().all(|b| *b == 0));
     }
-    let empty = Blob::new(0, 7, &[]);
+    let empty = Blob::new(Source::File(0), 7, &[]);
     assert!(rt; empty.page(Algo::Sha256, 0).bytes().iter().all(|b| *b == 0));
 }
 
@@ -107,7 +107,7 @@ const DIGESTS: [(Algo, u64, u64, &str); 7] = [
 fn digests(rt: HostRuntime) -> Result<(), Fail> {
     let item = item(rt.alloc())?;
     for (algo, lead, number, digest) in DIGESTS {
-        let page = Blob::new(0, lead, item.as_slice()).page(algo, number);
+        let page = Blob::new(Source::File(0), lead, item.as_slice()).page(algo, number);
         let bytes = PageJob::new(page).run().digest.bytes;
         let text = hex::encode(rt.alloc(), bytes.as_slice())?;
         assert_eq!(rt;
@@ -120,28 +120,61 @@ fn digests(rt: HostRuntime) -> Result<(), Fail> {
     Ok(())
 }
 
+/// Algorithms, sources, leads and numbers of pages, mixed and with repeats.
+const MIXED: [(Algo, Source, u8, u16); 14] = [
+    (Algo::Sha512, Source::File(0), 0, 0),
+    (Algo::Sha256, Source::Edited(0), 0, 0),
+    (Algo::Sha256, Source::File(2), 0, 1),
+    (Algo::Sha256, Source::File(2), 4, 0),
+    (Algo::Sha256, Source::File(10), 0, 0),
+    (Algo::Sha256, Source::File(2), 0, 300),
+    (Algo::Sha256, Source::File(2), 0, 1),
+    (Algo::Sha256, Source::Edited(1), 0, 0),
+    (Algo::Sha512, Source::File(0), 0, 0),
+    (Algo::Sha256, Source::File(2), 0, 1),
+    (Algo::Sha512, Source::Edited(0), 0, 0),
+    (Algo::Sha256, Source::Edited(0), 0, 0),
+    (Algo::Sha256, Source::File(2), 0, 0),
+    (Algo::Sha256, Source::File(2), 4, 0),
+];
+
+/// The same in the order of their keys, each once, after the place of each.
+const IN_ORDER: [(usize, Algo, Source, u64, u64); 9] = [
+    (0, Algo::Sha256, Source::File(2), 0, 0),
+    (1, Algo::Sha256, Source::File(2), 0, 1),
+    (2, Algo::Sha256, Source::File(2), 0, 300),
+    (3, Algo::Sha256, Source::File(2), 4, 0),
+    (4, Algo::Sha256, Source::File(10), 0, 0),
+    (5, Algo::Sha256, Source::Edited(0), 0, 0),
+    (6, Algo::Sha256, Source::Edited(1), 0, 0),
+    (7, Algo::Sha512, Source::File(0), 0, 0),
+    (8, Algo::Sha512, Source::Edited(0), 0, 0),
+];
+
 #[test]
-fn keys_are_ordered_by_their_fields(rt: HostRuntime) {
-    let key = |algo: Algo, source: usize, lead: u64, number: u64| PageKey {
-        algo,
-        source,
-        lead,
-        number,
-    };
-    let rising = [
-        key(Algo::Sha256, 0, 0, 9),
-        key(Algo::Sha256, 0, 4, 1),
-        key(Algo::Sha256, 0, 4, 2),
-        key(Algo::Sha256, 1, 0, 0),
-        key(Algo::Sha512, 0, 0, 0),
-    ];
-    for i in 0..4usize {
-        assert!(rt; rising[i] < rising[i + 1], "key {i}");
+fn mixed_pages_are_sorted_and_distinct(rt: HostRuntime) -> Result<(), Fail> {
+    let item = item(rt.alloc())?;
+    let mut pages = Vec::new(rt.alloc());
+    for (algo, source, lead, number) in MIXED {
+        let blob = Blob::new(source, u64::from(lead), item.as_slice());
+        pages.push(blob.page(algo, u64::from(number)))?;
     }
+    distinct_pages(&mut pages);
+    assert_eq!(rt; pages.len(), 9);
+    for (place, algo, source, lead, number) in IN_ORDER {
+        let key = PageKey {
+            algo,
+            source,
+            lead,
+            number,
+        };
+        assert_eq!(rt; pages.get(place).expect(&rt, "nine pages").key, key);
+    }
+    Ok(())
 }
 
 #[test]
 fn sizes(rt: HostRuntime) {
     assert!(rt; size_of::<Page>() <= 56);
-    assert!(rt; size_of::<PageKey>() <= 32);
+    assert!(rt; size_of::<PageKey>() <= 40);
 }

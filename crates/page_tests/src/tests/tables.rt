@@ -1,14 +1,14 @@
 //! Tables and rows.
 use super::item;
-use page_jobs::{Blob, DigestRow, PageJob, PageKey, Table};
-use rim_desc::Algo;
+use page_jobs::{Blob, DigestRow, PageJob, PageKey, Table, distinct_pages};
+use rim_desc::{Algo, Source};
 use std::test::Fail;
 
 #[test]
 fn digests_are_kept_in_their_slots(rt: HostRuntime) -> Result<(), Fail> {
     let item = item(rt.alloc())?;
-    let blob = Blob::new(0, 0, item.as_slice());
-    let led = Blob::new(0, 4, item.as_slice());
+    let blob = Blob::new(Source::File(0), 0, item.as_slice());
+    let led = Blob::new(Source::File(0), 4, item.as_slice());
     let pages = [
         blob.page(Algo::Sha256, 0),
         blob.page(Algo::Sha256, 1),
@@ -36,7 +36,7 @@ fn strange_results_are_handed_back(rt: HostRuntime) -> Result<(), Fail> {
     let bytes = item(rt.alloc())?;
     let item = bytes.as_slice();
     assert_eq!(rt; item.len(), 4097);
-    let blob = Blob::new(0, 0, item);
+    let blob = Blob::new(Source::File(0), 0, item);
     let first = blob.page(Algo::Sha256, 0);
     let pages = [first, blob.page(Algo::Sha256, 1)];
     let shorter = item.get(..4095).expect(&rt, "fewer bytes");
@@ -44,11 +44,24 @@ fn strange_results_are_handed_back(rt: HostRuntime) -> Result<(), Fail> {
         // another page's slot
         (0, blob.page(Algo::Sha256, 1)),
         // an equal key, and other bytes or fewer
-        (0, Blob::new(0, 0, &item[1..]).page(Algo::Sha256, 0)),
-        (0, Blob::new(0, 0, shorter).page(Algo::Sha256, 0)),
+        (
+            0,
+            Blob::new(Source::File(0), 0, &item[1..]).page(Algo::Sha256, 0),
+        ),
+        (
+            0,
+            Blob::new(Source::File(0), 0, shorter).page(Algo::Sha256, 0),
+        ),
         // equal bytes, and another source, lead or algorithm
-        (0, Blob::new(1, 0, item).page(Algo::Sha256, 0)),
-        (1, Blob::new(0, 4095, &item[4096..]).page(Algo::Sha256, 0)),
+        (0, Blob::new(Source::File(1), 0, item).page(Algo::Sha256, 0)),
+        (
+            1,
+            Blob::new(Source::File(0), 4095, &item[4096..]).page(Algo::Sha256, 0),
+        ),
+        (
+            0,
+            Blob::new(Source::Edited(0), 0, item).page(Algo::Sha256, 0),
+        ),
         (0, blob.page(Algo::Sha512, 0)),
         // no slot
         (2, blob.page(Algo::Sha256, 0)),
@@ -67,7 +80,7 @@ fn strange_results_are_handed_back(rt: HostRuntime) -> Result<(), Fail> {
 
 #[test]
 fn second_result_is_handed_back(rt: HostRuntime) -> Result<(), Fail> {
-    let page = Blob::new(0, 0, &[7]).page(Algo::Sha256, 0);
+    let page = Blob::new(Source::File(0), 0, &[7]).page(Algo::Sha256, 0);
     let pages = [page];
     let digest = PageJob::new(page).run().digest;
     let mut table = Table::reserve(rt.alloc(), pages.as_slice())?;
@@ -78,24 +91,55 @@ fn second_result_is_handed_back(rt: HostRuntime) -> Result<(), Fail> {
     Ok(())
 }
 
+/// Slots of a large table that are filled, and slots that are left empty.
+const FILLED: [usize; 5] = [0, 4_096, 4_097, 65_536, 99_999];
+
+const EMPTY: [usize; 4] = [1, 4_095, 65_537, 99_998];
+
+#[test]
+fn large_table(rt: HostRuntime) -> Result<(), Fail> {
+    let item = item(rt.alloc())?;
+    let blob = Blob::new(Source::File(0), 0, item.as_slice());
+    let mut pages = Vec::new(rt.alloc());
+    for number in 0..100_000u64 {
+        pages.push(blob.page(Algo::Sha256, 99_999 - number))?;
+    }
+    distinct_pages(&mut pages);
+    let mut table = Table::reserve(rt.alloc(), pages.as_slice())?;
+    assert_eq!(rt; table.pages().len(), 100_000);
+    for slot in FILLED {
+        let page = blob.page(Algo::Sha256, slot as u64);
+        let hashed = PageJob::new(page).run();
+        let digest = hashed.digest;
+        assert!(rt; table.fill(slot, hashed).is_ok(), "slot {slot}");
+        assert_eq!(rt; table.get(&page.key), Some(digest), "slot {slot}");
+    }
+    for slot in EMPTY {
+        let key = blob.page(Algo::Sha256, slot as u64).key;
+        assert_eq!(rt; table.slot_of(&key), Some(slot));
+        assert_eq!(rt; table.get(&key), None, "slot {slot}");
+    }
+    Ok(())
+}
+
 #[test]
 fn empty_table(rt: HostRuntime) -> Result<(), Fail> {
     let mut table = Table::reserve(rt.alloc(), &[])?;
     let key = PageKey {
         algo: Algo::Sha256,
-        source: 0,
+        source: Source::File(0),
         lead: 0,
         number: 0,
     };
     assert_eq!(rt; table.get(&key), None);
-    let page = Blob::new(0, 0, &[7]).page(Algo::Sha256, 0);
+    let page = Blob::new(Source::File(0), 0, &[7]).page(Algo::Sha256, 0);
     assert!(rt; table.fill(0, PageJob::new(page).run()).is_err());
     Ok(())
 }
 
 #[test]
 fn rows_take_no_more_memory(rt: HostRuntime) -> Result<(), Fail> {
-    let page = Blob::new(0, 0, &[7]).page(Algo::Sha256, 0);
+    let page = Blob::new(Source::File(0), 0, &[7]).page(Algo::Sha256, 0);
     let digest = PageJob::new(page).run().digest;
     let mut row = DigestRow::reserve(rt.alloc(), 2)?;
     assert_eq!(rt; row.room(), 2);

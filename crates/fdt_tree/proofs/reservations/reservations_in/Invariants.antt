@@ -1,5 +1,5 @@
 use Rattle.std.proofs.Common.{◌≡◌, ◌-◌, length}
-use Rattle.fdt_tree.specs.Steps.{with_front}
+use Rattle.refusal.specs.Answer.{with_front}
 use Rattle.fdt_tree.specs.Reservations.{pairs_at}
 use Rattle.fdt_tree.proofs.reservations.reservations_in.Given as goal
 

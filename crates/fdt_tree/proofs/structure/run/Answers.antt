@@ -1,7 +1,6 @@
-use Rattle.std.proofs.Common.{length}
+use Rattle.std.proofs.Common.{length, inr}
 use Rattle.std.proofs.lemmas.Result.{err_from_is_err_and}
 use Rattle.fdt_tree.specs.LexemeViews.{token_of_lexeme}
-use Rattle.fdt_tree.proofs.Faults.{fails_so}
 use Rattle.fdt_tree.specs.OpenNodes.{place_of}
 use Rattle.fdt_tree.proofs.Scans.{scan_goes_on, scan_fails, scan_ends, scan_is_over, not_finish, at_place}
 use Rattle.fdt_tree.proofs.Fronts.{goes_on, fails, ends}
@@ -14,7 +13,7 @@ returns-in_err-lexeme-clause-exact c =
     let place = place_of strings c.loop.nodes in
     let f = c.in_err-lexeme.field-0.0 in
     let here = at_place strings c.loop.rest.now _ place _ (c.place_in-place.ensures strings) c.in_err-lexeme.ensures.exact in
-    rw (p.1, p.2) (fails_so f _ (fails _ _ _ f (scan_fails strings (length c.args.block.now) c.loop.counter place c.loop.rest.now f c.loop-test.true here) c.loop.invariant))
+    rw (p.1, p.2) (inr (fails _ _ _ f (scan_fails strings (length c.args.block.now) c.loop.counter place c.loop.rest.now f c.loop-test.true here) c.loop.invariant))
 
 pub returns-in-Finish-clause-exact : goal.returns-in-Finish-clause-exact
 returns-in-Finish-clause-exact c =
@@ -36,4 +35,4 @@ loop-preserved c =
 pub returns-clause-exact : goal.returns-clause-exact
 returns-clause-exact c =
     let strings = c.args.strings.now.bytes.items in
-    fails _ _ _ _ (scan_is_over strings (length c.args.block.now) c.loop.counter (place_of strings c.loop.nodes) c.loop.rest.now c.loop-test.false) c.loop.invariant
+    inr (fails _ _ _ _ (scan_is_over strings (length c.args.block.now) c.loop.counter (place_of strings c.loop.nodes) c.loop.rest.now c.loop-test.false) c.loop.invariant)

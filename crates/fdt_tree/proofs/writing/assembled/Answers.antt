@@ -1,6 +1,6 @@
 use Rattle.std.proofs.Common.{◌≡◌, ◌++◌, ℕ, List, ap, ◌∙◌}
 use Rattle.std.proofs.lemmas.Result.{err_from_is_err_and}
-use Rattle.fdt_tree.specs.Writing.{reservations_text, file_of}
+use Rattle.fdt_tree.specs.Writing.{reservations_text, file_text}
 use Rattle.fdt_tree.proofs.Writes.{assembled_is, assembled_within, file_too_long}
 use Rattle.fdt_tree.proofs.writing.assembled.Goals as goal
 
@@ -14,7 +14,7 @@ returns-clause-done c =
 
 pub returns-clause-within : goal.returns-clause-within
 returns-clause-within c =
-    let whole : c.extend_from_slice-2.new.self.items ≡ file_of c.args.boot_cpu (reservations_text c.args.reservations.now) c.args.out.now.structure.items c.args.out.now.names.strings.items =
+    let whole : c.extend_from_slice-2.new.self.items ≡ file_text c.args.boot_cpu (reservations_text c.args.reservations.now) c.args.out.now.structure.items c.args.out.now.names.strings.items =
     assembled_is c.in_ok-lengths.lengths c.args.boot_cpu (reservations_text c.args.reservations.now) c.args.out.now.structure.items c.args.out.now.names.strings.items
     c.new-file.result.items c.put_places.new.out.items c.put_versions.new.out.items c.put_reservations.new.out.items c.extend_from_slice.new.self.items c.extend_from_slice-2.new.self.items
     c.in_ok-lengths.ensures.lengths c.new-file.ensures.items c.in_ok-put_places.ensures c.in_ok-put_versions.ensures c.in_ok-put_reservations.ensures

@@ -1,4 +1,4 @@
-use Rattle.std.proofs.Common.{refl, arith}
+use Rattle.std.proofs.Common.{inr, refl, arith}
 use Rattle.fdt_tree.proofs.Writes.{reservations_len}
 use Rattle.fdt_tree.proofs.writing.lengths_of.Goals as goal
 
@@ -7,7 +7,7 @@ pub returns-then-total-gt-MAX_LEN-clause-refused :
 returns-then-total-gt-MAX_LEN-clause-refused c =
     let s = c.args.out.now.structure in
     let t = c.args.out.now.names.strings in
-    (refl, omega (arith, reservations_len c.args.reservations.now, c.len-structure.ensures, c.len-strings.ensures, s.ok.0, t.ok.0, c.saturating_mul.ensures, c.saturating_add-reserve.ensures, c.saturating_add.ensures, c.saturating_add-2.ensures, c.saturating_add-total.ensures))
+    inr (refl, omega (arith, reservations_len c.args.reservations.now, c.len-structure.ensures, c.len-strings.ensures, s.ok.0, t.ok.0, c.saturating_mul.ensures, c.saturating_add-reserve.ensures, c.saturating_add.ensures, c.saturating_add-2.ensures, c.saturating_add-total.ensures))
 
 pub returns-clause-lengths : goal.returns-clause-lengths
 returns-clause-lengths c =

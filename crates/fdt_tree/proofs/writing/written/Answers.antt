@@ -3,7 +3,7 @@ use Rattle.std.proofs.lemmas.Result.{err_from_is_err_and}
 use Rattle.std.specs.Int.{w32, to_be_bytes}
 use Rattle.fdt_tree.specs.declared.tree.Reservation.{Reservation}
 use Rattle.fdt_tree.specs.Wholeness.{tree_in}
-use Rattle.fdt_tree.specs.Writing.{text_after, names_after, strings_text, reservations_text, file_of, written}
+use Rattle.fdt_tree.specs.Writing.{text_after, names_after, strings_text, reservations_text, file_text, written}
 use Rattle.fdt_tree.specs.NameTables.{TooMuch}
 use Rattle.fdt_tree.specs.OutputViews.{size_of, tokens_of_nodes}
 use Rattle.fdt_tree.proofs.Writes.{written_is, size_within}
@@ -11,11 +11,11 @@ use Rattle.fdt_tree.proofs.Faults.{more_than}
 use Rattle.fdt_tree.proofs.WrittenFile.{again_if_ok}
 use Rattle.fdt_tree.proofs.writing.written.Goals as goal
 
-whole : (c : goal.After-drop-out-4) → file_of c.args.contents.now.boot_cpu (reservations_text c.deref-2.result.now) c.in_ok-out.out.structure.items c.in_ok-out.out.names.strings.items ≡ written (tree_in c.args.contents.now)
+whole : (c : goal.After-drop-out-4) → file_text c.args.contents.now.boot_cpu (reservations_text c.deref-2.result.now) c.in_ok-out.out.structure.items c.in_ok-out.out.names.strings.items ≡ written (tree_in c.args.contents.now)
 whole c =
     let t = c.args.contents.now in
     let o = c.in_ok-out.out in
-    ap (λ (rs : List Reservation). file_of t.boot_cpu (reservations_text rs) o.structure.items o.names.strings.items) c.deref-2.ensures.value
+    ap (λ (rs : List Reservation). file_text t.boot_cpu (reservations_text rs) o.structure.items o.names.strings.items) c.deref-2.ensures.value
     ∙ written_is t o.structure.items o.names.strings.items c.requires.unnamed
     (c.in_ok-out.ensures.structure ∙ ap (λ (s : List ℕ). text_after [] (tokens_of_nodes s (t.root ∷ [])) ++ to_be_bytes w32 9) c.deref.ensures.value)
     (c.in_ok-out.ensures.strings ∙ ap (λ (s : List ℕ). strings_text (names_after [] (tokens_of_nodes s (t.root ∷ [])))) c.deref.ensures.value)

@@ -4,7 +4,7 @@ use Rattle.std.specs.Int.{w64, to_be_bytes}
 use Rattle.fdt_tree.specs.Devicetree.{Devicetree}
 use Rattle.fdt_tree.specs.Trees.{devicetree_of}
 use Rattle.ipa_layout.specs.Changes.{chosen}
-use Rattle.ipa_layout.proofs.Sequences.{fails_on, gives_behind}
+use Rattle.ipa_layout.proofs.Sequences.{fails_on, gives_after}
 use Rattle.ipa_layout.proofs.changing.put_initrd.Goals as goal
 
 pub returns-in_err-put_address : goal.returns-in_err-put_address
@@ -16,4 +16,4 @@ returns-in_err-put_address c =
 pub returns : goal.returns
 returns c =
     let next : Devicetree → _ = λ t. chosen (codes "linux,initrd-end") (to_be_bytes w64 c.in-Some.region.end) t in
-    rw c.in-Some.is (gives_behind _ c.put_address-2.result _ (devicetree_of c.put_address.new.tree) next c.in_ok-put_address.ensures c.put_address-2.ensures)
+    rw c.in-Some.is (gives_after _ c.put_address-2.result _ (devicetree_of c.put_address.new.tree) next c.in_ok-put_address.ensures c.put_address-2.ensures)

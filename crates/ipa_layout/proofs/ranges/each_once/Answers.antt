@@ -1,7 +1,7 @@
 use Rattle.std.proofs.Common.{◌∙◌, refl, subst, arith, List}
 use Rattle.std.proofs.lemmas.List.{take_all}
 use Rattle.ipa_layout.specs.declared.step.Step.{Step}
-use Rattle.ipa_layout.specs.StepMarks.{AreMarks}
+use Rattle.ipa_layout.specs.StepViews.{AreMarks}
 use Rattle.ipa_layout.proofs.Marks.{no_marks, all_marked}
 use Rattle.ipa_layout.proofs.ranges.each_once.Goals as goal
 

@@ -1,5 +1,5 @@
 use Rattle.std.proofs.Common.{◌≡◌, take, length}
-use Rattle.ipa_layout.specs.StepMarks.{AreMarks}
+use Rattle.ipa_layout.specs.StepViews.{AreMarks}
 use Rattle.ipa_layout.proofs.ranges.each_once.Given as goal
 
 abbrev pub invariant-loop-step : goal.invariant-loop-step

@@ -1,5 +1,5 @@
 use Rattle.std.proofs.Common.{rules}
-use Rattle.page_jobs.specs.PageBytes.{front_of}
+use Rattle.page_jobs.specs.Lent.{front_of}
 use Rattle.page_jobs.proofs.Contents.{contents-whole}
 use Rattle.page_jobs.proofs.hashed.page_digest.Goals as goal
 

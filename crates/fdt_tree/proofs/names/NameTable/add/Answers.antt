@@ -1,4 +1,4 @@
-use Rattle.std.proofs.Common.{◌++◌, ◌∷◌, [], ℕ, List, Some, cond, length, refl, ap, ◌∙◌, arith}
+use Rattle.std.proofs.Common.{◌++◌, ◌∷◌, [], ℕ, List, Some, cond, inr, length, refl, ap, ◌∙◌, arith}
 use Rattle.std.specs.Ordering.{nat_cmp}
 use Rattle.std.specs.Cmp.Lexicographic.{slice_cmp}
 use Rattle.std.specs.BTreeMap.{get_by}
@@ -11,7 +11,7 @@ pub returns-then-saturating_sub-name-clause-refused :
 returns-then-saturating_sub-name-clause-refused c = λ source names h.
     let v = c.args.self.now.strings in
     let e = h.strings in
-    (refl, too_long names c.args.name.now c.len-at.result (omega (arith, c.len-at.ensures, v.ok.0, ap length e)) (omega (arith, c.if-saturating_sub-name.true, c.saturating_sub.ensures)))
+    inr (refl, too_long names c.args.name.now c.len-at.result (omega (arith, c.len-at.ensures, v.ok.0, ap length e)) (omega (arith, c.if-saturating_sub-name.true, c.saturating_sub.ensures)))
 
 pub returns-clause-after : goal.returns-clause-after
 returns-clause-after c = λ source names h absent.

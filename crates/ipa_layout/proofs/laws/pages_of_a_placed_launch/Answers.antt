@@ -1,0 +1,5 @@
+use Rattle.ipa_layout.proofs.PlacedFacts.{few-pages}
+use Rattle.ipa_layout.proofs.laws.pages_of_a_placed_launch.Goals as goal
+
+pub returns : goal.returns
+returns c = few-pages

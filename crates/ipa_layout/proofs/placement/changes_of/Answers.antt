@@ -1,8 +1,0 @@
-use Rattle.std.proofs.Common.{rules}
-use Rattle.ipa_layout.proofs.placement.changes_of.Goals as goal
-
-pub returns-in_default : goal.returns-in_default
-returns-in_default c = search rules
-
-pub returns : goal.returns
-returns c = search rules

@@ -1,0 +1,48 @@
+//! Laws of placed launches: functions that do nothing, whose contracts are the laws.
+ghost use Rattle.std.specs.Prelude.{◌≡◌, ℕ, ◌+◌, ◌*◌, ◌%◌, ◌^◌, ◌<◌, ◌≤◌, List, length};
+ghost use Rattle.ipa_layout.specs.declared.item.Item.{Item};
+ghost use Rattle.ipa_layout.specs.declared.placed.PlacedItem.{PlacedItem};
+ghost use Rattle.ipa_layout.specs.LaunchData.{LaunchData};
+ghost use Rattle.ipa_layout.specs.Placements.{IsPlaced, PlacedData};
+ghost use Rattle.ipa_layout.specs.PlacedFacts.{HasPage, IsItem, IsSourceOf, page_end, page_total};
+
+/// A placed launch has the launch's number, and as many items and RECs as the launch.
+pub fn parts_of_a_placed_launch()
+    ensures number { (l : LaunchData) (files : List (List ℕ)) (p : PlacedData) → IsPlaced l files p
+        → p.number ≡ l.number }
+    ensures items { (l : LaunchData) (files : List (List ℕ)) (p : PlacedData) → IsPlaced l files p
+        → length p.items ≡ length l.items }
+    ensures recs { (l : LaunchData) (files : List (List ℕ)) (p : PlacedData) → IsPlaced l files p
+        → length p.recs ≡ length l.recs }
+{}
+
+/// An item's lead is how many bytes after the start of a page it begins; its bytes are those of its own
+/// file or of the devicetree that this launch changed; it is measured where the launch asks for it; and
+/// its pages end at 2^64 at the latest.
+pub fn each_placed_item()
+    ensures lead { (l : LaunchData) (files : List (List ℕ)) (p : PlacedData) → IsPlaced l files p
+        → (number : ℕ) (asked : Item) (i : PlacedItem) → IsItem l p number asked i
+        → i.lead ≡ i.address % 4096 }
+    ensures source { (l : LaunchData) (files : List (List ℕ)) (p : PlacedData) → IsPlaced l files p
+        → (number : ℕ) (asked : Item) (i : PlacedItem) → IsItem l p number asked i
+        → IsSourceOf l p asked i.source }
+    ensures measured { (l : LaunchData) (files : List (List ℕ)) (p : PlacedData) → IsPlaced l files p
+        → (number : ℕ) (asked : Item) (i : PlacedItem) → IsItem l p number asked i
+        → i.measured ≡ asked.measured }
+    ensures end { (l : LaunchData) (files : List (List ℕ)) (p : PlacedData) → IsPlaced l files p
+        → (number : ℕ) (asked : Item) (i : PlacedItem) → IsItem l p number asked i
+        → 4096 * page_end i ≤ 2 ^ 64 }
+{}
+
+/// All items of a placed launch have at most 1,048,576 pages together.
+pub fn pages_of_a_placed_launch()
+    ensures { (l : LaunchData) (files : List (List ℕ)) (p : PlacedData) → IsPlaced l files p
+        → page_total p ≤ 1048576 }
+{}
+
+/// No page is a page of two items.
+pub fn pages_are_apart()
+    ensures { (l : LaunchData) (files : List (List ℕ)) (p : PlacedData) → IsPlaced l files p
+        → (m n : ℕ) (a b : Item) (i j : PlacedItem) → m < n → IsItem l p m a i → IsItem l p n b j
+        → (page : ℕ) → HasPage i page → HasPage j page → ⊥ }
+{}

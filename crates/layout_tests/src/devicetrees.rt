@@ -1,0 +1,79 @@
+//! Each fault of a devicetree, as a launch that changes it is refused for it.
+use crate::placements::{CHOSEN, Case, EMPTY, LARGE, What, check_case, files};
+use fdt_tree::FdtFault;
+use ipa_layout::LayoutFault;
+use std::alloc::{AllocError, Global};
+
+/// A root with a node `a`, and after it a property `reg`, which may not be there. Written out by hand.
+const LATE: [u8; 100] = [
+    0xd0, 0x0d, 0xfe, 0xed, 0, 0, 0, 0x64, 0, 0, 0, 0x38, 0, 0, 0, 0x60, 0, 0, 0, 0x28, 0, 0, 0,
+    0x11, 0, 0, 0, 0x10, 0, 0, 0, 0, 0, 0, 0, 4, 0, 0, 0, 0x28, 0, 0, 0, 0, 0, 0, 0, 0, 0, 0, 0, 0,
+    0, 0, 0, 0, 0, 0, 0, 1, 0, 0, 0, 0, 0, 0, 0, 1, 0x61, 0, 0, 0, 0, 0, 0, 2, 0, 0, 0, 3, 0, 0, 0,
+    0, 0, 0, 0, 0, 0, 0, 0, 2, 0, 0, 0, 9, 0x72, 0x65, 0x67, 0,
+];
+
+/// The begin of a node `a`.
+const BEGIN_A: [u8; 8] = [0, 0, 0, 1, 0x61, 0, 0, 0];
+
+/// A devicetree and its fault: a file, how many of its bytes are taken, which of them are changed to what,
+/// how many times the begin of a node follows, and the fault.
+type Row = (
+    &'static [u8],
+    usize,
+    &'static [(usize, u8)],
+    usize,
+    FdtFault,
+);
+
+const ROWS: [Row; 12] = [
+    (&EMPTY, 39, &[], 0, FdtFault::Short),
+    (&EMPTY, 72, &[(0, 0)], 0, FdtFault::BadMagic),
+    (&EMPTY, 72, &[(23, 16)], 0, FdtFault::BadVersion),
+    (&EMPTY, 72, &[(7, 0x49)], 0, FdtFault::BadBlock),
+    (&EMPTY, 72, &[(55, 1)], 0, FdtFault::BadReserve),
+    (&EMPTY, 72, &[(71, 8)], 0, FdtFault::BadToken),
+    (&EMPTY, 72, &[(60, 0x61)], 0, FdtFault::BadName),
+    (&CHOSEN, 117, &[(87, 9)], 0, FdtFault::BadString),
+    (&LATE, 100, &[], 0, FdtFault::LateProperty),
+    // A root, and 64 nodes each in the one before it.
+    (
+        &EMPTY,
+        64,
+        &[(6, 2), (7, 0x40), (38, 2), (39, 8)],
+        64,
+        FdtFault::TooDeep,
+    ),
+    // The memory's size has one cell and more than 32 bits.
+    (&EMPTY, 72, &[], 0, FdtFault::BadCells),
+    // 2 MiB and 8 bytes.
+    (&EMPTY, 72, &[], 262_136, FdtFault::TooLarge),
+];
+
+fn devicetree(alloc: Global, row: Row) -> Result<Vec<u8>, AllocError> {
+    let (file, taken, changes, times, _) = row;
+    let mut bytes = Vec::new(alloc);
+    for (at, byte) in file.iter().enumerate().take(taken) {
+        let change = changes.iter().find(|(place, _)| *place == at);
+        bytes.push(change.map_or(*byte, |(_, changed)| *changed))?;
+    }
+    for _ in 0..times {
+        bytes.extend_from_slice(&BEGIN_A)?;
+    }
+    Ok(bytes)
+}
+
+#[test]
+fn each_fault_of_a_devicetree(rt: HostRuntime) -> Result<(), AllocError> {
+    let alloc = rt.alloc();
+    for (number, row) in ROWS.into_iter().enumerate() {
+        let bytes = devicetree(alloc, row)?;
+        let files = files(alloc, &[&[], &[], &bytes])?;
+        let case = Case {
+            ram: &LARGE,
+            items: &[(What::Edited, 0x4000_0000, None)],
+            wanted: Err(LayoutFault::Dtb(row.4)),
+        };
+        check_case(&rt, alloc, &files, &case, number)?;
+    }
+    Ok(())
+}

@@ -1,0 +1,41 @@
+use Rattle.std.proofs.Common.{◌∙◌, ◌≡◌, List, sym, ap, map, subst}
+use Rattle.clap.specs.Words.{App, HasKind, HasMatchesOf, Text, fault_of, found_of, is_simple, is_simple_and_free, rows_of, subcommand_of, subcommand_rows_of, takes}
+use Rattle.clap.specs.declared.parser.matches.ArgMatches.{ArgMatches}
+use Rattle.rim_cli.specs.Command.{rim}
+use Rattle.rim_cli.proofs.Entering.{entered_good, rows_met}
+use Rattle.rim_cli.proofs.words.command.Goals as goal
+
+-- what the definition has on the words is what the matches have
+words_met : (a : App) (words : List Text) (m : ArgMatches) → a ≡ rim → HasMatchesOf a words m → subcommand_rows_of m ≡ subcommand_of rim words
+words_met a words m shape matches = (matches (ap is_simple shape)).1 ∙ ap (λ (a : App). subcommand_of a words) shape
+
+pub request_of-requires : goal.request_of-requires
+request_of-requires g c =
+    let words = map g.S.AsStr.text c.args.words.now in
+    let met = words_met _ words _ c.in-Ok.ensures.shape c.in-Ok-try_get_matches_from.ensures.matches in
+    let rows = rows_met _ c.in-Some.name.now (rows_of (found_of c.in-Some.given.now)) (sym c.in-Some.ensures.name) (sym c.in-Some.ensures.rows) in
+    let none = c.in-Ok-try_get_matches_from.ensures.kinds (ap is_simple_and_free c.in-Ok.ensures.shape) in
+    entered_good words (c.in-Some.name.now, rows_of (found_of c.in-Some.given.now)) (ap (λ (a : App). fault_of a words) (sym c.in-Ok.ensures.shape) ∙ none) (sym met ∙ rows)
+
+pub returns-clause-reads : goal.returns-clause-reads
+returns-clause-reads g c =
+    let words = map g.S.AsStr.text c.args.words.now in
+    let met = words_met _ words _ c.in-Ok.ensures.shape c.in-Ok-try_get_matches_from.ensures.matches in
+    let rows = rows_met _ c.in-Some.name.now (rows_of (found_of c.in-Some.given.now)) (sym c.in-Some.ensures.name) (sym c.in-Some.ensures.rows) in
+    rw (← met, rows) c.request_of.ensures
+
+pub returns-in-Err-clause-takes : goal.returns-in-Err-clause-takes
+returns-in-Err-clause-takes g c t =
+    c.fault_of.ensures.memory (c.in-Err.ensures.passes (ap (λ (a : App). takes a (map g.S.AsStr.text c.args.words.now)) c.in-Ok.ensures.shape ∙ t))
+
+pub returns-in-Err-clause-refused : goal.returns-in-Err-clause-refused
+returns-in-Err-clause-refused g c =
+    let words = map g.S.AsStr.text c.args.words.now in
+    let kinds : HasKind (fault_of rim words) c.in-Err.error = subst (λ (a : App). HasKind (fault_of a words) c.in-Err.error) c.in-Ok.ensures.shape (c.in-Err.ensures.kinds (ap is_simple_and_free c.in-Ok.ensures.shape)) in
+    c.fault_of.ensures.kinds (fault_of rim words) kinds
+
+pub returns-clause-sound : goal.returns-clause-sound
+returns-clause-sound g c =
+    let words = map g.S.AsStr.text c.args.words.now in
+    let none = c.in-Ok-try_get_matches_from.ensures.kinds (ap is_simple_and_free c.in-Ok.ensures.shape) in
+    ap (λ (a : App). fault_of a words) (sym c.in-Ok.ensures.shape) ∙ none

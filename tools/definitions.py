@@ -1,0 +1,181 @@
+#!/usr/bin/env python3
+"""Checks the definitions of the house against its documents.
+
+    tools/definitions.py           the table of promises with their lines
+    tools/definitions.py --check   status 1 where something does not hold
+
+A promise of docs/PROMISES.md names definitions, as `FILE.word`. Its number is how many lines of definitions one
+has to believe for it: those that it names and all that they are made of, down to the kit's own words.
+Comments, imports and empty lines do not count, nor do types that are declared in src/.
+
+The check asks three things:
+1. each number of docs/PROMISES.md is the one that is counted here;
+2. docs/ARCHITECTURE.md names each file of specs/, but for those in specs/inside/, which hold what loops and
+   fields keep;
+3. each definition of specs/ is named by a contract, or by a definition that is. What only proofs need belongs in
+   proofs/.
+"""
+import pathlib
+import re
+import sys
+
+TOP = pathlib.Path(__file__).resolve().parent.parent
+HEAD = re.compile(r"^(?:abbrev |unfoldable )*(?:pub )?(?:data |record )?([^\s:(]+)(?: :|[ ({].*: Type)")
+WORD = re.compile(r"[^\s(){}\[\],;.∷×→λ≡]+(?:\.[^\s(){}\[\],;.∷×→λ≡]+)*")
+USE = re.compile(r"^\s*(?:ghost )?(?:pub )?use Rattle\.(\w+)\.specs\.([\w.]+?)(?:\.\{([^}]*)\}| as (\w+))?;?\s*$", re.M)
+
+
+def spec_files():
+    """Each file of definitions: its crate, its place in specs/ with dots, its path."""
+    for path in sorted(TOP.glob("crates/*/specs/**/*.antt")):
+        parts = path.relative_to(TOP / "crates").parts
+        yield parts[0], ".".join(parts[2:])[: -len(".antt")], path
+
+
+def blocks(text):
+    """The declarations of a file, as (name, lines)."""
+    name, lines = None, []
+    for line in text.splitlines():
+        if not line.strip() or line.lstrip().startswith("--") or re.match(r"(pub )?(use|mod|infix\w*) ", line):
+            continue
+        head = HEAD.match(line)
+        if head and not line.startswith(" ") and "=" not in line.split(":")[0]:
+            if name:
+                yield name, lines
+            name, lines = head.group(1), []
+        lines.append(line)
+    if name:
+        yield name, lines
+
+
+def imported(text):
+    """What a text brings in: single names, and files under another name."""
+    names, files = {}, {}
+    for crate, path, listed, alias in USE.findall(text):
+        if listed:
+            for name in filter(None, (name.strip() for name in listed.split(","))):
+                there, _, here = name.partition(" as ")
+                names[(here or there).strip()] = (crate, path, there.strip())
+        else:
+            files[alias or path.rsplit(".", 1)[-1]] = (crate, path)
+    return names, files
+
+
+def spoken(text):
+    """The words of a text, but for the names of fields; a word behind a file's name keeps it."""
+    text = re.sub(r"--.*", " ", text)
+    text = re.sub(r"^  pub \w+ :", " ", text, flags=re.M)
+    text = re.sub(r"(\{|;|^ )\s*\w+ = ", r"\1 ", text, flags=re.M)
+    return WORD.findall(text)
+
+
+def resolved(word, names, files):
+    """The declarations that a word may stand for."""
+    first, _, rest = word.partition(".")
+    if first in names:
+        yield names[first]
+    if first in files and rest:
+        crate, path = files[first]
+        yield crate, path, rest.split(".")[0]
+
+
+def declarations():
+    """Each declaration: how many lines it has, and the declarations that it names."""
+    found, named = {}, {}
+    for crate, place, path in spec_files():
+        text = path.read_text()
+        names, files = imported(text)
+        own = dict(blocks(text))
+        names.update({name: (crate, place, name) for name in own})
+        for name, lines in own.items():
+            key = crate, place, name
+            found[key] = len(lines)
+            named[key] = {k for w in spoken("\n".join(lines)) for k in resolved(w, names, files)} - {key}
+    return {key: (count, {k for k in named[key] if k in found}) for key, count in found.items()}
+
+
+def reached(known, keys):
+    """These declarations and all that they are made of."""
+    seen, left = set(), list(keys)
+    while left:
+        key = left.pop()
+        if key in known and key not in seen:
+            seen.add(key)
+            left += known[key][1]
+    return seen
+
+
+def cited(known):
+    """The declarations that the code names: in contracts, ghost fields, models, and types of the machine."""
+    for path in sorted(TOP.glob("crates/*/src/**/*.rt")):
+        text = path.read_text()
+        names, files = imported(text)
+        yield from (key for key in names.values() if key in known)
+        for word in set(WORD.findall(text)):
+            yield from (key for key in resolved(word, {}, files) if key in known)
+        for crate, place, word in re.findall(r"crate::()specs::([\w:]+)::(\w+)", text):
+            yield path.relative_to(TOP / "crates").parts[0], place.replace("::", "."), word
+
+
+def pointed_at(known, crate, cell):
+    """The declarations that a cell of the table names. `FILE` alone stands for all of the file."""
+    place = None
+    for whose, word in re.findall(r"(?:`(\w+)`'s )?`([^`]+)`", cell):
+        home = whose or crate
+        if "." in word:
+            place, word = word.rsplit(".", 1)
+        homes = [home] + sorted({k[0] for k in known} - {home})
+        for at in homes:
+            keys = [k for k in known if k == (at, place, word)] or [k for k in known if k[:2] == (at, word)]
+            if keys:
+                yield from keys
+                break
+
+
+def promises(known):
+    """Each promise: its crate, what it names, the number that is written, the number that is counted."""
+    crate, keys = None, []
+    for line in (TOP / "docs/PROMISES.md").read_text().splitlines():
+        if line.startswith("## "):
+            crate = line[3:].strip()
+        cells = [cell.strip() for cell in line.strip().strip("|").split(" | ")]
+        if not line.startswith("| ") or len(cells) < 4 or cells[0] == "Promise":
+            continue
+        keys = keys if cells[1].startswith("the same") else []
+        keys = keys + list(pointed_at(known, crate, cells[1]))
+        counted = str(sum(known[key][0] for key in reached(known, keys))) if keys else ""
+        yield crate, cells[1], cells[3], counted
+
+
+def unnamed_files():
+    """The files of specs/ that docs/ARCHITECTURE.md does not name in the row of their crate's rules."""
+    named = set()
+    for line in (TOP / "docs/ARCHITECTURE.md").read_text().splitlines():
+        crate = None
+        for word in re.findall(r"`([^`]+)`", line):
+            at = re.match(r"(\w+)/specs/(.*)", word)
+            crate, word = (at.group(1), at.group(2)) if at else (crate, word)
+            if crate and word.endswith(".antt"):
+                named.add((crate, word[: -len(".antt")]))
+    for crate, place, path in spec_files():
+        if place not in ("Lib", "inside") and not place.startswith("inside.") and (crate, place) not in named:
+            yield f"crates/{crate}/specs/{place}.antt"
+
+
+def main():
+    known, wrong = declarations(), []
+    for crate, what, written, counted in promises(known):
+        if "--check" not in sys.argv:
+            print(f"{crate}\t{counted}\t{what}")
+        elif written != counted:
+            wrong.append(f"docs/PROMISES.md: {crate}: {what}: {written} lines are written, {counted} are counted")
+    if "--check" in sys.argv:
+        wrong += [f"docs/ARCHITECTURE.md does not name {path}" for path in unnamed_files()]
+        used = reached(known, cited(known))
+        wrong += [f"crates/{c}/specs/{p}.antt: no contract needs {name}" for c, p, name in sorted(set(known) - used)]
+    print("\n".join(wrong), end="\n" if wrong else "")
+    return 1 if wrong else 0
+
+
+if __name__ == "__main__":
+    sys.exit(main())
