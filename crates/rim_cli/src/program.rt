@@ -11,9 +11,9 @@ ghost use Rattle.rim_cli.specs.Done.{IsAnswer, IsDone, Refuses, RefusesFdt, Refu
 ghost use Rattle.std.specs.IoError.{error_kind};
 ghost use Rattle.rim_cli.specs.Status.{status_of, unreadable_status};
 
-use crate::words::{CommandFault, Request, command};
 use crate::fault::Fault;
 use crate::file::{Opener, read_file, read_files};
+use crate::words::{CommandFault, Request, command};
 use rim_release::{measure_alone, read_manifest, show_fdt, show_image};
 use std::alloc::Global;
 use std::convert::AsStr;
