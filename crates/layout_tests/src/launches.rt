@@ -1,7 +1,8 @@
 //! Which parts make a launch.
-use ipa_layout::{Bootargs, Config, Edits, Item, Kind, Launch, Rec, Region, Step};
+use ipa_layout::{Bootargs, Config, Edits, Item, Kind, Launch, Rec, Region, Step, default_steps};
 use rim_desc::Algo;
 use std::alloc::{AllocError, Global};
+use std::test::Fail;
 
 fn config() -> Config {
     Config {
@@ -75,6 +76,38 @@ fn steps_name_each_part_once(rt: HostRuntime) -> Result<(), AllocError> {
         let made = launch(alloc, config(), kinds, steps)?;
         assert_eq!(rt; made.is_some(), makes_one, "case {number}");
     }
+    Ok(())
+}
+
+const KINDS_IN_ORDER: [Step; 9] = [
+    Step::Ram(0),
+    Step::Ram(1),
+    Step::Item(3),
+    Step::Item(2),
+    Step::Item(1),
+    Step::Item(0),
+    Step::Item(4),
+    Step::Rec(0),
+    Step::Rec(1),
+];
+
+// Raw content, a devicetree, an initrd, a kernel, and raw content.
+#[test]
+fn default_steps_by_kind(rt: HostRuntime) -> Result<(), Fail> {
+    let alloc = rt.alloc();
+    let edits = Edits {
+        bootargs: None,
+        initrd: false,
+        memory: false,
+    };
+    let mut items = Vec::new(alloc);
+    items.push(item(Kind::Raw { file: 0 }))?;
+    items.push(item(Kind::Dtb { file: 0, edits }))?;
+    items.push(item(Kind::Initrd { file: 0 }))?;
+    items.push(item(Kind::Kernel { file: 0 }))?;
+    items.push(item(Kind::Raw { file: 0 }))?;
+    let steps = default_steps(alloc, 2, &items, 2)?;
+    assert_eq!(rt; steps.as_slice(), KINDS_IN_ORDER.as_slice());
     Ok(())
 }
 

@@ -3,4 +3,5 @@ pub mod Order
 pub mod Keys
 pub mod Rising
 pub mod Once
+pub mod Neighbours
 pub mod Slots

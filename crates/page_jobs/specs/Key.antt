@@ -1,5 +1,5 @@
 -- Keys of pages, and their order. This project's choice.
-use Rattle.std.specs.Prelude.{◌≡◌, List, [], ◌∷◌}
+use Rattle.std.specs.Prelude.{◌≡◌, ◌+◌, List, [], ◌∷◌}
 use Rattle.std.specs.List.{AllPairs}
 use Rattle.std.specs.Ordering.{nat_cmp, ordering_then}
 use Rattle.std.specs.declared.cmp.Ordering.{Ordering}
@@ -16,6 +16,10 @@ key_cmp a b = ordering_then (nat_cmp (algo_value a.algo) (algo_value b.algo))
 -- each key is below those after it
 abbrev pub IsRising : List PageKey → Type 0
 IsRising keys = AllPairs (λ a b. key_cmp a b ≡ Less) keys
+
+-- the key of the page after this one in the same item
+abbrev pub next_key : PageKey → PageKey
+next_key key = record key { number = key.number + 1 }
 
 -- keys that rise, with one more in its place, unless it is there
 abbrev pub with_key : PageKey → List PageKey → List PageKey

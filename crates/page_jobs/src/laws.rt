@@ -1,10 +1,10 @@
 //! Laws for readers of the definitions, proved.
-ghost use Rattle.std.specs.Prelude.{◌≡◌, ℕ, List, ◌<◌, ◌↔◌, Some, map, slice_get};
+ghost use Rattle.std.specs.Prelude.{◌≡◌, ℕ, List, ◌+◌, ◌<◌, ◌↔◌, IsSome, Some, map, slice_get};
 ghost use Rattle.std.specs.List.{All, Contains};
 ghost use Rattle.rim_desc.specs.PageBytes.{page_bytes};
 ghost use Rattle.rim_desc.specs.declared.measurement.Algo.{Algo};
 ghost use Rattle.rim_desc.specs.declared.source.Source.{Source};
-ghost use Rattle.page_jobs.specs.Key.{IsRising, key_cmp, rising_keys};
+ghost use Rattle.page_jobs.specs.Key.{IsRising, key_cmp, next_key, rising_keys};
 ghost use Rattle.page_jobs.specs.Page.{IsPageOf, PageView, contents_of, page_named, page_of};
 ghost use Rattle.page_jobs.specs.Table.{keys_of, slot_of};
 ghost use Rattle.page_jobs.specs.declared.page.PageKey.{PageKey};
@@ -34,7 +34,10 @@ pub fn rising_keys_are_the_keys_once()
 {}
 
 /// In pages whose keys rise each page is in the slot of its key, and the page in the slot of a key has it.
+/// Just their keys have slots, and the slot of an item's next page is the next one.
 pub fn slots_go_by_keys()
     ensures page { (pages : List PageView) → IsRising (keys_of pages) → (j : ℕ) (p : PageView) → slice_get pages j ≡ Some p → slot_of pages p.key ≡ Some j }
     ensures key { (pages : List PageView) (key : PageKey) (j : ℕ) (p : PageView) → slot_of pages key ≡ Some j → slice_get pages j ≡ Some p → p.key ≡ key }
+    ensures there { (pages : List PageView) → IsRising (keys_of pages) → (key : PageKey) → IsSome (slot_of pages key) ↔ Contains (keys_of pages) key }
+    ensures next { (pages : List PageView) → IsRising (keys_of pages) → (key : PageKey) (j : ℕ) → slot_of pages key ≡ Some j → Contains (keys_of pages) (next_key key) → slot_of pages (next_key key) ≡ Some (j + 1) }
 {}
