@@ -12,5 +12,6 @@ pub mod Alike
 pub mod Wants
 pub mod Plans
 pub mod Among
+pub mod Accepted
 pub mod Asking
 pub mod Filled

@@ -6,6 +6,7 @@ pub mod Wanted
 pub mod Agreement
 pub mod Among
 pub mod Planned
+pub mod Accepted
 pub mod InTurn
 pub mod PageRanges
 pub mod TablesInside

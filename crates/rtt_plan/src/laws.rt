@@ -1,19 +1,21 @@
 //! Laws for the lists of commands that are made of a plan, proved of the definitions.
-ghost use Rattle.std.specs.Prelude.{◌≡◌, ◌++◌, ◌/◌, ◌<◌, ◌≤◌, ◌&&◌, nat_le, nat_lt, ℕ, List, [], map, true, false};
+ghost use Rattle.std.specs.Prelude.{◌≡◌, ◌++◌, ◌/◌, ◌<◌, ◌≤◌, ◌&&◌, nat_le, nat_lt, ℕ, List, [], map, true, false, Ok};
 ghost use Rattle.std.specs.List.{list_all, list_any};
 ghost use Rattle.rmm_model.specs.Blocks.{granules, size};
 ghost use Rattle.rmm_model.specs.Checks.{walk_of};
 ghost use Rattle.rmm_model.specs.Space.{has, is_ram, made, overlaps, walk};
 ghost use Rattle.rmm_model.specs.declared.table.Table.{Table};
 ghost use Rattle.rtt_plan.specs.Agreement.{IsFormed, IsFresh, IsUsed};
+ghost use Rattle.rtt_plan.specs.Accepted.{AcceptsData, AcceptsRegion};
 ghost use Rattle.rtt_plan.specs.Among.{pages_among, runs_among};
 ghost use Rattle.rtt_plan.specs.Entries.{block_level, entries, fits};
 ghost use Rattle.rtt_plan.specs.Following.{AreRuns, block_of, blocks_of, ranges_of};
 ghost use Rattle.rtt_plan.specs.InTurn.{AreFilledInTurn, AreMadeInTurn, AreSetInTurn};
 ghost use Rattle.rtt_plan.specs.Places.{IsRegion};
-ghost use Rattle.rtt_plan.specs.Planned.{AgreesWith, IsPlanned, Planned, after_data, after_region, nothing_planned, plan_data, plan_region};
+ghost use Rattle.rtt_plan.specs.Planned.{AgreesWith, IsPlanned, Planned, after_data, after_region, data_acts, nothing_planned, plan_data, plan_region, region_acts};
 ghost use Rattle.rtt_plan.specs.Runs.{runs_of};
 ghost use Rattle.rtt_plan.specs.Wanted.{page_acts, page_tables, run_acts, run_tables, tables_after, wanted};
+ghost use Rattle.rtt_plan.specs.declared.act.Act.{Act};
 ghost use Rattle.rtt_plan.specs.declared.run.Run.{Run};
 
 /// The block of a page lies in its region and has an allowed level, and no larger block does.
@@ -45,6 +47,12 @@ pub fn runs_make_the_region_ram()
 pub fn acts_make_the_tables()
     ensures runs { (start : ℕ) (runs : List Run) (ts : List Table) → tables_after ts (run_acts start ts runs) ≡ run_tables start ts runs }
     ensures pages { (start : ℕ) (pages : List ℕ) (ts : List Table) → tables_after ts (page_acts start ts pages) ≡ page_tables start ts pages }
+{}
+
+/// Of a call that is not refused each check was passed, and its acts are those of the definition.
+pub fn what_is_planned_passed_its_checks()
+    ensures region { (p : Planned) (base end : ℕ) (acts : List Act) → plan_region p base end ≡ Ok acts → AcceptsRegion p base end × (acts ≡ region_acts p base end) }
+    ensures data { (p : Planned) (base count : ℕ) (acts : List Act) → plan_data p base count ≡ Ok acts → AcceptsData p base count × (acts ≡ data_acts p base count) }
 {}
 
 /// The runs among the acts of runs are those runs, in order, and no page is among these acts; the pages among the acts
