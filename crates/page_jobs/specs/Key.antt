@@ -21,7 +21,7 @@ IsRising keys = AllPairs (λ a b. key_cmp a b ≡ Less) keys
 abbrev pub next_key : PageKey → PageKey
 next_key key = record key { number = key.number + 1 }
 
--- keys that rise, with one more in its place, unless it is there
+-- keys that rise, with one more in its place, unless it is one of them
 abbrev pub with_key : PageKey → List PageKey → List PageKey
 with_key key [] = key ∷ []
 with_key key (first ∷ others) = elim (key_cmp key first) [

@@ -151,6 +151,7 @@ fn rows_take_no_more_memory(rt: HostRuntime) -> Result<(), Fail> {
     assert_eq!(rt; row.digests(), [digest].as_slice());
     assert_eq!(rt; row.room(), 2);
     assert_eq!(rt; DigestRow::reserve(rt.alloc(), 0)?.digests().len(), 0);
+    assert_eq!(rt; DigestRow::reserve(rt.alloc(), 100_000)?.room(), 100_000);
     assert!(rt; DigestRow::reserve(rt.alloc(), usize::MAX).is_err());
     Ok(())
 }
