@@ -2,11 +2,11 @@
 use Rattle.std.proofs.Common.{inl, inr, ◌≡◌, ◌∙◌, ℕ, sym, refl, ap, subst, true, false, List, [], ◌∷◌, ◌++◌, ◌⊎◌}
 use Rattle.std.specs.Prelude.{Some, None, Result, Ok, Err}
 use Rattle.std.proofs.lemmas.Option.{same_Some}
+use Rattle.rim_desc.proofs.Parts.{extended_by-append}
 use Rattle.rim_desc.specs.declared.command.Command.{Command}
 use Rattle.rim_desc.specs.declared.command.Command.TheVariants.{Delegate, RealmCreate, RttCreate, InitRipas, DataCreate, RecCreate, Activate}
-use Rattle.rim_desc.specs.declared.measurement.Algo.{Algo}
 use Rattle.rim_desc.specs.declared.realm.RealmParams.{RealmParams}
-use Rattle.rim_desc.specs.Part.{Part, extended, extended_by, rim_of}
+use Rattle.rim_desc.specs.Part.{Part, extended_by, rim_of}
 use Rattle.rmm_model.specs.declared.outcome.Refused.{Refused}
 use Rattle.rmm_model.specs.declared.outcome.Refused.TheVariants as refusal
 use Rattle.rmm_model.specs.State.{State, algo_of, empty_state, is_empty, is_new, measured_so_far}
@@ -37,10 +37,6 @@ measured-rim s [] p rim params at = at
 measured-rim s (part ∷ ps) p rim params at =
     ap (λ q. Some (extended_by (algo_of q) (measured_so_far s.rim) (part ∷ ps))) params
     ∙ ap (λ r. Some (extended_by p.algo (measured_so_far r) (part ∷ ps))) at
-
-extended_by-append : (algo : Algo) (rim : List ℕ) (ps qs : List Part) → extended_by algo rim (ps ++ qs) ≡ extended_by algo (extended_by algo rim ps) qs
-extended_by-append algo rim [] qs = refl
-extended_by-append algo rim (part ∷ ps) qs = extended_by-append algo (extended algo rim part) ps qs
 
 -- ---- a realm
 
