@@ -5,11 +5,10 @@ use Rattle.std.specs.List.{find, list_all}
 use Rattle.std.proofs.lemmas.List.Folds.{list_all_at}
 use Rattle.std.proofs.lemmas.Bool.{ltb-true, and_parts}
 use Rattle.ipa_layout.proofs.Found.{found-holds}
-use Rattle.ipa_layout.specs.declared.item.Item.{Item}
-use Rattle.ipa_layout.specs.Kinds.{file_of}
-use Rattle.ipa_layout.specs.Ranges.{item_in_range, is_number}
-use Rattle.ipa_layout.specs.LaunchData.{LaunchData, is_launch}
-use Rattle.ipa_layout.specs.Placements.{has_files}
+use Rattle.rim_launch.specs.declared.item.Item.{Item}
+use Rattle.rim_launch.specs.Kinds.{file_of}
+use Rattle.rim_launch.specs.Ranges.{item_in_range, is_number}
+use Rattle.rim_launch.specs.LaunchData.{LaunchData, has_files, is_launch}
 
 items_in_range : (l : LaunchData) → is_launch l ≡ true → list_all item_in_range l.items ≡ true
 unfolding is_launch

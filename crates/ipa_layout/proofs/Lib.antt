@@ -4,7 +4,5 @@ pub mod Pages
 pub mod Sequences
 pub mod Conditions
 pub mod Rows
-pub mod Marks
-pub mod Defaults
 pub mod PlacedRows
 pub mod PlacedFacts

@@ -2,7 +2,7 @@
 use Rattle.std.proofs.Common.{◌≡◌, ℕ, ◌+◌, ◌-◌, ◌*◌, ◌/◌, ◌<◌, ◌≤◌, min, true, false, List, Some, None, arith, sym}
 use Rattle.std.specs.List.{find, list_all, range_with_len}
 use Rattle.std.proofs.lemmas.Grind.{common_steps}
-use Rattle.ipa_layout.specs.declared.item.Region.{Region}
+use Rattle.rim_launch.specs.declared.item.Region.{Region}
 use Rattle.ipa_layout.specs.Memory.{holds, is_held, all_held}
 use Rattle.ipa_layout.proofs.Runs.{all-jump, all-stop, all-end}
 use Rattle.ipa_layout.proofs.Found.{found-none, found-passes, found-any}

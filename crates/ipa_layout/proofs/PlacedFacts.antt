@@ -7,14 +7,14 @@ use Rattle.std.proofs.lemmas.List.{length-map}
 use Rattle.std.proofs.lemmas.List.FromFn.{length-enumerate_from}
 use Rattle.refusal.specs.Answer.{◌>>=◌}
 use Rattle.fdt_tree.specs.declared.fault.FdtFault.{FdtFault}
-use Rattle.ipa_layout.specs.declared.item.Item.{Item}
+use Rattle.rim_launch.specs.declared.item.Item.{Item}
 use Rattle.ipa_layout.specs.declared.standing.Standing.{Standing}
 use Rattle.ipa_layout.specs.declared.placed.PlacedItem.{PlacedItem}
 use Rattle.ipa_layout.specs.declared.fault.LayoutFault.{LayoutFault}
 use Rattle.ipa_layout.specs.declared.fault.LayoutFault.TheVariants.{Overlap}
-use Rattle.ipa_layout.specs.LaunchData.{LaunchData}
+use Rattle.rim_launch.specs.LaunchData.{LaunchData}
 use Rattle.rim_desc.specs.declared.source.Source.TheVariants.{File, Edited}
-use Rattle.ipa_layout.specs.Kinds.{file_of, has_edits}
+use Rattle.rim_launch.specs.Kinds.{file_of, has_edits}
 use Rattle.ipa_layout.specs.Meeting.{any_meet, apart_of}
 use Rattle.ipa_layout.specs.Placements.{IsPlaced, PlacedData, apart, bytes_of, edited_bytes, edited_dtb, edited_item, file_bytes, item_at, items_at, placed_at, stand_all}
 use Rattle.ipa_layout.specs.PlacedFacts.{HasPage, IsItem, IsSourceOf, page_end, page_total}

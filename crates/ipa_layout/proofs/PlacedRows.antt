@@ -10,13 +10,13 @@ use Rattle.arm64_image.specs.ImageHeader.{read_of, load_offset_of, extent_of}
 use Rattle.arm64_image.specs.declared.Header.{Header}
 use Rattle.arm64_image.specs.declared.ImageFault.{ImageFault}
 use Rattle.fdt_tree.specs.declared.fault.FdtFault.{FdtFault}
-use Rattle.ipa_layout.specs.declared.item.Item.{Item}
-use Rattle.ipa_layout.specs.declared.item.Region.{Region}
+use Rattle.rim_launch.specs.declared.item.Item.{Item}
+use Rattle.rim_launch.specs.declared.item.Region.{Region}
 use Rattle.ipa_layout.specs.declared.standing.Asked.{Asked}
 use Rattle.ipa_layout.specs.declared.standing.Standing.{Standing}
 use Rattle.ipa_layout.specs.declared.placed.PlacedItem.{PlacedItem}
 use Rattle.ipa_layout.specs.declared.fault.LayoutFault.{LayoutFault}
-use Rattle.ipa_layout.specs.Kinds.{is_kernel}
+use Rattle.rim_launch.specs.Kinds.{is_kernel}
 use Rattle.ipa_layout.specs.Standings.{asked_of, kernel_at, size_of, first_page, end_page, page_count_of}
 use Rattle.ipa_layout.specs.Placing.{placed_of, settled, settled_if, checks_of, is_outside, is_too_small}
 use Rattle.ipa_layout.specs.Meeting.{meets, any_meet}

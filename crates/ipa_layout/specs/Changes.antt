@@ -10,7 +10,7 @@ use Rattle.fdt_tree.specs.TreeAt.{tree_at}
 use Rattle.fdt_tree.specs.Edits.{set_at}
 use Rattle.fdt_tree.specs.Memory.{set_memory_at}
 use Rattle.fdt_tree.specs.Writing.{file_of}
-use Rattle.ipa_layout.specs.declared.item.Region.{Region}
+use Rattle.rim_launch.specs.declared.item.Region.{Region}
 
 -- what it is told, if anything: the command line, the addresses of the initrd's bytes, and the first
 -- region of RAM

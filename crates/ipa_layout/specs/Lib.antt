@@ -1,10 +1,4 @@
-pub mod Texts
 pub mod Recs
-pub mod Ranges
-pub mod Kinds
-pub mod Steps
-pub mod StepViews
-pub mod LaunchData
 pub mod Standings
 pub mod Memory
 pub mod Meeting

@@ -2,7 +2,7 @@
 -- This project's choice.
 use Rattle.std.specs.Prelude.{ℕ, ◌+◌, ◌*◌, List, Bool, ◌&&◌, nat_le}
 use Rattle.std.specs.List.{list_all, list_any, range_with_len}
-use Rattle.ipa_layout.specs.declared.item.Region.{Region}
+use Rattle.rim_launch.specs.declared.item.Region.{Region}
 
 -- whether a region holds the page of this number wholly
 abbrev pub holds : ℕ → Region → Bool

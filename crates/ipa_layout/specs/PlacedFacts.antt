@@ -3,10 +3,10 @@ use Rattle.std.specs.Prelude.{◌≡◌, ℕ, ◌+◌, ◌<◌, ◌≤◌, true,
 use Rattle.std.specs.List.{slice_get}
 use Rattle.rim_desc.specs.declared.source.Source.{Source}
 use Rattle.rim_desc.specs.declared.source.Source.TheVariants.{File, Edited}
-use Rattle.ipa_layout.specs.declared.item.Item.{Item}
+use Rattle.rim_launch.specs.declared.item.Item.{Item}
 use Rattle.ipa_layout.specs.declared.placed.PlacedItem.{PlacedItem}
-use Rattle.ipa_layout.specs.LaunchData.{LaunchData}
-use Rattle.ipa_layout.specs.Kinds.{file_of, has_edits}
+use Rattle.rim_launch.specs.LaunchData.{LaunchData}
+use Rattle.rim_launch.specs.Kinds.{file_of, has_edits}
 use Rattle.ipa_layout.specs.Standings.{first_page}
 use Rattle.ipa_layout.specs.Placements.{PlacedData}
 

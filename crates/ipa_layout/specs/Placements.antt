@@ -6,11 +6,11 @@ use Rattle.std.specs.Option.{option_and_then}
 use Rattle.std.specs.Result.{result_unwrap_or}
 use Rattle.refusal.specs.Answer.{◌>>=◌}
 use Rattle.fdt_tree.specs.declared.fault.FdtFault.{FdtFault}
-use Rattle.ipa_layout.specs.declared.item.Kind.{Kind}
-use Rattle.ipa_layout.specs.declared.item.Kind.TheVariants.{Dtb}
-use Rattle.ipa_layout.specs.declared.item.Item.{Item}
-use Rattle.ipa_layout.specs.declared.item.Region.{Region}
-use Rattle.ipa_layout.specs.declared.rec.Rec.{Rec}
+use Rattle.rim_launch.specs.declared.item.Kind.{Kind}
+use Rattle.rim_launch.specs.declared.item.Kind.TheVariants.{Dtb}
+use Rattle.rim_launch.specs.declared.item.Item.{Item}
+use Rattle.rim_launch.specs.declared.item.Region.{Region}
+use Rattle.rim_launch.specs.declared.rec.Rec.{Rec}
 use Rattle.ipa_layout.specs.declared.rec.PlacedRec.{PlacedRec}
 use Rattle.ipa_layout.specs.declared.standing.Standing.{Standing}
 use Rattle.rim_desc.specs.declared.source.Source.{Source}
@@ -18,17 +18,13 @@ use Rattle.rim_desc.specs.declared.source.Source.TheVariants.{File, Edited}
 use Rattle.ipa_layout.specs.declared.placed.PlacedItem.{PlacedItem}
 use Rattle.ipa_layout.specs.declared.fault.LayoutFault.{LayoutFault}
 use Rattle.ipa_layout.specs.declared.fault.LayoutFault.TheVariants as fault
-use Rattle.ipa_layout.specs.LaunchData.{LaunchData}
-use Rattle.ipa_layout.specs.Kinds.{is_kernel, is_initrd, is_dtb, file_of, has_edits}
+use Rattle.rim_launch.specs.LaunchData.{LaunchData, has_files}
+use Rattle.rim_launch.specs.Kinds.{is_kernel, is_initrd, is_dtb, file_of, has_edits}
 use Rattle.ipa_layout.specs.Changes.{Told, nothing_told, edited}
 use Rattle.ipa_layout.specs.Standings.{lead_of, page_count_of}
 use Rattle.ipa_layout.specs.Placing.{placed_of}
 use Rattle.ipa_layout.specs.Meeting.{apart_of}
 use Rattle.ipa_layout.specs.Recs.{rec_of}
-
--- each item's file is there
-abbrev pub has_files : LaunchData → ℕ → Bool
-has_files l count = list_all (λ i. nat_lt (file_of i.kind) count) l.items
 
 -- ---- the bytes of items
 

@@ -4,13 +4,13 @@
 use Rattle.std.specs.Prelude.{ℕ, ◌+◌, ◌-◌, ◌%◌, ◌^◌, List, [], ◌∷◌, length, Bool, Result, Ok, Err, not, ◌&&◌, ◌||◌, ◌==◌, nat_lt, nat_le}
 use Rattle.refusal.specs.Checks.{Check, unless_refused}
 use Rattle.fdt_tree.specs.declared.fault.FdtFault.TheVariants.{TooLarge}
-use Rattle.ipa_layout.specs.declared.item.Item.{Item}
-use Rattle.ipa_layout.specs.declared.item.Region.{Region}
+use Rattle.rim_launch.specs.declared.item.Item.{Item}
+use Rattle.rim_launch.specs.declared.item.Region.{Region}
 use Rattle.ipa_layout.specs.declared.standing.Asked.{Asked}
 use Rattle.ipa_layout.specs.declared.standing.Standing.{Standing}
 use Rattle.ipa_layout.specs.declared.fault.LayoutFault.{LayoutFault}
 use Rattle.ipa_layout.specs.declared.fault.LayoutFault.TheVariants.{Dtb, Unaligned, KernelBase, Size, OutsideRam}
-use Rattle.ipa_layout.specs.Kinds.{is_dtb, is_kernel}
+use Rattle.rim_launch.specs.Kinds.{is_dtb, is_kernel}
 use Rattle.ipa_layout.specs.Memory.{all_held}
 use Rattle.ipa_layout.specs.Standings.{asked_of, end_page, first_page, page_count_of}
 

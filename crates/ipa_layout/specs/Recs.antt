@@ -2,7 +2,7 @@
 -- image") enters the primary CPU at the kernel with the devicetree's address in x0, and x1 to x3 zero;
 -- that REC 0 is the primary CPU, and that the others default to zeros, is this project's choice.
 use Rattle.std.specs.Prelude.{ℕ, [], ◌∷◌, unwrap_or, ◌==◌, if◌then◌else◌}
-use Rattle.ipa_layout.specs.declared.rec.Rec.{Rec}
+use Rattle.rim_launch.specs.declared.rec.Rec.{Rec}
 use Rattle.ipa_layout.specs.declared.rec.PlacedRec.{PlacedRec}
 
 -- a boot value is for REC 0 alone

@@ -6,11 +6,11 @@ use Rattle.std.specs.Prelude.{ℕ, ◌+◌, ◌-◌, ◌/◌, ◌%◌, max, List
 use Rattle.arm64_image.specs.ImageHeader.{read_of, load_offset_of, extent_of}
 use Rattle.arm64_image.specs.declared.Header.{Header}
 use Rattle.arm64_image.specs.declared.ImageFault.{ImageFault}
-use Rattle.ipa_layout.specs.declared.item.Item.{Item}
+use Rattle.rim_launch.specs.declared.item.Item.{Item}
 use Rattle.ipa_layout.specs.declared.standing.Asked.{Asked}
 use Rattle.ipa_layout.specs.declared.fault.LayoutFault.{LayoutFault}
 use Rattle.ipa_layout.specs.declared.fault.LayoutFault.TheVariants.{Kernel}
-use Rattle.ipa_layout.specs.Kinds.{is_kernel}
+use Rattle.rim_launch.specs.Kinds.{is_kernel}
 
 -- how many bytes after the start of a page an address is
 abbrev pub lead_of : ℕ → ℕ

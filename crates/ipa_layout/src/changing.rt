@@ -6,8 +6,8 @@ ghost use Rattle.fdt_tree.specs.Trees.{devicetree_of};
 ghost use Rattle.ipa_layout.specs.Changes.{changed, chosen, edited, with_bootargs, with_initrd, with_memory};
 ghost use Rattle.ipa_layout.specs.ChangeViews.{told};
 
-use crate::item::{Bootargs, Region};
 use fdt_tree::{FdtFault, Tree};
+use rim_launch::{Bootargs, Region};
 use std::alloc::Global;
 
 /// Puts a property into `/chosen`.

@@ -1,8 +1,8 @@
 //! Laws of placed launches: functions that do nothing, whose contracts are the laws.
 ghost use Rattle.std.specs.Prelude.{◌≡◌, ℕ, ◌+◌, ◌*◌, ◌%◌, ◌^◌, ◌<◌, ◌≤◌, List, length};
-ghost use Rattle.ipa_layout.specs.declared.item.Item.{Item};
+ghost use Rattle.rim_launch.specs.declared.item.Item.{Item};
 ghost use Rattle.ipa_layout.specs.declared.placed.PlacedItem.{PlacedItem};
-ghost use Rattle.ipa_layout.specs.LaunchData.{LaunchData};
+ghost use Rattle.rim_launch.specs.LaunchData.{LaunchData};
 ghost use Rattle.ipa_layout.specs.Placements.{IsPlaced, PlacedData};
 ghost use Rattle.ipa_layout.specs.PlacedFacts.{HasPage, IsItem, IsSourceOf, page_end, page_total};
 

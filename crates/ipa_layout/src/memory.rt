@@ -2,7 +2,7 @@
 ghost use Rattle.std.specs.Prelude.{◌≡◌, ◌-◌, ◌≤◌, ◌<◌, ◌^◌, find};
 ghost use Rattle.ipa_layout.specs.Memory.{holds, all_held};
 
-use crate::item::Region;
+use rim_launch::Region;
 
 /// Whether a region holds a page wholly.
 fn holds(page: u64, region: &Region) -> bool

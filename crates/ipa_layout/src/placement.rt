@@ -3,25 +3,24 @@ ghost use Rattle.std.specs.Prelude.{◌≡◌, ◌+◌, ◌^◌, ◌<◌, ◌≤
 ghost use Rattle.std.specs.List.{find, position_from, slice_get};
 ghost use Rattle.std.specs.Option.{option_and_then};
 ghost use Rattle.refusal.specs.Answer.{Answers, Matches};
-ghost use Rattle.ipa_layout.specs.LaunchData.{is_launch};
-ghost use Rattle.ipa_layout.specs.Kinds.{file_of, has_edits, is_dtb, is_initrd, is_kernel};
+ghost use Rattle.rim_launch.specs.LaunchData.{has_files, is_launch};
+ghost use Rattle.rim_launch.specs.Kinds.{file_of, has_edits, is_dtb, is_initrd, is_kernel};
 ghost use Rattle.ipa_layout.specs.Standings.{page_count_of};
 ghost use Rattle.ipa_layout.specs.ChangeViews.{told};
-ghost use Rattle.ipa_layout.specs.Placements.{address_of, apart, bytes_of, edited_dtb, file_bytes, has_files, initrd_region, item_at, items_at, placed_at, places, recs_at, source_of, stand_all, standing_of, told_of};
+ghost use Rattle.ipa_layout.specs.Placements.{address_of, apart, bytes_of, edited_dtb, file_bytes, initrd_region, item_at, items_at, placed_at, places, recs_at, source_of, stand_all, standing_of, told_of};
 ghost use Rattle.ipa_layout.specs.PlacementViews.{contents, seen};
 
 use crate::changing::{Changes, edited};
 use crate::dtb::Dtb;
 use crate::fault::LayoutFault;
-use crate::item::{Item, Kind, Region};
-use crate::launch::Launch;
 use crate::meeting::check_apart;
 use crate::placed::{Placed, PlacedItem};
 use crate::placing::place_item;
-use crate::rec::{PlacedRec, Rec};
+use crate::rec::PlacedRec;
 use crate::standing::{Standing, lead};
 use refusal::NoMemory;
 use rim_desc::Source;
+use rim_launch::{Item, Kind, Launch, Rec, Region};
 use std::alloc::{AllocError, Global};
 
 /// The bytes of an item's file.
@@ -233,7 +232,7 @@ fn recs_at(alloc: Global, recs: &[Rec], kernel: u64, dtb: u64) -> Result<Vec<Pla
 {
     recs.iter()
         .enumerate()
-        .map(|(number, rec)| rec.filled(number, kernel, dtb))
+        .map(|(number, rec)| PlacedRec::filled(rec, number, kernel, dtb))
         .collect(alloc)
 }
 

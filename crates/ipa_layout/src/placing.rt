@@ -4,10 +4,10 @@ ghost use Rattle.ipa_layout.specs.Standings.{page_count_of};
 ghost use Rattle.ipa_layout.specs.Placing.{is_outside, is_too_small, placed_of, settled};
 
 use crate::fault::LayoutFault;
-use crate::item::{Item, Region};
 use crate::memory::all_held;
 use crate::standing::{Asked, Standing, page_count, stand_asked};
 use fdt_tree::FdtFault;
+use rim_launch::{Item, Region};
 
 /// The most bytes of a devicetree.
 const MOST_DTB: u64 = 2_097_152;

@@ -3,7 +3,7 @@ ghost use Rattle.std.specs.Prelude.{◌≡◌, ◌^◌, ◌<◌, IfOk};
 ghost use Rattle.ipa_layout.specs.Standings.{lead_of, page_count_of, asked_of, size_of};
 
 use crate::fault::LayoutFault;
-use crate::item::Item;
+use rim_launch::Item;
 
 /// The size of a page in bytes.
 pub const PAGE: u64 = 4096;

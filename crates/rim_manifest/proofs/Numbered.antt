@@ -5,14 +5,14 @@ use Rattle.std.proofs.lemmas.List.{length-map, length-take-le, map-append, take_
 use Rattle.toml.specs.Data.{Data, Members, get_member, integer}
 use Rattle.toml.specs.View.{view}
 use Rattle.toml.specs.declared.value.Value.{Value}
-use Rattle.ipa_layout.specs.declared.config.Config.{Config}
-use Rattle.ipa_layout.specs.Steps.{each_once}
-use Rattle.ipa_layout.specs.Ranges.{config_in_range}
-use Rattle.ipa_layout.specs.LaunchData.{LaunchData, is_launch}
-use Rattle.ipa_layout.specs.declared.item.Item.{Item}
-use Rattle.ipa_layout.specs.declared.item.Region.{Region}
-use Rattle.ipa_layout.specs.declared.rec.Rec.{Rec}
-use Rattle.ipa_layout.specs.declared.step.Step.{Step}
+use Rattle.rim_launch.specs.declared.config.Config.{Config}
+use Rattle.rim_launch.specs.Steps.{each_once}
+use Rattle.rim_launch.specs.Ranges.{config_in_range}
+use Rattle.rim_launch.specs.LaunchData.{LaunchData, is_launch}
+use Rattle.rim_launch.specs.declared.item.Item.{Item}
+use Rattle.rim_launch.specs.declared.item.Region.{Region}
+use Rattle.rim_launch.specs.declared.rec.Rec.{Rec}
+use Rattle.rim_launch.specs.declared.step.Step.{Step}
 use Rattle.rim_manifest.specs.Launches.{NamedData, bare_launch, config_of, launch_in, launches_from, number_in}
 
 -- a number that is picked, or a default, does not come below or above what both keep to

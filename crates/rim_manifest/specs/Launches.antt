@@ -9,8 +9,8 @@ use Rattle.toml.specs.Data.{Data, string, integer, boolean, table, Members, no_m
 use Rattle.rim_desc.specs.Page.{zeros}
 use Rattle.rim_desc.specs.declared.measurement.Algo.{Algo}
 use Rattle.rim_desc.specs.declared.measurement.Algo.TheVariants.{Sha256, Sha512}
-use Rattle.ipa_layout.specs.LaunchData.{LaunchData}
-use Rattle.ipa_layout.specs.declared.config.Config.{Config}
+use Rattle.rim_launch.specs.LaunchData.{LaunchData}
+use Rattle.rim_launch.specs.declared.config.Config.{Config}
 
 -- a launch and its name, as clauses see them
 pub record NamedData : Type 0 where

@@ -2,12 +2,12 @@
 ghost use Rattle.std.specs.Prelude.{◌≡◌, ◌≤◌, IfOk, string_bytes, true};
 ghost use Rattle.toml.specs.Data.{get_member};
 ghost use Rattle.toml.specs.View.{table_view, view};
-ghost use Rattle.ipa_layout.specs.Ranges.{config_in_range};
+ghost use Rattle.rim_launch.specs.Ranges.{config_in_range};
 ghost use Rattle.rim_manifest.specs.Launches.{NamedData, algorithm_in, bare_launch, config_of, digits_in, launch_in, launch_of, number_in, text_in, truth_in};
 
 use crate::check::cell;
-use ipa_layout::{Config, Launch};
 use rim_desc::Algo;
+use rim_launch::{Config, Launch};
 use std::alloc::{AllocError, Global};
 use std::marker::Model;
 use toml::{Table, Value};

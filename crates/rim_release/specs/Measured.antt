@@ -3,7 +3,7 @@ use Rattle.std.specs.Prelude.{◌+◌, List, [], ◌∷◌, if◌then◌else◌}
 use Rattle.rim_desc.specs.Part.{Part, Realm}
 use Rattle.rim_desc.specs.Realm.{realm_page_of}
 use Rattle.rim_desc.specs.declared.realm.RealmParams.{RealmParams}
-use Rattle.ipa_layout.specs.declared.config.Config.{Config}
+use Rattle.rim_launch.specs.declared.config.Config.{Config}
 
 -- The realm's parameters: flag bit 1 is SVE and bit 2 PMU (DEN0137, RmiRealmFlags). The start tables
 -- are not measured; a launch without memory leaves them at zero.

@@ -7,8 +7,8 @@ pub mod report;
 pub mod show;
 
 pub use fault::StartFault;
-pub use ipa_layout::{Config, Launch};
 pub use report::{Files, measure_alone};
+pub use rim_launch::{Config, Launch};
 pub use rim_manifest::{ManifestFault, NamedLaunch, Release, read_manifest};
 pub use show::devicetree::show_fdt;
 pub use show::fault::ShowFault;

@@ -3,8 +3,8 @@ ghost use Rattle.std.specs.Prelude.{◌≡◌};
 ghost use Rattle.rim_desc.specs.Part.{rim_of};
 ghost use Rattle.rim_release.specs.Measured.{measured_parts, params_of};
 
-use ipa_layout::Config;
 use rim_desc::{Measurement, RealmParams, hash, realm_page};
+use rim_launch::Config;
 
 /// The Realm Initial Measurement of a launch of this configuration that has no memory, files or
 /// processors: the measurement of its realm page.

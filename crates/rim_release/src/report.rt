@@ -8,9 +8,9 @@ ghost use Rattle.rim_release.specs.Measured.{measured_parts};
 
 use crate::fault::StartFault;
 use crate::measured::rim;
-use ipa_layout::Config;
 use refusal::NoMemory;
 use rim_desc::{Algo, Measurement};
+use rim_launch::Config;
 use rim_manifest::{NamedLaunch, Release};
 use std::alloc::Global;
 

@@ -1,5 +1,5 @@
 use Rattle.std.proofs.Common.{length, sym}
-use Rattle.ipa_layout.specs.Kinds.{is_initrd}
+use Rattle.rim_launch.specs.Kinds.{is_initrd}
 use Rattle.ipa_layout.proofs.Conditions.{found-low, found-there}
 use Rattle.ipa_layout.proofs.placement.initrd_at.Goals as goal
 

@@ -1,6 +1,6 @@
 use Rattle.std.proofs.Common.{rules, refl}
 use Rattle.std.proofs.lemmas.Iterator.{items_from_collect, YieldsList-from_map, YieldsList-from_zip, YieldsList-from_slice}
-use Rattle.ipa_layout.specs.declared.item.Item.{Item}
+use Rattle.rim_launch.specs.declared.item.Item.{Item}
 use Rattle.ipa_layout.specs.declared.standing.Standing.{Standing}
 use Rattle.ipa_layout.specs.Placements.{item_at}
 use Rattle.ipa_layout.proofs.placement.items_at.Goals as goal

@@ -1,5 +1,5 @@
 use Rattle.std.proofs.Common.{length, sym}
-use Rattle.ipa_layout.specs.Kinds.{has_edits}
+use Rattle.rim_launch.specs.Kinds.{has_edits}
 use Rattle.ipa_layout.proofs.Conditions.{found-there}
 use Rattle.ipa_layout.proofs.placement.prepare_dtb.Goals as goal
 

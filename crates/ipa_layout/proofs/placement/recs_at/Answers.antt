@@ -1,7 +1,7 @@
 use Rattle.std.proofs.Common.{ℕ, rules, refl}
 use Rattle.std.proofs.lemmas.Iterator.{items_from_collect, YieldsList-from_map, YieldsList-from_slice}
 use Rattle.std.proofs.lemmas.Iterator.Consumers.{YieldsList-from_enumerate}
-use Rattle.ipa_layout.specs.declared.rec.Rec.{Rec}
+use Rattle.rim_launch.specs.declared.rec.Rec.{Rec}
 use Rattle.ipa_layout.specs.Recs.{rec_of}
 use Rattle.ipa_layout.proofs.placement.recs_at.Goals as goal
 

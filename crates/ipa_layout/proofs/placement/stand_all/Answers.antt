@@ -2,7 +2,7 @@ use Rattle.std.proofs.Common.{◌+◌, List, Ok, inr, ap, sym, ◌∙◌, drop, 
 use Rattle.std.proofs.lemmas.List.{append-nil, drop_all}
 use Rattle.std.proofs.lemmas.Result.{err_from_is_err_and}
 use Rattle.refusal.specs.Answer.{with_front}
-use Rattle.ipa_layout.specs.declared.item.Item.{Item}
+use Rattle.rim_launch.specs.declared.item.Item.{Item}
 use Rattle.ipa_layout.specs.declared.standing.Standing.{Standing}
 use Rattle.ipa_layout.specs.Placements.{stand_all}
 use Rattle.ipa_layout.specs.PlacementViews.{contents, seen}

@@ -1,5 +1,5 @@
 use Rattle.std.proofs.Common.{◌∙◌, ap}
-use Rattle.ipa_layout.specs.Ranges.{config_in_range}
+use Rattle.rim_launch.specs.Ranges.{config_in_range}
 use Rattle.rim_manifest.proofs.Numbered.{config_of-in_range}
 use Rattle.rim_manifest.proofs.launch.read_table.Goals as goal
 

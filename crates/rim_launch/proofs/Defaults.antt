@@ -1,0 +1,209 @@
+-- The steps of a launch that names none are complete.
+use Rattle.std.proofs.Common.{◌≡◌, ℕ, zero, suc, ◌+◌, ◌<◌, ◌≤◌, Bool, true, false, cond, eqb, List, [], ◌∷◌, ◌++◌, length, map, refl, ap, subst, ◌∙◌, arith}
+use Rattle.std.specs.Prelude.{◌==◌, ◌&&◌, nat_lt, filter}
+use Rattle.std.specs.List.{enumerate_from, list_all, range_with_len}
+use Rattle.std.proofs.lemmas.Bool.{eq-eqb, eqb-false, eqb-true, lt-ltb, ne_eqb}
+use Rattle.std.proofs.lemmas.List.Sums.{sum_by-append}
+use Rattle.rim_launch.specs.declared.item.Item.{Item}
+use Rattle.rim_launch.specs.declared.item.Kind.{Kind}
+use Rattle.rim_launch.specs.declared.item.Kind.TheVariants.{Kernel, Initrd, Dtb, Raw}
+use Rattle.rim_launch.specs.declared.step.Step.{Step}
+use Rattle.rim_launch.specs.declared.step.Step.TheVariants as step
+use Rattle.rim_launch.specs.declared.ranges.Part.{Part}
+use Rattle.rim_launch.specs.declared.ranges.Part.TheVariants as part
+use Rattle.rim_launch.specs.Kinds.{is_kernel, is_initrd, is_dtb, is_raw}
+use Rattle.rim_launch.specs.Steps.{names, names_something, times, each_once, steps_complete, default_steps}
+
+times-append : (p : Part) (k : ℕ) (xs ys : List Step) → times p k (xs ++ ys) ≡ times p k xs + times p k ys
+times-append p k xs ys = sum_by-append (λ x. cond (names p k x) 1 0) xs ys
+
+-- a test of all numbers, which each passes
+all-pass : (t : ℕ → Bool) (a n : ℕ) → ((k : ℕ) → k < a + n → t k ≡ true) → list_all t (range_with_len a n) ≡ true
+all-pass t a zero h = refl
+all-pass t a (suc n) h =
+    let first : t a ≡ true = h a (omega arith) in
+    rw first (all-pass t (a + 1) n (λ k low. h k (omega arith)))
+
+times-next : (p : Part) (k : ℕ) (x : Step) (xs : List Step) (b : Bool) → names p k x ≡ b → times p k (x ∷ xs) ≡ cond b 1 0 + times p k xs
+times-next p k x xs b e =
+    let first = sum_by-append (λ y. cond (names p k y) 1 0) (x ∷ []) xs in
+    let counts : cond {A = ℕ} (names p k x) 1 0 ≡ cond {A = ℕ} b 1 0 = ap (λ (c : Bool). cond c 1 0) e in
+    omega (arith, first, counts)
+
+-- ---- steps of a row of numbers
+
+module _ (make : ℕ → Step) (p : Part) (own : (n k : ℕ) → names p k (make n) ≡ (n == k)) where
+  row-none : (a n k : ℕ) → k < a → times p k (map make (range_with_len a n)) ≡ 0
+  row-none a zero k lt = refl
+  row-none a (suc n) k lt =
+      let no_more : names p k (make a) ≡ false = own a k ∙ ne_eqb a k (λ same. omega (arith, same)) in
+      omega (arith, times-next p k (make a) (map make (range_with_len (a + 1) n)) false no_more, row-none (a + 1) n k (omega arith))
+
+  row-once : (a n k : ℕ) → a ≤ k → k < a + n → times p k (map make (range_with_len a n)) ≡ 1
+  row-once a zero k low high = absurd (omega arith)
+  row-once a (suc n) k low high = go (eqb a k) refl (λ above. row-once (a + 1) n k above (omega arith))
+    where
+      go : (b : Bool) → eqb a k ≡ b → (a + 1 ≤ k → times p k (map make (range_with_len (a + 1) n)) ≡ 1) → times p k (map make (range_with_len a (suc n))) ≡ 1
+      go true e rest = omega (arith, times-next p k (make a) (map make (range_with_len (a + 1) n)) true (own a k ∙ e), row-none (a + 1) n k (omega (arith, eqb-true a k e)))
+      go false e rest = omega (arith, times-next p k (make a) (map make (range_with_len (a + 1) n)) false (own a k ∙ e), rest (omega (arith, eqb-false a k e)))
+
+-- steps of another part
+module _ (make : ℕ → Step) (p : Part) (other : (n k : ℕ) → names p k (make n) ≡ false) where
+  row-other : (a n k : ℕ) → times p k (map make (range_with_len a n)) ≡ 0
+  row-other a zero k = refl
+  row-other a (suc n) k = omega (arith, times-next p k (make a) (map make (range_with_len (a + 1) n)) false (other a k), row-other (a + 1) n k)
+
+-- each names something
+row-there : (make : ℕ → Step) (regions items recs count : ℕ) → ((n : ℕ) → n < count → names_something regions items recs (make n) ≡ true) → (a n : ℕ) → a + n ≤ count
+    → list_all (names_something regions items recs) (map make (range_with_len a n)) ≡ true
+row-there make regions items recs count h a zero fits = refl
+row-there make regions items recs count h a (suc n) fits =
+    let first : names_something regions items recs (make a) ≡ true = h a (omega arith) in
+    rw first (row-there make regions items recs count h (a + 1) n (omega arith))
+
+-- ---- steps of items
+
+-- those of a kind, where the first item has this number
+from : (Kind → Bool) → ℕ → List Item → List Step
+from test a items = map (λ (p : ℕ × Item). step.Item p.0) (filter (λ (p : ℕ × Item). test p.1.kind) (enumerate_from a items))
+
+from-next : (test : Kind → Bool) (a : ℕ) (i : Item) (items : List Item) (P : List Step → Type 0) → (test i.kind ≡ true → P (step.Item a ∷ from test (a + 1) items)) → (test i.kind ≡ false → P (from test (a + 1) items))
+    → P (from test a (i ∷ items))
+unfolding from
+from-next test a i items P taken left = go (test i.kind) refl
+  where
+    go : (b : Bool) → test i.kind ≡ b → P (map (λ (p : ℕ × Item). step.Item p.0) (cond b ((a, i) ∷ filter (λ (p : ℕ × Item). test p.1.kind) (enumerate_from (a + 1) items)) (filter (λ (p : ℕ × Item). test p.1.kind) (enumerate_from (a + 1) items))))
+    go true e = taken e
+    go false e = left e
+
+items-other : (p : Part) (other : (n k : ℕ) → names p k (step.Item n) ≡ false) (test : Kind → Bool) (a k : ℕ) (items : List Item) → times p k (from test a items) ≡ 0
+unfolding from
+items-other p other test a k [] = refl
+items-other p other test a k (i ∷ items) =
+    let rest = items-other p other test (a + 1) k items in
+    from-next test a i items (λ (steps : List Step). times p k steps ≡ 0) (λ e. omega (arith, times-next p k (step.Item a) (from test (a + 1) items) false (other a k), rest)) (λ e. rest)
+
+items-none : (test : Kind → Bool) (a k : ℕ) (items : List Item) → k < a → times part.Item k (from test a items) ≡ 0
+unfolding from
+items-none test a k [] lt = refl
+items-none test a k (i ∷ items) lt =
+    let rest = items-none test (a + 1) k items (omega arith) in
+    let past : (a == k) ≡ false = ne_eqb a k (λ same. omega (arith, same)) in
+    from-next test a i items (λ (steps : List Step). times part.Item k steps ≡ 0) (λ e. omega (arith, times-next part.Item k (step.Item a) (from test (a + 1) items) false past, rest)) (λ e. rest)
+
+-- the first item counts where it is of the kind
+items-first : (test : Kind → Bool) (a : ℕ) (i : Item) (items : List Item) → times part.Item a (from test a (i ∷ items)) ≡ cond (test i.kind) 1 0
+items-first test a i items =
+    let rest = items-none test (a + 1) a items (omega arith) in
+    from-next test a i items (λ (steps : List Step). times part.Item a steps ≡ cond (test i.kind) 1 0)
+    (λ e. rw e (omega (arith, times-next part.Item a (step.Item a) (from test (a + 1) items) true (eq-eqb a a refl), rest))) (λ e. rw e rest)
+
+-- it does not count at another number
+items-later : (test : Kind → Bool) (a k : ℕ) (i : Item) (items : List Item) → eqb a k ≡ false → times part.Item k (from test a (i ∷ items)) ≡ times part.Item k (from test (a + 1) items)
+items-later test a k i items other =
+    from-next test a i items (λ (steps : List Step). times part.Item k steps ≡ times part.Item k (from test (a + 1) items)) (λ e. omega (arith, times-next part.Item k (step.Item a) (from test (a + 1) items) false other)) (λ e. refl)
+
+-- an item is of exactly one kind
+one-kind : (k : Kind) → cond (is_kernel k) 1 0 + cond (is_initrd k) 1 0 + cond (is_dtb k) 1 0 + cond (is_raw k) 1 0 ≡ 1
+one-kind (Kernel file) = refl
+one-kind (Initrd file) = refl
+one-kind (Dtb file edits) = refl
+one-kind (Raw file) = refl
+
+counted : ℕ → ℕ → List Item → ℕ
+counted k a items = times part.Item k (from is_kernel a items) + times part.Item k (from is_initrd a items) + times part.Item k (from is_dtb a items) + times part.Item k (from is_raw a items)
+
+items-once : (a k : ℕ) (items : List Item) → a ≤ k → k < a + length items → counted k a items ≡ 1
+unfolding counted
+items-once a k [] low high = absurd (omega arith)
+items-once a k (i ∷ items) low high = go (eqb a k) refl (λ above. items-once (a + 1) k items above (omega arith))
+  where
+    go : (b : Bool) → eqb a k ≡ b → (a + 1 ≤ k → counted k (a + 1) items ≡ 1) → counted k a (i ∷ items) ≡ 1
+    go true e rest =
+        subst (λ (m : ℕ). counted m a (i ∷ items) ≡ 1) (eqb-true a k e)
+        (omega (arith, items-first is_kernel a i items, items-first is_initrd a i items, items-first is_dtb a i items, items-first is_raw a i items, one-kind i.kind))
+    go false e rest =
+        omega (arith, items-later is_kernel a k i items e, items-later is_initrd a k i items e, items-later is_dtb a k i items e, items-later is_raw a k i items e, rest (omega (arith, eqb-false a k e)))
+
+items-there : (test : Kind → Bool) (regions count recs a : ℕ) (items : List Item) → a + length items ≤ count → list_all (names_something regions count recs) (from test a items) ≡ true
+unfolding from
+items-there test regions count recs a [] fits = refl
+items-there test regions count recs a (i ∷ items) fits =
+    let rest = items-there test regions count recs (a + 1) items (omega arith) in
+    let first : nat_lt a count ≡ true = lt-ltb a count (omega arith) in
+    from-next test a i items (λ (steps : List Step). list_all (names_something regions count recs) steps ≡ true) (λ e. rw first rest) (λ e. rest)
+
+-- ---- all of them
+
+module _ (regions : ℕ) (items : List Item) (recs : ℕ) where
+  ram : List Step
+  ram = map step.Ram (range_with_len 0 regions)
+
+  made : List Step
+  made = map step.Rec (range_with_len 0 recs)
+
+  all-append : (t : Step → Bool) (xs ys : List Step) → list_all t xs ≡ true → list_all t ys ≡ true → list_all t (xs ++ ys) ≡ true
+  all-append t [] ys h k = k
+  all-append t (x ∷ xs) ys h k = go (t x) refl h (λ rest. all-append t xs ys rest k)
+    where
+      go : (b : Bool) → t x ≡ b → (b && list_all t xs) ≡ true → (list_all t xs ≡ true → list_all t (xs ++ ys) ≡ true) → (t x && list_all t (xs ++ ys)) ≡ true
+      go true e all rest = rw e (rest all)
+      go false e all rest = absurd (let z : false ≡ true = all in let y : ⊥ = cc in y)
+
+  split : (p : Part) (k : ℕ) → times p k (default_steps regions items recs)
+      ≡ times p k ram + (times p k (from is_kernel 0 items) + times p k (from is_initrd 0 items) + times p k (from is_dtb 0 items) + times p k (from is_raw 0 items)) + times p k made
+  unfolding default_steps from ram made
+  split p k =
+      let a = from is_kernel 0 items in
+      let b = from is_initrd 0 items in
+      let c = from is_dtb 0 items in
+      let d = from is_raw 0 items in
+      omega (arith, times-append p k (ram ++ a ++ b ++ c ++ d) made, times-append p k (ram ++ a ++ b ++ c) d, times-append p k (ram ++ a ++ b) c, times-append p k (ram ++ a) b, times-append p k ram a)
+
+  there : list_all (names_something regions (length items) recs) (default_steps regions items recs) ≡ true
+  unfolding default_steps from ram made
+  there =
+      let t : Step → Bool = names_something regions (length items) recs in
+      let a = from is_kernel 0 items in
+      let b = from is_initrd 0 items in
+      let c = from is_dtb 0 items in
+      let d = from is_raw 0 items in
+      let of_ram : list_all t ram ≡ true = row-there (λ n. step.Ram n) regions (length items) recs regions (λ n lt. lt-ltb n regions lt) 0 regions (omega arith) in
+      let of_recs : list_all t made ≡ true = row-there (λ n. step.Rec n) regions (length items) recs recs (λ n lt. lt-ltb n recs lt) 0 recs (omega arith) in
+      let of_a = items-there is_kernel regions (length items) recs 0 items (omega arith) in
+      let of_b = items-there is_initrd regions (length items) recs 0 items (omega arith) in
+      let of_c = items-there is_dtb regions (length items) recs 0 items (omega arith) in
+      let of_d = items-there is_raw regions (length items) recs 0 items (omega arith) in
+      all-append t (ram ++ a ++ b ++ c ++ d) made (all-append t (ram ++ a ++ b ++ c) d (all-append t (ram ++ a ++ b) c (all-append t (ram ++ a) b (all-append t ram a of_ram of_a) of_b) of_c) of_d) of_recs
+
+  -- each part by itself
+  ram-once : (k : ℕ) → k < regions → times part.Ram k (default_steps regions items recs) ≡ 1
+  unfolding ram made
+  ram-once k low =
+      let own = row-once (λ n. step.Ram n) part.Ram (λ n k. refl) 0 regions k (omega arith) (omega arith) in
+      let other = items-other part.Ram (λ n k. refl) in
+      let recs_none = row-other (λ n. step.Rec n) part.Ram (λ n k. refl) 0 recs k in
+      omega (arith, split part.Ram k, own, other is_kernel 0 k items, other is_initrd 0 k items, other is_dtb 0 k items, other is_raw 0 k items, recs_none)
+
+  item-once : (k : ℕ) → k < length items → times part.Item k (default_steps regions items recs) ≡ 1
+  unfolding ram made counted
+  item-once k low =
+      let own = items-once 0 k items (omega arith) (omega arith) in
+      let ram_none = row-other (λ n. step.Ram n) part.Item (λ n k. refl) 0 regions k in
+      let recs_none = row-other (λ n. step.Rec n) part.Item (λ n k. refl) 0 recs k in
+      omega (arith, split part.Item k, own, ram_none, recs_none)
+
+  rec-once : (k : ℕ) → k < recs → times part.Rec k (default_steps regions items recs) ≡ 1
+  unfolding ram made
+  rec-once k low =
+      let own = row-once (λ n. step.Rec n) part.Rec (λ n k. refl) 0 recs k (omega arith) (omega arith) in
+      let other = items-other part.Rec (λ n k. refl) in
+      let ram_none = row-other (λ n. step.Ram n) part.Rec (λ n k. refl) 0 regions k in
+      omega (arith, split part.Rec k, own, other is_kernel 0 k items, other is_initrd 0 k items, other is_dtb 0 k items, other is_raw 0 k items, ram_none)
+
+  each-once : (p : Part) (n : ℕ) → ((k : ℕ) → k < n → times p k (default_steps regions items recs) ≡ 1) → each_once p (default_steps regions items recs) n ≡ true
+  unfolding each_once
+  each-once p n once = all-pass (λ k. times p k (default_steps regions items recs) == 1) 0 n (λ k low. ap (λ (m : ℕ). m == 1) (once k (omega arith)))
+
+  pub default-complete : steps_complete regions (length items) recs (default_steps regions items recs) ≡ true
+  default-complete = rw (there, each-once part.Ram regions ram-once, each-once part.Item (length items) item-once, each-once part.Rec recs rec-once) refl

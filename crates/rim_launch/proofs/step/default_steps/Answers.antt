@@ -1,0 +1,12 @@
+use Rattle.std.proofs.Common.{◌≡◌, List, length, rules, true, sym, subst}
+use Rattle.rim_launch.specs.declared.step.Step.{Step}
+use Rattle.rim_launch.specs.Steps.{default_steps, steps_complete}
+use Rattle.rim_launch.proofs.Defaults.{default-complete}
+use Rattle.rim_launch.proofs.step.default_steps.Goals as goal
+
+pub returns-clause-complete : goal.returns-clause-complete
+unfolding default_steps
+returns-clause-complete c =
+    let n = length c.args.items.now in
+    let made : c.push_recs.new.steps.items ≡ default_steps c.args.regions c.args.items.now c.args.recs = search rules in
+    subst (λ (steps : List Step). steps_complete c.args.regions n c.args.recs steps ≡ true) (sym made) (default-complete c.args.regions c.args.items.now c.args.recs)

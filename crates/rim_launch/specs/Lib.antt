@@ -1,0 +1,6 @@
+pub mod Texts
+pub mod Ranges
+pub mod Kinds
+pub mod Steps
+pub mod LaunchData
+pub mod inside

@@ -1,0 +1,56 @@
+-- The steps of a launch: each region, each item and each REC has one. This project's choice.
+use Rattle.std.specs.Prelude.{ℕ, List, Bool, ◌&&◌, ◌==◌, ◌++◌, nat_lt, count_by, filter, map, false, Option, Some, None}
+use Rattle.std.specs.List.{enumerate_from, list_all, range_with_len}
+use Rattle.rim_launch.specs.declared.item.Kind.{Kind}
+use Rattle.rim_launch.specs.declared.item.Item.{Item}
+use Rattle.rim_launch.specs.declared.step.Step.{Step}
+use Rattle.rim_launch.specs.declared.step.Step.TheVariants as step
+use Rattle.rim_launch.specs.Kinds.{is_kernel, is_initrd, is_dtb, is_raw}
+use Rattle.rim_launch.specs.declared.ranges.Part.{Part}
+use Rattle.rim_launch.specs.declared.ranges.Part.TheVariants as part
+
+-- whether a step names what is there
+abbrev pub names_something : ℕ → ℕ → ℕ → Step → Bool
+names_something regions items recs (step.Ram n) = nat_lt n regions
+names_something regions items recs (step.Item n) = nat_lt n items
+names_something regions items recs (step.Rec n) = nat_lt n recs
+
+-- the number that a step names of this part, where it is a step of this part
+abbrev pub number_of : Part → Step → Option ℕ
+number_of part.Ram (step.Ram n) = Some n
+number_of part.Item (step.Item n) = Some n
+number_of part.Rec (step.Rec n) = Some n
+number_of _ _ = None
+
+abbrev pub is_number : ℕ → Option ℕ → Bool
+is_number k None = false
+is_number k (Some n) = n == k
+
+-- whether a step names this number of this part
+abbrev pub names : Part → ℕ → Step → Bool
+names p k s = is_number k (number_of p s)
+
+-- how many steps name it
+abbrev pub times : Part → ℕ → List Step → ℕ
+times p k steps = count_by (names p k) steps
+
+-- each number below n is named by exactly one step
+unfoldable pub each_once : Part → List Step → ℕ → Bool
+each_once p steps n = list_all (λ k. times p k steps == 1) (range_with_len 0 n)
+
+-- each step names what is there, and each region, item and REC is named by exactly one
+abbrev pub steps_complete : ℕ → ℕ → ℕ → List Step → Bool
+steps_complete regions items recs steps = list_all (names_something regions items recs) steps
+    && each_once part.Ram steps regions && each_once part.Item steps items && each_once part.Rec steps recs
+
+-- ---- the steps of a launch that names none
+
+-- a step for each item of a kind, in their order
+abbrev pub item_steps : (Kind → Bool) → List Item → List Step
+item_steps test items = map (λ p. step.Item p.0) (filter (λ p. test p.1.kind) (enumerate_from 0 items))
+
+-- the regions, the kernel, the initrd, the devicetree, the other items, the RECs
+unfoldable pub default_steps : ℕ → List Item → ℕ → List Step
+default_steps regions items recs =
+    map step.Ram (range_with_len 0 regions) ++ item_steps is_kernel items ++ item_steps is_initrd items
+    ++ item_steps is_dtb items ++ item_steps is_raw items ++ map step.Rec (range_with_len 0 recs)

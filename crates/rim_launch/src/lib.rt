@@ -1,0 +1,16 @@
+//! The launch of a realm as a type: its configuration, its regions of RAM, its items, its RECs, and the
+//! order in which they are made.
+#![tactic(auto)]
+
+mod config;
+mod item;
+mod launch;
+mod ranges;
+mod rec;
+mod step;
+
+pub use config::Config;
+pub use item::{Bootargs, Edits, Item, Kind, Region};
+pub use launch::Launch;
+pub use rec::Rec;
+pub use step::{Step, default_steps};

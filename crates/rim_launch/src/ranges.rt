@@ -1,0 +1,274 @@
+//! Whether the parts of a launch are in their ranges.
+ghost use Rattle.std.specs.Prelude.{◌≡◌, ◌+◌, ◌<◌, ◌≤◌, ℕ, List, length, take, true, false, not, nat_le, count_by, slice_index_or, slice_set};
+ghost use Rattle.std.specs.List.{list_all, list_any};
+ghost use Rattle.rim_launch.specs.Ranges.{config_in_range, region_in_range, item_in_range};
+ghost use Rattle.rim_launch.specs.Kinds.{is_kernel, is_initrd, is_dtb, file_of, has_edits, once_each, wants_initrd, wants_memory, edits_possible};
+ghost use Rattle.rim_launch.specs.Steps.{names_something, number_of, each_once, steps_complete};
+ghost use Rattle.rim_launch.specs.inside.StepViews.{AreMarks, IsNext};
+ghost use Rattle.rim_launch.specs.declared.step.Step.{Step};
+
+use crate::config::Config;
+use crate::item::{Item, Kind, Region};
+use crate::step::Step;
+
+/// The first number that a manifest cannot spell.
+const NUMBER_END: u64 = 0x8000_0000_0000_0000;
+
+/// Whether each value of a configuration is in its range.
+pub fn config_in_range(config: &Config) -> bool
+    ensures { result ≡ config_in_range config.now }
+{
+    32 <= config.s2sz
+        && config.s2sz <= 48
+        && config.block_level <= 3
+        && config.num_aux <= 16
+        && config.pool_base % 65_536 == 0
+        && config.pool_base < 0x1_0000_0000_0000
+        && 1 <= config.pool_count
+        && config.pool_count <= 16_777_216
+}
+
+/// Whether a region's base is below its end, and its end is a number of a manifest.
+fn region_in_range(region: &Region) -> bool
+    ensures { result ≡ region_in_range region.now }
+{
+    region.base < region.end && region.end < NUMBER_END
+}
+
+/// Whether an item's numbers are those of a manifest.
+fn item_in_range(item: &Item) -> bool
+    ensures { result ≡ item_in_range item.now }
+{
+    item.at < NUMBER_END && item.size.unwrap_or(0) < NUMBER_END
+}
+
+/// Whether each region is in range.
+pub fn regions_in_range(ram: &[Region]) -> bool
+    ensures { result ≡ list_all region_in_range ram.now }
+{
+    ram.iter().all(|region| region_in_range(region))
+}
+
+/// Whether each item is in range.
+pub fn items_in_range(items: &[Item]) -> bool
+    ensures { result ≡ list_all item_in_range items.now }
+{
+    items.iter().all(|item| item_in_range(item))
+}
+
+impl Kind {
+    /// Whether it is a kernel.
+    pub fn is_kernel(&self) -> bool
+        ensures { result ≡ is_kernel self.now }
+    {
+        matches!(self, Kind::Kernel { .. })
+    }
+
+    /// Whether it is an initrd.
+    pub fn is_initrd(&self) -> bool
+        ensures { result ≡ is_initrd self.now }
+    {
+        matches!(self, Kind::Initrd { .. })
+    }
+
+    /// Whether it is a devicetree.
+    pub fn is_dtb(&self) -> bool
+        ensures { result ≡ is_dtb self.now }
+    {
+        matches!(self, Kind::Dtb { .. })
+    }
+
+    /// The number of the file that its bytes come from.
+    pub fn file(&self) -> usize
+        ensures { result ≡ file_of self.now }
+    {
+        match self {
+            Kind::Kernel { file } => *file,
+            Kind::Initrd { file } => *file,
+            Kind::Dtb { file, .. } => *file,
+            Kind::Raw { file } => *file,
+        }
+    }
+
+    /// Whether it is a devicetree that is changed before it is placed.
+    pub fn has_edits(&self) -> bool
+        ensures { result ≡ has_edits self.now }
+    {
+        match self {
+            Kind::Dtb { edits, .. } => edits.bootargs.is_some() || edits.initrd || edits.memory,
+            _ => false,
+        }
+    }
+
+    /// Whether it is a devicetree that is to say where the initrd stands.
+    fn wants_initrd(&self) -> bool
+        ensures { result ≡ wants_initrd self.now }
+    {
+        match self {
+            Kind::Dtb { edits, .. } => edits.initrd,
+            _ => false,
+        }
+    }
+
+    /// Whether it is a devicetree that is to say where RAM is.
+    fn wants_memory(&self) -> bool
+        ensures { result ≡ wants_memory self.now }
+    {
+        match self {
+            Kind::Dtb { edits, .. } => edits.memory,
+            _ => false,
+        }
+    }
+}
+
+/// Whether at most one item is a kernel, an initrd, a devicetree.
+fn kernel_once(items: &[Item]) -> bool
+    ensures { result ≡ nat_le (count_by (λ i. is_kernel i.kind) items.now) 1 }
+{
+    items.iter().filter(|item| item.kind.is_kernel()).count() <= 1
+}
+
+fn initrd_once(items: &[Item]) -> bool
+    ensures { result ≡ nat_le (count_by (λ i. is_initrd i.kind) items.now) 1 }
+{
+    items.iter().filter(|item| item.kind.is_initrd()).count() <= 1
+}
+
+fn dtb_once(items: &[Item]) -> bool
+    ensures { result ≡ nat_le (count_by (λ i. is_dtb i.kind) items.now) 1 }
+{
+    items.iter().filter(|item| item.kind.is_dtb()).count() <= 1
+}
+
+/// Whether no two items are kernels, initrds or devicetrees.
+pub fn once_each(items: &[Item]) -> bool
+    ensures { result ≡ once_each items.now }
+{
+    kernel_once(items) && initrd_once(items) && dtb_once(items)
+}
+
+fn has_initrd(items: &[Item]) -> bool
+    ensures { result ≡ list_any (λ i. is_initrd i.kind) items.now }
+{
+    items.iter().any(|item| item.kind.is_initrd())
+}
+
+fn initrd_wanted(items: &[Item]) -> bool
+    ensures { result ≡ list_any (λ i. wants_initrd i.kind) items.now }
+{
+    items.iter().any(|item| item.kind.wants_initrd())
+}
+
+fn memory_wanted(items: &[Item]) -> bool
+    ensures { result ≡ list_any (λ i. wants_memory i.kind) items.now }
+{
+    items.iter().any(|item| item.kind.wants_memory())
+}
+
+/// Whether there is an initrd and RAM where a devicetree is to say where they are.
+pub fn edits_possible(ram: &[Region], items: &[Item]) -> bool
+    ensures { result ≡ edits_possible ram.now items.now }
+{
+    (has_initrd(items) || !initrd_wanted(items)) && (!ram.is_empty() || !memory_wanted(items))
+}
+
+/// Whether a step names a region, an item or a REC that is there.
+fn names_something(regions: usize, items: usize, recs: usize, step: &Step) -> bool
+    ensures { result ≡ names_something regions items recs step.now }
+{
+    match step {
+        Step::Ram(number) => *number < regions,
+        Step::Item(number) => *number < items,
+        Step::Rec(number) => *number < recs,
+    }
+}
+
+/// The most regions, items or RECs of a launch.
+const MOST_PARTS: usize = 1024;
+
+/// Which of a launch's parts a step is for.
+#[derive(Clone, Copy, Debug, PartialEq, Eq)]
+pub enum Part {
+    Ram,
+    Item,
+    Rec,
+}
+
+/// The number that a step names of a part, where it is a step of that part.
+fn number_of(part: Part, step: &Step) -> Option<usize>
+    ensures { result ≡ number_of part step.now }
+{
+    match (part, step) {
+        (Part::Ram, Step::Ram(number)) => Some(*number),
+        (Part::Item, Step::Item(number)) => Some(*number),
+        (Part::Rec, Step::Rec(number)) => Some(*number),
+        _ => None,
+    }
+}
+
+/// Marks a number, unless it has a mark already.
+fn mark(named: &mut [bool], number: usize) -> bool
+    requires { number < length named.old }
+    ensures fresh { result ≡ not (slice_index_or named.old number false) }
+    ensures marked { named.new ≡ slice_set named.old number true }
+{
+    let is_fresh = !named[number];
+    named[number] = true;
+    is_fresh
+}
+
+/// Marks the number that a step names of a part, where it is below `count`; and whether it had no mark.
+fn mark_step(named: &mut [bool], part: Part, count: usize, step: &Step) -> bool
+    requires { count ≤ length named.old }
+    ensures len { length named.new ≡ length named.old }
+    ensures once { (steps : List Step) (at : ℕ) → IsNext steps at step.now → AreMarks part count (take at steps) named.old
+        → result ≡ true → AreMarks part count (take (at + 1) steps) named.new }
+    ensures twice { (steps : List Step) (at : ℕ) → IsNext steps at step.now → AreMarks part count (take at steps) named.old
+        → result ≡ false → each_once part steps count ≡ false }
+{
+    match number_of(part, step) {
+        Some(number) if number < count => mark(named, number),
+        _ => true,
+    }
+}
+
+/// Whether each has a mark.
+fn all_marked(named: &[bool]) -> bool
+    ensures { result ≡ list_all (λ b. b) named.now }
+{
+    named.iter().all(|is_named| *is_named)
+}
+
+/// Whether each number below `count` of this part is named by exactly one step. The steps are gone
+/// through once.
+fn each_once(part: Part, steps: &[Step], count: usize) -> bool
+    requires { count ≤ 1024 }
+    ensures { result ≡ each_once part steps.now count }
+{
+    let mut named = [false; MOST_PARTS];
+    for step in steps {
+        if !mark_step(&mut named, part, count, step) {
+            return false;
+        }
+    }
+    all_marked(&named[..count])
+}
+
+fn all_name_something(regions: usize, items: usize, recs: usize, steps: &[Step]) -> bool
+    ensures { result ≡ list_all (names_something regions items recs) steps.now }
+{
+    steps
+        .iter()
+        .all(|step| names_something(regions, items, recs, step))
+}
+
+/// Whether each step names what is there, and each region, item and REC is named by exactly one.
+pub fn steps_complete(regions: usize, items: usize, recs: usize, steps: &[Step]) -> bool
+    requires { (regions ≤ 1024) × (items ≤ 1024) × (recs ≤ 1024) }
+    ensures { result ≡ steps_complete regions items recs steps.now }
+{
+    all_name_something(regions, items, recs, steps)
+        && each_once(Part::Ram, steps, regions)
+        && each_once(Part::Item, steps, items)
+        && each_once(Part::Rec, steps, recs)
+}
