@@ -98,7 +98,7 @@ overlaps-same ram other some some_other same base top lt =
 -- ---- whole spaces
 
 pub same-refl : (s : Space) → SameSpace s s
-same-refl s = record { start = refl; half = refl; tables = λ level base. refl; ram = λ x. refl; ranges = λ base top lt. refl; filled = λ x. refl }
+same-refl s = record { start = refl; half = refl; tables = λ level base. refl; ram = λ x. refl; ranges = λ base top lt. refl; assigned = λ x. refl }
 
 pub same-sym : (s t : Space) → SameSpace s t → SameSpace t s
 same-sym s t same = record {
@@ -107,7 +107,7 @@ same-sym s t same = record {
   tables = λ level base. sym (same.tables level base);
   ram = λ x. sym (same.ram x);
   ranges = λ base top lt. sym (same.ranges base top lt);
-  filled = λ x. sym (same.filled x);
+  assigned = λ x. sym (same.assigned x);
 }
 
 pub same-trans : (r s t : Space) → SameSpace r s → SameSpace s t → SameSpace r t
@@ -117,7 +117,7 @@ same-trans r s t first second = record {
   tables = λ level base. first.tables level base ∙ second.tables level base;
   ram = λ x. first.ram x ∙ second.ram x;
   ranges = λ base top lt. first.ranges base top lt ∙ second.ranges base top lt;
-  filled = λ x. first.filled x ∙ second.filled x;
+  assigned = λ x. first.assigned x ∙ second.assigned x;
 }
 
 pub walk-same : (s t : Space) (x : ℕ) → SameSpace s t → walk_of s x ≡ walk_of t x
@@ -134,7 +134,7 @@ same-table s t level base same = record {
       ∙ sym (made-insert t.tables (record { level = level; base = base }) j b);
   ram = same.ram;
   ranges = same.ranges;
-  filled = same.filled;
+  assigned = same.assigned;
 }
 
 pub same-run : (s t : Space) (base top : ℕ) → are_some s.ram ≡ true → are_some t.ram ≡ true → base < top → overlaps s.ram base top ≡ false
@@ -151,7 +151,7 @@ same-run s t base top some some_other lt free same =
       ranges = λ from to below. overlaps-insert s.ram base top from to some lt free
           ∙ ap (λ old. (ltb base to && ltb from top) || old) (same.ranges from to below)
           ∙ sym (overlaps-insert t.ram base top from to some_other lt free_other);
-      filled = same.filled;
+      assigned = same.assigned;
     }
 
 pub same-page : (s t : Space) (page : ℕ) → SameSpace s t → SameSpace (after_page s page) (after_page t page)
@@ -161,5 +161,5 @@ same-page s t page same = record {
   tables = same.tables;
   ram = same.ram;
   ranges = same.ranges;
-  filled = λ x. has-insert s.filled page x ∙ ap (λ old. eqb page x || old) (same.filled x) ∙ sym (has-insert t.filled page x);
+  assigned = λ x. has-insert s.assigned page x ∙ ap (λ old. eqb page x || old) (same.assigned x) ∙ sym (has-insert t.assigned page x);
 }

@@ -41,7 +41,7 @@ init_ripas-taken s base top level phase lt low high inside walk low_at high_at i
     rw phase (rw t1 (rw (low, high) (rw t2 (rw walk (rw (low_at, high_at) (rw t3 (rw (fresh, none) refl)))))))
 
 pub data_create-taken : (s : State) (g ipa : ℕ) (content : Option Measurement) → is_new s.phase ≡ true → is_bad_content (algo_of s.params) content ≡ false
-    → g % 4096 ≡ 0 → ipa % 4096 ≡ 0 → ipa < s.space.half → walk_of s.space ipa ≡ 3 → is_ram s.space.ram ipa ≡ true → has s.space.filled ipa ≡ false
+    → g % 4096 ≡ 0 → ipa % 4096 ≡ 0 → ipa < s.space.half → walk_of s.space ipa ≡ 3 → is_ram s.space.ram ipa ≡ true → has s.space.assigned ipa ≡ false
     → kind_of s.owners g ≡ Some Delegated
     → step s (DataCreate g ipa content) ≡ Ok (measured (changed s (DataCreate g ipa content)) (parts s (DataCreate g ipa content)))
 data_create-taken s g ipa content phase good at place inside walk ram free own =

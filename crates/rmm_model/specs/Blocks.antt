@@ -1,13 +1,13 @@
 -- Sizes of entries and tables. DEN0137, "RTT levels", for granules and pages of 4096 bytes: a table
 -- has 512 entries.
-use Rattle.std.specs.Prelude.{ℕ, zero, suc, ◌+◌, ◌*◌, ◌/◌, ◌%◌, ◌==◌, Bool, List, [], ◌∷◌}
+use Rattle.std.specs.Prelude.{ℕ, zero, suc, ◌+◌, ◌*◌, ◌/◌, ◌%◌, ◌^◌, ◌==◌, Bool, List, [], ◌∷◌}
 
 -- the bytes that an entry of a level covers: 512 GiB, 1 GiB, 2 MiB, and 4 KiB at level 3
 unfoldable pub size : ℕ → ℕ
-size zero = 549755813888
-size (suc zero) = 1073741824
-size (suc (suc zero)) = 2097152
-size (suc (suc (suc n))) = 4096
+size zero = 2 ^ 39
+size (suc zero) = 2 ^ 30
+size (suc (suc zero)) = 2 ^ 21
+size (suc (suc (suc n))) = 2 ^ 12
 
 -- the bytes that a table of a level covers
 abbrev pub span : ℕ → ℕ

@@ -69,8 +69,8 @@ is_cut level base top = not (is_multiple (size level) base) || not (is_multiple 
     || nat_lt (down (span level) base + span level) top
 
 -- a page of the range is RAM, or a deeper table has its first address in it
-abbrev pub is_taken : Space → ℕ → ℕ → ℕ → Bool
-is_taken s level base top = overlaps s.ram base top || deeper s.tables level base top
+abbrev pub is_not_fresh : Space → ℕ → ℕ → ℕ → Bool
+is_not_fresh s level base top = overlaps s.ram base top || deeper s.tables level base top
 
 -- ---- the rows
 
@@ -102,7 +102,7 @@ ripas_checks s base top =
     ∷ (Unaligned, not (is_multiple 4096 base) || not (is_multiple 4096 top))
     ∷ (OutsideProtected, nat_lt s.space.half top)
     ∷ (WalkLevel, is_cut (walk_of s.space base) base top)
-    ∷ (NotFresh, is_taken s.space (walk_of s.space base) base top) ∷ []
+    ∷ (NotFresh, is_not_fresh s.space (walk_of s.space base) base top) ∷ []
 
 abbrev pub data_checks : monitor.State → ℕ → ℕ → Option Measurement → List (Check Refused)
 data_checks s granule ipa content =
@@ -112,7 +112,7 @@ data_checks s granule ipa content =
     ∷ (OutsideProtected, nat_le s.space.half ipa)
     ∷ (WalkLevel, not (walk_of s.space ipa == 3))
     ∷ (NotRam, not (is_ram s.space.ram ipa))
-    ∷ (Assigned, has s.space.filled ipa)
+    ∷ (Assigned, has s.space.assigned ipa)
     ∷ (NotDelegated, not (is_delegated s.owners granule)) ∷ []
 
 abbrev pub rec_checks : monitor.State → ℕ → RecData → List (Check Refused)

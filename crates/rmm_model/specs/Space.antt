@@ -23,11 +23,11 @@ pub record Space : Type 0 where
   -- the ranges that became RAM, by address: the first address of each and the first past it
   pub ram : List (ℕ × ℕ)
   -- the pages that have data, by address
-  pub filled : List ℕ
+  pub assigned : List ℕ
 
 -- start tables alone
 abbrev pub empty_space : ℕ → ℕ → Space
-empty_space start half = record { start = start; half = half; tables = []; ram = []; filled = [] }
+empty_space start half = record { start = start; half = half; tables = []; ram = []; assigned = [] }
 
 -- whether a table covers x
 abbrev pub covers : Table → ℕ → Bool
@@ -81,7 +81,7 @@ after_run s base top = record s { ram = insert_entry nat_cmp s.ram base top }
 
 -- the space after a page got data
 abbrev pub after_page : Space → ℕ → Space
-after_page s x = record s { filled = insert_key nat_cmp s.filled x }
+after_page s x = record s { assigned = insert_key nat_cmp s.assigned x }
 
 -- the same tables, in whatever order
 abbrev pub SameTables : List Table → List Table → Type 0
@@ -98,4 +98,4 @@ pub record SameSpace (s t : Space) : Type 0 where
   -- which ranges have RAM
   pub ranges : (base top : ℕ) → base < top → overlaps s.ram base top ≡ overlaps t.ram base top
   -- which pages have data
-  pub filled : (x : ℕ) → has s.filled x ≡ has t.filled x
+  pub assigned : (x : ℕ) → has s.assigned x ≡ has t.assigned x

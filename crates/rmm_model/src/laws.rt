@@ -100,7 +100,7 @@ pub fn ram_after_a_run()
 
 /// After DataCreate its page has data, and each page that had.
 pub fn pages_after_one_more()
-    ensures { (s : Space) (page x : ℕ) → has (after_page s page).filled x ≡ ((page == x) || has s.filled x) }
+    ensures { (s : Space) (page x : ℕ) → has (after_page s page).assigned x ≡ ((page == x) || has s.assigned x) }
 {}
 
 /// A space is the same as itself; so are two in either order; and so is the first of three as the last.

@@ -1,18 +1,18 @@
 //! Sizes of entries and tables.
-ghost use Rattle.std.specs.Prelude.{◌≡◌, ◌<◌, ◌≤◌};
+ghost use Rattle.std.specs.Prelude.{◌≡◌, ◌<◌, ◌≤◌, ◌^◌};
 ghost use Rattle.rmm_model.specs.Blocks.{down, size, span};
 
 /// The bytes that an entry of a level covers.
 pub fn size_of_level(level: u8) -> u64
     ensures value { result ≡ size level }
     ensures some { 0 < result }
-    ensures most { result ≤ 549755813888 }
+    ensures most { result ≤ 2 ^ 39 }
 {
     match level {
-        0 => 0x80_0000_0000,
-        1 => 0x4000_0000,
-        2 => 0x20_0000,
-        _ => 0x1000,
+        0 => 1 << 39,
+        1 => 1 << 30,
+        2 => 1 << 21,
+        _ => 1 << 12,
     }
 }
 
@@ -20,7 +20,7 @@ pub fn size_of_level(level: u8) -> u64
 pub fn span_of_level(level: u8) -> u64
     ensures value { result ≡ span level }
     ensures some { 0 < result }
-    ensures most { result ≤ 281474976710656 }
+    ensures most { result ≤ 2 ^ 48 }
 {
     size_of_level(level) * 512
 }

@@ -5,7 +5,7 @@ use Rattle.rmm_monitor.specs.Apart.{are_apart}
 use Rattle.rmm_monitor.specs.declared.space.IpaSpace.TheInside.{Inside}
 
 abbrev pub shown_space : Inside → Space
-shown_space s = record { start = s.start; half = s.half; tables = s.tables.keys; ram = s.ram.entries; filled = s.filled.keys }
+shown_space s = record { start = s.start; half = s.half; tables = s.tables.keys; ram = s.ram.entries; assigned = s.assigned.keys }
 
 pub record IsWellFormed (s : Inside) : Type 0 where
   pub start : s.start ≤ 2

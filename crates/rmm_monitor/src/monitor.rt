@@ -177,7 +177,7 @@ impl Monitor {
         if is_cut(level, base, top) {
             return Err(Refused::WalkLevel);
         }
-        if self.space.is_taken(level, base, top) {
+        if self.space.is_not_fresh(level, base, top) {
             return Err(Refused::NotFresh);
         }
         self.space.add_run(base, top)?;

@@ -2,7 +2,7 @@
 ghost use Rattle.std.specs.Prelude.{◌≡◌, ◌+◌, ◌-◌, ◌%◌, ◌<◌, ◌≤◌, ◌^◌, ◌&&◌, nat_lt, OnOk, OnErr, false, true};
 ghost use Rattle.rmm_model.specs.Blocks.{down, span};
 ghost use Rattle.rmm_model.specs.Space.{after_page, after_run, after_table, deeper, empty_space, has, has_table_in, is_ram, made, overlaps, walk};
-ghost use Rattle.rmm_model.specs.Checks.{is_taken};
+ghost use Rattle.rmm_model.specs.Checks.{is_not_fresh};
 ghost use Rattle.rmm_monitor.specs.Apart.{are_apart};
 
 use refusal::NoMemory;
@@ -20,7 +20,7 @@ pub struct IpaSpace {
     half: u64,
     tables: BTreeSet<Table>,
     ram: BTreeMap<u64, u64>,
-    filled: BTreeSet<u64>,
+    assigned: BTreeSet<u64>,
 }
 
 impl Model for IpaSpace {
@@ -47,7 +47,7 @@ impl IpaSpace {
             half,
             tables: BTreeSet::new(alloc),
             ram: BTreeMap::new(alloc),
-            filled: BTreeSet::new(alloc),
+            assigned: BTreeSet::new(alloc),
         }
     }
 
@@ -95,9 +95,9 @@ impl IpaSpace {
     }
 
     /// Whether a range has RAM, or a table of a level deeper than `level`.
-    pub fn is_taken(&self, level: u8, base: u64, top: u64) -> bool
+    pub fn is_not_fresh(&self, level: u8, base: u64, top: u64) -> bool
         requires { base < top }
-        ensures { result ≡ is_taken self.now level base top }
+        ensures { result ≡ is_not_fresh self.now level base top }
     {
         self.meets_ram(base, top - 1) || self.has_deeper(level, base, top)
     }
@@ -121,9 +121,9 @@ impl IpaSpace {
 
     /// Whether a page has data.
     pub fn has_data(&self, ipa: u64) -> bool
-        ensures { result ≡ has self.now.filled ipa }
+        ensures { result ≡ has self.now.assigned ipa }
     {
-        self.filled.contains(&ipa)
+        self.assigned.contains(&ipa)
     }
 
     /// Adds a table.
@@ -154,7 +154,7 @@ impl IpaSpace {
         ensures ok { OnOk result (self.new ≡ after_page self.old ipa) }
         ensures err { OnErr result (self.new ≡ self.old) }
     {
-        self.filled.insert(ipa)?;
+        self.assigned.insert(ipa)?;
         Ok(())
     }
 }

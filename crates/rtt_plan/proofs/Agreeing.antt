@@ -10,16 +10,16 @@ use Rattle.std.proofs.lemmas.Bool.{cases_Bool}
 use Rattle.rmm_model.proofs.Appends.{made-back, made-both, made-front}
 use Rattle.rmm_model.proofs.Walks.{made-cases, made-here, made-there, walk-after}
 use Rattle.rtt_plan.specs.Agreement.{IsFormed, IsFresh, IsUsed}
-use Rattle.rtt_plan.specs.Wanted.{needed, wanted}
+use Rattle.rtt_plan.specs.Missing.{needed, missing}
 
 -- ---- which tables are made afterwards
 
--- a wanted table is one of its level that covers x
-wanted-only : (ts : List Table) (n k x j b : ℕ) → made (filter (λ t. not (made ts t.level t.base)) (needed n k x)) j b ≡ true
+-- a missing table is one of its level that covers x
+missing-only : (ts : List Table) (n k x j b : ℕ) → made (filter (λ t. not (made ts t.level t.base)) (needed n k x)) j b ≡ true
     → (k < j) × (j ≤ k + n) × (b ≡ down (span j) x)
 unfolding needed
-wanted-only ts zero k x j b m = absurd (cc)
-wanted-only ts (suc n) k x j b m = by_test (made ts (suc k) (down (span (suc k)) x)) (λ later. wanted-only ts n (suc k) x j b later) m
+missing-only ts zero k x j b m = absurd (cc)
+missing-only ts (suc n) k x j b m = by_test (made ts (suc k) (down (span (suc k)) x)) (λ later. missing-only ts n (suc k) x j b later) m
   where
     t : Table
     t = record { level = suc k; base = down (span (suc k)) x }
@@ -38,12 +38,12 @@ wanted-only ts (suc n) k x j b m = by_test (made ts (suc k) (down (span (suc k))
     by_test true later m = more (later m)
     by_test false later m = elim (made-cases t rest j b m) [ inl e ↦ first e | inr there ↦ more (later there) ]
 
--- each table of those levels that covers x is made, or is wanted
-wanted-all : (ts : List Table) (n k x j : ℕ) → k < j → j ≤ k + n
+-- each table of those levels that covers x is made, or is missing
+missing-all : (ts : List Table) (n k x j : ℕ) → k < j → j ≤ k + n
     → (made ts j (down (span j) x) ≡ true) ⊎ (made (filter (λ t. not (made ts t.level t.base)) (needed n k x)) j (down (span j) x) ≡ true)
 unfolding needed
-wanted-all ts zero k x j lo hi = absurd (omega arith)
-wanted-all ts (suc n) k x j lo hi = by_level (eqb (suc k) j) (cases_Bool (eqb (suc k) j)) (λ up. wanted-all ts n (suc k) x j up (omega arith))
+missing-all ts zero k x j lo hi = absurd (omega arith)
+missing-all ts (suc n) k x j lo hi = by_level (eqb (suc k) j) (cases_Bool (eqb (suc k) j)) (λ up. missing-all ts n (suc k) x j up (omega arith))
   where
     t : Table
     t = record { level = suc k; base = down (span (suc k)) x }
@@ -70,17 +70,17 @@ wanted-all ts (suc n) k x j lo hi = by_level (eqb (suc k) j) (cases_Bool (eqb (s
       | inr m ↦ inr (lifted (made ts (suc k) (down (span (suc k)) x)) m)
     ]
 
-pub made-wanted : (start : ℕ) (ts : List Table) (l x j b : ℕ) → made (ts ++ wanted start ts l x) j b ≡ true
+pub made-missing : (start : ℕ) (ts : List Table) (l x j b : ℕ) → made (ts ++ missing start ts l x) j b ≡ true
     → (made ts j b ≡ true) ⊎ ((start < j) × (j ≤ start + (l - start)) × (b ≡ down (span j) x))
-made-wanted start ts l x j b m = elim (made-both ts (wanted start ts l x) j b m) [
+made-missing start ts l x j b m = elim (made-both ts (missing start ts l x) j b m) [
   | inl there ↦ inl there
-  | inr new ↦ inr (wanted-only ts (l - start) start x j b new)
+  | inr new ↦ inr (missing-only ts (l - start) start x j b new)
 ]
 
-pub there-after : (start : ℕ) (ts : List Table) (l x j : ℕ) → start < j → j ≤ l → made (ts ++ wanted start ts l x) j (down (span j) x) ≡ true
-there-after start ts l x j lo hi = elim (wanted-all ts (l - start) start x j lo (omega arith)) [
-  | inl there ↦ made-front ts (wanted start ts l x) j (down (span j) x) there
-  | inr new ↦ made-back ts (wanted start ts l x) j (down (span j) x) new
+pub there-after : (start : ℕ) (ts : List Table) (l x j : ℕ) → start < j → j ≤ l → made (ts ++ missing start ts l x) j (down (span j) x) ≡ true
+there-after start ts l x j lo hi = elim (missing-all ts (l - start) start x j lo (omega arith)) [
+  | inl there ↦ made-front ts (missing start ts l x) j (down (span j) x) there
+  | inr new ↦ made-back ts (missing start ts l x) j (down (span j) x) new
 ]
 
 -- ---- a block of which nothing is RAM
@@ -105,33 +105,33 @@ none-inside start l x ts ram formed used fresh j b m deeper inside =
 
 -- ---- where the walk ends
 
--- where no deeper table covers x, the walk ends at the level of the tables that were wanted
-pub walk-wanted : (start l x : ℕ) (ts : List Table) → start ≤ l → ((j c : ℕ) → made ts j c ≡ true → l < j → x / span j ≡ c / span j → ⊥)
-    → walk start (ts ++ wanted start ts l x) x ≡ l
-walk-wanted start l x ts o none =
-    walk-after start (ts ++ wanted start ts l x) x l (down (span l) x) o
+-- where no deeper table covers x, the walk ends at the level of the tables that were missing
+pub walk-missing : (start l x : ℕ) (ts : List Table) → start ≤ l → ((j c : ℕ) → made ts j c ≡ true → l < j → x / span j ≡ c / span j → ⊥)
+    → walk start (ts ++ missing start ts l x) x ≡ l
+walk-missing start l x ts o none =
+    walk-after start (ts ++ missing start ts l x) x l (down (span l) x) o
     (λ lt. (there-after start ts l x l lt (omega arith), sym (down-in (span l) x (span-pos l))))
-    (λ j c m deeper covers. elim (made-wanted start ts l x j c m) [
+    (λ j c m deeper covers. elim (made-missing start ts l x j c m) [
       | inl there ↦ none j c there deeper covers
       | inr new ↦ (let top : j ≤ start + (l - start) = new.1 in absurd (omega arith))
     ])
 
 pub walk-fresh : (start l x : ℕ) (ts : List Table) (ram : List (ℕ × ℕ)) → start ≤ l → l ≤ 3 → IsFormed start ts → IsUsed ts ram → IsFresh ram l x
-    → walk start (ts ++ wanted start ts l x) x ≡ l
+    → walk start (ts ++ missing start ts l x) x ≡ l
 walk-fresh start l x ts ram o deep formed used fresh =
-    walk-wanted start l x ts o (λ j c m deeper covers.
+    walk-missing start l x ts o (λ j c m deeper covers.
     let le : j ≤ 3 = (formed.placed.shape j c m).1 in
     none-inside start l x ts ram formed used fresh j c m deeper (sym (table-in-block l j x c deeper le covers)))
 
-pub walk-page : (start x : ℕ) (ts : List Table) → start < 3 → IsFormed start ts → walk start (ts ++ wanted start ts 3 x) x ≡ 3
+pub walk-page : (start x : ℕ) (ts : List Table) → start < 3 → IsFormed start ts → walk start (ts ++ missing start ts 3 x) x ≡ 3
 walk-page start x ts o formed =
-    walk-wanted start 3 x ts (omega arith) (λ j c m deeper covers. let le : j ≤ 3 = (formed.placed.shape j c m).1 in omega arith)
+    walk-missing start 3 x ts (omega arith) (λ j c m deeper covers. let le : j ≤ 3 = (formed.placed.shape j c m).1 in omega arith)
 
 -- ---- what stays
 
-pub placed-after : (start l x : ℕ) (ts : List Table) → l ≤ 3 → ArePlaced start ts → ArePlaced start (ts ++ wanted start ts l x)
+pub placed-after : (start l x : ℕ) (ts : List Table) → l ≤ 3 → ArePlaced start ts → ArePlaced start (ts ++ missing start ts l x)
 placed-after start l x ts deep placed = record {
-  shape = λ j b m. elim (made-wanted start ts l x j b m) [
+  shape = λ j b m. elim (made-missing start ts l x j b m) [
     | inl there ↦ placed.shape j b there
     | inr new ↦ shaped j b new
   ];
@@ -143,17 +143,17 @@ placed-after start l x ts deep placed = record {
         let hi : j ≤ start + (l - start) = new.1 in
         (lo, omega arith, rw (new.2) (down-down (span j) x (span-pos j)))
 
-pub formed-after : (start l x : ℕ) (ts : List Table) → l ≤ 3 → IsFormed start ts → IsFormed start (ts ++ wanted start ts l x)
+pub formed-after : (start l x : ℕ) (ts : List Table) → l ≤ 3 → IsFormed start ts → IsFormed start (ts ++ missing start ts l x)
 formed-after start l x ts deep formed = record {
   placed = placed-after start l x ts deep formed.placed;
-  chain = λ j b m lt. elim (made-wanted start ts l x (suc j) b m) [
-    | inl there ↦ made-front ts (wanted start ts l x) j (down (span j) b) (formed.chain j b there lt)
+  chain = λ j b m lt. elim (made-missing start ts l x (suc j) b m) [
+    | inl there ↦ made-front ts (missing start ts l x) j (down (span j) b) (formed.chain j b there lt)
     | inr new ↦ chained j b new lt
   ];
 }
   where
     chained : (j b : ℕ) → (start < suc j) × (suc j ≤ start + (l - start)) × (b ≡ down (span (suc j)) x) → start < j
-        → made (ts ++ wanted start ts l x) j (down (span j) b) ≡ true
+        → made (ts ++ missing start ts l x) j (down (span j) b) ≡ true
     chained j b new lt =
         let hi : suc j ≤ start + (l - start) = new.1 in
         let e : down (span j) b ≡ down (span j) x = ap (down (span j)) (new.2) ∙ down-up j x in
@@ -162,9 +162,9 @@ formed-after start l x ts deep formed = record {
 pub used-more : (ts : List Table) (ram more : List (ℕ × ℕ)) → IsUsed ts ram → ((y : ℕ) → is_ram ram y ≡ true → is_ram more y ≡ true) → IsUsed ts more
 used-more ts ram more used grows = record { used = λ j b m. (let u = used.used j b m in (u.0, grows (u.0) (u.1), u.2)) }
 
-pub used-after : (start l x : ℕ) (ts : List Table) (ram : List (ℕ × ℕ)) → IsUsed ts ram → is_ram ram x ≡ true → IsUsed (ts ++ wanted start ts l x) ram
+pub used-after : (start l x : ℕ) (ts : List Table) (ram : List (ℕ × ℕ)) → IsUsed ts ram → is_ram ram x ≡ true → IsUsed (ts ++ missing start ts l x) ram
 used-after start l x ts ram used here = record {
-  used = λ j b m. elim (made-wanted start ts l x j b m) [
+  used = λ j b m. elim (made-missing start ts l x j b m) [
     | inl there ↦ used.used j b there
     | inr new ↦ (x, here, rw (new.2) (sym (down-in (span j) x (span-pos j))))
   ];

@@ -12,29 +12,29 @@ use Rattle.rtt_plan.specs.declared.act.Act.TheVariants as act
 use Rattle.rtt_plan.specs.declared.run.Run.{Run}
 use Rattle.rtt_plan.specs.Planned.{AgreesWith, Planned, after_data, after_region, data_acts, data_checks, plan_data, plan_region, region_acts, region_checks}
 use Rattle.rtt_plan.specs.Runs.{runs_of}
-use Rattle.rtt_plan.specs.Wanted.{needed, page_acts, page_tables, run_acts, run_tables, table_act, wanted}
+use Rattle.rtt_plan.specs.Missing.{needed, page_acts, page_tables, run_acts, run_tables, table_act, missing}
 
 -- ---- tables
 
-pub wanted-alike : (start level x : ℕ) (ts us : List Table) → SameTables ts us → wanted start ts level x ≡ wanted start us level x
-wanted-alike start level x ts us alike =
+pub missing-alike : (start level x : ℕ) (ts us : List Table) → SameTables ts us → missing start ts level x ≡ missing start us level x
+missing-alike start level x ts us alike =
     filter-same (λ t. not (made ts t.level t.base)) (λ t. not (made us t.level t.base)) (needed (level - start) start x) (λ t. ap not (alike t.level t.base))
 
 -- the tables after a block's were added
-pub more-alike : (start level x : ℕ) (ts us : List Table) → SameTables ts us → SameTables (ts ++ wanted start ts level x) (us ++ wanted start us level x)
-more-alike start level x ts us alike = rw (wanted-alike start level x ts us alike) (append-alike ts us (wanted start us level x) alike)
+pub more-alike : (start level x : ℕ) (ts us : List Table) → SameTables ts us → SameTables (ts ++ missing start ts level x) (us ++ missing start us level x)
+more-alike start level x ts us alike = rw (missing-alike start level x ts us alike) (append-alike ts us (missing start us level x) alike)
 
 pub run_tables-alike : (start : ℕ) (runs : List Run) (ts us : List Table) → SameTables ts us → SameTables (run_tables start ts runs) (run_tables start us runs)
 unfolding run_tables
 run_tables-alike start [] ts us alike = alike
 run_tables-alike start (r ∷ rs) ts us alike =
-    run_tables-alike start rs (ts ++ wanted start ts r.level r.base) (us ++ wanted start us r.level r.base) (more-alike start r.level r.base ts us alike)
+    run_tables-alike start rs (ts ++ missing start ts r.level r.base) (us ++ missing start us r.level r.base) (more-alike start r.level r.base ts us alike)
 
 pub page_tables-alike : (start : ℕ) (pages : List ℕ) (ts us : List Table) → SameTables ts us → SameTables (page_tables start ts pages) (page_tables start us pages)
 unfolding page_tables
 page_tables-alike start [] ts us alike = alike
 page_tables-alike start (x ∷ xs) ts us alike =
-    page_tables-alike start xs (ts ++ wanted start ts 3 x) (us ++ wanted start us 3 x) (more-alike start 3 x ts us alike)
+    page_tables-alike start xs (ts ++ missing start ts 3 x) (us ++ missing start us 3 x) (more-alike start 3 x ts us alike)
 
 -- ---- acts
 
@@ -42,38 +42,38 @@ pub run_acts-alike : (start : ℕ) (runs : List Run) (ts us : List Table) → Sa
 unfolding run_acts
 run_acts-alike start [] ts us alike = refl
 run_acts-alike start (r ∷ rs) ts us alike =
-    let new : List Table = wanted start us r.level r.base in
-    rw (wanted-alike start r.level r.base ts us alike)
+    let new : List Table = missing start us r.level r.base in
+    rw (missing-alike start r.level r.base ts us alike)
     (ap (λ acts. map table_act new ++ (act.Run r.base r.top r.level ∷ acts)) (run_acts-alike start rs (ts ++ new) (us ++ new) (append-alike ts us new alike)))
 
 pub page_acts-alike : (start : ℕ) (pages : List ℕ) (ts us : List Table) → SameTables ts us → page_acts start ts pages ≡ page_acts start us pages
 unfolding page_acts
 page_acts-alike start [] ts us alike = refl
 page_acts-alike start (x ∷ xs) ts us alike =
-    let new : List Table = wanted start us 3 x in
-    rw (wanted-alike start 3 x ts us alike)
+    let new : List Table = missing start us 3 x in
+    rw (missing-alike start 3 x ts us alike)
     (ap (λ acts. map table_act new ++ (act.Pages x 1 ∷ acts)) (page_acts-alike start xs (ts ++ new) (us ++ new) (append-alike ts us new alike)))
 
 -- ---- plans
 
 pub agrees-refl : (p : Planned) → AgreesWith p p
-agrees-refl p = record { space = same-refl p.space; lowest = refl; entries = refl }
+agrees-refl p = record { space = same-refl p.space; least_level = refl; entries = refl }
 
 pub agrees-sym : (p q : Planned) → AgreesWith p q → AgreesWith q p
-agrees-sym p q agrees = record { space = same-sym p.space q.space agrees.space; lowest = sym agrees.lowest; entries = sym agrees.entries }
+agrees-sym p q agrees = record { space = same-sym p.space q.space agrees.space; least_level = sym agrees.least_level; entries = sym agrees.entries }
 
 pub agrees-trans : (p q r : Planned) → AgreesWith p q → AgreesWith q r → AgreesWith p r
 agrees-trans p q r first second = record {
   space = same-trans p.space q.space r.space first.space second.space;
-  lowest = first.lowest ∙ second.lowest;
+  least_level = first.least_level ∙ second.least_level;
   entries = first.entries ∙ second.entries;
 }
 
 pub region_acts-alike : (p q : Planned) (base end : ℕ) → AgreesWith p q → region_acts p base end ≡ region_acts q base end
 region_acts-alike p q base end agrees =
-    ap (λ start. run_acts start p.space.tables (runs_of base end p.lowest)) agrees.space.start
-    ∙ ap (λ lowest. run_acts q.space.start p.space.tables (runs_of base end lowest)) agrees.lowest
-    ∙ run_acts-alike q.space.start (runs_of base end q.lowest) p.space.tables q.space.tables agrees.space.tables
+    ap (λ start. run_acts start p.space.tables (runs_of base end p.least_level)) agrees.space.start
+    ∙ ap (λ least_level. run_acts q.space.start p.space.tables (runs_of base end least_level)) agrees.least_level
+    ∙ run_acts-alike q.space.start (runs_of base end q.least_level) p.space.tables q.space.tables agrees.space.tables
 
 pub data_acts-alike : (p q : Planned) (base count : ℕ) → AgreesWith p q → data_acts p base count ≡ data_acts q base count
 data_acts-alike p q base count agrees =
@@ -86,8 +86,8 @@ walks-alike p q x agrees = walk-same p.space q.space x agrees.space
 pub plan_region-alike : (p q : Planned) (base end : ℕ) → base < end → AgreesWith p q → plan_region p base end ≡ plan_region q base end
 unfolding plan_region
 plan_region-alike p q base end lt agrees =
-    rw (agrees.space.half, agrees.space.ranges base end lt, agrees.entries, agrees.lowest, agrees.space.start)
-    (ap (unless_refused (region_checks q base end)) (run_acts-alike q.space.start (runs_of base end q.lowest) p.space.tables q.space.tables agrees.space.tables))
+    rw (agrees.space.half, agrees.space.ranges base end lt, agrees.entries, agrees.least_level, agrees.space.start)
+    (ap (unless_refused (region_checks q base end)) (run_acts-alike q.space.start (runs_of base end q.least_level) p.space.tables q.space.tables agrees.space.tables))
 
 pub plan_data-alike : (p q : Planned) (base count : ℕ) → AgreesWith p q → plan_data p base count ≡ plan_data q base count
 unfolding plan_data
@@ -95,7 +95,7 @@ plan_data-alike p q base count agrees =
     rw (
       agrees.space.half,
       list_all-same (is_ram p.space.ram) (is_ram q.space.ram) (granules count base) agrees.space.ram,
-      list_any-same (has p.space.filled) (has q.space.filled) (granules count base) agrees.space.filled,
+      list_any-same (has p.space.assigned) (has q.space.assigned) (granules count base) agrees.space.assigned,
     )
     (ap (unless_refused (data_checks q base count)) (data_acts-alike p q base count agrees))
 
@@ -104,15 +104,15 @@ after_region-alike p q base end agrees = record {
   space = record {
     start = agrees.space.start;
     half = agrees.space.half;
-    tables = rw (agrees.space.start, agrees.lowest) (run_tables-alike q.space.start (runs_of base end q.lowest) p.space.tables q.space.tables agrees.space.tables);
+    tables = rw (agrees.space.start, agrees.least_level) (run_tables-alike q.space.start (runs_of base end q.least_level) p.space.tables q.space.tables agrees.space.tables);
     ram = λ x. ram-append p.space.ram ((base, end) ∷ []) x ∙ ap (λ b. b || is_ram ((base, end) ∷ []) x) (agrees.space.ram x)
         ∙ sym (ram-append q.space.ram ((base, end) ∷ []) x);
     ranges = λ from to lt. overlaps-append p.space.ram ((base, end) ∷ []) from to ∙ ap (λ b. b || overlaps ((base, end) ∷ []) from to) (agrees.space.ranges from to lt)
         ∙ sym (overlaps-append q.space.ram ((base, end) ∷ []) from to);
-    filled = agrees.space.filled;
+    assigned = agrees.space.assigned;
   };
-  lowest = agrees.lowest;
-  entries = rw (agrees.entries, agrees.lowest) refl;
+  least_level = agrees.least_level;
+  entries = rw (agrees.entries, agrees.least_level) refl;
 }
 
 pub after_data-alike : (p q : Planned) (base count : ℕ) → AgreesWith p q → AgreesWith (after_data p base count) (after_data q base count)
@@ -123,9 +123,9 @@ after_data-alike p q base count agrees = record {
     tables = rw (agrees.space.start) (page_tables-alike q.space.start (granules count base) p.space.tables q.space.tables agrees.space.tables);
     ram = agrees.space.ram;
     ranges = agrees.space.ranges;
-    filled = λ x. has-append p.space.filled (granules count base) x ∙ ap (λ b. b || has (granules count base) x) (agrees.space.filled x)
-        ∙ sym (has-append q.space.filled (granules count base) x);
+    assigned = λ x. has-append p.space.assigned (granules count base) x ∙ ap (λ b. b || has (granules count base) x) (agrees.space.assigned x)
+        ∙ sym (has-append q.space.assigned (granules count base) x);
   };
-  lowest = agrees.lowest;
+  least_level = agrees.least_level;
   entries = agrees.entries;
 }

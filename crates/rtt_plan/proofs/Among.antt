@@ -6,7 +6,7 @@ use Rattle.rtt_plan.specs.declared.act.Act.{Act}
 use Rattle.rtt_plan.specs.declared.act.Act.TheVariants as act
 use Rattle.rtt_plan.specs.declared.run.Run.{Run}
 use Rattle.rtt_plan.specs.Among.{pages_among, runs_among}
-use Rattle.rtt_plan.specs.Wanted.{page_acts, run_acts, table_act, wanted}
+use Rattle.rtt_plan.specs.Missing.{page_acts, run_acts, table_act, missing}
 
 -- tables are neither
 runs-tables : (ts : List Table) (rest : List Act) → runs_among (map table_act ts ++ rest) ≡ runs_among rest
@@ -23,28 +23,28 @@ runs-of_runs : (start : ℕ) (runs : List Run) (ts : List Table) → runs_among 
 unfolding runs_among run_acts
 runs-of_runs start [] ts = refl
 runs-of_runs start (r ∷ rs) ts =
-    let new : List Table = wanted start ts r.level r.base in
+    let new : List Table = missing start ts r.level r.base in
     runs-tables new (act.Run r.base r.top r.level ∷ run_acts start (ts ++ new) rs) ∙ ap (λ others. r ∷ others) (runs-of_runs start rs (ts ++ new))
 
 pages-of_runs : (start : ℕ) (runs : List Run) (ts : List Table) → pages_among (run_acts start ts runs) ≡ []
 unfolding pages_among run_acts
 pages-of_runs start [] ts = refl
 pages-of_runs start (r ∷ rs) ts =
-    let new : List Table = wanted start ts r.level r.base in
+    let new : List Table = missing start ts r.level r.base in
     pages-tables new (act.Run r.base r.top r.level ∷ run_acts start (ts ++ new) rs) ∙ pages-of_runs start rs (ts ++ new)
 
 pages-of_pages : (start : ℕ) (pages : List ℕ) (ts : List Table) → pages_among (page_acts start ts pages) ≡ pages
 unfolding pages_among page_acts granules
 pages-of_pages start [] ts = refl
 pages-of_pages start (x ∷ xs) ts =
-    let new : List Table = wanted start ts 3 x in
+    let new : List Table = missing start ts 3 x in
     pages-tables new (act.Pages x 1 ∷ page_acts start (ts ++ new) xs) ∙ ap (λ others. x ∷ others) (pages-of_pages start xs (ts ++ new))
 
 runs-of_pages : (start : ℕ) (pages : List ℕ) (ts : List Table) → runs_among (page_acts start ts pages) ≡ []
 unfolding runs_among page_acts
 runs-of_pages start [] ts = refl
 runs-of_pages start (x ∷ xs) ts =
-    let new : List Table = wanted start ts 3 x in
+    let new : List Table = missing start ts 3 x in
     runs-tables new (act.Pages x 1 ∷ page_acts start (ts ++ new) xs) ∙ runs-of_pages start xs (ts ++ new)
 
 pub among-runs : (start : ℕ) (runs : List Run) (ts : List Table) → (runs_among (run_acts start ts runs) ≡ runs) × (pages_among (run_acts start ts runs) ≡ [])

@@ -60,10 +60,10 @@ any-of_none [] = refl
 any-of_none (x ∷ xs) = any-of_none xs
 
 -- ranges of whole pages have one of some pages just where one of them meets the range of these
-any-filled : (ranges : List (ℕ × ℕ)) (n from : ℕ) → are_pages ranges ≡ true → from % 4096 ≡ 0
+any-assigned : (ranges : List (ℕ × ℕ)) (n from : ℕ) → are_pages ranges ≡ true → from % 4096 ≡ 0
     → list_any (has (pages_of ranges)) (granules (suc n) from) ≡ overlaps ranges from (from + 4096 * suc n)
-any-filled [] n from whole at = any-of_none (granules (suc n) from)
-any-filled (r ∷ rs) n from whole at =
+any-assigned [] n from whole at = any-of_none (granules (suc n) from)
+any-assigned (r ∷ rs) n from whole at =
     let parts = and_parts (is_multiple 4096 r.0 && is_multiple 4096 r.1 && ltb r.0 r.1) (are_pages rs) whole in
     let here = parts.0 in
     let pages : List ℕ = granules ((r.1 - r.0) / 4096) r.0 in
@@ -72,12 +72,12 @@ any-filled (r ∷ rs) n from whole at =
     list_any-same (has (pages ++ pages_of rs)) (λ x. has pages x || has (pages_of rs) x) (granules (suc n) from) (has-append pages (pages_of rs))
     ∙ any-either (has pages) (has (pages_of rs)) (granules (suc n) from)
     ∙ ap (λ b. b || list_any (has (pages_of rs)) (granules (suc n) from)) first
-    ∙ ap (λ b. (ltb r.0 (from + 4096 * suc n) && ltb from r.1) || b) (any-filled rs n from parts.1 at)
+    ∙ ap (λ b. (ltb r.0 (from + 4096 * suc n) && ltb from r.1) || b) (any-assigned rs n from parts.1 at)
 
-pub filled-overlaps : (ranges : List (ℕ × ℕ)) (count from : ℕ) → are_pages ranges ≡ true → from % 4096 ≡ 0 → 1 ≤ count
+pub assigned-overlaps : (ranges : List (ℕ × ℕ)) (count from : ℕ) → are_pages ranges ≡ true → from % 4096 ≡ 0 → 1 ≤ count
     → overlaps ranges from (from + 4096 * count) ≡ list_any (has (pages_of ranges)) (granules count from)
-filled-overlaps ranges zero from whole at some = absurd (omega arith)
-filled-overlaps ranges (suc n) from whole at some = sym (any-filled ranges n from whole at)
+assigned-overlaps ranges zero from whole at some = absurd (omega arith)
+assigned-overlaps ranges (suc n) from whole at some = sym (any-assigned ranges n from whole at)
 
 -- ---- one range more
 
@@ -87,8 +87,8 @@ pages_of-append (x ∷ xs) ys =
     ap (λ ps. granules ((x.1 - x.0) / 4096) x.0 ++ ps) (pages_of-append xs ys)
     ∙ sym (append_assoc (granules ((x.1 - x.0) / 4096) x.0) (pages_of xs) (pages_of ys))
 
-pub filled-more : (ranges : List (ℕ × ℕ)) (base count : ℕ) → pages_of (ranges ++ (base, base + 4096 * count) ∷ []) ≡ pages_of ranges ++ granules count base
-filled-more ranges base count =
+pub assigned-more : (ranges : List (ℕ × ℕ)) (base count : ℕ) → pages_of (ranges ++ (base, base + 4096 * count) ∷ []) ≡ pages_of ranges ++ granules count base
+assigned-more ranges base count =
     let pos : 0 < 4096 = omega arith in
     let bytes : base + 4096 * count - base ≡ count * 4096 = omega arith in
     let number : (base + 4096 * count - base) / 4096 ≡ count = rw bytes (mul-div_cancel count pos) in

@@ -75,42 +75,42 @@ first_fit-least base end (suc n) l m x o h =
       ])
     ]
 
-pub first-at : (base end lowest x : ℕ) → is_first base end lowest x ≡ true → down (size (block_level base end lowest x)) x ≡ x
-first-at base end lowest x first = grind (arith, nat_tests)
+pub first-at : (base end least_level x : ℕ) → is_first base end least_level x ≡ true → down (size (block_level base end least_level x)) x ≡ x
+first-at base end least_level x first = grind (arith, nat_tests)
 
 pub page-fits : (base end x : ℕ) → IsRegion base end → base ≤ x → x < end → fits base end 3 x ≡ true
 page-fits base end x region lo hi =
     fits-is base end 3 x (le-down (size 3) base x (size-pos 3) region.base_at lo) (down-top (size 3) x end (size-pos 3) region.end_at hi)
 
 -- the largest block of x lies in the region
-pub block-fits : (base end lowest x : ℕ) → IsRegion base end → lowest ≤ 3 → base ≤ x → x < end → fits base end (block_level base end lowest x) x ≡ true
-block-fits base end lowest x region low lo hi =
-    let e : 3 ≡ lowest + (3 - lowest) = omega arith in
-    first_fit-fits base end (3 - lowest) lowest x (rw e at (page-fits base end x region lo hi))
+pub block-fits : (base end least_level x : ℕ) → IsRegion base end → least_level ≤ 3 → base ≤ x → x < end → fits base end (block_level base end least_level x) x ≡ true
+block-fits base end least_level x region low lo hi =
+    let e : 3 ≡ least_level + (3 - least_level) = omega arith in
+    first_fit-fits base end (3 - least_level) least_level x (rw e at (page-fits base end x region lo hi))
 
-is-first : (base end lowest x : ℕ) → down (size (block_level base end lowest x)) x ≡ x → is_first base end lowest x ≡ true
-is-first base end lowest x h = grind (arith, nat_tests)
+is-first : (base end least_level x : ℕ) → down (size (block_level base end least_level x)) x ≡ x → is_first base end least_level x ≡ true
+is-first base end least_level x h = grind (arith, nat_tests)
 
 -- the region's first page is the first of its block
-pub base-first : (base end lowest : ℕ) → IsRegion base end → lowest ≤ 3 → base < end → is_first base end lowest base ≡ true
-base-first base end lowest region low some =
-    let f : (base ≤ down (size (block_level base end lowest base)) base) × (down (size (block_level base end lowest base)) base + size (block_level base end lowest base) ≤ end)
-    = fits-low base end (block_level base end lowest base) base (block-fits base end lowest base region low (omega arith) some) in
-    let d : down (size (block_level base end lowest base)) base ≤ base = down-le (size (block_level base end lowest base)) base in
-    is-first base end lowest base (omega arith)
+pub base-first : (base end least_level : ℕ) → IsRegion base end → least_level ≤ 3 → base < end → is_first base end least_level base ≡ true
+base-first base end least_level region low some =
+    let f : (base ≤ down (size (block_level base end least_level base)) base) × (down (size (block_level base end least_level base)) base + size (block_level base end least_level base) ≤ end)
+    = fits-low base end (block_level base end least_level base) base (block-fits base end least_level base region low (omega arith) some) in
+    let d : down (size (block_level base end least_level base)) base ≤ base = down-le (size (block_level base end least_level base)) base in
+    is-first base end least_level base (omega arith)
 
 -- the page after a block is the first of its own block
-pub next-first : (base end lowest x : ℕ) → IsRegion base end → lowest ≤ 3 → base ≤ x → is_first base end lowest x ≡ true
-    → x + size (block_level base end lowest x) < end → is_first base end lowest (x + size (block_level base end lowest x)) ≡ true
-next-first base end lowest x region low lo first hi =
-    let m : ℕ = block_level base end lowest x in
+pub next-first : (base end least_level x : ℕ) → IsRegion base end → least_level ≤ 3 → base ≤ x → is_first base end least_level x ≡ true
+    → x + size (block_level base end least_level x) < end → is_first base end least_level (x + size (block_level base end least_level x)) ≡ true
+next-first base end least_level x region low lo first hi =
+    let m : ℕ = block_level base end least_level x in
     let z : ℕ = x + size m in
-    let k : ℕ = block_level base end lowest z in
-    let at : down (size m) x ≡ x = first-at base end lowest x first in
+    let k : ℕ = block_level base end least_level z in
+    let at : down (size m) x ≡ x = first-at base end least_level x first in
     let p : 0 < size m = size-pos m in
     let pk : 0 < size k = size-pos k in
     let atz : down (size m) z ≡ z = down-next (size m) x p at in
-    is-first base end lowest z (elim (cases_lt k m) [
+    is-first base end least_level z (elim (cases_lt k m) [
       | inr ge ↦ down-size m k z ge atz
       | inl lt ↦ elim (eq-or-lt_of_le (down-le (size k) z)) [
         | inl same ↦ same
@@ -120,10 +120,10 @@ next-first base end lowest x region low lo first hi =
             let far : down (size m) (down (size k) z) + size m ≤ z = down-top (size m) (down (size k) z) z p atz less in
             let top : z < down (size k) z + size k = down-lt (size k) z pk in
             let same : x / size k ≡ z / size k = in-block (size k) z x (omega arith) (omega arith) in
-            let f : fits base end k z ≡ true = block-fits base end lowest z region low (omega arith) hi in
+            let f : fits base end k z ≡ true = block-fits base end least_level z region low (omega arith) hi in
             let g : fits base end k x ≡ true = fits-same base end k x z same ∙ f in
-            let from : lowest ≤ k = first_fit-from base end (3 - lowest) lowest z in
-            let least : m ≤ k = first_fit-least base end (3 - lowest) lowest k x from g in
+            let from : least_level ≤ k = first_fit-from base end (3 - least_level) least_level z in
+            let least : m ≤ k = first_fit-least base end (3 - least_level) least_level k x from g in
             absurd (omega arith)
       ]
     ])

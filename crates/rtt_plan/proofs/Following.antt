@@ -29,8 +29,8 @@ entry-in-table l x at =
     let d : down (size l) x + size l ≤ down (span l) x + span l = down-top (size l) x (down (span l) x + span l) p part lt in
     omega arith
 
-single : (lowest l x : ℕ) → lowest ≤ l → l ≤ 3 → down (size l) x ≡ x → IsRun lowest (record { base = x; top = x + size l; level = l })
-single lowest l x o deep at = record {
+single : (least_level l x : ℕ) → least_level ≤ l → l ≤ 3 → down (size l) x ≡ x → IsRun least_level (record { base = x; top = x + size l; level = l })
+single least_level l x o deep at = record {
   allowed = o;
   deepest = deep;
   some = omega (arith, size-pos l);
@@ -41,21 +41,21 @@ single lowest l x o deep at = record {
 
 -- ---- an entry in front of runs
 
-put-runs : (lowest l x end : ℕ) (rs : List Run) → lowest ≤ l → l ≤ 3 → down (size l) x ≡ x → x + size l ≤ end
-    → AreRuns lowest (x + size l) end rs → AreRuns lowest x end (put l x rs)
+put-runs : (least_level l x end : ℕ) (rs : List Run) → least_level ≤ l → l ≤ 3 → down (size l) x ≡ x → x + size l ≤ end
+    → AreRuns least_level (x + size l) end rs → AreRuns least_level x end (put l x rs)
 unfolding AreRuns
-put-runs lowest l x end [] o deep at le runs = (single lowest l x o deep at, refl, le, runs)
-put-runs lowest l x end (r ∷ rs) o deep at le runs =
+put-runs least_level l x end [] o deep at le runs = (single least_level l x o deep at, refl, le, runs)
+put-runs least_level l x end (r ∷ rs) o deep at le runs =
     elim (cases_Bool (eqb r.level l && eqb (r.base / span l) (x / span l))) [
-      | inr f ↦ rw f (single lowest l x o deep at, refl, le, runs)
+      | inr f ↦ rw f (single least_level l x o deep at, refl, le, runs)
       | inl t ↦ rw t
-          (let run : IsRun lowest r = runs.0 in
+          (let run : IsRun least_level r = runs.0 in
           let e : r.level ≡ l = grind (arith, nat_tests) in
           let s : r.base / span l ≡ x / span l = grind (arith, nat_tests) in
           let b : r.base ≡ x + size l = runs.1 in
           let some : r.base < r.top = run.some in
           let p : 0 < size l = size-pos l in
-          let first : IsRun lowest (record { base = x; top = r.top; level = l }) = record {
+          let first : IsRun least_level (record { base = x; top = r.top; level = l }) = record {
             allowed = o;
             deepest = deep;
             some = omega arith;
@@ -73,15 +73,15 @@ one s x p = let e : x + s - x ≡ s = omega arith in rw e (div_self p)
 one-more : (s x b t : ℕ) → 0 < s → b ≡ x + s → b ≤ t → (t - x) / s ≡ suc ((t - b) / s)
 one-more s x b t p e o = let f : t - x ≡ (t - b) + s = omega arith in omega (arith, ap (λ (z : ℕ). z / s) f, add-div_right (t - b) p)
 
-put-blocks : (lowest l x end : ℕ) (rs : List Run) → AreRuns lowest (x + size l) end rs → blocks_of (put l x rs) ≡ (x, x + size l) ∷ blocks_of rs
+put-blocks : (least_level l x end : ℕ) (rs : List Run) → AreRuns least_level (x + size l) end rs → blocks_of (put l x rs) ≡ (x, x + size l) ∷ blocks_of rs
 unfolding blocks_of stretches AreRuns
-put-blocks lowest l x end [] runs =
+put-blocks least_level l x end [] runs =
     let e : (x + size l - x) / size l ≡ 1 = one (size l) x (size-pos l) in rw e refl
-put-blocks lowest l x end (r ∷ rs) runs =
+put-blocks least_level l x end (r ∷ rs) runs =
     elim (cases_Bool (eqb r.level l && eqb (r.base / span l) (x / span l))) [
       | inr f ↦ rw f (let e : (x + size l - x) / size l ≡ 1 = one (size l) x (size-pos l) in rw e refl)
       | inl t ↦ rw t
-          (let run : IsRun lowest r = runs.0 in
+          (let run : IsRun least_level r = runs.0 in
           let some : r.base < r.top = run.some in
           let e : r.level ≡ l = grind (arith, nat_tests) in
           let b : r.base ≡ x + size l = runs.1 in
@@ -91,72 +91,72 @@ put-blocks lowest l x end (r ∷ rs) runs =
 
 -- ---- the runs of a region, from an entry on
 
-record Follow (start base end lowest x : ℕ) : Type 0 where
-  runs : AreRuns start x end (runs_from base end lowest x)
-  blocks : blocks_of (runs_from base end lowest x) ≡ map (block_of base end lowest) (entries_from base end lowest x)
+record Follow (start base end least_level x : ℕ) : Type 0 where
+  runs : AreRuns start x end (runs_from base end least_level x)
+  blocks : blocks_of (runs_from base end least_level x) ≡ map (block_of base end least_level) (entries_from base end least_level x)
 
-at-end : (start base end lowest x : ℕ) → x ≡ end → Follow start base end lowest x
+at-end : (start base end least_level x : ℕ) → x ≡ end → Follow start base end least_level x
 unfolding AreRuns blocks_of group
-at-end start base end lowest x e = let none = entries-end base end lowest x (omega arith) in record { runs = rw none e; blocks = rw none refl }
+at-end start base end least_level x e = let none = entries-end base end least_level x (omega arith) in record { runs = rw none e; blocks = rw none refl }
 
-at-entry : (start base end lowest x : ℕ) → start ≤ lowest → IsRegion base end → lowest ≤ 3 → AtEntry base end lowest x → x < end
-    → Follow start base end lowest (x + size (block_level base end lowest x)) → Follow start base end lowest x
-at-entry start base end lowest x o region low at some next =
-    let m : ℕ = block_level base end lowest x in
-    let from : lowest ≤ m = first_fit-from base end (3 - lowest) lowest x in
-    let to : m ≤ lowest + (3 - lowest) = first_fit-to base end (3 - lowest) lowest x in
-    let here : down (size m) x ≡ x = first-at base end lowest x (at.first some) in
-    let rest : List Run = runs_from base end lowest (x + size m) in
-    let split : runs_from base end lowest x ≡ put m x rest = runs-next base end lowest x region low at some in
-    let first : entries_from base end lowest x ≡ x ∷ entries_from base end lowest (x + size m) = entries-next base end lowest x region low at some in
+at-entry : (start base end least_level x : ℕ) → start ≤ least_level → IsRegion base end → least_level ≤ 3 → AtEntry base end least_level x → x < end
+    → Follow start base end least_level (x + size (block_level base end least_level x)) → Follow start base end least_level x
+at-entry start base end least_level x o region low at some next =
+    let m : ℕ = block_level base end least_level x in
+    let from : least_level ≤ m = first_fit-from base end (3 - least_level) least_level x in
+    let to : m ≤ least_level + (3 - least_level) = first_fit-to base end (3 - least_level) least_level x in
+    let here : down (size m) x ≡ x = first-at base end least_level x (at.first some) in
+    let rest : List Run = runs_from base end least_level (x + size m) in
+    let split : runs_from base end least_level x ≡ put m x rest = runs-next base end least_level x region low at some in
+    let first : entries_from base end least_level x ≡ x ∷ entries_from base end least_level (x + size m) = entries-next base end least_level x region low at some in
     record {
-      runs = rw split (put-runs start m x end rest (omega arith) (omega arith) here (entry-fits base end lowest x region low at some) next.runs);
+      runs = rw split (put-runs start m x end rest (omega arith) (omega arith) here (entry-fits base end least_level x region low at some) next.runs);
       blocks = ap blocks_of split ∙ (put-blocks start m x end rest next.runs
-          ∙ (ap (λ ys. (x, x + size m) ∷ ys) next.blocks ∙ sym (ap (map (block_of base end lowest)) first)));
+          ∙ (ap (λ ys. (x, x + size m) ∷ ys) next.blocks ∙ sym (ap (map (block_of base end least_level)) first)));
     }
 
-follow-from : (start base end lowest fuel x : ℕ) → start ≤ lowest → IsRegion base end → lowest ≤ 3 → AtEntry base end lowest x → end ≤ x + fuel
-    → Follow start base end lowest x
-follow-from start base end lowest zero x o region low at room = at-end start base end lowest x (let h : x ≤ end = at.high in omega arith)
-follow-from start base end lowest (suc fuel) x o region low at room =
+follow-from : (start base end least_level fuel x : ℕ) → start ≤ least_level → IsRegion base end → least_level ≤ 3 → AtEntry base end least_level x → end ≤ x + fuel
+    → Follow start base end least_level x
+follow-from start base end least_level zero x o region low at room = at-end start base end least_level x (let h : x ≤ end = at.high in omega arith)
+follow-from start base end least_level (suc fuel) x o region low at room =
     elim (eq-or-lt_of_le at.high) [
-      | inl e ↦ at-end start base end lowest x e
+      | inl e ↦ at-end start base end least_level x e
       | inr some ↦
-          let p : 0 < size (block_level base end lowest x) = size-pos (block_level base end lowest x) in
-          at-entry start base end lowest x o region low at some
-          (follow-from start base end lowest fuel (x + size (block_level base end lowest x)) o region low (at-next base end lowest x region low at some) (omega arith))
+          let p : 0 < size (block_level base end least_level x) = size-pos (block_level base end least_level x) in
+          at-entry start base end least_level x o region low at some
+          (follow-from start base end least_level fuel (x + size (block_level base end least_level x)) o region low (at-next base end least_level x region low at some) (omega arith))
     ]
 
-follow : (start base end lowest : ℕ) → start ≤ lowest → IsRegion base end → lowest ≤ 3 → base < end → Follow start base end lowest base
-follow start base end lowest o region low some = follow-from start base end lowest end base o region low (at-base base end lowest region low some) (omega arith)
+follow : (start base end least_level : ℕ) → start ≤ least_level → IsRegion base end → least_level ≤ 3 → base < end → Follow start base end least_level base
+follow start base end least_level o region low some = follow-from start base end least_level end base o region low (at-base base end least_level region low some) (omega arith)
 
-pub region-runs : (start base end lowest : ℕ) → start ≤ lowest → IsRegion base end → lowest ≤ 3 → base < end → AreRuns start base end (runs_of base end lowest)
-region-runs start base end lowest o region low some = (follow start base end lowest o region low some).runs
+pub region-runs : (start base end least_level : ℕ) → start ≤ least_level → IsRegion base end → least_level ≤ 3 → base < end → AreRuns start base end (runs_of base end least_level)
+region-runs start base end least_level o region low some = (follow start base end least_level o region low some).runs
 
-pub region-blocks : (base end lowest : ℕ) → IsRegion base end → lowest ≤ 3 → base < end
-    → blocks_of (runs_of base end lowest) ≡ map (block_of base end lowest) (entries base end lowest)
-region-blocks base end lowest region low some = (follow lowest base end lowest (omega arith) region low some).blocks
+pub region-blocks : (base end least_level : ℕ) → IsRegion base end → least_level ≤ 3 → base < end
+    → blocks_of (runs_of base end least_level) ≡ map (block_of base end least_level) (entries base end least_level)
+region-blocks base end least_level region low some = (follow least_level base end least_level (omega arith) region low some).blocks
 
 -- ---- what runs make RAM
 
-pub runs-to : (lowest x end : ℕ) (rs : List Run) → AreRuns lowest x end rs → x ≤ end
+pub runs-to : (least_level x end : ℕ) (rs : List Run) → AreRuns least_level x end rs → x ≤ end
 unfolding AreRuns
-runs-to lowest x end [] runs = omega arith
-runs-to lowest x end (r ∷ rs) runs =
-    let run : IsRun lowest r = runs.0 in
+runs-to least_level x end [] runs = omega arith
+runs-to least_level x end (r ∷ rs) runs =
+    let run : IsRun least_level r = runs.0 in
     let some : r.base < r.top = run.some in
     let at : r.base ≡ x = runs.1 in
     let le : r.top ≤ end = runs.2 in
     omega arith
 
 -- the addresses of runs that follow one another are those from the first base to the last top
-pub ram-runs : (lowest x end : ℕ) (rs : List Run) → AreRuns lowest x end rs → (y : ℕ) → is_ram (ranges_of rs) y ≡ (leb x y && ltb y end)
+pub ram-runs : (least_level x end : ℕ) (rs : List Run) → AreRuns least_level x end rs → (y : ℕ) → is_ram (ranges_of rs) y ≡ (leb x y && ltb y end)
 unfolding AreRuns
-ram-runs lowest x end [] runs y = grind (arith, nat_tests)
-ram-runs lowest x end (r ∷ rs) runs y =
-    let run : IsRun lowest r = runs.0 in
+ram-runs least_level x end [] runs y = grind (arith, nat_tests)
+ram-runs least_level x end (r ∷ rs) runs y =
+    let run : IsRun least_level r = runs.0 in
     let some : r.base < r.top = run.some in
     let at : r.base ≡ x = runs.1 in
     let le : r.top ≤ end = runs.2 in
-    let i : is_ram (ranges_of rs) y ≡ (leb r.top y && ltb y end) = ram-runs lowest r.top end rs (runs.3) y in
+    let i : is_ram (ranges_of rs) y ≡ (leb r.top y && ltb y end) = ram-runs least_level r.top end rs (runs.3) y in
     rw (i, at) (grind (arith, nat_tests))

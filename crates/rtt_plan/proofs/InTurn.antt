@@ -11,7 +11,7 @@ use Rattle.rmm_model.proofs.Blocks.{down-down, down-in, down-same, down-up, span
 use Rattle.rmm_model.proofs.Walks.{made-cases, made-here, walk-after}
 use Rattle.rtt_plan.specs.Agreement.{IsFormed}
 use Rattle.rtt_plan.specs.InTurn.{AreMadeInTurn, CanBeMade}
-use Rattle.rtt_plan.specs.Wanted.{needed, wanted}
+use Rattle.rtt_plan.specs.Missing.{needed, missing}
 
 -- where a table d levels deeper covers an address of table (j, b), that table is made
 closed : (start : ℕ) (ts : List Table) → IsFormed start ts → (d j b c : ℕ) → start < j → down (span j) b ≡ b
@@ -119,10 +119,10 @@ between start ts us (suc n) k x formed o deep above same =
               (λ j c lt. other-level us t j c lt ∙ same j c (omega arith)),
         )
 
-pub wanted-in-turn : (start l x : ℕ) (ts : List Table) → l ≤ 3 → IsFormed start ts → AreMadeInTurn start ts (wanted start ts l x)
+pub missing-in-turn : (start l x : ℕ) (ts : List Table) → l ≤ 3 → IsFormed start ts → AreMadeInTurn start ts (missing start ts l x)
 unfolding needed AreMadeInTurn
-wanted-in-turn start l x ts deep formed = by_level (cases_Bool (ltb l start))
+missing-in-turn start l x ts deep formed = by_level (cases_Bool (ltb l start))
   where
-    by_level : (ltb l start ≡ true) ⊎ (ltb l start ≡ false) → AreMadeInTurn start ts (wanted start ts l x)
+    by_level : (ltb l start ≡ true) ⊎ (ltb l start ≡ false) → AreMadeInTurn start ts (missing start ts l x)
     by_level (inl h) = (let lt : l < start = grind (arith, nat_tests) in let e : l - start ≡ 0 = omega arith in rw e tt)
     by_level (inr h) = (let le : start ≤ l = grind (arith, nat_tests) in between start ts ts (l - start) start x formed (omega arith) (omega arith) (λ lt. absurd (omega arith)) (λ j b lt. refl))

@@ -46,58 +46,58 @@ join-put l x [] = refl
 join-put l x (r ∷ rs) = refl
 
 -- a run that is growing at an entry of the region: with the entries after it, it makes the runs from its base on
-pub record IsGrowing (base end lowest : ℕ) (o : Run) : Type 0 where
-  pub at : AtEntry base end lowest o.top
+pub record IsGrowing (base end least_level : ℕ) (o : Run) : Type 0 where
+  pub at : AtEntry base end least_level o.top
   pub grows : o.base < o.top
-  pub whole : join o (runs_from base end lowest o.top) ≡ runs_from base end lowest o.base
+  pub whole : join o (runs_from base end least_level o.top) ≡ runs_from base end least_level o.base
 
 -- the runs from an entry on: its block in front of the runs after it
-pub runs-next : (base end lowest x : ℕ) → IsRegion base end → lowest ≤ 3 → AtEntry base end lowest x → x < end
-    → runs_from base end lowest x ≡ put (block_level base end lowest x) x (runs_from base end lowest (x + size (block_level base end lowest x)))
+pub runs-next : (base end least_level x : ℕ) → IsRegion base end → least_level ≤ 3 → AtEntry base end least_level x → x < end
+    → runs_from base end least_level x ≡ put (block_level base end least_level x) x (runs_from base end least_level (x + size (block_level base end least_level x)))
 unfolding group
-runs-next base end lowest x region low at some = ap (group (block_level base end lowest)) (entries-next base end lowest x region low at some)
+runs-next base end least_level x region low at some = ap (group (block_level base end least_level)) (entries-next base end least_level x region low at some)
 
-pub runs-end : (base end lowest x : ℕ) → end ≤ x → runs_from base end lowest x ≡ []
+pub runs-end : (base end least_level x : ℕ) → end ≤ x → runs_from base end least_level x ≡ []
 unfolding group
-runs-end base end lowest x h = ap (group (block_level base end lowest)) (entries-end base end lowest x h)
+runs-end base end least_level x h = ap (group (block_level base end least_level)) (entries-end base end least_level x h)
 
-pub grow-start : (base end lowest x l s : ℕ) → IsRegion base end → lowest ≤ 3 → AtEntry base end lowest x → x < end
-    → l ≡ block_level base end lowest x → s ≡ size l → IsGrowing base end lowest (record { base = x; top = x + s; level = l })
-grow-start base end lowest x l s region low at some level bytes =
-    let m : ℕ = block_level base end lowest x in
+pub grow-start : (base end least_level x l s : ℕ) → IsRegion base end → least_level ≤ 3 → AtEntry base end least_level x → x < end
+    → l ≡ block_level base end least_level x → s ≡ size l → IsGrowing base end least_level (record { base = x; top = x + s; level = l })
+grow-start base end least_level x l s region low at some level bytes =
+    let m : ℕ = block_level base end least_level x in
     let top : x + s ≡ x + size m = ap (λ n. x + n) (bytes ∙ ap size level) in
     record {
-      at = rw top (at-next base end lowest x region low at some);
+      at = rw top (at-next base end least_level x region low at some);
       grows = omega (arith, bytes, size-pos l);
-      whole = rw (top, level) (join-put m x (runs_from base end lowest (x + size m)) ∙ sym (runs-next base end lowest x region low at some));
+      whole = rw (top, level) (join-put m x (runs_from base end least_level (x + size m)) ∙ sym (runs-next base end least_level x region low at some));
     }
 
-pub grow-more : (base end lowest s : ℕ) (o : Run) → IsRegion base end → lowest ≤ 3 → IsGrowing base end lowest o → o.top < end → s ≡ size o.level
-    → true ≡ (eqb (block_level base end lowest o.top) o.level && eqb (o.top / span o.level) (o.base / span o.level))
-    → IsGrowing base end lowest (record { base = o.base; top = o.top + s; level = o.level })
-grow-more base end lowest s o region low growing some bytes test =
-    let m : ℕ = block_level base end lowest o.top in
+pub grow-more : (base end least_level s : ℕ) (o : Run) → IsRegion base end → least_level ≤ 3 → IsGrowing base end least_level o → o.top < end → s ≡ size o.level
+    → true ≡ (eqb (block_level base end least_level o.top) o.level && eqb (o.top / span o.level) (o.base / span o.level))
+    → IsGrowing base end least_level (record { base = o.base; top = o.top + s; level = o.level })
+grow-more base end least_level s o region low growing some bytes test =
+    let m : ℕ = block_level base end least_level o.top in
     let level : m ≡ o.level = grind (arith, nat_tests) in
     let table : o.top / span o.level ≡ o.base / span o.level = grind (arith, nat_tests) in
     let top : o.top + s ≡ o.top + size m = ap (λ n. o.top + n) (bytes ∙ ap size (sym level)) in
     let grows : o.base < o.top = growing.grows in
     record {
-      at = rw top (at-next base end lowest o.top region low growing.at some);
+      at = rw top (at-next base end least_level o.top region low growing.at some);
       grows = omega arith;
-      whole = rw top (sym (join-same o m o.top (runs_from base end lowest (o.top + size m)) level table)
-          ∙ ap (join o) (sym (runs-next base end lowest o.top region low growing.at some)) ∙ growing.whole);
+      whole = rw top (sym (join-same o m o.top (runs_from base end least_level (o.top + size m)) level table)
+          ∙ ap (join o) (sym (runs-next base end least_level o.top region low growing.at some)) ∙ growing.whole);
     }
 
 -- a run that cannot grow is the first of the runs
-pub closed-end : (base end lowest : ℕ) (o : Run) → IsGrowing base end lowest o → end ≤ o.top
-    → runs_from base end lowest o.base ≡ o ∷ runs_from base end lowest o.top
-closed-end base end lowest o growing h =
-    let none = runs-end base end lowest o.top h in
+pub closed-end : (base end least_level : ℕ) (o : Run) → IsGrowing base end least_level o → end ≤ o.top
+    → runs_from base end least_level o.base ≡ o ∷ runs_from base end least_level o.top
+closed-end base end least_level o growing h =
+    let none = runs-end base end least_level o.top h in
     sym growing.whole ∙ ap (join o) none ∙ ap (λ rs. o ∷ rs) (sym none)
 
-pub closed-apart : (base end lowest : ℕ) (o : Run) → IsRegion base end → lowest ≤ 3 → IsGrowing base end lowest o → o.top < end
-    → false ≡ (eqb (block_level base end lowest o.top) o.level && eqb (o.top / span o.level) (o.base / span o.level))
-    → runs_from base end lowest o.base ≡ o ∷ runs_from base end lowest o.top
-closed-apart base end lowest o region low growing some test =
-    let next = runs-next base end lowest o.top region low growing.at some in
+pub closed-apart : (base end least_level : ℕ) (o : Run) → IsRegion base end → least_level ≤ 3 → IsGrowing base end least_level o → o.top < end
+    → false ≡ (eqb (block_level base end least_level o.top) o.level && eqb (o.top / span o.level) (o.base / span o.level))
+    → runs_from base end least_level o.base ≡ o ∷ runs_from base end least_level o.top
+closed-apart base end least_level o region low growing some test =
+    let next = runs-next base end least_level o.top region low growing.at some in
     sym growing.whole ∙ ap (join o) next ∙ join-apart o _ _ _ (sym test) ∙ ap (λ rs. o ∷ rs) (sym next)

@@ -12,39 +12,39 @@ not-first_level : (n x z : ℕ) → down n x ≡ x → x < z → z / n ≡ x / n
 not-first_level n x z at lo same = rw same (let e : x / n * n ≡ x = at in rw e (grind (arith, nat_tests)))
 
 -- a page that is not the first of its block is none of the entries
-pub not-first : (base end lowest x z : ℕ) → is_first base end lowest x ≡ true → x < z → z < x + size (block_level base end lowest x) → is_first base end lowest z ≡ false
-not-first base end lowest x z first lo hi =
-    let at : down (size (block_level base end lowest x)) x ≡ x = first-at base end lowest x first in
-    let same : z / size (block_level base end lowest x) ≡ x / size (block_level base end lowest x) = in-block (size (block_level base end lowest x)) x z (omega arith) (omega arith) in
-    let level : block_level base end lowest z ≡ block_level base end lowest x = first_fit-same base end (3 - lowest) lowest x z (sym same) in
-    rw level (not-first_level (size (block_level base end lowest x)) x z at lo same)
+pub not-first : (base end least_level x z : ℕ) → is_first base end least_level x ≡ true → x < z → z < x + size (block_level base end least_level x) → is_first base end least_level z ≡ false
+not-first base end least_level x z first lo hi =
+    let at : down (size (block_level base end least_level x)) x ≡ x = first-at base end least_level x first in
+    let same : z / size (block_level base end least_level x) ≡ x / size (block_level base end least_level x) = in-block (size (block_level base end least_level x)) x z (omega arith) (omega arith) in
+    let level : block_level base end least_level z ≡ block_level base end least_level x = first_fit-same base end (3 - least_level) least_level x z (sym same) in
+    rw level (not-first_level (size (block_level base end least_level x)) x z at lo same)
 
-pub skip : (base end lowest q r y : ℕ) → ((k : ℕ) → k < q → is_first base end lowest (y + 4096 * k) ≡ false) → filter (is_first base end lowest) (granules (q + r) y) ≡ filter (is_first base end lowest) (granules r (y + 4096 * q))
+pub skip : (base end least_level q r y : ℕ) → ((k : ℕ) → k < q → is_first base end least_level (y + 4096 * k) ≡ false) → filter (is_first base end least_level) (granules (q + r) y) ≡ filter (is_first base end least_level) (granules r (y + 4096 * q))
 unfolding granules
-skip base end lowest zero r y none =
+skip base end least_level zero r y none =
     let e : 0 + r ≡ r = omega arith in
     let f : y + 4096 * 0 ≡ y = omega arith in
     rw (e, f) refl
-skip base end lowest (suc q) r y none =
+skip base end least_level (suc q) r y none =
     let e : suc q + r ≡ suc (q + r) = omega arith in
     let z : y + 4096 * 0 ≡ y = omega arith in
-    let n : is_first base end lowest y ≡ false = rw z at (none 0 (omega arith)) in
+    let n : is_first base end least_level y ≡ false = rw z at (none 0 (omega arith)) in
     let g : y + 4096 * suc q ≡ (y + 4096) + 4096 * q = omega arith in
-    let i : filter (is_first base end lowest) (granules (q + r) (y + 4096)) ≡ filter (is_first base end lowest) (granules r ((y + 4096) + 4096 * q)) =
-    skip base end lowest q r (y + 4096) (λ k h.
+    let i : filter (is_first base end least_level) (granules (q + r) (y + 4096)) ≡ filter (is_first base end least_level) (granules r ((y + 4096) + 4096 * q)) =
+    skip base end least_level q r (y + 4096) (λ k h.
     let s : (y + 4096) + 4096 * k ≡ y + 4096 * suc k = omega arith in
     rw s (none (suc k) (omega arith))) in
     rw (e, g) (rw n i)
 
 -- THE JUMP: from the first page of a block the entries go on at the block's end
-pub entries-jump : (base end lowest q r x : ℕ) → is_first base end lowest x ≡ true → size (block_level base end lowest x) ≡ 4096 * suc q
-    → filter (is_first base end lowest) (granules (suc q + r) x) ≡ x ∷ filter (is_first base end lowest) (granules r (x + size (block_level base end lowest x)))
+pub entries-jump : (base end least_level q r x : ℕ) → is_first base end least_level x ≡ true → size (block_level base end least_level x) ≡ 4096 * suc q
+    → filter (is_first base end least_level) (granules (suc q + r) x) ≡ x ∷ filter (is_first base end least_level) (granules r (x + size (block_level base end least_level x)))
 unfolding granules
-entries-jump base end lowest q r x first s =
+entries-jump base end least_level q r x first s =
     let e : suc q + r ≡ suc (q + r) = omega arith in
-    let g : x + size (block_level base end lowest x) ≡ (x + 4096) + 4096 * q = omega arith in
-    let i : filter (is_first base end lowest) (granules (q + r) (x + 4096)) ≡ filter (is_first base end lowest) (granules r ((x + 4096) + 4096 * q)) =
-    skip base end lowest q r (x + 4096) (λ k h. not-first base end lowest x ((x + 4096) + 4096 * k) first (omega arith) (omega arith)) in
+    let g : x + size (block_level base end least_level x) ≡ (x + 4096) + 4096 * q = omega arith in
+    let i : filter (is_first base end least_level) (granules (q + r) (x + 4096)) ≡ filter (is_first base end least_level) (granules r ((x + 4096) + 4096 * q)) =
+    skip base end least_level q r (x + 4096) (λ k h. not-first base end least_level x ((x + 4096) + 4096 * k) first (omega arith) (omega arith)) in
     rw (e, g) (rw first (ap (λ (l : List ℕ). x ∷ l) i))
 
 pub whole-pages : (base end : ℕ) → IsRegion base end → base < end → base + 4096 * ((end - base) / 4096) ≡ end

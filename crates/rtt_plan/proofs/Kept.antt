@@ -15,7 +15,7 @@ use Rattle.rtt_plan.specs.Places.{IsRegion}
 use Rattle.rtt_plan.specs.Planned.{IsPlanned, Planned, after_data, after_region, nothing_planned}
 use Rattle.rtt_plan.specs.Following.{AreRuns, IsRun}
 use Rattle.rtt_plan.specs.Runs.{runs_of}
-use Rattle.rtt_plan.specs.Wanted.{page_tables, run_tables, wanted}
+use Rattle.rtt_plan.specs.Missing.{page_tables, run_tables, missing}
 use Rattle.rtt_plan.proofs.Agreeing.{formed-after, placed-after, used-after, used-more}
 use Rattle.rtt_plan.proofs.Following.{region-runs}
 
@@ -26,14 +26,14 @@ unfolding AreRuns run_tables
 runs-placed start x end [] ts runs placed = placed
 runs-placed start x end (r ∷ rs) ts runs placed =
     let run : IsRun start r = runs.0 in
-    runs-placed start r.top end rs (ts ++ wanted start ts r.level r.base) (runs.3) (placed-after start r.level r.base ts run.deepest placed)
+    runs-placed start r.top end rs (ts ++ missing start ts r.level r.base) (runs.3) (placed-after start r.level r.base ts run.deepest placed)
 
 pub runs-formed : (start x end : ℕ) (rs : List Run) (ts : List Table) → AreRuns start x end rs → IsFormed start ts → IsFormed start (run_tables start ts rs)
 unfolding AreRuns run_tables
 runs-formed start x end [] ts runs formed = formed
 runs-formed start x end (r ∷ rs) ts runs formed =
     let run : IsRun start r = runs.0 in
-    runs-formed start r.top end rs (ts ++ wanted start ts r.level r.base) (runs.3) (formed-after start r.level r.base ts run.deepest formed)
+    runs-formed start r.top end rs (ts ++ missing start ts r.level r.base) (runs.3) (formed-after start r.level r.base ts run.deepest formed)
 
 -- where all addresses of the runs are RAM
 pub runs-used : (start x end : ℕ) (rs : List Run) (ts : List Table) (ram : List (ℕ × ℕ)) → AreRuns start x end rs → ((y : ℕ) → x ≤ y → y < end → is_ram ram y ≡ true)
@@ -45,7 +45,7 @@ runs-used start x end (r ∷ rs) ts ram runs all used =
     let some : r.base < r.top = run.some in
     let at : r.base ≡ x = runs.1 in
     let le : r.top ≤ end = runs.2 in
-    runs-used start r.top end rs (ts ++ wanted start ts r.level r.base) ram (runs.3) (λ y lo hi. all y (omega arith) hi)
+    runs-used start r.top end rs (ts ++ missing start ts r.level r.base) ram (runs.3) (λ y lo hi. all y (omega arith) hi)
     (used-after start r.level r.base ts ram used (all r.base (omega arith) (omega arith)))
 
 -- ---- the tables of pages
@@ -53,19 +53,19 @@ runs-used start x end (r ∷ rs) ts ram runs all used =
 pub pages-placed : (start : ℕ) (xs : List ℕ) (ts : List Table) → ArePlaced start ts → ArePlaced start (page_tables start ts xs)
 unfolding page_tables
 pages-placed start [] ts placed = placed
-pages-placed start (x ∷ xs) ts placed = pages-placed start xs (ts ++ wanted start ts 3 x) (placed-after start 3 x ts (omega arith) placed)
+pages-placed start (x ∷ xs) ts placed = pages-placed start xs (ts ++ missing start ts 3 x) (placed-after start 3 x ts (omega arith) placed)
 
 pub pages-formed : (start : ℕ) (xs : List ℕ) (ts : List Table) → IsFormed start ts → IsFormed start (page_tables start ts xs)
 unfolding page_tables
 pages-formed start [] ts formed = formed
-pages-formed start (x ∷ xs) ts formed = pages-formed start xs (ts ++ wanted start ts 3 x) (formed-after start 3 x ts (omega arith) formed)
+pages-formed start (x ∷ xs) ts formed = pages-formed start xs (ts ++ missing start ts 3 x) (formed-after start 3 x ts (omega arith) formed)
 
 pub pages-used : (start : ℕ) (xs : List ℕ) (ts : List Table) (ram : List (ℕ × ℕ)) → IsUsed ts ram → list_all (is_ram ram) xs ≡ true → IsUsed (page_tables start ts xs) ram
 unfolding page_tables
 pages-used start [] ts ram used all = used
 pages-used start (x ∷ xs) ts ram used all =
     let parts = and_parts (is_ram ram x) (list_all (is_ram ram) xs) all in
-    pages-used start xs (ts ++ wanted start ts 3 x) ram (used-after start 3 x ts ram used parts.0) parts.1
+    pages-used start xs (ts ++ missing start ts 3 x) ram (used-after start 3 x ts ram used parts.0) parts.1
 
 -- ---- plans
 
@@ -95,10 +95,10 @@ pub planned-region : (p : Planned) (base end : ℕ) → IsPlanned p → IsRegion
 planned-region p base end planned region some =
     let start : ℕ = p.space.start in
     let ram : List (ℕ × ℕ) = p.space.ram ++ (base, end) ∷ [] in
-    let runs : AreRuns start base end (runs_of base end p.lowest) = region-runs start base end p.lowest planned.allowed region planned.deepest some in
+    let runs : AreRuns start base end (runs_of base end p.least_level) = region-runs start base end p.least_level planned.allowed region planned.deepest some in
     record {
-      formed = runs-formed start base end (runs_of base end p.lowest) p.space.tables runs planned.formed;
-      used = runs-used start base end (runs_of base end p.lowest) p.space.tables ram runs (λ y lo hi. region-ram p.space.ram base end y lo hi)
+      formed = runs-formed start base end (runs_of base end p.least_level) p.space.tables runs planned.formed;
+      used = runs-used start base end (runs_of base end p.least_level) p.space.tables ram runs (λ y lo hi. region-ram p.space.ram base end y lo hi)
           (used-more p.space.tables p.space.ram ram planned.used (λ y h. ram-grows p.space.ram ((base, end) ∷ []) y h));
       highest = planned.highest;
       allowed = planned.allowed;

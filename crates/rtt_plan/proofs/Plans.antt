@@ -7,7 +7,7 @@ use Rattle.rmm_model.specs.declared.table.Table.{Table}
 use Rattle.rtt_plan.specs.declared.act.Act.{Act}
 use Rattle.rtt_plan.specs.declared.act.Act.TheVariants as act
 use Rattle.rtt_plan.specs.declared.run.Run.{Run}
-use Rattle.rtt_plan.specs.Wanted.{page_acts, page_tables, run_acts, run_tables, table_act, tables_after, wanted}
+use Rattle.rtt_plan.specs.Missing.{page_acts, page_tables, run_acts, run_tables, table_act, tables_after, missing}
 use Rattle.rtt_plan.proofs.Alike.{page_acts-alike, page_tables-alike, run_acts-alike, run_tables-alike}
 
 -- ---- the tables among acts
@@ -21,15 +21,15 @@ pub run-tables : (start : ℕ) (runs : List Run) (ts : List Table) → tables_af
 unfolding tables_after run_acts run_tables
 run-tables start [] ts = refl
 run-tables start (r ∷ rs) ts =
-    tables-made ts (wanted start ts r.level r.base) (act.Run r.base r.top r.level ∷ run_acts start (ts ++ wanted start ts r.level r.base) rs)
-    ∙ run-tables start rs (ts ++ wanted start ts r.level r.base)
+    tables-made ts (missing start ts r.level r.base) (act.Run r.base r.top r.level ∷ run_acts start (ts ++ missing start ts r.level r.base) rs)
+    ∙ run-tables start rs (ts ++ missing start ts r.level r.base)
 
 pub page-tables : (start : ℕ) (pages : List ℕ) (ts : List Table) → tables_after ts (page_acts start ts pages) ≡ page_tables start ts pages
 unfolding tables_after page_acts page_tables
 page-tables start [] ts = refl
 page-tables start (x ∷ xs) ts =
-    tables-made ts (wanted start ts 3 x) (act.Pages x 1 ∷ page_acts start (ts ++ wanted start ts 3 x) xs)
-    ∙ page-tables start xs (ts ++ wanted start ts 3 x)
+    tables-made ts (missing start ts 3 x) (act.Pages x 1 ∷ page_acts start (ts ++ missing start ts 3 x) xs)
+    ∙ page-tables start xs (ts ++ missing start ts 3 x)
 
 -- ---- how far acts have come
 
@@ -44,13 +44,13 @@ planning-start said whole all = record { said_so_far = refl; made_so_far = λ le
 
 -- one run more: `now` are the tables with those that it needs
 pub planning-run : (start : ℕ) (said whole acts : List Act) (all tables now : List Table) (runs : List Run) (r : Run) (rs : List Run)
-    → runs ≡ r ∷ rs → SameTables now (tables ++ wanted start tables r.level r.base)
+    → runs ≡ r ∷ rs → SameTables now (tables ++ missing start tables r.level r.base)
     → IsPlanning said whole acts (run_acts start tables runs) all (run_tables start tables runs)
-    → IsPlanning said whole ((acts ++ map table_act (wanted start tables r.level r.base)) ++ act.Run r.base r.top r.level ∷ [])
+    → IsPlanning said whole ((acts ++ map table_act (missing start tables r.level r.base)) ++ act.Run r.base r.top r.level ∷ [])
     (run_acts start now rs) all (run_tables start now rs)
 unfolding run_acts run_tables
 planning-run start said whole acts all tables now runs r rs parts alike planning =
-    let new : List Table = wanted start tables r.level r.base in
+    let new : List Table = missing start tables r.level r.base in
     let one : Act = act.Run r.base r.top r.level in
     let rest : List Act = run_acts start (tables ++ new) rs in
     record {
@@ -62,13 +62,13 @@ planning-run start said whole acts all tables now runs r rs parts alike planning
     }
 
 pub planning-page : (start : ℕ) (said whole acts : List Act) (all tables now : List Table) (pages : List ℕ) (x : ℕ) (xs : List ℕ)
-    → pages ≡ x ∷ xs → SameTables now (tables ++ wanted start tables 3 x)
+    → pages ≡ x ∷ xs → SameTables now (tables ++ missing start tables 3 x)
     → IsPlanning said whole acts (page_acts start tables pages) all (page_tables start tables pages)
-    → IsPlanning said whole ((acts ++ map table_act (wanted start tables 3 x)) ++ act.Pages x 1 ∷ [])
+    → IsPlanning said whole ((acts ++ map table_act (missing start tables 3 x)) ++ act.Pages x 1 ∷ [])
     (page_acts start now xs) all (page_tables start now xs)
 unfolding page_acts page_tables
 planning-page start said whole acts all tables now pages x xs parts alike planning =
-    let new : List Table = wanted start tables 3 x in
+    let new : List Table = missing start tables 3 x in
     let one : Act = act.Pages x 1 in
     let rest : List Act = page_acts start (tables ++ new) xs in
     record {

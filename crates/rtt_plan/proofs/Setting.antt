@@ -15,10 +15,10 @@ use Rattle.rtt_plan.specs.InTurn.{AreFilledInTurn, AreSetInTurn, CanBeSet, CanGe
 use Rattle.rtt_plan.specs.Places.{IsRegion}
 use Rattle.rtt_plan.specs.Following.{AreRuns, IsRun}
 use Rattle.rtt_plan.specs.Runs.{runs_of}
-use Rattle.rtt_plan.specs.Wanted.{wanted}
-use Rattle.rtt_plan.proofs.Agreeing.{formed-after, made-wanted, none-inside, used-after, used-more, walk-fresh, walk-page}
+use Rattle.rtt_plan.specs.Missing.{missing}
+use Rattle.rtt_plan.proofs.Agreeing.{formed-after, made-missing, none-inside, used-after, used-more, walk-fresh, walk-page}
 use Rattle.rtt_plan.proofs.Following.{region-runs}
-use Rattle.rtt_plan.proofs.InTurn.{wanted-in-turn}
+use Rattle.rtt_plan.proofs.InTurn.{missing-in-turn}
 use Rattle.rtt_plan.proofs.Rounding.{down-top, le-down}
 
 -- ---- runs
@@ -36,21 +36,21 @@ fresh-block rs l base top b at to free lo hi = λ y e.
     no-ram rs base top y free (omega arith) (omega arith)
 
 pub none-in-run : (start : ℕ) (ts : List Table) (ram : List (ℕ × ℕ)) (r : Run) → IsFormed start ts → IsUsed ts ram → IsRun start r → overlaps ram r.base r.top ≡ false
-    → (j b : ℕ) → made (ts ++ wanted start ts r.level r.base) j b ≡ true → r.level < j → r.base ≤ b → b < r.top → ⊥
+    → (j b : ℕ) → made (ts ++ missing start ts r.level r.base) j b ≡ true → r.level < j → r.base ≤ b → b < r.top → ⊥
 none-in-run start ts ram r formed used run free j b m o lo hi =
-    elim (made-wanted start ts r.level r.base j b m) [
+    elim (made-missing start ts r.level r.base j b m) [
       | inl w ↦ none-inside start r.level b ts ram formed used (fresh-block ram r.level r.base r.top b run.base_at run.top_at free lo hi) j b w o refl
       | inr w ↦ (let from : start ≤ r.level = run.allowed in let g : j ≤ start + (r.level - start) = w.1 in absurd (omega arith))
     ]
 
 pub run-can : (start : ℕ) (ts : List Table) (ram : List (ℕ × ℕ)) (r : Run) → IsFormed start ts → IsUsed ts ram → IsRun start r → overlaps ram r.base r.top ≡ false
-    → CanBeSet start (ts ++ wanted start ts r.level r.base) ram r
+    → CanBeSet start (ts ++ missing start ts r.level r.base) ram r
 run-can start ts ram r formed used run free =
     let some : r.base < r.top = run.some in
     record {
       ends = walk-fresh start r.level r.base ts ram run.allowed run.deepest formed used (fresh-block ram r.level r.base r.top r.base run.base_at run.top_at free (omega arith) some);
       free = free;
-      none_deeper = deeper-none (ts ++ wanted start ts r.level r.base) r.level r.base r.top (none-in-run start ts ram r formed used run free);
+      none_deeper = deeper-none (ts ++ missing start ts r.level r.base) r.level r.base r.top (none-in-run start ts ram r formed used run free);
     }
 
 pub runs-in-turn : (start end : ℕ) (rs : List Run) (x : ℕ) (ts : List Table) (ram : List (ℕ × ℕ)) → AreRuns start x end rs
@@ -66,40 +66,40 @@ runs-in-turn start end (r ∷ rs) x ts ram runs formed used free =
     let rest : overlaps ((r.base, r.top) ∷ ram) r.top end ≡ false = overlaps-next (r.base, r.top) ram r.top end (overlaps-part ram x end r.top end free (omega arith) (omega arith)) (omega arith) in
     let more : IsUsed ts ((r.base, r.top) ∷ ram) = used-more ts ram ((r.base, r.top) ∷ ram) used (λ y h. ram-there (r.base, r.top) ram y h) in
     let begins : is_ram ((r.base, r.top) ∷ ram) r.base ≡ true = grind (arith, nat_tests) in (
-      wanted-in-turn start r.level r.base ts run.deepest formed,
+      missing-in-turn start r.level r.base ts run.deepest formed,
       run-can start ts ram r formed used run here,
-      runs-in-turn start end rs r.top (ts ++ wanted start ts r.level r.base) ((r.base, r.top) ∷ ram) (runs.3)
+      runs-in-turn start end rs r.top (ts ++ missing start ts r.level r.base) ((r.base, r.top) ∷ ram) (runs.3)
           (formed-after start r.level r.base ts run.deepest formed)
           (used-after start r.level r.base ts ((r.base, r.top) ∷ ram) more begins) rest,
     )
 
-pub region-in-turn : (start base end lowest : ℕ) (ts : List Table) (ram : List (ℕ × ℕ)) → start ≤ lowest → lowest ≤ 3 → base < end → IsRegion base end
-    → IsFormed start ts → IsUsed ts ram → overlaps ram base end ≡ false → AreSetInTurn start ts ram (runs_of base end lowest)
-region-in-turn start base end lowest ts ram o low some region formed used free =
-    runs-in-turn start end (runs_of base end lowest) base ts ram (region-runs start base end lowest o region low some) formed used free
+pub region-in-turn : (start base end least_level : ℕ) (ts : List Table) (ram : List (ℕ × ℕ)) → start ≤ least_level → least_level ≤ 3 → base < end → IsRegion base end
+    → IsFormed start ts → IsUsed ts ram → overlaps ram base end ≡ false → AreSetInTurn start ts ram (runs_of base end least_level)
+region-in-turn start base end least_level ts ram o low some region formed used free =
+    runs-in-turn start end (runs_of base end least_level) base ts ram (region-runs start base end least_level o region low some) formed used free
 
 -- ---- pages of data
 
 -- pages after x have no data where they had none
-pub free-after : (filled : List ℕ) (x n y : ℕ) → x < y → list_any (has filled) (granules n y) ≡ false → list_any (has (x ∷ filled)) (granules n y) ≡ false
+pub free-after : (assigned : List ℕ) (x n y : ℕ) → x < y → list_any (has assigned) (granules n y) ≡ false → list_any (has (x ∷ assigned)) (granules n y) ≡ false
 unfolding granules
-free-after filled x zero y lo none = refl
-free-after filled x (suc n) y lo none =
-    let parts = or_parts (has filled y) (list_any (has filled) (granules n (y + 4096))) none in
-    let i : list_any (has (x ∷ filled)) (granules n (y + 4096)) ≡ false = free-after filled x n (y + 4096) (omega arith) parts.1 in
+free-after assigned x zero y lo none = refl
+free-after assigned x (suc n) y lo none =
+    let parts = or_parts (has assigned y) (list_any (has assigned) (granules n (y + 4096))) none in
+    let i : list_any (has (x ∷ assigned)) (granules n (y + 4096)) ≡ false = free-after assigned x n (y + 4096) (omega arith) parts.1 in
     let e : eqb x y ≡ false = grind (arith, nat_tests) in
     rw (e, parts.0, i) refl
 
-pub pages-in-turn : (n start x : ℕ) (ts : List Table) (ram : List (ℕ × ℕ)) (filled : List ℕ) → start < 3 → IsFormed start ts
-    → list_all (is_ram ram) (granules n x) ≡ true → list_any (has filled) (granules n x) ≡ false → AreFilledInTurn start ts ram filled (granules n x)
+pub pages-in-turn : (n start x : ℕ) (ts : List Table) (ram : List (ℕ × ℕ)) (assigned : List ℕ) → start < 3 → IsFormed start ts
+    → list_all (is_ram ram) (granules n x) ≡ true → list_any (has assigned) (granules n x) ≡ false → AreFilledInTurn start ts ram assigned (granules n x)
 unfolding granules AreFilledInTurn
-pages-in-turn zero start x ts ram filled low formed all none = tt
-pages-in-turn (suc n) start x ts ram filled low formed all none =
+pages-in-turn zero start x ts ram assigned low formed all none = tt
+pages-in-turn (suc n) start x ts ram assigned low formed all none =
     let in_ram = and_parts (is_ram ram x) (list_all (is_ram ram) (granules n (x + 4096))) all in
-    let free = or_parts (has filled x) (list_any (has filled) (granules n (x + 4096))) none in
-    let page : CanGetData start (ts ++ wanted start ts 3 x) ram filled x = record { ends = walk-page start x ts low formed; in_ram = in_ram.0; free = free.0 } in (
-      wanted-in-turn start 3 x ts (omega arith) formed,
+    let free = or_parts (has assigned x) (list_any (has assigned) (granules n (x + 4096))) none in
+    let page : CanGetData start (ts ++ missing start ts 3 x) ram assigned x = record { ends = walk-page start x ts low formed; in_ram = in_ram.0; free = free.0 } in (
+      missing-in-turn start 3 x ts (omega arith) formed,
       page,
-      pages-in-turn n start (x + 4096) (ts ++ wanted start ts 3 x) ram (x ∷ filled) low (formed-after start 3 x ts (omega arith) formed)
-          in_ram.1 (free-after filled x n (x + 4096) (omega arith) free.1),
+      pages-in-turn n start (x + 4096) (ts ++ missing start ts 3 x) ram (x ∷ assigned) low (formed-after start 3 x ts (omega arith) formed)
+          in_ram.1 (free-after assigned x n (x + 4096) (omega arith) free.1),
     )

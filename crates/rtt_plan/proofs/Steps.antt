@@ -10,71 +10,71 @@ use Rattle.rtt_plan.proofs.Fits.{base-first, block-fits, first-at, first_fit-to,
 use Rattle.rtt_plan.proofs.Jumps.{entries-jump, whole-pages}
 use Rattle.rtt_plan.proofs.Rounding.{down-next, down-size, size-pages}
 
-pub at-base : (base end lowest : ℕ) → IsRegion base end → lowest ≤ 3 → base < end → AtEntry base end lowest base
-at-base base end lowest region low some = record {
+pub at-base : (base end least_level : ℕ) → IsRegion base end → least_level ≤ 3 → base < end → AtEntry base end least_level base
+at-base base end least_level region low some = record {
   page = region.base_at;
   low = omega arith;
   high = omega arith;
-  first = λ h. base-first base end lowest region low some;
+  first = λ h. base-first base end least_level region low some;
 }
 
 -- the block at an entry lies in the region
-pub entry-fits : (base end lowest x : ℕ) → IsRegion base end → lowest ≤ 3 → AtEntry base end lowest x → x < end
-    → x + size (block_level base end lowest x) ≤ end
-entry-fits base end lowest x region low at some =
-    let m : ℕ = block_level base end lowest x in
-    let first : down (size m) x ≡ x = first-at base end lowest x (at.first some) in
-    let inside = fits-low base end m x (block-fits base end lowest x region low at.low some) in
+pub entry-fits : (base end least_level x : ℕ) → IsRegion base end → least_level ≤ 3 → AtEntry base end least_level x → x < end
+    → x + size (block_level base end least_level x) ≤ end
+entry-fits base end least_level x region low at some =
+    let m : ℕ = block_level base end least_level x in
+    let first : down (size m) x ≡ x = first-at base end least_level x (at.first some) in
+    let inside = fits-low base end m x (block-fits base end least_level x region low at.low some) in
     let top : down (size m) x + size m ≤ end = inside.1 in
     omega arith
 
-pub at-next : (base end lowest x : ℕ) → IsRegion base end → lowest ≤ 3 → AtEntry base end lowest x → x < end
-    → AtEntry base end lowest (x + size (block_level base end lowest x))
-at-next base end lowest x region low at some =
-    let m : ℕ = block_level base end lowest x in
-    let first : down (size m) x ≡ x = first-at base end lowest x (at.first some) in
-    let deep : m ≤ lowest + (3 - lowest) = first_fit-to base end (3 - lowest) lowest x in
+pub at-next : (base end least_level x : ℕ) → IsRegion base end → least_level ≤ 3 → AtEntry base end least_level x → x < end
+    → AtEntry base end least_level (x + size (block_level base end least_level x))
+at-next base end least_level x region low at some =
+    let m : ℕ = block_level base end least_level x in
+    let first : down (size m) x ≡ x = first-at base end least_level x (at.first some) in
+    let deep : m ≤ least_level + (3 - least_level) = first_fit-to base end (3 - least_level) least_level x in
     let aligned : down (size m) (x + size m) ≡ x + size m = down-next (size m) x (size-pos m) first in
     let begin : base ≤ x = at.low in
     record {
       page = down-size m 3 (x + size m) (omega arith) aligned;
       low = omega arith;
-      high = entry-fits base end lowest x region low at some;
-      first = λ h. next-first base end lowest x region low at.low (at.first some) h;
+      high = entry-fits base end least_level x region low at some;
+      first = λ h. next-first base end least_level x region low at.low (at.first some) h;
     }
 
 pages-between : (x y n : ℕ) → x + 4096 * n ≡ y → (y - x) / 4096 ≡ n
 pages-between x y n e = let f : y - x ≡ n * 4096 = omega arith in let p : 0 < 4096 = omega arith in rw f (mul-div_cancel n p)
 
 -- the entries from an entry on: it, and those from its block's end on
-pub entries-next : (base end lowest x : ℕ) → IsRegion base end → lowest ≤ 3 → AtEntry base end lowest x → x < end
-    → entries_from base end lowest x ≡ x ∷ entries_from base end lowest (x + size (block_level base end lowest x))
-entries-next base end lowest x region low at some =
-    let m : ℕ = block_level base end lowest x in
+pub entries-next : (base end least_level x : ℕ) → IsRegion base end → least_level ≤ 3 → AtEntry base end least_level x → x < end
+    → entries_from base end least_level x ≡ x ∷ entries_from base end least_level (x + size (block_level base end least_level x))
+entries-next base end least_level x region low at some =
+    let m : ℕ = block_level base end least_level x in
     let here : IsRegion x end = record { base_at = at.page; end_at = region.end_at } in
     let n : ℕ = (end - x) / 4096 in
     let whole : x + 4096 * n ≡ end = whole-pages x end here some in
-    let top : x + size m ≤ end = entry-fits base end lowest x region low at some in
+    let top : x + size m ≤ end = entry-fits base end least_level x region low at some in
     let q : (q : ℕ) × (size m ≡ 4096 * suc q) = size-pages m in
     let qe : size m ≡ 4096 * suc (q.0) = q.1 in
     let r : ℕ = n - suc (q.0) in
     let split : n ≡ suc (q.0) + r = omega arith in
     let left : (end - (x + size m)) / 4096 ≡ r = pages-between (x + size m) end r (omega arith) in
-    ap (λ k. filter (is_first base end lowest) (granules k x)) split
-    ∙ entries-jump base end lowest (q.0) r x (at.first some) qe
-    ∙ ap (λ k. x ∷ filter (is_first base end lowest) (granules k (x + size m))) (sym left)
+    ap (λ k. filter (is_first base end least_level) (granules k x)) split
+    ∙ entries-jump base end least_level (q.0) r x (at.first some) qe
+    ∙ ap (λ k. x ∷ filter (is_first base end least_level) (granules k (x + size m))) (sym left)
 
-pub entries-end : (base end lowest x : ℕ) → end ≤ x → entries_from base end lowest x ≡ []
+pub entries-end : (base end least_level x : ℕ) → end ≤ x → entries_from base end least_level x ≡ []
 unfolding granules
-entries-end base end lowest x h = let e : (end - x) / 4096 ≡ 0 = (let f : end - x ≡ 0 = omega arith in rw f refl) in rw e refl
+entries-end base end least_level x h = let e : (end - x) / 4096 ≡ 0 = (let f : end - x ≡ 0 = omega arith in rw f refl) in rw e refl
 
 -- how many entries are left
-pub count-next : (base end lowest x n : ℕ) → IsRegion base end → lowest ≤ 3 → AtEntry base end lowest x → x < end
-    → (n + 1) + length (entries_from base end lowest (x + size (block_level base end lowest x))) ≡ n + length (entries_from base end lowest x)
-count-next base end lowest x n region low at some = omega (arith, ap length (entries-next base end lowest x region low at some))
+pub count-next : (base end least_level x n : ℕ) → IsRegion base end → least_level ≤ 3 → AtEntry base end least_level x → x < end
+    → (n + 1) + length (entries_from base end least_level (x + size (block_level base end least_level x))) ≡ n + length (entries_from base end least_level x)
+count-next base end least_level x n region low at some = omega (arith, ap length (entries-next base end least_level x region low at some))
 
-pub count-some : (base end lowest x : ℕ) → IsRegion base end → lowest ≤ 3 → AtEntry base end lowest x → x < end → 0 < length (entries_from base end lowest x)
-count-some base end lowest x region low at some = omega (arith, ap length (entries-next base end lowest x region low at some))
+pub count-some : (base end least_level x : ℕ) → IsRegion base end → least_level ≤ 3 → AtEntry base end least_level x → x < end → 0 < length (entries_from base end least_level x)
+count-some base end least_level x region low at some = omega (arith, ap length (entries-next base end least_level x region low at some))
 
-pub count-end : (base end lowest x : ℕ) → end ≤ x → length (entries_from base end lowest x) ≡ 0
-count-end base end lowest x h = ap length (entries-end base end lowest x h)
+pub count-end : (base end least_level x : ℕ) → end ≤ x → length (entries_from base end least_level x) ≡ 0
+count-end base end least_level x h = ap length (entries-end base end least_level x h)

@@ -10,11 +10,11 @@ use Rattle.rmm_model.specs.declared.table.Table.{Table}
 use Rattle.rmm_model.proofs.Same.{append-alike, insert-alike}
 use Rattle.rmm_model.proofs.Spaces.{made-insert}
 use Rattle.rtt_plan.specs.declared.act.Act.{Act}
-use Rattle.rtt_plan.specs.Wanted.{needed, table_act, wanted}
+use Rattle.rtt_plan.specs.Missing.{needed, table_act, missing}
 
 -- the tables that x needs between two levels
-abbrev pub wanted_between : List Table → ℕ → ℕ → ℕ → List Table
-wanted_between ts above level x = filter (λ t. not (made ts t.level t.base)) (needed (level - above) above x)
+abbrev pub missing_between : List Table → ℕ → ℕ → ℕ → List Table
+missing_between ts above level x = filter (λ t. not (made ts t.level t.base)) (needed (level - above) above x)
 
 abbrev pub table_at : ℕ → ℕ → Table
 table_at level x = record { level = level; base = down (span level) x }
@@ -22,8 +22,8 @@ table_at level x = record { level = level; base = down (span level) x }
 -- How far the adding has come: `old` and `said` are the tables and the acts at its start, and none was added below
 -- the level that was reached.
 pub record IsAdding (start level x : ℕ) (old : List Table) (said : List Act) (above : ℕ) (tables : List Table) (acts : List Act) : Type 0 where
-  pub made_so_far : SameTables (tables ++ wanted_between old above level x) (old ++ wanted start old level x)
-  pub said_so_far : acts ++ map table_act (wanted_between old above level x) ≡ said ++ map table_act (wanted start old level x)
+  pub made_so_far : SameTables (tables ++ missing_between old above level x) (old ++ missing start old level x)
+  pub said_so_far : acts ++ map table_act (missing_between old above level x) ≡ said ++ map table_act (missing start old level x)
   pub ahead : (j b : ℕ) → above < j → made tables j b ≡ made old j b
 
 pub adding-start : (start level x : ℕ) (old : List Table) (said : List Act) → IsAdding start level x old said start old said
@@ -37,14 +37,14 @@ needed-next above level x h =
     rw (e, f) refl
 
 between-made : (ts : List Table) (above level x : ℕ) → above < level → made ts (above + 1) (down (span (above + 1)) x) ≡ true
-    → wanted_between ts above level x ≡ wanted_between ts (above + 1) level x
+    → missing_between ts above level x ≡ missing_between ts (above + 1) level x
 between-made ts above level x h there = ap (filter (λ t. not (made ts t.level t.base))) (needed-next above level x h) ∙ rw there refl
 
 between-new : (ts : List Table) (above level x : ℕ) → above < level → made ts (above + 1) (down (span (above + 1)) x) ≡ false
-    → wanted_between ts above level x ≡ table_at (above + 1) x ∷ wanted_between ts (above + 1) level x
+    → missing_between ts above level x ≡ table_at (above + 1) x ∷ missing_between ts (above + 1) level x
 between-new ts above level x h out = ap (filter (λ t. not (made ts t.level t.base))) (needed-next above level x h) ∙ rw out refl
 
-between-none : (ts : List Table) (above level x : ℕ) → level ≤ above → wanted_between ts above level x ≡ []
+between-none : (ts : List Table) (above level x : ℕ) → level ≤ above → missing_between ts above level x ≡ []
 unfolding needed
 between-none ts above level x h = let e : level - above ≡ 0 = omega arith in rw e refl
 
@@ -70,8 +70,8 @@ pub adding-new : (start level x : ℕ) (old : List Table) (said : List Act) (abo
 adding-new start level x old said above tables acts h out adding =
     let t : Table = table_at (above + 1) x in
     let was : made old (above + 1) (down (span (above + 1)) x) ≡ false = sym (adding.ahead (above + 1) (down (span (above + 1)) x) (omega arith)) ∙ out in
-    let rest : List Table = wanted_between old (above + 1) level x in
-    let next : wanted_between old above level x ≡ t ∷ rest = between-new old above level x h was in
+    let rest : List Table = missing_between old (above + 1) level x in
+    let next : missing_between old above level x ≡ t ∷ rest = between-new old above level x h was in
     let put : SameTables (insert_key table_cmp tables t) (tables ++ t ∷ []) = insert-alike tables tables t (λ j b. refl) in
     record {
       made_so_far = λ j b. append-alike (insert_key table_cmp tables t) (tables ++ t ∷ []) rest put j b
@@ -84,7 +84,7 @@ adding-new start level x old said above tables acts h out adding =
 -- no level is left
 pub adding-end : (start level x : ℕ) (old : List Table) (said : List Act) (above : ℕ) (tables : List Table) (acts : List Act) → level ≤ above
     → IsAdding start level x old said above tables acts
-    → SameTables tables (old ++ wanted start old level x) × (acts ≡ said ++ map table_act (wanted start old level x))
+    → SameTables tables (old ++ missing start old level x) × (acts ≡ said ++ map table_act (missing start old level x))
 adding-end start level x old said above tables acts h adding =
     let none = between-none old above level x h in (
       λ j b. ap (λ ts. made ts j b) (sym (append-nil tables) ∙ ap (λ ts. tables ++ ts) (sym none)) ∙ adding.made_so_far j b,

@@ -18,4 +18,4 @@ pub record AcceptsData (p : Planned) (base count : ℕ) : Type 0 where
   pub inside : base + 4096 * count ≤ p.space.half
   pub whole : base % 4096 ≡ 0
   pub in_ram : list_all (is_ram p.space.ram) (granules count base) ≡ true
-  pub fresh : list_any (has p.space.filled) (granules count base) ≡ false
+  pub fresh : list_any (has p.space.assigned) (granules count base) ≡ false

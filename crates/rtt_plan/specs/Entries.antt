@@ -13,18 +13,18 @@ unfoldable pub first_fit : ℕ → ℕ → ℕ → ℕ → ℕ → ℕ
 first_fit base end zero l x = l
 first_fit base end (suc n) l x = if fits base end l x then l else first_fit base end n (suc l) x
 
--- the level of the largest block of x in the region, from the lowest allowed level on
+-- the level of the largest block of x in the region, from the least allowed level on
 abbrev pub block_level : ℕ → ℕ → ℕ → ℕ → ℕ
-block_level base end lowest x = first_fit base end (3 - lowest) lowest x
+block_level base end least_level x = first_fit base end (3 - least_level) least_level x
 
 -- whether x is the first address of its own block
 abbrev pub is_first : ℕ → ℕ → ℕ → ℕ → Bool
-is_first base end lowest x = down (size (block_level base end lowest x)) x == x
+is_first base end least_level x = down (size (block_level base end least_level x)) x == x
 
 -- the pages from x to end that are the first of their own block, rising
 abbrev pub entries_from : ℕ → ℕ → ℕ → ℕ → List ℕ
-entries_from base end lowest x = filter (is_first base end lowest) (granules ((end - x) / 4096) x)
+entries_from base end least_level x = filter (is_first base end least_level) (granules ((end - x) / 4096) x)
 
 -- the entries of a region
 abbrev pub entries : ℕ → ℕ → ℕ → List ℕ
-entries base end lowest = entries_from base end lowest base
+entries base end least_level = entries_from base end least_level base

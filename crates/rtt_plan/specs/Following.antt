@@ -7,8 +7,8 @@ use Rattle.rtt_plan.specs.declared.run.Run.{Run}
 
 -- A run is of an allowed level, has an address, begins and ends at multiples of its entries, and is in one table
 -- of its level.
-pub record IsRun (lowest : ℕ) (r : Run) : Type 0 where
-  pub allowed : lowest ≤ r.level
+pub record IsRun (least_level : ℕ) (r : Run) : Type 0 where
+  pub allowed : least_level ≤ r.level
   pub deepest : r.level ≤ 3
   pub some : r.base < r.top
   pub base_at : down (size r.level) r.base ≡ r.base
@@ -17,8 +17,8 @@ pub record IsRun (lowest : ℕ) (r : Run) : Type 0 where
 
 -- runs that follow one another from x to end, without a gap
 unfoldable pub AreRuns : ℕ → ℕ → ℕ → List Run → Type 0
-AreRuns lowest x end [] = x ≡ end
-AreRuns lowest x end (r ∷ rs) = IsRun lowest r × (r.base ≡ x) × (r.top ≤ end) × AreRuns lowest r.top end rs
+AreRuns least_level x end [] = x ≡ end
+AreRuns least_level x end (r ∷ rs) = IsRun least_level r × (r.base ≡ x) × (r.top ≤ end) × AreRuns least_level r.top end rs
 
 -- the ranges that runs make RAM
 abbrev pub ranges_of : List Run → List (ℕ × ℕ)
@@ -31,4 +31,4 @@ blocks_of (r ∷ rs) = stretches ((r.top - r.base) / size r.level) (size r.level
 
 -- the block of an entry of a region
 abbrev pub block_of : ℕ → ℕ → ℕ → ℕ → ℕ × ℕ
-block_of base end lowest x = (x, x + size (block_level base end lowest x))
+block_of base end least_level x = (x, x + size (block_level base end least_level x))

@@ -6,7 +6,7 @@ use Rattle.rmm_model.specs.Blocks.{down, span}
 use Rattle.rmm_model.specs.Space.{deeper, has, is_ram, overlaps, walk}
 use Rattle.rmm_model.specs.declared.table.Table.{Table}
 use Rattle.rtt_plan.specs.declared.run.Run.{Run}
-use Rattle.rtt_plan.specs.Wanted.{wanted}
+use Rattle.rtt_plan.specs.Missing.{missing}
 
 -- ---- tables
 
@@ -34,22 +34,22 @@ pub record CanBeSet (start : ℕ) (ts : List Table) (ram : List (ℕ × ℕ)) (r
 unfoldable pub AreSetInTurn : ℕ → List Table → List (ℕ × ℕ) → List Run → Type 0
 AreSetInTurn start ts ram [] = Unit {0}
 AreSetInTurn start ts ram (r ∷ rs) =
-    AreMadeInTurn start ts (wanted start ts r.level r.base)
-    × CanBeSet start (ts ++ wanted start ts r.level r.base) ram r
-    × AreSetInTurn start (ts ++ wanted start ts r.level r.base) ((r.base, r.top) ∷ ram) rs
+    AreMadeInTurn start ts (missing start ts r.level r.base)
+    × CanBeSet start (ts ++ missing start ts r.level r.base) ram r
+    × AreSetInTurn start (ts ++ missing start ts r.level r.base) ((r.base, r.top) ∷ ram) rs
 
 -- ---- pages of data
 
 -- the walk of a page ends at level 3, it is RAM, and it has no data
-pub record CanGetData (start : ℕ) (ts : List Table) (ram : List (ℕ × ℕ)) (filled : List ℕ) (x : ℕ) : Type 0 where
+pub record CanGetData (start : ℕ) (ts : List Table) (ram : List (ℕ × ℕ)) (assigned : List ℕ) (x : ℕ) : Type 0 where
   pub ends : walk start ts x ≡ 3
   pub in_ram : is_ram ram x ≡ true
-  pub free : has filled x ≡ false
+  pub free : has assigned x ≡ false
 
 -- the tables that each page needs, and then the page
 unfoldable pub AreFilledInTurn : ℕ → List Table → List (ℕ × ℕ) → List ℕ → List ℕ → Type 0
-AreFilledInTurn start ts ram filled [] = Unit {0}
-AreFilledInTurn start ts ram filled (x ∷ xs) =
-    AreMadeInTurn start ts (wanted start ts 3 x)
-    × CanGetData start (ts ++ wanted start ts 3 x) ram filled x
-    × AreFilledInTurn start (ts ++ wanted start ts 3 x) ram (x ∷ filled) xs
+AreFilledInTurn start ts ram assigned [] = Unit {0}
+AreFilledInTurn start ts ram assigned (x ∷ xs) =
+    AreMadeInTurn start ts (missing start ts 3 x)
+    × CanGetData start (ts ++ missing start ts 3 x) ram assigned x
+    × AreFilledInTurn start (ts ++ missing start ts 3 x) ram (x ∷ assigned) xs

@@ -2,7 +2,7 @@ pub mod Entries
 pub mod Runs
 pub mod Following
 pub mod Places
-pub mod Wanted
+pub mod Missing
 pub mod Agreement
 pub mod Among
 pub mod Planned

@@ -9,8 +9,8 @@ pub record IsRegion (base end : ℕ) : Type 0 where
   pub end_at : down (size 3) end ≡ end
 
 -- x is where an entry of the region begins, or its end
-pub record AtEntry (base end lowest x : ℕ) : Type 0 where
+pub record AtEntry (base end least_level x : ℕ) : Type 0 where
   pub page : down (size 3) x ≡ x
   pub low : base ≤ x
   pub high : x ≤ end
-  pub first : x < end → is_first base end lowest x ≡ true
+  pub first : x < end → is_first base end least_level x ≡ true

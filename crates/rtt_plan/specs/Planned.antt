@@ -12,12 +12,12 @@ use Rattle.rtt_plan.specs.declared.fault.PlanFault.TheVariants.{OutsideProtected
 use Rattle.rtt_plan.specs.Entries as region
 use Rattle.rtt_plan.specs.Runs.{runs_of}
 use Rattle.rtt_plan.specs.Agreement.{IsFormed, IsUsed}
-use Rattle.rtt_plan.specs.Wanted.{page_acts, page_tables, run_acts, run_tables}
+use Rattle.rtt_plan.specs.Missing.{page_acts, page_tables, run_acts, run_tables}
 
 pub record Planned : Type 0 where
   pub space : Space
-  -- the lowest level of a block of RAM
-  pub lowest : ℕ
+  -- the least level of a block of RAM
+  pub least_level : ℕ
   -- how many entries all regions so far have
   pub entries : ℕ
 
@@ -25,7 +25,7 @@ pub record Planned : Type 0 where
 abbrev pub nothing_planned : ℕ → ℕ → Planned
 nothing_planned s2sz block_level = record {
   space = empty_space (start_level s2sz) (protected_end s2sz);
-  lowest = max block_level (start_level s2sz);
+  least_level = max block_level (start_level s2sz);
   entries = 0;
 }
 
@@ -35,7 +35,7 @@ entry_limit = 4194304
 
 -- how many entries a region has
 abbrev pub entry_count : Planned → ℕ → ℕ → ℕ
-entry_count p base end = length (region.entries base end p.lowest)
+entry_count p base end = length (region.entries base end p.least_level)
 
 abbrev pub region_checks : Planned → ℕ → ℕ → List (Check PlanFault)
 region_checks p base end =
@@ -45,7 +45,7 @@ region_checks p base end =
     ∷ (TooManyEntries, nat_lt entry_limit (p.entries + entry_count p base end)) ∷ []
 
 abbrev pub region_acts : Planned → ℕ → ℕ → List Act
-region_acts p base end = run_acts p.space.start p.space.tables (runs_of base end p.lowest)
+region_acts p base end = run_acts p.space.start p.space.tables (runs_of base end p.least_level)
 
 -- what a region of RAM plans
 unfoldable pub plan_region : Planned → ℕ → ℕ → Result (List Act) PlanFault
@@ -56,7 +56,7 @@ data_checks p base count =
     (OutsideProtected, nat_lt p.space.half (base + 4096 * count))
     ∷ (Unaligned, not (is_multiple 4096 base))
     ∷ (NotRam, not (list_all (is_ram p.space.ram) (granules count base)))
-    ∷ (DataTwice, list_any (has p.space.filled) (granules count base)) ∷ []
+    ∷ (DataTwice, list_any (has p.space.assigned) (granules count base)) ∷ []
 
 abbrev pub data_acts : Planned → ℕ → ℕ → List Act
 data_acts p base count = page_acts p.space.start p.space.tables (granules count base)
@@ -69,10 +69,10 @@ plan_data p base count = unless_refused (data_checks p base count) (data_acts p 
 abbrev pub after_region : Planned → ℕ → ℕ → Planned
 after_region p base end = record {
   space = record p.space {
-    tables = run_tables p.space.start p.space.tables (runs_of base end p.lowest);
+    tables = run_tables p.space.start p.space.tables (runs_of base end p.least_level);
     ram = p.space.ram ++ (base, end) ∷ [];
   };
-  lowest = p.lowest;
+  least_level = p.least_level;
   entries = p.entries + entry_count p base end;
 }
 
@@ -81,14 +81,14 @@ abbrev pub after_data : Planned → ℕ → ℕ → Planned
 after_data p base count = record p {
   space = record p.space {
     tables = page_tables p.space.start p.space.tables (granules count base);
-    filled = p.space.filled ++ granules count base;
+    assigned = p.space.assigned ++ granules count base;
   };
 }
 
--- two plans whose spaces are the same, with the same lowest level and number of entries
+-- two plans whose spaces are the same, with the same least level and number of entries
 pub record AgreesWith (p q : Planned) : Type 0 where
   pub space : SameSpace p.space q.space
-  pub lowest : p.lowest ≡ q.lowest
+  pub least_level : p.least_level ≡ q.least_level
   pub entries : p.entries ≡ q.entries
 
 -- what each plan keeps: its tables are formed and used, and its levels are in order
@@ -96,5 +96,5 @@ pub record IsPlanned (p : Planned) : Type 0 where
   pub formed : IsFormed p.space.start p.space.tables
   pub used : IsUsed p.space.tables p.space.ram
   pub highest : p.space.start ≤ 2
-  pub allowed : p.space.start ≤ p.lowest
-  pub deepest : p.lowest ≤ 3
+  pub allowed : p.space.start ≤ p.least_level
+  pub deepest : p.least_level ≤ 3

@@ -23,8 +23,8 @@ group level (x ∷ xs) = put (level x) x (group level xs)
 
 -- the runs of the entries from x on
 abbrev pub runs_from : ℕ → ℕ → ℕ → ℕ → List Run
-runs_from base end lowest x = group (block_level base end lowest) (entries_from base end lowest x)
+runs_from base end least_level x = group (block_level base end least_level) (entries_from base end least_level x)
 
 -- the runs of a region
 abbrev pub runs_of : ℕ → ℕ → ℕ → List Run
-runs_of base end lowest = runs_from base end lowest base
+runs_of base end least_level = runs_from base end least_level base

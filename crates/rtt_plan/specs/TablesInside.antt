@@ -7,15 +7,15 @@ use Rattle.rtt_plan.specs.declared.tables.Tables.TheInside.{Inside}
 
 abbrev pub shown_plan : Inside → Planned
 shown_plan t = record {
-  space = record { start = t.start; half = t.half; tables = t.tables.keys; ram = t.ram.items; filled = pages_of t.filled.items };
-  lowest = t.lowest;
+  space = record { start = t.start; half = t.half; tables = t.tables.keys; ram = t.ram.items; assigned = pages_of t.assigned.items };
+  least_level = t.least_level;
   entries = t.entries;
 }
 
 pub record IsWellFormed (t : Inside) : Type 0 where
-  pub start : t.start ≤ t.lowest
-  pub lowest : t.lowest ≤ 3
+  pub start : t.start ≤ t.least_level
+  pub least_level : t.least_level ≤ 3
   pub half : t.half ≤ 2 ^ 47
   pub entries : t.entries ≤ 4194304
   pub tables : ArePlaced t.start t.tables.keys
-  pub filled : are_pages t.filled.items ≡ true
+  pub assigned : are_pages t.assigned.items ≡ true

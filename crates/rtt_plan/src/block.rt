@@ -14,15 +14,15 @@ fn fits(base: u64, end: u64, level: u8, x: u64) -> bool
     base <= first && first + size <= end
 }
 
-/// The level of the largest block of `x` in the region from `base` to `end`, from the lowest allowed
+/// The level of the largest block of `x` in the region from `base` to `end`, from the least allowed
 /// level on.
-pub fn block_level(base: u64, end: u64, lowest: u8, x: u64) -> u8
-    requires low { lowest ≤ 3 }
+pub fn block_level(base: u64, end: u64, least_level: u8, x: u64) -> u8
+    requires low { least_level ≤ 3 }
     requires small { x < 2 ^ 48 }
-    ensures value { result ≡ block_level base end lowest x }
+    ensures value { result ≡ block_level base end least_level x }
     ensures range { result ≤ 3 }
 {
-    for level in lowest..3 {
+    for level in least_level..3 {
         if fits(base, end, level, x) {
             return level;
         }

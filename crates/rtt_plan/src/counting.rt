@@ -10,14 +10,14 @@ use rmm_model::size::size_of_level;
 pub const ENTRY_LIMIT: u64 = 4_194_304;
 
 /// The entries of a region and those before it together; none where they are more than the limit.
-pub fn total_entries(before: u64, base: u64, end: u64, lowest: u8) -> Option<u64>
+pub fn total_entries(before: u64, base: u64, end: u64, least_level: u8) -> Option<u64>
     requires region { IsRegion base end }
     requires some { base < end }
     requires small { end ≤ 2 ^ 47 }
-    requires deep { lowest ≤ 3 }
+    requires deep { least_level ≤ 3 }
     requires few { before ≤ 4194304 }
-    ensures over { IfNone result (4194304 < before + length (entries base end lowest)) }
-    ensures total { IfSome result (λ n. n ≡ before + length (entries base end lowest)) }
+    ensures over { IfNone result (4194304 < before + length (entries base end least_level)) }
+    ensures total { IfSome result (λ n. n ≡ before + length (entries base end least_level)) }
     ensures limit { IfSome result (λ n. n ≤ 4194304) }
 {
     let mut total = before;
@@ -27,7 +27,7 @@ pub fn total_entries(before: u64, base: u64, end: u64, lowest: u8) -> Option<u64
             return None;
         }
         total += 1;
-        x += size_of_level(block_level(base, end, lowest, x));
+        x += size_of_level(block_level(base, end, least_level, x));
     }
     Some(total)
 }

@@ -14,33 +14,33 @@ ghost use Rattle.rtt_plan.specs.InTurn.{AreFilledInTurn, AreMadeInTurn, AreSetIn
 ghost use Rattle.rtt_plan.specs.Places.{IsRegion};
 ghost use Rattle.rtt_plan.specs.Planned.{AgreesWith, IsPlanned, Planned, after_data, after_region, data_acts, nothing_planned, plan_data, plan_region, region_acts};
 ghost use Rattle.rtt_plan.specs.Runs.{runs_of};
-ghost use Rattle.rtt_plan.specs.Wanted.{page_acts, page_tables, run_acts, run_tables, tables_after, wanted};
+ghost use Rattle.rtt_plan.specs.Missing.{page_acts, page_tables, run_acts, run_tables, tables_after, missing};
 ghost use Rattle.rtt_plan.specs.declared.act.Act.{Act};
 ghost use Rattle.rtt_plan.specs.declared.run.Run.{Run};
 
 /// The block of a page lies in its region and has an allowed level, and no larger block does.
 pub fn blocks_are_the_largest()
-    ensures inside { (base end lowest x : ℕ) → IsRegion base end → lowest ≤ 3 → base ≤ x → x < end → fits base end (block_level base end lowest x) x ≡ true }
-    ensures allowed { (base end lowest x : ℕ) → lowest ≤ block_level base end lowest x }
-    ensures largest { (base end lowest level x : ℕ) → lowest ≤ level → fits base end level x ≡ true → block_level base end lowest x ≤ level }
+    ensures inside { (base end least_level x : ℕ) → IsRegion base end → least_level ≤ 3 → base ≤ x → x < end → fits base end (block_level base end least_level x) x ≡ true }
+    ensures allowed { (base end least_level x : ℕ) → least_level ≤ block_level base end least_level x }
+    ensures largest { (base end least_level level x : ℕ) → least_level ≤ level → fits base end level x ≡ true → block_level base end least_level x ≤ level }
 {}
 
 /// The runs of a region follow one another from its base to its end without a gap, each in one table at multiples of
 /// its entries.
 pub fn runs_follow_one_another()
-    ensures { (base end lowest : ℕ) → IsRegion base end → lowest ≤ 3 → base < end → AreRuns lowest base end (runs_of base end lowest) }
+    ensures { (base end least_level : ℕ) → IsRegion base end → least_level ≤ 3 → base < end → AreRuns least_level base end (runs_of base end least_level) }
 {}
 
 /// The blocks of a region's runs, one after the other, are those of its entries.
 pub fn blocks_of_runs_are_the_entries()
-    ensures { (base end lowest : ℕ) → IsRegion base end → lowest ≤ 3 → base < end
-        → blocks_of (runs_of base end lowest) ≡ map (block_of base end lowest) (entries base end lowest) }
+    ensures { (base end least_level : ℕ) → IsRegion base end → least_level ≤ 3 → base < end
+        → blocks_of (runs_of base end least_level) ≡ map (block_of base end least_level) (entries base end least_level) }
 {}
 
 /// The addresses that a region's runs make RAM are those of the region.
 pub fn runs_make_the_region_ram()
-    ensures { (base end lowest x : ℕ) → IsRegion base end → lowest ≤ 3 → base < end
-        → is_ram (ranges_of (runs_of base end lowest)) x ≡ (nat_le base x && nat_lt x end) }
+    ensures { (base end least_level x : ℕ) → IsRegion base end → least_level ≤ 3 → base < end
+        → is_ram (ranges_of (runs_of base end least_level)) x ≡ (nat_le base x && nat_lt x end) }
 {}
 
 /// The tables among the acts of runs, or of pages, are the tables of the runs, or of the pages.
@@ -88,39 +88,39 @@ pub fn no_table_lies_inside_a_fresh_block()
 /// And after the tables that it needs, the walk of its addresses ends at the block's level.
 pub fn walk_ends_at_a_fresh_block()
     ensures { (start l x : ℕ) (ts : List Table) (ram : List (ℕ × ℕ)) → start ≤ l → l ≤ 3 → IsFormed start ts → IsUsed ts ram → IsFresh ram l x
-        → walk start (ts ++ wanted start ts l x) x ≡ l }
+        → walk start (ts ++ missing start ts l x) x ≡ l }
 {}
 
 /// After the tables of a page of data, the walk of the page ends at level 3.
 pub fn walk_ends_at_a_page()
-    ensures { (start x : ℕ) (ts : List Table) → start < 3 → IsFormed start ts → walk start (ts ++ wanted start ts 3 x) x ≡ 3 }
+    ensures { (start x : ℕ) (ts : List Table) → start < 3 → IsFormed start ts → walk start (ts ++ missing start ts 3 x) x ≡ 3 }
 {}
 
 /// The tables that a block needs, once its first address is RAM, leave the tables formed and used; and tables that are
 /// used stay so as RAM grows.
-pub fn wanted_tables_stay_formed()
-    ensures formed { (start l x : ℕ) (ts : List Table) → l ≤ 3 → IsFormed start ts → IsFormed start (ts ++ wanted start ts l x) }
-    ensures used { (start l x : ℕ) (ts : List Table) (ram : List (ℕ × ℕ)) → IsUsed ts ram → is_ram ram x ≡ true → IsUsed (ts ++ wanted start ts l x) ram }
+pub fn missing_tables_stay_formed()
+    ensures formed { (start l x : ℕ) (ts : List Table) → l ≤ 3 → IsFormed start ts → IsFormed start (ts ++ missing start ts l x) }
+    ensures used { (start l x : ℕ) (ts : List Table) (ram : List (ℕ × ℕ)) → IsUsed ts ram → is_ram ram x ≡ true → IsUsed (ts ++ missing start ts l x) ram }
     ensures grown { (ts : List Table) (ram more : List (ℕ × ℕ)) → IsUsed ts ram → ((x : ℕ) → is_ram ram x ≡ true → is_ram more x ≡ true) → IsUsed ts more }
 {}
 
 /// The tables that a block needs can be made one after another: once the earlier ones are made, the walk of each ends
 /// one level above it.
-pub fn wanted_tables_are_made_in_turn()
-    ensures { (start l x : ℕ) (ts : List Table) → l ≤ 3 → IsFormed start ts → AreMadeInTurn start ts (wanted start ts l x) }
+pub fn missing_tables_are_made_in_turn()
+    ensures { (start l x : ℕ) (ts : List Table) → l ≤ 3 → IsFormed start ts → AreMadeInTurn start ts (missing start ts l x) }
 {}
 
 /// The runs of a region of which nothing is RAM can be set one after another, each after the tables that it needs.
 pub fn runs_are_set_in_turn()
-    ensures { (start base end lowest : ℕ) (ts : List Table) (ram : List (ℕ × ℕ)) → start ≤ lowest → lowest ≤ 3 → base < end → IsRegion base end
-        → IsFormed start ts → IsUsed ts ram → overlaps ram base end ≡ false → AreSetInTurn start ts ram (runs_of base end lowest) }
+    ensures { (start base end least_level : ℕ) (ts : List Table) (ram : List (ℕ × ℕ)) → start ≤ least_level → least_level ≤ 3 → base < end → IsRegion base end
+        → IsFormed start ts → IsUsed ts ram → overlaps ram base end ≡ false → AreSetInTurn start ts ram (runs_of base end least_level) }
 {}
 
 /// Pages that are RAM and have no data can get data one after another, each after the tables that it needs.
 pub fn pages_are_filled_in_turn()
-    ensures { (count start base : ℕ) (ts : List Table) (ram : List (ℕ × ℕ)) (filled : List ℕ) → start < 3 → IsFormed start ts
-        → list_all (is_ram ram) (granules count base) ≡ true → list_any (has filled) (granules count base) ≡ false
-        → AreFilledInTurn start ts ram filled (granules count base) }
+    ensures { (count start base : ℕ) (ts : List Table) (ram : List (ℕ × ℕ)) (assigned : List ℕ) → start < 3 → IsFormed start ts
+        → list_all (is_ram ram) (granules count base) ≡ true → list_any (has assigned) (granules count base) ≡ false
+        → AreFilledInTurn start ts ram assigned (granules count base) }
 {}
 
 /// Each plan that begins with nothing and goes on by regions and pages of RAM has tables that are formed and used.

@@ -8,12 +8,12 @@ mod counting;
 pub mod fault;
 pub mod laws;
 mod longest;
+mod missing;
 mod planning;
 mod questions;
 mod run;
 pub mod start;
 pub mod tables;
-mod wanted;
 
 pub use act::Act;
 pub use fault::PlanFault;

@@ -9,24 +9,24 @@ use crate::run::{Run, goes_on};
 use rmm_model::size::size_of_level;
 
 /// The first of the runs of the entries from `x` on, in the region from `base` to `end`.
-pub fn run_from(base: u64, end: u64, lowest: u8, x: u64) -> Run
+pub fn run_from(base: u64, end: u64, least_level: u8, x: u64) -> Run
     requires region { IsRegion base end }
     requires small { end ≤ 2 ^ 47 }
-    requires low { lowest ≤ 3 }
-    requires at { AtEntry base end lowest x }
+    requires low { least_level ≤ 3 }
+    requires at { AtEntry base end least_level x }
     requires some { x < end }
-    ensures runs { runs_from base end lowest x ≡ result ∷ runs_from base end lowest result.top }
-    ensures next { AtEntry base end lowest result.top }
+    ensures runs { runs_from base end least_level x ≡ result ∷ runs_from base end least_level result.top }
+    ensures next { AtEntry base end least_level result.top }
     ensures base { result.base ≡ x }
     ensures grows { x < result.top }
-    ensures level { result.level ≡ block_level base end lowest x }
+    ensures level { result.level ≡ block_level base end least_level x }
     ensures range { result.level ≤ 3 }
 {
-    let level = block_level(base, end, lowest, x);
+    let level = block_level(base, end, least_level, x);
     let size = size_of_level(level);
     let mut top = x + size;
     while top < end {
-        if !goes_on(base, end, lowest, level, x, top) {
+        if !goes_on(base, end, least_level, level, x, top) {
             break;
         }
         top += size;

@@ -70,12 +70,12 @@ pub fn all_ram(ram: &[(u64, u64)], base: u64, count: u64) -> bool
 }
 
 /// Whether one of `count` pages from `base` on is in a range of pages. Ranges are compared, and no page is visited.
-pub fn any_filled(filled: &[(u64, u64)], base: u64, count: u64) -> bool
-    requires whole { are_pages filled.now ≡ true }
+pub fn any_assigned(assigned: &[(u64, u64)], base: u64, count: u64) -> bool
+    requires whole { are_pages assigned.now ≡ true }
     requires at { base % 4096 ≡ 0 }
     requires some { 1 ≤ count }
     requires small { base + 4096 * count ≤ 2 ^ 47 }
-    ensures { result ≡ list_any (has (pages_of filled.now)) (granules count base) }
+    ensures { result ≡ list_any (has (pages_of assigned.now)) (granules count base) }
 {
-    overlaps(filled, base, base + 4096 * count)
+    overlaps(assigned, base, base + 4096 * count)
 }

@@ -16,11 +16,11 @@ pub struct Run {
 }
 
 /// Whether the entry at `x` has this level and is in the table of this level that holds `first`.
-pub fn goes_on(base: u64, end: u64, lowest: u8, level: u8, first: u64, x: u64) -> bool
-    requires low { lowest ≤ 3 }
+pub fn goes_on(base: u64, end: u64, least_level: u8, level: u8, first: u64, x: u64) -> bool
+    requires low { least_level ≤ 3 }
     requires small { x < 2 ^ 48 }
-    ensures { result ≡ (block_level base end lowest x == level && x / span level == first / span level) }
+    ensures { result ≡ (block_level base end least_level x == level && x / span level == first / span level) }
 {
     let span = span_of_level(level);
-    block_level(base, end, lowest, x) == level && x / span == first / span
+    block_level(base, end, least_level, x) == level && x / span == first / span
 }

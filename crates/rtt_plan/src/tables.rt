@@ -7,13 +7,13 @@ ghost use Rattle.rmm_model.specs.Start.{is_width};
 ghost use Rattle.rtt_plan.specs.Places.{IsRegion};
 ghost use Rattle.rtt_plan.specs.Planned.{AgreesWith, after_data, after_region, nothing_planned, plan_data, plan_region};
 ghost use Rattle.rtt_plan.specs.Runs.{runs_of};
-ghost use Rattle.rtt_plan.specs.Wanted.{page_acts, page_tables, run_acts, run_tables};
+ghost use Rattle.rtt_plan.specs.Missing.{page_acts, page_tables, run_acts, run_tables};
 
 use crate::act::Act;
 use crate::counting::total_entries;
 use crate::fault::PlanFault;
 use crate::planning::{push_data, push_region};
-use crate::questions::{all_ram, any_filled, ends_past, overlaps, walk_level};
+use crate::questions::{all_ram, any_assigned, ends_past, overlaps, walk_level};
 use refusal::NoMemory;
 use rmm_model::Table;
 use rmm_model::start::{protected_end, start_level};
@@ -30,11 +30,11 @@ pub struct Tables {
     alloc: Global,
     start: u8,
     half: u64,
-    lowest: u8,
+    least_level: u8,
     entries: u64,
     tables: BTreeSet<Table>,
     ram: Vec<(u64, u64)>,
-    filled: Vec<(u64, u64)>,
+    assigned: Vec<(u64, u64)>,
 }
 
 impl Model for Tables {
@@ -62,11 +62,11 @@ impl Tables {
             alloc,
             start,
             half: protected_end(s2sz),
-            lowest: block_level.max(start),
+            least_level: block_level.max(start),
             entries: 0,
             tables: BTreeSet::new(alloc),
             ram: Vec::new(alloc),
-            filled: Vec::new(alloc),
+            assigned: Vec::new(alloc),
         }
     }
 
@@ -97,16 +97,16 @@ impl Tables {
         if overlaps(&self.ram, base, end) {
             return Err(PlanFault::RipasTwice);
         }
-        let Some(entries) = total_entries(self.entries, base, end, self.lowest) else {
+        let Some(entries) = total_entries(self.entries, base, end, self.least_level) else {
             return Err(PlanFault::TooManyEntries);
         };
-        let (start, lowest) = (self.start, self.lowest);
+        let (start, least_level) = (self.start, self.least_level);
         let acts = add_region(
             self.alloc,
             &mut self.tables,
             &mut self.ram,
             start,
-            lowest,
+            least_level,
             base,
             end,
         )?;
@@ -134,14 +134,14 @@ impl Tables {
         if !all_ram(&self.ram, base, count) {
             return Err(PlanFault::NotRam);
         }
-        if any_filled(&self.filled, base, count) {
+        if any_assigned(&self.assigned, base, count) {
             return Err(PlanFault::DataTwice);
         }
         let start = self.start;
         let acts = add_data(
             self.alloc,
             &mut self.tables,
-            &mut self.filled,
+            &mut self.assigned,
             start,
             base,
             count,
@@ -157,24 +157,24 @@ fn add_region(
     tables: &mut BTreeSet<Table>,
     ram: &mut Vec<(u64, u64)>,
     start: u8,
-    lowest: u8,
+    least_level: u8,
     base: u64,
     end: u64,
 ) -> Result<Vec<Act>, NoMemory>
     requires region { IsRegion base end }
     requires some { base < end }
     requires small { end ≤ 2 ^ 47 }
-    requires low { start ≤ lowest }
-    requires deep { lowest ≤ 3 }
-    ensures acts { IfOk result (λ acts. acts.items ≡ run_acts start tables.old.keys (runs_of base end lowest)) }
-    ensures tables { OnOk result (SameTables tables.new.keys (run_tables start tables.old.keys (runs_of base end lowest))) }
+    requires low { start ≤ least_level }
+    requires deep { least_level ≤ 3 }
+    ensures acts { IfOk result (λ acts. acts.items ≡ run_acts start tables.old.keys (runs_of base end least_level)) }
+    ensures tables { OnOk result (SameTables tables.new.keys (run_tables start tables.old.keys (runs_of base end least_level))) }
     ensures ram { OnOk result (ram.new.items ≡ ram.old.items ++ (base, end) ∷ []) }
     ensures tables_kept { OnErr result (tables.new.keys ≡ tables.old.keys) }
     ensures ram_kept { OnErr result (ram.new.items ≡ ram.old.items) }
 {
     let mut more = tables.clone()?;
     let mut acts = Vec::new(alloc);
-    push_region(&mut more, &mut acts, start, lowest, base, end)?;
+    push_region(&mut more, &mut acts, start, least_level, base, end)?;
     ram.push((base, end))?;
     *tables = more;
     Ok(acts)
@@ -185,7 +185,7 @@ fn add_region(
 fn add_data(
     alloc: Global,
     tables: &mut BTreeSet<Table>,
-    filled: &mut Vec<(u64, u64)>,
+    assigned: &mut Vec<(u64, u64)>,
     start: u8,
     base: u64,
     count: u64,
@@ -194,14 +194,14 @@ fn add_data(
     requires deep { start ≤ 3 }
     ensures acts { IfOk result (λ acts. acts.items ≡ page_acts start tables.old.keys (granules count base)) }
     ensures tables { OnOk result (SameTables tables.new.keys (page_tables start tables.old.keys (granules count base))) }
-    ensures filled { OnOk result (filled.new.items ≡ filled.old.items ++ (base, base + 4096 * count) ∷ []) }
+    ensures assigned { OnOk result (assigned.new.items ≡ assigned.old.items ++ (base, base + 4096 * count) ∷ []) }
     ensures tables_kept { OnErr result (tables.new.keys ≡ tables.old.keys) }
-    ensures filled_kept { OnErr result (filled.new.items ≡ filled.old.items) }
+    ensures assigned_kept { OnErr result (assigned.new.items ≡ assigned.old.items) }
 {
     let mut more = tables.clone()?;
     let mut acts = Vec::new(alloc);
     push_data(&mut more, &mut acts, start, base, count)?;
-    filled.push((base, base + 4096 * count))?;
+    assigned.push((base, base + 4096 * count))?;
     *tables = more;
     Ok(acts)
 }

@@ -13,7 +13,7 @@ returns-then-total-eq-ENTRY_LIMIT-clause-over c =
 
 pub loop-x-preserved : goal.loop-x-preserved
 loop-x-preserved c =
-    let bytes : c.size_of_level-x.result ≡ size (block_level c.args.base c.args.end c.args.lowest c.loop-x.x) = c.size_of_level-x.ensures.value ∙ ap size c.block_level.ensures.value in
+    let bytes : c.size_of_level-x.result ≡ size (block_level c.args.base c.args.end c.args.least_level c.loop-x.x) = c.size_of_level-x.ensures.value ∙ ap size c.block_level.ensures.value in
     rw bytes (record {
       at = at-next _ _ _ _ c.requires.region c.requires.deep c.loop-x.invariant.at c.loop-x-test.true;
       total = count-next _ _ _ _ _ c.requires.region c.requires.deep c.loop-x.invariant.at c.loop-x-test.true ∙ c.loop-x.invariant.total;
@@ -21,4 +21,4 @@ loop-x-preserved c =
     })
 
 pub returns-clause-total : goal.returns-clause-total
-returns-clause-total c = omega (arith, c.loop-x.invariant.total, count-end c.args.base c.args.end c.args.lowest c.loop-x.x c.loop-x-test.false)
+returns-clause-total c = omega (arith, c.loop-x.invariant.total, count-end c.args.base c.args.end c.args.least_level c.loop-x.x c.loop-x-test.false)

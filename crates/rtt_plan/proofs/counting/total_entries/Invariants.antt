@@ -5,8 +5,8 @@ use Rattle.rtt_plan.proofs.counting.total_entries.Given as goal
 
 abbrev pub invariant-loop-x : goal.invariant-loop-x
 invariant-loop-x l = record {
-  at : AtEntry l.base l.end l.lowest l.x;
-  total : l.total + length (entries_from l.base l.end l.lowest l.x) ≡ l.before + length (entries l.base l.end l.lowest);
+  at : AtEntry l.base l.end l.least_level l.x;
+  total : l.total + length (entries_from l.base l.end l.least_level l.x) ≡ l.before + length (entries l.base l.end l.least_level);
   few : l.total ≤ 4194304;
 }
 

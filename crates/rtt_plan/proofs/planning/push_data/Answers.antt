@@ -3,8 +3,8 @@ use Rattle.rtt_plan.proofs.planning.push_data.Goals as goal
 
 pub loop-index-preserved : goal.loop-index-preserved
 loop-index-preserved c =
-    rw (c.in_ok-push.ensures.items, c.in_ok-push_wanted.ensures.acts)
-    (planning-page _ _ _ _ _ _ _ _ _ _ (granules-next _ _ _ c.loop-index-test.true) c.in_ok-push_wanted.ensures.tables c.loop-index.invariant)
+    rw (c.in_ok-push.ensures.items, c.in_ok-push_missing.ensures.acts)
+    (planning-page _ _ _ _ _ _ _ _ _ _ (granules-next _ _ _ c.loop-index-test.true) c.in_ok-push_missing.ensures.tables c.loop-index.invariant)
 
 pub returns-clause-acts : goal.returns-clause-acts
 returns-clause-acts c =

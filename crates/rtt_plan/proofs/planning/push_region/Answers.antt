@@ -1,6 +1,6 @@
 use Rattle.std.proofs.Common.{◌≡◌, ◌-◌, ◌++◌, arith}
 use Rattle.rmm_model.specs.Space.{SameTables}
-use Rattle.rtt_plan.specs.Wanted.{wanted}
+use Rattle.rtt_plan.specs.Missing.{missing}
 use Rattle.rtt_plan.proofs.Fits.{first_fit-from}
 use Rattle.rtt_plan.proofs.Joins.{runs-end}
 use Rattle.rtt_plan.proofs.Plans.{planning-run, planning-runs_end, planning-start}
@@ -10,9 +10,9 @@ use Rattle.rtt_plan.proofs.planning.push_region.Goals as goal
 pub loop-x-init : goal.loop-x-init
 loop-x-init c = record { at = at-base _ _ _ c.requires.region c.requires.deep c.requires.some; planning = planning-start _ _ _ }
 
-pub push_wanted-requires-clause-low : goal.push_wanted-requires-clause-low
-push_wanted-requires-clause-low c =
-    omega (arith, c.requires.low, c.run_from-run.ensures.level, first_fit-from c.args.base c.args.end (3 - c.args.lowest) c.args.lowest c.loop-x.x)
+pub push_missing-requires-clause-low : goal.push_missing-requires-clause-low
+push_missing-requires-clause-low c =
+    omega (arith, c.requires.low, c.run_from-run.ensures.level, first_fit-from c.args.base c.args.end (3 - c.args.least_level) c.args.least_level c.loop-x.x)
 
 pub loop-x-preserved : goal.loop-x-preserved
 loop-x-preserved c = record {
@@ -20,8 +20,8 @@ loop-x-preserved c = record {
   planning =
       let run = c.run_from-run.result in
       let here : run.base ≡ c.loop-x.x = c.run_from-run.ensures.base in
-      let tables : SameTables c.push_wanted.new.tables.keys (c.loop-x.tables.keys ++ wanted c.args.start c.loop-x.tables.keys run.level run.base) = rw here c.in_ok-push_wanted.ensures.tables in
-      rw (c.in_ok-push.ensures.items, c.in_ok-push_wanted.ensures.acts)
+      let tables : SameTables c.push_missing.new.tables.keys (c.loop-x.tables.keys ++ missing c.args.start c.loop-x.tables.keys run.level run.base) = rw here c.in_ok-push_missing.ensures.tables in
+      rw (c.in_ok-push.ensures.items, c.in_ok-push_missing.ensures.acts)
       (rw here at (planning-run _ _ _ _ _ _ _ _ run _ c.run_from-run.ensures.runs tables c.loop-x.invariant.planning));
 }
 

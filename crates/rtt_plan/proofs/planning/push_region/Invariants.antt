@@ -1,17 +1,17 @@
 use Rattle.std.proofs.Common.{◌-◌}
 use Rattle.rtt_plan.specs.Places.{AtEntry}
 use Rattle.rtt_plan.specs.Runs.{runs_from, runs_of}
-use Rattle.rtt_plan.specs.Wanted.{run_acts, run_tables}
+use Rattle.rtt_plan.specs.Missing.{run_acts, run_tables}
 use Rattle.rtt_plan.proofs.Plans.{IsPlanning}
 use Rattle.rtt_plan.proofs.planning.push_region.Given as goal
 
 abbrev pub invariant-loop-x : goal.invariant-loop-x
 invariant-loop-x l = record {
-  at : AtEntry l.base l.end l.lowest l.x;
-  planning : IsPlanning l.initial.acts.items (run_acts l.start l.initial.tables.keys (runs_of l.base l.end l.lowest))
-      l.acts.items (run_acts l.start l.tables.keys (runs_from l.base l.end l.lowest l.x))
-      (run_tables l.start l.initial.tables.keys (runs_of l.base l.end l.lowest))
-      (run_tables l.start l.tables.keys (runs_from l.base l.end l.lowest l.x));
+  at : AtEntry l.base l.end l.least_level l.x;
+  planning : IsPlanning l.initial.acts.items (run_acts l.start l.initial.tables.keys (runs_of l.base l.end l.least_level))
+      l.acts.items (run_acts l.start l.tables.keys (runs_from l.base l.end l.least_level l.x))
+      (run_tables l.start l.initial.tables.keys (runs_of l.base l.end l.least_level))
+      (run_tables l.start l.tables.keys (runs_from l.base l.end l.least_level l.x));
 }
 
 abbrev pub decreases-loop-x : goal.decreases-loop-x

@@ -1,5 +1,5 @@
 use Rattle.rtt_plan.proofs.Wants.{IsAdding}
-use Rattle.rtt_plan.proofs.wanted.push_wanted.Given as goal
+use Rattle.rtt_plan.proofs.missing.push_missing.Given as goal
 
 abbrev pub invariant-loop-above : goal.invariant-loop-above
 invariant-loop-above l = IsAdding l.start l.level l.x l.initial.tables.keys l.initial.acts.items l.above l.tables.keys l.acts.items

@@ -4,8 +4,8 @@ use Rattle.rmm_model.specs.Space.{made}
 use Rattle.rmm_model.specs.declared.table.Table.{Table}
 use Rattle.rmm_model.proofs.Spaces.{made-contains}
 use Rattle.rtt_plan.proofs.Wants.{adding-end, adding-made, adding-new, adding-start}
-use Rattle.rtt_plan.proofs.wanted.push_wanted.Goals.{then-branch+in_ok-push, else-branch}
-use Rattle.rtt_plan.proofs.wanted.push_wanted.Goals as goal
+use Rattle.rtt_plan.proofs.missing.push_missing.Goals.{then-branch+in_ok-push, else-branch}
+use Rattle.rtt_plan.proofs.missing.push_missing.Goals as goal
 
 pub loop-above-init : goal.loop-above-init
 loop-above-init c = adding-start _ _ _ _ _

@@ -1,5 +1,5 @@
 use Rattle.rtt_plan.proofs.Agreeing.{formed-after, used-after, used-more}
-use Rattle.rtt_plan.proofs.laws.wanted_tables_stay_formed.Goals as goal
+use Rattle.rtt_plan.proofs.laws.missing_tables_stay_formed.Goals as goal
 
 pub returns-clause-formed : goal.returns-clause-formed
 returns-clause-formed c = formed-after

@@ -16,18 +16,18 @@ needed (suc n) j x = record { level = suc j; base = down (span (suc j)) x } ∷ 
 
 -- the tables that a block of a level at x needs below the start level and that were not made yet, rising
 -- in level
-abbrev pub wanted : ℕ → List Table → ℕ → ℕ → List Table
-wanted start ts level x = filter (λ t. not (made ts t.level t.base)) (needed (level - start) start x)
+abbrev pub missing : ℕ → List Table → ℕ → ℕ → List Table
+missing start ts level x = filter (λ t. not (made ts t.level t.base)) (needed (level - start) start x)
 
 -- the tables after some runs were set, each run after the tables that its first block needs
 unfoldable pub run_tables : ℕ → List Table → List Run → List Table
 run_tables start ts [] = ts
-run_tables start ts (r ∷ rs) = run_tables start (ts ++ wanted start ts r.level r.base) rs
+run_tables start ts (r ∷ rs) = run_tables start (ts ++ missing start ts r.level r.base) rs
 
 -- the tables after some pages got data, each page after the tables that it needs
 unfoldable pub page_tables : ℕ → List Table → List ℕ → List Table
 page_tables start ts [] = ts
-page_tables start ts (x ∷ xs) = page_tables start (ts ++ wanted start ts 3 x) xs
+page_tables start ts (x ∷ xs) = page_tables start (ts ++ missing start ts 3 x) xs
 
 -- ---- acts
 
@@ -38,14 +38,14 @@ table_act t = act.Table t.base t.level
 unfoldable pub run_acts : ℕ → List Table → List Run → List Act
 run_acts start ts [] = []
 run_acts start ts (r ∷ rs) =
-    let new = wanted start ts r.level r.base in
+    let new = missing start ts r.level r.base in
     map table_act new ++ (act.Run r.base r.top r.level ∷ run_acts start (ts ++ new) rs)
 
 -- the acts that put data at some pages: before each page the tables that it needs
 unfoldable pub page_acts : ℕ → List Table → List ℕ → List Act
 page_acts start ts [] = []
 page_acts start ts (x ∷ xs) =
-    let new = wanted start ts 3 x in
+    let new = missing start ts 3 x in
     map table_act new ++ (act.Pages x 1 ∷ page_acts start (ts ++ new) xs)
 
 -- the tables after some acts
