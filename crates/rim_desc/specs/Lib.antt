@@ -4,7 +4,7 @@ pub mod PageBytes
 pub mod Measurement
 pub mod Realm
 pub mod Rec
-pub mod RecInside
+pub mod inside
 pub mod Descriptor
 pub mod Part
 pub mod Number

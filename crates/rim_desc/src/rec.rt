@@ -28,7 +28,7 @@ impl Model for RecParams {
 
     ghost Value = { RecData };
 
-    ghost use Rattle.rim_desc.specs.RecInside.{IsWellFormed, fields_again};
+    ghost use Rattle.rim_desc.specs.inside.Rec.{IsWellFormed, fields_again};
 
     ghost view = { λ r. record { flags = r.flags; mpidr = r.mpidr; pc = r.pc; gprs = r.gprs; aux = take r.num_aux r.aux } };
 

@@ -8,7 +8,7 @@ use Rattle.rmm_model.specs.declared.outcome.Kind.{Kind}
 use Rattle.rmm_model.specs.Owners.{all_delegated, give, give_all, is_delegated, is_delegated_kind, kind_of}
 use Rattle.rmm_model.proofs.Owners.{kind_of-here, kind_of-other}
 use Rattle.std.proofs.lemmas.Bool.{and_parts, cases_Bool, eqb-true}
-use Rattle.rmm_monitor.specs.Owned.{all_owned}
+use Rattle.rmm_monitor.specs.inside.Owned.{all_owned}
 
 -- a granule that has a kind has one whatever is given
 owned-give : (owners : List (ℕ × Kind)) (g h : ℕ) (kind : Kind) → is_some (kind_of owners h) ≡ true → is_some (kind_of (give owners g kind) h) ≡ true

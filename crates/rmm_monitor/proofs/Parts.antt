@@ -10,7 +10,7 @@ use Rattle.rmm_model.specs.Space.{overlaps}
 use Rattle.std.proofs.Math.Bool.{or-false}
 use Rattle.rmm_model.proofs.Tests.{filter-same, list_any-same}
 use Rattle.std.proofs.lemmas.Bool.{cases_Bool, or_parts}
-use Rattle.rmm_monitor.specs.Apart.{are_apart}
+use Rattle.rmm_monitor.specs.inside.Apart.{are_apart}
 
 filter-none : {X : Type 0} (p : X → Bool) (xs : List X) → filter p xs ≡ [] → list_any p xs ≡ false
 filter-none p [] = λ h. refl

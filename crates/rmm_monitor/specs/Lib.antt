@@ -1,5 +1,2 @@
-pub mod Owned
+pub mod inside
 pub mod Growth
-pub mod Apart
-pub mod SpaceInside
-pub mod MonitorInside

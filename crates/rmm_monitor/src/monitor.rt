@@ -8,7 +8,7 @@ ghost use Rattle.rmm_model.specs.Owners.{all_delegated, is_delegated, kind_of, r
 ghost use Rattle.rmm_model.specs.Space.{has};
 ghost use Rattle.rmm_model.specs.Step.{step};
 ghost use Rattle.rmm_monitor.specs.Growth.{adds_something};
-ghost use Rattle.rmm_monitor.specs.Owned.{all_owned};
+ghost use Rattle.rmm_monitor.specs.inside.Owned.{all_owned};
 
 use crate::measuring::{
     algo_of, extended_by_data, extended_by_rec, extended_by_stretches, measured_so_far,
@@ -44,7 +44,7 @@ impl Model for Monitor {
 
     ghost Value = { State };
 
-    ghost use Rattle.rmm_monitor.specs.MonitorInside.{shown_state};
+    ghost use Rattle.rmm_monitor.specs.inside.Monitor.{shown_state};
 
     ghost view = { shown_state };
 }

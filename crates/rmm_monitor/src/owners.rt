@@ -1,7 +1,7 @@
 //! The kinds of granules.
 ghost use Rattle.std.specs.Prelude.{◌≡◌, true, OnOk, OnErr, is_some, length, []};
 ghost use Rattle.rmm_model.specs.Owners.{all_delegated, give, give_all, is_delegated, kind_of};
-ghost use Rattle.rmm_monitor.specs.Owned.{all_owned};
+ghost use Rattle.rmm_monitor.specs.inside.Owned.{all_owned};
 
 use refusal::NoMemory;
 use rmm_model::Kind;

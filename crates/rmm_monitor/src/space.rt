@@ -3,7 +3,7 @@ ghost use Rattle.std.specs.Prelude.{◌≡◌, ◌+◌, ◌-◌, ◌%◌, ◌<�
 ghost use Rattle.rmm_model.specs.Blocks.{down, span};
 ghost use Rattle.rmm_model.specs.Space.{after_page, after_run, after_table, deeper, empty_space, has, has_table_in, is_ram, made, overlaps, walk};
 ghost use Rattle.rmm_model.specs.Checks.{is_not_fresh};
-ghost use Rattle.rmm_monitor.specs.Apart.{are_apart};
+ghost use Rattle.rmm_monitor.specs.inside.Apart.{are_apart};
 
 use refusal::NoMemory;
 use rmm_model::Table;
@@ -28,7 +28,7 @@ impl Model for IpaSpace {
 
     ghost Value = { Space };
 
-    ghost use Rattle.rmm_monitor.specs.SpaceInside.{IsWellFormed, shown_space};
+    ghost use Rattle.rmm_monitor.specs.inside.Space.{IsWellFormed, shown_space};
 
     ghost view = { shown_space };
 

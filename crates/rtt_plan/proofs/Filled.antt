@@ -9,7 +9,7 @@ use Rattle.rmm_model.specs.Blocks.{granules, is_multiple}
 use Rattle.rmm_model.specs.Space.{has, overlaps}
 use Rattle.rmm_model.proofs.Appends.{has-append}
 use Rattle.rmm_model.proofs.Tests.{list_any-same}
-use Rattle.rtt_plan.specs.PageRanges.{are_pages, pages_of}
+use Rattle.rtt_plan.specs.inside.PageRanges.{are_pages, pages_of}
 
 -- ---- pages by their numbers
 

@@ -8,5 +8,4 @@ pub mod Among
 pub mod Planned
 pub mod Accepted
 pub mod InTurn
-pub mod PageRanges
-pub mod TablesInside
+pub mod inside

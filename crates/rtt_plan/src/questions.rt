@@ -3,7 +3,7 @@ ghost use Rattle.std.specs.Prelude.{◌≡◌, ◌*◌, ◌+◌, ◌%◌, ◌≤
 ghost use Rattle.std.specs.List.{list_all, list_any};
 ghost use Rattle.rmm_model.specs.Blocks.{down, granules, span};
 ghost use Rattle.rmm_model.specs.Space.{ArePlaced, has, is_ram, made, overlaps, walk};
-ghost use Rattle.rtt_plan.specs.PageRanges.{are_pages, pages_of};
+ghost use Rattle.rtt_plan.specs.inside.PageRanges.{are_pages, pages_of};
 
 use rmm_model::Table;
 use rmm_model::size::table_base;

@@ -42,7 +42,7 @@ impl Model for Tables {
 
     ghost Value = { Planned };
 
-    ghost use Rattle.rtt_plan.specs.TablesInside.{IsWellFormed, shown_plan};
+    ghost use Rattle.rtt_plan.specs.inside.Tables.{IsWellFormed, shown_plan};
 
     ghost view = { shown_plan };
 

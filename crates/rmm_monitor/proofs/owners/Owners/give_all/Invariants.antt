@@ -1,6 +1,6 @@
 use Rattle.std.proofs.Common.{◌≡◌, true, drop}
 use Rattle.rmm_model.specs.Owners.{give_all}
-use Rattle.rmm_monitor.specs.Owned.{all_owned}
+use Rattle.rmm_monitor.specs.inside.Owned.{all_owned}
 use Rattle.rmm_monitor.proofs.owners.Owners.give_all.Given as goal
 
 abbrev pub invariant-loop-granule : goal.invariant-loop-granule

@@ -2,7 +2,7 @@ use Rattle.std.proofs.Common.{◌∙◌, sym, refl, ap}
 use Rattle.rmm_model.specs.Blocks.{granules}
 use Rattle.rmm_model.specs.Space.{has}
 use Rattle.rmm_model.proofs.Same.{placed-alike}
-use Rattle.rtt_plan.specs.PageRanges.{pages_of}
+use Rattle.rtt_plan.specs.inside.PageRanges.{pages_of}
 use Rattle.rtt_plan.proofs.Filled.{are_pages-more, assigned-more}
 use Rattle.rtt_plan.proofs.Kept.{pages-placed}
 use Rattle.rtt_plan.proofs.tables.Tables.data_pages.Goals as goal

@@ -1,7 +1,7 @@
 -- What callers see of the planner's fields, and what these keep. This project's choice.
 use Rattle.std.specs.Prelude.{◌≡◌, ◌≤◌, ◌^◌, true}
 use Rattle.rmm_model.specs.Space.{ArePlaced}
-use Rattle.rtt_plan.specs.PageRanges.{are_pages, pages_of}
+use Rattle.rtt_plan.specs.inside.PageRanges.{are_pages, pages_of}
 use Rattle.rtt_plan.specs.Planned.{Planned}
 use Rattle.rtt_plan.specs.declared.tables.Tables.TheInside.{Inside}
 

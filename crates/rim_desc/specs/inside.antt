@@ -1,0 +1,2 @@
+-- What the fields and loops of this crate keep.
+pub mod Rec

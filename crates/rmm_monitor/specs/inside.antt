@@ -1,0 +1,5 @@
+-- What the fields and loops of this crate keep.
+pub mod Apart
+pub mod Owned
+pub mod Monitor
+pub mod Space
