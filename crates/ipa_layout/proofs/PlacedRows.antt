@@ -16,7 +16,8 @@ use Rattle.ipa_layout.specs.declared.standing.Asked.{Asked}
 use Rattle.ipa_layout.specs.declared.standing.Standing.{Standing}
 use Rattle.ipa_layout.specs.declared.placed.PlacedItem.{PlacedItem}
 use Rattle.ipa_layout.specs.declared.fault.LayoutFault.{LayoutFault}
-use Rattle.rim_launch.specs.Kinds.{is_kernel}
+use Rattle.rim_launch.specs.declared.item.Role.TheVariants as role
+use Rattle.rim_launch.specs.Kinds.{has_role}
 use Rattle.ipa_layout.specs.Standings.{asked_of, kernel_at, size_of, first_page, end_page, page_count_of}
 use Rattle.ipa_layout.specs.Placing.{placed_of, settled, settled_if, checks_of, is_outside, is_too_small}
 use Rattle.ipa_layout.specs.Meeting.{meets, any_meet}
@@ -32,7 +33,7 @@ pub record IsSound (s : Standing) : Type 0 where
 
 asked-fits : (i : Item) (bytes : List ℕ) (a : Asked) → asked_of i bytes ≡ Ok a → a.size ≤ a.extent
 unfolding asked_of
-asked-fits i bytes a e = go (is_kernel i.kind) (read_of bytes) e
+asked-fits i bytes a e = go (has_role role.Kernel i) (read_of bytes) e
   where
     go : (b : Bool) (r : Result Header ImageFault) → (let q : Result Asked LayoutFault = cond b (kernel_at i (length bytes) r) (Ok (record { address = i.at; size = size_of i (length bytes); extent = size_of i (length bytes) })) in q) ≡ Ok a → a.size ≤ a.extent
     go true (Err f) q = absurd cc

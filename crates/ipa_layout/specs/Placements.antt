@@ -1,7 +1,7 @@
 -- Where the items of a launch stand and with which bytes, or the first reason why they cannot. The order
 -- is this project's choice: each item's own reasons, item by item, then those of all items together.
-use Rattle.std.specs.Prelude.{◌≡◌, ℕ, ◌+◌, List, [], ◌∷◌, length, map, get_or, Option, Some, None, option_map, unwrap_or, Result, Ok, Err, Bool, true, nat_lt, ◌==◌, if◌then◌else◌}
-use Rattle.std.specs.List.{find, list_all, position_from, slice_get, enumerate_from, zip}
+use Rattle.std.specs.Prelude.{◌≡◌, ℕ, ◌+◌, List, [], ◌∷◌, length, map, get_or, Option, Some, None, option_map, unwrap_or, Result, Ok, Err, Bool, true, ◌==◌, if◌then◌else◌}
+use Rattle.std.specs.List.{find, position_from, slice_get, enumerate_from, zip}
 use Rattle.std.specs.Option.{option_and_then}
 use Rattle.std.specs.Result.{result_unwrap_or}
 use Rattle.refusal.specs.Answer.{◌>>=◌}
@@ -19,7 +19,9 @@ use Rattle.ipa_layout.specs.declared.placed.PlacedItem.{PlacedItem}
 use Rattle.ipa_layout.specs.declared.fault.LayoutFault.{LayoutFault}
 use Rattle.ipa_layout.specs.declared.fault.LayoutFault.TheVariants as fault
 use Rattle.rim_launch.specs.LaunchData.{LaunchData, has_files}
-use Rattle.rim_launch.specs.Kinds.{is_kernel, is_initrd, is_dtb, file_of, has_edits}
+use Rattle.rim_launch.specs.declared.item.Role.{Role}
+use Rattle.rim_launch.specs.declared.item.Role.TheVariants as role
+use Rattle.rim_launch.specs.Kinds.{file_of, has_edits, has_role}
 use Rattle.ipa_layout.specs.Changes.{Told, nothing_told, edited}
 use Rattle.ipa_layout.specs.Standings.{lead_of, page_count_of}
 use Rattle.ipa_layout.specs.Placing.{placed_of}
@@ -43,7 +45,7 @@ asked_for asked o = if asked then o else None
 abbrev pub told_of : LaunchData → List (List ℕ) → Kind → Told
 told_of l files (Dtb file edits) = record {
   bootargs = edits.bootargs;
-  initrd = asked_for edits.initrd (option_map (initrd_region files) (find (λ i. is_initrd i.kind) l.items));
+  initrd = asked_for edits.initrd (option_map (initrd_region files) (find (has_role role.Initrd) l.items));
   memory = asked_for edits.memory (slice_get l.ram 0);
 }
 told_of l files k = nothing_told
@@ -78,8 +80,8 @@ stand_all ram edited files pages (i ∷ items) = do
   Ok (standing ∷ others)
 
 -- that of the first item of a kind
-abbrev pub standing_of : (Kind → Bool) → List Item → List Standing → Option Standing
-standing_of test items standings = option_and_then (slice_get standings) (position_from (λ i. test i.kind) 0 items)
+abbrev pub standing_of : Role → List Item → List Standing → Option Standing
+standing_of r items standings = option_and_then (slice_get standings) (position_from (has_role r) 0 items)
 
 -- ---- the whole launch
 
@@ -117,12 +119,12 @@ abbrev pub placed_at : LaunchData → Option (List ℕ) → List Standing → Pl
 placed_at l edited standings = record {
   number = l.number;
   items = items_at l.number l.items standings;
-  recs = recs_at (address_of (standing_of is_kernel l.items standings)) (address_of (standing_of is_dtb l.items standings)) l.recs;
+  recs = recs_at (address_of (standing_of role.Kernel l.items standings)) (address_of (standing_of role.Dtb l.items standings)) l.recs;
   edited = edited;
 }
 
 abbrev pub apart : List Item → List Standing → Result (Unit {0}) LayoutFault
-apart items standings = apart_of standings (standing_of is_kernel items standings) (standing_of is_initrd items standings)
+apart items standings = apart_of standings (standing_of role.Kernel items standings) (standing_of role.Initrd items standings)
 
 -- the launch as it is placed, or the first refusal
 abbrev pub places : LaunchData → List (List ℕ) → Result PlacedData LayoutFault

@@ -10,7 +10,8 @@ use Rattle.ipa_layout.specs.declared.standing.Asked.{Asked}
 use Rattle.ipa_layout.specs.declared.standing.Standing.{Standing}
 use Rattle.ipa_layout.specs.declared.fault.LayoutFault.{LayoutFault}
 use Rattle.ipa_layout.specs.declared.fault.LayoutFault.TheVariants.{Dtb, Unaligned, KernelBase, Size, OutsideRam}
-use Rattle.rim_launch.specs.Kinds.{is_dtb, is_kernel}
+use Rattle.rim_launch.specs.declared.item.Role.TheVariants as role
+use Rattle.rim_launch.specs.Kinds.{has_role}
 use Rattle.ipa_layout.specs.Memory.{all_held}
 use Rattle.ipa_layout.specs.Standings.{asked_of, end_page, first_page, page_count_of}
 
@@ -28,9 +29,9 @@ is_too_small pages_before a count = nat_lt a.size count || nat_lt 1048576 (pages
 -- in this order
 abbrev pub checks_of : List Region → ℕ → Item → ℕ → Asked → List (Check LayoutFault)
 checks_of ram pages_before i count a =
-    (Dtb TooLarge, is_dtb i.kind && nat_lt 2097152 a.size)
-    ∷ (Unaligned, is_dtb i.kind && not (i.at % 8 == 0))
-    ∷ (KernelBase, is_kernel i.kind && not (i.at % 2097152 == 0))
+    (Dtb TooLarge, has_role role.Dtb i && nat_lt 2097152 a.size)
+    ∷ (Unaligned, has_role role.Dtb i && not (i.at % 8 == 0))
+    ∷ (KernelBase, has_role role.Kernel i && not (i.at % 2097152 == 0))
     ∷ (Size, is_too_small pages_before a count)
     ∷ (OutsideRam, is_outside ram a.address a.extent) ∷ []
 

@@ -10,7 +10,8 @@ use Rattle.rim_launch.specs.declared.item.Item.{Item}
 use Rattle.ipa_layout.specs.declared.standing.Asked.{Asked}
 use Rattle.ipa_layout.specs.declared.fault.LayoutFault.{LayoutFault}
 use Rattle.ipa_layout.specs.declared.fault.LayoutFault.TheVariants.{Kernel}
-use Rattle.rim_launch.specs.Kinds.{is_kernel}
+use Rattle.rim_launch.specs.declared.item.Role.TheVariants as role
+use Rattle.rim_launch.specs.Kinds.{has_role}
 
 -- how many bytes after the start of a page an address is
 abbrev pub lead_of : ℕ → ℕ
@@ -44,5 +45,5 @@ kernel_at i count (Ok h) = Ok (record {
 -- where an item with these bytes is asked to stand
 unfoldable pub asked_of : Item → List ℕ → Result Asked LayoutFault
 asked_of i bytes =
-    if is_kernel i.kind then kernel_at i (length bytes) (read_of bytes)
+    if has_role role.Kernel i then kernel_at i (length bytes) (read_of bytes)
     else Ok (record { address = i.at; size = size_of i (length bytes); extent = size_of i (length bytes) })

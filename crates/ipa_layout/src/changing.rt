@@ -1,5 +1,5 @@
 //! A devicetree that is told how its realm is booted, before it is placed.
-ghost use Rattle.std.specs.Prelude.{◌≡◌, option_map};
+ghost use Rattle.std.specs.Prelude.{option_map};
 ghost use Rattle.std.specs.Int.{w64, to_be_bytes};
 ghost use Rattle.refusal.specs.Answer.{Answers};
 ghost use Rattle.fdt_tree.specs.Trees.{devicetree_of};

@@ -1,13 +1,12 @@
 //! Where the items of a launch stand and with which bytes, or the first reason why they cannot.
-ghost use Rattle.std.specs.Prelude.{◌≡◌, ◌+◌, ◌^◌, ◌<◌, ◌≤◌, length, true, None, Ok, IfOk, IfSome, option_map};
+ghost use Rattle.std.specs.Prelude.{◌≡◌, ◌+◌, ◌^◌, ◌<◌, length, true, None, Ok, IfOk, option_map};
 ghost use Rattle.std.specs.List.{find, position_from, slice_get};
 ghost use Rattle.std.specs.Option.{option_and_then};
 ghost use Rattle.refusal.specs.Answer.{Answers, Matches};
 ghost use Rattle.rim_launch.specs.LaunchData.{has_files, is_launch};
-ghost use Rattle.rim_launch.specs.Kinds.{file_of, has_edits, is_dtb, is_initrd, is_kernel};
-ghost use Rattle.ipa_layout.specs.Standings.{page_count_of};
+ghost use Rattle.rim_launch.specs.Kinds.{file_of, has_edits, has_role};
 ghost use Rattle.ipa_layout.specs.ChangeViews.{told};
-ghost use Rattle.ipa_layout.specs.Placements.{address_of, apart, bytes_of, edited_dtb, file_bytes, initrd_region, item_at, items_at, placed_at, places, recs_at, source_of, stand_all, standing_of, told_of};
+ghost use Rattle.ipa_layout.specs.Placements.{address_of, apart, bytes_of, edited_dtb, file_bytes, initrd_region, item_at, items_at, placed_at, places, recs_at, source_of, stand_all, told_of};
 ghost use Rattle.ipa_layout.specs.PlacementViews.{contents, seen};
 
 use crate::changing::{Changes, edited};
@@ -20,7 +19,7 @@ use crate::rec::PlacedRec;
 use crate::standing::{Standing, lead};
 use refusal::NoMemory;
 use rim_desc::Source;
-use rim_launch::{Item, Kind, Launch, Rec, Region};
+use rim_launch::{Item, Kind, Launch, Rec, Region, Role};
 use std::alloc::{AllocError, Global};
 
 /// The bytes of an item's file.
@@ -33,10 +32,13 @@ fn file_bytes<'a>(files: &'a [Vec<u8>], kind: &Kind) -> &'a [u8]
 
 /// The item that is an initrd.
 fn initrd_of(launch: &Launch) -> Option<&Item>
-    ensures value { option_map (λ i. i.now) result ≡ find (λ i. is_initrd i.kind) launch.now.items }
+    ensures value { option_map (λ i. i.now) result ≡ find (has_role Role.Initrd) launch.now.items }
     ensures kept { is_launch launch.now ≡ true }
 {
-    launch.items().iter().find(|item| item.kind.is_initrd())
+    launch
+        .items()
+        .iter()
+        .find(|item| item.has_role(Role::Initrd))
 }
 
 /// The addresses of an initrd's bytes.
@@ -55,7 +57,7 @@ fn initrd_region(files: &[Vec<u8>], item: &Item) -> Region
 /// The addresses of the bytes of the launch's initrd, where there is one.
 fn initrd_at(launch: &Launch, files: &[Vec<u8>]) -> Option<Region>
     requires { has_files launch.now (length files.now) ≡ true }
-    ensures { result ≡ option_map (initrd_region (contents files.now)) (find (λ i. is_initrd i.kind) launch.now.items) }
+    ensures { result ≡ option_map (initrd_region (contents files.now)) (find (has_role Role.Initrd) launch.now.items) }
 {
     let item = initrd_of(launch)?;
     Some(initrd_region(files, item))
@@ -146,25 +148,11 @@ fn stand_all(
     Ok(standings)
 }
 
-/// The number of the kernel among items.
-fn kernel_index(items: &[Item]) -> Option<usize>
-    ensures { result ≡ position_from (λ i. is_kernel i.kind) 0 items.now }
+/// The number of the first item with a role.
+fn index_of(items: &[Item], role: Role) -> Option<usize>
+    ensures { result ≡ position_from (has_role role) 0 items.now }
 {
-    items.iter().position(|item| item.kind.is_kernel())
-}
-
-/// The number of the initrd among items.
-fn initrd_index(items: &[Item]) -> Option<usize>
-    ensures { result ≡ position_from (λ i. is_initrd i.kind) 0 items.now }
-{
-    items.iter().position(|item| item.kind.is_initrd())
-}
-
-/// The number of the devicetree among items.
-fn dtb_index(items: &[Item]) -> Option<usize>
-    ensures { result ≡ position_from (λ i. is_dtb i.kind) 0 items.now }
-{
-    items.iter().position(|item| item.kind.is_dtb())
+    items.iter().position(|item| item.has_role(role))
 }
 
 /// The standing of this number, where there is one.
@@ -180,8 +168,8 @@ fn check_items(items: &[Item], standings: &[Standing]) -> Result<(), LayoutFault
 {
     check_apart(
         standings,
-        standing_at(standings, kernel_index(items)),
-        standing_at(standings, initrd_index(items)),
+        standing_at(standings, index_of(items, Role::Kernel)),
+        standing_at(standings, index_of(items, Role::Initrd)),
     )
 }
 
@@ -270,8 +258,8 @@ fn gather(
 ) -> Result<Placed, LayoutFault>
     ensures { Answers LayoutFault.NoMemory (λ p. p) result (Ok (placed_at launch.now (option_map (λ v. v.items) edited) standings.now)) }
 {
-    let kernel = standing_at(standings, kernel_index(launch.items()));
-    let dtb = standing_at(standings, dtb_index(launch.items()));
+    let kernel = standing_at(standings, index_of(launch.items(), Role::Kernel));
+    let dtb = standing_at(standings, index_of(launch.items(), Role::Dtb));
     let number = launch.number();
     let items = items_at(alloc, number, launch.items(), standings)?;
     let recs = recs_at(alloc, launch.recs(), address_of(kernel), address_of(dtb))?;

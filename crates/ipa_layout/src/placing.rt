@@ -7,7 +7,7 @@ use crate::fault::LayoutFault;
 use crate::memory::all_held;
 use crate::standing::{Asked, Standing, page_count, stand_asked};
 use fdt_tree::FdtFault;
-use rim_launch::{Item, Region};
+use rim_launch::{Item, Region, Role};
 
 /// The most bytes of a devicetree.
 const MOST_DTB: u64 = 2_097_152;
@@ -71,13 +71,13 @@ fn settle(
     ensures exact { result ≡ settled ram.now pages_before item.now count asked }
     ensures within { IfOk result (λ s. pages_before + page_count_of s.address s.size ≤ 1048576) }
 {
-    if item.kind.is_dtb() && asked.size > MOST_DTB {
+    if item.has_role(Role::Dtb) && asked.size > MOST_DTB {
         return Err(LayoutFault::Dtb(FdtFault::TooLarge));
     }
-    if item.kind.is_dtb() && item.at % 8 != 0 {
+    if item.has_role(Role::Dtb) && item.at % 8 != 0 {
         return Err(LayoutFault::Unaligned);
     }
-    if item.kind.is_kernel() && item.at % 2_097_152 != 0 {
+    if item.has_role(Role::Kernel) && item.at % 2_097_152 != 0 {
         return Err(LayoutFault::KernelBase);
     }
     if is_too_small(pages_before, &asked, count) {

@@ -3,7 +3,7 @@ ghost use Rattle.std.specs.Prelude.{◌≡◌, ◌^◌, ◌<◌, IfOk};
 ghost use Rattle.ipa_layout.specs.Standings.{lead_of, page_count_of, asked_of, size_of};
 
 use crate::fault::LayoutFault;
-use rim_launch::Item;
+use rim_launch::{Item, Role};
 
 /// The size of a page in bytes.
 pub const PAGE: u64 = 4096;
@@ -75,7 +75,7 @@ pub fn stand_asked(item: &Item, bytes: &[u8]) -> Result<Asked, LayoutFault>
 {
     let count = bytes.len() as u64;
     let size = size(item, count);
-    if item.kind.is_kernel() {
+    if item.has_role(Role::Kernel) {
         let header = arm64_image::read(bytes)?;
         Ok(Asked {
             address: u128::from(item.at) + u128::from(header.load_offset()),

@@ -11,7 +11,9 @@ use Rattle.rim_launch.specs.declared.step.Step.{Step}
 use Rattle.rim_launch.specs.declared.step.Step.TheVariants as step
 use Rattle.rim_launch.specs.declared.ranges.Part.{Part}
 use Rattle.rim_launch.specs.declared.ranges.Part.TheVariants as part
-use Rattle.rim_launch.specs.Kinds.{is_kernel, is_initrd, is_dtb, is_raw}
+use Rattle.rim_launch.specs.declared.item.Role.{Role}
+use Rattle.rim_launch.specs.declared.item.Role.TheVariants as role
+use Rattle.rim_launch.specs.Kinds.{has_role, is_role, role_of}
 use Rattle.rim_launch.specs.Steps.{names, names_something, times, each_once, steps_complete, default_steps}
 
 times-append : (p : Part) (k : ℕ) (xs ys : List Step) → times p k (xs ++ ys) ≡ times p k xs + times p k ys
@@ -63,55 +65,55 @@ row-there make regions items recs count h a (suc n) fits =
 
 -- ---- steps of items
 
--- those of a kind, where the first item has this number
-from : (Kind → Bool) → ℕ → List Item → List Step
-from test a items = map (λ (p : ℕ × Item). step.Item p.0) (filter (λ (p : ℕ × Item). test p.1.kind) (enumerate_from a items))
+-- those of a role, where the first item has this number
+from : Role → ℕ → List Item → List Step
+from r a items = map (λ (p : ℕ × Item). step.Item p.0) (filter (λ (p : ℕ × Item). has_role r p.1) (enumerate_from a items))
 
-from-next : (test : Kind → Bool) (a : ℕ) (i : Item) (items : List Item) (P : List Step → Type 0) → (test i.kind ≡ true → P (step.Item a ∷ from test (a + 1) items)) → (test i.kind ≡ false → P (from test (a + 1) items))
-    → P (from test a (i ∷ items))
+from-next : (r : Role) (a : ℕ) (i : Item) (items : List Item) (P : List Step → Type 0) → (has_role r i ≡ true → P (step.Item a ∷ from r (a + 1) items)) → (has_role r i ≡ false → P (from r (a + 1) items))
+    → P (from r a (i ∷ items))
 unfolding from
-from-next test a i items P taken left = go (test i.kind) refl
+from-next r a i items P taken left = go (has_role r i) refl
   where
-    go : (b : Bool) → test i.kind ≡ b → P (map (λ (p : ℕ × Item). step.Item p.0) (cond b ((a, i) ∷ filter (λ (p : ℕ × Item). test p.1.kind) (enumerate_from (a + 1) items)) (filter (λ (p : ℕ × Item). test p.1.kind) (enumerate_from (a + 1) items))))
+    go : (b : Bool) → has_role r i ≡ b → P (map (λ (p : ℕ × Item). step.Item p.0) (cond b ((a, i) ∷ filter (λ (p : ℕ × Item). has_role r p.1) (enumerate_from (a + 1) items)) (filter (λ (p : ℕ × Item). has_role r p.1) (enumerate_from (a + 1) items))))
     go true e = taken e
     go false e = left e
 
-items-other : (p : Part) (other : (n k : ℕ) → names p k (step.Item n) ≡ false) (test : Kind → Bool) (a k : ℕ) (items : List Item) → times p k (from test a items) ≡ 0
+items-other : (p : Part) (other : (n k : ℕ) → names p k (step.Item n) ≡ false) (r : Role) (a k : ℕ) (items : List Item) → times p k (from r a items) ≡ 0
 unfolding from
-items-other p other test a k [] = refl
-items-other p other test a k (i ∷ items) =
-    let rest = items-other p other test (a + 1) k items in
-    from-next test a i items (λ (steps : List Step). times p k steps ≡ 0) (λ e. omega (arith, times-next p k (step.Item a) (from test (a + 1) items) false (other a k), rest)) (λ e. rest)
+items-other p other r a k [] = refl
+items-other p other r a k (i ∷ items) =
+    let rest = items-other p other r (a + 1) k items in
+    from-next r a i items (λ (steps : List Step). times p k steps ≡ 0) (λ e. omega (arith, times-next p k (step.Item a) (from r (a + 1) items) false (other a k), rest)) (λ e. rest)
 
-items-none : (test : Kind → Bool) (a k : ℕ) (items : List Item) → k < a → times part.Item k (from test a items) ≡ 0
+items-none : (r : Role) (a k : ℕ) (items : List Item) → k < a → times part.Item k (from r a items) ≡ 0
 unfolding from
-items-none test a k [] lt = refl
-items-none test a k (i ∷ items) lt =
-    let rest = items-none test (a + 1) k items (omega arith) in
+items-none r a k [] lt = refl
+items-none r a k (i ∷ items) lt =
+    let rest = items-none r (a + 1) k items (omega arith) in
     let past : (a == k) ≡ false = ne_eqb a k (λ same. omega (arith, same)) in
-    from-next test a i items (λ (steps : List Step). times part.Item k steps ≡ 0) (λ e. omega (arith, times-next part.Item k (step.Item a) (from test (a + 1) items) false past, rest)) (λ e. rest)
+    from-next r a i items (λ (steps : List Step). times part.Item k steps ≡ 0) (λ e. omega (arith, times-next part.Item k (step.Item a) (from r (a + 1) items) false past, rest)) (λ e. rest)
 
--- the first item counts where it is of the kind
-items-first : (test : Kind → Bool) (a : ℕ) (i : Item) (items : List Item) → times part.Item a (from test a (i ∷ items)) ≡ cond (test i.kind) 1 0
-items-first test a i items =
-    let rest = items-none test (a + 1) a items (omega arith) in
-    from-next test a i items (λ (steps : List Step). times part.Item a steps ≡ cond (test i.kind) 1 0)
-    (λ e. rw e (omega (arith, times-next part.Item a (step.Item a) (from test (a + 1) items) true (eq-eqb a a refl), rest))) (λ e. rw e rest)
+-- the first item counts where it has the role
+items-first : (r : Role) (a : ℕ) (i : Item) (items : List Item) → times part.Item a (from r a (i ∷ items)) ≡ cond (has_role r i) 1 0
+items-first r a i items =
+    let rest = items-none r (a + 1) a items (omega arith) in
+    from-next r a i items (λ (steps : List Step). times part.Item a steps ≡ cond (has_role r i) 1 0)
+    (λ e. rw e (omega (arith, times-next part.Item a (step.Item a) (from r (a + 1) items) true (eq-eqb a a refl), rest))) (λ e. rw e rest)
 
 -- it does not count at another number
-items-later : (test : Kind → Bool) (a k : ℕ) (i : Item) (items : List Item) → eqb a k ≡ false → times part.Item k (from test a (i ∷ items)) ≡ times part.Item k (from test (a + 1) items)
-items-later test a k i items other =
-    from-next test a i items (λ (steps : List Step). times part.Item k steps ≡ times part.Item k (from test (a + 1) items)) (λ e. omega (arith, times-next part.Item k (step.Item a) (from test (a + 1) items) false other)) (λ e. refl)
+items-later : (r : Role) (a k : ℕ) (i : Item) (items : List Item) → eqb a k ≡ false → times part.Item k (from r a (i ∷ items)) ≡ times part.Item k (from r (a + 1) items)
+items-later r a k i items other =
+    from-next r a i items (λ (steps : List Step). times part.Item k steps ≡ times part.Item k (from r (a + 1) items)) (λ e. omega (arith, times-next part.Item k (step.Item a) (from r (a + 1) items) false other)) (λ e. refl)
 
--- an item is of exactly one kind
-one-kind : (k : Kind) → cond (is_kernel k) 1 0 + cond (is_initrd k) 1 0 + cond (is_dtb k) 1 0 + cond (is_raw k) 1 0 ≡ 1
-one-kind (Kernel file) = refl
-one-kind (Initrd file) = refl
-one-kind (Dtb file edits) = refl
-one-kind (Raw file) = refl
+-- an item has exactly one role
+one-role : (k : Kind) → cond (is_role role.Kernel (role_of k)) 1 0 + cond (is_role role.Initrd (role_of k)) 1 0 + cond (is_role role.Dtb (role_of k)) 1 0 + cond (is_role role.Raw (role_of k)) 1 0 ≡ 1
+one-role (Kernel file) = refl
+one-role (Initrd file) = refl
+one-role (Dtb file edits) = refl
+one-role (Raw file) = refl
 
 counted : ℕ → ℕ → List Item → ℕ
-counted k a items = times part.Item k (from is_kernel a items) + times part.Item k (from is_initrd a items) + times part.Item k (from is_dtb a items) + times part.Item k (from is_raw a items)
+counted k a items = times part.Item k (from role.Kernel a items) + times part.Item k (from role.Initrd a items) + times part.Item k (from role.Dtb a items) + times part.Item k (from role.Raw a items)
 
 items-once : (a k : ℕ) (items : List Item) → a ≤ k → k < a + length items → counted k a items ≡ 1
 unfolding counted
@@ -121,17 +123,17 @@ items-once a k (i ∷ items) low high = go (eqb a k) refl (λ above. items-once 
     go : (b : Bool) → eqb a k ≡ b → (a + 1 ≤ k → counted k (a + 1) items ≡ 1) → counted k a (i ∷ items) ≡ 1
     go true e rest =
         subst (λ (m : ℕ). counted m a (i ∷ items) ≡ 1) (eqb-true a k e)
-        (omega (arith, items-first is_kernel a i items, items-first is_initrd a i items, items-first is_dtb a i items, items-first is_raw a i items, one-kind i.kind))
+        (omega (arith, items-first role.Kernel a i items, items-first role.Initrd a i items, items-first role.Dtb a i items, items-first role.Raw a i items, one-role i.kind))
     go false e rest =
-        omega (arith, items-later is_kernel a k i items e, items-later is_initrd a k i items e, items-later is_dtb a k i items e, items-later is_raw a k i items e, rest (omega (arith, eqb-false a k e)))
+        omega (arith, items-later role.Kernel a k i items e, items-later role.Initrd a k i items e, items-later role.Dtb a k i items e, items-later role.Raw a k i items e, rest (omega (arith, eqb-false a k e)))
 
-items-there : (test : Kind → Bool) (regions count recs a : ℕ) (items : List Item) → a + length items ≤ count → list_all (names_something regions count recs) (from test a items) ≡ true
+items-there : (r : Role) (regions count recs a : ℕ) (items : List Item) → a + length items ≤ count → list_all (names_something regions count recs) (from r a items) ≡ true
 unfolding from
-items-there test regions count recs a [] fits = refl
-items-there test regions count recs a (i ∷ items) fits =
-    let rest = items-there test regions count recs (a + 1) items (omega arith) in
+items-there r regions count recs a [] fits = refl
+items-there r regions count recs a (i ∷ items) fits =
+    let rest = items-there r regions count recs (a + 1) items (omega arith) in
     let first : nat_lt a count ≡ true = lt-ltb a count (omega arith) in
-    from-next test a i items (λ (steps : List Step). list_all (names_something regions count recs) steps ≡ true) (λ e. rw first rest) (λ e. rest)
+    from-next r a i items (λ (steps : List Step). list_all (names_something regions count recs) steps ≡ true) (λ e. rw first rest) (λ e. rest)
 
 -- ---- all of them
 
@@ -151,29 +153,29 @@ module _ (regions : ℕ) (items : List Item) (recs : ℕ) where
       go false e all rest = absurd (let z : false ≡ true = all in let y : ⊥ = cc in y)
 
   split : (p : Part) (k : ℕ) → times p k (default_steps regions items recs)
-      ≡ times p k ram + (times p k (from is_kernel 0 items) + times p k (from is_initrd 0 items) + times p k (from is_dtb 0 items) + times p k (from is_raw 0 items)) + times p k made
+      ≡ times p k ram + (times p k (from role.Kernel 0 items) + times p k (from role.Initrd 0 items) + times p k (from role.Dtb 0 items) + times p k (from role.Raw 0 items)) + times p k made
   unfolding default_steps from ram made
   split p k =
-      let a = from is_kernel 0 items in
-      let b = from is_initrd 0 items in
-      let c = from is_dtb 0 items in
-      let d = from is_raw 0 items in
+      let a = from role.Kernel 0 items in
+      let b = from role.Initrd 0 items in
+      let c = from role.Dtb 0 items in
+      let d = from role.Raw 0 items in
       omega (arith, times-append p k (ram ++ a ++ b ++ c ++ d) made, times-append p k (ram ++ a ++ b ++ c) d, times-append p k (ram ++ a ++ b) c, times-append p k (ram ++ a) b, times-append p k ram a)
 
   there : list_all (names_something regions (length items) recs) (default_steps regions items recs) ≡ true
   unfolding default_steps from ram made
   there =
       let t : Step → Bool = names_something regions (length items) recs in
-      let a = from is_kernel 0 items in
-      let b = from is_initrd 0 items in
-      let c = from is_dtb 0 items in
-      let d = from is_raw 0 items in
+      let a = from role.Kernel 0 items in
+      let b = from role.Initrd 0 items in
+      let c = from role.Dtb 0 items in
+      let d = from role.Raw 0 items in
       let of_ram : list_all t ram ≡ true = row-there (λ n. step.Ram n) regions (length items) recs regions (λ n lt. lt-ltb n regions lt) 0 regions (omega arith) in
       let of_recs : list_all t made ≡ true = row-there (λ n. step.Rec n) regions (length items) recs recs (λ n lt. lt-ltb n recs lt) 0 recs (omega arith) in
-      let of_a = items-there is_kernel regions (length items) recs 0 items (omega arith) in
-      let of_b = items-there is_initrd regions (length items) recs 0 items (omega arith) in
-      let of_c = items-there is_dtb regions (length items) recs 0 items (omega arith) in
-      let of_d = items-there is_raw regions (length items) recs 0 items (omega arith) in
+      let of_a = items-there role.Kernel regions (length items) recs 0 items (omega arith) in
+      let of_b = items-there role.Initrd regions (length items) recs 0 items (omega arith) in
+      let of_c = items-there role.Dtb regions (length items) recs 0 items (omega arith) in
+      let of_d = items-there role.Raw regions (length items) recs 0 items (omega arith) in
       all-append t (ram ++ a ++ b ++ c ++ d) made (all-append t (ram ++ a ++ b ++ c) d (all-append t (ram ++ a ++ b) c (all-append t (ram ++ a) b (all-append t ram a of_ram of_a) of_b) of_c) of_d) of_recs
 
   -- each part by itself
@@ -183,7 +185,7 @@ module _ (regions : ℕ) (items : List Item) (recs : ℕ) where
       let own = row-once (λ n. step.Ram n) part.Ram (λ n k. refl) 0 regions k (omega arith) (omega arith) in
       let other = items-other part.Ram (λ n k. refl) in
       let recs_none = row-other (λ n. step.Rec n) part.Ram (λ n k. refl) 0 recs k in
-      omega (arith, split part.Ram k, own, other is_kernel 0 k items, other is_initrd 0 k items, other is_dtb 0 k items, other is_raw 0 k items, recs_none)
+      omega (arith, split part.Ram k, own, other role.Kernel 0 k items, other role.Initrd 0 k items, other role.Dtb 0 k items, other role.Raw 0 k items, recs_none)
 
   item-once : (k : ℕ) → k < length items → times part.Item k (default_steps regions items recs) ≡ 1
   unfolding ram made counted
@@ -199,7 +201,7 @@ module _ (regions : ℕ) (items : List Item) (recs : ℕ) where
       let own = row-once (λ n. step.Rec n) part.Rec (λ n k. refl) 0 recs k (omega arith) (omega arith) in
       let other = items-other part.Rec (λ n k. refl) in
       let ram_none = row-other (λ n. step.Ram n) part.Rec (λ n k. refl) 0 regions k in
-      omega (arith, split part.Rec k, own, other is_kernel 0 k items, other is_initrd 0 k items, other is_dtb 0 k items, other is_raw 0 k items, ram_none)
+      omega (arith, split part.Rec k, own, other role.Kernel 0 k items, other role.Initrd 0 k items, other role.Dtb 0 k items, other role.Raw 0 k items, ram_none)
 
   each-once : (p : Part) (n : ℕ) → ((k : ℕ) → k < n → times p k (default_steps regions items recs) ≡ 1) → each_once p (default_steps regions items recs) n ≡ true
   unfolding each_once

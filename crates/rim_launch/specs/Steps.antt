@@ -1,11 +1,12 @@
 -- The steps of a launch: each region, each item and each REC has one. This project's choice.
 use Rattle.std.specs.Prelude.{ℕ, List, Bool, ◌&&◌, ◌==◌, ◌++◌, nat_lt, count_by, filter, map, false, Option, Some, None}
 use Rattle.std.specs.List.{enumerate_from, list_all, range_with_len}
-use Rattle.rim_launch.specs.declared.item.Kind.{Kind}
+use Rattle.rim_launch.specs.declared.item.Role.{Role}
+use Rattle.rim_launch.specs.declared.item.Role.TheVariants as role
 use Rattle.rim_launch.specs.declared.item.Item.{Item}
 use Rattle.rim_launch.specs.declared.step.Step.{Step}
 use Rattle.rim_launch.specs.declared.step.Step.TheVariants as step
-use Rattle.rim_launch.specs.Kinds.{is_kernel, is_initrd, is_dtb, is_raw}
+use Rattle.rim_launch.specs.Kinds.{has_role}
 use Rattle.rim_launch.specs.declared.ranges.Part.{Part}
 use Rattle.rim_launch.specs.declared.ranges.Part.TheVariants as part
 
@@ -45,12 +46,12 @@ steps_complete regions items recs steps = list_all (names_something regions item
 
 -- ---- the steps of a launch that names none
 
--- a step for each item of a kind, in their order
-abbrev pub item_steps : (Kind → Bool) → List Item → List Step
-item_steps test items = map (λ p. step.Item p.0) (filter (λ p. test p.1.kind) (enumerate_from 0 items))
+-- a step for each item with a role, in their order
+abbrev pub item_steps : Role → List Item → List Step
+item_steps r items = map (λ p. step.Item p.0) (filter (λ p. has_role r p.1) (enumerate_from 0 items))
 
 -- the regions, the kernel, the initrd, the devicetree, the other items, the RECs
 unfoldable pub default_steps : ℕ → List Item → ℕ → List Step
 default_steps regions items recs =
-    map step.Ram (range_with_len 0 regions) ++ item_steps is_kernel items ++ item_steps is_initrd items
-    ++ item_steps is_dtb items ++ item_steps is_raw items ++ map step.Rec (range_with_len 0 recs)
+    map step.Ram (range_with_len 0 regions) ++ item_steps role.Kernel items ++ item_steps role.Initrd items
+    ++ item_steps role.Dtb items ++ item_steps role.Raw items ++ map step.Rec (range_with_len 0 recs)

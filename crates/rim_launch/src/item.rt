@@ -58,21 +58,30 @@ fn has_no_zero(bytes: &[u8]) -> bool
     bytes.iter().all(|byte| *byte != 0)
 }
 
-/// What is changed in a devicetree before it is placed.
+/// What is edited in a devicetree before it is placed.
 #[derive(Drop)]
 pub struct Edits {
     /// The command line that `/chosen` is to have, if any.
     pub bootargs: Option<Bootargs>,
-    /// Whether `/chosen` is to say where the initrd stands.
+    /// Whether `/chosen` is to have the initrd's addresses.
     pub initrd: bool,
-    /// Whether the memory node is to say where the first region of RAM is.
+    /// Whether the memory node is to have the first region of RAM.
     pub memory: bool,
+}
+
+/// What an item is for.
+#[derive(Clone, Copy, Debug, PartialEq, Eq)]
+pub enum Role {
+    Kernel,
+    Initrd,
+    Dtb,
+    Raw,
 }
 
 /// What an item is, and the number of the file that its bytes come from.
 #[derive(Drop)]
 pub enum Kind {
-    /// An arm64 Image, which stands behind its base by the offset in its header.
+    /// An arm64 Image. It begins at its base plus the offset in its header.
     Kernel { file: usize },
     /// An initial ramdisk.
     Initrd { file: usize },
@@ -82,14 +91,85 @@ pub enum Kind {
     Raw { file: usize },
 }
 
+impl Kind {
+    ghost use Rattle.std.specs.Prelude.{◌≡◌};
+    ghost use Rattle.rim_launch.specs.Kinds.{file_of, has_edits, needs_initrd, needs_memory, role_of};
+
+    /// What the item is for.
+    pub fn role(&self) -> Role
+        ensures { result ≡ role_of self.now }
+    {
+        match self {
+            Kind::Kernel { .. } => Role::Kernel,
+            Kind::Initrd { .. } => Role::Initrd,
+            Kind::Dtb { .. } => Role::Dtb,
+            Kind::Raw { .. } => Role::Raw,
+        }
+    }
+
+    /// The number of the file that its bytes come from.
+    pub fn file(&self) -> usize
+        ensures { result ≡ file_of self.now }
+    {
+        match self {
+            Kind::Kernel { file } => *file,
+            Kind::Initrd { file } => *file,
+            Kind::Dtb { file, .. } => *file,
+            Kind::Raw { file } => *file,
+        }
+    }
+
+    /// Whether it is a devicetree that is edited before it is placed.
+    pub fn has_edits(&self) -> bool
+        ensures { result ≡ has_edits self.now }
+    {
+        match self {
+            Kind::Dtb { edits, .. } => edits.bootargs.is_some() || edits.initrd || edits.memory,
+            _ => false,
+        }
+    }
+
+    /// Whether it is a devicetree that is to have the initrd's place.
+    pub fn needs_initrd(&self) -> bool
+        ensures { result ≡ needs_initrd self.now }
+    {
+        match self {
+            Kind::Dtb { edits, .. } => edits.initrd,
+            _ => false,
+        }
+    }
+
+    /// Whether it is a devicetree that is to have the place of RAM.
+    pub fn needs_memory(&self) -> bool
+        ensures { result ≡ needs_memory self.now }
+    {
+        match self {
+            Kind::Dtb { edits, .. } => edits.memory,
+            _ => false,
+        }
+    }
+}
+
 /// An item, as a launch asks for it.
 #[derive(Drop)]
 pub struct Item {
     pub kind: Kind,
-    /// The address that it is asked to stand at; for a kernel, its base. In bytes, below 2^63.
+    /// Its load address; for a kernel, its base. In bytes, below 2^63.
     pub at: u64,
     /// Its size in bytes, where it is stated; below 2^63.
     pub size: Option<u64>,
     /// Whether its pages are measured.
     pub measured: bool,
+}
+
+impl Item {
+    ghost use Rattle.std.specs.Prelude.{◌≡◌};
+    ghost use Rattle.rim_launch.specs.Kinds.{has_role};
+
+    /// Whether it has this role.
+    pub fn has_role(&self, role: Role) -> bool
+        ensures { result ≡ has_role role self.now }
+    {
+        self.kind.role() == role
+    }
 }

@@ -10,7 +10,7 @@ mod rec;
 mod step;
 
 pub use config::Config;
-pub use item::{Bootargs, Edits, Item, Kind, Region};
+pub use item::{Bootargs, Edits, Item, Kind, Region, Role};
 pub use launch::Launch;
 pub use rec::Rec;
 pub use step::{Step, default_steps};

@@ -1,14 +1,14 @@
 //! Whether the parts of a launch are in their ranges.
-ghost use Rattle.std.specs.Prelude.{◌≡◌, ◌+◌, ◌<◌, ◌≤◌, ℕ, List, length, take, true, false, not, nat_le, count_by, slice_index_or, slice_set};
+ghost use Rattle.std.specs.Prelude.{◌≡◌, ◌+◌, ◌<◌, ◌≤◌, ℕ, List, length, take, true, false, not, slice_index_or, slice_set};
 ghost use Rattle.std.specs.List.{list_all, list_any};
 ghost use Rattle.rim_launch.specs.Ranges.{config_in_range, region_in_range, item_in_range};
-ghost use Rattle.rim_launch.specs.Kinds.{is_kernel, is_initrd, is_dtb, file_of, has_edits, once_each, wants_initrd, wants_memory, edits_possible};
+ghost use Rattle.rim_launch.specs.Kinds.{count_of, edits_possible, needs_initrd, needs_memory, once_each};
 ghost use Rattle.rim_launch.specs.Steps.{names_something, number_of, each_once, steps_complete};
 ghost use Rattle.rim_launch.specs.inside.StepViews.{AreMarks, IsNext};
 ghost use Rattle.rim_launch.specs.declared.step.Step.{Step};
 
 use crate::config::Config;
-use crate::item::{Item, Kind, Region};
+use crate::item::{Item, Region, Role};
 use crate::step::Step;
 
 /// The first number that a manifest cannot spell.
@@ -56,120 +56,40 @@ pub fn items_in_range(items: &[Item]) -> bool
     items.iter().all(|item| item_in_range(item))
 }
 
-impl Kind {
-    /// Whether it is a kernel.
-    pub fn is_kernel(&self) -> bool
-        ensures { result ≡ is_kernel self.now }
-    {
-        matches!(self, Kind::Kernel { .. })
-    }
-
-    /// Whether it is an initrd.
-    pub fn is_initrd(&self) -> bool
-        ensures { result ≡ is_initrd self.now }
-    {
-        matches!(self, Kind::Initrd { .. })
-    }
-
-    /// Whether it is a devicetree.
-    pub fn is_dtb(&self) -> bool
-        ensures { result ≡ is_dtb self.now }
-    {
-        matches!(self, Kind::Dtb { .. })
-    }
-
-    /// The number of the file that its bytes come from.
-    pub fn file(&self) -> usize
-        ensures { result ≡ file_of self.now }
-    {
-        match self {
-            Kind::Kernel { file } => *file,
-            Kind::Initrd { file } => *file,
-            Kind::Dtb { file, .. } => *file,
-            Kind::Raw { file } => *file,
-        }
-    }
-
-    /// Whether it is a devicetree that is changed before it is placed.
-    pub fn has_edits(&self) -> bool
-        ensures { result ≡ has_edits self.now }
-    {
-        match self {
-            Kind::Dtb { edits, .. } => edits.bootargs.is_some() || edits.initrd || edits.memory,
-            _ => false,
-        }
-    }
-
-    /// Whether it is a devicetree that is to say where the initrd stands.
-    fn wants_initrd(&self) -> bool
-        ensures { result ≡ wants_initrd self.now }
-    {
-        match self {
-            Kind::Dtb { edits, .. } => edits.initrd,
-            _ => false,
-        }
-    }
-
-    /// Whether it is a devicetree that is to say where RAM is.
-    fn wants_memory(&self) -> bool
-        ensures { result ≡ wants_memory self.now }
-    {
-        match self {
-            Kind::Dtb { edits, .. } => edits.memory,
-            _ => false,
-        }
-    }
-}
-
-/// Whether at most one item is a kernel, an initrd, a devicetree.
-fn kernel_once(items: &[Item]) -> bool
-    ensures { result ≡ nat_le (count_by (λ i. is_kernel i.kind) items.now) 1 }
+/// How many items have a role.
+fn count_of(items: &[Item], role: Role) -> usize
+    ensures { result ≡ count_of role items.now }
 {
-    items.iter().filter(|item| item.kind.is_kernel()).count() <= 1
+    items.iter().filter(|item| item.has_role(role)).count()
 }
 
-fn initrd_once(items: &[Item]) -> bool
-    ensures { result ≡ nat_le (count_by (λ i. is_initrd i.kind) items.now) 1 }
-{
-    items.iter().filter(|item| item.kind.is_initrd()).count() <= 1
-}
-
-fn dtb_once(items: &[Item]) -> bool
-    ensures { result ≡ nat_le (count_by (λ i. is_dtb i.kind) items.now) 1 }
-{
-    items.iter().filter(|item| item.kind.is_dtb()).count() <= 1
-}
-
-/// Whether no two items are kernels, initrds or devicetrees.
+/// Whether at most one item is a kernel, at most one an initrd, and at most one a devicetree.
 pub fn once_each(items: &[Item]) -> bool
     ensures { result ≡ once_each items.now }
 {
-    kernel_once(items) && initrd_once(items) && dtb_once(items)
+    count_of(items, Role::Kernel) <= 1
+        && count_of(items, Role::Initrd) <= 1
+        && count_of(items, Role::Dtb) <= 1
 }
 
-fn has_initrd(items: &[Item]) -> bool
-    ensures { result ≡ list_any (λ i. is_initrd i.kind) items.now }
+fn needs_initrd(items: &[Item]) -> bool
+    ensures { result ≡ list_any (λ i. needs_initrd i.kind) items.now }
 {
-    items.iter().any(|item| item.kind.is_initrd())
+    items.iter().any(|item| item.kind.needs_initrd())
 }
 
-fn initrd_wanted(items: &[Item]) -> bool
-    ensures { result ≡ list_any (λ i. wants_initrd i.kind) items.now }
+fn needs_memory(items: &[Item]) -> bool
+    ensures { result ≡ list_any (λ i. needs_memory i.kind) items.now }
 {
-    items.iter().any(|item| item.kind.wants_initrd())
+    items.iter().any(|item| item.kind.needs_memory())
 }
 
-fn memory_wanted(items: &[Item]) -> bool
-    ensures { result ≡ list_any (λ i. wants_memory i.kind) items.now }
-{
-    items.iter().any(|item| item.kind.wants_memory())
-}
-
-/// Whether there is an initrd and RAM where a devicetree is to say where they are.
+/// Whether the launch has an initrd and RAM, as far as a devicetree is to have their places.
 pub fn edits_possible(ram: &[Region], items: &[Item]) -> bool
     ensures { result ≡ edits_possible ram.now items.now }
 {
-    (has_initrd(items) || !initrd_wanted(items)) && (!ram.is_empty() || !memory_wanted(items))
+    (count_of(items, Role::Initrd) > 0 || !needs_initrd(items))
+        && (!ram.is_empty() || !needs_memory(items))
 }
 
 /// Whether a step names a region, an item or a REC that is there.
