@@ -5,7 +5,7 @@ use Rattle.fdt_tree.specs.declared.fault.FdtFault.{FdtFault}
 use Rattle.fdt_tree.specs.declared.node.Node.{Node}
 use Rattle.fdt_tree.specs.declared.node.Node.TheViews.{out-Node}
 use Rattle.fdt_tree.specs.Devicetree.{Entry, Nodes, none, node, Branch, joined, Token, begin_node, property, tokens, root_tokens}
-use Rattle.fdt_tree.specs.OpenNodes.{opened, all_opened}
+use Rattle.fdt_tree.specs.inside.OpenNodes.{opened, all_opened}
 use Rattle.fdt_tree.specs.NodeViews.{branch, branches, root_of}
 use Rattle.refusal.specs.Answer.{with_front}
 use Rattle.fdt_tree.specs.Scanning.{start, scan}

@@ -7,7 +7,7 @@ use Rattle.std.proofs.lemmas.List.{take_more, length-drop, length-take-le, get_o
 use Rattle.fdt_tree.specs.declared.fault.FdtFault.TheVariants.{BadName, BadString}
 use Rattle.refusal.specs.Answer.{◌>>=◌}
 use Rattle.fdt_tree.specs.Names.{letter, all_letters, legal}
-use Rattle.fdt_tree.specs.LetterRuns.{letter_run, letter_runs, zero_end}
+use Rattle.fdt_tree.specs.inside.LetterRuns.{letter_run, letter_runs, zero_end}
 use Rattle.fdt_tree.specs.Scanning.{until_zero, string_at, name_at}
 
 -- ---- the last zero byte

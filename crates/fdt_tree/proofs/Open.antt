@@ -6,8 +6,8 @@ use Rattle.fdt_tree.specs.declared.node.Node.{Node}
 use Rattle.fdt_tree.specs.declared.node.Node.TheOpen.{Node-F}
 use Rattle.fdt_tree.specs.declared.node.Node.TheViews.{out-Node, roll-Node}
 use Rattle.fdt_tree.specs.declared.node.Node.TheFolds.{fold-roll-Node, fold_out-Node}
-use Rattle.fdt_tree.specs.Devicetree.{Entry, Nodes, none, node, Branch, joined, Token, begin_node, property, end_node, tokens}
-use Rattle.fdt_tree.specs.OpenNodes.{has_any, opened, all_opened, bare, with_entry, followed, with_kid}
+use Rattle.fdt_tree.specs.Devicetree.{Entry, Nodes, none, node, Branch, joined, Token, begin_node, property, end_node, tokens, bare}
+use Rattle.fdt_tree.specs.inside.OpenNodes.{has_any, opened, all_opened, with_entry, followed, with_kid}
 use Rattle.fdt_tree.specs.NodeViews.{branch, branches, branch_step, entry_of}
 use Rattle.fdt_tree.specs.declared.place.Place.{Place}
 

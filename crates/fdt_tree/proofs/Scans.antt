@@ -4,12 +4,12 @@ use Rattle.fdt_tree.specs.declared.fault.FdtFault.{FdtFault}
 use Rattle.fdt_tree.specs.declared.fault.FdtFault.TheVariants.{BadToken}
 use Rattle.fdt_tree.specs.declared.lexing.Lexeme.{Lexeme}
 use Rattle.fdt_tree.specs.declared.lexing.Lexeme.TheVariants as lexemes
-use Rattle.fdt_tree.specs.LexemeViews.{token_of_lexeme}
+use Rattle.fdt_tree.specs.inside.LexemeViews.{token_of_lexeme}
 use Rattle.fdt_tree.specs.Devicetree.{Token, begin_node, property, end_node, nop, finish}
 use Rattle.refusal.specs.Answer.{◌>>=◌, with_front}
 use Rattle.fdt_tree.specs.declared.place.Place.{Place}
 use Rattle.fdt_tree.specs.Scanning.{after, token_at, joins, scan}
-use Rattle.fdt_tree.specs.OpenNodes.{added}
+use Rattle.fdt_tree.specs.inside.OpenNodes.{added}
 
 pub not_finish : (strings : List ℕ) (l : Lexeme) → (l ≡ lexemes.Finish → ⊥) → token_of_lexeme strings l ≡ finish → ⊥
 not_finish strings (lexemes.Begin n) h e = cc

@@ -6,10 +6,9 @@ use Rattle.fdt_tree.specs.declared.fault.FdtFault.{FdtFault}
 use Rattle.fdt_tree.specs.declared.fault.FdtFault.TheVariants.{BadName, TooDeep}
 use Rattle.fdt_tree.specs.declared.tree.Reservation.{Reservation}
 use Rattle.fdt_tree.specs.declared.node.Node.{Node}
-use Rattle.fdt_tree.specs.Devicetree.{Entry, Nodes, none, node, Branch, Devicetree, branch_of_root}
+use Rattle.fdt_tree.specs.Devicetree.{Entry, Nodes, none, node, Branch, Devicetree, branch_of_root, bare}
 use Rattle.fdt_tree.specs.Names.{legal, AreLegal, IsLegal}
 use Rattle.fdt_tree.specs.NodeViews.{branch, root_of}
-use Rattle.fdt_tree.specs.OpenNodes.{bare}
 use Rattle.fdt_tree.specs.Wholeness.{IsWhole}
 use Rattle.fdt_tree.specs.Lookup.{names_on}
 use Rattle.fdt_tree.specs.Edits.{with_value, value_put, first_such, in_front_of, changed_below, all_legal, root_in, with_root, path_names, may_stand, set_at}

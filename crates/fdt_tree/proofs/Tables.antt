@@ -10,7 +10,7 @@ use Rattle.std.specs.Cmp.Lexicographic.{slice_cmp, bytes_decides, nat_list_cmp_t
 use Rattle.std.specs.Str.{bytes_eq}
 use Rattle.std.proofs.lemmas.Map.Text.{is_eq-slice_cmp}
 use Rattle.fdt_tree.specs.Writing.{is_among, noted, strings_text, offset_in}
-use Rattle.fdt_tree.specs.NameTables.{HasNames, place_in}
+use Rattle.fdt_tree.specs.inside.NameTables.{HasNames, place_in}
 use Rattle.fdt_tree.specs.declared.names.NameTable.{NameTable}
 
 -- ---- a map whose keys are bytes

@@ -10,8 +10,8 @@ use Rattle.fdt_tree.specs.declared.writing.Output.{Output}
 use Rattle.fdt_tree.specs.Devicetree.{Token, begin_node, property, end_node, nop, finish, Branch, joined, tokens}
 use Rattle.fdt_tree.specs.NodeViews.{entry_of, branch, branches}
 use Rattle.fdt_tree.specs.Writing.{places_text, versions_text, reservations_text, file_text, structure_text, written, noted, is_among, names_after, strings_text, text_after}
-use Rattle.fdt_tree.specs.NameTables.{HasNames, TooMuch}
-use Rattle.fdt_tree.specs.OutputViews.{AreLengths, HasTokens, size_of, tokens_of_entries, tokens_of_nodes}
+use Rattle.fdt_tree.specs.inside.NameTables.{HasNames, TooMuch}
+use Rattle.fdt_tree.specs.inside.OutputViews.{AreLengths, HasTokens, size_of, tokens_of_entries, tokens_of_nodes}
 use Rattle.fdt_tree.specs.declared.writing.Lengths.{Lengths}
 use Rattle.fdt_tree.specs.declared.tree.Reservation.{Reservation}
 use Rattle.fdt_tree.specs.declared.tree.Contents.{Contents}

@@ -19,6 +19,10 @@ pub record Branch : Type 0 where
   pub entries : List Entry
   pub kids : Nodes
 
+-- a node with nothing in it
+abbrev pub bare : List ℕ → Branch
+bare name = record { name = name; entries = []; kids = none }
+
 -- nodes that stand beside one another
 abbrev pub joined : List Branch → Nodes
 joined [] = none

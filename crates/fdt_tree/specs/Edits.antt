@@ -5,9 +5,8 @@ use Rattle.std.specs.Prelude.{ℕ, List, [], ◌∷◌, length, Bool, true, Opti
 use Rattle.std.specs.Str.{bytes_eq}
 use Rattle.fdt_tree.specs.declared.fault.FdtFault.{FdtFault}
 use Rattle.fdt_tree.specs.declared.fault.FdtFault.TheVariants.{BadName, TooDeep}
-use Rattle.fdt_tree.specs.Devicetree.{Entry, Nodes, none, node, Branch, Root, branch_of_root, Devicetree}
+use Rattle.fdt_tree.specs.Devicetree.{Entry, Nodes, none, node, Branch, Root, branch_of_root, Devicetree, bare}
 use Rattle.fdt_tree.specs.Names.{legal}
-use Rattle.fdt_tree.specs.OpenNodes.{bare}
 use Rattle.fdt_tree.specs.Lookup.{names_on}
 use Rattle.refusal.specs.Answer.{◌>>=◌}
 

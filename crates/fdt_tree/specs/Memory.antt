@@ -6,8 +6,7 @@ use Rattle.std.specs.Str.{bytes_eq}
 use Rattle.std.specs.Fmt.{digits}
 use Rattle.fdt_tree.specs.declared.fault.FdtFault.{FdtFault}
 use Rattle.fdt_tree.specs.declared.fault.FdtFault.TheVariants.{BadCells}
-use Rattle.fdt_tree.specs.Devicetree.{Entry, Branch, branch_of_root, Devicetree}
-use Rattle.fdt_tree.specs.OpenNodes.{bare}
+use Rattle.fdt_tree.specs.Devicetree.{Entry, Branch, branch_of_root, Devicetree, bare}
 use Rattle.fdt_tree.specs.Lookup.{first_value}
 use Rattle.fdt_tree.specs.Edits.{value_put, first_such, with_root}
 use Rattle.refusal.specs.Answer.{◌>>=◌}

@@ -8,7 +8,7 @@ ghost use Rattle.fdt_tree.specs.NodeViews.{name_of, entry_of, branch};
 ghost use Rattle.fdt_tree.specs.Lookup.{between_slashes, names_on};
 ghost use Rattle.refusal.specs.Answer.{Matches};
 ghost use Rattle.fdt_tree.specs.Edits.{with_value, value_put, changed_below, all_legal, path_names, may_stand};
-ghost use Rattle.fdt_tree.specs.EditViews.{names_in, way_len};
+ghost use Rattle.fdt_tree.specs.inside.EditViews.{names_in, way_len};
 
 use crate::fault::FdtFault;
 use crate::lexing::{MAX_DEPTH, is_legal};

@@ -4,7 +4,7 @@ ghost use Rattle.std.specs.Prelude.{◌≡◌, ◌<◌, ◌≤◌, ℕ, List, le
 ghost use Rattle.fdt_tree.specs.Devicetree.{begin_node};
 ghost use Rattle.fdt_tree.specs.Names.{legal, all_letters};
 ghost use Rattle.refusal.specs.Answer.{Matches};
-ghost use Rattle.fdt_tree.specs.LexemeViews.{token_of_lexeme, FitsPlace};
+ghost use Rattle.fdt_tree.specs.inside.LexemeViews.{token_of_lexeme, FitsPlace};
 ghost use Rattle.fdt_tree.specs.Scanning.{number_at, padded_at, string_at, until_zero, begin_at, property_at, kind_at, token_at};
 
 use crate::fault::FdtFault;

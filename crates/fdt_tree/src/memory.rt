@@ -6,7 +6,7 @@ ghost use Rattle.fdt_tree.specs.declared.node.Node.TheViews.{out-Node};
 ghost use Rattle.fdt_tree.specs.NodeViews.{branch};
 ghost use Rattle.refusal.specs.Answer.{Matches};
 ghost use Rattle.fdt_tree.specs.Memory.{cells_or, cells_said, in_cells, reg_value, names_memory, new_memory, memory_put};
-ghost use Rattle.fdt_tree.specs.MemoryViews.{cells_text};
+ghost use Rattle.fdt_tree.specs.inside.MemoryViews.{cells_text};
 
 use crate::edits::put_below;
 use crate::fault::FdtFault;

@@ -3,7 +3,7 @@
 ghost use Rattle.std.specs.Prelude.{◌≡◌, ◌++◌, ◌∷◌, ℕ, List, [], length, take, drop, Some, None, IfSome, IfOk, IfErr, OnOk};
 ghost use Rattle.fdt_tree.specs.Writing.{noted, strings_text, offset_in};
 ghost use Rattle.fdt_tree.specs.NodeViews.{name_of};
-ghost use Rattle.fdt_tree.specs.NameTables.{HasNames, TooMuch, place_in};
+ghost use Rattle.fdt_tree.specs.inside.NameTables.{HasNames, TooMuch, place_in};
 
 use crate::fault::FdtFault;
 use crate::header::MAX_LEN;

@@ -1,12 +1,12 @@
 //! The structure block, read token by token.
 
 ghost use Rattle.std.specs.Prelude.{◌≡◌, ◌++◌, ◌∷◌, [], ℕ, List, length, IfOk};
-ghost use Rattle.fdt_tree.specs.Devicetree.{begin_node, root_tokens};
+ghost use Rattle.fdt_tree.specs.Devicetree.{begin_node, root_tokens, bare};
 ghost use Rattle.fdt_tree.specs.NodeViews.{branch, entry_of, root_of};
 ghost use Rattle.refusal.specs.Answer.{Answers, with_front};
-ghost use Rattle.fdt_tree.specs.LexemeViews.{token_of_lexeme, FitsPlace};
+ghost use Rattle.fdt_tree.specs.inside.LexemeViews.{token_of_lexeme, FitsPlace};
 ghost use Rattle.fdt_tree.specs.Scanning.{structure_at, start, after};
-ghost use Rattle.fdt_tree.specs.OpenNodes.{so_far, place_of, added, bare, with_entry, with_kid};
+ghost use Rattle.fdt_tree.specs.inside.OpenNodes.{so_far, place_of, added, with_entry, with_kid};
 
 use crate::fault::FdtFault;
 use crate::lexing::{Lexeme, token_of};

@@ -6,10 +6,10 @@ ghost use Rattle.fdt_tree.specs.Devicetree.{property, begin_node, end_node};
 ghost use Rattle.fdt_tree.specs.NodeViews.{entry_of, branch};
 ghost use Rattle.fdt_tree.specs.Reservations.{pair_text};
 ghost use Rattle.fdt_tree.specs.Writing.{zeros_behind, begin_text, property_text, text_after, names_after, strings_text, reservations_text, places_text, versions_text, file_text, written};
-ghost use Rattle.fdt_tree.specs.NameTables.{HasNames, TooMuch};
+ghost use Rattle.fdt_tree.specs.inside.NameTables.{HasNames, TooMuch};
 ghost use Rattle.fdt_tree.specs.Wholeness.{IsWhole, tree_in};
 ghost use Rattle.fdt_tree.specs.Reading.{Spells};
-ghost use Rattle.fdt_tree.specs.OutputViews.{AreLengths, HasTokens, size_of, tokens_of_entries, tokens_of_nodes};
+ghost use Rattle.fdt_tree.specs.inside.OutputViews.{AreLengths, HasTokens, size_of, tokens_of_entries, tokens_of_nodes};
 
 use crate::fault::FdtFault;
 use crate::header::{MAGIC, MAX_LEN, VERSION};

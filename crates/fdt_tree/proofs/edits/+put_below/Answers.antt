@@ -1,10 +1,9 @@
 use Rattle.std.proofs.Common.{◌≡◌, ◌∷◌, ℕ, List, refl, sym, ap, ◌∙◌, arith}
-use Rattle.fdt_tree.specs.Devicetree.{Branch}
+use Rattle.fdt_tree.specs.Devicetree.{Branch, bare}
 use Rattle.fdt_tree.specs.NodeViews.{branch}
 use Rattle.std.specs.Str.{bytes_eq}
-use Rattle.fdt_tree.specs.OpenNodes.{bare}
 use Rattle.fdt_tree.specs.Edits.{changed_below, value_put}
-use Rattle.fdt_tree.specs.EditViews.{names_in, way_len}
+use Rattle.fdt_tree.specs.inside.EditViews.{names_in, way_len}
 use Rattle.fdt_tree.proofs.Editing.{changed_found, kept_found, changed_pushed, on_ok, on_err}
 use Rattle.fdt_tree.proofs.edits.+put_below.Goals as goal
 

@@ -1,4 +1,4 @@
-use Rattle.fdt_tree.specs.EditViews.{way_len}
+use Rattle.fdt_tree.specs.inside.EditViews.{way_len}
 use Rattle.fdt_tree.proofs.edits.+put_below.Given as goal
 
 abbrev pub decreases-put_below : goal.decreases-put_below

@@ -1,6 +1,6 @@
 use Rattle.std.proofs.Common.{◌≡◌, ◌≤◌, ◌+◌, length}
 use Rattle.fdt_tree.specs.Edits.{all_legal}
-use Rattle.fdt_tree.specs.EditViews.{names_in, way_len}
+use Rattle.fdt_tree.specs.inside.EditViews.{names_in, way_len}
 use Rattle.fdt_tree.proofs.edits.count_names.Given as goal
 
 abbrev pub invariant-loop-left : goal.invariant-loop-left

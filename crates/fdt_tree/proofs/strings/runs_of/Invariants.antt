@@ -1,5 +1,5 @@
 use Rattle.std.proofs.Common.{◌≡◌, ◌-◌, ◌≤◌, length, drop}
-use Rattle.fdt_tree.specs.LetterRuns.{letter_run, letter_runs}
+use Rattle.fdt_tree.specs.inside.LetterRuns.{letter_run, letter_runs}
 use Rattle.fdt_tree.proofs.strings.runs_of.Given as goal
 
 abbrev pub invariant-loop-done : goal.invariant-loop-done

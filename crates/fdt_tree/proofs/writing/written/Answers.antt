@@ -4,8 +4,8 @@ use Rattle.std.specs.Int.{w32, to_be_bytes}
 use Rattle.fdt_tree.specs.declared.tree.Reservation.{Reservation}
 use Rattle.fdt_tree.specs.Wholeness.{tree_in}
 use Rattle.fdt_tree.specs.Writing.{text_after, names_after, strings_text, reservations_text, file_text, written}
-use Rattle.fdt_tree.specs.NameTables.{TooMuch}
-use Rattle.fdt_tree.specs.OutputViews.{size_of, tokens_of_nodes}
+use Rattle.fdt_tree.specs.inside.NameTables.{TooMuch}
+use Rattle.fdt_tree.specs.inside.OutputViews.{size_of, tokens_of_nodes}
 use Rattle.fdt_tree.proofs.Writes.{written_is, size_within}
 use Rattle.fdt_tree.proofs.Faults.{more_than}
 use Rattle.fdt_tree.proofs.WrittenFile.{again_if_ok}

@@ -1,14 +1,13 @@
 -- What is written of a tree so far.
-use Rattle.std.specs.Prelude.{◌≡◌, ℕ, ◌+◌, ◌≤◌, List, ◌∷◌, ◌++◌, length, map}
+use Rattle.std.specs.Prelude.{◌≡◌, ℕ, ◌+◌, ◌≤◌, List, ◌++◌, length, map}
 use Rattle.fdt_tree.specs.declared.node.Property.{Property}
 use Rattle.fdt_tree.specs.declared.node.Node.{Node}
-use Rattle.fdt_tree.specs.declared.node.Node.TheViews.{out-Node}
 use Rattle.fdt_tree.specs.declared.writing.Output.{Output}
 use Rattle.fdt_tree.specs.declared.writing.Lengths.{Lengths}
-use Rattle.fdt_tree.specs.Devicetree.{Token, begin_node, property, tokens, joined}
+use Rattle.fdt_tree.specs.Devicetree.{Token, property, tokens, joined}
 use Rattle.fdt_tree.specs.NodeViews.{entry_of, branches}
 use Rattle.fdt_tree.specs.Writing.{names_after, text_after, strings_text}
-use Rattle.fdt_tree.specs.NameTables.{HasNames}
+use Rattle.fdt_tree.specs.inside.NameTables.{HasNames}
 
 -- the tokens of a tree with these strings are put behind what was there
 pub record HasTokens (strings : List ℕ) (old new : Output) (names : List (List ℕ)) (ts : List Token) : Type 0 where

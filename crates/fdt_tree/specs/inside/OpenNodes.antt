@@ -5,10 +5,6 @@ use Rattle.fdt_tree.specs.declared.structure.OpenNodes.{OpenNodes}
 use Rattle.fdt_tree.specs.Devicetree.{Entry, Nodes, none, node, Branch, Token, begin_node, property, end_node, nop, finish, tokens}
 use Rattle.fdt_tree.specs.NodeViews.{branch, branches}
 
--- a node with nothing in it
-abbrev pub bare : List ℕ → Branch
-bare name = record { name = name; entries = []; kids = none }
-
 -- a node with one more property
 abbrev pub with_entry : Branch → Entry → Branch
 with_entry b e = record b { entries = b.entries ++ e ∷ [] }
