@@ -6,7 +6,7 @@ use Rattle.std.specs.List.{flat_map}
 use Rattle.fdt_tree.specs.Devicetree.{Branch, joined, none}
 use Rattle.fdt_tree.specs.NodeViews.{branch, branches, entry_of}
 use Rattle.fdt_tree.specs.declared.node.Node.TheViews.{out-Node}
-use Rattle.fdt_tree.proofs.Open.{branch_out}
+use Rattle.fdt_tree.proofs.OpenNodes.{branch_out}
 use Rattle.fdt_tree.specs.declared.node.Node.{Node}
 use Rattle.rim_release.specs.ShownDevicetree.{inner_text, node_line, nodes_text, path_below, property_line}
 

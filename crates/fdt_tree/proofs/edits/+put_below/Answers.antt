@@ -4,7 +4,7 @@ use Rattle.fdt_tree.specs.NodeViews.{branch}
 use Rattle.std.specs.Str.{bytes_eq}
 use Rattle.fdt_tree.specs.Edits.{changed_below, value_put}
 use Rattle.fdt_tree.specs.inside.EditViews.{names_in, way_len}
-use Rattle.fdt_tree.proofs.Editing.{changed_found, kept_found, changed_pushed, on_ok, on_err}
+use Rattle.fdt_tree.proofs.NodeEdits.{changed_found, kept_found, changed_pushed, on_ok, on_err}
 use Rattle.fdt_tree.proofs.edits.+put_below.Goals as goal
 
 pub put_below-requires : goal.put_below-requires

@@ -6,8 +6,8 @@ use Rattle.fdt_tree.specs.declared.node.Node.TheViews.{out-Node}
 use Rattle.fdt_tree.specs.Devicetree.{joined, Branch}
 use Rattle.fdt_tree.specs.NodeViews.{branches}
 use Rattle.fdt_tree.specs.Lookup.{first_named}
-use Rattle.fdt_tree.proofs.Open.{branch_out}
-use Rattle.fdt_tree.proofs.Finding.{found, passed}
+use Rattle.fdt_tree.proofs.OpenNodes.{branch_out}
+use Rattle.fdt_tree.proofs.NameLookup.{found, passed}
 use Rattle.fdt_tree.proofs.lookup.child.Goals as goal
 
 pub returns-then-eq : goal.returns-then-eq

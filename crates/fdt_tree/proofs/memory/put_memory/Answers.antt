@@ -1,7 +1,7 @@
 use Rattle.std.proofs.Common.{ℕ, List, refl, ap, ◌∙◌}
 use Rattle.fdt_tree.specs.NodeViews.{branch}
 use Rattle.fdt_tree.specs.Memory.{names_memory, reg_put, new_memory, memory_put}
-use Rattle.fdt_tree.proofs.Editing.{changed_found, kept_found, changed_pushed, on_ok, on_err}
+use Rattle.fdt_tree.proofs.NodeEdits.{changed_found, kept_found, changed_pushed, on_ok, on_err}
 use Rattle.fdt_tree.proofs.memory.put_memory.Goals as goal
 
 pub returns-in-Some-clause-done : goal.returns-in-Some-clause-done

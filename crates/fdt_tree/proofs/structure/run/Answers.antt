@@ -2,8 +2,8 @@ use Rattle.std.proofs.Common.{length, inr}
 use Rattle.std.proofs.lemmas.Result.{err_from_is_err_and}
 use Rattle.fdt_tree.specs.inside.LexemeViews.{token_of_lexeme}
 use Rattle.fdt_tree.specs.inside.OpenNodes.{place_of}
-use Rattle.fdt_tree.proofs.Scans.{scan_goes_on, scan_fails, scan_ends, scan_is_over, not_finish, at_place}
-use Rattle.fdt_tree.proofs.Fronts.{goes_on, fails, ends}
+use Rattle.fdt_tree.proofs.ScanLoop.{scan_goes_on, scan_fails, scan_ends, scan_is_over, not_finish, at_place}
+use Rattle.fdt_tree.proofs.LoopReads.{goes_on, fails, ends}
 use Rattle.fdt_tree.proofs.structure.run.Goals as goal
 
 pub returns-in_err-lexeme-clause-exact : goal.returns-in_err-lexeme-clause-exact

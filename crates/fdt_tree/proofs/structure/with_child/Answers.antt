@@ -1,6 +1,6 @@
 use Rattle.std.proofs.Common.{refl}
 use Rattle.fdt_tree.specs.declared.node.Node.TheViews.{out-Node}
-use Rattle.fdt_tree.proofs.Open.{kid_step}
+use Rattle.fdt_tree.proofs.OpenNodes.{kid_step}
 use Rattle.fdt_tree.proofs.structure.with_child.Goals as goal
 
 pub returns : goal.returns

@@ -2,7 +2,7 @@ use Rattle.std.proofs.Common.{◌≡◌, ℕ, List, ◌+◌, ◌<◌, get_or, dr
 use Rattle.std.proofs.lemmas.List.{get_or_read}
 use Rattle.fdt_tree.specs.inside.LetterRuns.{letter_run, zero_end}
 use Rattle.fdt_tree.specs.declared.strings.Strings.{Strings}
-use Rattle.fdt_tree.proofs.NameRuns.{no_name, good_name, bad_name, run_inside, run_at, zero_end_le, length-letter_runs}
+use Rattle.fdt_tree.proofs.NamesInStrings.{no_name, good_name, bad_name, run_inside, run_at, zero_end_le, length-letter_runs}
 use Rattle.fdt_tree.proofs.strings.Strings.name_len.Goals as goal
 use Rattle.fdt_tree.proofs.strings.Strings.name_len.Goals.{then-len-eq0-via-then-len-eq0, then-len-eq0-via-else-len-eq0+then-index-ne0}
 

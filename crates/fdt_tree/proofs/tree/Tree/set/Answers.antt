@@ -2,7 +2,7 @@ use Rattle.std.proofs.Common.{inl, inr, refl}
 use Rattle.std.proofs.lemmas.Result.{err_from_is_err_and}
 use Rattle.fdt_tree.specs.Trees.{devicetree_of}
 use Rattle.fdt_tree.specs.inside.EditViews.{names_in}
-use Rattle.fdt_tree.proofs.Settings.{set_done, either_whole, either_unnamed, path_refused, name_refused, may_be_set, tree_kept}
+use Rattle.fdt_tree.proofs.TreeEdits.{set_done, either_whole, either_unnamed, path_refused, name_refused, may_be_set, tree_kept}
 use Rattle.fdt_tree.proofs.tree.Tree.set.Goals as goal
 
 pub returns-in_err-way : goal.returns-in_err-way

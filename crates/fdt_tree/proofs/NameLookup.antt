@@ -9,7 +9,7 @@ use Rattle.fdt_tree.specs.declared.node.Node.TheViews.{out-Node}
 use Rattle.fdt_tree.specs.Devicetree.{Branch, joined}
 use Rattle.fdt_tree.specs.NodeViews.{branch, branches}
 use Rattle.fdt_tree.specs.Lookup.{between_slashes, put_first, first_named, node_below}
-use Rattle.fdt_tree.proofs.Open.{branch_out}
+use Rattle.fdt_tree.proofs.OpenNodes.{branch_out}
 
 -- ---- among the children
 

@@ -10,8 +10,8 @@ use Rattle.fdt_tree.specs.declared.fault.FdtFault.TheVariants.{BadReserve}
 use Rattle.fdt_tree.specs.declared.tree.Reservation.{Reservation}
 use Rattle.refusal.specs.Answer.{◌>>=◌, with_front}
 use Rattle.fdt_tree.specs.Reservations.{AreReservations, SpellsReservations, pair_text, pair_at, pairs_at, is_end}
-use Rattle.fdt_tree.proofs.Takes.{IsBytes, bind_ok}
-use Rattle.fdt_tree.proofs.TokenTakes.{IsBytes-drop, IsBytes-take, unless}
+use Rattle.fdt_tree.proofs.SpellingOfScan.{IsBytes, bind_ok}
+use Rattle.fdt_tree.proofs.SpellingOfToken.{IsBytes-drop, IsBytes-take, unless}
 
 -- ---- the loop
 

@@ -6,7 +6,7 @@ use Rattle.fdt_tree.specs.declared.fault.FdtFault.{FdtFault}
 use Rattle.fdt_tree.specs.declared.fault.FdtFault.TheVariants.{Short, BadMagic, BadVersion, TooLarge, BadBlock}
 use Rattle.fdt_tree.specs.declared.header.Header.{Header}
 use Rattle.fdt_tree.specs.Blocks.{BlocksFit, HasHeader, word_at, header_of, blocks_fit, is_known_version, header_at}
-use Rattle.fdt_tree.proofs.TokenTakes.{unless, only_if}
+use Rattle.fdt_tree.proofs.SpellingOfToken.{unless, only_if}
 
 and_true : (a b : Bool) → a && b ≡ true → (a ≡ true) × (b ≡ true)
 and_true true b h = (refl, h)

@@ -19,8 +19,8 @@ use Rattle.fdt_tree.specs.Wholeness.{tree_in}
 use Rattle.fdt_tree.specs.NodeViews.{root_of}
 use Rattle.fdt_tree.specs.Devicetree.{root_tokens, node}
 use Rattle.std.specs.Int.{w32, to_be_bytes}
-use Rattle.fdt_tree.proofs.Tables.{strings_push}
-use Rattle.fdt_tree.proofs.Open.{branch_out}
+use Rattle.fdt_tree.proofs.NameTables.{strings_push}
+use Rattle.fdt_tree.proofs.OpenNodes.{branch_out}
 
 pub names_append : (names : List (List ℕ)) (ts us : List Token) → names_after names (ts ++ us) ≡ names_after (names_after names ts) us
 names_append names [] us = refl

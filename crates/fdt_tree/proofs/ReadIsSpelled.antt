@@ -10,11 +10,11 @@ use Rattle.fdt_tree.specs.Reservations.{reservations_at}
 use Rattle.fdt_tree.specs.Scanning.{structure_at}
 use Rattle.fdt_tree.specs.Reading.{Spells, Parts, parts_of, parts_at}
 use Rattle.fdt_tree.specs.Wholeness.{IsWhole}
-use Rattle.fdt_tree.proofs.Takes.{IsBytes, bind_ok}
-use Rattle.fdt_tree.proofs.TokenTakes.{IsBytes-drop, IsBytes-take}
-use Rattle.fdt_tree.proofs.Headers.{header_takes, header_again}
-use Rattle.fdt_tree.proofs.Pairs.{pairs_again, pairs_take, spelled_are}
-use Rattle.fdt_tree.proofs.Final.{spelled_scans, scan_spells, same_root}
+use Rattle.fdt_tree.proofs.SpellingOfScan.{IsBytes, bind_ok}
+use Rattle.fdt_tree.proofs.SpellingOfToken.{IsBytes-drop, IsBytes-take}
+use Rattle.fdt_tree.proofs.HeaderIsSpelled.{header_takes, header_again}
+use Rattle.fdt_tree.proofs.ReservationsAreSpelled.{pairs_again, pairs_take, spelled_are}
+use Rattle.fdt_tree.proofs.ScanIsSpelling.{spelled_scans, scan_spells, same_root}
 
 -- what is spelled is found
 pub spelled_reads : (bytes : List ℕ) (t : Devicetree) → Spells bytes t → parts_at bytes ≡ Ok (parts_of t)

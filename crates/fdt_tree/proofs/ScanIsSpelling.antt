@@ -7,11 +7,11 @@ use Rattle.fdt_tree.specs.declared.place.Place.{Place}
 use Rattle.fdt_tree.specs.Scanning.{start, scan}
 use Rattle.fdt_tree.specs.Grammar.{IsTokenText, IsText, without_nops, SpellsRoot}
 use Rattle.fdt_tree.specs.Names.{AreLegal, IsLegal}
-use Rattle.fdt_tree.proofs.Accepting.{Accepts, behind, nodes_accept, properties_accept}
-use Rattle.fdt_tree.proofs.Again.{reads_tokens, scan_again}
-use Rattle.fdt_tree.proofs.Takes.{IsBytes, scan_takes}
-use Rattle.fdt_tree.proofs.TokenTakes.{takes_tokens, takes_end}
-use Rattle.fdt_tree.proofs.Shapes.{root_only, same_nodes}
+use Rattle.fdt_tree.proofs.AcceptedTokens.{Accepts, behind, nodes_accept, properties_accept}
+use Rattle.fdt_tree.proofs.ScanOfSpelled.{reads_tokens, scan_again}
+use Rattle.fdt_tree.proofs.SpellingOfScan.{IsBytes, scan_takes}
+use Rattle.fdt_tree.proofs.SpellingOfToken.{takes_tokens, takes_end}
+use Rattle.fdt_tree.proofs.TokensOfOneTree.{root_only, same_nodes}
 
 token_long : (strings : List ℕ) (t : Token) (text : List ℕ) → IsTokenText strings t text → 0 < length text
 token_long strings (begin_node n) text h = omega (arith, ap length h.2, length-append (to_be_bytes w32 1) (n ++ (0 ∷ h.0)))

@@ -12,7 +12,7 @@ use Rattle.fdt_tree.specs.declared.place.Place.{Place}
 use Rattle.fdt_tree.specs.Scanning.{after, number_at, padded_at, until_zero, legal_at, string_at, name_at, begin_at, property_at, kind_at, token_at, scan}
 use Rattle.fdt_tree.specs.Names.{legal, all_letters, letter}
 use Rattle.fdt_tree.specs.Grammar.{IsPadding, StandsAt, IsTokenText, IsText, without_nops}
-use Rattle.fdt_tree.proofs.Accepting.{Allowed, Accepts}
+use Rattle.fdt_tree.proofs.AcceptedTokens.{Allowed, Accepts}
 
 abbrev guarded : ℕ → List ℕ → Result (ℕ × List ℕ) FdtFault
 guarded k bytes = cond (ltb (length bytes) k) (Err BadToken) (Ok (from_be_bytes w32 (take k bytes), drop k bytes))

@@ -6,9 +6,9 @@ use Rattle.fdt_tree.specs.Devicetree.{Devicetree, Entry, Nodes, none, node, Toke
 use Rattle.refusal.specs.Answer.{◌>>=◌}
 use Rattle.fdt_tree.specs.Reading.{Spells, Parts, parts_of, parts_at}
 use Rattle.fdt_tree.specs.TreeAt.{Behind, nothing_behind, with_token, behind_of, root_at, tree_of, tree_at}
-use Rattle.fdt_tree.proofs.Takes.{IsBytes}
-use Rattle.fdt_tree.proofs.Existence.{found_spelled}
-use Rattle.fdt_tree.proofs.Readings.{spelled_reads, reads_spelled}
+use Rattle.fdt_tree.proofs.SpellingOfScan.{IsBytes}
+use Rattle.fdt_tree.proofs.UnrefusedIsSpelled.{found_spelled}
+use Rattle.fdt_tree.proofs.ReadIsSpelled.{spelled_reads, reads_spelled}
 
 -- properties in front
 behind_entries : (es : List Entry) (ts : List Token) (b : Behind) (around : List Behind) → behind_of ts ≡ b ∷ around → b.entries ≡ [] → behind_of (map property es ++ ts) ≡ record { entries = es; kids = b.kids } ∷ around

@@ -9,11 +9,11 @@ use Rattle.fdt_tree.specs.inside.OpenNodes.{opened, all_opened}
 use Rattle.fdt_tree.specs.NodeViews.{branch, branches, root_of}
 use Rattle.refusal.specs.Answer.{with_front}
 use Rattle.fdt_tree.specs.Scanning.{start, scan}
-use Rattle.fdt_tree.proofs.Accepting.{Accepts}
-use Rattle.fdt_tree.proofs.Takes.{IsBytes, bind_ok, scan_takes}
-use Rattle.fdt_tree.proofs.TokenTakes.{takes_tokens, takes_end}
-use Rattle.fdt_tree.proofs.Shapes.{root_only}
-use Rattle.fdt_tree.proofs.Open.{branch_out}
+use Rattle.fdt_tree.proofs.AcceptedTokens.{Accepts}
+use Rattle.fdt_tree.proofs.SpellingOfScan.{IsBytes, bind_ok, scan_takes}
+use Rattle.fdt_tree.proofs.SpellingOfToken.{takes_tokens, takes_end}
+use Rattle.fdt_tree.proofs.TokensOfOneTree.{root_only}
+use Rattle.fdt_tree.proofs.OpenNodes.{branch_out}
 
 accepted : (strings block : List ℕ) (ts : List Token) → IsBytes block → scan strings (length block) start block ≡ Ok ts → Accepts start ts
 accepted strings block ts fits e = (scan_takes strings (takes_tokens strings) (takes_end strings) (length block) start block ts fits e).accepted

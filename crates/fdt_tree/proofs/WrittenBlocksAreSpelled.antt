@@ -7,8 +7,8 @@ use Rattle.std.proofs.lemmas.List.{append-nil, length-append, length-replicate, 
 use Rattle.fdt_tree.specs.Devicetree.{Entry, Nodes, none, node, Token, begin_node, property, end_node, nop, finish, tokens, Root, root_tokens}
 use Rattle.fdt_tree.specs.Grammar.{StandsAt, IsTokenText, IsText, without_nops}
 use Rattle.fdt_tree.specs.Writing.{is_among, noted, names_after, strings_text, offset_in, zeros_behind, begin_text, property_text, text_after}
-use Rattle.fdt_tree.proofs.Again.{inside}
-use Rattle.fdt_tree.proofs.Tables.{is_noted}
+use Rattle.fdt_tree.proofs.ScanOfSpelled.{inside}
+use Rattle.fdt_tree.proofs.NameTables.{is_noted}
 
 -- ---- where a name is told to begin, it stands, also with more names behind
 

@@ -12,7 +12,7 @@ use Rattle.fdt_tree.specs.Devicetree.{Entry, Nodes, Branch, joined}
 use Rattle.fdt_tree.specs.NodeViews.{name_of, entry_of, branch, branches}
 use Rattle.fdt_tree.specs.inside.OpenNodes.{followed}
 use Rattle.fdt_tree.specs.Edits.{with_value, first_such, in_front_of}
-use Rattle.fdt_tree.proofs.Open.{branch_roll, branch_out, kid_step}
+use Rattle.fdt_tree.proofs.OpenNodes.{branch_roll, branch_out, kid_step}
 
 -- ---- properties
 

@@ -13,8 +13,8 @@ use Rattle.fdt_tree.specs.Grammar.{SpellsRoot}
 use Rattle.fdt_tree.specs.Reading.{Spells}
 use Rattle.fdt_tree.specs.Wholeness.{IsWhole}
 use Rattle.fdt_tree.specs.Writing.{names_after, strings_text, text_after, structure_text, reservations_text, header_text, file_text, written}
-use Rattle.fdt_tree.proofs.Writes.{reservations_len, file_len}
-use Rattle.fdt_tree.proofs.WrittenText.{text_again, no_nop_in_root}
+use Rattle.fdt_tree.proofs.WrittenTokens.{reservations_len, file_len}
+use Rattle.fdt_tree.proofs.WrittenBlocksAreSpelled.{text_again, no_nop_in_root}
 
 reservations_again : (rs : List Reservation) (rest : List ℕ) → AreReservations rs → SpellsReservations (reservations_text rs ++ rest) rs
 reservations_again [] rest ok = (rest, refl)

@@ -7,7 +7,7 @@ use Rattle.fdt_tree.specs.Devicetree.{Entry, Nodes, none, node, Token, begin_nod
 use Rattle.fdt_tree.specs.declared.place.Place.{Place}
 use Rattle.fdt_tree.specs.Scanning.{start, legal_at}
 use Rattle.fdt_tree.specs.Names.{legal, AreLegal, IsLegal}
-use Rattle.fdt_tree.proofs.Accepting.{Accepts, behind}
+use Rattle.fdt_tree.proofs.AcceptedTokens.{Accepts, behind}
 
 properties_legal : (es : List Entry) (p : Place) (more : List Token) → Accepts p (map property es ++ more) → AreLegal es × Accepts p more
 properties_legal [] p more ok = (tt, ok)

@@ -11,8 +11,8 @@ use Rattle.refusal.specs.Answer.{◌>>=◌}
 use Rattle.fdt_tree.specs.Devicetree.{Token, begin_node, property, end_node, nop, finish}
 use Rattle.fdt_tree.specs.Scanning.{after, number_at, padded_at, string_at, legal_at, begin_at, name_at, property_at, is_over, kind_at, token_at, joins, scan}
 use Rattle.fdt_tree.specs.FirstFault.{Leads}
-use Rattle.fdt_tree.proofs.Takes.{bind_ok}
-use Rattle.fdt_tree.proofs.TokenTakes.{unless, only_if, chosen, pair_is}
+use Rattle.fdt_tree.proofs.SpellingOfScan.{bind_ok}
+use Rattle.fdt_tree.proofs.SpellingOfToken.{unless, only_if, chosen, pair_is}
 
 -- ---- each token takes some bytes
 

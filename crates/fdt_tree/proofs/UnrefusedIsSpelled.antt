@@ -15,10 +15,10 @@ use Rattle.fdt_tree.specs.Reservations.{reservations_at}
 use Rattle.fdt_tree.specs.Grammar.{without_nops}
 use Rattle.fdt_tree.specs.declared.header.Header.{Header}
 use Rattle.fdt_tree.specs.declared.tree.Reservation.{Reservation}
-use Rattle.fdt_tree.proofs.Accepting.{Accepts}
-use Rattle.fdt_tree.proofs.Takes.{IsBytes, bind_ok, scan_takes}
-use Rattle.fdt_tree.proofs.TokenTakes.{IsBytes-drop, IsBytes-take, takes_tokens, takes_end}
-use Rattle.fdt_tree.proofs.Readings.{spelled_reads, reads_spelled}
+use Rattle.fdt_tree.proofs.AcceptedTokens.{Accepts}
+use Rattle.fdt_tree.proofs.SpellingOfScan.{IsBytes, bind_ok, scan_takes}
+use Rattle.fdt_tree.proofs.SpellingOfToken.{IsBytes-drop, IsBytes-take, takes_tokens, takes_end}
+use Rattle.fdt_tree.proofs.ReadIsSpelled.{spelled_reads, reads_spelled}
 
 abbrev NoNops : List Token → Type 0
 NoNops [] = Unit {0}

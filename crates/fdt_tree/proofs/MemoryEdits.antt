@@ -11,7 +11,7 @@ use Rattle.fdt_tree.specs.NodeViews.{branch, root_of}
 use Rattle.fdt_tree.specs.Wholeness.{IsWhole}
 use Rattle.fdt_tree.specs.Edits.{with_root}
 use Rattle.fdt_tree.specs.Memory.{reg_value, names_memory, memory_name, reg_put, new_memory, memory_put, set_memory_at}
-use Rattle.fdt_tree.proofs.Settings.{values_legal, first_legal, tree_with}
+use Rattle.fdt_tree.proofs.TreeEdits.{values_legal, first_legal, tree_with}
 
 -- ---- the name of a new node is legal
 

@@ -13,8 +13,8 @@ use Rattle.fdt_tree.specs.declared.place.Place.{Place}
 use Rattle.fdt_tree.specs.Scanning.{number_at, padded_at, until_zero, legal_at, string_at, name_at, begin_at, property_at, is_over, kind_at, token_at}
 use Rattle.fdt_tree.specs.Names.{legal}
 use Rattle.fdt_tree.specs.Grammar.{IsPadding, StandsAt, IsTokenText}
-use Rattle.fdt_tree.proofs.Accepting.{Allowed}
-use Rattle.fdt_tree.proofs.Takes.{IsBytes, bind_ok, Took, TookEnd, TakesTokens, TakesEnd}
+use Rattle.fdt_tree.proofs.AcceptedTokens.{Allowed}
+use Rattle.fdt_tree.proofs.SpellingOfScan.{IsBytes, bind_ok, Took, TookEnd, TakesTokens, TakesEnd}
 
 pub IsBytes-drop : (n : ℕ) (bytes : List ℕ) → IsBytes bytes → IsBytes (drop n bytes)
 IsBytes-drop n bytes h i = rw get_or-drop (h (n + i))

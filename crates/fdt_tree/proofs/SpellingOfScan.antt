@@ -9,7 +9,7 @@ use Rattle.refusal.specs.Answer.{◌>>=◌}
 use Rattle.fdt_tree.specs.declared.place.Place.{Place}
 use Rattle.fdt_tree.specs.Scanning.{after, number_at, kind_at, token_at, joins, scan}
 use Rattle.fdt_tree.specs.Grammar.{IsTokenText, IsText, without_nops}
-use Rattle.fdt_tree.proofs.Accepting.{Allowed, Accepts}
+use Rattle.fdt_tree.proofs.AcceptedTokens.{Allowed, Accepts}
 
 abbrev pub IsBytes : List ℕ → Type 0
 IsBytes bytes = (i : ℕ) → get_or bytes i 0 < 256
