@@ -1,5 +1,5 @@
 -- A header is found where it stands, and nowhere else.
-use Rattle.std.proofs.Common.{◌≡◌, ℕ, ◌+◌, ◌%◌, ◌≤◌, Bool, true, false, ltb, leb, eqb, List, length, Result, Ok, refl, sym, ap, subst, ◌∙◌}
+use Rattle.std.proofs.Common.{◌^◌, ◌≡◌, ℕ, ◌+◌, ◌%◌, ◌≤◌, Bool, true, false, ltb, leb, eqb, List, length, Result, Ok, refl, sym, ap, subst, ◌∙◌}
 use Rattle.std.specs.Prelude.{◌&&◌}
 use Rattle.std.proofs.lemmas.Bool.{leb-true, ltb-false, le-ltb, le-leb, eqb-true, eq-eqb}
 use Rattle.fdt_tree.specs.declared.fault.FdtFault.{FdtFault}
@@ -42,7 +42,7 @@ header_takes bytes h e =
     let a = unless (ltb (length bytes) 40) Short _ h e in
     let b = only_if (eqb (word_at 0 bytes) 0xd00dfeed) BadMagic _ h a.1 in
     let c = only_if (is_known_version own) BadVersion _ h b.1 in
-    let d = unless (ltb 2097152 (length bytes)) TooLarge _ h c.1 in
+    let d = unless (ltb (2 ^ 21) (length bytes)) TooLarge _ h c.1 in
     let f = only_if (blocks_fit own (length bytes)) BadBlock (Ok own) h d.1 in
     let v = and_true (eqb own.version 17) (leb own.last_comp_version 17) c.0 in
     let same : own ≡ h = is own h f.1 in
@@ -67,6 +67,6 @@ header_again bytes h s =
     let magic : eqb (word_at 0 bytes) 0xd00dfeed ≡ true = eq-eqb _ _ s.magic in
     let version : eqb own.version 17 ≡ true = eq-eqb _ _ (ap (λ (x : Header). x.version) (sym s.fields) ∙ s.version) in
     let compatible : leb own.last_comp_version 17 ≡ true = le-leb _ _ (subst (λ (x : Header). x.last_comp_version ≤ 17) s.fields s.compatible) in
-    let small : ltb 2097152 (length bytes) ≡ false = le-ltb _ _ s.small in
+    let small : ltb (2 ^ 21) (length bytes) ≡ false = le-ltb _ _ s.small in
     let fits : blocks_fit own (length bytes) ≡ true = blocks_again own (length bytes) (subst (λ (x : Header). BlocksFit x (length bytes)) s.fields s.blocks) in
     rw (long, magic, version, compatible, small, fits) (ap (λ (x : Header). Ok x) (sym s.fields))

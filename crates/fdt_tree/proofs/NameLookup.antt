@@ -23,9 +23,9 @@ at_item strings name items i n b lt is e =
     ∙ ap (λ (t : Bool). cond t (Some (branch strings n)) rest) test
 
 pub found : (strings name : List ℕ) (node n : Node) (items : List Node) (i : ℕ) → items ≡ (out-Node node).children.items → i < length items → n ≡ get_or items i n → bytes_eq (out-Node n).name.items name ≡ true
-    → first_named name (joined (branches strings (drop i items))) ≡ first_named name (joined (branches strings items)) → Some (branch strings n) ≡ first_named name (branch strings node).kids
+    → first_named name (joined (branches strings (drop i items))) ≡ first_named name (joined (branches strings items)) → Some (branch strings n) ≡ first_named name (branch strings node).children
 found strings name node n items i of_node lt is e so_far =
-    sym (at_item strings name items i n true lt is e) ∙ so_far ∙ ap (λ (ns : List Node). first_named name (joined (branches strings ns))) of_node ∙ ap (λ (x : Branch). first_named name x.kids) (sym (branch_out strings node))
+    sym (at_item strings name items i n true lt is e) ∙ so_far ∙ ap (λ (ns : List Node). first_named name (joined (branches strings ns))) of_node ∙ ap (λ (x : Branch). first_named name x.children) (sym (branch_out strings node))
 
 pub passed : (strings name : List ℕ) (n : Node) (items : List Node) (i : ℕ) (total : Option Branch) → i < length items → n ≡ get_or items i n → bytes_eq (out-Node n).name.items name ≡ false
     → first_named name (joined (branches strings (drop i items))) ≡ total → first_named name (joined (branches strings (drop (i + 1) items))) ≡ total
@@ -55,21 +55,21 @@ split_name (c ∷ cs) i at e = go (slash c) refl e (split_name cs (i + 1) at)
     go true h q ih = let here : i ≡ at = cc in (0, omega arith, rw h refl)
     go false h q ih = let t = ih q in (suc t.0, omega (arith, t.1), rw h (ap (put_first c) t.2))
 
-pub last_name : (path : List ℕ) (b : Branch) → None ≡ position_from slash 0 path → node_below (between_slashes path) b ≡ first_named path b.kids
-last_name path b e = ap (λ (ns : List (List ℕ)). node_below ns b) (one_name path 0 (sym e)) ∙ same (first_named path b.kids)
+pub last_name : (path : List ℕ) (b : Branch) → None ≡ position_from slash 0 path → node_below (between_slashes path) b ≡ first_named path b.children
+last_name path b e = ap (λ (ns : List (List ℕ)). node_below ns b) (one_name path 0 (sym e)) ∙ same (first_named path b.children)
   where
     same : (o : Option Branch) → option_and_then (node_below []) o ≡ o
     same None = refl
     same (Some x) = refl
 
-pub next_name : (path : List ℕ) (b : Branch) (at : ℕ) → Some at ≡ position_from slash 0 path → node_below (between_slashes path) b ≡ option_and_then (node_below (between_slashes (drop (at + 1) path))) (first_named (take at path) b.kids)
+pub next_name : (path : List ℕ) (b : Branch) (at : ℕ) → Some at ≡ position_from slash 0 path → node_below (between_slashes path) b ≡ option_and_then (node_below (between_slashes (drop (at + 1) path))) (first_named (take at path) b.children)
 next_name path b at e =
     let t = split_name path 0 at (sym e) in
     let same : t.0 ≡ at = omega (arith, t.1) in
     let one : suc at ≡ at + 1 = omega arith in
     ap (λ (ns : List (List ℕ)). node_below ns b) t.2
-    ∙ ap (λ (m : ℕ). option_and_then (node_below (between_slashes (drop (suc m) path))) (first_named (take m path) b.kids)) same
-    ∙ ap (λ (m : ℕ). option_and_then (node_below (between_slashes (drop m path))) (first_named (take at path) b.kids)) one
+    ∙ ap (λ (m : ℕ). option_and_then (node_below (between_slashes (drop (suc m) path))) (first_named (take m path) b.children)) same
+    ∙ ap (λ (m : ℕ). option_and_then (node_below (between_slashes (drop m path))) (first_named (take at path) b.children)) one
 
 pub no_slash : (path : List ℕ) → None ≡ position_from slash 0 path → between_slashes path ≡ path ∷ []
 no_slash path e = one_name path 0 (sym e)

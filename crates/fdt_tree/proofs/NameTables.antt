@@ -1,5 +1,5 @@
 -- The table of names, and a name that is added.
-use Rattle.std.proofs.Common.{◌≡◌, ℕ, ◌+◌, ◌<◌, ◌≤◌, Bool, true, false, cond, List, [], ◌∷◌, ◌++◌, length, take, drop, Option, Some, None, Result, Ok, Err, IfOk, refl, sym, ap, ◌∙◌, append_assoc, arith, subst}
+use Rattle.std.proofs.Common.{◌^◌, ◌≡◌, ℕ, ◌+◌, ◌<◌, ◌≤◌, Bool, true, false, cond, List, [], ◌∷◌, ◌++◌, length, take, drop, Option, Some, None, Result, Ok, Err, IfOk, refl, sym, ap, ◌∙◌, append_assoc, arith, subst}
 use Rattle.std.proofs.lemmas.List.{length-append}
 use Rattle.std.specs.declared.vec.Vec.{Vec}
 use Rattle.std.specs.BTreeMap.{BTreeMap, get_by, UpdatesBy}
@@ -126,7 +126,7 @@ place_new names name q h = go (bytes_eq name q) refl
 
 -- ---- the table with one more
 
-pub too_long : (names : List (List ℕ)) (name : List ℕ) (at : ℕ) → at ≡ length (strings_text names) → 2097152 ≤ at + length name → 2097152 < length (strings_text (names ++ name ∷ []))
+pub too_long : (names : List (List ℕ)) (name : List ℕ) (at : ℕ) → at ≡ length (strings_text names) → 2 ^ 21 ≤ at + length name → 2 ^ 21 < length (strings_text (names ++ name ∷ []))
 too_long names name at e h =
     let p = ap length (strings_push names name) in
     omega (arith, p, length-append (strings_text names ++ name) (0 ∷ []), length-append (strings_text names) name)

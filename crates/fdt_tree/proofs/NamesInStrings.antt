@@ -6,8 +6,8 @@ use Rattle.std.proofs.lemmas.Bool.Decides.{nat_tests}
 use Rattle.std.proofs.lemmas.List.{take_more, length-drop, length-take-le, get_or-drop}
 use Rattle.fdt_tree.specs.declared.fault.FdtFault.TheVariants.{BadName, BadString}
 use Rattle.refusal.specs.Answer.{◌>>=◌}
-use Rattle.fdt_tree.specs.Names.{letter, all_letters, legal}
-use Rattle.fdt_tree.specs.inside.LetterRuns.{letter_run, letter_runs, zero_end}
+use Rattle.fdt_tree.specs.Names.{is_name_character, all_name_characters, legal}
+use Rattle.fdt_tree.specs.inside.NameRuns.{name_run, name_runs, zero_end}
 use Rattle.fdt_tree.specs.Scanning.{until_zero, string_at, name_at}
 
 -- ---- the last zero byte
@@ -57,24 +57,24 @@ zero_end_le (c ∷ cs) = within c (zero_end cs) (length cs) (zero_end_le cs)
 
 -- ---- the runs
 
-pub run_at : (s : List ℕ) (o : ℕ) → get_or (letter_runs s) o 0 ≡ letter_run (drop o s)
+pub run_at : (s : List ℕ) (o : ℕ) → get_or (name_runs s) o 0 ≡ name_run (drop o s)
 run_at [] zero = refl
 run_at [] (suc o) = refl
 run_at (c ∷ cs) zero = refl
 run_at (c ∷ cs) (suc o) = run_at cs o
 
-pub length-letter_runs : (s : List ℕ) → length (letter_runs s) ≡ length s
-length-letter_runs [] = refl
-length-letter_runs (c ∷ cs) = ap suc (length-letter_runs cs)
+pub length-name_runs : (s : List ℕ) → length (name_runs s) ≡ length s
+length-name_runs [] = refl
+length-name_runs (c ∷ cs) = ap suc (length-name_runs cs)
 
 -- ---- a name
 
 -- the letters in front of s go as far as its first zero byte, or there is another byte before that
 abbrev pub IsName : List ℕ → ℕ → Type 0
-IsName s n = (letter_run s ≡ n) × (all_letters (take n s) ≡ true) × (get_or s n 0 ≡ 0)
+IsName s n = (name_run s ≡ n) × (all_name_characters (take n s) ≡ true) × (get_or s n 0 ≡ 0)
 
 abbrev pub IsNoName : List ℕ → ℕ → Type 0
-IsNoName s n = (letter_run s < n) × (all_letters (take n s) ≡ false) × (0 < get_or s (letter_run s) 0)
+IsNoName s n = (name_run s < n) × (all_name_characters (take n s) ≡ false) × (0 < get_or s (name_run s) 0)
 
 name_or_not : (s : List ℕ) (n : ℕ) → until_zero s ≡ Some n → (n < length s) × (IsName s n ⊎ IsNoName s n)
 name_or_not [] n e = absurd cc
@@ -86,7 +86,7 @@ name_or_not (suc b ∷ cs) n e = go (until_zero cs) refl e (name_or_not cs)
     next : (m : ℕ) → (m < length cs) × (IsName cs m ⊎ IsNoName cs m) → (suc m < suc (length cs)) × (IsName (suc b ∷ cs) (suc m) ⊎ IsNoName (suc b ∷ cs) (suc m))
     next m ih = (
       omega (arith, ih.0),
-      elim (cases_Bool (letter (suc b))) [
+      elim (cases_Bool (is_name_character (suc b))) [
         | inl t ↦ elim ih.1 [
           | inl h ↦ inl (rw t (ap suc h.0), rw t h.1, h.2)
           | inr h ↦ inr (rw t (omega (arith, h.0)), rw t h.1, rw t h.2)
@@ -101,7 +101,7 @@ name_or_not (suc b ∷ cs) n e = go (until_zero cs) refl e (name_or_not cs)
     go (Some m) h q ih = let z : suc m ≡ n = cc in
         subst (λ (k : ℕ). (k < suc (length cs)) × (IsName (suc b ∷ cs) k ⊎ IsNoName (suc b ∷ cs) k)) z (next m (ih m h))
 
-pub run_inside : (s : List ℕ) (o : ℕ) → o < zero_end s → o + letter_run (drop o s) < length s
+pub run_inside : (s : List ℕ) (o : ℕ) → o < zero_end s → o + name_run (drop o s) < length s
 run_inside s o h =
     let t = some_ahead s o h in
     let k = name_or_not (drop o s) t.0 t.1 in
@@ -121,10 +121,10 @@ named s o n h e =
     let inside : ltb o (length s) ≡ true = lt-ltb _ _ (omega (arith, zero_end_le s)) in
     rw (inside, e, string_at) refl
 
-legal_is : (s : List ℕ) (n : ℕ) → n < length s → legal (take n s) ≡ (ltb 0 n && all_letters (take n s))
-legal_is s n h = ap (λ (m : ℕ). ltb 0 m && all_letters (take n s)) (length-take-le n s (omega arith))
+legal_is : (s : List ℕ) (n : ℕ) → n < length s → legal (take n s) ≡ (ltb 0 n && all_name_characters (take n s))
+legal_is s n h = ap (λ (m : ℕ). ltb 0 m && all_name_characters (take n s)) (length-take-le n s (omega arith))
 
-pub good_name : (s : List ℕ) (o k : ℕ) → o < zero_end s → k ≡ letter_run (drop o s) → 0 < k → get_or s (o + k) 0 ≡ 0 → name_at s o ≡ Ok (take k (drop o s))
+pub good_name : (s : List ℕ) (o k : ℕ) → o < zero_end s → k ≡ name_run (drop o s) → 0 < k → get_or s (o + k) 0 ≡ 0 → name_at s o ≡ Ok (take k (drop o s))
 good_name s o k h is long stop =
     let t = some_ahead s o h in
     let n = t.0 in
@@ -135,10 +135,10 @@ good_name s o k h is long stop =
           let some : ltb 0 n ≡ true = lt-ltb 0 n (omega (arith, a.0, is)) in
           let fine : legal (take n (drop o s)) ≡ true = legal_is (drop o s) n q.0 ∙ rw (some, a.1) refl in
           named s o n h t.1 ∙ rw fine refl ∙ ap (λ (m : ℕ). Ok (take m (drop o s))) same
-      | inr a ↦ absurd (omega (arith, a.2, stop, is, get_or-drop o s (letter_run (drop o s)) 0, ap (λ (m : ℕ). get_or s (o + m) 0) is))
+      | inr a ↦ absurd (omega (arith, a.2, stop, is, get_or-drop o s (name_run (drop o s)) 0, ap (λ (m : ℕ). get_or s (o + m) 0) is))
     ]
 
-pub bad_name : (s : List ℕ) (o k : ℕ) → o < zero_end s → k ≡ letter_run (drop o s) → (0 < k → 0 < get_or s (o + k) 0) → name_at s o ≡ Err BadName
+pub bad_name : (s : List ℕ) (o k : ℕ) → o < zero_end s → k ≡ name_run (drop o s) → (0 < k → 0 < get_or s (o + k) 0) → name_at s o ≡ Err BadName
 bad_name s o k h is other =
     let t = some_ahead s o h in
     let n = t.0 in

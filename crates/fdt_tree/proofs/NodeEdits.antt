@@ -12,7 +12,7 @@ use Rattle.fdt_tree.specs.Devicetree.{Entry, Nodes, Branch, joined}
 use Rattle.fdt_tree.specs.NodeViews.{name_of, entry_of, branch, branches}
 use Rattle.fdt_tree.specs.inside.OpenNodes.{followed}
 use Rattle.fdt_tree.specs.Edits.{with_value, first_such, in_front_of}
-use Rattle.fdt_tree.proofs.OpenNodes.{branch_roll, branch_out, kid_step}
+use Rattle.fdt_tree.proofs.OpenNodes.{branch_roll, branch_out, child_step}
 
 -- ---- properties
 
@@ -56,32 +56,32 @@ name_seen : (s : List ℕ) (test : List ℕ → Bool) (n : Node) (b : Bool) → 
 name_seen s test n b e = ap (λ (x : Branch). test x.name) (branch_out s n) ∙ e
 
 abbrev ChildChanged : List ℕ → (List ℕ → Bool) → (Branch → Branch) → Branch → List Node → ℕ → ℕ → Type 0
-ChildChanged s test change new xs i at =
+ChildChanged s test edit new xs i at =
     (k : ℕ) × (at ≡ i + k) × (k < length xs)
-    × ((x y : Node) → x ≡ get_or xs k x → branch s y ≡ change (branch s x) → joined (branches s (set xs k y)) ≡ first_such test change new (joined (branches s xs)))
+    × ((x y : Node) → x ≡ get_or xs k x → branch s y ≡ edit (branch s x) → joined (branches s (set xs k y)) ≡ first_such test edit new (joined (branches s xs)))
 
-pub child_changed_at : (s : List ℕ) (test : List ℕ → Bool) (change : Branch → Branch) (new : Branch) (xs : List Node) (i at : ℕ) → position_from (passes test) i xs ≡ Some at → ChildChanged s test change new xs i at
-child_changed_at s test change new [] i at e = absurd cc
-child_changed_at s test change new (n ∷ ns) i at e = go (passes test n) refl e (child_changed_at s test change new ns (i + 1) at)
+pub child_edited_at : (s : List ℕ) (test : List ℕ → Bool) (edit : Branch → Branch) (new : Branch) (xs : List Node) (i at : ℕ) → position_from (passes test) i xs ≡ Some at → ChildChanged s test edit new xs i at
+child_edited_at s test edit new [] i at e = absurd cc
+child_edited_at s test edit new (n ∷ ns) i at e = go (passes test n) refl e (child_edited_at s test edit new ns (i + 1) at)
   where
-    go : (b : Bool) → passes test n ≡ b → cond b (Some i) (position_from (passes test) (i + 1) ns) ≡ Some at → (position_from (passes test) (i + 1) ns ≡ Some at → ChildChanged s test change new ns (i + 1) at) → ChildChanged s test change new (n ∷ ns) i at
+    go : (b : Bool) → passes test n ≡ b → cond b (Some i) (position_from (passes test) (i + 1) ns) ≡ Some at → (position_from (passes test) (i + 1) ns ≡ Some at → ChildChanged s test edit new ns (i + 1) at) → ChildChanged s test edit new (n ∷ ns) i at
     go true h q ih =
         let here : i ≡ at = cc in
         let seen = name_seen s test n true h in
-        (0, omega arith, omega arith, λ x y is e. rw seen (ap (in_front_of (joined (branches s ns))) (e ∙ ap (λ (z : Node). change (branch s z)) is)))
+        (0, omega arith, omega arith, λ x y is e. rw seen (ap (in_front_of (joined (branches s ns))) (e ∙ ap (λ (z : Node). edit (branch s z)) is)))
     go false h q ih =
         let t = ih q in
         let seen = name_seen s test n false h in
         (suc t.0, omega (arith, t.1), omega (arith, t.2), λ x y is e. rw seen (ap (λ (ks : Nodes). in_front_of ks (branch s n)) (t.3 x y is e)))
 
-pub child_added : (s : List ℕ) (test : List ℕ → Bool) (change : Branch → Branch) (new : Branch) (xs : List Node) (i : ℕ) → position_from (passes test) i xs ≡ None
-    → first_such test change new (joined (branches s xs)) ≡ followed (joined (branches s xs)) new
-child_added s test change new [] i e = refl
-child_added s test change new (n ∷ ns) i e = go (passes test n) refl e (child_added s test change new ns (i + 1))
+pub child_added : (s : List ℕ) (test : List ℕ → Bool) (edit : Branch → Branch) (new : Branch) (xs : List Node) (i : ℕ) → position_from (passes test) i xs ≡ None
+    → first_such test edit new (joined (branches s xs)) ≡ followed (joined (branches s xs)) new
+child_added s test edit new [] i e = refl
+child_added s test edit new (n ∷ ns) i e = go (passes test n) refl e (child_added s test edit new ns (i + 1))
   where
     go : (b : Bool) → passes test n ≡ b → cond b (Some i) (position_from (passes test) (i + 1) ns) ≡ None
-        → (position_from (passes test) (i + 1) ns ≡ None → first_such test change new (joined (branches s ns)) ≡ followed (joined (branches s ns)) new)
-        → first_such test change new (joined (branches s (n ∷ ns))) ≡ followed (joined (branches s (n ∷ ns))) new
+        → (position_from (passes test) (i + 1) ns ≡ None → first_such test edit new (joined (branches s ns)) ≡ followed (joined (branches s ns)) new)
+        → first_such test edit new (joined (branches s (n ∷ ns))) ≡ followed (joined (branches s (n ∷ ns))) new
     go true h q ih = absurd cc
     go false h q ih = let seen = name_seen s test n false h in rw seen (ap (λ (ks : Nodes). in_front_of ks (branch s n)) (ih q))
 
@@ -92,13 +92,13 @@ child_kept s (n ∷ ns) (suc k) x y lt is e = ap (λ (bs : List Branch). branch 
 
 -- ---- the node around them
 
-abbrev pub with_kids : Branch → Nodes → Branch
-with_kids b kids = record b { kids = kids }
+abbrev pub with_children : Branch → Nodes → Branch
+with_children b children = record b { children = children }
 
-pub around : (s : List ℕ) (n : Node) (x : Node-F Node) (kids : Nodes) → x.name.items ≡ (out-Node n).name.items → x.properties.items ≡ (out-Node n).properties.items → joined (branches s x.children.items) ≡ kids
-    → branch s (roll-Node x) ≡ with_kids (branch s n) kids
-around s n x kids e f g =
-    branch_roll s x ∙ rw (e, f, g) refl ∙ ap (λ (b : Branch). with_kids b kids) (sym (branch_out s n))
+pub around : (s : List ℕ) (n : Node) (x : Node-F Node) (children : Nodes) → x.name.items ≡ (out-Node n).name.items → x.properties.items ≡ (out-Node n).properties.items → joined (branches s x.children.items) ≡ children
+    → branch s (roll-Node x) ≡ with_children (branch s n) children
+around s n x children e f g =
+    branch_roll s x ∙ rw (e, f, g) refl ∙ ap (λ (b : Branch). with_children b children) (sym (branch_out s n))
 
 -- ---- at the index that was found
 
@@ -114,17 +114,17 @@ pub value_pushed : (s name v : List ℕ) (xs ys : List Property) (y : Property) 
 value_pushed s name v xs ys y e pushed made =
     ap (map (entry_of s)) pushed ∙ map_push (entry_of s) xs y ∙ ap (λ (w : Entry). map (entry_of s) xs ++ w ∷ []) made ∙ sym (value_added s name v xs 0 (sym e))
 
-pub changed_found : (s : List ℕ) (test : List ℕ → Bool) (change : Branch → Branch) (new : Branch) (n : Node) (o : Node-F Node) (at : ℕ) (x y : Node)
+pub edited_found : (s : List ℕ) (test : List ℕ → Bool) (edit : Branch → Branch) (new : Branch) (n : Node) (o : Node-F Node) (at : ℕ) (x y : Node)
     → o.name.items ≡ (out-Node n).name.items → o.properties.items ≡ (out-Node n).properties.items → o.children.items ≡ set (out-Node n).children.items at y
-    → Some at ≡ position_from (passes test) 0 (out-Node n).children.items → x ≡ get_or (out-Node n).children.items at x → branch s y ≡ change (branch s x)
-    → branch s (roll-Node o) ≡ with_kids (branch s n) (first_such test change new (branch s n).kids)
-changed_found s test change new n o at x y e f g found is made =
+    → Some at ≡ position_from (passes test) 0 (out-Node n).children.items → x ≡ get_or (out-Node n).children.items at x → branch s y ≡ edit (branch s x)
+    → branch s (roll-Node o) ≡ with_children (branch s n) (first_such test edit new (branch s n).children)
+edited_found s test edit new n o at x y e f g found is made =
     let xs = (out-Node n).children.items in
-    let t = child_changed_at s test change new xs 0 at (sym found) in
+    let t = child_edited_at s test edit new xs 0 at (sym found) in
     let same : t.0 ≡ at = omega (arith, t.1) in
-    let kids : joined (branches s (set xs at y)) ≡ first_such test change new (joined (branches s xs)) = rw same at t.3 x y is made in
-    let all : joined (branches s o.children.items) ≡ first_such test change new (branch s n).kids =
-    ap (λ (ns : List Node). joined (branches s ns)) g ∙ kids ∙ ap (λ (b : Branch). first_such test change new b.kids) (sym (branch_out s n)) in
+    let children : joined (branches s (set xs at y)) ≡ first_such test edit new (joined (branches s xs)) = rw same at t.3 x y is made in
+    let all : joined (branches s o.children.items) ≡ first_such test edit new (branch s n).children =
+    ap (λ (ns : List Node). joined (branches s ns)) g ∙ children ∙ ap (λ (b : Branch). first_such test edit new b.children) (sym (branch_out s n)) in
     around s n o _ e f all
 
 pub kept_found : (s : List ℕ) (n : Node) (o : Node-F Node) (at : ℕ) (x y : Node)
@@ -132,20 +132,20 @@ pub kept_found : (s : List ℕ) (n : Node) (o : Node-F Node) (at : ℕ) (x y : N
     → at < length (out-Node n).children.items → x ≡ get_or (out-Node n).children.items at x → branch s y ≡ branch s x
     → branch s (roll-Node o) ≡ branch s n
 kept_found s n o at x y e f g lt is made =
-    let all : joined (branches s o.children.items) ≡ (branch s n).kids =
-    ap (λ (ns : List Node). joined (branches s ns)) g ∙ ap joined (child_kept s (out-Node n).children.items at x y lt is made) ∙ ap (λ (b : Branch). b.kids) (sym (branch_out s n)) in
+    let all : joined (branches s o.children.items) ≡ (branch s n).children =
+    ap (λ (ns : List Node). joined (branches s ns)) g ∙ ap joined (child_kept s (out-Node n).children.items at x y lt is made) ∙ ap (λ (b : Branch). b.children) (sym (branch_out s n)) in
     around s n o _ e f all
 
-pub changed_pushed : (s : List ℕ) (test : List ℕ → Bool) (change : Branch → Branch) (new : Branch) (n kid : Node) (o : Node-F Node)
-    → o.name.items ≡ (out-Node n).name.items → o.properties.items ≡ (out-Node n).properties.items → o.children.items ≡ (out-Node n).children.items ++ kid ∷ []
-    → None ≡ position_from (passes test) 0 (out-Node n).children.items → branch s kid ≡ new
-    → branch s (roll-Node o) ≡ with_kids (branch s n) (first_such test change new (branch s n).kids)
-changed_pushed s test change new n kid o e f g missing made =
-    kid_step s n kid o e f g
-    ∙ ap (λ (b : Branch). with_kids (branch s n) (followed (branch s n).kids b)) made
-    ∙ ap (λ (b : Branch). with_kids (branch s n) (followed b.kids new)) (branch_out s n)
-    ∙ ap (λ (ks : Nodes). with_kids (branch s n) ks) (sym (child_added s test change new (out-Node n).children.items 0 (sym missing)))
-    ∙ ap (λ (b : Branch). with_kids (branch s n) (first_such test change new b.kids)) (sym (branch_out s n))
+pub edited_pushed : (s : List ℕ) (test : List ℕ → Bool) (edit : Branch → Branch) (new : Branch) (n child : Node) (o : Node-F Node)
+    → o.name.items ≡ (out-Node n).name.items → o.properties.items ≡ (out-Node n).properties.items → o.children.items ≡ (out-Node n).children.items ++ child ∷ []
+    → None ≡ position_from (passes test) 0 (out-Node n).children.items → branch s child ≡ new
+    → branch s (roll-Node o) ≡ with_children (branch s n) (first_such test edit new (branch s n).children)
+edited_pushed s test edit new n child o e f g missing made =
+    child_step s n child o e f g
+    ∙ ap (λ (b : Branch). with_children (branch s n) (followed (branch s n).children b)) made
+    ∙ ap (λ (b : Branch). with_children (branch s n) (followed b.children new)) (branch_out s n)
+    ∙ ap (λ (ks : Nodes). with_children (branch s n) ks) (sym (child_added s test edit new (out-Node n).children.items 0 (sym missing)))
+    ∙ ap (λ (b : Branch). with_children (branch s n) (first_such test edit new b.children)) (sym (branch_out s n))
 
 pub on_ok : {A E : Type 0} (r : Result A E) (P Q : Type 0) → (P → Q) → OnOk r P → OnOk r Q
 on_ok (Ok x) P Q f h = f h

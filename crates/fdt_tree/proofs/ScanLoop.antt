@@ -2,21 +2,21 @@
 use Rattle.std.proofs.Common.{◌≡◌, ℕ, suc, ◌+◌, ◌-◌, ◌<◌, ◌≤◌, List, [], Result, Ok, Err, refl, sym, ap, ◌∙◌, arith}
 use Rattle.fdt_tree.specs.declared.fault.FdtFault.{FdtFault}
 use Rattle.fdt_tree.specs.declared.fault.FdtFault.TheVariants.{BadToken}
-use Rattle.fdt_tree.specs.declared.lexing.Lexeme.{Lexeme}
-use Rattle.fdt_tree.specs.declared.lexing.Lexeme.TheVariants as lexemes
-use Rattle.fdt_tree.specs.inside.LexemeViews.{token_of_lexeme}
+use Rattle.fdt_tree.specs.declared.lexing.Token.{Token as Read}
+use Rattle.fdt_tree.specs.declared.lexing.Token.TheVariants as variants
+use Rattle.fdt_tree.specs.inside.TokenViews.{as_token}
 use Rattle.fdt_tree.specs.Devicetree.{Token, begin_node, property, end_node, nop, finish}
 use Rattle.refusal.specs.Answer.{◌>>=◌, with_front}
 use Rattle.fdt_tree.specs.declared.place.Place.{Place}
 use Rattle.fdt_tree.specs.Scanning.{after, token_at, joins, scan}
 use Rattle.fdt_tree.specs.inside.OpenNodes.{added}
 
-pub not_finish : (strings : List ℕ) (l : Lexeme) → (l ≡ lexemes.Finish → ⊥) → token_of_lexeme strings l ≡ finish → ⊥
-not_finish strings (lexemes.Begin n) h e = cc
-not_finish strings (lexemes.Property b n v) h e = cc
-not_finish strings lexemes.EndNode h e = cc
-not_finish strings lexemes.Nop h e = cc
-not_finish strings lexemes.Finish h e = h refl
+pub not_finish : (strings : List ℕ) (l : Read) → (l ≡ variants.Finish → ⊥) → as_token strings l ≡ finish → ⊥
+not_finish strings (variants.Begin n) h e = cc
+not_finish strings (variants.Property b n v) h e = cc
+not_finish strings variants.EndNode h e = cc
+not_finish strings variants.Nop h e = cc
+not_finish strings variants.Finish h e = h refl
 
 one_more : (strings : List ℕ) (count i : ℕ) (p : Place) (bytes : List ℕ) → i < count
     → scan strings (count - i) p bytes ≡ (token_at strings p bytes >>= λ t. joins t.0 (scan strings (count - (i + 1)) (after p t.0) t.1))

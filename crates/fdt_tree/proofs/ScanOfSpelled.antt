@@ -10,8 +10,8 @@ use Rattle.fdt_tree.specs.declared.fault.FdtFault.TheVariants.{BadToken, BadStri
 use Rattle.fdt_tree.specs.Devicetree.{Entry, Token, begin_node, property, end_node, nop, finish}
 use Rattle.fdt_tree.specs.declared.place.Place.{Place}
 use Rattle.fdt_tree.specs.Scanning.{after, number_at, padded_at, until_zero, legal_at, string_at, name_at, begin_at, property_at, kind_at, token_at, scan}
-use Rattle.fdt_tree.specs.Names.{legal, all_letters, letter}
-use Rattle.fdt_tree.specs.Grammar.{IsPadding, StandsAt, IsTokenText, IsText, without_nops}
+use Rattle.fdt_tree.specs.Names.{legal, all_name_characters, is_name_character}
+use Rattle.fdt_tree.specs.Grammar.{IsPadding, IsStringAt, IsTokenText, IsText, without_nops}
 use Rattle.fdt_tree.proofs.AcceptedTokens.{Allowed, Accepts}
 
 abbrev guarded : ℕ → List ℕ → Result (ℕ × List ℕ) FdtFault
@@ -43,16 +43,16 @@ cond_both : (b x : Bool) → cond b x false ≡ true → (b ≡ true) × (x ≡ 
 cond_both true x h = (refl, h)
 cond_both false x h = absurd cc
 
-zero_ended : (name rest : List ℕ) → all_letters name ≡ true → until_zero (name ++ (0 ∷ rest)) ≡ Some (length name)
+zero_ended : (name rest : List ℕ) → all_name_characters name ≡ true → until_zero (name ++ (0 ∷ rest)) ≡ Some (length name)
 zero_ended [] rest h = refl
 zero_ended (zero ∷ cs) rest h = absurd cc
-zero_ended (suc c ∷ cs) rest h = rw (zero_ended cs rest (cond_both (letter (suc c)) (all_letters cs) h).1) refl
+zero_ended (suc c ∷ cs) rest h = rw (zero_ended cs rest (cond_both (is_name_character (suc c)) (all_name_characters cs) h).1) refl
 
-pub string_again : (fault : FdtFault) (name rest : List ℕ) → all_letters name ≡ true → string_at fault (name ++ (0 ∷ rest)) ≡ Ok name
+pub string_again : (fault : FdtFault) (name rest : List ℕ) → all_name_characters name ≡ true → string_at fault (name ++ (0 ∷ rest)) ≡ Ok name
 unfolding string_at
 string_again fault name rest h = rw (zero_ended name rest h, string_at, take_at name (0 ∷ rest) (length name) refl) refl
 
-nothing : (name : List ℕ) → eqb (length name) 0 ≡ true → all_letters name ≡ true
+nothing : (name : List ℕ) → eqb (length name) 0 ≡ true → all_name_characters name ≡ true
 nothing name h = rw (nil_from_length name (eqb-true _ _ h)) refl
 
 is_true : (b : Bool) → IsTrue b → b ≡ true
@@ -62,15 +62,15 @@ and_both : (a b : Bool) → a && b ≡ true → b ≡ true
 and_both true b h = h
 and_both false b h = absurd cc
 
-letters_at : (b : Bool) (name : List ℕ) → cond b (eqb (length name) 0) (legal name) ≡ true → all_letters name ≡ true
-letters_at true name h = nothing name h
-letters_at false name h = and_both (ltb 0 (length name)) (all_letters name) h
+characters_at : (b : Bool) (name : List ℕ) → cond b (eqb (length name) 0) (legal name) ≡ true → all_name_characters name ≡ true
+characters_at true name h = nothing name h
+characters_at false name h = and_both (ltb 0 (length name)) (all_name_characters name) h
 
 begin_again : (p : Place) (name pad rest : List ℕ) → IsPadding (length name + 1) pad → Allowed p (begin_node name) → begin_at p (name ++ ((0 ∷ pad) ++ rest)) ≡ Ok (begin_node name, rest)
 unfolding begin_at
 begin_again p name pad rest h ok =
     let legal_here : legal_at p name ≡ true = is_true _ ok.0 in
-    let named : string_at BadToken (name ++ ((0 ∷ pad) ++ rest)) ≡ Ok name = string_again BadToken name (pad ++ rest) (letters_at (eqb p.depth 0) name legal_here) in
+    let named : string_at BadToken (name ++ ((0 ∷ pad) ++ rest)) ≡ Ok name = string_again BadToken name (pad ++ rest) (characters_at (eqb p.depth 0) name legal_here) in
     let text = name ++ 0 ∷ [] in
     let len : length text ≡ length name + 1 = omega (arith, length-append name (0 ∷ [])) in
     let shape : name ++ ((0 ∷ pad) ++ rest) ≡ text ++ (pad ++ rest) = sym (append_assoc name (0 ∷ []) (pad ++ rest)) in
@@ -81,15 +81,15 @@ begin_again p name pad rest h ok =
 pub inside : (offset : ℕ) (strings name others : List ℕ) → drop offset strings ≡ name ++ (0 ∷ others) → offset < length strings
 inside offset strings name others e = omega (arith, ap length e, length-drop offset strings, length-append name (0 ∷ others))
 
-pub name_again : (strings : List ℕ) (offset : ℕ) (name : List ℕ) → StandsAt strings offset name → legal name ≡ true → name_at strings offset ≡ Ok name
+pub name_again : (strings : List ℕ) (offset : ℕ) (name : List ℕ) → IsStringAt strings offset name → legal name ≡ true → name_at strings offset ≡ Ok name
 unfolding name_at
 name_again strings offset name there legal_here =
     let within : ltb offset (length strings) ≡ true = lt-ltb _ _ (inside offset strings name there.0 there.1) in
-    let named : string_at BadString (drop offset strings) ≡ Ok name = ap (string_at BadString) there.1 ∙ string_again BadString name there.0 (and_both (ltb 0 (length name)) (all_letters name) legal_here) in
+    let named : string_at BadString (drop offset strings) ≡ Ok name = ap (string_at BadString) there.1 ∙ string_again BadString name there.0 (and_both (ltb 0 (length name)) (all_name_characters name) legal_here) in
     rw (within, named, legal_here) refl
 
 property_again : (strings : List ℕ) (p : Place) (e : Entry) (offset : ℕ) (pad rest : List ℕ) → offset < 2 ^ 32 → length e.value < 2 ^ 32 → IsPadding (length e.value) pad
-    → StandsAt strings offset e.name → Allowed p (property e)
+    → IsStringAt strings offset e.name → Allowed p (property e)
     → property_at strings p (to_be_bytes w32 (length e.value) ++ (to_be_bytes w32 offset ++ (e.value ++ (pad ++ rest)))) ≡ Ok (property e, rest)
 unfolding property_at
 property_again strings p e offset pad rest o v h there ok =

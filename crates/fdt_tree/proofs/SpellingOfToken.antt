@@ -12,7 +12,7 @@ use Rattle.refusal.specs.Answer.{◌>>=◌}
 use Rattle.fdt_tree.specs.declared.place.Place.{Place}
 use Rattle.fdt_tree.specs.Scanning.{number_at, padded_at, until_zero, legal_at, string_at, name_at, begin_at, property_at, is_over, kind_at, token_at}
 use Rattle.fdt_tree.specs.Names.{legal}
-use Rattle.fdt_tree.specs.Grammar.{IsPadding, StandsAt, IsTokenText}
+use Rattle.fdt_tree.specs.Grammar.{IsPadding, IsStringAt, IsTokenText}
 use Rattle.fdt_tree.proofs.AcceptedTokens.{Allowed}
 use Rattle.fdt_tree.proofs.SpellingOfScan.{IsBytes, bind_ok, Took, TookEnd, TakesTokens, TakesEnd}
 
@@ -137,7 +137,7 @@ begin_takes strings p bytes t rest fits early e whole shape =
     other : {name : List ℕ} → begin_node name ≡ t → t ≡ finish → ⊥
     other a z = cc
 
-pub name_takes : (strings : List ℕ) (offset : ℕ) (name : List ℕ) → name_at strings offset ≡ Ok name → StandsAt strings offset name × IsTrue (legal name)
+pub name_takes : (strings : List ℕ) (offset : ℕ) (name : List ℕ) → name_at strings offset ≡ Ok name → IsStringAt strings offset name × IsTrue (legal name)
 unfolding name_at
 name_takes strings offset name e =
     let made : List ℕ → Result (List ℕ) FdtFault = λ name. cond (legal name) (Ok name) (Err BadName) in

@@ -20,22 +20,22 @@ merge : (next : Nodes) (d : ℕ) (more : List Token) → Accepts (behind (record
 merge none d more r = r
 merge (node a b c e) d more r = r
 
-shut : (kids : Nodes) (d : ℕ) (ts : List Token) → Accepts (behind (record { depth = d; late = false }) kids) (end_node ∷ ts) → Accepts (record { depth = d - 1; late = true }) ts
+shut : (children : Nodes) (d : ℕ) (ts : List Token) → Accepts (behind (record { depth = d; late = false }) children) (end_node ∷ ts) → Accepts (record { depth = d - 1; late = true }) ts
 shut none d ts r = r.1
 shut (node a b c e) d ts r = r.1
 
 pub nodes_legal : (f : Nodes) (p : Place) (rest : List Token) → 0 < p.depth → Accepts p (tokens f ++ rest) → IsLegal p.depth f × Accepts (behind p f) rest
 nodes_legal none p rest h ok = (tt, ok)
-nodes_legal (node n es kids next) p rest h ok =
+nodes_legal (node n es children next) p rest h ok =
     let more = rest in
     let inner : Place = record { depth = p.depth + 1; late = false } in
     let ended : Place = record { depth = p.depth; late = true } in
-    let shape : (map property es ++ (tokens kids ++ (end_node ∷ tokens next))) ++ more ≡ map property es ++ (tokens kids ++ (end_node ∷ (tokens next ++ more)))
-    = append_assoc (map property es) (tokens kids ++ (end_node ∷ tokens next)) more ∙ ap (λ (ts : List Token). map property es ++ ts) (append_assoc (tokens kids) (end_node ∷ tokens next) more) in
-    let a = properties_legal es inner (tokens kids ++ (end_node ∷ (tokens next ++ more))) (subst (λ (ts : List Token). Accepts inner ts) shape ok.1) in
-    let b = nodes_legal kids inner (end_node ∷ (tokens next ++ more)) (omega arith) a.1 in
+    let shape : (map property es ++ (tokens children ++ (end_node ∷ tokens next))) ++ more ≡ map property es ++ (tokens children ++ (end_node ∷ (tokens next ++ more)))
+    = append_assoc (map property es) (tokens children ++ (end_node ∷ tokens next)) more ∙ ap (λ (ts : List Token). map property es ++ ts) (append_assoc (tokens children) (end_node ∷ tokens next) more) in
+    let a = properties_legal es inner (tokens children ++ (end_node ∷ (tokens next ++ more))) (subst (λ (ts : List Token). Accepts inner ts) shape ok.1) in
+    let b = nodes_legal children inner (end_node ∷ (tokens next ++ more)) (omega arith) a.1 in
     let back : p.depth + 1 - 1 ≡ p.depth = omega arith in
-    let c = shut kids (p.depth + 1) (tokens next ++ more) b.1 in
+    let c = shut children (p.depth + 1) (tokens next ++ more) b.1 in
     let d : Accepts ended (tokens next ++ more) = subst (λ (m : ℕ). Accepts (record { depth = m; late = true }) (tokens next ++ more)) back c in
     let last = nodes_legal next ended more h d in
     ((ok.0.1, was_legal n p h ok.0.0, a.0, b.0, last.0), merge next p.depth more last.1)
@@ -43,21 +43,21 @@ nodes_legal (node n es kids next) p rest h ok =
 -- the tokens up to END are those of a root with legal names and depths
 pub record IsRoot (f : Nodes) : Type 0 where
   pub root : Root
-  pub same : f ≡ node [] root.entries root.kids none
+  pub same : f ≡ node [] root.entries root.children none
   pub entries : AreLegal root.entries
-  pub kids : IsLegal 1 root.kids
+  pub children : IsLegal 1 root.children
 
 pub root_only : (f : Nodes) → Accepts start (tokens f) → IsRoot f
 root_only none ok = let e : false ≡ true = ok.1 in absurd cc
-root_only (node n es kids next) ok =
+root_only (node n es children next) ok =
     let outside : Place = record { depth = 1; late = false } in
-    let shape : map property es ++ (tokens kids ++ (end_node ∷ tokens next)) ≡ map property es ++ (tokens kids ++ (end_node ∷ tokens next)) = refl in
-    let a = properties_legal es outside (tokens kids ++ (end_node ∷ tokens next)) ok.1 in
-    let b = nodes_legal kids outside (end_node ∷ tokens next) (omega arith) a.1 in
-    let c = shut kids 1 (tokens next) b.1 in
+    let shape : map property es ++ (tokens children ++ (end_node ∷ tokens next)) ≡ map property es ++ (tokens children ++ (end_node ∷ tokens next)) = refl in
+    let a = properties_legal es outside (tokens children ++ (end_node ∷ tokens next)) ok.1 in
+    let b = nodes_legal children outside (end_node ∷ tokens next) (omega arith) a.1 in
+    let c = shut children 1 (tokens next) b.1 in
     let no_name : n ≡ [] = nil_from_length n (eqb-true _ _ ok.0.0) in
     let alone : next ≡ none = no_more next c in
-    record { root = record { entries = es; kids = kids }; same = rw (no_name, alone) refl; entries = a.0; kids = b.0 }
+    record { root = record { entries = es; children = children }; same = rw (no_name, alone) refl; entries = a.0; children = b.0 }
   where
     no_more : (next : Nodes) → Accepts (record { depth = 0; late = true }) (tokens next) → next ≡ none
     no_more none r = refl

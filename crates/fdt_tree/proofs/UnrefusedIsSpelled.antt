@@ -39,15 +39,15 @@ no_nops (finish ∷ ts) = no_nops ts
 -- what stands in an open node from here up to its end
 record Inside (p : Place) (ts : List Token) : Type 0 where
   entries : List Entry
-  kids : Nodes
+  children : Nodes
   rest : List Token
-  parts : ts ≡ map property entries ++ (tokens kids ++ (end_node ∷ rest))
+  parts : ts ≡ map property entries ++ (tokens children ++ (end_node ∷ rest))
   early : p.late ≡ true → entries ≡ []
   accepted : Accepts (record { depth = p.depth - 1; late = true }) rest
   plain : NoNops rest
 
 rest_shorter : (p : Place) (ts : List Token) (i : Inside p ts) → length i.rest < length ts
-rest_shorter p ts i = omega (arith, ap length i.parts, length-append (map property i.entries) (tokens i.kids ++ (end_node ∷ i.rest)), length-append (tokens i.kids) (end_node ∷ i.rest))
+rest_shorter p ts i = omega (arith, ap length i.parts, length-append (map property i.entries) (tokens i.children ++ (end_node ∷ i.rest)), length-append (tokens i.children) (end_node ∷ i.rest))
 
 inside : (n : ℕ) (p : Place) (ts : List Token) → length ts ≤ n → 0 < p.depth → NoNops ts → Accepts p ts → Inside p ts
 inside n p [] le deep plain ok = absurd (omega (arith, ok.0))
@@ -55,10 +55,10 @@ inside zero p (t ∷ ts) le deep plain ok = absurd (omega arith)
 inside (suc n) p (nop ∷ ts) le deep plain ok = absurd plain
 inside (suc n) p (finish ∷ ts) le deep plain ok = absurd ok.0
 inside (suc n) p (end_node ∷ ts) le deep plain ok =
-    record { entries = []; kids = none; rest = ts; parts = refl; early = λ h. refl; accepted = ok.1; plain = plain }
+    record { entries = []; children = none; rest = ts; parts = refl; early = λ h. refl; accepted = ok.1; plain = plain }
 inside (suc n) p (property e ∷ ts) le deep plain ok =
     let i = inside n p ts (omega arith) deep plain ok.1 in
-    record { entries = e ∷ i.entries; kids = i.kids; rest = i.rest; parts = ap (λ (us : List Token). property e ∷ us) i.parts; early = λ h. absurd (never (sym h ∙ ok.0.1)); accepted = i.accepted; plain = i.plain }
+    record { entries = e ∷ i.entries; children = i.children; rest = i.rest; parts = ap (λ (us : List Token). property e ∷ us) i.parts; early = λ h. absurd (never (sym h ∙ ok.0.1)); accepted = i.accepted; plain = i.plain }
   where
     never : true ≡ false → ⊥
     never q = cc
@@ -70,12 +70,12 @@ inside (suc n) p (begin_node name ∷ ts) le deep plain ok =
     let accepted : Accepts behind i.rest = subst (λ (d : ℕ). Accepts (record { depth = d; late = true }) i.rest) same i.accepted in
     let j = inside n behind i.rest (omega (arith, rest_shorter child ts i)) deep i.plain accepted in
     let no_more : j.entries ≡ [] = j.early refl in
-    let tail : i.rest ≡ tokens j.kids ++ (end_node ∷ j.rest) = j.parts ∙ ap (λ (es : List Entry). map property es ++ (tokens j.kids ++ (end_node ∷ j.rest))) no_more in
+    let tail : i.rest ≡ tokens j.children ++ (end_node ∷ j.rest) = j.parts ∙ ap (λ (es : List Entry). map property es ++ (tokens j.children ++ (end_node ∷ j.rest))) no_more in
     record {
       entries = [];
-      kids = node name i.entries i.kids j.kids;
+      children = node name i.entries i.children j.children;
       rest = j.rest;
-      parts = ap (λ (us : List Token). begin_node name ∷ us) (i.parts ∙ ap (λ (us : List Token). map property i.entries ++ (tokens i.kids ++ (end_node ∷ us))) tail ∙ regroup (map property i.entries) (tokens i.kids) (tokens j.kids) (end_node ∷ j.rest));
+      parts = ap (λ (us : List Token). begin_node name ∷ us) (i.parts ∙ ap (λ (us : List Token). map property i.entries ++ (tokens i.children ++ (end_node ∷ us))) tail ∙ regroup (map property i.entries) (tokens i.children) (tokens j.children) (end_node ∷ j.rest));
       early = λ h. refl;
       accepted = j.accepted;
       plain = j.plain;
@@ -84,13 +84,13 @@ inside (suc n) p (begin_node name ∷ ts) le deep plain ok =
     regroup : (a b c d : List Token) → a ++ (b ++ (end_node ∷ (c ++ d))) ≡ (a ++ (b ++ (end_node ∷ c))) ++ d
     regroup a b c d = ap (λ (us : List Token). a ++ us) (sym (append_assoc b (end_node ∷ c) d)) ∙ sym (append_assoc a (b ++ (end_node ∷ c)) d)
 
-nothing_behind : (ts : List Token) → NoNops ts → Accepts (record { depth = 0; late = true }) ts → ts ≡ []
-nothing_behind [] plain ok = refl
-nothing_behind (nop ∷ ts) plain ok = absurd plain
-nothing_behind (begin_node name ∷ ts) plain ok = let q : true ≡ false = ok.0.2 refl in absurd cc
-nothing_behind (property e ∷ ts) plain ok = absurd (omega (arith, ok.0.0))
-nothing_behind (end_node ∷ ts) plain ok = absurd (omega (arith, ok.0))
-nothing_behind (finish ∷ ts) plain ok = absurd ok.0
+nothing_pending : (ts : List Token) → NoNops ts → Accepts (record { depth = 0; late = true }) ts → ts ≡ []
+nothing_pending [] plain ok = refl
+nothing_pending (nop ∷ ts) plain ok = absurd plain
+nothing_pending (begin_node name ∷ ts) plain ok = let q : true ≡ false = ok.0.2 refl in absurd cc
+nothing_pending (property e ∷ ts) plain ok = absurd (omega (arith, ok.0.0))
+nothing_pending (end_node ∷ ts) plain ok = absurd (omega (arith, ok.0))
+nothing_pending (finish ∷ ts) plain ok = absurd ok.0
 
 -- tokens that stand where they may, up to END, are those of a root
 some_root : (ts : List Token) → NoNops ts → Accepts start ts → (r : Root) × (ts ≡ root_tokens r)
@@ -101,11 +101,11 @@ some_root (end_node ∷ ts) plain ok = absurd (omega (arith, ok.0))
 some_root (finish ∷ ts) plain ok = absurd ok.0
 some_root (begin_node name ∷ ts) plain ok =
     let i = inside (length ts) (record { depth = 1; late = false }) ts (omega arith) (omega arith) plain ok.1 in
-    let last : i.rest ≡ [] = nothing_behind i.rest i.plain i.accepted in
+    let last : i.rest ≡ [] = nothing_pending i.rest i.plain i.accepted in
     let no_name : name ≡ [] = nil_from_length name (eqb-true _ _ ok.0.0) in (
-      record { entries = i.entries; kids = i.kids },
-      ap (λ (us : List Token). begin_node name ∷ us) (i.parts ∙ ap (λ (us : List Token). map property i.entries ++ (tokens i.kids ++ (end_node ∷ us))) last)
-          ∙ ap (λ (n : List ℕ). begin_node n ∷ (map property i.entries ++ (tokens i.kids ++ (end_node ∷ [])))) no_name,
+      record { entries = i.entries; children = i.children },
+      ap (λ (us : List Token). begin_node name ∷ us) (i.parts ∙ ap (λ (us : List Token). map property i.entries ++ (tokens i.children ++ (end_node ∷ us))) last)
+          ∙ ap (λ (n : List ℕ). begin_node n ∷ (map property i.entries ++ (tokens i.children ++ (end_node ∷ [])))) no_name,
     )
 
 pub bytes_fit : (bytes : List ℕ) → All (λ b. b < 256) bytes → IsBytes bytes

@@ -5,8 +5,8 @@ use Rattle.std.specs.Str.{bytes_eq}
 use Rattle.std.specs.Cmp.Lexicographic.{bytes_decides}
 use Rattle.std.proofs.lemmas.List.{append-nil, length-append, length-replicate, drop_at, drop-drop}
 use Rattle.fdt_tree.specs.Devicetree.{Entry, Nodes, none, node, Token, begin_node, property, end_node, nop, finish, tokens, Root, root_tokens}
-use Rattle.fdt_tree.specs.Grammar.{StandsAt, IsTokenText, IsText, without_nops}
-use Rattle.fdt_tree.specs.Writing.{is_among, noted, names_after, strings_text, offset_in, zeros_behind, begin_text, property_text, text_after}
+use Rattle.fdt_tree.specs.Grammar.{IsStringAt, IsTokenText, IsText, without_nops}
+use Rattle.fdt_tree.specs.Writing.{is_among, noted, names_after, strings_text, offset_in, padding_after, begin_text, property_text, text_after}
 use Rattle.fdt_tree.proofs.ScanOfSpelled.{inside}
 use Rattle.fdt_tree.proofs.NameTables.{is_noted}
 
@@ -15,7 +15,7 @@ use Rattle.fdt_tree.proofs.NameTables.{is_noted}
 past : (xs ys : List ℕ) (k o : ℕ) → length xs ≡ k → drop (k + o) (xs ++ ys) ≡ drop o ys
 past xs ys k o e = sym (drop-drop o k (xs ++ ys)) ∙ ap (drop o) (drop_at xs ys k e)
 
-stands : (names more : List (List ℕ)) (name : List ℕ) → is_among name names ≡ true → StandsAt (strings_text (names ++ more)) (offset_in names name) name
+stands : (names more : List (List ℕ)) (name : List ℕ) → is_among name names ≡ true → IsStringAt (strings_text (names ++ more)) (offset_in names name) name
 stands [] more name h = absurd cc
 stands (n ∷ ns) more name h = go (bytes_eq name n) refl h (stands ns more name)
   where
@@ -24,8 +24,8 @@ stands (n ∷ ns) more name h = go (bytes_eq name n) refl h (stands ns more name
         ap (drop (length n + 1 + o)) (sym (append_assoc n (0 ∷ []) (strings_text (ns ++ more))))
         ∙ past (n ++ 0 ∷ []) (strings_text (ns ++ more)) (length n + 1) o (length-append n (0 ∷ []))
 
-    go : (b : Bool) → bytes_eq name n ≡ b → cond b true (is_among name ns) ≡ true → (is_among name ns ≡ true → StandsAt (strings_text (ns ++ more)) (offset_in ns name) name)
-        → StandsAt (n ++ (0 ∷ strings_text (ns ++ more))) (cond b 0 (length n + 1 + offset_in ns name)) name
+    go : (b : Bool) → bytes_eq name n ≡ b → cond b true (is_among name ns) ≡ true → (is_among name ns ≡ true → IsStringAt (strings_text (ns ++ more)) (offset_in ns name) name)
+        → IsStringAt (n ++ (0 ∷ strings_text (ns ++ more))) (cond b 0 (length n + 1 + offset_in ns name)) name
     go true y q later = (strings_text (ns ++ more), ap (λ (x : List ℕ). x ++ (0 ∷ strings_text (ns ++ more))) (sym ((bytes_decides name n).0 y)))
     go false y q later = let s = later q in (s.0, behind (offset_in ns name) ∙ s.1)
 
@@ -57,21 +57,21 @@ module _ (strings : List ℕ) (short : length strings < 2 ^ 32) where
       let known = noted names e.name in
       let offset = offset_in known e.name in
       let more = more_names known ts in
-      let there : StandsAt strings offset e.name = subst (λ (x : List ℕ). StandsAt x offset e.name) (sym (s ∙ ap strings_text more.1)) (stands known more.0 e.name (is_noted names e.name)) in
+      let there : IsStringAt strings offset e.name = subst (λ (x : List ℕ). IsStringAt x offset e.name) (sym (s ∙ ap strings_text more.1)) (stands known more.0 e.name (is_noted names e.name)) in
       let low : offset < 2 ^ 32 = omega (arith, short, inside offset strings e.name there.0 there.1) in
-      (offset, zeros_behind (length e.value), low, fits, length-replicate _ _, there, refl)
+      (offset, padding_after (length e.value), low, fits, length-replicate _ _, there, refl)
 
   pub text_again : (names : List (List ℕ)) (ts : List Token) → strings ≡ strings_text (names_after names ts) → length (text_after names ts) < 2 ^ 32 → IsText strings ts (text_after names ts)
   text_again names [] s fits = refl
   text_again names (begin_node n ∷ ts) s fits =
       let rest = text_after names ts in
-      (begin_text n, rest, (zeros_behind (length n + 1), length-replicate _ _, refl), text_again names ts s (omega (arith, fits, length-append (begin_text n) rest)), refl)
+      (begin_text n, rest, (padding_after (length n + 1), length-replicate _ _, refl), text_again names ts s (omega (arith, fits, length-append (begin_text n) rest)), refl)
   text_again names (property e ∷ ts) s fits =
       let known = noted names e.name in
       let rest = text_after known ts in
       let offset = offset_in known e.name in
       let whole = length-append (property_text offset e.value) rest in
-      let own = length-append e.value (zeros_behind (length e.value)) in
+      let own = length-append e.value (padding_after (length e.value)) in
       (property_text offset e.value, rest, property_again names e ts s (omega (arith, fits, whole, own)), text_again known ts s (omega (arith, fits, whole)), refl)
   text_again names (end_node ∷ ts) s fits = (to_be_bytes w32 2, text_after names ts, refl, text_again names ts s (omega (arith, fits)), refl)
   text_again names (nop ∷ ts) s fits = (to_be_bytes w32 4, text_after names ts, refl, text_again names ts s (omega (arith, fits)), refl)
@@ -94,8 +94,8 @@ no_nop_in_entries (e ∷ es) = ap (λ (x : List Token). property e ∷ x) (no_no
 
 no_nop_in_nodes : (f : Nodes) → without_nops (tokens f) ≡ tokens f
 no_nop_in_nodes none = refl
-no_nop_in_nodes (node name es kids next) =
-    rw (nops_append (tokens kids ++ (end_node ∷ tokens next)) (map property es), nops_append (end_node ∷ tokens next) (tokens kids), no_nop_in_entries es, no_nop_in_nodes kids, no_nop_in_nodes next) refl
+no_nop_in_nodes (node name es children next) =
+    rw (nops_append (tokens children ++ (end_node ∷ tokens next)) (map property es), nops_append (end_node ∷ tokens next) (tokens children), no_nop_in_entries es, no_nop_in_nodes children, no_nop_in_nodes next) refl
 
 pub no_nop_in_root : (r : Root) → without_nops (root_tokens r) ≡ root_tokens r
-no_nop_in_root r = no_nop_in_nodes (node [] r.entries r.kids none)
+no_nop_in_root r = no_nop_in_nodes (node [] r.entries r.children none)

@@ -56,7 +56,7 @@ module _ (boot : ℕ) (reserve structure strings z : List ℕ) where
   len : length (file ++ z) ≡ 40 + length reserve + length structure + length strings + length z
   len = omega (arith, length-append file z, file_len boot reserve structure strings)
 
-  fields : length (file ++ z) ≤ 2097152 → boot < 2 ^ 32 → header ≡ header_of (file ++ z)
+  fields : length (file ++ z) ≤ 2 ^ 21 → boot < 2 ^ 32 → header ≡ header_of (file ++ z)
   fields le lt =
       let short = len in
       same_header header (header_of (file ++ z))
@@ -83,7 +83,7 @@ module _ (boot : ℕ) (reserve structure strings z : List ℕ) where
       ap (λ (x : List ℕ). take (length strings) (drop (40 + length reserve + length structure) x)) shape
       ∙ middle ((head ++ reserve) ++ structure) strings z (40 + length reserve + length structure) (omega (arith, length-append (head ++ reserve) structure, length-append head reserve))
 
-  has_header : length reserve % 4 ≡ 0 → length (file ++ z) ≤ 2097152 → boot < 2 ^ 32 → HasHeader (file ++ z) header
+  has_header : length reserve % 4 ≡ 0 → length (file ++ z) ≤ 2 ^ 21 → boot < 2 ^ 32 → HasHeader (file ++ z) header
   has_header aligned le lt =
       let long = len in
       record {
@@ -118,10 +118,10 @@ root_again t whole structure strings =
       text = text_again (strings_text (names_after [] ts)) strings [] ts refl (omega (arith, structure, length-append (text_after [] ts) (to_be_bytes w32 9)));
       same = no_nop_in_root t.root;
       entries = whole.entries;
-      kids = whole.kids;
+      children = whole.children;
     }
 
-pub written_again : (t : Devicetree) (z : List ℕ) → IsWhole t → t.boot_cpu < 2 ^ 32 → length (written t ++ z) ≤ 2097152 → Spells (written t ++ z) t
+pub written_again : (t : Devicetree) (z : List ℕ) → IsWhole t → t.boot_cpu < 2 ^ 32 → length (written t ++ z) ≤ 2 ^ 21 → Spells (written t ++ z) t
 written_again t z whole boot le =
     let reserve = reservations_text t.reservations in
     let structure = structure_text t in
@@ -141,6 +141,6 @@ written_again t z whole boot le =
 
 -- the same of what a vector holds
 pub again_if_ok : {A E : Type 0} (r : Result (Vec ℕ A) E) (t : Devicetree) → IsWhole t → t.boot_cpu < 2 ^ 32 → IfOk r (λ v. v.items ≡ written t)
-    → IfOk r (λ v. (z : List ℕ) → length (v.items ++ z) ≤ 2097152 → Spells (v.items ++ z) t)
-again_if_ok (Ok v) t whole boot e = λ z. subst (λ (x : List ℕ). length (x ++ z) ≤ 2097152 → Spells (x ++ z) t) (sym e) (written_again t z whole boot)
+    → IfOk r (λ v. (z : List ℕ) → length (v.items ++ z) ≤ 2 ^ 21 → Spells (v.items ++ z) t)
+again_if_ok (Ok v) t whole boot e = λ z. subst (λ (x : List ℕ). length (x ++ z) ≤ 2 ^ 21 → Spells (x ++ z) t) (sym e) (written_again t z whole boot)
 again_if_ok (Err f) t whole boot e = e

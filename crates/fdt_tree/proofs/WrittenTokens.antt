@@ -1,5 +1,5 @@
 -- Tokens that are written one behind another.
-use Rattle.std.proofs.Common.{◌≡◌, ℕ, ◌+◌, ◌*◌, ◌<◌, ◌≤◌, Bool, true, false, cond, List, [], ◌∷◌, ◌++◌, length, get_or, take, drop, refl, sym, ap, ◌∙◌, append_assoc, append-nil, arith, subst}
+use Rattle.std.proofs.Common.{◌^◌, ◌≡◌, ℕ, ◌+◌, ◌*◌, ◌<◌, ◌≤◌, Bool, true, false, cond, List, [], ◌∷◌, ◌++◌, length, get_or, take, drop, refl, sym, ap, ◌∙◌, append_assoc, append-nil, arith, subst}
 use Rattle.std.proofs.lemmas.List.{length-append, take_more, take-append-drop, at_drop_more, take_all}
 use Rattle.fdt_tree.specs.declared.fault.FdtFault.{FdtFault}
 use Rattle.fdt_tree.proofs.Faults.{more_than}
@@ -164,14 +164,14 @@ module _ (strings : List ℕ) (node : Node) (items : List Node) (i : ℕ) (names
   child_fails n e of_node lt is h =
       let this = tokens_of_nodes strings (n ∷ []) in
       let behind = tokens_of_nodes strings (drop (i + 1) items) in
-      let kids : tokens_of_nodes strings items ++ end_node ∷ [] ≡ tokens_of_nodes strings (take i items) ++ (this ++ (behind ++ end_node ∷ [])) =
+      let children : tokens_of_nodes strings items ++ end_node ∷ [] ≡ tokens_of_nodes strings (take i items) ++ (this ++ (behind ++ end_node ∷ [])) =
       ap (λ (x : List Token). x ++ end_node ∷ []) (nodes_split strings items i n lt is)
       ∙ append_assoc (tokens_of_nodes strings (take i items)) (this ++ behind) (end_node ∷ [])
       ∙ ap (λ (x : List Token). tokens_of_nodes strings (take i items) ++ x) (append_assoc this behind (end_node ∷ [])) in
       let whole : tokens_of_nodes strings (node ∷ []) ≡ so_far ++ (this ++ (behind ++ end_node ∷ [])) =
       node_tokens strings node
       ∙ ap (λ (x : List Node). front_of strings node ++ (tokens_of_nodes strings x ++ end_node ∷ [])) (sym of_node)
-      ∙ ap (λ (x : List Token). front_of strings node ++ x) kids
+      ∙ ap (λ (x : List Token). front_of strings node ++ x) children
       ∙ sym (append_assoc (front_of strings node) (tokens_of_nodes strings (take i items)) (this ++ (behind ++ end_node ∷ []))) in
       subst (λ (ts : List Token). TooMuch e (size_of names ts)) (sym whole) (too_much_then e names so_far this (behind ++ end_node ∷ []) h)
 
@@ -200,7 +200,7 @@ file_len boot reserve structure strings = omega (arith, length-append reserve (s
 pub root_tokens_are : (c : Contents) → (branch c.strings.items c.root).name ≡ [] → tokens_of_nodes c.strings.items (c.root ∷ []) ≡ root_tokens (root_of c.strings.items c.root)
 root_tokens_are c h =
     let b = branch c.strings.items c.root in
-    ap (λ (n : List ℕ). tokens (node n b.entries b.kids (joined []))) h
+    ap (λ (n : List ℕ). tokens (node n b.entries b.children (joined []))) h
 
 pub size_within : (c : Contents) → (branch c.strings.items c.root).name ≡ [] → size_of [] (tokens_of_nodes c.strings.items (c.root ∷ [])) ≤ length (written (tree_in c))
 size_within c h =
@@ -238,7 +238,7 @@ assembled_is l boot reserve structure strings o v w x y z h e p q r s t =
     ∙ ap (λ (n : ℕ). places_text (length reserve) n l.strings ++ versions_text n l.strings boot) h.structure_is
     ∙ ap (λ (n : ℕ). places_text (length reserve) (length structure) n ++ versions_text (length structure) n boot) h.strings_is)
 
-pub assembled_within : (l : Lengths) (boot : ℕ) (reserve structure strings z : List ℕ) → AreLengths l (length reserve) (length structure) (length strings) → z ≡ file_text boot reserve structure strings → length z ≤ 2097152
+pub assembled_within : (l : Lengths) (boot : ℕ) (reserve structure strings z : List ℕ) → AreLengths l (length reserve) (length structure) (length strings) → z ≡ file_text boot reserve structure strings → length z ≤ 2 ^ 21
 assembled_within l boot reserve structure strings z h e = omega (arith, ap length e, file_len boot reserve structure strings, h.fits)
 
 pub file_too_long : (boot : ℕ) (reserve structure strings : List ℕ) (e : FdtFault) → TooMuch e (40 + length reserve + length structure + length strings) → TooMuch e (length (file_text boot reserve structure strings))

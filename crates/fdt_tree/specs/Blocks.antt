@@ -1,6 +1,6 @@
 -- The header of a flattened devicetree and where its blocks stand: Devicetree Specification 0.4,
 -- sections 5.2 and 5.6. Each number is big endian.
-use Rattle.std.specs.Prelude.{◌≡◌, ℕ, ◌+◌, ◌%◌, ◌≤◌, List, length, take, drop, Bool, Result, Ok, Err, nat_lt, nat_le, ◌==◌, ◌&&◌, if◌then◌else◌}
+use Rattle.std.specs.Prelude.{◌^◌, ◌≡◌, ℕ, ◌+◌, ◌%◌, ◌≤◌, List, length, take, drop, Bool, Result, Ok, Err, nat_lt, nat_le, ◌==◌, ◌&&◌, if◌then◌else◌}
 use Rattle.std.specs.Int.{w32, from_be_bytes}
 use Rattle.fdt_tree.specs.declared.fault.FdtFault.{FdtFault}
 use Rattle.fdt_tree.specs.declared.fault.FdtFault.TheVariants.{Short, BadMagic, BadVersion, TooLarge, BadBlock}
@@ -42,7 +42,7 @@ pub record HasHeader (bytes : List ℕ) (h : Header) : Type 0 where
   pub magic : word_at 0 bytes ≡ 0xd00dfeed
   pub version : h.version ≡ 17
   pub compatible : h.last_comp_version ≤ 17
-  pub small : length bytes ≤ 2097152
+  pub small : length bytes ≤ 2 ^ 21
   pub blocks : BlocksFit h (length bytes)
 
 -- the blocks
@@ -73,7 +73,7 @@ header_at bytes =
     if nat_lt (length bytes) 40 then Err Short
     else (if word_at 0 bytes == 0xd00dfeed then
     (if is_known_version (header_of bytes) then
-    (if nat_lt 2097152 (length bytes) then Err TooLarge
+    (if nat_lt (2 ^ 21) (length bytes) then Err TooLarge
     else (if blocks_fit (header_of bytes) (length bytes) then Ok (header_of bytes) else Err BadBlock))
     else Err BadVersion)
     else Err BadMagic)

@@ -17,24 +17,24 @@ pub data Nodes : Type 0 where
 pub record Branch : Type 0 where
   pub name : List ℕ
   pub entries : List Entry
-  pub kids : Nodes
+  pub children : Nodes
 
 -- a node with nothing in it
 abbrev pub bare : List ℕ → Branch
-bare name = record { name = name; entries = []; kids = none }
+bare name = record { name = name; entries = []; children = none }
 
 -- nodes that stand beside one another
 abbrev pub joined : List Branch → Nodes
 joined [] = none
-joined (b ∷ bs) = node b.name b.entries b.kids (joined bs)
+joined (b ∷ bs) = node b.name b.entries b.children (joined bs)
 
 -- the root, whose name is empty
 pub record Root : Type 0 where
   pub entries : List Entry
-  pub kids : Nodes
+  pub children : Nodes
 
 abbrev pub branch_of_root : Root → Branch
-branch_of_root r = record { name = []; entries = r.entries; kids = r.kids }
+branch_of_root r = record { name = []; entries = r.entries; children = r.children }
 
 -- what a flattened devicetree says
 pub record Devicetree : Type 0 where
@@ -53,8 +53,8 @@ pub data Token : Type 0 where
 -- the tokens of nodes, without any NOP: a node's properties come before its children
 abbrev pub tokens : Nodes → List Token
 tokens none = []
-tokens (node name entries kids next) =
-    begin_node name ∷ (map property entries ++ (tokens kids ++ (end_node ∷ tokens next)))
+tokens (node name entries children next) =
+    begin_node name ∷ (map property entries ++ (tokens children ++ (end_node ∷ tokens next)))
 
 abbrev pub root_tokens : Root → List Token
-root_tokens r = tokens (node [] r.entries r.kids none)
+root_tokens r = tokens (node [] r.entries r.children none)

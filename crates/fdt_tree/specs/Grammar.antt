@@ -10,8 +10,8 @@ abbrev pub IsPadding : ℕ → List ℕ → Type 0
 IsPadding n pad = length pad ≡ (4 - n % 4) % 4
 
 -- the name stands at this offset within the strings, with a zero byte behind it
-abbrev pub StandsAt : List ℕ → ℕ → List ℕ → Type 0
-StandsAt strings offset name = (others : List ℕ) × (drop offset strings ≡ name ++ (0 ∷ others))
+abbrev pub IsStringAt : List ℕ → ℕ → List ℕ → Type 0
+IsStringAt strings offset name = (others : List ℕ) × (drop offset strings ≡ name ++ (0 ∷ others))
 
 -- The bytes are this token, with these strings (5.4.1).
 abbrev pub IsTokenText : List ℕ → Token → List ℕ → Type 0
@@ -19,7 +19,7 @@ IsTokenText strings (begin_node name) text =
     (pad : List ℕ) × IsPadding (length name + 1) pad × (text ≡ to_be_bytes w32 1 ++ (name ++ (0 ∷ pad)))
 IsTokenText strings (property e) text =
     (offset : ℕ) × (pad : List ℕ) × (offset < 2 ^ 32) × (length e.value < 2 ^ 32)
-    × IsPadding (length e.value) pad × StandsAt strings offset e.name
+    × IsPadding (length e.value) pad × IsStringAt strings offset e.name
     × (text ≡ to_be_bytes w32 3 ++ (to_be_bytes w32 (length e.value) ++ (to_be_bytes w32 offset ++ (e.value ++ pad))))
 IsTokenText strings end_node text = text ≡ to_be_bytes w32 2
 IsTokenText strings nop text = text ≡ to_be_bytes w32 4
@@ -49,4 +49,4 @@ pub record SpellsRoot (strings block : List ℕ) (r : Root) : Type 0 where
   pub text : IsText strings all front
   pub same : without_nops all ≡ root_tokens r
   pub entries : AreLegal r.entries
-  pub kids : IsLegal 1 r.kids
+  pub children : IsLegal 1 r.children

@@ -24,13 +24,13 @@ names_on (c ∷ (d ∷ cs)) = if c == 47 then Some (between_slashes (d ∷ cs)) 
 -- the first node of this name
 abbrev pub first_named : List ℕ → Nodes → Option Branch
 first_named name none = None
-first_named name (node n entries kids next) =
-    if bytes_eq n name then Some (record { name = n; entries = entries; kids = kids }) else first_named name next
+first_named name (node n entries children next) =
+    if bytes_eq n name then Some (record { name = n; entries = entries; children = children }) else first_named name next
 
 -- the node that the names lead to
 abbrev pub node_below : List (List ℕ) → Branch → Option Branch
 node_below [] b = Some b
-node_below (name ∷ names) b = option_and_then (node_below names) (first_named name b.kids)
+node_below (name ∷ names) b = option_and_then (node_below names) (first_named name b.children)
 
 -- the value of the first property of this name
 abbrev pub first_value : List ℕ → List Entry → Option (List ℕ)

@@ -51,7 +51,7 @@ new_memory base reg = reg_put reg (value_put (codes "device_type") (codes "memor
 
 -- the root with this memory
 abbrev pub memory_put : ℕ → List ℕ → Branch → Branch
-memory_put base reg b = record b { kids = first_such names_memory (reg_put reg) (new_memory base reg) b.kids }
+memory_put base reg b = record b { children = first_such names_memory (reg_put reg) (new_memory base reg) b.children }
 
 -- the tree with this memory, or the refusal
 unfoldable pub set_memory_at : ℕ → ℕ → Devicetree → Result Devicetree FdtFault

@@ -4,16 +4,16 @@
 use Rattle.std.specs.Prelude.{ℕ, ◌+◌, ◌<◌, List, [], ◌∷◌, length, Bool, true, false, nat_lt, ◌==◌, ◌&&◌, not, cond, IsTrue}
 use Rattle.fdt_tree.specs.Devicetree.{Entry, Nodes, none, node}
 
-abbrev pub letter : ℕ → Bool
-letter c = nat_lt 32 c && nat_lt c 127 && not (c == 47)
+abbrev pub is_name_character : ℕ → Bool
+is_name_character c = nat_lt 32 c && nat_lt c 127 && not (c == 47)
 
-abbrev pub all_letters : List ℕ → Bool
-all_letters [] = true
-all_letters (c ∷ cs) = cond (letter c) (all_letters cs) false
+abbrev pub all_name_characters : List ℕ → Bool
+all_name_characters [] = true
+all_name_characters (c ∷ cs) = cond (is_name_character c) (all_name_characters cs) false
 
 -- a name of a property, or of a node other than the root
 abbrev pub legal : List ℕ → Bool
-legal name = nat_lt 0 (length name) && all_letters name
+legal name = nat_lt 0 (length name) && all_name_characters name
 
 abbrev pub AreLegal : List Entry → Type 0
 AreLegal [] = Unit {0}
@@ -22,5 +22,5 @@ AreLegal (e ∷ es) = IsTrue (legal e.name) × AreLegal es
 -- Names are legal, and nodes at most 64 deep, below so many open nodes. The root is 1 deep.
 abbrev pub IsLegal : ℕ → Nodes → Type 0
 IsLegal depth none = Unit {0}
-IsLegal depth (node name entries kids next) =
-    (depth < 64) × IsTrue (legal name) × AreLegal entries × IsLegal (depth + 1) kids × IsLegal depth next
+IsLegal depth (node name entries children next) =
+    (depth < 64) × IsTrue (legal name) × AreLegal entries × IsLegal (depth + 1) children × IsLegal depth next

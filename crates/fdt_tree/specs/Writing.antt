@@ -1,6 +1,6 @@
 -- The bytes that are written: Devicetree Specification 0.4, chapter 5. The order of the blocks and of the
 -- names is this project's choice.
-use Rattle.std.specs.Prelude.{ℕ, ◌+◌, ◌-◌, ◌%◌, List, [], ◌∷◌, ◌++◌, length, Bool, true, false, Result, Ok, Err, nat_lt, replicate, if◌then◌else◌}
+use Rattle.std.specs.Prelude.{◌^◌, ℕ, ◌+◌, ◌-◌, ◌%◌, List, [], ◌∷◌, ◌++◌, length, Bool, true, false, Result, Ok, Err, nat_lt, replicate, if◌then◌else◌}
 use Rattle.std.specs.Int.{w32, to_be_bytes}
 use Rattle.std.specs.Str.{bytes_eq}
 use Rattle.fdt_tree.specs.declared.fault.FdtFault.{FdtFault}
@@ -39,15 +39,15 @@ offset_in (n ∷ names) name = if bytes_eq name n then 0 else length n + 1 + off
 
 -- ---- the structure block
 
-abbrev pub zeros_behind : ℕ → List ℕ
-zeros_behind n = replicate ((4 - n % 4) % 4) 0
+abbrev pub padding_after : ℕ → List ℕ
+padding_after n = replicate ((4 - n % 4) % 4) 0
 
 abbrev pub begin_text : List ℕ → List ℕ
-begin_text name = to_be_bytes w32 1 ++ (name ++ (0 ∷ zeros_behind (length name + 1)))
+begin_text name = to_be_bytes w32 1 ++ (name ++ (0 ∷ padding_after (length name + 1)))
 
 abbrev pub property_text : ℕ → List ℕ → List ℕ
 property_text offset value =
-    to_be_bytes w32 3 ++ (to_be_bytes w32 (length value) ++ (to_be_bytes w32 offset ++ (value ++ zeros_behind (length value))))
+    to_be_bytes w32 3 ++ (to_be_bytes w32 (length value) ++ (to_be_bytes w32 offset ++ (value ++ padding_after (length value))))
 
 -- the tokens, where these names were used before
 abbrev pub text_after : List (List ℕ) → List Token → List ℕ
@@ -95,4 +95,4 @@ written t =
 -- what is written of a tree, unless it is more than a file may have (Linux, booting.rst, "Setup the device
 -- tree": 2 MiB)
 abbrev pub file_of : Devicetree → Result (List ℕ) FdtFault
-file_of t = if nat_lt 2097152 (length (written t)) then Err TooLarge else Ok (written t)
+file_of t = if nat_lt (2 ^ 21) (length (written t)) then Err TooLarge else Ok (written t)

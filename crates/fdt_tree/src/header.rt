@@ -7,15 +7,18 @@ ghost use Rattle.fdt_tree.specs.Blocks.{BlocksFit, word_at, header_of, blocks_fi
 use crate::fault::FdtFault;
 
 /// How many bytes a header has.
-const HEADER_LEN: usize = 40;
+pub const HEADER_LEN: usize = 40;
 
 /// How many bytes a file may have.
-pub const MAX_LEN: usize = 2_097_152;
+pub const MAX_LEN: usize = 1 << 21;
 
 pub const MAGIC: u32 = 0xd00d_feed;
 
 /// The version that is read.
 pub const VERSION: u32 = 17;
+
+/// The version that a written file is compatible with.
+pub const LAST_COMP_VERSION: u32 = 16;
 
 /// The fields of a header behind the magic number, by the specification's names. Offsets and sizes are
 /// in bytes.

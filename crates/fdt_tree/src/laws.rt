@@ -40,5 +40,5 @@ pub fn first_fault()
 /// file may be. Each tree in memory is whole, and [`Tree::write`](crate::Tree::write) says the same of it.
 pub fn written_is_spelled()
     ensures { (t : Devicetree) (z : List ℕ) → IsWhole t → t.boot_cpu < 2 ^ 32
-        → length (written t ++ z) ≤ 2097152 → Spells (written t ++ z) t }
+        → length (written t ++ z) ≤ 2 ^ 21 → Spells (written t ++ z) t }
 {}

@@ -17,7 +17,7 @@ pub fn slash_in(path: &[u8]) -> Option<usize>
 /// The first child of this name.
 fn child<'a>(node: &'a Node, name: &[u8]) -> Option<&'a Node>
     ensures { (strings : List ℕ) → option_map (λ n. branch strings n.now) result
-        ≡ first_named name.now (branch strings node.entry.now).kids }
+        ≡ first_named name.now (branch strings node.entry.now).children }
 {
     for child in &node.children {
         if child.name.as_slice() == name {

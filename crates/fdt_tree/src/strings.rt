@@ -1,8 +1,8 @@
 //! The strings block, and the names in it.
 
 ghost use Rattle.std.specs.Prelude.{◌≡◌, length, take, drop, IfOk};
-ghost use Rattle.fdt_tree.specs.Names.{letter};
-ghost use Rattle.fdt_tree.specs.inside.LetterRuns.{letter_run, letter_runs, zero_end};
+ghost use Rattle.fdt_tree.specs.Names.{is_name_character};
+ghost use Rattle.fdt_tree.specs.inside.NameRuns.{name_run, name_runs, zero_end};
 ghost use Rattle.fdt_tree.specs.Scanning.{name_at};
 ghost use Rattle.refusal.specs.Answer.{Matches};
 
@@ -18,25 +18,29 @@ pub struct Strings {
     runs: Vec<usize>,
     // the last zero byte stands in front of this place; behind it no name begins
     end: usize,
-    ghost runs_known: { runs.items ≡ letter_runs bytes.items },
+    ghost runs_known: { runs.items ≡ name_runs bytes.items },
     ghost end_known: { end ≡ zero_end bytes.items },
 }
 
 /// Whether a byte may stand in a name.
-pub fn is_letter(byte: u8) -> bool
-    ensures { result ≡ letter byte }
+pub fn is_name_character(byte: u8) -> bool
+    ensures { result ≡ is_name_character byte }
 {
     byte > 32 && byte < 127 && byte != b'/'
 }
 
 fn runs_of(alloc: Global, bytes: &[u8]) -> Result<Vec<usize>, AllocError>
-    ensures { IfOk result (λ v. v.items ≡ letter_runs bytes.now) }
+    ensures { IfOk result (λ v. v.items ≡ name_runs bytes.now) }
 {
     let mut runs = vec![in alloc; 0; bytes.len()]?;
     let mut run = 0;
     for done in 0..bytes.len() {
         let at = bytes.len() - 1 - done;
-        run = if is_letter(bytes[at]) { run + 1 } else { 0 };
+        run = if is_name_character(bytes[at]) {
+            run + 1
+        } else {
+            0
+        };
         runs[at] = run;
     }
     Ok(runs)

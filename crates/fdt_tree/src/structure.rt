@@ -4,12 +4,12 @@ ghost use Rattle.std.specs.Prelude.{◌≡◌, ◌++◌, ◌∷◌, [], ℕ, Lis
 ghost use Rattle.fdt_tree.specs.Devicetree.{begin_node, root_tokens, bare};
 ghost use Rattle.fdt_tree.specs.NodeViews.{branch, entry_of, root_of};
 ghost use Rattle.refusal.specs.Answer.{Answers, with_front};
-ghost use Rattle.fdt_tree.specs.inside.LexemeViews.{token_of_lexeme, FitsPlace};
+ghost use Rattle.fdt_tree.specs.inside.TokenViews.{as_token, FitsPlace};
 ghost use Rattle.fdt_tree.specs.Scanning.{structure_at, start, after};
-ghost use Rattle.fdt_tree.specs.inside.OpenNodes.{so_far, place_of, added, with_entry, with_kid};
+ghost use Rattle.fdt_tree.specs.inside.OpenNodes.{so_far, place_of, added, with_entry, with_child};
 
 use crate::fault::FdtFault;
-use crate::lexing::{Lexeme, token_of};
+use crate::lexing::{Token, token_of};
 use crate::node::{Name, Node, Property};
 use crate::place::Place;
 use crate::strings::Strings;
@@ -55,7 +55,7 @@ fn with_property(node: Node, property: Property) -> Result<Node, AllocError>
 /// The node with a child behind its other children.
 fn with_child(node: Node, child: Node) -> Result<Node, AllocError>
     ensures { IfOk result (λ n. (strings : List ℕ) → branch strings n
-        ≡ with_kid (branch strings node) (branch strings child)) }
+        ≡ with_child (branch strings node) (branch strings child)) }
 {
     let Node {
         name,
@@ -85,16 +85,16 @@ fn no_node_open(alloc: Global) -> OpenNodes
 }
 
 /// The open nodes behind one more token.
-fn take(alloc: Global, nodes: OpenNodes, lexeme: Lexeme) -> Result<OpenNodes, AllocError>
-    requires { (strings : List ℕ) → FitsPlace (place_of strings nodes) lexeme }
+fn take(alloc: Global, nodes: OpenNodes, token: Token) -> Result<OpenNodes, AllocError>
+    requires { (strings : List ℕ) → FitsPlace (place_of strings nodes) token }
     ensures tokens { IfOk result (λ p. (strings : List ℕ) → so_far strings p
-        ≡ so_far strings nodes ++ added (token_of_lexeme strings lexeme.entry)) }
+        ≡ so_far strings nodes ++ added (as_token strings token.entry)) }
     ensures place { IfOk result (λ p. (strings : List ℕ) → place_of strings p
-        ≡ after (place_of strings nodes) (token_of_lexeme strings lexeme.entry)) }
+        ≡ after (place_of strings nodes) (as_token strings token.entry)) }
 {
     let OpenNodes { mut outer, current } = nodes;
-    match lexeme {
-        Lexeme::Begin(name) => {
+    match token {
+        Token::Begin(name) => {
             let node = new_node(alloc, name)?;
             outer.push(current)?;
             Ok(OpenNodes {
@@ -102,7 +102,7 @@ fn take(alloc: Global, nodes: OpenNodes, lexeme: Lexeme) -> Result<OpenNodes, Al
                 current: node,
             })
         }
-        Lexeme::Property { start, len, value } => {
+        Token::Property { start, len, value } => {
             let property = Property {
                 name: Name::Shared { start, len },
                 value: Vec::from_slice(alloc, value)?,
@@ -110,14 +110,14 @@ fn take(alloc: Global, nodes: OpenNodes, lexeme: Lexeme) -> Result<OpenNodes, Al
             let current = with_property(current, property)?;
             Ok(OpenNodes { outer, current })
         }
-        Lexeme::EndNode => match outer.pop() {
+        Token::EndNode => match outer.pop() {
             None => Ok(OpenNodes { outer, current }),
             Some(parent) => {
                 let current = with_child(parent, current)?;
                 Ok(OpenNodes { outer, current })
             }
         },
-        Lexeme::Nop | Lexeme::Finish => Ok(OpenNodes { outer, current }),
+        Token::Nop | Token::Finish => Ok(OpenNodes { outer, current }),
     }
 }
 
@@ -141,11 +141,11 @@ fn run(alloc: Global, strings: &Strings, block: &[u8]) -> Result<OpenNodes, FdtF
     let mut rest = block;
     for _ in 0..block.len() {
         let place = place_in(&nodes);
-        let (lexeme, after) = token_of(strings, place, rest)?;
-        if let Lexeme::Finish = lexeme {
+        let (token, after) = token_of(strings, place, rest)?;
+        if let Token::Finish = token {
             return Ok(nodes);
         }
-        nodes = take(alloc, nodes, lexeme)?;
+        nodes = take(alloc, nodes, token)?;
         rest = after;
     }
     Err(FdtFault::BadToken)

@@ -1,10 +1,10 @@
 //! A devicetree in memory.
 
-ghost use Rattle.std.specs.Prelude.{◌≡◌, []};
+ghost use Rattle.std.specs.Prelude.{◌^◌, ◌≡◌, []};
 ghost use Rattle.fdt_tree.specs.NodeViews.{branch};
 ghost use Rattle.fdt_tree.specs.Wholeness.{IsWhole, IsWhole-prop, tree_in};
 
-use crate::edits::{check_names, put_below, way_of};
+use crate::edits::{check_names, names_on, put_below};
 use crate::fault::FdtFault;
 use crate::lookup::{node_at, value_of};
 use crate::memory::{put_memory, reg_of};
@@ -115,10 +115,10 @@ impl Tree {
         ensures { Applies FdtFault.NoMemory (devicetree_of self.old) (devicetree_of self.new) result
             (set_at path.now name.now value.now (devicetree_of self.old)) }
     {
-        let way = way_of(path)?;
-        check_names(way, name)?;
+        let names = names_on(path)?;
+        check_names(names, name)?;
         let Contents { strings, root, .. } = &mut self.contents;
-        put_below(alloc, strings, root, way, name, value)?;
+        put_below(alloc, strings, root, names, name, value)?;
         Ok(())
     }
 
@@ -149,9 +149,9 @@ impl Tree {
     pub fn write(&self, alloc: Global) -> Result<Vec<u8>, FdtFault>
         ensures exact { Answers FdtFault.NoMemory (λ v. v.items) result (file_of (devicetree_of self.now)) }
         // The bytes spell this tree again, whatever follows them.
-        ensures again { IfOk result (λ v. (z : List ℕ) → length (v.items ++ z) ≤ 2097152
+        ensures again { IfOk result (λ v. (z : List ℕ) → length (v.items ++ z) ≤ 2 ^ 21
             → Spells (v.items ++ z) (devicetree_of self.now)) }
-        ensures within { IfOk result (λ v. length v.items ≤ 2097152) }
+        ensures within { IfOk result (λ v. length v.items ≤ 2 ^ 21) }
     {
         written(alloc, &self.contents)
     }

@@ -17,7 +17,7 @@ child_text path b = node_line (path_below path b.name) ++ inner_text (path_below
 first_text : (path : List ℕ) (b : Branch) (bs : List Branch) → nodes_text path (joined (b ∷ bs)) ≡ child_text path b ++ nodes_text path (joined bs)
 unfolding nodes_text
 first_text path b bs =
-    ap (λ t. t ++ nodes_text path (joined bs)) (append_assoc (node_line (path_below path b.name)) (flat_map property_line b.entries) (nodes_text (path_below path b.name) b.kids))
+    ap (λ t. t ++ nodes_text path (joined bs)) (append_assoc (node_line (path_below path b.name)) (flat_map property_line b.entries) (nodes_text (path_below path b.name) b.children))
 
 no_text : (path : List ℕ) → nodes_text path none ≡ []
 unfolding nodes_text

@@ -9,6 +9,6 @@ names_in None = []
 names_in (Some names) = between_slashes names.now
 
 -- no longer than this is the way that is left
-abbrev pub way_len : Option (Bor (List ℕ)) → ℕ
-way_len None = 0
-way_len (Some names) = length names.now + 1
+abbrev pub names_len : Option (Bor (List ℕ)) → ℕ
+names_len None = 0
+names_len (Some names) = length names.now + 1

@@ -1,5 +1,5 @@
 -- What the table of names is, and when bytes are too many.
-use Rattle.std.specs.Prelude.{◌≡◌, ◌⊎◌, ℕ, ◌<◌, List, take, drop, Option, Some, None, if◌then◌else◌}
+use Rattle.std.specs.Prelude.{◌^◌, ◌≡◌, ◌⊎◌, ℕ, ◌<◌, List, take, drop, Option, Some, None, if◌then◌else◌}
 use Rattle.std.specs.Ordering.{nat_cmp}
 use Rattle.std.specs.Cmp.Lexicographic.{slice_cmp}
 use Rattle.std.specs.BTreeMap.{get_by}
@@ -22,4 +22,4 @@ pub record HasNames (source : List ℕ) (t : NameTable) (names : List (List ℕ)
 
 -- it is too many bytes, or memory was refused
 abbrev pub TooMuch : FdtFault → ℕ → Type 0
-TooMuch e n = (e ≡ NoMemory) ⊎ ((e ≡ TooLarge) × (2097152 < n))
+TooMuch e n = (e ≡ NoMemory) ⊎ ((e ≡ TooLarge) × (2 ^ 21 < n))

@@ -11,20 +11,20 @@ with_entry b e = record b { entries = b.entries ++ e ∷ [] }
 
 -- nodes and one more behind them
 abbrev pub followed : Nodes → Branch → Nodes
-followed none b = node b.name b.entries b.kids none
-followed (node name entries kids next) b = node name entries kids (followed next b)
+followed none b = node b.name b.entries b.children none
+followed (node name entries children next) b = node name entries children (followed next b)
 
 -- a node with one more child
-abbrev pub with_kid : Branch → Branch → Branch
-with_kid b kid = record b { kids = followed b.kids kid }
+abbrev pub with_child : Branch → Branch → Branch
+with_child b child = record b { children = followed b.children child }
 
 abbrev pub has_any : Nodes → Bool
 has_any none = false
-has_any (node name entries kids next) = true
+has_any (node name entries children next) = true
 
 -- the tokens of a node up to its last child
 abbrev pub opened : Branch → List Token
-opened b = begin_node b.name ∷ (map property b.entries ++ tokens b.kids)
+opened b = begin_node b.name ∷ (map property b.entries ++ tokens b.children)
 
 abbrev pub all_opened : List Branch → List Token
 all_opened [] = []
@@ -35,7 +35,7 @@ abbrev pub so_far : List ℕ → OpenNodes → List Token
 so_far strings p = all_opened (branches strings p.outer.items) ++ opened (branch strings p.current)
 
 abbrev pub place_of : List ℕ → OpenNodes → Place
-place_of strings p = record { depth = length p.outer.items; late = has_any (branch strings p.current).kids }
+place_of strings p = record { depth = length p.outer.items; late = has_any (branch strings p.current).children }
 
 -- what a token adds
 abbrev pub added : Token → List Token

@@ -1,5 +1,5 @@
 -- What is written of a tree so far.
-use Rattle.std.specs.Prelude.{◌≡◌, ℕ, ◌+◌, ◌≤◌, List, ◌++◌, length, map}
+use Rattle.std.specs.Prelude.{◌^◌, ◌≡◌, ℕ, ◌+◌, ◌≤◌, List, ◌++◌, length, map}
 use Rattle.fdt_tree.specs.declared.node.Property.{Property}
 use Rattle.fdt_tree.specs.declared.node.Node.{Node}
 use Rattle.fdt_tree.specs.declared.writing.Output.{Output}
@@ -30,4 +30,4 @@ pub record AreLengths (l : Lengths) (reserve structure strings : ℕ) : Type 0 w
   pub reserve_is : l.reserve ≡ reserve
   pub structure_is : l.structure ≡ structure
   pub strings_is : l.strings ≡ strings
-  pub fits : 40 + reserve + structure + strings ≤ 2097152
+  pub fits : 40 + reserve + structure + strings ≤ 2 ^ 21

@@ -28,4 +28,4 @@ returns c = λ strings.
     sym (at_drop_all (λ (ns : List Node). first_named c.args.name.now (joined (branches strings ns))) items c.loop-child.child-index c.loop-child-test.false)
     ∙ c.loop-child.invariant strings
     ∙ ap (λ (ns : List Node). first_named c.args.name.now (joined (branches strings ns))) c.deref-child-items.ensures.value
-    ∙ ap (λ (x : Branch). first_named c.args.name.now x.kids) (sym (branch_out strings c.args.node.now))
+    ∙ ap (λ (x : Branch). first_named c.args.name.now x.children) (sym (branch_out strings c.args.node.now))

@@ -1,20 +1,20 @@
 -- What the tokens in the program are, given the strings.
 use Rattle.std.specs.Prelude.{◌≡◌, ℕ, ◌<◌, List, take, drop, false}
-use Rattle.fdt_tree.specs.declared.lexing.Lexeme.{Lexeme}
-use Rattle.fdt_tree.specs.declared.lexing.Lexeme.TheVariants.{Begin, Property, EndNode, Nop, Finish}
+use Rattle.fdt_tree.specs.declared.lexing.Token.{Token as Read}
+use Rattle.fdt_tree.specs.declared.lexing.Token.TheVariants.{Begin, Property, EndNode, Nop, Finish}
 use Rattle.fdt_tree.specs.declared.place.Place.{Place}
 use Rattle.fdt_tree.specs.Devicetree.{Token, begin_node, property, end_node, nop, finish}
 
-abbrev pub token_of_lexeme : List ℕ → Lexeme → Token
-token_of_lexeme strings (Begin name) = begin_node name.now
-token_of_lexeme strings (Property start len value) =
+abbrev pub as_token : List ℕ → Read → Token
+as_token strings (Begin name) = begin_node name.now
+as_token strings (Property start len value) =
     property (record { name = take len (drop start strings); value = value.now })
-token_of_lexeme strings EndNode = end_node
-token_of_lexeme strings Nop = nop
-token_of_lexeme strings Finish = finish
+as_token strings EndNode = end_node
+as_token strings Nop = nop
+as_token strings Finish = finish
 
 -- a node ends where one is open, and a property stands before the children
-abbrev pub FitsPlace : Place → Lexeme → Type 0
+abbrev pub FitsPlace : Place → Read → Type 0
 FitsPlace p (Begin name) = Unit {0}
 FitsPlace p (Property start len value) = p.late ≡ false
 FitsPlace p EndNode = 0 < p.depth
