@@ -5,7 +5,7 @@ use Rattle.fdt_tree.specs.declared.fault.FdtFault.{FdtFault}
 use Rattle.fdt_tree.specs.Devicetree.{Devicetree, Entry, Nodes, none, node, Token, begin_node, property, end_node, tokens, Root, root_tokens}
 use Rattle.refusal.specs.Answer.{◌>>=◌}
 use Rattle.fdt_tree.specs.Reading.{Spells, Parts, parts_of, parts_at}
-use Rattle.fdt_tree.specs.TreeAt.{Pending, nothing_pending, with_token, pending_of, root_at, tree_of, tree_at}
+use Rattle.fdt_tree.specs.TreeAt.{Pending, empty_pending, with_token, pending_of, root_at, tree_of, tree_at}
 use Rattle.fdt_tree.proofs.SpellingOfScan.{IsBytes}
 use Rattle.fdt_tree.proofs.UnrefusedIsSpelled.{found_spelled}
 use Rattle.fdt_tree.proofs.ReadIsSpelled.{spelled_reads, reads_spelled}
@@ -19,7 +19,7 @@ behind_entries (x ∷ es) ts b around e none_yet = ap (with_token (property x)) 
 behind_nodes : (f : Nodes) (ts : List Token) (es : List Entry) (around : List Pending) → pending_of ts ≡ record { entries = es; children = none } ∷ around → pending_of (tokens f ++ ts) ≡ record { entries = es; children = f } ∷ around
 behind_nodes none ts es around e = e
 behind_nodes (node name entries children next) ts es around e =
-    let after : pending_of (end_node ∷ (tokens next ++ ts)) ≡ nothing_pending ∷ record { entries = es; children = next } ∷ around = ap (with_token end_node) (behind_nodes next ts es around e) in
+    let after : pending_of (end_node ∷ (tokens next ++ ts)) ≡ empty_pending ∷ record { entries = es; children = next } ∷ around = ap (with_token end_node) (behind_nodes next ts es around e) in
     let inner : pending_of (tokens children ++ (end_node ∷ (tokens next ++ ts))) ≡ record { entries = []; children = children } ∷ record { entries = es; children = next } ∷ around = behind_nodes children (end_node ∷ (tokens next ++ ts)) [] _ after in
     let whole = behind_entries entries (tokens children ++ (end_node ∷ (tokens next ++ ts))) (record { entries = []; children = children }) _ inner refl in
     ap pending_of (regroup name (map property entries) (tokens children) (tokens next) ts) ∙ ap (with_token (begin_node name)) whole

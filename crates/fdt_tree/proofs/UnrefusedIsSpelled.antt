@@ -84,13 +84,13 @@ inside (suc n) p (begin_node name ∷ ts) le deep plain ok =
     regroup : (a b c d : List Token) → a ++ (b ++ (end_node ∷ (c ++ d))) ≡ (a ++ (b ++ (end_node ∷ c))) ++ d
     regroup a b c d = ap (λ (us : List Token). a ++ us) (sym (append_assoc b (end_node ∷ c) d)) ∙ sym (append_assoc a (b ++ (end_node ∷ c)) d)
 
-nothing_pending : (ts : List Token) → NoNops ts → Accepts (record { depth = 0; late = true }) ts → ts ≡ []
-nothing_pending [] plain ok = refl
-nothing_pending (nop ∷ ts) plain ok = absurd plain
-nothing_pending (begin_node name ∷ ts) plain ok = let q : true ≡ false = ok.0.2 refl in absurd cc
-nothing_pending (property e ∷ ts) plain ok = absurd (omega (arith, ok.0.0))
-nothing_pending (end_node ∷ ts) plain ok = absurd (omega (arith, ok.0))
-nothing_pending (finish ∷ ts) plain ok = absurd ok.0
+empty_pending : (ts : List Token) → NoNops ts → Accepts (record { depth = 0; late = true }) ts → ts ≡ []
+empty_pending [] plain ok = refl
+empty_pending (nop ∷ ts) plain ok = absurd plain
+empty_pending (begin_node name ∷ ts) plain ok = let q : true ≡ false = ok.0.2 refl in absurd cc
+empty_pending (property e ∷ ts) plain ok = absurd (omega (arith, ok.0.0))
+empty_pending (end_node ∷ ts) plain ok = absurd (omega (arith, ok.0))
+empty_pending (finish ∷ ts) plain ok = absurd ok.0
 
 -- tokens that stand where they may, up to END, are those of a root
 some_root : (ts : List Token) → NoNops ts → Accepts start ts → (r : Root) × (ts ≡ root_tokens r)
@@ -101,7 +101,7 @@ some_root (end_node ∷ ts) plain ok = absurd (omega (arith, ok.0))
 some_root (finish ∷ ts) plain ok = absurd ok.0
 some_root (begin_node name ∷ ts) plain ok =
     let i = inside (length ts) (record { depth = 1; late = false }) ts (omega arith) (omega arith) plain ok.1 in
-    let last : i.rest ≡ [] = nothing_pending i.rest i.plain i.accepted in
+    let last : i.rest ≡ [] = empty_pending i.rest i.plain i.accepted in
     let no_name : name ≡ [] = nil_from_length name (eqb-true _ _ ok.0.0) in (
       record { entries = i.entries; children = i.children },
       ap (λ (us : List Token). begin_node name ∷ us) (i.parts ∙ ap (λ (us : List Token). map property i.entries ++ (tokens i.children ++ (end_node ∷ us))) last)

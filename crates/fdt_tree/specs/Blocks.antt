@@ -1,4 +1,4 @@
--- The header of a flattened devicetree and where its blocks stand: Devicetree Specification 0.4,
+-- The header of a flattened devicetree and where its blocks are: Devicetree Specification 0.4,
 -- sections 5.2 and 5.6. Each number is big endian.
 use Rattle.std.specs.Prelude.{◌^◌, ◌≡◌, ℕ, ◌+◌, ◌%◌, ◌≤◌, List, length, take, drop, Bool, Result, Ok, Err, nat_lt, nat_le, ◌==◌, ◌&&◌, if◌then◌else◌}
 use Rattle.std.specs.Int.{w32, from_be_bytes}
@@ -10,7 +10,7 @@ use Rattle.fdt_tree.specs.declared.header.Header.{Header}
 abbrev pub word_at : ℕ → List ℕ → ℕ
 word_at offset bytes = from_be_bytes w32 (take 4 (drop offset bytes))
 
--- the fields behind the magic
+-- the fields after the magic number
 abbrev pub header_of : List ℕ → Header
 header_of bytes = record {
   totalsize = word_at 4 bytes;
@@ -24,7 +24,7 @@ header_of bytes = record {
   size_dt_struct = word_at 36 bytes;
 }
 
--- The header and the blocks stand within totalsize, and that within the bytes. They may overlap.
+-- The header and the blocks are within totalsize, and totalsize is within the bytes. Blocks may overlap.
 pub record BlocksFit (h : Header) (len : ℕ) : Type 0 where
   pub own : 40 ≤ h.totalsize
   pub whole : h.totalsize ≤ len
@@ -34,8 +34,8 @@ pub record BlocksFit (h : Header) (len : ℕ) : Type 0 where
   pub structure : h.off_dt_struct + h.size_dt_struct ≤ h.totalsize
   pub strings : h.off_dt_strings + h.size_dt_strings ≤ h.totalsize
 
--- The bytes begin with this header. That a file has at most 2,097,152 bytes is the limit that Linux
--- sets for arm64 (Documentation/arch/arm64/booting.rst, "Setup the device tree").
+-- The bytes begin with this header. The limit of 2 MiB (2 ^ 21 bytes) is the one that Linux sets for
+-- arm64 (Documentation/arch/arm64/booting.rst, "Setup the device tree").
 pub record HasHeader (bytes : List ℕ) (h : Header) : Type 0 where
   pub fields : h ≡ header_of bytes
   pub long : 40 ≤ length bytes
@@ -55,7 +55,7 @@ structure_block h bytes = take h.size_dt_struct (drop h.off_dt_struct bytes)
 abbrev pub strings_block : Header → List ℕ → List ℕ
 strings_block h bytes = take h.size_dt_strings (drop h.off_dt_strings bytes)
 
--- ---- the first check that fails, which is this project's order
+-- ---- the checks, in this project's order
 
 abbrev pub blocks_fit : Header → ℕ → Bool
 blocks_fit h len =

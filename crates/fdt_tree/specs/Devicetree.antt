@@ -1,5 +1,5 @@
--- A devicetree apart from where it lies in memory, and the tokens of its nodes: Devicetree
--- Specification 0.4, sections 2.1 to 2.3 and 5.4.
+-- What a devicetree is, and the tokens of its nodes: Devicetree Specification 0.4, sections 2.1 to 2.3
+-- and 5.4.
 use Rattle.std.specs.Prelude.{ℕ, List, [], ◌∷◌, ◌++◌, map}
 use Rattle.fdt_tree.specs.declared.tree.Reservation.{Reservation}
 
@@ -23,7 +23,7 @@ pub record Branch : Type 0 where
 abbrev pub bare : List ℕ → Branch
 bare name = record { name = name; entries = []; children = none }
 
--- nodes that stand beside one another
+-- nodes as siblings
 abbrev pub joined : List Branch → Nodes
 joined [] = none
 joined (b ∷ bs) = node b.name b.entries b.children (joined bs)
@@ -36,7 +36,7 @@ pub record Root : Type 0 where
 abbrev pub branch_of_root : Root → Branch
 branch_of_root r = record { name = []; entries = r.entries; children = r.children }
 
--- what a flattened devicetree says
+-- what a flattened devicetree holds
 pub record Devicetree : Type 0 where
   pub reservations : List Reservation
   pub boot_cpu : ℕ

@@ -1,6 +1,6 @@
--- Which names are taken. The Devicetree Specification 0.4 lists letters for node names (2.2.1) and
--- property names (2.2.4); devicetrees in use have others too, so this project takes every visible
--- ASCII character but `/`, which parts the names of a path.
+-- Which names are legal. The Devicetree Specification 0.4 lists the characters of node names (2.2.1) and of
+-- property names (2.2.4). Devicetrees in use have others too, so this project accepts every visible ASCII
+-- character except `/`, which separates the names of a path.
 use Rattle.std.specs.Prelude.{ℕ, ◌+◌, ◌<◌, List, [], ◌∷◌, length, Bool, true, false, nat_lt, ◌==◌, ◌&&◌, not, cond, IsTrue}
 use Rattle.fdt_tree.specs.Devicetree.{Entry, Nodes, none, node}
 
@@ -19,7 +19,8 @@ abbrev pub AreLegal : List Entry → Type 0
 AreLegal [] = Unit {0}
 AreLegal (e ∷ es) = IsTrue (legal e.name) × AreLegal es
 
--- Names are legal, and nodes at most 64 deep, below so many open nodes. The root is 1 deep.
+-- All names are legal and no node is deeper than 64, given `depth` open nodes around these (the root has
+-- depth 1).
 abbrev pub IsLegal : ℕ → Nodes → Type 0
 IsLegal depth none = Unit {0}
 IsLegal depth (node name entries children next) =

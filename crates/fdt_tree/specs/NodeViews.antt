@@ -1,4 +1,4 @@
--- What the nodes in memory are, given the strings of their tree.
+-- Which nodes of a devicetree the nodes in memory are, given the strings of their tree.
 use Rattle.std.specs.Prelude.{ℕ, List, map, take, drop}
 use Rattle.fdt_tree.specs.declared.node.Name.{Name}
 use Rattle.fdt_tree.specs.declared.node.Name.TheVariants.{Shared, Own}
@@ -19,7 +19,7 @@ abbrev pub branch_step : List ℕ → Node-F Branch → Branch
 branch_step strings n =
     record { name = n.name.items; entries = map (entry_of strings) n.properties.items; children = joined n.children.items }
 
--- a node, apart from where it lies in memory
+-- the node that a node in memory is
 abbrev pub branch : List ℕ → Node → Branch
 branch strings = fold-Node Branch (branch_step strings)
 

@@ -1,4 +1,4 @@
--- What each tree in memory keeps.
+-- What always holds of a tree in memory.
 use Rattle.std.specs.Prelude.{ℕ, ◌+◌, List, [], ◌∷◌}
 use Rattle.std.specs.Coded.{le_prop}
 use Rattle.std.proofs.Math.Bool.{Bool-set}
@@ -9,7 +9,7 @@ use Rattle.fdt_tree.specs.Names.{AreLegal, IsLegal}
 use Rattle.fdt_tree.specs.NodeViews.{root_of}
 use Rattle.fdt_tree.specs.Reservations.{AreReservations}
 
--- what is held, apart from where it lies in memory
+-- the devicetree that a tree in memory is
 abbrev pub tree_in : Contents → Devicetree
 tree_in c = record {
   reservations = c.reservations.items;

@@ -1,4 +1,4 @@
-//! Another value of a property.
+//! Setting the value of a property at a path.
 
 ghost use Rattle.std.specs.Prelude.{◌≡◌, ◌<◌, ◌≤◌, ◌∷◌, length, map, Some, None, IfSome, if◌then◌else◌, OnOk, OnErr};
 ghost use Rattle.std.specs.Str.{bytes_eq};
@@ -35,7 +35,7 @@ fn child_index(children: &[Node], name: &[u8]) -> Option<usize>
         .position(|child| child.name.as_slice() == name)
 }
 
-/// Puts the value into the first property of the name, or adds one behind the others.
+/// Sets the value of the first property of the name, or adds the property after the others.
 fn put_value(
     alloc: Global,
     strings: &[u8],
@@ -58,7 +58,7 @@ fn put_value(
     Ok(())
 }
 
-/// The first of names with slashes between them, and the others.
+/// Splits names with slashes between them into the first and the rest.
 fn split_names(names: &[u8]) -> (&[u8], Option<&[u8]>)
     ensures parts { between_slashes names.now ≡ result.0.now ∷ names_in result.1 }
     ensures shorter { names_len result.1 ≤ length names.now }
@@ -69,8 +69,8 @@ fn split_names(names: &[u8]) -> (&[u8], Option<&[u8]>)
     }
 }
 
-/// Puts the value into the node that the names lead to from this one. Nodes that are not there are
-/// added behind the others; as each is whole before it is added, an error leaves the node as it was.
+/// Sets the value in the node that the names lead to from this one. Missing nodes are added as last
+/// children. Each is complete before it is added, so an error leaves the node as it was.
 pub fn put_below(
     alloc: Global,
     strings: &[u8],
@@ -98,7 +98,7 @@ pub fn put_below(
     }
 }
 
-/// The way to the node at a path.
+/// The names of a path, with slashes between them; `None` for the root.
 pub fn names_on(path: &[u8]) -> Result<Option<&[u8]>, FdtFault>
     ensures { Matches (λ w. names_in w) result (path_names (names_on path.now)) }
 {
@@ -109,7 +109,7 @@ pub fn names_on(path: &[u8]) -> Result<Option<&[u8]>, FdtFault>
     }
 }
 
-/// How many names there are on the way, where each is legal.
+/// The number of names, if each is legal.
 fn count_names(names: Option<&[u8]>) -> Option<usize>
     ensures { result ≡ (if all_legal (names_in names.entry) then Some (length (names_in names.entry)) else None) }
 {
@@ -126,7 +126,7 @@ fn count_names(names: Option<&[u8]>) -> Option<usize>
     Some(count)
 }
 
-/// Whether a property of this name may stand at the end of the way.
+/// Checks the names of a path, and of a property that is set there.
 pub fn check_names(names: Option<&[u8]>, name: &[u8]) -> Result<(), FdtFault>
     ensures { Matches (λ u. u) result (check_names (names_in names.entry) name.now) }
 {

@@ -1,4 +1,4 @@
-//! The first token of the structure block.
+//! Reading one token of the structure block.
 
 ghost use Rattle.std.specs.Prelude.{◌≡◌, ◌<◌, ◌≤◌, ℕ, List, length, IfOk, IfSome};
 ghost use Rattle.fdt_tree.specs.Devicetree.{begin_node};
@@ -14,6 +14,7 @@ use crate::strings::{Strings, is_name_character};
 /// The greatest depth of a node. The root's is 1.
 pub const MAX_DEPTH: usize = 64;
 
+// the numbers of the tokens: Devicetree Specification 0.4, section 5.4.1
 pub const BEGIN_NODE: u32 = 1;
 
 pub const END_NODE: u32 = 2;
@@ -24,7 +25,8 @@ const NOP: u32 = 4;
 
 pub const END: u32 = 9;
 
-/// A token. The bytes of the block are lent, and a property's name is a range of the strings.
+/// A token. A node's name and a value are borrowed from the block; a property's name is a range of the
+/// strings.
 #[derive(Drop)]
 pub enum Token<'a> {
     Begin(&'a [u8]),
@@ -65,7 +67,7 @@ fn padded_of(len: usize, bytes: &[u8]) -> Result<(&[u8], &[u8]), FdtFault>
     Ok((&bytes[..len], &bytes[whole..]))
 }
 
-/// How many bytes stand before the first zero byte.
+/// The number of bytes before the first zero byte.
 fn end_of(bytes: &[u8]) -> Option<usize>
     ensures exact { result ≡ until_zero bytes.now }
     ensures within { IfSome result (λ i. i < length bytes.now) }
@@ -100,7 +102,7 @@ pub fn is_legal(name: &[u8]) -> bool
     !name.is_empty()
 }
 
-/// The name of a node that begins, and the bytes behind it.
+/// The name of a node that begins, and the bytes after it.
 #[tactic(auto, unfolding(crate::specs::Scanning::begin_at))]
 fn begin_of(place: Place, bytes: &[u8]) -> Result<(&[u8], &[u8]), FdtFault>
     ensures { Matches (λ x. (begin_node x.0.now, x.1.now)) result (begin_at place bytes.now) }
@@ -167,7 +169,7 @@ fn kind_of<'a>(
     }
 }
 
-/// The token that stands in front, and the bytes behind it.
+/// The first token, and the bytes after it.
 #[tactic(auto, unfolding(crate::specs::Scanning::token_at))]
 pub fn token_of<'a>(
     strings: &Strings,

@@ -1,4 +1,4 @@
-//! The structure block, read token by token.
+//! Reading the structure block, token by token, into nodes.
 
 ghost use Rattle.std.specs.Prelude.{◌≡◌, ◌++◌, ◌∷◌, [], ℕ, List, length, IfOk};
 ghost use Rattle.fdt_tree.specs.Devicetree.{begin_node, root_tokens, bare};
@@ -15,8 +15,8 @@ use crate::place::Place;
 use crate::strings::Strings;
 use std::alloc::{AllocError, Global};
 
-/// The nodes that are open: the innermost, and those around it. Around the root an empty node stands,
-/// whose one child the root becomes.
+/// The nodes that are open: the innermost, and those around it. Around the root is an empty node;
+/// the root becomes its only child.
 #[derive(Drop)]
 pub struct OpenNodes {
     pub outer: Vec<Node>,
@@ -34,7 +34,7 @@ pub fn new_node(alloc: Global, name: &[u8]) -> Result<Node, AllocError>
     })
 }
 
-/// The node with a property behind its other properties.
+/// The node with a property after its other properties.
 fn with_property(node: Node, property: Property) -> Result<Node, AllocError>
     ensures { IfOk result (λ n. (strings : List ℕ) → branch strings n
         ≡ with_entry (branch strings node) (entry_of strings property)) }
@@ -52,7 +52,7 @@ fn with_property(node: Node, property: Property) -> Result<Node, AllocError>
     })
 }
 
-/// The node with a child behind its other children.
+/// The node with a child after its other children.
 fn with_child(node: Node, child: Node) -> Result<Node, AllocError>
     ensures { IfOk result (λ n. (strings : List ℕ) → branch strings n
         ≡ with_child (branch strings node) (branch strings child)) }
@@ -84,7 +84,7 @@ fn no_node_open(alloc: Global) -> OpenNodes
     }
 }
 
-/// The open nodes behind one more token.
+/// The open nodes after one more token.
 fn take(alloc: Global, nodes: OpenNodes, token: Token) -> Result<OpenNodes, AllocError>
     requires { (strings : List ℕ) → FitsPlace (place_of strings nodes) token }
     ensures tokens { IfOk result (λ p. (strings : List ℕ) → so_far strings p
@@ -121,7 +121,7 @@ fn take(alloc: Global, nodes: OpenNodes, token: Token) -> Result<OpenNodes, Allo
     }
 }
 
-/// Where the next token stands.
+/// The place of the next token.
 fn place_in(nodes: &OpenNodes) -> Place
     ensures { (strings : List ℕ) → result ≡ place_of strings nodes.now }
 {
@@ -131,7 +131,7 @@ fn place_in(nodes: &OpenNodes) -> Place
     }
 }
 
-/// The open nodes where END stands: the outermost, with the root in it.
+/// The open nodes at END: the outermost alone, with the root in it.
 fn run(alloc: Global, strings: &Strings, block: &[u8]) -> Result<OpenNodes, FdtFault>
     ensures outermost { IfOk result (λ p. length p.outer.items ≡ 0) }
     ensures exact { Answers FdtFault.NoMemory (λ p. so_far strings.now.bytes.items p) result
@@ -151,7 +151,7 @@ fn run(alloc: Global, strings: &Strings, block: &[u8]) -> Result<OpenNodes, FdtF
     Err(FdtFault::BadToken)
 }
 
-/// The root alone.
+/// The root that a structure block holds.
 pub fn root_in(alloc: Global, strings: &Strings, block: &[u8]) -> Result<Node, FdtFault>
     ensures exact { Answers FdtFault.NoMemory (λ n. root_tokens (root_of strings.now.bytes.items n)) result
         (structure_at strings.now.bytes.items block.now) }

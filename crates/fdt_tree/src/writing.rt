@@ -1,4 +1,4 @@
-//! Writing a tree.
+//! Writing a tree in the flattened format.
 
 ghost use Rattle.std.specs.Prelude.{◌^◌, ◌≡◌, ◌+◌, ◌++◌, ◌∷◌, [], ◌≤◌, ℕ, List, length, map, IfOk, IfErr, OnOk, Ok, Err, if◌then◌else◌, nat_lt};
 ghost use Rattle.std.specs.Int.{w32, w64, to_be_bytes};
@@ -32,7 +32,7 @@ fn put_word(out: &mut Vec<u8>, word: u32) -> Result<(), AllocError>
     out.extend_from_slice(&word.to_be_bytes())
 }
 
-/// Zeros that fill up to a multiple of 4 behind so many bytes.
+/// Appends the zeros that pad `len` bytes to a multiple of 4.
 fn put_padding(out: &mut Vec<u8>, len: usize) -> Result<(), AllocError>
     ensures { OnOk result (out.new.items ≡ out.old.items ++ padding_after len) }
 {
@@ -98,7 +98,7 @@ fn put_node_end(out: &mut Output) -> Result<(), AllocError>
     put_word(&mut out.structure, END_NODE)
 }
 
-/// Puts a node's begin and its properties.
+/// Appends the token that begins a node, and its properties.
 fn put_front(
     alloc: Global,
     out: &mut Output,
@@ -118,7 +118,7 @@ fn put_front(
     Ok(())
 }
 
-/// Puts a node with all that is in it.
+/// Appends a node with all that it holds.
 fn put_node(alloc: Global, out: &mut Output, strings: &[u8], node: &Node) -> Result<(), FdtFault>
     ensures done { (names : List (List ℕ)) → HasNames strings.now out.old.names names
         → OnOk result (HasTokens strings.now out.old out.new names (tokens_of_nodes strings.now (node.now ∷ []))) }
@@ -179,7 +179,7 @@ fn put_reservations(out: &mut Vec<u8>, reservations: &[Reservation]) -> Result<(
     Ok(())
 }
 
-/// How many bytes each block has.
+/// The length of each block, in bytes.
 #[derive(Clone, Copy)]
 pub struct Lengths {
     pub reserve: u32,
@@ -187,7 +187,7 @@ pub struct Lengths {
     pub strings: u32,
 }
 
-/// Puts the magic number, the whole length, and where the blocks begin.
+/// Appends the magic number, the whole length, and where the blocks begin.
 fn put_places(out: &mut Vec<u8>, lengths: Lengths) -> Result<(), AllocError>
     requires { 40 + lengths.reserve + lengths.structure + lengths.strings ≤ 2 ^ 21 }
     ensures { OnOk result (out.new.items ≡ out.old.items
@@ -203,7 +203,7 @@ fn put_places(out: &mut Vec<u8>, lengths: Lengths) -> Result<(), AllocError>
     Ok(())
 }
 
-/// Puts the versions, the processor that boots, and the lengths of blocks.
+/// Appends the versions, the processor that boots, and the lengths of blocks.
 fn put_versions(out: &mut Vec<u8>, lengths: Lengths, boot_cpu: u32) -> Result<(), AllocError>
     ensures { OnOk result (out.new.items ≡ out.old.items
         ++ versions_text lengths.structure lengths.strings boot_cpu) }
@@ -216,7 +216,7 @@ fn put_versions(out: &mut Vec<u8>, lengths: Lengths, boot_cpu: u32) -> Result<()
     Ok(())
 }
 
-/// How many bytes each block has, unless they are too many.
+/// The length of each block, unless the file would be too long.
 fn lengths_of(reservations: &[Reservation], out: &Output) -> Result<Lengths, FdtFault>
     ensures lengths { IfOk result (λ l. AreLengths l (length (reservations_text reservations.now))
         (length out.now.structure.items) (length out.now.names.strings.items)) }

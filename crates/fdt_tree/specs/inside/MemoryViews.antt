@@ -1,4 +1,4 @@
--- What the numbers in cells are.
+-- The bytes of a number in cells.
 use Rattle.std.specs.Prelude.{ℕ, List}
 use Rattle.std.specs.Int.{w32, w64, to_be_bytes}
 use Rattle.fdt_tree.specs.declared.memory.Cells.{Cells}

@@ -1,4 +1,4 @@
--- What the reader has in its hands between two tokens.
+-- What the reader holds between two tokens: the nodes that are open.
 use Rattle.std.specs.Prelude.{ℕ, List, [], ◌∷◌, ◌++◌, length, map, Bool, true, false}
 use Rattle.fdt_tree.specs.declared.place.Place.{Place}
 use Rattle.fdt_tree.specs.declared.structure.OpenNodes.{OpenNodes}
@@ -9,7 +9,7 @@ use Rattle.fdt_tree.specs.NodeViews.{branch, branches}
 abbrev pub with_entry : Branch → Entry → Branch
 with_entry b e = record b { entries = b.entries ++ e ∷ [] }
 
--- nodes and one more behind them
+-- nodes and one more after them
 abbrev pub followed : Nodes → Branch → Nodes
 followed none b = node b.name b.entries b.children none
 followed (node name entries children next) b = node name entries children (followed next b)

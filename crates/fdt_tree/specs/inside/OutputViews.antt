@@ -1,4 +1,4 @@
--- What is written of a tree so far.
+-- What has been written of a tree, and how long it is.
 use Rattle.std.specs.Prelude.{◌^◌, ◌≡◌, ℕ, ◌+◌, ◌≤◌, List, ◌++◌, length, map}
 use Rattle.fdt_tree.specs.declared.node.Property.{Property}
 use Rattle.fdt_tree.specs.declared.node.Node.{Node}
@@ -9,7 +9,7 @@ use Rattle.fdt_tree.specs.NodeViews.{entry_of, branches}
 use Rattle.fdt_tree.specs.Writing.{names_after, text_after, strings_text}
 use Rattle.fdt_tree.specs.inside.NameTables.{HasNames}
 
--- the tokens of a tree with these strings are put behind what was there
+-- the tokens were appended, and the table has their names too
 pub record HasTokens (strings : List ℕ) (old new : Output) (names : List (List ℕ)) (ts : List Token) : Type 0 where
   pub text : new.structure.items ≡ old.structure.items ++ text_after names ts
   pub known : HasNames strings new.names (names_after names ts)

@@ -1,4 +1,4 @@
--- What the tokens in the program are, given the strings.
+-- Which token a token in memory is, given the strings block.
 use Rattle.std.specs.Prelude.{◌≡◌, ℕ, ◌<◌, List, take, drop, false}
 use Rattle.fdt_tree.specs.declared.lexing.Token.{Token as Read}
 use Rattle.fdt_tree.specs.declared.lexing.Token.TheVariants.{Begin, Property, EndNode, Nop, Finish}
@@ -13,7 +13,7 @@ as_token strings EndNode = end_node
 as_token strings Nop = nop
 as_token strings Finish = finish
 
--- a node ends where one is open, and a property stands before the children
+-- a node ends only where one is open, and a property comes before the children
 abbrev pub FitsPlace : Place → Read → Type 0
 FitsPlace p (Begin name) = Unit {0}
 FitsPlace p (Property start len value) = p.late ≡ false
