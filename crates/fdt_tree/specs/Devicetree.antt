@@ -50,6 +50,22 @@ pub data Token : Type 0 where
   nop : Token
   finish : Token
 
+-- the numbers of the tokens (5.4.1)
+abbrev pub FDT_BEGIN_NODE : ℕ
+FDT_BEGIN_NODE = 1
+
+abbrev pub FDT_END_NODE : ℕ
+FDT_END_NODE = 2
+
+abbrev pub FDT_PROP : ℕ
+FDT_PROP = 3
+
+abbrev pub FDT_NOP : ℕ
+FDT_NOP = 4
+
+abbrev pub FDT_END : ℕ
+FDT_END = 9
+
 -- the tokens of nodes, without any NOP: a node's properties come before its children
 abbrev pub tokens : Nodes → List Token
 tokens none = []

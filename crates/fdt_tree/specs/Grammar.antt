@@ -1,7 +1,7 @@
 -- Which bytes spell a structure block: Devicetree Specification 0.4, section 5.4.
 use Rattle.std.specs.Prelude.{◌≡◌, ℕ, ◌+◌, ◌-◌, ◌%◌, ◌^◌, ◌<◌, List, [], ◌∷◌, ◌++◌, length, drop}
 use Rattle.std.specs.Int.{w32, to_be_bytes}
-use Rattle.fdt_tree.specs.Devicetree.{Token, begin_node, property, end_node, nop, finish, Root, root_tokens}
+use Rattle.fdt_tree.specs.Devicetree.{Token, begin_node, property, end_node, nop, finish, Root, root_tokens, FDT_BEGIN_NODE, FDT_END_NODE, FDT_PROP, FDT_NOP, FDT_END}
 use Rattle.fdt_tree.specs.Names.{AreLegal, IsLegal}
 
 -- Any bytes that pad n bytes to a multiple of 4. The specification requires zeros. Like other readers, this
@@ -16,14 +16,14 @@ IsStringAt strings offset name = (others : List ℕ) × (drop offset strings ≡
 -- The bytes spell this token, given the strings block (5.4.1).
 abbrev pub IsTokenText : List ℕ → Token → List ℕ → Type 0
 IsTokenText strings (begin_node name) text =
-    (pad : List ℕ) × IsPadding (length name + 1) pad × (text ≡ to_be_bytes w32 1 ++ (name ++ (0 ∷ pad)))
+    (pad : List ℕ) × IsPadding (length name + 1) pad × (text ≡ to_be_bytes w32 FDT_BEGIN_NODE ++ (name ++ (0 ∷ pad)))
 IsTokenText strings (property e) text =
     (offset : ℕ) × (pad : List ℕ) × (offset < 2 ^ 32) × (length e.value < 2 ^ 32)
     × IsPadding (length e.value) pad × IsStringAt strings offset e.name
-    × (text ≡ to_be_bytes w32 3 ++ (to_be_bytes w32 (length e.value) ++ (to_be_bytes w32 offset ++ (e.value ++ pad))))
-IsTokenText strings end_node text = text ≡ to_be_bytes w32 2
-IsTokenText strings nop text = text ≡ to_be_bytes w32 4
-IsTokenText strings finish text = text ≡ to_be_bytes w32 9
+    × (text ≡ to_be_bytes w32 FDT_PROP ++ (to_be_bytes w32 (length e.value) ++ (to_be_bytes w32 offset ++ (e.value ++ pad))))
+IsTokenText strings end_node text = text ≡ to_be_bytes w32 FDT_END_NODE
+IsTokenText strings nop text = text ≡ to_be_bytes w32 FDT_NOP
+IsTokenText strings finish text = text ≡ to_be_bytes w32 FDT_END
 
 -- the bytes spell the tokens, one after another
 abbrev pub IsText : List ℕ → List Token → List ℕ → Type 0
@@ -45,7 +45,7 @@ pub record SpellsRoot (strings block : List ℕ) (r : Root) : Type 0 where
   pub all : List Token
   pub front : List ℕ
   pub rest : List ℕ
-  pub parts : block ≡ front ++ (to_be_bytes w32 9 ++ rest)
+  pub parts : block ≡ front ++ (to_be_bytes w32 FDT_END ++ rest)
   pub text : IsText strings all front
   pub same : without_nops all ≡ root_tokens r
   pub entries : AreLegal r.entries

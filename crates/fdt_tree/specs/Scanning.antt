@@ -7,7 +7,7 @@ use Rattle.fdt_tree.specs.declared.fault.FdtFault.{FdtFault}
 use Rattle.fdt_tree.specs.declared.fault.FdtFault.TheVariants.{BadToken, BadName, BadString, LateProperty, TooDeep}
 use Rattle.fdt_tree.specs.declared.place.Place.{Place}
 use Rattle.refusal.specs.Answer.{◌>>=◌}
-use Rattle.fdt_tree.specs.Devicetree.{Token, begin_node, property, end_node, nop, finish}
+use Rattle.fdt_tree.specs.Devicetree.{Token, begin_node, property, end_node, nop, finish, FDT_BEGIN_NODE, FDT_END_NODE, FDT_PROP, FDT_NOP, FDT_END}
 use Rattle.fdt_tree.specs.Names.{legal}
 
 -- before the root
@@ -77,11 +77,11 @@ is_over p = (p.depth == 0) && p.late
 -- the token of this number, where such a token is allowed
 unfoldable pub kind_at : List ℕ → Place → ℕ → List ℕ → Result (Token × List ℕ) FdtFault
 kind_at strings p kind rest =
-    if (kind == 1) && not (is_over p) then begin_at p rest
-    else (if (kind == 2) && nat_lt 0 p.depth then Ok (end_node, rest)
-    else (if (kind == 3) && nat_lt 0 p.depth then property_at strings p rest
-    else (if kind == 4 then Ok (nop, rest)
-    else (if (kind == 9) && is_over p then Ok (finish, rest)
+    if (kind == FDT_BEGIN_NODE) && not (is_over p) then begin_at p rest
+    else (if (kind == FDT_END_NODE) && nat_lt 0 p.depth then Ok (end_node, rest)
+    else (if (kind == FDT_PROP) && nat_lt 0 p.depth then property_at strings p rest
+    else (if kind == FDT_NOP then Ok (nop, rest)
+    else (if (kind == FDT_END) && is_over p then Ok (finish, rest)
     else Err BadToken))))
 
 -- the first token and the bytes after it

@@ -6,7 +6,7 @@ use Rattle.std.specs.Str.{bytes_eq}
 use Rattle.fdt_tree.specs.declared.fault.FdtFault.{FdtFault}
 use Rattle.fdt_tree.specs.declared.fault.FdtFault.TheVariants.{TooLarge}
 use Rattle.fdt_tree.specs.declared.tree.Reservation.{Reservation}
-use Rattle.fdt_tree.specs.Devicetree.{Token, begin_node, property, end_node, nop, finish, Devicetree, root_tokens}
+use Rattle.fdt_tree.specs.Devicetree.{Token, begin_node, property, end_node, nop, finish, Devicetree, root_tokens, FDT_BEGIN_NODE, FDT_END_NODE, FDT_PROP, FDT_NOP, FDT_END}
 use Rattle.fdt_tree.specs.Reservations.{pair_text}
 
 -- ---- the strings: each name once, in the order of first use
@@ -43,11 +43,11 @@ abbrev pub padding_after : ℕ → List ℕ
 padding_after n = replicate ((4 - n % 4) % 4) 0
 
 abbrev pub begin_text : List ℕ → List ℕ
-begin_text name = to_be_bytes w32 1 ++ (name ++ (0 ∷ padding_after (length name + 1)))
+begin_text name = to_be_bytes w32 FDT_BEGIN_NODE ++ (name ++ (0 ∷ padding_after (length name + 1)))
 
 abbrev pub property_text : ℕ → List ℕ → List ℕ
 property_text offset value =
-    to_be_bytes w32 3 ++ (to_be_bytes w32 (length value) ++ (to_be_bytes w32 offset ++ (value ++ padding_after (length value))))
+    to_be_bytes w32 FDT_PROP ++ (to_be_bytes w32 (length value) ++ (to_be_bytes w32 offset ++ (value ++ padding_after (length value))))
 
 -- the bytes of tokens, given the names that were used before them
 abbrev pub text_after : List (List ℕ) → List Token → List ℕ
@@ -55,12 +55,12 @@ text_after names [] = []
 text_after names (begin_node name ∷ ts) = begin_text name ++ text_after names ts
 text_after names (property e ∷ ts) =
     property_text (offset_in (noted names e.name) e.name) e.value ++ text_after (noted names e.name) ts
-text_after names (end_node ∷ ts) = to_be_bytes w32 2 ++ text_after names ts
-text_after names (nop ∷ ts) = to_be_bytes w32 4 ++ text_after names ts
-text_after names (finish ∷ ts) = to_be_bytes w32 9 ++ text_after names ts
+text_after names (end_node ∷ ts) = to_be_bytes w32 FDT_END_NODE ++ text_after names ts
+text_after names (nop ∷ ts) = to_be_bytes w32 FDT_NOP ++ text_after names ts
+text_after names (finish ∷ ts) = to_be_bytes w32 FDT_END ++ text_after names ts
 
 abbrev pub structure_text : Devicetree → List ℕ
-structure_text t = text_after [] (root_tokens t.root) ++ to_be_bytes w32 9
+structure_text t = text_after [] (root_tokens t.root) ++ to_be_bytes w32 FDT_END
 
 -- ---- the file
 

@@ -2,7 +2,7 @@
 
 ghost use Rattle.std.specs.Prelude.{◌^◌, ◌≡◌, ◌+◌, ◌++◌, ◌∷◌, [], ◌≤◌, ℕ, List, length, map, IfOk, IfErr, OnOk, Ok, Err, if◌then◌else◌, nat_lt};
 ghost use Rattle.std.specs.Int.{w32, w64, to_be_bytes};
-ghost use Rattle.fdt_tree.specs.Devicetree.{property, begin_node, end_node};
+ghost use Rattle.fdt_tree.specs.Devicetree.{property, begin_node, end_node, FDT_END};
 ghost use Rattle.fdt_tree.specs.NodeViews.{entry_of, branch};
 ghost use Rattle.fdt_tree.specs.Reservations.{pair_text};
 ghost use Rattle.fdt_tree.specs.Writing.{padding_after, begin_text, property_text, text_after, names_after, strings_text, reservations_text, places_text, versions_text, file_text, written};
@@ -136,7 +136,7 @@ fn put_node(alloc: Global, out: &mut Output, strings: &[u8], node: &Node) -> Res
 /// The structure block and the strings of a tree.
 fn output_of(alloc: Global, strings: &[u8], root: &Node) -> Result<Output, FdtFault>
     ensures structure { IfOk result (λ o. o.structure.items
-        ≡ text_after [] (tokens_of_nodes strings.now (root.now ∷ [])) ++ to_be_bytes w32 9) }
+        ≡ text_after [] (tokens_of_nodes strings.now (root.now ∷ [])) ++ to_be_bytes w32 FDT_END) }
     ensures strings { IfOk result (λ o. o.names.strings.items
         ≡ strings_text (names_after [] (tokens_of_nodes strings.now (root.now ∷ [])))) }
     ensures refused { IfErr result (λ e.
