@@ -4,7 +4,7 @@ use fdt_tree::{FdtFault, Node, Tree, read};
 use std::alloc::Global;
 use std::test::Fail;
 
-// What the call with these answers on an empty root, whose tree then has no new child or property.
+// The fault of setting this property in an empty root, which after a fault has no new child or property.
 fn refusal(alloc: Global, path: &[u8], name: &[u8]) -> Result<Option<FdtFault>, Fail> {
     let mut tree = read(alloc, &EMPTY)?;
     let fault = tree.set(alloc, path, name, b"").err();
@@ -15,7 +15,7 @@ fn refusal(alloc: Global, path: &[u8], name: &[u8]) -> Result<Option<FdtFault>, 
     Ok(fault)
 }
 
-// A path of so many nodes.
+// A path of `count` nodes.
 fn deep(alloc: Global, count: u32) -> Result<Vec<u8>, Fail> {
     let mut path = Vec::new(alloc);
     for _ in 0..count {
@@ -85,7 +85,7 @@ fn cells<'a>(alloc: Global, addresses: &'a [u8; 4], sizes: &'a [u8]) -> Result<T
     Ok(tree)
 }
 
-// A path, a name, a value, and the children of the root once it was put there.
+// A path, a name, a value, and the children of the root after the value was set there.
 const NEW_NODES: [(&[u8], &[u8], &[u8], &[&[u8]]); 3] = [
     (b"/chosen", b"bootargs", b"quiet\0", &[b"chosen"]),
     (b"/chosen/a/b", b"x", b"1", &[b"chosen"]),
@@ -131,7 +131,7 @@ fn the_first_of_equal_names(rt: HostRuntime) -> Result<(), Fail> {
     Ok(())
 }
 
-// Paths and names, of which one may not be.
+// Paths and names, of which one is not legal.
 const BAD_NAMES: [(&[u8], &[u8]); 11] = [
     (b"", b"reg"),
     (b"n", b"reg"),

@@ -58,7 +58,7 @@ pub fn file(alloc: Global, block: &[u8], strings: &[u8]) -> Result<Vec<u8>, Fail
     Ok(out)
 }
 
-/// The same bytes with another word from this byte on.
+/// The same bytes with another word at this byte.
 pub fn with_word(alloc: Global, bytes: &[u8], at: usize, word: u32) -> Result<Vec<u8>, Fail> {
     let (front, rest) = bytes.split_at_checked(at).ok_or("the word is outside")?;
     let (_, behind) = rest.split_at_checked(4).ok_or("the word is outside")?;
@@ -80,7 +80,7 @@ pub fn tree_of_words(alloc: Global, block: &[u32], strings: &[u8]) -> Result<Tre
     Ok(read(alloc, &bytes)?)
 }
 
-/// The same bytes with these changes in turn: a word, and the byte from which on it stands.
+/// The same bytes with these changes in turn: a word, and the byte at which it begins.
 pub fn with_words(alloc: Global, bytes: &[u8], changes: &[(usize, u32)]) -> Result<Vec<u8>, Fail> {
     let mut out = bytes.to_vec(alloc)?;
     for (at, word) in changes {
@@ -89,7 +89,7 @@ pub fn with_words(alloc: Global, bytes: &[u8], changes: &[(usize, u32)]) -> Resu
     Ok(out)
 }
 
-/// Whether the property is there, with this value.
+/// Whether the property exists and has this value.
 pub fn says(tree: &Tree, path: &[u8], name: &[u8], value: &[u8]) -> bool {
     match tree.get(path, name) {
         Some(found) => found == value,

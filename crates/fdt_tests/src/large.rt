@@ -6,7 +6,7 @@ use fdt_tree::{FdtFault, Tree, read};
 use std::alloc::Global;
 use std::test::Fail;
 
-// A root with so many properties without bytes, the names of which begin at each place in turn.
+// A root with `count` properties without bytes, whose names begin at each of the places in turn.
 fn properties(alloc: Global, count: u32, places: u32) -> Result<Vec<u8>, Fail> {
     let mut block = words(alloc, &[BEGIN_NODE, 0])?;
     for i in 0..count {
@@ -25,7 +25,7 @@ fn file_of(alloc: Global, count: u32, places: u32, strings: &[u8]) -> Result<Vec
     file(alloc, &block, strings)
 }
 
-// A root with so many nodes `a`.
+// A root with `count` nodes `a`.
 fn nodes(alloc: Global, count: u32) -> Result<Vec<u8>, Fail> {
     let mut block = words(alloc, &[BEGIN_NODE, 0])?;
     for _ in 0..count {
@@ -38,7 +38,7 @@ fn nodes(alloc: Global, count: u32) -> Result<Vec<u8>, Fail> {
     Ok(block)
 }
 
-// So many letters.
+// `count` letters.
 fn letters(alloc: Global, count: u32) -> Result<Vec<u8>, Fail> {
     let mut out = Vec::new(alloc);
     for _ in 0..count {
@@ -124,7 +124,7 @@ fn many_nodes(rt: HostRuntime) -> Result<(), Fail> {
     Ok(())
 }
 
-// An empty root that got a property of this name, whose value is so many letters.
+// An empty root in which a property of this name was set, whose value is `count` letters.
 fn with_value(alloc: Global, name: &[u8], count: u32) -> Result<Tree, Fail> {
     let value = letters(alloc, count)?;
     let mut tree = read(alloc, &EMPTY)?;
@@ -132,7 +132,7 @@ fn with_value(alloc: Global, name: &[u8], count: u32) -> Result<Tree, Fail> {
     Ok(tree)
 }
 
-// 88 bytes stand around the value: the header, the reservations, five words and the end of the padding,
+// 88 bytes are around the value: the header, the reservations, five words and the end of the padding,
 // and the name.
 #[test]
 fn as_large_as_may_be(rt: HostRuntime) -> Result<(), Fail> {

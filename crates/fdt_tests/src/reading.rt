@@ -121,7 +121,7 @@ fn a_late_property(rt: HostRuntime) {
     assert_eq!(rt; fault(rt.alloc(), &LATE), Some(FdtFault::LateProperty));
 }
 
-// A change of a file: the byte from which on a word stands, the word, and the fault that it makes.
+// A change of a file: the byte at which a word begins, the word, and the fault that it causes.
 type Change = (usize, u32, Option<FdtFault>);
 
 const CHANGES_OF_EMPTY: [Change; 37] = [
@@ -173,7 +173,7 @@ const CHANGES_OF_EMPTY: [Change; 37] = [
 ];
 
 const CHANGES_OF_SUFFIX: [Change; 14] = [
-    // where the property's name stands
+    // the offset of the property's name
     (72, 0, None),
     (72, 3, None),
     (72, 4, Some(FdtFault::BadName)),
@@ -182,7 +182,7 @@ const CHANGES_OF_SUFFIX: [Change; 14] = [
     // the strings block ends before the zero byte
     (32, 4, Some(FdtFault::BadString)),
     (32, 0, Some(FdtFault::BadString)),
-    // the structure block ends behind the token's number, its length and its offset
+    // the structure block ends after the token's number, its length and its offset
     (36, 12, Some(FdtFault::BadToken)),
     (36, 16, Some(FdtFault::BadToken)),
     (36, 20, Some(FdtFault::BadToken)),
@@ -230,7 +230,7 @@ fn a_file_that_is_cut(rt: HostRuntime) -> Result<(), Fail> {
 #[test]
 fn the_first_check_decides(rt: HostRuntime) -> Result<(), Fail> {
     let alloc = rt.alloc();
-    // each with all the later ones wrong too
+    // each with all later ones wrong too
     let header = [0, 39, 1, 0xffff_ffff, 1, 16, 18, 0, 1, 1];
     let short = words(alloc, &header)?;
     assert_eq!(rt;
@@ -259,7 +259,7 @@ fn the_first_check_decides(rt: HostRuntime) -> Result<(), Fail> {
 #[test]
 fn slack(rt: HostRuntime) -> Result<(), Fail> {
     let alloc = rt.alloc();
-    // behind totalsize, up to the limit
+    // after totalsize, up to the limit
     let mut bytes = CHOSEN.to_vec(alloc)?;
     for _ in 0..2_097_035 {
         bytes.push(0xff)?;
@@ -267,7 +267,7 @@ fn slack(rt: HostRuntime) -> Result<(), Fail> {
     assert_eq!(rt; bytes.len(), 2_097_152);
     assert_eq!(rt; fault(alloc, bytes.as_slice()), None);
     let within = (4, 2_097_152);
-    // within totalsize, and then within the structure block, behind END
+    // within totalsize, and then within the structure block, after END
     assert_eq!(rt; changed_fault(alloc, &bytes, &[within])?, None);
     assert_eq!(rt;
         changed_fault(alloc, &bytes, &[within, (36, 2_000_000)])?,
@@ -360,8 +360,8 @@ fn reservations(rt: HostRuntime) -> Result<(), Fail> {
     Ok(())
 }
 
-// The header, an empty root, and the pair of zeros behind it.
-const ZEROS_BEHIND: [u32; 18] = [
+// The header, an empty root, and the pair of zeros after it.
+const ZEROS_AFTER: [u32; 18] = [
     0xd00d_feed,
     72,
     40,
@@ -386,7 +386,7 @@ const ZEROS_BEHIND: [u32; 18] = [
 #[test]
 fn reservations_at_the_end(rt: HostRuntime) -> Result<(), Fail> {
     let alloc = rt.alloc();
-    let bytes = words(alloc, &ZEROS_BEHIND)?;
+    let bytes = words(alloc, &ZEROS_AFTER)?;
     assert_eq!(rt; fault(alloc, bytes.as_slice()), None);
     let cut = changed_fault(alloc, &bytes, &[(4, 71)])?;
     assert_eq!(rt; cut, Some(FdtFault::BadBlock));
@@ -523,7 +523,7 @@ const TOKENS: [([u32; 10], FdtFault); 25] = [
         ],
         FdtFault::BadName,
     ),
-    // a name without an end, which is no name besides
+    // a name without an end, which is not legal either
     (
         [
             BEGIN_NODE,
@@ -539,7 +539,7 @@ const TOKENS: [([u32; 10], FdtFault); 25] = [
         ],
         FdtFault::BadToken,
     ),
-    // a property behind a child: its length decides before, its name after
+    // a property after a child: its length is checked before that, its name after
     (
         [BEGIN_NODE, 0, BEGIN_NODE, A, END_NODE, PROP, 13, 99, 0, 0],
         FdtFault::BadToken,

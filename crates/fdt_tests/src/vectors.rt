@@ -24,7 +24,7 @@ pub const SUFFIX: [u8; 89] = [
     0x78, 0x72, 0x65, 0x67, 0,
 ];
 
-/// A root with a node `a`, and behind it a property `reg`, which may not stand there.
+/// A root with a node `a`, and after it a property `reg`, which is too late there.
 pub const LATE: [u8; 100] = [
     0xd0, 0x0d, 0xfe, 0xed, 0, 0, 0, 0x64, 0, 0, 0, 0x38, 0, 0, 0, 0x60, 0, 0, 0, 0x28, 0, 0, 0,
     0x11, 0, 0, 0, 0x10, 0, 0, 0, 0, 0, 0, 0, 4, 0, 0, 0, 0x28, 0, 0, 0, 0, 0, 0, 0, 0, 0, 0, 0, 0,
@@ -59,7 +59,7 @@ pub const DTC: [u8; 288] = [
     0x6f, 0x74, 0x61, 0x72, 0x67, 0x73, 0,
 ];
 
-/// The same with a property `stdout-path` behind `bootargs`, a node `uart` behind `chosen`, and 24 bytes
+/// The same with a property `stdout-path` after `bootargs`, a node `uart` after `chosen`, and 24 bytes
 /// more (`dtc -p 24`), of which libfdt's `fdt_nop_property` and `fdt_nop_node` made NOPs.
 pub const NOPS: [u8; 376] = [
     0xd0, 0x0d, 0xfe, 0xed, 0, 0, 1, 0x78, 0, 0, 0, 0x48, 0, 0, 1, 0x20, 0, 0, 0, 0x28, 0, 0, 0,

@@ -40,9 +40,9 @@ fn the_boot_cpu_comes_back(rt: HostRuntime) -> Result<(), Fail> {
     Ok(())
 }
 
-// As `dtc -S 512` makes it: 512 bytes by its header, zeros behind the strings.
+// As `dtc -S 512` makes it: 512 bytes by its header, zeros after the strings.
 #[test]
-fn slack_behind_is_left_out(rt: HostRuntime) -> Result<(), Fail> {
+fn slack_after_strings_is_left_out(rt: HostRuntime) -> Result<(), Fail> {
     let alloc = rt.alloc();
     let mut bytes = with_word(alloc, &DTC, 4, 512)?;
     for _ in DTC.len()..512 {
@@ -52,7 +52,7 @@ fn slack_behind_is_left_out(rt: HostRuntime) -> Result<(), Fail> {
     Ok(())
 }
 
-// `reg` without `x` in front of it: 88 bytes.
+// `reg` without `x` before it: 88 bytes.
 #[test]
 fn a_suffix_is_written_alone(rt: HostRuntime) -> Result<(), Fail> {
     let alloc = rt.alloc();
@@ -65,7 +65,7 @@ fn a_suffix_is_written_alone(rt: HostRuntime) -> Result<(), Fail> {
     Ok(())
 }
 
-// A block with NOPs and a word behind END, in front of strings of which one is not used and another stands
+// A block with NOPs and a word after END, before strings of which one is not used and another is present
 // twice.
 const SLACK: [u32; 22] = [
     NOP,

@@ -2,7 +2,7 @@
 use Rattle.std.proofs.Common.{◌≡◌, ℕ, ◌≤◌, ◌⊎◌, Result, Ok, Err, arith, inl, inr}
 use Rattle.fdt_tree.specs.declared.fault.FdtFault.{FdtFault}
 use Rattle.fdt_tree.specs.declared.fault.FdtFault.TheVariants.{NoMemory}
-use Rattle.fdt_tree.specs.NameTables.{TooMuch}
+use Rattle.fdt_tree.specs.inside.NameTables.{TooMuch}
 
 -- there is want of memory alone where something is found
 pub fails_ok : {X Y : Type 0} (e : FdtFault) (x : X) (y : Y) (read : Result X FdtFault) → read ≡ Ok x

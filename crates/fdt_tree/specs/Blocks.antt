@@ -1,6 +1,6 @@
--- The header of a flattened devicetree and where its blocks stand: Devicetree Specification 0.4,
+-- The header of a flattened devicetree and where its blocks are: Devicetree Specification 0.4,
 -- sections 5.2 and 5.6. Each number is big endian.
-use Rattle.std.specs.Prelude.{◌≡◌, ℕ, ◌+◌, ◌%◌, ◌≤◌, List, length, take, drop, Bool, Result, Ok, Err, nat_lt, nat_le, ◌==◌, ◌&&◌, if◌then◌else◌}
+use Rattle.std.specs.Prelude.{◌^◌, ◌≡◌, ℕ, ◌+◌, ◌%◌, ◌≤◌, List, length, take, drop, Bool, Result, Ok, Err, nat_lt, nat_le, ◌==◌, ◌&&◌, if◌then◌else◌}
 use Rattle.std.specs.Int.{w32, from_be_bytes}
 use Rattle.fdt_tree.specs.declared.fault.FdtFault.{FdtFault}
 use Rattle.fdt_tree.specs.declared.fault.FdtFault.TheVariants.{Short, BadMagic, BadVersion, TooLarge, BadBlock}
@@ -10,7 +10,7 @@ use Rattle.fdt_tree.specs.declared.header.Header.{Header}
 abbrev pub word_at : ℕ → List ℕ → ℕ
 word_at offset bytes = from_be_bytes w32 (take 4 (drop offset bytes))
 
--- the fields behind the magic
+-- the fields after the magic number
 abbrev pub header_of : List ℕ → Header
 header_of bytes = record {
   totalsize = word_at 4 bytes;
@@ -24,7 +24,7 @@ header_of bytes = record {
   size_dt_struct = word_at 36 bytes;
 }
 
--- The header and the blocks stand within totalsize, and that within the bytes. They may overlap.
+-- The header and the blocks are within totalsize, and totalsize is within the bytes. Blocks may overlap.
 pub record BlocksFit (h : Header) (len : ℕ) : Type 0 where
   pub own : 40 ≤ h.totalsize
   pub whole : h.totalsize ≤ len
@@ -34,15 +34,15 @@ pub record BlocksFit (h : Header) (len : ℕ) : Type 0 where
   pub structure : h.off_dt_struct + h.size_dt_struct ≤ h.totalsize
   pub strings : h.off_dt_strings + h.size_dt_strings ≤ h.totalsize
 
--- The bytes begin with this header. That a file has at most 2,097,152 bytes is the limit that Linux
--- sets for arm64 (Documentation/arch/arm64/booting.rst, "Setup the device tree").
+-- The bytes begin with this header. The limit of 2 MiB (2 ^ 21 bytes) is the one that Linux sets for
+-- arm64 (Documentation/arch/arm64/booting.rst, "Setup the device tree").
 pub record HasHeader (bytes : List ℕ) (h : Header) : Type 0 where
   pub fields : h ≡ header_of bytes
   pub long : 40 ≤ length bytes
   pub magic : word_at 0 bytes ≡ 0xd00dfeed
   pub version : h.version ≡ 17
   pub compatible : h.last_comp_version ≤ 17
-  pub small : length bytes ≤ 2097152
+  pub small : length bytes ≤ 2 ^ 21
   pub blocks : BlocksFit h (length bytes)
 
 -- the blocks
@@ -55,7 +55,7 @@ structure_block h bytes = take h.size_dt_struct (drop h.off_dt_struct bytes)
 abbrev pub strings_block : Header → List ℕ → List ℕ
 strings_block h bytes = take h.size_dt_strings (drop h.off_dt_strings bytes)
 
--- ---- the first check that fails, which is this project's order
+-- ---- the checks, in this project's order
 
 abbrev pub blocks_fit : Header → ℕ → Bool
 blocks_fit h len =
@@ -73,7 +73,7 @@ header_at bytes =
     if nat_lt (length bytes) 40 then Err Short
     else (if word_at 0 bytes == 0xd00dfeed then
     (if is_known_version (header_of bytes) then
-    (if nat_lt 2097152 (length bytes) then Err TooLarge
+    (if nat_lt (2 ^ 21) (length bytes) then Err TooLarge
     else (if blocks_fit (header_of bytes) (length bytes) then Ok (header_of bytes) else Err BadBlock))
     else Err BadVersion)
     else Err BadMagic)

@@ -1,5 +1,5 @@
--- A devicetree apart from where it lies in memory, and the tokens of its nodes: Devicetree
--- Specification 0.4, sections 2.1 to 2.3 and 5.4.
+-- What a devicetree is, and the tokens of its nodes: Devicetree Specification 0.4, sections 2.1 to 2.3
+-- and 5.4.
 use Rattle.std.specs.Prelude.{ℕ, List, [], ◌∷◌, ◌++◌, map}
 use Rattle.fdt_tree.specs.declared.tree.Reservation.{Reservation}
 
@@ -17,22 +17,26 @@ pub data Nodes : Type 0 where
 pub record Branch : Type 0 where
   pub name : List ℕ
   pub entries : List Entry
-  pub kids : Nodes
+  pub children : Nodes
 
--- nodes that stand beside one another
+-- a node with nothing in it
+abbrev pub bare : List ℕ → Branch
+bare name = record { name = name; entries = []; children = none }
+
+-- nodes as siblings
 abbrev pub joined : List Branch → Nodes
 joined [] = none
-joined (b ∷ bs) = node b.name b.entries b.kids (joined bs)
+joined (b ∷ bs) = node b.name b.entries b.children (joined bs)
 
 -- the root, whose name is empty
 pub record Root : Type 0 where
   pub entries : List Entry
-  pub kids : Nodes
+  pub children : Nodes
 
 abbrev pub branch_of_root : Root → Branch
-branch_of_root r = record { name = []; entries = r.entries; kids = r.kids }
+branch_of_root r = record { name = []; entries = r.entries; children = r.children }
 
--- what a flattened devicetree says
+-- what a flattened devicetree holds
 pub record Devicetree : Type 0 where
   pub reservations : List Reservation
   pub boot_cpu : ℕ
@@ -46,11 +50,27 @@ pub data Token : Type 0 where
   nop : Token
   finish : Token
 
+-- the numbers of the tokens (5.4.1)
+abbrev pub FDT_BEGIN_NODE : ℕ
+FDT_BEGIN_NODE = 1
+
+abbrev pub FDT_END_NODE : ℕ
+FDT_END_NODE = 2
+
+abbrev pub FDT_PROP : ℕ
+FDT_PROP = 3
+
+abbrev pub FDT_NOP : ℕ
+FDT_NOP = 4
+
+abbrev pub FDT_END : ℕ
+FDT_END = 9
+
 -- the tokens of nodes, without any NOP: a node's properties come before its children
 abbrev pub tokens : Nodes → List Token
 tokens none = []
-tokens (node name entries kids next) =
-    begin_node name ∷ (map property entries ++ (tokens kids ++ (end_node ∷ tokens next)))
+tokens (node name entries children next) =
+    begin_node name ∷ (map property entries ++ (tokens children ++ (end_node ∷ tokens next)))
 
 abbrev pub root_tokens : Root → List Token
-root_tokens r = tokens (node [] r.entries r.kids none)
+root_tokens r = tokens (node [] r.entries r.children none)

@@ -1,17 +1,15 @@
--- A devicetree with another value of a property, and why it may be refused. Paths are those of looking
--- up (Devicetree Specification 0.4, section 2.2.3); where a new property or node stands is this
--- project's choice.
+-- Setting the value of a property at a path, and why that may be refused. Paths are those of look-ups
+-- (Devicetree Specification 0.4, section 2.2.3). Where a new property or node is put is this project's choice.
 use Rattle.std.specs.Prelude.{ℕ, List, [], ◌∷◌, length, Bool, true, Option, Some, None, Result, Ok, Err, nat_lt, ◌&&◌, if◌then◌else◌}
 use Rattle.std.specs.Str.{bytes_eq}
 use Rattle.fdt_tree.specs.declared.fault.FdtFault.{FdtFault}
 use Rattle.fdt_tree.specs.declared.fault.FdtFault.TheVariants.{BadName, TooDeep}
-use Rattle.fdt_tree.specs.Devicetree.{Entry, Nodes, none, node, Branch, Root, branch_of_root, Devicetree}
+use Rattle.fdt_tree.specs.Devicetree.{Entry, Nodes, none, node, Branch, Root, branch_of_root, Devicetree, bare}
 use Rattle.fdt_tree.specs.Names.{legal}
-use Rattle.fdt_tree.specs.OpenNodes.{bare}
 use Rattle.fdt_tree.specs.Lookup.{names_on}
 use Rattle.refusal.specs.Answer.{◌>>=◌}
 
--- the first property of the name with this value, or else one more
+-- the first property of the name gets the value; where none has the name, one is added at the end
 abbrev pub with_value : List ℕ → List ℕ → List Entry → List Entry
 with_value name value [] = record { name = name; value = value } ∷ []
 with_value name value (e ∷ es) =
@@ -21,37 +19,37 @@ abbrev pub value_put : List ℕ → List ℕ → Branch → Branch
 value_put name value b = record b { entries = with_value name value b.entries }
 
 abbrev pub in_front_of : Nodes → Branch → Nodes
-in_front_of next b = node b.name b.entries b.kids next
+in_front_of next b = node b.name b.entries b.children next
 
--- the first node whose name passes the test changed, or else a new one behind the others
+-- the first node whose name passes the test is edited; where none passes, the new one is added at the end
 abbrev pub first_such : (List ℕ → Bool) → (Branch → Branch) → Branch → Nodes → Nodes
-first_such test change new none = in_front_of none new
-first_such test change new (node n entries kids next) =
-    if test n then in_front_of next (change (record { name = n; entries = entries; kids = kids }))
-    else node n entries kids (first_such test change new next)
+first_such test edit new none = in_front_of none new
+first_such test edit new (node n entries children next) =
+    if test n then in_front_of next (edit (record { name = n; entries = entries; children = children }))
+    else node n entries children (first_such test edit new next)
 
--- the first node of the name changed, or else an empty one of that name, changed, behind the others
-abbrev pub first_changed : List ℕ → (Branch → Branch) → Nodes → Nodes
-first_changed name change nodes = first_such (λ n. bytes_eq n name) change (change (bare name)) nodes
+-- the first node of the name is edited; where none has the name, an empty one is edited and added at the end
+abbrev pub first_edited : List ℕ → (Branch → Branch) → Nodes → Nodes
+first_edited name edit nodes = first_such (λ n. bytes_eq n name) edit (edit (bare name)) nodes
 
--- the node that the names lead to changed
-abbrev pub changed_below : List (List ℕ) → (Branch → Branch) → Branch → Branch
-changed_below [] change b = change b
-changed_below (name ∷ names) change b = record b { kids = first_changed name (changed_below names change) b.kids }
+-- the node that the names lead to is edited
+abbrev pub edited_below : List (List ℕ) → (Branch → Branch) → Branch → Branch
+edited_below [] edit b = edit b
+edited_below (name ∷ names) edit b = record b { children = first_edited name (edited_below names edit) b.children }
 
 abbrev pub all_legal : List (List ℕ) → Bool
 all_legal [] = true
 all_legal (name ∷ names) = legal name && all_legal names
 
 abbrev pub root_in : Branch → Root
-root_in b = record { entries = b.entries; kids = b.kids }
+root_in b = record { entries = b.entries; children = b.children }
 
 abbrev pub with_root : Devicetree → Branch → Devicetree
 with_root t b = record t { root = root_in b }
 
--- names that a property may have and nodes on the way to it, none of which is made deeper than 64
-abbrev pub may_stand : List (List ℕ) → List ℕ → Result (Unit {0}) FdtFault
-may_stand names name =
+-- the names of the path and of the property are legal, and no node is made deeper than 64
+abbrev pub check_names : List (List ℕ) → List ℕ → Result (Unit {0}) FdtFault
+check_names names name =
     if all_legal names then (if legal name then (if nat_lt (length names) 64 then Ok tt else Err TooDeep) else Err BadName)
     else Err BadName
 
@@ -59,9 +57,9 @@ abbrev pub path_names : Option (List (List ℕ)) → Result (List (List ℕ)) Fd
 path_names None = Err BadName
 path_names (Some names) = Ok names
 
--- the tree with this value, or the first refusal
+-- the tree with this value; or the first refusal
 unfoldable pub set_at : List ℕ → List ℕ → List ℕ → Devicetree → Result Devicetree FdtFault
 set_at path name value t = do
   names ← path_names (names_on path)
-  _ ← may_stand names name
-  Ok (with_root t (changed_below names (value_put name value) (branch_of_root t.root)))
+  _ ← check_names names name
+  Ok (with_root t (edited_below names (value_put name value) (branch_of_root t.root)))

@@ -1,37 +1,37 @@
--- Which bytes spell a structure block: Devicetree Specification 0.4, section 5.4, apart from any reader.
+-- Which bytes spell a structure block: Devicetree Specification 0.4, section 5.4.
 use Rattle.std.specs.Prelude.{◌≡◌, ℕ, ◌+◌, ◌-◌, ◌%◌, ◌^◌, ◌<◌, List, [], ◌∷◌, ◌++◌, length, drop}
 use Rattle.std.specs.Int.{w32, to_be_bytes}
-use Rattle.fdt_tree.specs.Devicetree.{Token, begin_node, property, end_node, nop, finish, Root, root_tokens}
+use Rattle.fdt_tree.specs.Devicetree.{Token, begin_node, property, end_node, nop, finish, Root, root_tokens, FDT_BEGIN_NODE, FDT_END_NODE, FDT_PROP, FDT_NOP, FDT_END}
 use Rattle.fdt_tree.specs.Names.{AreLegal, IsLegal}
 
--- Any bytes that fill up to a multiple of 4 behind n bytes. The specification wants zeros there; as
--- readers do, these are not looked at.
+-- Any bytes that pad n bytes to a multiple of 4. The specification requires zeros. Like other readers, this
+-- one does not look at them.
 abbrev pub IsPadding : ℕ → List ℕ → Type 0
 IsPadding n pad = length pad ≡ (4 - n % 4) % 4
 
--- the name stands at this offset within the strings, with a zero byte behind it
-abbrev pub StandsAt : List ℕ → ℕ → List ℕ → Type 0
-StandsAt strings offset name = (others : List ℕ) × (drop offset strings ≡ name ++ (0 ∷ others))
+-- the name is at this offset in the strings block, and a zero byte follows it
+abbrev pub IsStringAt : List ℕ → ℕ → List ℕ → Type 0
+IsStringAt strings offset name = (others : List ℕ) × (drop offset strings ≡ name ++ (0 ∷ others))
 
--- The bytes are this token, with these strings (5.4.1).
+-- The bytes spell this token, given the strings block (5.4.1).
 abbrev pub IsTokenText : List ℕ → Token → List ℕ → Type 0
 IsTokenText strings (begin_node name) text =
-    (pad : List ℕ) × IsPadding (length name + 1) pad × (text ≡ to_be_bytes w32 1 ++ (name ++ (0 ∷ pad)))
+    (pad : List ℕ) × IsPadding (length name + 1) pad × (text ≡ to_be_bytes w32 FDT_BEGIN_NODE ++ (name ++ (0 ∷ pad)))
 IsTokenText strings (property e) text =
     (offset : ℕ) × (pad : List ℕ) × (offset < 2 ^ 32) × (length e.value < 2 ^ 32)
-    × IsPadding (length e.value) pad × StandsAt strings offset e.name
-    × (text ≡ to_be_bytes w32 3 ++ (to_be_bytes w32 (length e.value) ++ (to_be_bytes w32 offset ++ (e.value ++ pad))))
-IsTokenText strings end_node text = text ≡ to_be_bytes w32 2
-IsTokenText strings nop text = text ≡ to_be_bytes w32 4
-IsTokenText strings finish text = text ≡ to_be_bytes w32 9
+    × IsPadding (length e.value) pad × IsStringAt strings offset e.name
+    × (text ≡ to_be_bytes w32 FDT_PROP ++ (to_be_bytes w32 (length e.value) ++ (to_be_bytes w32 offset ++ (e.value ++ pad))))
+IsTokenText strings end_node text = text ≡ to_be_bytes w32 FDT_END_NODE
+IsTokenText strings nop text = text ≡ to_be_bytes w32 FDT_NOP
+IsTokenText strings finish text = text ≡ to_be_bytes w32 FDT_END
 
--- the bytes are the tokens one after the other
+-- the bytes spell the tokens, one after another
 abbrev pub IsText : List ℕ → List Token → List ℕ → Type 0
 IsText strings [] text = text ≡ []
 IsText strings (t ∷ ts) text =
     (front : List ℕ) × (rest : List ℕ) × IsTokenText strings t front × IsText strings ts rest × (text ≡ front ++ rest)
 
--- the tokens but the NOPs, which may stand anywhere in front of another token
+-- the tokens without the NOPs, which may come before any other token
 abbrev pub without_nops : List Token → List Token
 without_nops [] = []
 without_nops (nop ∷ ts) = without_nops ts
@@ -40,13 +40,13 @@ without_nops (property e ∷ ts) = property e ∷ without_nops ts
 without_nops (end_node ∷ ts) = end_node ∷ without_nops ts
 without_nops (finish ∷ ts) = finish ∷ without_nops ts
 
--- The block is the tokens of one root with NOPs among them, END, and any bytes (5.4.2).
+-- The block spells the tokens of one root with NOPs among them, then END, then any bytes (5.4.2).
 pub record SpellsRoot (strings block : List ℕ) (r : Root) : Type 0 where
   pub all : List Token
   pub front : List ℕ
   pub rest : List ℕ
-  pub parts : block ≡ front ++ (to_be_bytes w32 9 ++ rest)
+  pub parts : block ≡ front ++ (to_be_bytes w32 FDT_END ++ rest)
   pub text : IsText strings all front
   pub same : without_nops all ≡ root_tokens r
   pub entries : AreLegal r.entries
-  pub kids : IsLegal 1 r.kids
+  pub children : IsLegal 1 r.children

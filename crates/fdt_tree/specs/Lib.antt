@@ -3,10 +3,7 @@ pub mod Names
 pub mod Faults
 pub mod NodeViews
 pub mod Scanning
-pub mod LetterRuns
-pub mod LexemeViews
 pub mod Grammar
-pub mod OpenNodes
 pub mod Blocks
 pub mod Reservations
 pub mod Wholeness
@@ -16,9 +13,6 @@ pub mod TreeAt
 pub mod Lookup
 pub mod FirstFault
 pub mod Edits
-pub mod EditViews
 pub mod Memory
-pub mod MemoryViews
 pub mod Writing
-pub mod NameTables
-pub mod OutputViews
+pub mod inside

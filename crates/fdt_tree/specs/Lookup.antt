@@ -1,10 +1,10 @@
 -- Looking up a property by the path of its node: Devicetree Specification 0.4, section 2.2.3. Names
--- are whole, unit addresses included. Where names are equal, the first is found.
+-- are compared whole, with their unit addresses. Of equal names the first is found.
 use Rattle.std.specs.Prelude.{ℕ, List, [], ◌∷◌, Option, Some, None, option_and_then, ◌==◌, if◌then◌else◌}
 use Rattle.std.specs.Str.{bytes_eq}
 use Rattle.fdt_tree.specs.Devicetree.{Entry, Nodes, none, node, Branch, branch_of_root, Devicetree}
 
--- a byte in front of the first text
+-- the byte is put before the first text
 abbrev pub put_first : ℕ → List (List ℕ) → List (List ℕ)
 put_first c [] = (c ∷ []) ∷ []
 put_first c (name ∷ names) = (c ∷ name) ∷ names
@@ -14,8 +14,7 @@ abbrev pub between_slashes : List ℕ → List (List ℕ)
 between_slashes [] = [] ∷ []
 between_slashes (c ∷ cs) = if c == 47 then [] ∷ between_slashes cs else put_first c (between_slashes cs)
 
--- The names on the way from the root: none for `/`, or each with a slash in front of it. Other texts
--- are no paths.
+-- The names of a path: none for `/`, else each name comes after a slash. Other texts are no paths.
 abbrev pub names_on : List ℕ → Option (List (List ℕ))
 names_on [] = None
 names_on (c ∷ []) = if c == 47 then Some [] else None
@@ -24,13 +23,13 @@ names_on (c ∷ (d ∷ cs)) = if c == 47 then Some (between_slashes (d ∷ cs)) 
 -- the first node of this name
 abbrev pub first_named : List ℕ → Nodes → Option Branch
 first_named name none = None
-first_named name (node n entries kids next) =
-    if bytes_eq n name then Some (record { name = n; entries = entries; kids = kids }) else first_named name next
+first_named name (node n entries children next) =
+    if bytes_eq n name then Some (record { name = n; entries = entries; children = children }) else first_named name next
 
 -- the node that the names lead to
 abbrev pub node_below : List (List ℕ) → Branch → Option Branch
 node_below [] b = Some b
-node_below (name ∷ names) b = option_and_then (node_below names) (first_named name b.kids)
+node_below (name ∷ names) b = option_and_then (node_below names) (first_named name b.children)
 
 -- the value of the first property of this name
 abbrev pub first_value : List ℕ → List Entry → Option (List ℕ)

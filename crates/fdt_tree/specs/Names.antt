@@ -1,26 +1,27 @@
--- Which names are taken. The Devicetree Specification 0.4 lists letters for node names (2.2.1) and
--- property names (2.2.4); devicetrees in use have others too, so this project takes every visible
--- ASCII character but `/`, which parts the names of a path.
+-- Which names are legal. The Devicetree Specification 0.4 lists the characters of node names (2.2.1) and of
+-- property names (2.2.4). Devicetrees in use have others too, so this project accepts every visible ASCII
+-- character except `/`, which separates the names of a path.
 use Rattle.std.specs.Prelude.{ℕ, ◌+◌, ◌<◌, List, [], ◌∷◌, length, Bool, true, false, nat_lt, ◌==◌, ◌&&◌, not, cond, IsTrue}
 use Rattle.fdt_tree.specs.Devicetree.{Entry, Nodes, none, node}
 
-abbrev pub letter : ℕ → Bool
-letter c = nat_lt 32 c && nat_lt c 127 && not (c == 47)
+abbrev pub is_name_character : ℕ → Bool
+is_name_character c = nat_lt 32 c && nat_lt c 127 && not (c == 47)
 
-abbrev pub all_letters : List ℕ → Bool
-all_letters [] = true
-all_letters (c ∷ cs) = cond (letter c) (all_letters cs) false
+abbrev pub all_name_characters : List ℕ → Bool
+all_name_characters [] = true
+all_name_characters (c ∷ cs) = cond (is_name_character c) (all_name_characters cs) false
 
 -- a name of a property, or of a node other than the root
 abbrev pub legal : List ℕ → Bool
-legal name = nat_lt 0 (length name) && all_letters name
+legal name = nat_lt 0 (length name) && all_name_characters name
 
 abbrev pub AreLegal : List Entry → Type 0
 AreLegal [] = Unit {0}
 AreLegal (e ∷ es) = IsTrue (legal e.name) × AreLegal es
 
--- Names are legal, and nodes at most 64 deep, below so many open nodes. The root is 1 deep.
+-- All names are legal and no node is deeper than 64, given `depth` open nodes around these (the root has
+-- depth 1).
 abbrev pub IsLegal : ℕ → Nodes → Type 0
 IsLegal depth none = Unit {0}
-IsLegal depth (node name entries kids next) =
-    (depth < 64) × IsTrue (legal name) × AreLegal entries × IsLegal (depth + 1) kids × IsLegal depth next
+IsLegal depth (node name entries children next) =
+    (depth < 64) × IsTrue (legal name) × AreLegal entries × IsLegal (depth + 1) children × IsLegal depth next

@@ -1,4 +1,4 @@
--- What the nodes in memory are, given the strings of their tree.
+-- Which nodes of a devicetree the nodes in memory are, given the strings of their tree.
 use Rattle.std.specs.Prelude.{ℕ, List, map, take, drop}
 use Rattle.fdt_tree.specs.declared.node.Name.{Name}
 use Rattle.fdt_tree.specs.declared.node.Name.TheVariants.{Shared, Own}
@@ -17,9 +17,9 @@ entry_of strings p = record { name = name_of strings p.name; value = p.value.ite
 
 abbrev pub branch_step : List ℕ → Node-F Branch → Branch
 branch_step strings n =
-    record { name = n.name.items; entries = map (entry_of strings) n.properties.items; kids = joined n.children.items }
+    record { name = n.name.items; entries = map (entry_of strings) n.properties.items; children = joined n.children.items }
 
--- a node, apart from where it lies in memory
+-- the node that a node in memory is
 abbrev pub branch : List ℕ → Node → Branch
 branch strings = fold-Node Branch (branch_step strings)
 
@@ -28,4 +28,4 @@ branches strings ns = map (branch strings) ns
 
 -- the root of a tree
 abbrev pub root_of : List ℕ → Node → Root
-root_of strings n = record { entries = (branch strings n).entries; kids = (branch strings n).kids }
+root_of strings n = record { entries = (branch strings n).entries; children = (branch strings n).children }

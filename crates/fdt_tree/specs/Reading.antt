@@ -1,4 +1,4 @@
--- What bytes spell, and why others are refused.
+-- Which bytes spell a devicetree, and why others are refused.
 use Rattle.std.specs.Prelude.{◌≡◌, ◌⊎◌, ℕ, List, Result, Ok, Option, Some}
 use Rattle.std.specs.Result.{result_err}
 use Rattle.fdt_tree.specs.declared.fault.FdtFault.{FdtFault}
@@ -12,7 +12,7 @@ use Rattle.fdt_tree.specs.Reservations.{SpellsReservations, reservations_at}
 use Rattle.fdt_tree.specs.Grammar.{SpellsRoot}
 use Rattle.fdt_tree.specs.Scanning.{structure_at}
 
--- The bytes are the tree in the flattened format (Devicetree Specification 0.4, chapter 5).
+-- The bytes spell the tree in the flattened format (Devicetree Specification 0.4, chapter 5).
 pub record Spells (bytes : List ℕ) (t : Devicetree) : Type 0 where
   pub header : Header
   pub sound : HasHeader bytes header
@@ -20,7 +20,7 @@ pub record Spells (bytes : List ℕ) (t : Devicetree) : Type 0 where
   pub reservations : SpellsReservations (reserve_block header bytes) t.reservations
   pub root : SpellsRoot (strings_block header bytes) (structure_block header bytes) t.root
 
--- what is found in the three blocks
+-- what the three blocks hold
 pub record Parts : Type 0 where
   pub reservations : List Reservation
   pub boot_cpu : ℕ

@@ -6,7 +6,7 @@ use Rattle.fdt_tree.specs.declared.fault.FdtFault.TheVariants.{BadReserve}
 use Rattle.fdt_tree.specs.declared.tree.Reservation.{Reservation}
 use Rattle.refusal.specs.Answer.{◌>>=◌}
 
--- two numbers of 64 bits, of which one at least is no zero
+-- two numbers of 64 bits that are not both zero
 abbrev pub IsReservation : Reservation → Type 0
 IsReservation r = (r.address < 2 ^ 64) × (r.size < 2 ^ 64) × (0 < r.address + r.size)
 
@@ -17,15 +17,15 @@ AreReservations (r ∷ rs) = IsReservation r × AreReservations rs
 abbrev pub pair_text : Reservation → List ℕ
 pair_text r = to_be_bytes w64 r.address ++ to_be_bytes w64 r.size
 
--- The bytes are the reservations, a pair of zeros, and any bytes.
+-- The block spells the reservations, then a pair of zeros, then any bytes.
 abbrev pub SpellsReservations : List ℕ → List Reservation → Type 0
 SpellsReservations block [] = (rest : List ℕ) × (block ≡ pair_text (record { address = 0; size = 0 }) ++ rest)
 SpellsReservations block (r ∷ rs) =
     (rest : List ℕ) × IsReservation r × SpellsReservations rest rs × (block ≡ pair_text r ++ rest)
 
--- ---- the reservations, or that they have no end
+-- ---- reading: the reservations; or the fault that they have no end
 
--- a pair and the bytes behind it
+-- a pair and the bytes after it
 unfoldable pub pair_at : List ℕ → Result (Reservation × List ℕ) FdtFault
 pair_at bytes =
     if nat_lt (length bytes) 16 then Err BadReserve

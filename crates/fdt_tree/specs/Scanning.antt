@@ -1,20 +1,20 @@
--- The structure block token by token: Devicetree Specification 0.4, sections 5.4 and 5.5. What the first
--- token of some bytes is, or its fault. Which of several faults it is, and that no node is deeper than
--- 64, is this project's choice.
+-- Scanning the structure block token by token: Devicetree Specification 0.4, sections 5.4 and 5.5.
+-- `token_at` is the first token of some bytes, or its fault. Which of several faults is reported, and that
+-- no node is deeper than 64, is this project's choice.
 use Rattle.std.specs.Prelude.{ℕ, zero, suc, ◌+◌, ◌-◌, ◌%◌, List, [], ◌∷◌, length, take, drop, Bool, true, false, Option, Some, None, Result, Ok, Err, nat_lt, ◌==◌, ◌&&◌, not, if◌then◌else◌}
 use Rattle.std.specs.Int.{w32, from_be_bytes}
 use Rattle.fdt_tree.specs.declared.fault.FdtFault.{FdtFault}
 use Rattle.fdt_tree.specs.declared.fault.FdtFault.TheVariants.{BadToken, BadName, BadString, LateProperty, TooDeep}
 use Rattle.fdt_tree.specs.declared.place.Place.{Place}
 use Rattle.refusal.specs.Answer.{◌>>=◌}
-use Rattle.fdt_tree.specs.Devicetree.{Token, begin_node, property, end_node, nop, finish}
+use Rattle.fdt_tree.specs.Devicetree.{Token, begin_node, property, end_node, nop, finish, FDT_BEGIN_NODE, FDT_END_NODE, FDT_PROP, FDT_NOP, FDT_END}
 use Rattle.fdt_tree.specs.Names.{legal}
 
--- in front of the root
+-- before the root
 abbrev pub start : Place
 start = record { depth = 0; late = false }
 
--- the place behind a token
+-- the place after a token
 abbrev pub after : Place → Token → Place
 after p (begin_node name) = record { depth = p.depth + 1; late = false }
 after p (property e) = p
@@ -27,13 +27,13 @@ unfoldable pub number_at : List ℕ → Result (ℕ × List ℕ) FdtFault
 number_at bytes =
     if nat_lt (length bytes) 4 then Err BadToken else Ok (from_be_bytes w32 (take 4 bytes), drop 4 bytes)
 
--- So many bytes, and what stands behind them and their padding to a multiple of 4. Padding is not
--- looked at: where the block ends within it, nothing stands behind it.
+-- The first n bytes, and the bytes after them and their padding to a multiple of 4. Padding is not looked
+-- at: where the block ends within it, no bytes follow.
 unfoldable pub padded_at : ℕ → List ℕ → Result (List ℕ × List ℕ) FdtFault
 padded_at n bytes =
     if nat_lt (length bytes) n then Err BadToken else Ok (take n bytes, drop (n + (4 - n % 4) % 4) bytes)
 
--- how many bytes stand before the first zero byte
+-- the number of bytes before the first zero byte
 abbrev pub until_zero : List ℕ → Option ℕ
 until_zero [] = None
 until_zero (zero ∷ bytes) = Some 0
@@ -47,14 +47,14 @@ string_at fault bytes = elim (until_zero bytes) [ None ↦ Err fault | Some n �
 abbrev pub legal_at : Place → List ℕ → Bool
 legal_at p name = if p.depth == 0 then (length name == 0) else legal name
 
--- FDT_BEGIN_NODE: a name with a zero byte behind it, and padding
+-- FDT_BEGIN_NODE: a name, a zero byte, and padding
 unfoldable pub begin_at : Place → List ℕ → Result (Token × List ℕ) FdtFault
 begin_at p bytes = do
   name ← string_at BadToken bytes
   text ← padded_at (length name + 1) bytes
   if legal_at p name then (if nat_lt p.depth 64 then Ok (begin_node name, text.1) else Err TooDeep) else Err BadName
 
--- the name of a property: the text at this offset within the strings, which may be the end of another
+-- the name of a property: the text at this offset in the strings block, which may be the end of a longer name
 unfoldable pub name_at : List ℕ → ℕ → Result (List ℕ) FdtFault
 name_at strings offset =
     if nat_lt offset (length strings) then
@@ -74,23 +74,23 @@ property_at strings p bytes = do
 abbrev pub is_over : Place → Bool
 is_over p = (p.depth == 0) && p.late
 
--- the token of this number, where such a token may stand
+-- the token of this number, where such a token is allowed
 unfoldable pub kind_at : List ℕ → Place → ℕ → List ℕ → Result (Token × List ℕ) FdtFault
 kind_at strings p kind rest =
-    if (kind == 1) && not (is_over p) then begin_at p rest
-    else (if (kind == 2) && nat_lt 0 p.depth then Ok (end_node, rest)
-    else (if (kind == 3) && nat_lt 0 p.depth then property_at strings p rest
-    else (if kind == 4 then Ok (nop, rest)
-    else (if (kind == 9) && is_over p then Ok (finish, rest)
+    if (kind == FDT_BEGIN_NODE) && not (is_over p) then begin_at p rest
+    else (if (kind == FDT_END_NODE) && nat_lt 0 p.depth then Ok (end_node, rest)
+    else (if (kind == FDT_PROP) && nat_lt 0 p.depth then property_at strings p rest
+    else (if kind == FDT_NOP then Ok (nop, rest)
+    else (if (kind == FDT_END) && is_over p then Ok (finish, rest)
     else Err BadToken))))
 
--- the first token and the bytes behind it
+-- the first token and the bytes after it
 unfoldable pub token_at : List ℕ → Place → List ℕ → Result (Token × List ℕ) FdtFault
 token_at strings p bytes = do
   kind ← number_at bytes
   kind_at strings p kind.0 kind.1
 
--- what a token adds to the tokens behind it
+-- the tokens from this one on, given those after it
 abbrev pub joins : Token → Result (List Token) FdtFault → Result (List Token) FdtFault
 joins finish more = Ok []
 joins nop more = more

@@ -1,43 +1,53 @@
--- The tree that bytes spell as a function of the bytes, for definitions that go on from it. A law says
--- that it is the one that `Spells` tells of.
+-- The tree that bytes spell, as a function of the bytes, so that other definitions can use it. The law
+-- `tree_at_is_spelled` says that it is the tree of `Spells`.
 use Rattle.std.specs.Prelude.{ℕ, List, [], ◌∷◌, Result, Ok}
 use Rattle.fdt_tree.specs.declared.fault.FdtFault.{FdtFault}
 use Rattle.fdt_tree.specs.Devicetree.{Entry, Nodes, none, node, Token, begin_node, property, end_node, Root, Devicetree}
 use Rattle.fdt_tree.specs.Reading.{Parts, parts_at}
 use Rattle.refusal.specs.Answer.{◌>>=◌}
 
--- what tokens say of a node that began in front of them: its properties, and its children
-pub record Behind : Type 0 where
+-- a node whose end was read, and whose begin was not read yet: its properties and its children so far
+pub record Pending : Type 0 where
   pub entries : List Entry
-  pub kids : Nodes
+  pub children : Nodes
 
-abbrev pub nothing_behind : Behind
-nothing_behind = record { entries = []; kids = none }
+abbrev pub empty_pending : Pending
+empty_pending = record { entries = []; children = none }
 
--- The same with a token in front, of the innermost such node and of those around it. An end opens a node,
--- seen from behind; the begin closes it, and it becomes the first child of the one around it.
-abbrev pub with_token : Token → List Behind → List Behind
-with_token end_node around = nothing_behind ∷ around
-with_token (property e) (inner ∷ around) = record { entries = e ∷ inner.entries; kids = inner.kids } ∷ around
+-- Reads the token list from its end: `end_node` pushes an empty node, `begin_node` pops it into its parent.
+--
+-- For instance, the tokens of a root with a property `p` and a child `a` are begin_node "", property p,
+-- begin_node "a", end_node, end_node. From the last to the first they make these pending nodes, the
+-- innermost first:
+--
+--     (no token)        {}
+--     end_node          {}  {}               the root is pushed
+--     end_node          {}  {}  {}           `a` is pushed
+--     begin_node "a"    {a}  {}              `a` is popped into the root, as its first child
+--     property p        {p, a}  {}
+--     begin_node ""     {root}               the root is popped into the outermost
+abbrev pub with_token : Token → List Pending → List Pending
+with_token end_node around = empty_pending ∷ around
+with_token (property e) (inner ∷ around) = record { entries = e ∷ inner.entries; children = inner.children } ∷ around
 with_token (begin_node name) (inner ∷ outer ∷ around) =
-    record { entries = outer.entries; kids = node name inner.entries inner.kids outer.kids } ∷ around
+    record { entries = outer.entries; children = node name inner.entries inner.children outer.children } ∷ around
 with_token _ around = around
 
-abbrev pub behind_of : List Token → List Behind
-behind_of [] = nothing_behind ∷ []
-behind_of (t ∷ ts) = with_token t (behind_of ts)
+abbrev pub pending_of : List Token → List Pending
+pending_of [] = empty_pending ∷ []
+pending_of (t ∷ ts) = with_token t (pending_of ts)
 
 -- the first of nodes, as a root
 abbrev pub first_as_root : Nodes → Root
-first_as_root none = record { entries = []; kids = none }
-first_as_root (node name entries kids next) = record { entries = entries; kids = kids }
+first_as_root none = record { entries = []; children = none }
+first_as_root (node name entries children next) = record { entries = entries; children = children }
 
-abbrev pub root_at : List Behind → Root
+abbrev pub root_at : List Pending → Root
 root_at [] = first_as_root none
-root_at (b ∷ around) = first_as_root b.kids
+root_at (b ∷ around) = first_as_root b.children
 
 abbrev pub tree_of : Parts → Devicetree
-tree_of p = record { reservations = p.reservations; boot_cpu = p.boot_cpu; root = root_at (behind_of p.tokens) }
+tree_of p = record { reservations = p.reservations; boot_cpu = p.boot_cpu; root = root_at (pending_of p.tokens) }
 
 -- the tree, or the first check that fails
 abbrev pub tree_at : List ℕ → Result Devicetree FdtFault

@@ -1,4 +1,4 @@
--- What each tree in memory keeps.
+-- What always holds of a tree in memory.
 use Rattle.std.specs.Prelude.{ℕ, ◌+◌, List, [], ◌∷◌}
 use Rattle.std.specs.Coded.{le_prop}
 use Rattle.std.proofs.Math.Bool.{Bool-set}
@@ -9,7 +9,7 @@ use Rattle.fdt_tree.specs.Names.{AreLegal, IsLegal}
 use Rattle.fdt_tree.specs.NodeViews.{root_of}
 use Rattle.fdt_tree.specs.Reservations.{AreReservations}
 
--- what is held, apart from where it lies in memory
+-- the devicetree that a tree in memory is
 abbrev pub tree_in : Contents → Devicetree
 tree_in c = record {
   reservations = c.reservations.items;
@@ -21,7 +21,7 @@ tree_in c = record {
 pub record IsWhole (t : Devicetree) : Type 0 where
   pub reservations : AreReservations t.reservations
   pub entries : AreLegal t.root.entries
-  pub kids : IsLegal 1 t.root.kids
+  pub children : IsLegal 1 t.root.children
 
 -- each of these facts has one proof at most
 pub AreReservations-prop : (rs : List Reservation) → IsProp (AreReservations rs)
@@ -34,9 +34,9 @@ AreLegal-prop (e ∷ es) = hlevel (Bool-set, AreLegal-prop es)
 
 pub IsLegal-prop : (depth : ℕ) (f : Nodes) → IsProp (IsLegal depth f)
 IsLegal-prop depth none = hlevel
-IsLegal-prop depth (node name entries kids next) =
-    hlevel (le_prop, Bool-set, AreLegal-prop entries, IsLegal-prop (depth + 1) kids, IsLegal-prop depth next)
+IsLegal-prop depth (node name entries children next) =
+    hlevel (le_prop, Bool-set, AreLegal-prop entries, IsLegal-prop (depth + 1) children, IsLegal-prop depth next)
 
 pub IsWhole-prop : (t : Devicetree) → IsProp (IsWhole t)
 IsWhole-prop t =
-    hlevel (AreReservations-prop t.reservations, AreLegal-prop t.root.entries, IsLegal-prop 1 t.root.kids)
+    hlevel (AreReservations-prop t.reservations, AreLegal-prop t.root.entries, IsLegal-prop 1 t.root.children)

@@ -1,4 +1,4 @@
-//! Another value of a property.
+//! Setting the value of a property at a path.
 
 ghost use Rattle.std.specs.Prelude.{◌≡◌, ◌<◌, ◌≤◌, ◌∷◌, length, map, Some, None, IfSome, if◌then◌else◌, OnOk, OnErr};
 ghost use Rattle.std.specs.Str.{bytes_eq};
@@ -7,8 +7,8 @@ ghost use Rattle.fdt_tree.specs.declared.node.Node.TheViews.{out-Node};
 ghost use Rattle.fdt_tree.specs.NodeViews.{name_of, entry_of, branch};
 ghost use Rattle.fdt_tree.specs.Lookup.{between_slashes, names_on};
 ghost use Rattle.refusal.specs.Answer.{Matches};
-ghost use Rattle.fdt_tree.specs.Edits.{with_value, value_put, changed_below, all_legal, path_names, may_stand};
-ghost use Rattle.fdt_tree.specs.EditViews.{names_in, way_len};
+ghost use Rattle.fdt_tree.specs.Edits.{with_value, value_put, edited_below, all_legal, path_names, check_names};
+ghost use Rattle.fdt_tree.specs.inside.EditViews.{names_in, names_len};
 
 use crate::fault::FdtFault;
 use crate::lexing::{MAX_DEPTH, is_legal};
@@ -35,7 +35,7 @@ fn child_index(children: &[Node], name: &[u8]) -> Option<usize>
         .position(|child| child.name.as_slice() == name)
 }
 
-/// Puts the value into the first property of the name, or adds one behind the others.
+/// Sets the value of the first property of the name, or adds the property after the others.
 fn put_value(
     alloc: Global,
     strings: &[u8],
@@ -58,10 +58,10 @@ fn put_value(
     Ok(())
 }
 
-/// The first of names with slashes between them, and the others.
+/// Splits names with slashes between them into the first and the rest.
 fn split_names(names: &[u8]) -> (&[u8], Option<&[u8]>)
     ensures parts { between_slashes names.now ≡ result.0.now ∷ names_in result.1 }
-    ensures shorter { way_len result.1 ≤ length names.now }
+    ensures shorter { names_len result.1 ≤ length names.now }
 {
     match slash_in(names) {
         None => (names, None),
@@ -69,8 +69,8 @@ fn split_names(names: &[u8]) -> (&[u8], Option<&[u8]>)
     }
 }
 
-/// Puts the value into the node that the names lead to from this one. Nodes that are not there are
-/// added behind the others; as each is whole before it is added, an error leaves the node as it was.
+/// Sets the value in the node that the names lead to from this one. Missing nodes are added as last
+/// children. Each is complete before it is added, so an error leaves the node as it was.
 pub fn put_below(
     alloc: Global,
     strings: &[u8],
@@ -80,7 +80,7 @@ pub fn put_below(
     value: &[u8],
 ) -> Result<(), AllocError>
     ensures done { OnOk result (branch strings.now node.new
-        ≡ changed_below (names_in names.entry) (value_put name.now value.now) (branch strings.now node.old)) }
+        ≡ edited_below (names_in names.entry) (value_put name.now value.now) (branch strings.now node.old)) }
     ensures unchanged { OnErr result (branch strings.now node.new ≡ branch strings.now node.old) }
 {
     let Some(names) = names else {
@@ -98,8 +98,8 @@ pub fn put_below(
     }
 }
 
-/// The way to the node at a path.
-pub fn way_of(path: &[u8]) -> Result<Option<&[u8]>, FdtFault>
+/// The names of a path, with slashes between them; `None` for the root.
+pub fn names_on(path: &[u8]) -> Result<Option<&[u8]>, FdtFault>
     ensures { Matches (λ w. names_in w) result (path_names (names_on path.now)) }
 {
     match path {
@@ -109,14 +109,14 @@ pub fn way_of(path: &[u8]) -> Result<Option<&[u8]>, FdtFault>
     }
 }
 
-/// How many names there are on the way, where each is legal.
-fn count_names(way: Option<&[u8]>) -> Option<usize>
-    ensures { result ≡ (if all_legal (names_in way.entry) then Some (length (names_in way.entry)) else None) }
+/// The number of names, if each is legal.
+fn count_names(names: Option<&[u8]>) -> Option<usize>
+    ensures { result ≡ (if all_legal (names_in names.entry) then Some (length (names_in names.entry)) else None) }
 {
     let mut count = 0;
-    let mut left = way;
-    while let Some(names) = left {
-        let (first, rest) = split_names(names);
+    let mut left = names;
+    while let Some(text) = left {
+        let (first, rest) = split_names(text);
         if !is_legal(first) {
             return None;
         }
@@ -126,11 +126,11 @@ fn count_names(way: Option<&[u8]>) -> Option<usize>
     Some(count)
 }
 
-/// Whether a property of this name may stand at the end of the way.
-pub fn check_names(way: Option<&[u8]>, name: &[u8]) -> Result<(), FdtFault>
-    ensures { Matches (λ u. u) result (may_stand (names_in way.entry) name.now) }
+/// Checks the names of a path, and of a property that is set there.
+pub fn check_names(names: Option<&[u8]>, name: &[u8]) -> Result<(), FdtFault>
+    ensures { Matches (λ u. u) result (check_names (names_in names.entry) name.now) }
 {
-    let Some(count) = count_names(way) else {
+    let Some(count) = count_names(names) else {
         return Err(FdtFault::BadName);
     };
     if !is_legal(name) {

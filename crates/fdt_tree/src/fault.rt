@@ -6,32 +6,32 @@ ghost use Rattle.fdt_tree.specs.declared.fault.FdtFault.TheVariants.{NoMemory};
 use refusal::NoMemory;
 use std::alloc::{AllocError, AllocFailed};
 
-/// Why a devicetree cannot be read, changed or written.
+/// Why a devicetree cannot be read, edited or written.
 #[derive(Clone, Copy, Debug, PartialEq, Eq)]
 pub enum FdtFault {
-    /// There are fewer bytes than a header has.
+    /// Fewer bytes than a header has.
     Short,
-    /// The magic number is another.
+    /// The magic number is wrong.
     BadMagic,
-    /// The version is not 17, or the last one that it is compatible with is later.
+    /// The version is not 17, or `last_comp_version` is later than 17.
     BadVersion,
-    /// A block stands where it may not.
+    /// A block is not aligned or not within the file.
     BadBlock,
     /// The reservations have no end.
     BadReserve,
-    /// A token is cut off, has an unknown number or stands where it may not.
+    /// A token is cut off, has an unknown number or is not allowed where it is.
     BadToken,
-    /// A name is empty where it may not be, or has a byte that no name has.
+    /// A name is empty or has a byte that no name may have; or the root's name is not empty.
     BadName,
-    /// A property's name is not inside the strings.
+    /// A property's name is not within the strings block.
     BadString,
-    /// A property stands behind a child of its node.
+    /// A property comes after a child of its node.
     LateProperty,
-    /// A node stands deeper than 64.
+    /// A node is deeper than 64.
     TooDeep,
-    /// `#address-cells` or `#size-cells` of the root are of no use.
+    /// `#address-cells` or `#size-cells` of the root is not 1 or 2, or a number does not fit in its cells.
     BadCells,
-    /// There are more than 2,097,152 bytes.
+    /// More than 2 MiB (2,097,152 bytes).
     TooLarge,
     /// Memory was refused.
     NoMemory,
@@ -41,8 +41,8 @@ impl FdtFault {
     ghost use Rattle.std.specs.Prelude.{◌≡◌};
     ghost use Rattle.fdt_tree.specs.Faults.{own_fault};
 
-    /// The devicetree's own fault; or `NoMemory`, where memory was refused. A caller that reports both
-    /// keeps them apart by this.
+    /// The devicetree's own fault; or `NoMemory`, where memory was refused. A caller that reports the two
+    /// in different ways keeps them apart by this.
     pub fn own_fault(self) -> Result<FdtFault, NoMemory>
         ensures { result ≡ own_fault self }
     {

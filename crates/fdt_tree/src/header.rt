@@ -1,4 +1,4 @@
-//! The header: what a flattened devicetree says of itself.
+//! Reading the header of a flattened devicetree.
 
 ghost use Rattle.std.specs.Prelude.{◌≡◌, ◌+◌, ◌≤◌, length, nat_le, IfOk};
 ghost use Rattle.refusal.specs.Answer.{Matches};
@@ -6,18 +6,21 @@ ghost use Rattle.fdt_tree.specs.Blocks.{BlocksFit, word_at, header_of, blocks_fi
 
 use crate::fault::FdtFault;
 
-/// How many bytes a header has.
-const HEADER_LEN: usize = 40;
+/// The length of a header, in bytes.
+pub const HEADER_LEN: usize = 40;
 
-/// How many bytes a file may have.
-pub const MAX_LEN: usize = 2_097_152;
+/// The most bytes that a file may have: 2 MiB.
+pub const MAX_LEN: usize = 1 << 21;
 
 pub const MAGIC: u32 = 0xd00d_feed;
 
 /// The version that is read.
 pub const VERSION: u32 = 17;
 
-/// The fields of a header behind the magic number, by the specification's names. Offsets and sizes are
+/// The version that a written file is compatible with.
+pub const LAST_COMP_VERSION: u32 = 16;
+
+/// The fields of a header after the magic number, by the specification's names. Offsets and sizes are
 /// in bytes.
 #[derive(Clone, Copy)]
 pub struct Header {
@@ -64,7 +67,7 @@ impl Header {
         self.version == VERSION && self.last_comp_version <= VERSION
     }
 
-    /// Whether a block ends within the tree.
+    /// Whether a block ends within `totalsize`.
     fn holds(&self, offset: u32, size: u32) -> bool
         ensures { result ≡ nat_le (offset + size) self.now.totalsize }
     {
@@ -83,7 +86,7 @@ impl Header {
             && self.holds(self.off_dt_strings, self.size_dt_strings)
     }
 
-    /// The block of reservations and what follows it in the tree.
+    /// The bytes from the memory reservation block on.
     pub fn reserve_block<'a>(&self, bytes: &'a [u8]) -> &'a [u8]
         requires { BlocksFit self.now (length bytes.now) }
         ensures { result.now ≡ reserve_block self.now bytes.now }

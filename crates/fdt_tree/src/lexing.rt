@@ -1,32 +1,34 @@
-//! The first token of the structure block.
+//! Reading one token of the structure block.
 
 ghost use Rattle.std.specs.Prelude.{◌≡◌, ◌<◌, ◌≤◌, ℕ, List, length, IfOk, IfSome};
 ghost use Rattle.fdt_tree.specs.Devicetree.{begin_node};
-ghost use Rattle.fdt_tree.specs.Names.{legal, all_letters};
+ghost use Rattle.fdt_tree.specs.Names.{legal, all_name_characters};
 ghost use Rattle.refusal.specs.Answer.{Matches};
-ghost use Rattle.fdt_tree.specs.LexemeViews.{token_of_lexeme, FitsPlace};
+ghost use Rattle.fdt_tree.specs.inside.TokenViews.{as_token, FitsPlace};
 ghost use Rattle.fdt_tree.specs.Scanning.{number_at, padded_at, string_at, until_zero, begin_at, property_at, kind_at, token_at};
 
 use crate::fault::FdtFault;
 use crate::place::Place;
-use crate::strings::{Strings, is_letter};
+use crate::strings::{Strings, is_name_character};
 
 /// The greatest depth of a node. The root's is 1.
 pub const MAX_DEPTH: usize = 64;
 
-const BEGIN_NODE: u32 = 1;
+// the numbers of the tokens: Devicetree Specification 0.4, section 5.4.1
+pub const BEGIN_NODE: u32 = 1;
 
-const END_NODE: u32 = 2;
+pub const END_NODE: u32 = 2;
 
-const PROP: u32 = 3;
+pub const PROP: u32 = 3;
 
 const NOP: u32 = 4;
 
-const END: u32 = 9;
+pub const END: u32 = 9;
 
-/// A token. The bytes of the block are lent, and a property's name is a range of the strings.
+/// A token. A node's name and a value are borrowed from the block; a property's name is a range of the
+/// strings.
 #[derive(Drop)]
-pub enum Lexeme<'a> {
+pub enum Token<'a> {
     Begin(&'a [u8]),
     Property {
         start: usize,
@@ -65,7 +67,7 @@ fn padded_of(len: usize, bytes: &[u8]) -> Result<(&[u8], &[u8]), FdtFault>
     Ok((&bytes[..len], &bytes[whole..]))
 }
 
-/// How many bytes stand before the first zero byte.
+/// The number of bytes before the first zero byte.
 fn end_of(bytes: &[u8]) -> Option<usize>
     ensures exact { result ≡ until_zero bytes.now }
     ensures within { IfSome result (λ i. i < length bytes.now) }
@@ -93,14 +95,14 @@ pub fn is_legal(name: &[u8]) -> bool
     ensures { result ≡ legal name.now }
 {
     for byte in name {
-        if !is_letter(*byte) {
+        if !is_name_character(*byte) {
             return false;
         }
     }
     !name.is_empty()
 }
 
-/// The name of a node that begins, and the bytes behind it.
+/// The name of a node that begins, and the bytes after it.
 #[tactic(auto, unfolding(crate::specs::Scanning::begin_at))]
 fn begin_of(place: Place, bytes: &[u8]) -> Result<(&[u8], &[u8]), FdtFault>
     ensures { Matches (λ x. (begin_node x.0.now, x.1.now)) result (begin_at place bytes.now) }
@@ -126,8 +128,8 @@ fn property_of<'a>(
     strings: &Strings,
     place: Place,
     bytes: &'a [u8],
-) -> Result<(Lexeme<'a>, &'a [u8]), FdtFault>
-    ensures exact { Matches (λ x. (token_of_lexeme strings.now.bytes.items x.0, x.1.now)) result
+) -> Result<(Token<'a>, &'a [u8]), FdtFault>
+    ensures exact { Matches (λ x. (as_token strings.now.bytes.items x.0, x.1.now)) result
         (property_at strings.now.bytes.items place bytes.now) }
     ensures fits { IfOk result (λ x. FitsPlace place x.0) }
 {
@@ -139,7 +141,7 @@ fn property_of<'a>(
     }
     let start = offset as usize;
     let len = strings.name_len(start)?;
-    Ok((Lexeme::Property { start, len, value }, rest))
+    Ok((Token::Property { start, len, value }, rest))
 }
 
 #[tactic(auto, unfolding(crate::specs::Scanning::kind_at))]
@@ -148,8 +150,8 @@ fn kind_of<'a>(
     place: Place,
     kind: u32,
     rest: &'a [u8],
-) -> Result<(Lexeme<'a>, &'a [u8]), FdtFault>
-    ensures exact { Matches (λ x. (token_of_lexeme strings.now.bytes.items x.0, x.1.now)) result
+) -> Result<(Token<'a>, &'a [u8]), FdtFault>
+    ensures exact { Matches (λ x. (as_token strings.now.bytes.items x.0, x.1.now)) result
         (kind_at strings.now.bytes.items place kind rest.now) }
     ensures fits { IfOk result (λ x. FitsPlace place x.0) }
 {
@@ -157,24 +159,24 @@ fn kind_of<'a>(
     match kind {
         BEGIN_NODE if !over => {
             let (name, rest) = begin_of(place, rest)?;
-            Ok((Lexeme::Begin(name), rest))
+            Ok((Token::Begin(name), rest))
         }
-        END_NODE if place.depth > 0 => Ok((Lexeme::EndNode, rest)),
+        END_NODE if place.depth > 0 => Ok((Token::EndNode, rest)),
         PROP if place.depth > 0 => property_of(strings, place, rest),
-        NOP => Ok((Lexeme::Nop, rest)),
-        END if over => Ok((Lexeme::Finish, rest)),
+        NOP => Ok((Token::Nop, rest)),
+        END if over => Ok((Token::Finish, rest)),
         _ => Err(FdtFault::BadToken),
     }
 }
 
-/// The token that stands in front, and the bytes behind it.
+/// The first token, and the bytes after it.
 #[tactic(auto, unfolding(crate::specs::Scanning::token_at))]
 pub fn token_of<'a>(
     strings: &Strings,
     place: Place,
     bytes: &'a [u8],
-) -> Result<(Lexeme<'a>, &'a [u8]), FdtFault>
-    ensures exact { Matches (λ x. (token_of_lexeme strings.now.bytes.items x.0, x.1.now)) result
+) -> Result<(Token<'a>, &'a [u8]), FdtFault>
+    ensures exact { Matches (λ x. (as_token strings.now.bytes.items x.0, x.1.now)) result
         (token_at strings.now.bytes.items place bytes.now) }
     ensures fits { IfOk result (λ x. FitsPlace place x.0) }
 {

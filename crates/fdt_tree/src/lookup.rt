@@ -1,4 +1,4 @@
-//! Looking up a property.
+//! Looking up nodes and properties.
 
 ghost use Rattle.std.specs.Prelude.{◌≡◌, ◌==◌, ◌<◌, ℕ, List, length, option_map, IfSome};
 ghost use Rattle.std.specs.List.{position_from};
@@ -17,7 +17,7 @@ pub fn slash_in(path: &[u8]) -> Option<usize>
 /// The first child of this name.
 fn child<'a>(node: &'a Node, name: &[u8]) -> Option<&'a Node>
     ensures { (strings : List ℕ) → option_map (λ n. branch strings n.now) result
-        ≡ first_named name.now (branch strings node.entry.now).kids }
+        ≡ first_named name.now (branch strings node.entry.now).children }
 {
     for child in &node.children {
         if child.name.as_slice() == name {
@@ -27,7 +27,7 @@ fn child<'a>(node: &'a Node, name: &[u8]) -> Option<&'a Node>
     None
 }
 
-/// The node that names with slashes between them lead to.
+/// The node below this one that the names, with slashes between them, lead to.
 fn below<'a>(node: &'a Node, names: &[u8]) -> Option<&'a Node>
     ensures { (strings : List ℕ) → option_map (λ n. branch strings n.now) result
         ≡ node_below (between_slashes names.now) (branch strings node.entry.now) }

@@ -1,4 +1,4 @@
-//! Where the memory is.
+//! Setting where the memory is.
 
 ghost use Rattle.std.specs.Prelude.{◌≡◌, ◌<◌, ◌++◌, length, option_map, IfSome, IfOk, OnOk, OnErr};
 ghost use Rattle.std.specs.List.{position_from};
@@ -6,7 +6,7 @@ ghost use Rattle.fdt_tree.specs.declared.node.Node.TheViews.{out-Node};
 ghost use Rattle.fdt_tree.specs.NodeViews.{branch};
 ghost use Rattle.refusal.specs.Answer.{Matches};
 ghost use Rattle.fdt_tree.specs.Memory.{cells_or, cells_said, in_cells, reg_value, names_memory, new_memory, memory_put};
-ghost use Rattle.fdt_tree.specs.MemoryViews.{cells_text};
+ghost use Rattle.fdt_tree.specs.inside.MemoryViews.{cells_text};
 
 use crate::edits::put_below;
 use crate::fault::FdtFault;
@@ -15,7 +15,7 @@ use crate::node::Node;
 use crate::structure::new_node;
 use std::alloc::{AllocError, Global};
 
-/// One cell or two, as a property says.
+/// How many cells the value of a property asks for: one or two.
 fn cells_said(value: &[u8]) -> Result<u32, FdtFault>
     ensures { Matches (λ n. n) result (cells_said value.now) }
 {
@@ -35,7 +35,7 @@ fn cells_or(presumed: u32, value: Option<&[u8]>) -> Result<u32, FdtFault>
     }
 }
 
-/// A number in one cell, which are 4 bytes, or in two.
+/// A number in one cell (4 bytes) or in two.
 #[derive(Clone, Copy)]
 pub enum Cells {
     One(u32),
@@ -54,7 +54,7 @@ fn in_cells(cells: u32, number: u64) -> Result<Cells, FdtFault>
     }
 }
 
-/// The address and the size of the memory as the root's properties ask for them.
+/// The address and the size of the memory, in the cells that the root's properties ask for.
 #[tactic(auto, unfolding(crate::specs::Memory::reg_value))]
 pub fn reg_of(strings: &[u8], root: &Node, base: u64, size: u64) -> Result<(Cells, Cells), FdtFault>
     ensures { Matches (λ x. cells_text x.0 ++ cells_text x.1) result
@@ -108,8 +108,7 @@ fn memory_node(alloc: Global, strings: &[u8], base: u64, reg: &[u8]) -> Result<N
     Ok(node)
 }
 
-/// Puts the address and the size into the first child that is a memory node, or adds such a node
-/// behind the others.
+/// Sets `reg` of the first child that is a memory node, or adds such a node as the last child.
 pub fn put_memory(
     alloc: Global,
     strings: &[u8],

@@ -1,9 +1,9 @@
-//! The strings block that is written.
+//! The names that are written: each once, and its offset in the strings block.
 
 ghost use Rattle.std.specs.Prelude.{◌≡◌, ◌++◌, ◌∷◌, ℕ, List, [], length, take, drop, Some, None, IfSome, IfOk, IfErr, OnOk};
 ghost use Rattle.fdt_tree.specs.Writing.{noted, strings_text, offset_in};
 ghost use Rattle.fdt_tree.specs.NodeViews.{name_of};
-ghost use Rattle.fdt_tree.specs.NameTables.{HasNames, TooMuch, place_in};
+ghost use Rattle.fdt_tree.specs.inside.NameTables.{HasNames, TooMuch, place_in};
 
 use crate::fault::FdtFault;
 use crate::header::MAX_LEN;
@@ -11,17 +11,17 @@ use crate::node::{Name, range_of};
 use std::alloc::{AllocError, Global};
 use std::collections::BTreeMap;
 
-/// How long a range of the tree's strings is, and where the name of these bytes begins in what is written.
+/// The length of a range of the tree's strings, and the offset of its name in the output.
 #[derive(Clone, Copy)]
 pub struct KnownRange {
     pub len: usize,
     pub offset: u32,
 }
 
-/// The strings so far, each name with a zero byte behind it, and where each begins.
+/// The strings block so far (each name followed by a zero byte), and the offset of each name in it.
 ///
-/// Many properties may share a range of the tree's strings as their name, which may be long. So for each
-/// range that was looked up, by its start, it is kept where its name begins.
+/// Many properties may share a range of the tree's strings as their name, and the range may be long. So
+/// `ranges` caches, for the start of each range already looked up, the offset of its name in the output.
 #[derive(Drop)]
 pub struct NameTable {
     pub strings: Vec<u8>,
@@ -40,7 +40,7 @@ impl NameTable {
         }
     }
 
-    /// Adds a name that is new, and tells where it begins.
+    /// Adds a new name, and returns its offset.
     fn add(&mut self, alloc: Global, name: &[u8]) -> Result<u32, FdtFault>
         ensures offset { (source : List ℕ) (names : List (List ℕ)) → HasNames source self.old names
             → IfOk result (λ at. at ≡ length (strings_text names)) }
@@ -60,7 +60,7 @@ impl NameTable {
         Ok(offset)
     }
 
-    /// Where the name of these bytes begins, which is added where it is new.
+    /// The offset of the name of these bytes, which is added if it is new.
     fn offset_of_bytes(&mut self, alloc: Global, name: &[u8]) -> Result<u32, FdtFault>
         ensures offset { (source : List ℕ) (names : List (List ℕ)) → HasNames source self.old names
             → IfOk result (λ at. at ≡ offset_in (noted names name.now) name.now) }
@@ -76,7 +76,7 @@ impl NameTable {
         }
     }
 
-    /// Where the name of a range begins, if the range was looked up before.
+    /// The offset of the name of a range, if the range was looked up before.
     fn offset_known(&self, start: usize, len: usize) -> Option<u32>
         ensures { (source : List ℕ) (names : List (List ℕ)) → HasNames source self.now names
             → IfSome result (λ at. place_in names (take len (drop start source)) ≡ Some at) }
@@ -87,7 +87,7 @@ impl NameTable {
         }
     }
 
-    /// Keeps where the name of a range begins.
+    /// Caches the offset of the name of a range.
     fn keep(&mut self, start: usize, len: usize, offset: u32) -> Result<(), AllocError>
         ensures { (source : List ℕ) (names : List (List ℕ)) → HasNames source self.old names
             → place_in names (take len (drop start source)) ≡ Some offset
@@ -97,7 +97,7 @@ impl NameTable {
         Ok(())
     }
 
-    /// Where the name of a range of the tree's strings begins, which is added where it is new.
+    /// The offset of the name of a range of the tree's strings, which is added if it is new.
     fn offset_of_range(
         &mut self,
         alloc: Global,
@@ -120,7 +120,7 @@ impl NameTable {
         Ok(offset)
     }
 
-    /// Where a name begins, given the strings of its tree. It is added where it is new.
+    /// The offset of a name, given the strings of its tree. The name is added if it is new.
     pub fn offset_of(&mut self, alloc: Global, source: &[u8], name: &Name) -> Result<u32, FdtFault>
         ensures offset { (names : List (List ℕ)) → HasNames source.now self.old names
             → IfOk result (λ at. at ≡ offset_in (noted names (name_of source.now name.now)) (name_of source.now name.now)) }

@@ -3,17 +3,17 @@
 ghost use Rattle.std.specs.Prelude.{◌≡◌, take, drop};
 ghost use Rattle.fdt_tree.specs.NodeViews.{name_of};
 
-/// A property's name. Many properties may share bytes of the strings that their tree keeps, so a name
-/// is mostly a range of these; a name that does not stand there has bytes of its own.
+/// A property's name. Many properties may share bytes of the strings that their tree keeps, so most
+/// names are ranges of these. A name that is not among them has bytes of its own.
 #[derive(Debug, Drop)]
 pub enum Name {
-    /// So many bytes of the tree's strings, from this one on.
+    /// `len` bytes of the tree's strings, from `start` on.
     Shared { start: usize, len: usize },
-    /// These bytes.
+    /// The bytes of the name.
     Own(Vec<u8>),
 }
 
-/// A property of a node: its name, and its value as it stands in the file.
+/// A property of a node: its name, and its value as it is in the file.
 #[derive(Debug, Drop)]
 pub struct Property {
     pub name: Name,
@@ -29,7 +29,7 @@ pub struct Node {
     pub children: Vec<Node>,
 }
 
-/// So many of the strings from this one on, or as many as are there.
+/// `len` bytes of the strings from `start` on, or fewer where the strings end.
 pub(crate) fn range_of(strings: &[u8], start: usize, len: usize) -> &[u8]
     ensures { result.now ≡ take len (drop start strings.now) }
 {

@@ -1,7 +1,7 @@
-//! Where a token of the structure block stands.
+//! Where in the structure block a token is.
 
-/// How many nodes are open, and whether a node has ended inside the innermost of them. With none
-/// open, `late` says that the root has ended.
+/// How many nodes are open, and whether it is too late for a property: a child of the innermost open node
+/// has ended. Where no node is open, `late` is whether the root has ended.
 #[derive(Clone, Copy)]
 pub struct Place {
     pub depth: usize,

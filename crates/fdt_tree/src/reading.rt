@@ -36,19 +36,19 @@ fn contents_of(alloc: Global, bytes: &[u8]) -> Result<Contents, FdtFault>
 
 /// The devicetree that the bytes spell in the flattened format, which may end before them.
 ///
-/// What is wrong with other bytes is told by the first check that fails: of the header `Short`,
-/// `BadMagic`, `BadVersion`, `TooLarge` and `BadBlock`; `BadReserve`; and of the structure block the
-/// first fault of the first token that has one, in this order: `BadToken`, for a node `BadName` and
-/// `TooDeep`, for a property `LateProperty`, `BadString` and `BadName`. `NoMemory` may come before any
-/// of them, where memory was refused.
+/// Other bytes are refused with the first check that fails: of the header `Short`, `BadMagic`,
+/// `BadVersion`, `TooLarge` and `BadBlock`; then `BadReserve`; then, of the structure block, the first
+/// fault of the first token that has one, in this order: `BadToken`, for a node `BadName` and `TooDeep`,
+/// for a property `LateProperty`, `BadString` and `BadName`. Where memory was refused, `NoMemory` may
+/// come before any of them.
 pub fn read(alloc: Global, bytes: &[u8]) -> Result<Tree, FdtFault>
-    // What is read is spelled so.
+    // Where a tree is returned, the bytes spell it.
     ensures found { IfOk result (λ t. Spells bytes.now (devicetree_of t)) }
-    // What is spelled so is read, unless memory is refused.
+    // What the bytes spell is returned, unless memory is refused.
     ensures only { (t : Devicetree) → Spells bytes.now t → Answers FdtFault.NoMemory devicetree_of result (Ok t) }
-    // Which fault it is.
+    // A refusal is the first check that fails; or `NoMemory`.
     ensures refused { IfErr result (λ e. IsRefusal e (refusal_of bytes.now)) }
-    // The same, by the function that other definitions go on from.
+    // The same as one equation, with the tree as a function of the bytes.
     ensures exact { Answers FdtFault.NoMemory devicetree_of result (tree_at bytes.now) }
 {
     let contents = contents_of(alloc, bytes)?;

@@ -36,7 +36,7 @@ fn is_end(pair: Reservation) -> bool
     pair.address == 0 && pair.size == 0
 }
 
-/// The reservations in front of a block.
+/// The reservations at the start of a block, up to the pair of zeros.
 pub fn reservations_in(alloc: Global, block: &[u8]) -> Result<Vec<Reservation>, FdtFault>
     ensures { Answers FdtFault.NoMemory (λ v. v.items) result (reservations_at block.now) }
 {

@@ -1,42 +1,46 @@
 //! The strings block, and the names in it.
 
 ghost use Rattle.std.specs.Prelude.{◌≡◌, length, take, drop, IfOk};
-ghost use Rattle.fdt_tree.specs.Names.{letter};
-ghost use Rattle.fdt_tree.specs.LetterRuns.{letter_run, letter_runs, zero_end};
+ghost use Rattle.fdt_tree.specs.Names.{is_name_character};
+ghost use Rattle.fdt_tree.specs.inside.NameRuns.{name_run, name_runs, zero_end};
 ghost use Rattle.fdt_tree.specs.Scanning.{name_at};
 ghost use Rattle.refusal.specs.Answer.{Matches};
 
 use crate::fault::FdtFault;
 use std::alloc::{AllocError, Global};
 
-/// A copy of the strings block. Properties may share its bytes by the tens of thousands, as the ends
-/// of one long name, so it is gone through once: each name is then found and judged in one step.
+/// A copy of the strings block. Tens of thousands of properties may share its bytes, as the ends of one
+/// long name. So the block is scanned once; then each name is found and checked in one step.
 #[derive(Drop)]
 pub struct Strings {
     pub bytes: Vec<u8>,
-    // how many letters stand from each byte on
+    // for each byte, how many name characters there are from it on
     runs: Vec<usize>,
-    // the last zero byte stands in front of this place; behind it no name begins
+    // index just after the last zero byte; no name starts at or after it
     end: usize,
-    ghost runs_known: { runs.items ≡ letter_runs bytes.items },
+    ghost runs_known: { runs.items ≡ name_runs bytes.items },
     ghost end_known: { end ≡ zero_end bytes.items },
 }
 
-/// Whether a byte may stand in a name.
-pub fn is_letter(byte: u8) -> bool
-    ensures { result ≡ letter byte }
+/// Whether a name may have this byte.
+pub fn is_name_character(byte: u8) -> bool
+    ensures { result ≡ is_name_character byte }
 {
     byte > 32 && byte < 127 && byte != b'/'
 }
 
 fn runs_of(alloc: Global, bytes: &[u8]) -> Result<Vec<usize>, AllocError>
-    ensures { IfOk result (λ v. v.items ≡ letter_runs bytes.now) }
+    ensures { IfOk result (λ v. v.items ≡ name_runs bytes.now) }
 {
     let mut runs = vec![in alloc; 0; bytes.len()]?;
     let mut run = 0;
     for done in 0..bytes.len() {
         let at = bytes.len() - 1 - done;
-        run = if is_letter(bytes[at]) { run + 1 } else { 0 };
+        run = if is_name_character(bytes[at]) {
+            run + 1
+        } else {
+            0
+        };
         runs[at] = run;
     }
     Ok(runs)
@@ -65,7 +69,7 @@ impl Strings {
         Ok(Strings { bytes, runs, end })
     }
 
-    /// How long the name at an offset is.
+    /// The length of the name at an offset.
     pub fn name_len(&self, offset: usize) -> Result<usize, FdtFault>
         ensures { Matches (λ n. take n (drop offset self.now.bytes.items)) result
             (name_at self.now.bytes.items offset) }

@@ -1,22 +1,22 @@
-//! The structure block, read token by token.
+//! Reading the structure block, token by token, into nodes.
 
 ghost use Rattle.std.specs.Prelude.{◌≡◌, ◌++◌, ◌∷◌, [], ℕ, List, length, IfOk};
-ghost use Rattle.fdt_tree.specs.Devicetree.{begin_node, root_tokens};
+ghost use Rattle.fdt_tree.specs.Devicetree.{begin_node, root_tokens, bare};
 ghost use Rattle.fdt_tree.specs.NodeViews.{branch, entry_of, root_of};
 ghost use Rattle.refusal.specs.Answer.{Answers, with_front};
-ghost use Rattle.fdt_tree.specs.LexemeViews.{token_of_lexeme, FitsPlace};
+ghost use Rattle.fdt_tree.specs.inside.TokenViews.{as_token, FitsPlace};
 ghost use Rattle.fdt_tree.specs.Scanning.{structure_at, start, after};
-ghost use Rattle.fdt_tree.specs.OpenNodes.{so_far, place_of, added, bare, with_entry, with_kid};
+ghost use Rattle.fdt_tree.specs.inside.OpenNodes.{so_far, place_of, added, with_entry, with_child};
 
 use crate::fault::FdtFault;
-use crate::lexing::{Lexeme, token_of};
+use crate::lexing::{Token, token_of};
 use crate::node::{Name, Node, Property};
 use crate::place::Place;
 use crate::strings::Strings;
 use std::alloc::{AllocError, Global};
 
-/// The nodes that are open: the innermost, and those around it. Around the root an empty node stands,
-/// whose one child the root becomes.
+/// The nodes that are open: the innermost, and those around it. Around the root is an empty node;
+/// the root becomes its only child.
 #[derive(Drop)]
 pub struct OpenNodes {
     pub outer: Vec<Node>,
@@ -34,7 +34,7 @@ pub fn new_node(alloc: Global, name: &[u8]) -> Result<Node, AllocError>
     })
 }
 
-/// The node with a property behind its other properties.
+/// The node with a property after its other properties.
 fn with_property(node: Node, property: Property) -> Result<Node, AllocError>
     ensures { IfOk result (λ n. (strings : List ℕ) → branch strings n
         ≡ with_entry (branch strings node) (entry_of strings property)) }
@@ -52,10 +52,10 @@ fn with_property(node: Node, property: Property) -> Result<Node, AllocError>
     })
 }
 
-/// The node with a child behind its other children.
+/// The node with a child after its other children.
 fn with_child(node: Node, child: Node) -> Result<Node, AllocError>
     ensures { IfOk result (λ n. (strings : List ℕ) → branch strings n
-        ≡ with_kid (branch strings node) (branch strings child)) }
+        ≡ with_child (branch strings node) (branch strings child)) }
 {
     let Node {
         name,
@@ -84,17 +84,17 @@ fn no_node_open(alloc: Global) -> OpenNodes
     }
 }
 
-/// The open nodes behind one more token.
-fn take(alloc: Global, nodes: OpenNodes, lexeme: Lexeme) -> Result<OpenNodes, AllocError>
-    requires { (strings : List ℕ) → FitsPlace (place_of strings nodes) lexeme }
+/// The open nodes after one more token.
+fn take(alloc: Global, nodes: OpenNodes, token: Token) -> Result<OpenNodes, AllocError>
+    requires { (strings : List ℕ) → FitsPlace (place_of strings nodes) token }
     ensures tokens { IfOk result (λ p. (strings : List ℕ) → so_far strings p
-        ≡ so_far strings nodes ++ added (token_of_lexeme strings lexeme.entry)) }
+        ≡ so_far strings nodes ++ added (as_token strings token.entry)) }
     ensures place { IfOk result (λ p. (strings : List ℕ) → place_of strings p
-        ≡ after (place_of strings nodes) (token_of_lexeme strings lexeme.entry)) }
+        ≡ after (place_of strings nodes) (as_token strings token.entry)) }
 {
     let OpenNodes { mut outer, current } = nodes;
-    match lexeme {
-        Lexeme::Begin(name) => {
+    match token {
+        Token::Begin(name) => {
             let node = new_node(alloc, name)?;
             outer.push(current)?;
             Ok(OpenNodes {
@@ -102,7 +102,7 @@ fn take(alloc: Global, nodes: OpenNodes, lexeme: Lexeme) -> Result<OpenNodes, Al
                 current: node,
             })
         }
-        Lexeme::Property { start, len, value } => {
+        Token::Property { start, len, value } => {
             let property = Property {
                 name: Name::Shared { start, len },
                 value: Vec::from_slice(alloc, value)?,
@@ -110,18 +110,18 @@ fn take(alloc: Global, nodes: OpenNodes, lexeme: Lexeme) -> Result<OpenNodes, Al
             let current = with_property(current, property)?;
             Ok(OpenNodes { outer, current })
         }
-        Lexeme::EndNode => match outer.pop() {
+        Token::EndNode => match outer.pop() {
             None => Ok(OpenNodes { outer, current }),
             Some(parent) => {
                 let current = with_child(parent, current)?;
                 Ok(OpenNodes { outer, current })
             }
         },
-        Lexeme::Nop | Lexeme::Finish => Ok(OpenNodes { outer, current }),
+        Token::Nop | Token::Finish => Ok(OpenNodes { outer, current }),
     }
 }
 
-/// Where the next token stands.
+/// The place of the next token.
 fn place_in(nodes: &OpenNodes) -> Place
     ensures { (strings : List ℕ) → result ≡ place_of strings nodes.now }
 {
@@ -131,7 +131,7 @@ fn place_in(nodes: &OpenNodes) -> Place
     }
 }
 
-/// The open nodes where END stands: the outermost, with the root in it.
+/// The open nodes at END: the outermost alone, with the root in it.
 fn run(alloc: Global, strings: &Strings, block: &[u8]) -> Result<OpenNodes, FdtFault>
     ensures outermost { IfOk result (λ p. length p.outer.items ≡ 0) }
     ensures exact { Answers FdtFault.NoMemory (λ p. so_far strings.now.bytes.items p) result
@@ -141,17 +141,17 @@ fn run(alloc: Global, strings: &Strings, block: &[u8]) -> Result<OpenNodes, FdtF
     let mut rest = block;
     for _ in 0..block.len() {
         let place = place_in(&nodes);
-        let (lexeme, after) = token_of(strings, place, rest)?;
-        if let Lexeme::Finish = lexeme {
+        let (token, after) = token_of(strings, place, rest)?;
+        if let Token::Finish = token {
             return Ok(nodes);
         }
-        nodes = take(alloc, nodes, lexeme)?;
+        nodes = take(alloc, nodes, token)?;
         rest = after;
     }
     Err(FdtFault::BadToken)
 }
 
-/// The root alone.
+/// The root that a structure block holds.
 pub fn root_in(alloc: Global, strings: &Strings, block: &[u8]) -> Result<Node, FdtFault>
     ensures exact { Answers FdtFault.NoMemory (λ n. root_tokens (root_of strings.now.bytes.items n)) result
         (structure_at strings.now.bytes.items block.now) }

@@ -1,10 +1,10 @@
 //! A devicetree in memory.
 
-ghost use Rattle.std.specs.Prelude.{◌≡◌, []};
+ghost use Rattle.std.specs.Prelude.{◌^◌, ◌≡◌, []};
 ghost use Rattle.fdt_tree.specs.NodeViews.{branch};
 ghost use Rattle.fdt_tree.specs.Wholeness.{IsWhole, IsWhole-prop, tree_in};
 
-use crate::edits::{check_names, put_below, way_of};
+use crate::edits::{check_names, names_on, put_below};
 use crate::fault::FdtFault;
 use crate::lookup::{node_at, value_of};
 use crate::memory::{put_memory, reg_of};
@@ -19,7 +19,7 @@ pub struct Reservation {
     pub size: u64,
 }
 
-/// What a tree holds. Its nodes' names are mostly ranges of the strings.
+/// What a tree holds. The names of properties are mostly ranges of the strings.
 #[derive(Debug, Drop)]
 pub struct Contents {
     pub reservations: Vec<Reservation>,
@@ -72,8 +72,8 @@ impl Tree {
         self.contents.boot_cpu
     }
 
-    /// The root, whose name is empty. Its properties' names are told by
-    /// [`Name::bytes`](crate::Name::bytes), given [`Tree::strings`].
+    /// The root, whose name is empty. The bytes of its properties' names are
+    /// [`Name::bytes`](crate::Name::bytes) of [`Tree::strings`].
     pub fn root(&self) -> &Node
         ensures { branch (strings_of self.now) result.now
             ≡ branch_of_root (devicetree_of self.now).root }
@@ -88,9 +88,8 @@ impl Tree {
         self.contents.strings.as_slice()
     }
 
-    /// The value of a property, or `None` where there is no such node or property. A path is `/` for
-    /// the root, or the names on the way to a node, each with a `/` in front of it. Of equal names the
-    /// first is taken.
+    /// The value of a property, or `None` if no such node or property exists. A path is `/` for the
+    /// root, else the names that lead to a node, each after a `/`. Of equal names the first is found.
     pub fn get(&self, path: &[u8], name: &[u8]) -> Option<&[u8]>
         ensures { option_map (λ v. v.now) result
             ≡ value_at path.now name.now (devicetree_of self.entry.now) }
@@ -99,12 +98,11 @@ impl Tree {
         value_of(self.strings(), node, name)
     }
 
-    /// Puts a value into the first property of this name of the node at a path, as [`Tree::get`] takes
-    /// it, or adds the property behind the node's others. Nodes of the path that are not there are added
-    /// behind the others of their parent.
+    /// Sets the value of the first property of this name in the node at a path, as [`Tree::get`] finds it,
+    /// or adds the property after the node's others. Missing nodes of the path are added as last children.
     ///
-    /// A path or a name that may not be is `BadName`, a path to below a depth of 64 is `TooDeep`, and
-    /// then memory may be refused. The tree stays as it was after each.
+    /// `BadName`: the path is none, or a name is not legal. `TooDeep`: the path leads below a depth of 64.
+    /// After these checks memory may be refused. The tree stays as it was after each error.
     pub fn set(
         &mut self,
         alloc: Global,
@@ -115,20 +113,21 @@ impl Tree {
         ensures { Applies FdtFault.NoMemory (devicetree_of self.old) (devicetree_of self.new) result
             (set_at path.now name.now value.now (devicetree_of self.old)) }
     {
-        let way = way_of(path)?;
-        check_names(way, name)?;
+        let names = names_on(path)?;
+        check_names(names, name)?;
         let Contents { strings, root, .. } = &mut self.contents;
-        put_below(alloc, strings, root, way, name, value)?;
+        put_below(alloc, strings, root, names, name, value)?;
         Ok(())
     }
 
-    /// Says where the memory is, `size` bytes from `base` on: puts both into `reg` of the root's first
-    /// child that is `memory` or begins with `memory@`. Where there is none, `memory@` and the base in
-    /// hexadecimal is added behind the root's children, with `device_type` and `reg`.
+    /// Sets where the memory is, `size` bytes from `base` on: puts both into `reg` of the root's first
+    /// child whose name is `memory` or begins with `memory@`. If no child has such a name, one named
+    /// `memory@` and the base in hexadecimal is added as the last, with `device_type` and `reg`.
     ///
-    /// `#address-cells` and `#size-cells` of the root, 2 and 1 where they are not there, say how many
-    /// cells of 4 bytes each number has. `BadCells`: one of them is not 4 bytes that say 1 or 2, or a
-    /// number does not fit. Then memory may be refused. The tree stays as it was after each.
+    /// `#address-cells` and `#size-cells` of the root (2 and 1 where they do not exist) are the numbers of
+    /// cells, of 4 bytes each, for the base and for the size. `BadCells`: one of them is not the number 1
+    /// or 2 in 4 bytes, or the base or the size does not fit in its cells. After these checks memory may
+    /// be refused. The tree stays as it was after each error.
     pub fn set_memory(&mut self, alloc: Global, base: u64, size: u64) -> Result<(), FdtFault>
         ensures { Applies FdtFault.NoMemory (devicetree_of self.old) (devicetree_of self.new) result
             (set_memory_at base size (devicetree_of self.old)) }
@@ -142,16 +141,16 @@ impl Tree {
 
     /// The flattened devicetree of this tree, version 17: the header, the reservations at 40, the
     /// structure block without any NOP, and the strings, each name once in the order of first use. Nothing
-    /// stands between or behind them, and padding is zeros. [`read`](crate::read) finds this tree in it
-    /// again, also where other bytes follow, up to the limit in all.
+    /// is between or after them, and padding is zeros. [`read`](crate::read) returns this tree again, also
+    /// where other bytes follow, up to the limit in all.
     ///
     /// `TooLarge`: the file would have more than 2,097,152 bytes. Else only memory may be refused.
     pub fn write(&self, alloc: Global) -> Result<Vec<u8>, FdtFault>
         ensures exact { Answers FdtFault.NoMemory (λ v. v.items) result (file_of (devicetree_of self.now)) }
         // The bytes spell this tree again, whatever follows them.
-        ensures again { IfOk result (λ v. (z : List ℕ) → length (v.items ++ z) ≤ 2097152
+        ensures again { IfOk result (λ v. (z : List ℕ) → length (v.items ++ z) ≤ 2 ^ 21
             → Spells (v.items ++ z) (devicetree_of self.now)) }
-        ensures within { IfOk result (λ v. length v.items ≤ 2097152) }
+        ensures within { IfOk result (λ v. length v.items ≤ 2 ^ 21) }
     {
         written(alloc, &self.contents)
     }

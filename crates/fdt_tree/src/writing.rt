@@ -1,18 +1,19 @@
-//! Writing a tree.
+//! Writing a tree in the flattened format.
 
-ghost use Rattle.std.specs.Prelude.{◌≡◌, ◌+◌, ◌++◌, ◌∷◌, [], ◌≤◌, ℕ, List, length, map, IfOk, IfErr, OnOk, Ok, Err, if◌then◌else◌, nat_lt};
+ghost use Rattle.std.specs.Prelude.{◌^◌, ◌≡◌, ◌+◌, ◌++◌, ◌∷◌, [], ◌≤◌, ℕ, List, length, map, IfOk, IfErr, OnOk, Ok, Err, if◌then◌else◌, nat_lt};
 ghost use Rattle.std.specs.Int.{w32, w64, to_be_bytes};
-ghost use Rattle.fdt_tree.specs.Devicetree.{property, begin_node, end_node};
+ghost use Rattle.fdt_tree.specs.Devicetree.{property, begin_node, end_node, FDT_END};
 ghost use Rattle.fdt_tree.specs.NodeViews.{entry_of, branch};
 ghost use Rattle.fdt_tree.specs.Reservations.{pair_text};
-ghost use Rattle.fdt_tree.specs.Writing.{zeros_behind, begin_text, property_text, text_after, names_after, strings_text, reservations_text, places_text, versions_text, file_text, written};
-ghost use Rattle.fdt_tree.specs.NameTables.{HasNames, TooMuch};
+ghost use Rattle.fdt_tree.specs.Writing.{padding_after, begin_text, property_text, text_after, names_after, strings_text, reservations_text, places_text, versions_text, file_text, written};
+ghost use Rattle.fdt_tree.specs.inside.NameTables.{HasNames, TooMuch};
 ghost use Rattle.fdt_tree.specs.Wholeness.{IsWhole, tree_in};
 ghost use Rattle.fdt_tree.specs.Reading.{Spells};
-ghost use Rattle.fdt_tree.specs.OutputViews.{AreLengths, HasTokens, size_of, tokens_of_entries, tokens_of_nodes};
+ghost use Rattle.fdt_tree.specs.inside.OutputViews.{AreLengths, HasTokens, size_of, tokens_of_entries, tokens_of_nodes};
 
 use crate::fault::FdtFault;
-use crate::header::{MAGIC, MAX_LEN, VERSION};
+use crate::header::{HEADER_LEN, LAST_COMP_VERSION, MAGIC, MAX_LEN, VERSION};
+use crate::lexing::{BEGIN_NODE, END, END_NODE, PROP};
 use crate::names::NameTable;
 use crate::node::{Node, Property};
 use crate::tree::{Contents, Reservation};
@@ -31,9 +32,9 @@ fn put_word(out: &mut Vec<u8>, word: u32) -> Result<(), AllocError>
     out.extend_from_slice(&word.to_be_bytes())
 }
 
-/// Zeros that fill up to a multiple of 4 behind so many bytes.
+/// Appends the zeros that pad `len` bytes to a multiple of 4.
 fn put_padding(out: &mut Vec<u8>, len: usize) -> Result<(), AllocError>
-    ensures { OnOk result (out.new.items ≡ out.old.items ++ zeros_behind len) }
+    ensures { OnOk result (out.new.items ≡ out.old.items ++ padding_after len) }
 {
     match len % 4 {
         0 => Ok(()),
@@ -46,7 +47,7 @@ fn put_padding(out: &mut Vec<u8>, len: usize) -> Result<(), AllocError>
 fn put_begin(out: &mut Vec<u8>, name: &[u8]) -> Result<(), AllocError>
     ensures { OnOk result (out.new.items ≡ out.old.items ++ begin_text name.now) }
 {
-    put_word(out, 1)?;
+    put_word(out, BEGIN_NODE)?;
     out.extend_from_slice(name)?;
     out.push(0)?;
     put_padding(out, name.len() + 1)
@@ -56,7 +57,7 @@ fn put_text(out: &mut Vec<u8>, offset: u32, len: u32, value: &[u8]) -> Result<()
     requires { len ≡ length value.now }
     ensures { OnOk result (out.new.items ≡ out.old.items ++ property_text offset value.now) }
 {
-    put_word(out, 3)?;
+    put_word(out, PROP)?;
     put_word(out, len)?;
     put_word(out, offset)?;
     out.extend_from_slice(value)?;
@@ -94,10 +95,10 @@ fn put_node_end(out: &mut Output) -> Result<(), AllocError>
     ensures { (strings : List ℕ) (names : List (List ℕ)) → HasNames strings out.old.names names
         → OnOk result (HasTokens strings out.old out.new names (end_node ∷ [])) }
 {
-    put_word(&mut out.structure, 2)
+    put_word(&mut out.structure, END_NODE)
 }
 
-/// Puts a node's begin and its properties.
+/// Appends the token that begins a node, and its properties.
 fn put_front(
     alloc: Global,
     out: &mut Output,
@@ -117,7 +118,7 @@ fn put_front(
     Ok(())
 }
 
-/// Puts a node with all that is in it.
+/// Appends a node with all that it holds.
 fn put_node(alloc: Global, out: &mut Output, strings: &[u8], node: &Node) -> Result<(), FdtFault>
     ensures done { (names : List (List ℕ)) → HasNames strings.now out.old.names names
         → OnOk result (HasTokens strings.now out.old out.new names (tokens_of_nodes strings.now (node.now ∷ []))) }
@@ -135,7 +136,7 @@ fn put_node(alloc: Global, out: &mut Output, strings: &[u8], node: &Node) -> Res
 /// The structure block and the strings of a tree.
 fn output_of(alloc: Global, strings: &[u8], root: &Node) -> Result<Output, FdtFault>
     ensures structure { IfOk result (λ o. o.structure.items
-        ≡ text_after [] (tokens_of_nodes strings.now (root.now ∷ [])) ++ to_be_bytes w32 9) }
+        ≡ text_after [] (tokens_of_nodes strings.now (root.now ∷ [])) ++ to_be_bytes w32 FDT_END) }
     ensures strings { IfOk result (λ o. o.names.strings.items
         ≡ strings_text (names_after [] (tokens_of_nodes strings.now (root.now ∷ [])))) }
     ensures refused { IfErr result (λ e.
@@ -146,7 +147,7 @@ fn output_of(alloc: Global, strings: &[u8], root: &Node) -> Result<Output, FdtFa
         names: NameTable::new(alloc),
     };
     put_node(alloc, &mut out, strings, root)?;
-    put_word(&mut out.structure, 9)?;
+    put_word(&mut out.structure, END)?;
     Ok(out)
 }
 
@@ -178,7 +179,7 @@ fn put_reservations(out: &mut Vec<u8>, reservations: &[Reservation]) -> Result<(
     Ok(())
 }
 
-/// How many bytes each block has.
+/// The length of each block, in bytes.
 #[derive(Clone, Copy)]
 pub struct Lengths {
     pub reserve: u32,
@@ -186,36 +187,36 @@ pub struct Lengths {
     pub strings: u32,
 }
 
-/// Puts the magic number, the whole length, and where the blocks begin.
+/// Appends the magic number, the whole length, and where the blocks begin.
 fn put_places(out: &mut Vec<u8>, lengths: Lengths) -> Result<(), AllocError>
-    requires { 40 + lengths.reserve + lengths.structure + lengths.strings ≤ 2097152 }
+    requires { 40 + lengths.reserve + lengths.structure + lengths.strings ≤ 2 ^ 21 }
     ensures { OnOk result (out.new.items ≡ out.old.items
         ++ places_text lengths.reserve lengths.structure lengths.strings) }
 {
-    let structure_at = 40 + lengths.reserve;
+    let structure_at = HEADER_LEN as u32 + lengths.reserve;
     let strings_at = structure_at + lengths.structure;
     put_word(out, MAGIC)?;
     put_word(out, strings_at + lengths.strings)?;
     put_word(out, structure_at)?;
     put_word(out, strings_at)?;
-    put_word(out, 40)?;
+    put_word(out, HEADER_LEN as u32)?;
     Ok(())
 }
 
-/// Puts the versions, the processor that boots, and the lengths of blocks.
+/// Appends the versions, the processor that boots, and the lengths of blocks.
 fn put_versions(out: &mut Vec<u8>, lengths: Lengths, boot_cpu: u32) -> Result<(), AllocError>
     ensures { OnOk result (out.new.items ≡ out.old.items
         ++ versions_text lengths.structure lengths.strings boot_cpu) }
 {
     put_word(out, VERSION)?;
-    put_word(out, 16)?;
+    put_word(out, LAST_COMP_VERSION)?;
     put_word(out, boot_cpu)?;
     put_word(out, lengths.strings)?;
     put_word(out, lengths.structure)?;
     Ok(())
 }
 
-/// How many bytes each block has, unless they are too many.
+/// The length of each block, unless the file would be too long.
 fn lengths_of(reservations: &[Reservation], out: &Output) -> Result<Lengths, FdtFault>
     ensures lengths { IfOk result (λ l. AreLengths l (length (reservations_text reservations.now))
         (length out.now.structure.items) (length out.now.names.strings.items)) }
@@ -226,7 +227,7 @@ fn lengths_of(reservations: &[Reservation], out: &Output) -> Result<Lengths, Fdt
     let structure = out.structure.len();
     let strings = out.names.strings.len();
     let total = reserve
-        .saturating_add(40)
+        .saturating_add(HEADER_LEN)
         .saturating_add(structure)
         .saturating_add(strings);
     if total > MAX_LEN {
@@ -248,7 +249,7 @@ fn assembled(
 ) -> Result<Vec<u8>, FdtFault>
     ensures done { IfOk result (λ v. v.items ≡ file_text boot_cpu (reservations_text reservations.now)
         out.now.structure.items out.now.names.strings.items) }
-    ensures within { IfOk result (λ v. length v.items ≤ 2097152) }
+    ensures within { IfOk result (λ v. length v.items ≤ 2 ^ 21) }
     ensures refused { IfErr result (λ e. TooMuch e (length (file_text boot_cpu
         (reservations_text reservations.now) out.now.structure.items out.now.names.strings.items))) }
 {
@@ -267,9 +268,9 @@ pub fn written(alloc: Global, contents: &Contents) -> Result<Vec<u8>, FdtFault>
     requires whole { IsWhole (tree_in contents.now) }
     requires unnamed { (branch contents.now.strings.items contents.now.root).name ≡ [] }
     ensures done { IfOk result (λ v. v.items ≡ written (tree_in contents.now)) }
-    ensures again { IfOk result (λ v. (z : List ℕ) → length (v.items ++ z) ≤ 2097152
+    ensures again { IfOk result (λ v. (z : List ℕ) → length (v.items ++ z) ≤ 2 ^ 21
         → Spells (v.items ++ z) (tree_in contents.now)) }
-    ensures within { IfOk result (λ v. length v.items ≤ 2097152) }
+    ensures within { IfOk result (λ v. length v.items ≤ 2 ^ 21) }
     ensures refused { IfErr result (λ e. TooMuch e (length (written (tree_in contents.now)))) }
 {
     let out = output_of(alloc, &contents.strings, &contents.root)?;

@@ -6,7 +6,7 @@ use Rattle.std.specs.List.{flat_map}
 use Rattle.fdt_tree.specs.Devicetree.{Branch, joined, none}
 use Rattle.fdt_tree.specs.NodeViews.{branch, branches, entry_of}
 use Rattle.fdt_tree.specs.declared.node.Node.TheViews.{out-Node}
-use Rattle.fdt_tree.proofs.Open.{branch_out}
+use Rattle.fdt_tree.proofs.OpenNodes.{branch_out}
 use Rattle.fdt_tree.specs.declared.node.Node.{Node}
 use Rattle.rim_release.specs.ShownDevicetree.{inner_text, node_line, nodes_text, path_below, property_line}
 
@@ -17,7 +17,7 @@ child_text path b = node_line (path_below path b.name) ++ inner_text (path_below
 first_text : (path : List ℕ) (b : Branch) (bs : List Branch) → nodes_text path (joined (b ∷ bs)) ≡ child_text path b ++ nodes_text path (joined bs)
 unfolding nodes_text
 first_text path b bs =
-    ap (λ t. t ++ nodes_text path (joined bs)) (append_assoc (node_line (path_below path b.name)) (flat_map property_line b.entries) (nodes_text (path_below path b.name) b.kids))
+    ap (λ t. t ++ nodes_text path (joined bs)) (append_assoc (node_line (path_below path b.name)) (flat_map property_line b.entries) (nodes_text (path_below path b.name) b.children))
 
 no_text : (path : List ℕ) → nodes_text path none ≡ []
 unfolding nodes_text

@@ -38,15 +38,15 @@ path_below path name = (path ++ codes "/") ++ name
 -- nodes that stand beside one another below a path, each with its properties and before its children
 unfoldable pub nodes_text : List ℕ → Nodes → List ℕ
 nodes_text path none = []
-nodes_text path (node name entries kids next) =
-    ((node_line (path_below path name) ++ flat_map property_line entries) ++ nodes_text (path_below path name) kids) ++ nodes_text path next
+nodes_text path (node name entries children next) =
+    ((node_line (path_below path name) ++ flat_map property_line entries) ++ nodes_text (path_below path name) children) ++ nodes_text path next
 
 -- what a node holds
 abbrev pub inner_text : List ℕ → Branch → List ℕ
-inner_text path b = flat_map property_line b.entries ++ nodes_text path b.kids
+inner_text path b = flat_map property_line b.entries ++ nodes_text path b.children
 
 abbrev pub root_text : Root → List ℕ
-root_text r = node_line (codes "/") ++ inner_text [] (record { name = []; entries = r.entries; kids = r.kids })
+root_text r = node_line (codes "/") ++ inner_text [] (record { name = []; entries = r.entries; children = r.children })
 
 -- the whole text
 abbrev pub devicetree_text : Devicetree → List ℕ

@@ -1,18 +1,17 @@
 use Rattle.std.proofs.Common.{◌≡◌, ◌∷◌, ℕ, List, refl, sym, ap, ◌∙◌, arith}
-use Rattle.fdt_tree.specs.Devicetree.{Branch}
+use Rattle.fdt_tree.specs.Devicetree.{Branch, bare}
 use Rattle.fdt_tree.specs.NodeViews.{branch}
 use Rattle.std.specs.Str.{bytes_eq}
-use Rattle.fdt_tree.specs.OpenNodes.{bare}
-use Rattle.fdt_tree.specs.Edits.{changed_below, value_put}
-use Rattle.fdt_tree.specs.EditViews.{names_in, way_len}
-use Rattle.fdt_tree.proofs.Editing.{changed_found, kept_found, changed_pushed, on_ok, on_err}
+use Rattle.fdt_tree.specs.Edits.{edited_below, value_put}
+use Rattle.fdt_tree.specs.inside.EditViews.{names_in, names_len}
+use Rattle.fdt_tree.proofs.NodeEdits.{edited_found, kept_found, edited_pushed, on_ok, on_err}
 use Rattle.fdt_tree.proofs.edits.+put_below.Goals as goal
 
 pub put_below-requires : goal.put_below-requires
-put_below-requires t c = (omega (arith, c.split_names.ensures.shorter, ap way_len c.in-Some.is, c.decreases), tt)
+put_below-requires t c = (omega (arith, c.split_names.ensures.shorter, ap names_len c.in-Some.is, c.decreases), tt)
 
 pub put_below-requires-in-None : goal.put_below-requires-in-None
-put_below-requires-in-None t c = (omega (arith, c.split_names.ensures.shorter, ap way_len c.in-Some.is, c.decreases), tt)
+put_below-requires-in-None t c = (omega (arith, c.split_names.ensures.shorter, ap names_len c.in-Some.is, c.decreases), tt)
 
 pub returns-in-Some-child_index-clause-done : goal.returns-in-Some-child_index-clause-done
 returns-in-Some-child_index-clause-done t c =
@@ -22,9 +21,9 @@ returns-in-Some-child_index-clause-done t c =
     let first = c.split_names.result.0.now in
     let rest = names_in c.split_names.result.1 in
     let split : names_in c.args.names ≡ c.split_names.result.0.now ∷ rest = ap names_in c.in-Some.is ∙ c.split_names.ensures.parts in
-    let whole = ap (λ (ns : List (List ℕ)). changed_below ns put (branch s n)) split in
+    let whole = ap (λ (ns : List (List ℕ)). edited_below ns put (branch s n)) split in
     on_ok c.put_below.result _ _
-    (λ e. changed_found s (λ x. bytes_eq x first) (changed_below rest put) (changed_below rest put (bare first)) n _ c.in-Some-child_index.at c.index_mut.result.now c.put_below.new.node refl refl refl (rw c.deref.ensures.value at c.in-Some-child_index.ensures.exact) c.index_mut.ensures.value e ∙ sym whole)
+    (λ e. edited_found s (λ x. bytes_eq x first) (edited_below rest put) (edited_below rest put (bare first)) n _ c.in-Some-child_index.at c.index_mut.result.now c.put_below.new.node refl refl refl (rw c.deref.ensures.value at c.in-Some-child_index.ensures.exact) c.index_mut.ensures.value e ∙ sym whole)
     c.put_below.ensures.done
 
 pub returns-in-Some-child_index-clause-unchanged :
@@ -43,6 +42,6 @@ returns-in_ok-push-in-None-clause-done t c =
     let first = c.split_names.result.0.now in
     let rest = names_in c.split_names.result.1 in
     let split : names_in c.args.names ≡ c.split_names.result.0.now ∷ rest = ap names_in c.in-Some.is ∙ c.split_names.ensures.parts in
-    let whole = ap (λ (ns : List (List ℕ)). changed_below ns put (branch s n)) split in
-    let made = c.in_ok-put_below-in-None.ensures.done ∙ ap (λ (b : Branch). changed_below rest put b) (c.in_ok-child-in-None.ensures s) in
-    changed_pushed s (λ x. bytes_eq x first) (changed_below rest put) (changed_below rest put (bare first)) n c.put_below-in-None.new.node _ refl refl c.in_ok-push-in-None.ensures.items (rw c.deref.ensures.value at c.in-None.ensures.exact) made ∙ sym whole
+    let whole = ap (λ (ns : List (List ℕ)). edited_below ns put (branch s n)) split in
+    let made = c.in_ok-put_below-in-None.ensures.done ∙ ap (λ (b : Branch). edited_below rest put b) (c.in_ok-child-in-None.ensures s) in
+    edited_pushed s (λ x. bytes_eq x first) (edited_below rest put) (edited_below rest put (bare first)) n c.put_below-in-None.new.node _ refl refl c.in_ok-push-in-None.ensures.items (rw c.deref.ensures.value at c.in-None.ensures.exact) made ∙ sym whole

@@ -1,5 +1,5 @@
 use Rattle.std.proofs.Common.{refl}
-use Rattle.fdt_tree.proofs.Editing.{value_put_found, value_pushed}
+use Rattle.fdt_tree.proofs.NodeEdits.{value_put_found, value_pushed}
 use Rattle.fdt_tree.proofs.edits.put_value.Goals as goal
 
 pub returns-in-Some-clause-done : goal.returns-in-Some-clause-done

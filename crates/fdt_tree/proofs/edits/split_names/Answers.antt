@@ -1,7 +1,7 @@
 use Rattle.std.proofs.Common.{◌+◌, ◌∷◌, List, ℕ, take, sym, ap, ◌∙◌}
 use Rattle.std.proofs.lemmas.List.{take_rest}
 use Rattle.fdt_tree.specs.Lookup.{between_slashes}
-use Rattle.fdt_tree.proofs.Finding.{no_slash, first_slash}
+use Rattle.fdt_tree.proofs.NameLookup.{no_slash, first_slash}
 use Rattle.fdt_tree.proofs.edits.split_names.Goals as goal
 
 pub returns-in-None-clause-parts : goal.returns-in-None-clause-parts

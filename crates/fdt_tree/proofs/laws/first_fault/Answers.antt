@@ -1,6 +1,6 @@
 use Rattle.std.proofs.Common.{length, arith}
 use Rattle.fdt_tree.specs.Scanning.{start}
-use Rattle.fdt_tree.proofs.FirstFaults.{scan_fails, fault_scans}
+use Rattle.fdt_tree.proofs.FirstFaultOfScan.{scan_fails, fault_scans}
 use Rattle.fdt_tree.proofs.laws.first_fault.Goals as goal
 
 pub returns : goal.returns

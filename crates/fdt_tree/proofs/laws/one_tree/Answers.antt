@@ -1,4 +1,4 @@
-use Rattle.fdt_tree.proofs.Readings.{one_tree}
+use Rattle.fdt_tree.proofs.ReadIsSpelled.{one_tree}
 use Rattle.fdt_tree.proofs.laws.one_tree.Goals as goal
 
 pub returns : goal.returns

@@ -1,4 +1,4 @@
-use Rattle.fdt_tree.proofs.Existence.{refused_or_spelled, no_refusal}
+use Rattle.fdt_tree.proofs.UnrefusedIsSpelled.{refused_or_spelled, no_refusal}
 use Rattle.fdt_tree.proofs.laws.refused_or_spelled.Goals as goal
 
 pub returns-clause-spelled : goal.returns-clause-spelled

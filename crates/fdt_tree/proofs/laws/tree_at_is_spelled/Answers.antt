@@ -1,5 +1,5 @@
-use Rattle.fdt_tree.proofs.Existence.{bytes_fit}
-use Rattle.fdt_tree.proofs.TreesAt.{spelled_tree, tree_spelled}
+use Rattle.fdt_tree.proofs.UnrefusedIsSpelled.{bytes_fit}
+use Rattle.fdt_tree.proofs.TreeAtIsSpelled.{spelled_tree, tree_spelled}
 use Rattle.fdt_tree.proofs.laws.tree_at_is_spelled.Goals as goal
 
 pub returns : goal.returns

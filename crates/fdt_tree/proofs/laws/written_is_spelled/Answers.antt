@@ -1,4 +1,4 @@
-use Rattle.fdt_tree.proofs.WrittenFile.{written_again}
+use Rattle.fdt_tree.proofs.WrittenFileIsSpelled.{written_again}
 use Rattle.fdt_tree.proofs.laws.written_is_spelled.Goals as goal
 
 pub returns : goal.returns

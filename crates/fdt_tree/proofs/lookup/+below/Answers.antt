@@ -4,7 +4,7 @@ use Rattle.std.specs.Prelude.{option_and_then}
 use Rattle.fdt_tree.specs.Devicetree.{Branch}
 use Rattle.fdt_tree.specs.NodeViews.{branch}
 use Rattle.fdt_tree.specs.Lookup.{between_slashes, node_below}
-use Rattle.fdt_tree.proofs.Finding.{last_name, next_name}
+use Rattle.fdt_tree.proofs.NameLookup.{last_name, next_name}
 use Rattle.fdt_tree.proofs.lookup.+below.Goals as goal
 
 pub returns-in-None : goal.returns-in-None

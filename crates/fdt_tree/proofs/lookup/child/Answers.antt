@@ -6,8 +6,8 @@ use Rattle.fdt_tree.specs.declared.node.Node.TheViews.{out-Node}
 use Rattle.fdt_tree.specs.Devicetree.{joined, Branch}
 use Rattle.fdt_tree.specs.NodeViews.{branches}
 use Rattle.fdt_tree.specs.Lookup.{first_named}
-use Rattle.fdt_tree.proofs.Open.{branch_out}
-use Rattle.fdt_tree.proofs.Finding.{found, passed}
+use Rattle.fdt_tree.proofs.OpenNodes.{branch_out}
+use Rattle.fdt_tree.proofs.NameLookup.{found, passed}
 use Rattle.fdt_tree.proofs.lookup.child.Goals as goal
 
 pub returns-then-eq : goal.returns-then-eq
@@ -28,4 +28,4 @@ returns c = λ strings.
     sym (at_drop_all (λ (ns : List Node). first_named c.args.name.now (joined (branches strings ns))) items c.loop-child.child-index c.loop-child-test.false)
     ∙ c.loop-child.invariant strings
     ∙ ap (λ (ns : List Node). first_named c.args.name.now (joined (branches strings ns))) c.deref-child-items.ensures.value
-    ∙ ap (λ (x : Branch). first_named c.args.name.now x.kids) (sym (branch_out strings c.args.node.now))
+    ∙ ap (λ (x : Branch). first_named c.args.name.now x.children) (sym (branch_out strings c.args.node.now))

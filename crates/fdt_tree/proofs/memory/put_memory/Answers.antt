@@ -1,7 +1,7 @@
 use Rattle.std.proofs.Common.{ℕ, List, refl, ap, ◌∙◌}
 use Rattle.fdt_tree.specs.NodeViews.{branch}
 use Rattle.fdt_tree.specs.Memory.{names_memory, reg_put, new_memory, memory_put}
-use Rattle.fdt_tree.proofs.Editing.{changed_found, kept_found, changed_pushed, on_ok, on_err}
+use Rattle.fdt_tree.proofs.NodeEdits.{edited_found, kept_found, edited_pushed, on_ok, on_err}
 use Rattle.fdt_tree.proofs.memory.put_memory.Goals as goal
 
 pub returns-in-Some-clause-done : goal.returns-in-Some-clause-done
@@ -11,7 +11,7 @@ returns-in-Some-clause-done c =
     let reg = c.deref-in-Some.result.now in
     let whole = ap (λ (xs : List ℕ). memory_put c.args.base xs (branch s n)) (c.deref-in-Some.ensures.value ∙ c.in_ok-value.ensures) in
     on_ok c.put_below.result _ _
-    (λ e. changed_found s names_memory (reg_put reg) (new_memory c.args.base reg) n _ c.in-Some.at c.index_mut.result.now c.put_below.new.node refl refl refl (rw c.deref.ensures.value at c.in-Some.ensures.exact) c.index_mut.ensures.value e ∙ whole)
+    (λ e. edited_found s names_memory (reg_put reg) (new_memory c.args.base reg) n _ c.in-Some.at c.index_mut.result.now c.put_below.new.node refl refl refl (rw c.deref.ensures.value at c.in-Some.ensures.exact) c.index_mut.ensures.value e ∙ whole)
     c.put_below.ensures.done
 
 pub returns-in-Some-clause-unchanged : goal.returns-in-Some-clause-unchanged
@@ -27,4 +27,4 @@ returns-clause-done c =
     let n = c.args.root.now in
     let reg = c.deref-in-None.result.now in
     let whole = ap (λ (xs : List ℕ). memory_put c.args.base xs (branch s n)) (c.deref-in-None.ensures.value ∙ c.in_ok-value.ensures) in
-    changed_pushed s names_memory (reg_put reg) (new_memory c.args.base reg) n c.in_ok-node-in-None.node _ refl refl c.in_ok-push-in-None.ensures.items (rw c.deref.ensures.value at c.in-None.ensures.exact) c.in_ok-node-in-None.ensures ∙ whole
+    edited_pushed s names_memory (reg_put reg) (new_memory c.args.base reg) n c.in_ok-node-in-None.node _ refl refl c.in_ok-push-in-None.ensures.items (rw c.deref.ensures.value at c.in-None.ensures.exact) c.in_ok-node-in-None.ensures ∙ whole

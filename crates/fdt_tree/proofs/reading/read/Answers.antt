@@ -3,10 +3,10 @@ use Rattle.std.proofs.lemmas.Result.{err_from_is_err_and}
 use Rattle.fdt_tree.specs.Devicetree.{Devicetree}
 use Rattle.fdt_tree.specs.Reading.{parts_of}
 use Rattle.fdt_tree.specs.Wholeness.{tree_in}
-use Rattle.fdt_tree.proofs.Takes.{IsBytes}
-use Rattle.fdt_tree.proofs.Readings.{reads_spelled, spelled_reads, spelled_whole, one_tree}
+use Rattle.fdt_tree.proofs.SpellingOfScan.{IsBytes}
+use Rattle.fdt_tree.proofs.ReadIsSpelled.{reads_spelled, spelled_reads, spelled_whole, one_tree}
 use Rattle.fdt_tree.proofs.Faults.{fails_ok}
-use Rattle.fdt_tree.proofs.TreesAt.{parts_tree}
+use Rattle.fdt_tree.proofs.TreeAtIsSpelled.{parts_tree}
 use Rattle.fdt_tree.proofs.reading.read.Goals as goal
 
 pub returns-in_err-contents-clause-only : goal.returns-in_err-contents-clause-only

@@ -1,7 +1,7 @@
 use Rattle.std.proofs.Common.{length, inr, sym, ◌∙◌}
 use Rattle.std.proofs.lemmas.Result.{err_from_is_err_and}
-use Rattle.fdt_tree.proofs.Fronts.{goes_on, fails, ends}
-use Rattle.fdt_tree.proofs.Pairs.{pairs_go_on, pairs_fail, pairs_end, pairs_over}
+use Rattle.fdt_tree.proofs.LoopReads.{goes_on, fails, ends}
+use Rattle.fdt_tree.proofs.ReservationsAreSpelled.{pairs_go_on, pairs_fail, pairs_end, pairs_over}
 use Rattle.fdt_tree.proofs.reservations.reservations_in.Goals as goal
 
 pub returns-in_err-pair : goal.returns-in_err-pair

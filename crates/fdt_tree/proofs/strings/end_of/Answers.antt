@@ -1,6 +1,6 @@
 use Rattle.std.proofs.Common.{arith, ◌∙◌, sym}
 use Rattle.std.proofs.lemmas.Bool.{eq-eqb, ne_eqb}
-use Rattle.fdt_tree.proofs.NameRuns.{end_more}
+use Rattle.fdt_tree.proofs.NamesInStrings.{end_more}
 use Rattle.fdt_tree.proofs.strings.end_of.Goals as goal
 use Rattle.fdt_tree.proofs.strings.end_of.Goals.{then-byte-eq0, else-byte-eq0}
 

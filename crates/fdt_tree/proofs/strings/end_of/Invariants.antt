@@ -1,5 +1,5 @@
 use Rattle.std.proofs.Common.{◌≡◌, take}
-use Rattle.fdt_tree.specs.LetterRuns.{zero_end}
+use Rattle.fdt_tree.specs.inside.NameRuns.{zero_end}
 use Rattle.fdt_tree.proofs.strings.end_of.Given as goal
 
 abbrev pub invariant-loop-i : goal.invariant-loop-i

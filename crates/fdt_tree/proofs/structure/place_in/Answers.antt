@@ -1,6 +1,6 @@
 use Rattle.std.proofs.Common.{◌≡◌, length, arith, refl}
 use Rattle.fdt_tree.specs.declared.node.Node.TheViews.{out-Node}
-use Rattle.fdt_tree.proofs.Open.{late_is}
+use Rattle.fdt_tree.proofs.OpenNodes.{late_is}
 use Rattle.fdt_tree.proofs.structure.place_in.Goals as goal
 
 pub returns : goal.returns

@@ -1,7 +1,7 @@
 use Rattle.std.proofs.Common.{arith}
 use Rattle.fdt_tree.specs.declared.node.Node.TheViews.{out-Node}
-use Rattle.fdt_tree.proofs.Takes.{IsBytes}
-use Rattle.fdt_tree.proofs.AtEnd.{at_end, root_is, root_named, root_there}
+use Rattle.fdt_tree.proofs.SpellingOfScan.{IsBytes}
+use Rattle.fdt_tree.proofs.RootAtEnd.{at_end, root_is, root_named, root_there}
 use Rattle.fdt_tree.proofs.structure.root_in.Goals as goal
 
 pub returns-in-Some-clause-exact : goal.returns-in-Some-clause-exact

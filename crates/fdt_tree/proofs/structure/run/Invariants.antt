@@ -2,7 +2,7 @@ use Rattle.std.proofs.Common.{◌≡◌, ◌-◌, ◌∷◌, [], length}
 use Rattle.fdt_tree.specs.Devicetree.{begin_node}
 use Rattle.refusal.specs.Answer.{with_front}
 use Rattle.fdt_tree.specs.Scanning.{scan, start}
-use Rattle.fdt_tree.specs.OpenNodes.{so_far, place_of}
+use Rattle.fdt_tree.specs.inside.OpenNodes.{so_far, place_of}
 use Rattle.fdt_tree.proofs.structure.run.Given as goal
 
 abbrev pub invariant-loop : goal.invariant-loop

@@ -1,5 +1,5 @@
 use Rattle.std.proofs.Common.{take, drop, arith}
-use Rattle.fdt_tree.proofs.Open.{begin_step, property_step, end_step, end_place}
+use Rattle.fdt_tree.proofs.OpenNodes.{begin_step, property_step, end_step, end_place}
 use Rattle.fdt_tree.specs.Devicetree.{Entry}
 use Rattle.fdt_tree.proofs.structure.take.Goals as goal
 

@@ -2,8 +2,8 @@ use Rattle.std.proofs.Common.{List, ◌++◌, take}
 use Rattle.std.proofs.lemmas.Result.{err_from_is_err_and}
 use Rattle.fdt_tree.specs.Devicetree.{Token}
 use Rattle.fdt_tree.specs.Writing.{names_after}
-use Rattle.fdt_tree.specs.OutputViews.{front_of, tokens_of_nodes}
-use Rattle.fdt_tree.proofs.Writes.{front_fails, begun, child_put, child_fails, ended}
+use Rattle.fdt_tree.specs.inside.OutputViews.{tokens_of_nodes}
+use Rattle.fdt_tree.proofs.WrittenTokens.{front_of, front_fails, begun, child_put, child_fails, ended}
 use Rattle.fdt_tree.proofs.writing.+put_node.Goals as goal
 
 pub returns-in_err-put_node-clause-refused : goal.returns-in_err-put_node-clause-refused

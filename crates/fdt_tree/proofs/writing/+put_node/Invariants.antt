@@ -1,6 +1,7 @@
 use Rattle.std.proofs.Common.{ℕ, List, ◌++◌, take}
-use Rattle.fdt_tree.specs.NameTables.{HasNames}
-use Rattle.fdt_tree.specs.OutputViews.{HasTokens, front_of, tokens_of_nodes}
+use Rattle.fdt_tree.specs.inside.NameTables.{HasNames}
+use Rattle.fdt_tree.specs.inside.OutputViews.{HasTokens, tokens_of_nodes}
+use Rattle.fdt_tree.proofs.WrittenTokens.{front_of}
 use Rattle.fdt_tree.proofs.writing.+put_node.Given as goal
 
 abbrev pub invariant-loop-child : goal.invariant-loop-child

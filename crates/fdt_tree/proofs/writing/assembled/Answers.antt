@@ -1,7 +1,7 @@
 use Rattle.std.proofs.Common.{◌≡◌, ◌++◌, ℕ, List, ap, ◌∙◌}
 use Rattle.std.proofs.lemmas.Result.{err_from_is_err_and}
 use Rattle.fdt_tree.specs.Writing.{reservations_text, file_text}
-use Rattle.fdt_tree.proofs.Writes.{assembled_is, assembled_within, file_too_long}
+use Rattle.fdt_tree.proofs.WrittenTokens.{assembled_is, assembled_within, file_too_long}
 use Rattle.fdt_tree.proofs.writing.assembled.Goals as goal
 
 pub returns-clause-done : goal.returns-clause-done

@@ -1,5 +1,5 @@
 use Rattle.std.proofs.Common.{inr, refl, arith}
-use Rattle.fdt_tree.proofs.Writes.{reservations_len}
+use Rattle.fdt_tree.proofs.WrittenTokens.{reservations_len}
 use Rattle.fdt_tree.proofs.writing.lengths_of.Goals as goal
 
 pub returns-then-total-gt-MAX_LEN-clause-refused :

@@ -2,7 +2,7 @@ use Rattle.std.proofs.Common.{◌++◌, ◌∷◌, [], ℕ, List, ap, ◌∙◌}
 use Rattle.std.proofs.lemmas.Result.{err_from_is_err_and}
 use Rattle.std.specs.Int.{w32, to_be_bytes}
 use Rattle.fdt_tree.specs.Writing.{text_after}
-use Rattle.fdt_tree.specs.OutputViews.{tokens_of_nodes}
+use Rattle.fdt_tree.specs.inside.OutputViews.{tokens_of_nodes}
 use Rattle.fdt_tree.proofs.writing.output_of.Goals as goal
 
 pub returns-in_err-put_node-clause-refused : goal.returns-in_err-put_node-clause-refused

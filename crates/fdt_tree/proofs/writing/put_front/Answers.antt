@@ -5,9 +5,9 @@ use Rattle.fdt_tree.specs.declared.node.Property.{Property}
 use Rattle.fdt_tree.specs.Devicetree.{Token, begin_node, property}
 use Rattle.fdt_tree.specs.NodeViews.{entry_of}
 use Rattle.fdt_tree.specs.Writing.{names_after}
-use Rattle.fdt_tree.specs.NameTables.{TooMuch}
-use Rattle.fdt_tree.specs.OutputViews.{HasTokens, size_of, tokens_of_entries}
-use Rattle.fdt_tree.proofs.Writes.{HasTokens_then, too_much_then, entries_split, one_more_entry}
+use Rattle.fdt_tree.specs.inside.NameTables.{TooMuch}
+use Rattle.fdt_tree.specs.inside.OutputViews.{HasTokens, size_of, tokens_of_entries}
+use Rattle.fdt_tree.proofs.WrittenTokens.{HasTokens_then, too_much_then, entries_split, one_more_entry}
 use Rattle.fdt_tree.proofs.writing.put_front.Goals as goal
 
 pub returns-in_err-put_property-clause-refused : goal.returns-in_err-put_property-clause-refused

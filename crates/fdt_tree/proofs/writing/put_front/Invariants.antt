@@ -1,7 +1,7 @@
 use Rattle.std.proofs.Common.{ℕ, List, ◌∷◌, take}
 use Rattle.fdt_tree.specs.Devicetree.{begin_node}
-use Rattle.fdt_tree.specs.NameTables.{HasNames}
-use Rattle.fdt_tree.specs.OutputViews.{HasTokens, tokens_of_entries}
+use Rattle.fdt_tree.specs.inside.NameTables.{HasNames}
+use Rattle.fdt_tree.specs.inside.OutputViews.{HasTokens, tokens_of_entries}
 use Rattle.fdt_tree.proofs.writing.put_front.Given as goal
 
 abbrev pub invariant-loop-entry : goal.invariant-loop-entry

@@ -1,5 +1,5 @@
 use Rattle.std.specs.Int.{w64, to_be_bytes}
-use Rattle.fdt_tree.proofs.Writes.{two}
+use Rattle.fdt_tree.proofs.WrittenTokens.{two}
 use Rattle.fdt_tree.proofs.writing.put_pair.Goals as goal
 
 pub returns : goal.returns

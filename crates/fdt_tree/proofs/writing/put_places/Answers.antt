@@ -1,5 +1,5 @@
 use Rattle.std.proofs.Common.{◌+◌}
-use Rattle.fdt_tree.proofs.Writes.{five_words}
+use Rattle.fdt_tree.proofs.WrittenTokens.{five_words}
 use Rattle.fdt_tree.proofs.writing.put_places.Goals as goal
 
 pub returns : goal.returns

@@ -1,4 +1,4 @@
-use Rattle.fdt_tree.proofs.Writes.{five_words}
+use Rattle.fdt_tree.proofs.WrittenTokens.{five_words}
 use Rattle.fdt_tree.proofs.writing.put_versions.Goals as goal
 
 pub returns : goal.returns

@@ -4,11 +4,11 @@ use Rattle.std.specs.Int.{w32, to_be_bytes}
 use Rattle.fdt_tree.specs.declared.tree.Reservation.{Reservation}
 use Rattle.fdt_tree.specs.Wholeness.{tree_in}
 use Rattle.fdt_tree.specs.Writing.{text_after, names_after, strings_text, reservations_text, file_text, written}
-use Rattle.fdt_tree.specs.NameTables.{TooMuch}
-use Rattle.fdt_tree.specs.OutputViews.{size_of, tokens_of_nodes}
-use Rattle.fdt_tree.proofs.Writes.{written_is, size_within}
+use Rattle.fdt_tree.specs.inside.NameTables.{TooMuch}
+use Rattle.fdt_tree.specs.inside.OutputViews.{size_of, tokens_of_nodes}
+use Rattle.fdt_tree.proofs.WrittenTokens.{written_is, size_within}
 use Rattle.fdt_tree.proofs.Faults.{more_than}
-use Rattle.fdt_tree.proofs.WrittenFile.{again_if_ok}
+use Rattle.fdt_tree.proofs.WrittenFileIsSpelled.{again_if_ok}
 use Rattle.fdt_tree.proofs.writing.written.Goals as goal
 
 whole : (c : goal.After-drop-out-4) → file_text c.args.contents.now.boot_cpu (reservations_text c.deref-2.result.now) c.in_ok-out.out.structure.items c.in_ok-out.out.names.strings.items ≡ written (tree_in c.args.contents.now)

@@ -3,7 +3,7 @@ use Rattle.std.specs.Ordering.{nat_cmp}
 use Rattle.std.specs.Cmp.Lexicographic.{slice_cmp}
 use Rattle.std.specs.BTreeMap.{get_by}
 use Rattle.std.specs.Str.{bytes_eq}
-use Rattle.fdt_tree.proofs.Tables.{map_at, has_one_more, too_long}
+use Rattle.fdt_tree.proofs.NameTables.{map_at, has_one_more, too_long}
 use Rattle.fdt_tree.proofs.names.NameTable.add.Goals as goal
 
 pub returns-then-saturating_sub-name-clause-refused :

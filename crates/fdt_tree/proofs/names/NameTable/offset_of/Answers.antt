@@ -1,7 +1,7 @@
 use Rattle.std.proofs.Common.{◌≡◌, ℕ, List, IfOk, IfErr, length, sym, ap, subst, ◌∙◌}
 use Rattle.fdt_tree.specs.Writing.{noted, strings_text, offset_in}
 use Rattle.fdt_tree.specs.NodeViews.{name_of}
-use Rattle.fdt_tree.specs.NameTables.{TooMuch}
+use Rattle.fdt_tree.specs.inside.NameTables.{TooMuch}
 use Rattle.fdt_tree.proofs.names.NameTable.offset_of.Goals as goal
 
 own : (c : goal.After-offset_of_bytes) → c.deref.result.now ≡ name_of c.args.source.now c.args.name.now

@@ -1,7 +1,7 @@
 use Rattle.std.proofs.Common.{◌≡◌, ℕ, List, None, IfErr, length, sym, subst, ◌∙◌}
 use Rattle.fdt_tree.specs.Writing.{strings_text}
-use Rattle.fdt_tree.specs.NameTables.{HasNames, TooMuch, place_in}
-use Rattle.fdt_tree.proofs.Tables.{offset_ok, noted_new}
+use Rattle.fdt_tree.specs.inside.NameTables.{HasNames, TooMuch, place_in}
+use Rattle.fdt_tree.proofs.NameTables.{offset_ok, noted_new}
 use Rattle.fdt_tree.proofs.names.NameTable.offset_of_bytes.Goals as goal
 
 missing : (c : goal.After-add) (source : List ℕ) (names : List (List ℕ)) → HasNames source c.args.self.now names → place_in names c.args.name.now ≡ None

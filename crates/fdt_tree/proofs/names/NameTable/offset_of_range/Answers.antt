@@ -1,8 +1,8 @@
 use Rattle.std.proofs.Common.{◌≡◌, ℕ, List, length, take, drop, subst}
 use Rattle.std.proofs.lemmas.Result.{err_from_is_err_and}
 use Rattle.fdt_tree.specs.Writing.{noted, strings_text, offset_in}
-use Rattle.fdt_tree.specs.NameTables.{HasNames, TooMuch}
-use Rattle.fdt_tree.proofs.Tables.{place_noted}
+use Rattle.fdt_tree.specs.inside.NameTables.{HasNames, TooMuch}
+use Rattle.fdt_tree.proofs.NameTables.{place_noted}
 use Rattle.fdt_tree.proofs.names.NameTable.offset_of_range.Goals as goal
 
 pub returns-in_err-offset-clause-refused : goal.returns-in_err-offset-clause-refused

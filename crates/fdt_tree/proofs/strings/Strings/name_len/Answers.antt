@@ -1,17 +1,17 @@
 use Rattle.std.proofs.Common.{◌≡◌, ℕ, List, ◌+◌, ◌<◌, get_or, drop, vec_len, length, arith, ◌∙◌, ap}
 use Rattle.std.proofs.lemmas.List.{get_or_read}
-use Rattle.fdt_tree.specs.LetterRuns.{letter_run, zero_end}
+use Rattle.fdt_tree.specs.inside.NameRuns.{name_run, zero_end}
 use Rattle.fdt_tree.specs.declared.strings.Strings.{Strings}
-use Rattle.fdt_tree.proofs.NameRuns.{no_name, good_name, bad_name, run_inside, run_at, zero_end_le, length-letter_runs}
+use Rattle.fdt_tree.proofs.NamesInStrings.{no_name, good_name, bad_name, run_inside, run_at, zero_end_le, length-name_runs}
 use Rattle.fdt_tree.proofs.strings.Strings.name_len.Goals as goal
 use Rattle.fdt_tree.proofs.strings.Strings.name_len.Goals.{then-len-eq0-via-then-len-eq0, then-len-eq0-via-else-len-eq0+then-index-ne0}
 
 -- the runs are as many as the bytes
 inside : (s : Strings) (o : ℕ) → o < s.end → o < vec_len s.runs
-inside s o h = omega (arith, h, s.end_known, zero_end_le s.bytes.items, ap length s.runs_known, length-letter_runs s.bytes.items, s.runs.ok.0)
+inside s o h = omega (arith, h, s.end_known, zero_end_le s.bytes.items, ap length s.runs_known, length-name_runs s.bytes.items, s.runs.ok.0)
 
 -- what is read from them
-run_is : (s : Strings) (o k : ℕ) → o < s.end → k ≡ get_or s.runs.items o k → k ≡ letter_run (drop o s.bytes.items)
+run_is : (s : Strings) (o k : ℕ) → o < s.end → k ≡ get_or s.runs.items o k → k ≡ name_run (drop o s.bytes.items)
 run_is s o k h e =
     let there : o < length s.runs.items = omega (arith, inside s o h, s.runs.ok.0) in
     get_or_read s.runs.items o k there e 0 ∙ ap (λ (xs : List ℕ). get_or xs o 0) s.runs_known ∙ run_at s.bytes.items o
@@ -20,7 +20,7 @@ before_end : (s : Strings) (o : ℕ) → o < s.end → o < zero_end s.bytes.item
 before_end s o h = omega (arith, s.end_known)
 
 -- the byte behind the run
-stop_inside : (s : Strings) (o k : ℕ) → o < s.end → k ≡ letter_run (drop o s.bytes.items) → o + k < length s.bytes.items
+stop_inside : (s : Strings) (o k : ℕ) → o < s.end → k ≡ name_run (drop o s.bytes.items) → o + k < length s.bytes.items
 stop_inside s o k h e = omega (arith, run_inside s.bytes.items o (before_end s o h), e)
 
 pub returns-then-offset-self : goal.returns-then-offset-self

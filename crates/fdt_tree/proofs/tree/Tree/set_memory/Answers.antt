@@ -1,8 +1,8 @@
 use Rattle.std.proofs.Common.{◌++◌, inl, inr, refl}
 use Rattle.std.proofs.lemmas.Result.{err_from_is_err_and}
-use Rattle.fdt_tree.specs.MemoryViews.{cells_text}
-use Rattle.fdt_tree.proofs.Settings.{tree_kept}
-use Rattle.fdt_tree.proofs.Memories.{memory_done, may_be_put, memory_refused, either_memory, either_memory_unnamed}
+use Rattle.fdt_tree.specs.inside.MemoryViews.{cells_text}
+use Rattle.fdt_tree.proofs.TreeEdits.{tree_kept}
+use Rattle.fdt_tree.proofs.MemoryEdits.{memory_done, may_be_put, memory_refused, either_memory, either_memory_unnamed}
 use Rattle.fdt_tree.proofs.tree.Tree.set_memory.Goals as goal
 
 pub returns-in_err-reg : goal.returns-in_err-reg
