@@ -34,12 +34,12 @@ read_of bytes =
     if nat_lt (length bytes) 64 then Err Short
     else (if word_at 56 bytes == magic then Ok (header_of bytes) else Err BadMagic)
 
--- How far behind a 2 MiB boundary the Image is placed. Where image_size is 0, as in kernels before
+-- How far after a 2 MiB boundary the Image is placed. Where image_size is 0, as in kernels before
 -- Linux 3.17, text_offset may have no defined byte order and 0x80000 is to be assumed.
 abbrev pub load_offset_of : Header → ℕ
 load_offset_of h = if h.image_size == 0 then 0x80000 else h.text_offset
 
 -- How many bytes from where it is placed the Image takes: image_size counts what the kernel clears
--- behind its file too, and a file may be longer than it says.
+-- after its file too, and a file may be longer than it says.
 abbrev pub extent_of : Header → ℕ → ℕ
 extent_of h file_len = max h.image_size file_len

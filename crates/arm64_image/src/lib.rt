@@ -1,4 +1,4 @@
-//! The header in front of an arm64 kernel Image, which says where the Image wants to be placed and
+//! The header in front of an arm64 kernel Image, which says where the Image has to be placed and
 //! how much memory it takes there (Linux, Documentation/arch/arm64/booting.rst).
 #![tactic(auto)]
 
@@ -24,7 +24,7 @@ pub struct Header {
     pub code0: u32,
     /// The second instruction.
     pub code1: u32,
-    /// How many bytes behind a 2 MiB boundary the Image is placed.
+    /// How many bytes after a 2 MiB boundary the Image is placed.
     pub text_offset: u64,
     /// How many bytes the Image takes in memory, or 0 where an old kernel does not say.
     pub image_size: u64,
@@ -76,7 +76,7 @@ pub fn read(bytes: &[u8]) -> Result<Header, ImageFault>
 }
 
 impl Header {
-    /// How many bytes behind a 2 MiB boundary the Image is placed: `text_offset`, or 0x80000 where
+    /// How many bytes after a 2 MiB boundary the Image is placed: `text_offset`, or 0x80000 where
     /// `image_size` is 0.
     pub fn load_offset(&self) -> u64
         ensures { result ≡ load_offset_of self.now }

@@ -27,7 +27,7 @@ use std::io::{ErrorKind, Write};
 /// manifest, a file or the output, 4 want of memory. Output is made whole before any of it is written.
 ///
 /// Where `clap` takes the words, 0 says that the text that they ask for was added to `out`, and 2 is
-/// not answered. After 2 and 4 `out` is as it was. What stands on `err` no clause says, since writing
+/// not answered. After 2 and 4 `out` is as it was. No clause says what is on `err`, since writing
 /// there may fail and changes no status.
 pub fn run<R, S: AsStr, O: Opener, W: Write, E: Write>(
     _rt: &R,

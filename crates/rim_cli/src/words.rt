@@ -14,7 +14,7 @@ use thiserror::Error;
 /// What the words ask for.
 #[derive(Clone, Copy, Debug)]
 pub enum Request<'a> {
-    /// The report of the launches of a manifest, which stands at a path, made by 1 to 64 workers.
+    /// The report of the launches of a manifest, at a path, made by 1 to 64 workers.
     Measure { manifest: &'a str, workers: u8 },
     /// The header of the arm64 Image at a path.
     Image { file: &'a str },

@@ -14,7 +14,7 @@ use Rattle.rim_manifest.specs.Rules.{Rule}
 abbrev pub value_faults : Form → Data → List ManifestFault
 value_faults f d = fault_if (is_over f d) Limit ++ fault_if (not (is_within f d)) Range
 
--- the faults of what stands at the key of a rule
+-- the faults of the value at the key of a rule
 abbrev pub cell_faults : Rule → Option Data → List ManifestFault
 cell_faults r (Some d) = if has_kind r.form d then value_faults r.form d else WrongKind ∷ []
 cell_faults r None = fault_if (is_required r.presence) MissingKey
@@ -29,6 +29,6 @@ is_known rs k = list_any (λ r. bytes_eq r.key k) rs
 abbrev pub has_unknown_key : List Rule → Members → Bool
 has_unknown_key rs ms = list_any (λ k. not (is_known rs k)) (keys_list ms)
 
--- the faults of a table: a key without a rule, and what stands at the keys of the rules
+-- the faults of a table: a key without a rule, and the values at the keys of the rules
 abbrev pub table_faults : List Rule → Members → List ManifestFault
 table_faults rs ms = fault_if (has_unknown_key rs ms) UnknownKey ++ flat_map (λ r. rule_faults r ms) rs

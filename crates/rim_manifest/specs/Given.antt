@@ -1,5 +1,5 @@
 -- What a manifest gives, said apart from the defaults that its reader falls back on: what is read at a key is the
--- value that stands there, and a default is read only where the key is not there. This project's choice.
+-- value at it, and a default is read only where the key is absent. This project's choice.
 use Rattle.std.specs.Prelude.{◌≡◌, ℕ, Bool, false, pos, List, [], ◌∷◌, Option, Some, None, Ok, codes}
 use Rattle.hex.specs.Hex.{decode_sized}
 use Rattle.toml.specs.Data.{Data, string, integer, boolean, table, Members, get_member}

@@ -34,7 +34,7 @@ fn check_rules(rules: &[Rule], table: &Table, found: &mut Option<ManifestFault>)
     }
 }
 
-/// Notes the faults of what stands at the key of a rule.
+/// Notes the faults of the value at the key of a rule.
 fn check_rule(rule: &Rule, table: &Table, found: &mut Option<ManifestFault>)
     ensures { found.new ≡ noted found.old (rule_faults (rule_of rule.now) (table_view table.now)) }
 {
@@ -60,7 +60,7 @@ fn check_value(form: Form, value: &Value, found: &mut Option<ManifestFault>)
     note_if(found, !is_within(form, value), ManifestFault::Range);
 }
 
-/// What stands at a key of a table.
+/// The value at a key of a table.
 pub fn cell<'a>(table: &'a Table, key: &str) -> Option<&'a Value>
     ensures { get_member key.now (table_view table.now) ≡ option_map (λ v. view v.now) result }
 {

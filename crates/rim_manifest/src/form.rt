@@ -23,9 +23,9 @@ pub enum Form {
     Number { low: i64, high: i64 },
     /// True or false.
     Truth,
-    /// A text of so many hexadecimal digits.
+    /// A text of this many hexadecimal digits.
     Digits { count: usize },
-    /// An array of tables, at most so many.
+    /// An array of tables, at most this many.
     Tables { most: usize },
     /// A key that is not read yet: its presence is the fault `Limit`, and what it holds is not
     /// looked at.

@@ -1,4 +1,4 @@
-//! The keys of a manifest's tables. The same rows stand in `specs/Rules.antt`, where they are reviewed,
+//! The keys of a manifest's tables. The same rows are in `specs/Rules.antt`, where they are reviewed,
 //! and the two are proved equal where these are used.
 use crate::form::Presence::{Optional, Required};
 use crate::form::{Form, Rule};

@@ -27,7 +27,7 @@ value_text (b ∷ bs) = codes " " ++ encode_lower (b ∷ bs)
 unfoldable pub property_line : Entry → List ℕ
 property_line e = ((codes "prop " ++ e.name) ++ value_text e.value) ++ codes "\n"
 
--- where a node stands
+-- the path of a node
 unfoldable pub node_line : List ℕ → List ℕ
 node_line path = (codes "node " ++ path) ++ codes "\n"
 
@@ -35,7 +35,7 @@ node_line path = (codes "node " ++ path) ++ codes "\n"
 abbrev pub path_below : List ℕ → List ℕ → List ℕ
 path_below path name = (path ++ codes "/") ++ name
 
--- nodes that stand beside one another below a path, each with its properties and before its children
+-- siblings below a path, each with its properties and before its children
 unfoldable pub nodes_text : List ℕ → Nodes → List ℕ
 nodes_text path none = []
 nodes_text path (node name entries children next) =

@@ -11,7 +11,7 @@ use Rattle.rim_release.specs.declared.show.fault.ShowFault.TheVariants.{Image}
 unfoldable pub field_line : List ℕ → ℕ → List ℕ
 field_line label n = (label ++ digits_of n) ++ codes "\n"
 
--- the five lines of a header, for a file of so many bytes
+-- the five lines of a header, for a file of this many bytes
 abbrev pub image_text_of : Header → ℕ → List ℕ
 image_text_of h file_len =
     field_line (codes "text_offset ") h.text_offset

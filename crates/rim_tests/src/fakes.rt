@@ -54,7 +54,7 @@ pub fn ran_on(alloc: Global, words: &[&str], manifest: &'static [u8]) -> Ran {
 }
 
 /// A run ended with this status, and wrote this to standard output and this to standard error. The tests
-/// compare here alone, because a comparison is proved where it stands.
+/// compare here alone, because each comparison is proved.
 pub fn check(rt: &(impl Abort + AllocGlobal), ran: &Ran, status: u8, out: &[u8], err: &[u8]) {
     assert_eq!(rt; ran.status, status);
     assert_eq!(rt; ran.out.as_slice(), out);
@@ -90,7 +90,7 @@ impl Opener for FailingFiles {
     }
 }
 
-/// A reader of which each read is interrupted, but for one after so many.
+/// A reader of which each read is interrupted, but for one after this many.
 #[derive(Drop)]
 pub struct InterruptedReader {
     pub before: u32,
@@ -107,7 +107,7 @@ impl Read for InterruptedReader {
     }
 }
 
-/// Opens every path as the smallest manifest behind so many interruptions.
+/// Opens every path as the smallest manifest after this many interruptions.
 #[derive(Drop)]
 pub struct InterruptedFiles(pub u32);
 

@@ -55,7 +55,7 @@ fn bytes_behind_the_header_do_not_count(rt: HostRuntime) -> Result<(), Fail> {
 fn places_and_extents(rt: HostRuntime) {
     // text_offset, image_size, the file's length, and by hand: load offset, extent
     for (text_offset, image_size, file_len, load_offset, extent) in [
-        // a distribution's kernel, whose image_size counts what it clears behind the file
+        // a distribution's kernel, whose image_size counts what it clears after the file
         (0, 43_974_656, 43_000_000, 0, 43_974_656),
         // a file that is longer than it says
         (0x8_0000, 4096, 5000, 0x8_0000, 5000),

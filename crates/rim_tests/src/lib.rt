@@ -1,4 +1,4 @@
-//! Tests over the layers. They stand here because a crate with tests of its own is proved twice.
+//! Tests over the layers, and those of `arm64_image`.
 #![tactic(auto)]
 
 #[cfg(test)]

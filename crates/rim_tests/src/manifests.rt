@@ -31,7 +31,7 @@ const LIMIT: Option<ManifestFault> = Some(ManifestFault::Limit);
 
 const RANGE: Option<ManifestFault> = Some(ManifestFault::Range);
 
-/// A text and its fault. The tables are constants: each row of an array in a body is proved where it stands.
+/// A text and its fault. The tables are constants: each row of an array in a body is proved too.
 type Row = (&'static str, Option<ManifestFault>);
 
 /// Each line, in a manifest that is well but for it, has its fault.
@@ -185,7 +185,7 @@ fn fault_of_launch(alloc: Global, lines: &str) -> Result<Option<ManifestFault>, 
     Ok(fault_of(alloc, text.as_str()))
 }
 
-/// A text of so many letters.
+/// A text of this many letters.
 fn letters(alloc: Global, count: usize) -> Result<String, Fail> {
     let mut text = String::new(alloc);
     for _ in 0..count {
@@ -264,14 +264,14 @@ fn longest_name(rt: HostRuntime) -> Result<(), Fail> {
     Ok(())
 }
 
-/// A realm personalization value of so many digits.
+/// A realm personalization value of this many digits.
 fn fault_of_digits(alloc: Global, count: usize, last: &str) -> Result<Option<ManifestFault>, Fail> {
     let digits = letters(alloc, count)?;
     let line = format!(in alloc; "rpv = \"{digits}{last}\"")?;
     fault_with(alloc, line.as_str())
 }
 
-/// What stands behind 126 digits, and the fault.
+/// What follows 126 digits, and the fault.
 const ENDS: [Row; 4] = [("Fa", None), ("F", RANGE), ("Fab", RANGE), ("Fg", RANGE)];
 
 #[test]
@@ -283,7 +283,7 @@ fn personalization_values(rt: HostRuntime) -> Result<(), Fail> {
     Ok(())
 }
 
-/// A manifest of so many launches, each with a name of its own.
+/// A manifest of this many launches, each with a name of its own.
 fn many(alloc: Global, count: usize) -> Result<String, Fail> {
     let mut text = "rim_manifest = 1\n".to_string(alloc)?;
     for i in 0..count {
@@ -315,7 +315,7 @@ const PAIRS: [(&str, &str, Option<ManifestFault>); 4] = [
     ("item = 1", "sve = 1", WRONG_KIND),
 ];
 
-/// The fault of these lines, one behind the other.
+/// The fault of these lines, one after the other.
 fn fault_of_both(alloc: Global, first: &str, second: &str) -> Result<Option<ManifestFault>, Fail> {
     let lines = format!(in alloc; "{first}\n{second}")?;
     fault_with(alloc, lines.as_str())

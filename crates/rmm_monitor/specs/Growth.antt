@@ -1,9 +1,9 @@
--- Which commands may want memory. This project's choice.
+-- Which commands may need memory. This project's choice.
 use Rattle.std.specs.Prelude.{Bool, true, false}
 use Rattle.rim_desc.specs.declared.command.Command.{Command}
 use Rattle.rim_desc.specs.declared.command.Command.TheVariants.{Delegate, RealmCreate, RttCreate, InitRipas, DataCreate, RecCreate, Activate}
 
--- whether a command adds a granule, a table, a range of RAM or a page with data to those that are there
+-- whether a command adds a granule, a table, a range of RAM or a page with data to the present ones
 abbrev pub adds_something : Command → Bool
 adds_something (Delegate granule) = true
 adds_something (RealmCreate rd params) = false

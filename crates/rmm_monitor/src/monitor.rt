@@ -269,7 +269,7 @@ impl Monitor {
     }
 
     /// Takes a command, or refuses it by the first check of its row that holds, and by NoMemory where a
-    /// command that no check refuses wants memory that is not there. After a refusal the monitor is as
+    /// command that no check refuses needs memory that is refused. After a refusal the monitor is as
     /// it was. RealmCreate, RecCreate and Activate take no memory and are never refused so.
     ///
     /// Delegate, RttCreate and DataCreate take the logarithm of the number of granules, tables, ranges and

@@ -62,7 +62,7 @@ impl Owners {
         granules.iter().all(|granule| self.is_delegated(*granule))
     }
 
-    /// Gives a granule a kind; where it had none, memory may be wanted.
+    /// Gives a granule a kind; where it had none, that may need memory.
     pub fn add(&mut self, granule: u64, kind: Kind) -> Result<(), NoMemory>
         ensures ok { OnOk result (self.new ≡ give self.old granule kind) }
         ensures err { OnErr result (self.new ≡ self.old) }

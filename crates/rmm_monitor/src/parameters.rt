@@ -42,7 +42,7 @@ fn has_other_flags(flags: u64) -> bool
     flags % 2 != 0 || flags >= 8
 }
 
-/// The granules of some start tables, of which there are at most 16, and zeros behind them.
+/// The granules of some start tables, at most 16, and zeros after them.
 pub fn start_tables(base: u64, count: u8) -> [u64; START_LIMIT]
     requires few { count ≤ 16 }
     requires fits { base + count * 4096 ≤ 2 ^ 64 }

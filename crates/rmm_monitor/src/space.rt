@@ -159,7 +159,7 @@ impl IpaSpace {
     }
 }
 
-/// Whether the table of a level that covers an IPA is there.
+/// Whether the table of a level that covers an IPA is made.
 fn is_made(tables: &BTreeSet<Table>, level: u8, ipa: u64) -> bool
     ensures { result ≡ made tables.now.keys level (down (span level) ipa) }
 {

@@ -231,7 +231,7 @@ fn sha512_with_data_and_rec(rt: HostRuntime) {
     check_owner(&rt, &monitor, 0x10_c000, Some(Kind::RecAux));
 }
 
-/// Applies commands, each of which changes nothing where it wants memory, and is taken at the next try.
+/// Applies commands, each of which changes nothing where memory is refused, and is accepted at the next try.
 fn retry_all(rt: &impl Abort, monitor: &mut Monitor, commands: &[Command]) {
     for command in commands {
         let rim = monitor.rim();

@@ -10,7 +10,7 @@ use rim_desc::push_digits;
 use std::alloc::Global;
 
 /// The header of an arm64 Image, a line for each number: `text_offset`, `image_size` and `flags` as
-/// they stand in it, and the load offset and the extent in bytes that follow from them. A number is 16
+/// they are in it, and the load offset and the extent in bytes that follow from them. A number is 16
 /// lower case hexadecimal digits.
 pub fn show_image(alloc: Global, bytes: &[u8]) -> Result<Vec<u8>, ShowFault>
     ensures { Answers ShowFault.NoMemory (λ text. text.items) result (image_answer_of bytes.now) }
