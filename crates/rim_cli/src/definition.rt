@@ -20,14 +20,13 @@ A manifest is a TOML file that describes launches of realms. The smallest one:
 
 `rim measure MANIFEST` prints the report: the line `rim-report 1`, a line
 `NAME ALGORITHM MEASUREMENT` for each launch, and the line `pages N`, the number
-of different pages that were hashed. A launch that no monitor would take has the
-line `NAME refused REASON`.
+of different pages that were hashed. Launches have no memory, files or processors
+yet: a manifest that gives them some is refused as `limit`.
 
 A fault is one line on standard error, `rim: ` and its name.
 
 Exit status:
-  0  done, and each launch is measured
-  1  done, and some launch is refused
+  0  done
   2  the command line is wrong
   3  the manifest, a file or the output is at fault
   4  out of memory";
