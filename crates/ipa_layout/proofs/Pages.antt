@@ -3,9 +3,9 @@ use Rattle.std.proofs.Common.{◌≡◌, ℕ, ◌+◌, ◌-◌, ◌*◌, ◌/◌
 use Rattle.std.specs.List.{find, list_all, range_with_len}
 use Rattle.std.proofs.lemmas.Grind.{common_steps}
 use Rattle.rim_launch.specs.declared.item.Region.{Region}
-use Rattle.ipa_layout.specs.Memory.{holds, is_held, all_held}
-use Rattle.ipa_layout.proofs.Runs.{all-jump, all-stop, all-end}
-use Rattle.ipa_layout.proofs.Found.{found-none, found-passes, found-any}
+use Rattle.ipa_layout.specs.Memory.{all_held, holds, is_held}
+use Rattle.ipa_layout.proofs.Runs.{all-end, all-jump, all-stop}
+use Rattle.ipa_layout.proofs.Found.{found-any, found-none, found-passes}
 
 -- what a region that holds a page says of its numbers
 holds-says : (page : ℕ) (r : Region) → holds page r ≡ true → (r.base ≤ 4096 * page) × (4096 * page + 4096 ≤ r.end)
@@ -14,7 +14,7 @@ holds-says page r h = (grind (arith, common_steps), grind (arith, common_steps))
 says-holds : (page : ℕ) (r : Region) → r.base ≤ 4096 * page → 4096 * page + 4096 ≤ r.end → holds page r ≡ true
 says-holds page r low high = grind (arith, common_steps)
 
--- the region ends behind the page
+-- the region ends after the page
 pub holder-behind : (ram : List Region) (page : ℕ) (r : Region) → find (holds page) ram ≡ Some r → page + 1 ≤ r.end / 4096
 holder-behind ram page r e = let h = holds-says page r (found-passes (holds page) ram r e) in omega (arith, h.1)
 
@@ -26,7 +26,7 @@ held-below ram page r e k low high =
     let top : 4096 * k + 4096 ≤ r.end = omega arith in
     found-any (holds page) (holds k) ram r e (says-holds k r base top)
 
--- so the search may go on behind it
+-- so the search may go on after it
 pub held-jump : (ram : List Region) (page end next : ℕ) (r : Region) → find (holds page) ram ≡ Some r → page < end → next ≡ min end (r.end / 4096) → all_held ram next (end - next) ≡ all_held ram page (end - page)
 unfolding all_held
 held-jump ram page end next r e below is =

@@ -1,4 +1,4 @@
--- What holds of items that stand one after another, and of the items that are placed.
+-- What holds of extents one after another, and of the items that are placed.
 use Rattle.std.proofs.Common.{◌≡◌, ℕ, zero, suc, ◌+◌, ◌-◌, ◌*◌, ◌^◌, ◌<◌, ◌≤◌, max, Bool, true, false, cond, eqb, List, [], ◌∷◌, length, Option, Some, Result, Ok, Err, refl, sym, ap, subst, ◌∙◌, arith}
 use Rattle.std.specs.Prelude.{◌==◌, ◌&&◌, not, sum_by}
 use Rattle.std.specs.List.{list_any, slice_get}
@@ -12,39 +12,39 @@ use Rattle.arm64_image.specs.declared.ImageFault.{ImageFault}
 use Rattle.fdt_tree.specs.declared.fault.FdtFault.{FdtFault}
 use Rattle.rim_launch.specs.declared.item.Item.{Item}
 use Rattle.rim_launch.specs.declared.item.Region.{Region}
-use Rattle.ipa_layout.specs.declared.standing.Asked.{Asked}
-use Rattle.ipa_layout.specs.declared.standing.Standing.{Standing}
+use Rattle.ipa_layout.specs.declared.extent.WantedExtent.{WantedExtent}
+use Rattle.ipa_layout.specs.declared.extent.Extent.{Extent}
 use Rattle.ipa_layout.specs.declared.placed.PlacedItem.{PlacedItem}
 use Rattle.ipa_layout.specs.declared.fault.LayoutFault.{LayoutFault}
 use Rattle.rim_launch.specs.declared.item.Role.TheVariants as role
 use Rattle.rim_launch.specs.Kinds.{has_role}
-use Rattle.ipa_layout.specs.Standings.{asked_of, kernel_at, size_of, first_page, end_page, page_count_of}
-use Rattle.ipa_layout.specs.Placing.{placed_of, settled, settled_if, checks_of, is_outside, is_too_small}
-use Rattle.ipa_layout.specs.Meeting.{meets, any_meet}
-use Rattle.ipa_layout.specs.Placements.{bytes_of, stand_all, item_at, items_at}
+use Rattle.ipa_layout.specs.Extent.{end_page, first_page, kernel_at, page_count_of, size_of, wanted_of}
+use Rattle.ipa_layout.specs.ItemCheck.{checked_if, checked_item, checked_wanted, checks_of, is_outside, is_too_small}
+use Rattle.ipa_layout.specs.Overlap.{any_overlap, overlaps}
+use Rattle.ipa_layout.specs.Layout.{bytes_of, extents_of, item_at, items_at}
 
 -- ---- one item
 
--- what is known of where an item stands
-pub record IsSound (s : Standing) : Type 0 where
-  pub size : s.size ≤ s.extent
+-- what is known of an item's extent
+pub record IsSound (s : Extent) : Type 0 where
+  pub size : s.size ≤ s.len
   pub low : s.address < 2 ^ 64
-  pub end : s.address + s.extent ≤ 2 ^ 64
+  pub end : s.address + s.len ≤ 2 ^ 64
 
-asked-fits : (i : Item) (bytes : List ℕ) (a : Asked) → asked_of i bytes ≡ Ok a → a.size ≤ a.extent
-unfolding asked_of
-asked-fits i bytes a e = go (has_role role.Kernel i) (read_of bytes) e
+wanted-fits : (i : Item) (bytes : List ℕ) (a : WantedExtent) → wanted_of i bytes ≡ Ok a → a.size ≤ a.len
+unfolding wanted_of
+wanted-fits i bytes a e = go (has_role role.Kernel i) (read_of bytes) e
   where
-    go : (b : Bool) (r : Result Header ImageFault) → (let q : Result Asked LayoutFault = cond b (kernel_at i (length bytes) r) (Ok (record { address = i.at; size = size_of i (length bytes); extent = size_of i (length bytes) })) in q) ≡ Ok a → a.size ≤ a.extent
+    go : (b : Bool) (r : Result Header ImageFault) → (let q : Result WantedExtent LayoutFault = cond b (kernel_at i (length bytes) r) (Ok (record { address = i.at; size = size_of i (length bytes); len = size_of i (length bytes) })) in q) ≡ Ok a → a.size ≤ a.len
     go true (Err f) q = absurd cc
     go true (Ok h) q =
         let n = size_of i (length bytes) in
-        let same : (let x : Asked = record { address = i.at + load_offset_of h; size = n; extent = max n (extent_of h (length bytes)) } in x) ≡ a = cc in
-        omega (arith, ap (λ (x : Asked). x.size) same, ap (λ (x : Asked). x.extent) same)
+        let same : (let x : WantedExtent = record { address = i.at + load_offset_of h; size = n; len = max n (extent_of h (length bytes)) } in x) ≡ a = cc in
+        omega (arith, ap (λ (x : WantedExtent). x.size) same, ap (λ (x : WantedExtent). x.len) same)
     go false r q =
         let n = size_of i (length bytes) in
-        let same : (let x : Asked = record { address = i.at; size = n; extent = n } in x) ≡ a = cc in
-        omega (arith, ap (λ (x : Asked). x.size) same, ap (λ (x : Asked). x.extent) same)
+        let same : (let x : WantedExtent = record { address = i.at; size = n; len = n } in x) ≡ a = cc in
+        omega (arith, ap (λ (x : WantedExtent). x.size) same, ap (λ (x : WantedExtent). x.len) same)
 
 -- none of these checks holds
 abbrev NoneHolds : {R : Type 0} → List (Check R) → Type 0
@@ -60,44 +60,44 @@ none-refuse {A} {R} (check ∷ others) x y e = go check.1 refl e (none-refuse ot
     go true q h rest = absurd cc
     go false q h rest = let r = rest h in ((q, r.0), r.1)
 
-settled-sound : (ram : List Region) (pages : ℕ) (i : Item) (count : ℕ) (a : Asked) (s : Standing) → a.size ≤ a.extent → settled ram pages i count a ≡ Ok s
+checked_wanted-sound : (ram : List Region) (pages : ℕ) (i : Item) (count : ℕ) (a : WantedExtent) (s : Extent) → a.size ≤ a.len → checked_wanted ram pages i count a ≡ Ok s
     → IsSound s × (pages + page_count_of s.address s.size ≤ 1048576)
-unfolding settled
-settled-sound ram pages i count a s fits e =
-    let stood : Standing = record { address = a.address; size = a.size; extent = a.extent } in
+unfolding checked_wanted
+checked_wanted-sound ram pages i count a s fits e =
+    let stood : Extent = record { address = a.address; size = a.size; len = a.len } in
     let none = none-refuse (checks_of ram pages i count a) stood s e in
     let small : is_too_small pages a count ≡ false = none.0.1.1.1.0 in
-    let inside : is_outside ram a.address a.extent ≡ false = none.0.1.1.1.1.0 in
+    let inside : is_outside ram a.address a.len ≡ false = none.0.1.1.1.1.0 in
     let few = ltb-false 1048576 (pages + page_count_of a.address a.size) (or_parts _ _ small).1 in
     let past = or_parts _ _ (or_parts _ _ inside).0 in
     let low = leb-false (2 ^ 64) a.address past.0 in
-    let end = ltb-false (2 ^ 64) (a.address + a.extent) past.1 in
-    subst (λ (x : Standing). IsSound x × (pages + page_count_of x.address x.size ≤ 1048576)) none.1 (record { size = fits; low = low; end = end }, few)
+    let end = ltb-false (2 ^ 64) (a.address + a.len) past.1 in
+    subst (λ (x : Extent). IsSound x × (pages + page_count_of x.address x.size ≤ 1048576)) none.1 (record { size = fits; low = low; end = end }, few)
 
-placed-sound : (ram : List Region) (pages : ℕ) (i : Item) (bytes : List ℕ) (s : Standing) → placed_of ram pages i bytes ≡ Ok s → IsSound s × (pages + page_count_of s.address s.size ≤ 1048576)
-placed-sound ram pages i bytes s e = go (asked_of i bytes) refl e
+placed-sound : (ram : List Region) (pages : ℕ) (i : Item) (bytes : List ℕ) (s : Extent) → checked_item ram pages i bytes ≡ Ok s → IsSound s × (pages + page_count_of s.address s.size ≤ 1048576)
+placed-sound ram pages i bytes s e = go (wanted_of i bytes) refl e
   where
-    go : (r : Result Asked LayoutFault) → asked_of i bytes ≡ r → settled_if ram pages i (length bytes) r ≡ Ok s → IsSound s × (pages + page_count_of s.address s.size ≤ 1048576)
+    go : (r : Result WantedExtent LayoutFault) → wanted_of i bytes ≡ r → checked_if ram pages i (length bytes) r ≡ Ok s → IsSound s × (pages + page_count_of s.address s.size ≤ 1048576)
     go (Err f) q h = absurd cc
-    go (Ok a) q h = settled-sound ram pages i (length bytes) a s (asked-fits i bytes a q) h
+    go (Ok a) q h = checked_wanted-sound ram pages i (length bytes) a s (wanted-fits i bytes a q) h
 
 -- the first page after an item's pages is not after its extent
-pages-end : (s : Standing) → IsSound s → 0 < page_count_of s.address s.size → first_page s.address + page_count_of s.address s.size ≤ end_page (s.address + s.extent)
+pages-end : (s : Extent) → IsSound s → 0 < page_count_of s.address s.size → first_page s.address + page_count_of s.address s.size ≤ end_page (s.address + s.len)
 pages-end s sound = go (eqb s.size 0) refl
   where
-    go : (b : Bool) → eqb s.size 0 ≡ b → 0 < cond b 0 (first_page (s.address + s.size - 1) + 1 - first_page s.address) → first_page s.address + cond b 0 (first_page (s.address + s.size - 1) + 1 - first_page s.address) ≤ end_page (s.address + s.extent)
+    go : (b : Bool) → eqb s.size 0 ≡ b → 0 < cond b 0 (first_page (s.address + s.size - 1) + 1 - first_page s.address) → first_page s.address + cond b 0 (first_page (s.address + s.size - 1) + 1 - first_page s.address) ≤ end_page (s.address + s.len)
     go true e some = absurd (omega arith)
     go false e some = omega (arith, sound.size, eqb-false s.size 0 e)
 
-has-extent : (s : Standing) → IsSound s → 0 < page_count_of s.address s.size → 0 < s.extent
+has-extent : (s : Extent) → IsSound s → 0 < page_count_of s.address s.size → 0 < s.len
 has-extent s sound = go (eqb s.size 0) refl
   where
-    go : (b : Bool) → eqb s.size 0 ≡ b → 0 < cond b 0 (first_page (s.address + s.size - 1) + 1 - first_page s.address) → 0 < s.extent
+    go : (b : Bool) → eqb s.size 0 ≡ b → 0 < cond b 0 (first_page (s.address + s.size - 1) + 1 - first_page s.address) → 0 < s.len
     go true e some = absurd (omega arith)
     go false e some = omega (arith, sound.size, eqb-false s.size 0 e)
 
 -- all of its pages are below 2^52
-pub pages-low : (s : Standing) → IsSound s → 4096 * (first_page s.address + page_count_of s.address s.size) ≤ 2 ^ 64
+pub pages-low : (s : Extent) → IsSound s → 4096 * (first_page s.address + page_count_of s.address s.size) ≤ 2 ^ 64
 pages-low s sound = go (eqb s.size 0) refl
   where
     go : (b : Bool) → eqb s.size 0 ≡ b → 4096 * (first_page s.address + cond b 0 (first_page (s.address + s.size - 1) + 1 - first_page s.address)) ≤ 2 ^ 64
@@ -113,17 +113,17 @@ not-none : (n : ℕ) → 0 < n → not (n == 0) ≡ true
 not-none n h = ap not (ne_eqb n 0 (λ none. omega (arith, none)))
 
 -- items that do not meet have no page in common
-pub no-page-shared : (a b : Standing) → IsSound a → IsSound b → meets a b ≡ false → (page : ℕ)
+pub no-page-shared : (a b : Extent) → IsSound a → IsSound b → overlaps a b ≡ false → (page : ℕ)
     → first_page a.address ≤ page → page < first_page a.address + page_count_of a.address a.size
     → first_page b.address ≤ page → page < first_page b.address + page_count_of b.address b.size → ⊥
-no-page-shared a b sa sb apart page from-a to-a from-b to-b =
+no-page-shared a b sa sb checked_together page from-a to-a from-b to-b =
     let some-a : 0 < page_count_of a.address a.size = omega arith in
     let some-b : 0 < page_count_of b.address b.size = omega arith in
     let end-a = pages-end a sa some-a in
     let end-b = pages-end b sb some-b in
-    let met : meets a b ≡ true = all-four _ _ _ _ (not-none a.extent (has-extent a sa some-a)) (not-none b.extent (has-extent b sb some-b))
-    (lt-ltb (first_page a.address) (end_page (b.address + b.extent)) (omega (arith, end-b))) (lt-ltb (first_page b.address) (end_page (a.address + a.extent)) (omega (arith, end-a))) in
-    let z : true ≡ false = sym met ∙ apart in absurd cc
+    let met : overlaps a b ≡ true = all-four _ _ _ _ (not-none a.len (has-extent a sa some-a)) (not-none b.len (has-extent b sb some-b))
+    (lt-ltb (first_page a.address) (end_page (b.address + b.len)) (omega (arith, end-b))) (lt-ltb (first_page b.address) (end_page (a.address + a.len)) (omega (arith, end-a))) in
+    let z : true ≡ false = sym met ∙ checked_together in absurd cc
 
 pub none-there : {X : Type 0} (t : X → Bool) (xs : List X) (k : ℕ) (x : X) → list_any t xs ≡ false → slice_get xs k ≡ Some x → t x ≡ false
 none-there t [] k x h e = absurd cc
@@ -131,14 +131,14 @@ none-there t (y ∷ ys) zero x h e = let same : y ≡ x = cc in ap t (sym same) 
 none-there t (y ∷ ys) (suc k) x h e = none-there t ys k x (or_parts (t y) (list_any t ys) h).1 e
 
 -- where no two meet
-pub two-apart : (ss : List Standing) (j k : ℕ) (a b : Standing) → any_meet ss ≡ false → j < k → slice_get ss j ≡ Some a → slice_get ss k ≡ Some b → meets a b ≡ false
-two-apart [] j k a b h lt e f = absurd cc
-two-apart (s ∷ ss) zero zero a b h lt e f = absurd (omega arith)
-two-apart (s ∷ ss) zero (suc k) a b h lt e f =
+pub two-checked_together : (ss : List Extent) (j k : ℕ) (a b : Extent) → any_overlap ss ≡ false → j < k → slice_get ss j ≡ Some a → slice_get ss k ≡ Some b → overlaps a b ≡ false
+two-checked_together [] j k a b h lt e f = absurd cc
+two-checked_together (s ∷ ss) zero zero a b h lt e f = absurd (omega arith)
+two-checked_together (s ∷ ss) zero (suc k) a b h lt e f =
     let same : s ≡ a = cc in
-    ap (λ (x : Standing). meets x b) (sym same) ∙ none-there (meets s) ss k b (or_parts (list_any (meets s) ss) (any_meet ss) h).0 f
-two-apart (s ∷ ss) (suc j) zero a b h lt e f = absurd (omega arith)
-two-apart (s ∷ ss) (suc j) (suc k) a b h lt e f = two-apart ss j k a b (or_parts (list_any (meets s) ss) (any_meet ss) h).1 (omega arith) e f
+    ap (λ (x : Extent). overlaps x b) (sym same) ∙ none-there (overlaps s) ss k b (or_parts (list_any (overlaps s) ss) (any_overlap ss) h).0 f
+two-checked_together (s ∷ ss) (suc j) zero a b h lt e f = absurd (omega arith)
+two-checked_together (s ∷ ss) (suc j) (suc k) a b h lt e f = two-checked_together ss j k a b (or_parts (list_any (overlaps s) ss) (any_overlap ss) h).1 (omega arith) e f
 
 -- ---- all items
 
@@ -147,32 +147,32 @@ bind-ok (Ok x) f y e = (x, refl, e)
 bind-ok (Err g) f y e = absurd cc
 
 module _ (ram : List Region) (edited : Result (Option (List ℕ)) FdtFault) (files : List (List ℕ)) where
-  -- the first item stands, and the others after it
-  pub record Split (pages : ℕ) (i : Item) (items : List Item) (ss : List Standing) : Type 0 where
+  -- the first item has an extent, and so have the others after it
+  pub record Split (pages : ℕ) (i : Item) (items : List Item) (ss : List Extent) : Type 0 where
     pub bytes : List ℕ
-    pub first : Standing
-    pub others : List Standing
+    pub first : Extent
+    pub others : List Extent
     pub has : bytes_of edited files i ≡ Ok bytes
-    pub stands : placed_of ram pages i bytes ≡ Ok first
-    pub rest : stand_all ram edited files (pages + page_count_of first.address first.size) items ≡ Ok others
+    pub stands : checked_item ram pages i bytes ≡ Ok first
+    pub rest : extents_of ram edited files (pages + page_count_of first.address first.size) items ≡ Ok others
     pub is : ss ≡ first ∷ others
 
-  split : (pages : ℕ) (i : Item) (items : List Item) (ss : List Standing) → stand_all ram edited files pages (i ∷ items) ≡ Ok ss → Split pages i items ss
+  split : (pages : ℕ) (i : Item) (items : List Item) (ss : List Extent) → extents_of ram edited files pages (i ∷ items) ≡ Ok ss → Split pages i items ss
   split pages i items ss e =
       let b = bind-ok (bytes_of edited files i) _ ss e in
-      let s = bind-ok (placed_of ram pages i b.0) _ ss b.2 in
-      let r = bind-ok (stand_all ram edited files (pages + page_count_of s.0.address s.0.size) items) _ ss s.2 in
+      let s = bind-ok (checked_item ram pages i b.0) _ ss b.2 in
+      let r = bind-ok (extents_of ram edited files (pages + page_count_of s.0.address s.0.size) items) _ ss s.2 in
       let same : ss ≡ s.0 ∷ r.0 = cc in
       record { bytes = b.0; first = s.0; others = r.0; has = b.1; stands = s.1; rest = r.1; is = same }
 
-  pub rows-length : (pages : ℕ) (items : List Item) (ss : List Standing) → stand_all ram edited files pages items ≡ Ok ss → length ss ≡ length items
+  pub rows-length : (pages : ℕ) (items : List Item) (ss : List Extent) → extents_of ram edited files pages items ≡ Ok ss → length ss ≡ length items
   rows-length pages [] ss e = let same : [] ≡ ss = cc in ap length (sym same)
   rows-length pages (i ∷ items) ss e =
       let p = split pages i items ss e in
       omega (arith, ap length p.is, rows-length (pages + page_count_of p.first.address p.first.size) items p.others p.rest)
 
   -- each of them has bytes and is sound
-  pub rows-at : (pages : ℕ) (items : List Item) (ss : List Standing) (k : ℕ) (i : Item) (s : Standing) → stand_all ram edited files pages items ≡ Ok ss
+  pub rows-at : (pages : ℕ) (items : List Item) (ss : List Extent) (k : ℕ) (i : Item) (s : Extent) → extents_of ram edited files pages items ≡ Ok ss
       → slice_get items k ≡ Some i → slice_get ss k ≡ Some s → IsSound s × (bytes : List ℕ) × (bytes_of edited files i ≡ Ok bytes)
   rows-at pages [] ss k i s e f g = absurd cc
   rows-at pages (j ∷ items) ss zero i s e f g =
@@ -186,7 +186,7 @@ module _ (ram : List Region) (edited : Result (Option (List ℕ)) FdtFault) (fil
       let own : slice_get (p.first ∷ p.others) (suc k) ≡ Some s = rw p.is at g in
       rows-at (pages + page_count_of p.first.address p.first.size) items p.others k i s p.rest f own
 
-  pub rows-total : (pages : ℕ) (items : List Item) (ss : List Standing) → pages ≤ 1048576 → stand_all ram edited files pages items ≡ Ok ss → pages + sum_by (λ s. page_count_of s.address s.size) ss ≤ 1048576
+  pub rows-total : (pages : ℕ) (items : List Item) (ss : List Extent) → pages ≤ 1048576 → extents_of ram edited files pages items ≡ Ok ss → pages + sum_by (λ s. page_count_of s.address s.size) ss ≤ 1048576
   rows-total pages [] ss few e = let same : [] ≡ ss = cc in rw (sym same) (omega arith)
   rows-total pages (i ∷ items) ss few e =
       let p = split pages i items ss e in
@@ -196,13 +196,13 @@ module _ (ram : List Region) (edited : Result (Option (List ℕ)) FdtFault) (fil
 
 -- ---- as they are placed
 
-pub items-length : (launch : ℕ) (items : List Item) (ss : List Standing) → length ss ≡ length items → length (items_at launch items ss) ≡ length items
+pub items-length : (launch : ℕ) (items : List Item) (ss : List Extent) → length ss ≡ length items → length (items_at launch items ss) ≡ length items
 items-length launch [] ss e = refl
 items-length launch (i ∷ items) [] e = absurd (omega arith)
 items-length launch (i ∷ items) (s ∷ ss) e = omega (arith, items-length launch items ss (omega arith))
 
-pub item-there : (launch : ℕ) (items : List Item) (ss : List Standing) (k : ℕ) (i : Item) (p : PlacedItem) → slice_get items k ≡ Some i → slice_get (items_at launch items ss) k ≡ Some p
-    → (s : Standing) × (slice_get ss k ≡ Some s) × (p ≡ item_at launch i s)
+pub item-there : (launch : ℕ) (items : List Item) (ss : List Extent) (k : ℕ) (i : Item) (p : PlacedItem) → slice_get items k ≡ Some i → slice_get (items_at launch items ss) k ≡ Some p
+    → (s : Extent) × (slice_get ss k ≡ Some s) × (p ≡ item_at launch i s)
 item-there launch [] ss k i p e f = absurd cc
 item-there launch (j ∷ items) [] k i p e f = absurd cc
 item-there launch (j ∷ items) (s ∷ ss) zero i p e f =
@@ -211,7 +211,7 @@ item-there launch (j ∷ items) (s ∷ ss) zero i p e f =
     (s, refl, sym placed ∙ ap (λ (x : Item). item_at launch x s) same)
 item-there launch (j ∷ items) (s ∷ ss) (suc k) i p e f = item-there launch items ss k i p e f
 
-pub items-total : (launch : ℕ) (items : List Item) (ss : List Standing) → length ss ≡ length items → sum_by (λ i. i.pages) (items_at launch items ss) ≡ sum_by (λ s. page_count_of s.address s.size) ss
+pub items-total : (launch : ℕ) (items : List Item) (ss : List Extent) → length ss ≡ length items → sum_by (λ i. i.pages) (items_at launch items ss) ≡ sum_by (λ s. page_count_of s.address s.size) ss
 unfolding item_at
 items-total launch [] [] e = refl
 items-total launch [] (s ∷ ss) e = absurd (omega arith)

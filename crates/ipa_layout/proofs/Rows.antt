@@ -1,15 +1,15 @@
--- Items that stand one behind another.
+-- Extents of items, one after another.
 use Rattle.std.proofs.Common.{◌≡◌, ℕ, ◌+◌, ◌<◌, List, [], ◌∷◌, ◌++◌, length, get_or, drop, Option, Result, Ok, Err, refl, sym, ap, ◌∙◌, append_assoc}
 use Rattle.fdt_tree.specs.declared.fault.FdtFault.{FdtFault}
 use Rattle.refusal.specs.Answer.{◌>>=◌, with_front}
 use Rattle.rim_launch.specs.declared.item.Item.{Item}
 use Rattle.rim_launch.specs.declared.item.Region.{Region}
-use Rattle.ipa_layout.specs.declared.standing.Standing.{Standing}
+use Rattle.ipa_layout.specs.declared.extent.Extent.{Extent}
 use Rattle.ipa_layout.specs.declared.fault.LayoutFault.{LayoutFault}
-use Rattle.ipa_layout.specs.Standings.{page_count_of}
-use Rattle.ipa_layout.specs.Placing.{placed_of}
+use Rattle.ipa_layout.specs.Extent.{page_count_of}
+use Rattle.ipa_layout.specs.ItemCheck.{checked_item}
 use Rattle.std.proofs.lemmas.List.{drop_more}
-use Rattle.ipa_layout.specs.Placements.{bytes_of, stand_all}
+use Rattle.ipa_layout.specs.Layout.{bytes_of, extents_of}
 
 pub with_none : {X E : Type 0} (r : Result (List X) E) → with_front [] r ≡ r
 with_none (Ok xs) = refl
@@ -19,18 +19,18 @@ with_one : {X E : Type 0} (front : List X) (x : X) (r : Result (List X) E) → w
 with_one front x (Ok xs) = ap (λ (ys : List _). Ok ys) (sym (append_assoc front (x ∷ []) xs))
 with_one front x (Err e) = refl
 
-module _ (ram : List Region) (edited : Result (Option (List ℕ)) FdtFault) (files : List (List ℕ)) (pages : ℕ) (front : List Standing) (i : Item) (items : List Item) where
-  -- the next item stands
-  pub stands : (bytes : List ℕ) (s : Standing) → bytes_of edited files i ≡ Ok bytes → placed_of ram pages i bytes ≡ Ok s
-      → with_front front (stand_all ram edited files pages (i ∷ items)) ≡ with_front (front ++ s ∷ []) (stand_all ram edited files (pages + page_count_of s.address s.size) items)
-  stands bytes s has stood = rw (has, stood) (with_one front s (stand_all ram edited files (pages + page_count_of s.address s.size) items))
+module _ (ram : List Region) (edited : Result (Option (List ℕ)) FdtFault) (files : List (List ℕ)) (pages : ℕ) (front : List Extent) (i : Item) (items : List Item) where
+  -- the next item has an extent
+  pub stands : (bytes : List ℕ) (s : Extent) → bytes_of edited files i ≡ Ok bytes → checked_item ram pages i bytes ≡ Ok s
+      → with_front front (extents_of ram edited files pages (i ∷ items)) ≡ with_front (front ++ s ∷ []) (extents_of ram edited files (pages + page_count_of s.address s.size) items)
+  stands bytes s has stood = rw (has, stood) (with_one front s (extents_of ram edited files (pages + page_count_of s.address s.size) items))
 
   -- it has no bytes
-  pub lacks : (e : LayoutFault) → bytes_of edited files i ≡ Err e → with_front front (stand_all ram edited files pages (i ∷ items)) ≡ Err e
+  pub lacks : (e : LayoutFault) → bytes_of edited files i ≡ Err e → with_front front (extents_of ram edited files pages (i ∷ items)) ≡ Err e
   lacks e has = rw has refl
 
-  -- it does not stand
-  pub falls : (bytes : List ℕ) (e : LayoutFault) → bytes_of edited files i ≡ Ok bytes → placed_of ram pages i bytes ≡ Err e → with_front front (stand_all ram edited files pages (i ∷ items)) ≡ Err e
+  -- it has none
+  pub falls : (bytes : List ℕ) (e : LayoutFault) → bytes_of edited files i ≡ Ok bytes → checked_item ram pages i bytes ≡ Err e → with_front front (extents_of ram edited files pages (i ∷ items)) ≡ Err e
   falls bytes e has stood = rw (has, stood) refl
 
 -- the items from this one on

@@ -1,4 +1,4 @@
-//! A launch's devicetree, before it has its place.
+//! A launch's devicetree, before it is placed.
 
 use fdt_tree::FdtFault;
 use refusal::NoMemory;
@@ -8,18 +8,18 @@ use refusal::NoMemory;
 pub enum Dtb {
     /// Its file, or nothing where the launch has none.
     AsFile,
-    /// These bytes: the file with the launch's changes.
+    /// These bytes: the file with the launch's edits.
     Edited(Vec<u8>),
-    /// Nothing, since it cannot be changed.
+    /// Nothing, since it cannot be edited.
     Refused(FdtFault),
 }
 
 impl Dtb {
     ghost use Rattle.std.specs.Prelude.{◌≡◌, None, option_map};
     ghost use Rattle.std.specs.Result.{result_unwrap_or};
-    ghost use Rattle.ipa_layout.specs.PlacementViews.{dtb_of, seen};
+    ghost use Rattle.ipa_layout.specs.inside.LayoutViews.{dtb_of, seen};
 
-    /// What changing it answered. Its own fault refuses it, and want of memory is an error.
+    /// What an edit returned. A fault of the devicetree refuses it; want of memory is an error.
     pub fn of(edited: Result<Vec<u8>, FdtFault>) -> Result<Dtb, NoMemory>
         ensures { result ≡ dtb_of edited }
     {
@@ -29,7 +29,7 @@ impl Dtb {
         }
     }
 
-    /// The changed bytes, where there are any.
+    /// The edited bytes, if any.
     pub fn into_bytes(self) -> Option<Vec<u8>>
         ensures { option_map (λ v. v.items) result ≡ result_unwrap_or (seen self) None }
     {

@@ -12,17 +12,17 @@ use std::alloc::{AllocError, AllocFailed};
 pub enum LayoutFault {
     /// The kernel's bytes are no Image.
     Kernel(ImageFault),
-    /// The devicetree cannot be read, changed or written, or is larger than 2 MiB.
+    /// The devicetree cannot be read, edited or written, or is larger than 2 MiB.
     Dtb(FdtFault),
-    /// The devicetree does not stand at a multiple of 8.
+    /// The devicetree's address is not a multiple of 8.
     Unaligned,
     /// The kernel's base is not a multiple of 2 MiB.
     KernelBase,
     /// A page of the item's rounded extent is not wholly in one region of RAM, or its extent passes 2^64.
     OutsideRam,
-    /// The rounded extents of two items meet.
+    /// The rounded extents of two items overlap.
     Overlap,
-    /// The kernel and the initrd stand too far from each other.
+    /// The kernel and the initrd are too far from each other.
     InitrdWindow,
     /// The stated size is below the number of bytes, or the launch has too many pages.
     Size,

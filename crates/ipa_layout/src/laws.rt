@@ -3,8 +3,8 @@ ghost use Rattle.std.specs.Prelude.{◌≡◌, ℕ, ◌+◌, ◌*◌, ◌%◌, �
 ghost use Rattle.rim_launch.specs.declared.item.Item.{Item};
 ghost use Rattle.ipa_layout.specs.declared.placed.PlacedItem.{PlacedItem};
 ghost use Rattle.rim_launch.specs.LaunchData.{LaunchData};
-ghost use Rattle.ipa_layout.specs.Placements.{IsPlaced, PlacedData};
-ghost use Rattle.ipa_layout.specs.PlacedFacts.{HasPage, IsItem, IsSourceOf, page_end, page_total};
+ghost use Rattle.ipa_layout.specs.Layout.{IsPlaced, PlacedData};
+ghost use Rattle.ipa_layout.specs.Laws.{HasPage, IsItem, IsSourceOf, page_end, page_total};
 
 /// A placed launch has the launch's number, and as many items and RECs as the launch.
 pub fn parts_of_a_placed_launch()
@@ -17,20 +17,20 @@ pub fn parts_of_a_placed_launch()
 {}
 
 /// An item's lead is how many bytes after the start of a page it begins; its bytes are those of its own
-/// file or of the devicetree that this launch changed; it is measured where the launch asks for it; and
+/// file or of the devicetree that this launch edited; it is measured where the launch says so; and
 /// its pages end at 2^64 at the latest.
 pub fn each_placed_item()
     ensures lead { (l : LaunchData) (files : List (List ℕ)) (p : PlacedData) → IsPlaced l files p
-        → (number : ℕ) (asked : Item) (i : PlacedItem) → IsItem l p number asked i
+        → (number : ℕ) (item : Item) (i : PlacedItem) → IsItem l p number item i
         → i.lead ≡ i.address % 4096 }
     ensures source { (l : LaunchData) (files : List (List ℕ)) (p : PlacedData) → IsPlaced l files p
-        → (number : ℕ) (asked : Item) (i : PlacedItem) → IsItem l p number asked i
-        → IsSourceOf l p asked i.source }
+        → (number : ℕ) (item : Item) (i : PlacedItem) → IsItem l p number item i
+        → IsSourceOf l p item i.source }
     ensures measured { (l : LaunchData) (files : List (List ℕ)) (p : PlacedData) → IsPlaced l files p
-        → (number : ℕ) (asked : Item) (i : PlacedItem) → IsItem l p number asked i
-        → i.measured ≡ asked.measured }
+        → (number : ℕ) (item : Item) (i : PlacedItem) → IsItem l p number item i
+        → i.measured ≡ item.measured }
     ensures end { (l : LaunchData) (files : List (List ℕ)) (p : PlacedData) → IsPlaced l files p
-        → (number : ℕ) (asked : Item) (i : PlacedItem) → IsItem l p number asked i
+        → (number : ℕ) (item : Item) (i : PlacedItem) → IsItem l p number item i
         → 4096 * page_end i ≤ 2 ^ 64 }
 {}
 

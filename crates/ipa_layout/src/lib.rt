@@ -1,25 +1,25 @@
-//! Where a launch's kernel, initrd, devicetree and raw contents stand in the realm's address space, and
-//! whether they may stand there.
+//! Where a launch's kernel, initrd, devicetree and raw contents are in the realm's address space, or why
+//! they may not be there.
 #![tactic(auto)]
 
-mod changing;
 mod dtb;
+mod dtb_edit;
+mod extent;
 mod fault;
+mod item_check;
 mod laws;
-mod meeting;
+mod layout;
 mod memory;
+mod overlap;
 mod placed;
-mod placement;
-mod placing;
 mod rec;
-mod standing;
 
 pub use fault::LayoutFault;
 pub use laws::{
     each_placed_item, pages_are_apart, pages_of_a_placed_launch, parts_of_a_placed_launch,
 };
+pub use layout::place;
 pub use placed::{Placed, PlacedItem};
-pub use placement::place;
 pub use rec::PlacedRec;
 pub use rim_desc::Source;
 pub use rim_launch::{

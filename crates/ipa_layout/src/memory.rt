@@ -1,6 +1,6 @@
 //! Whether pages are in RAM.
 ghost use Rattle.std.specs.Prelude.{◌≡◌, ◌-◌, ◌≤◌, ◌<◌, ◌^◌, find};
-ghost use Rattle.ipa_layout.specs.Memory.{holds, all_held};
+ghost use Rattle.ipa_layout.specs.Memory.{all_held, holds};
 
 use rim_launch::Region;
 
@@ -20,8 +20,8 @@ fn holder(ram: &[Region], page: u64) -> Option<Region>
     ram.iter().copied().find(|region| holds(page, region))
 }
 
-/// Whether each page from `first` on and below `end` is held by some region. No page is visited: from a
-/// page that a region holds the search goes on behind that region.
+/// Whether each page from `first` on and below `end` is held by some region. Pages are not visited one by
+/// one: from a page that a region holds the search goes on after that region.
 pub fn all_held(ram: &[Region], first: u64, end: u64) -> bool
     requires { end ≤ 2 ^ 52 }
     ensures { result ≡ all_held ram.now first (end - first) }

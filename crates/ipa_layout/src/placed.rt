@@ -1,4 +1,4 @@
-//! Where a launch's items stand, as the layers above use it.
+//! Where a launch's items are, as the layers above use it.
 use crate::rec::PlacedRec;
 use rim_desc::Source;
 use std::marker::Model;
@@ -29,7 +29,7 @@ pub struct Placed {
 
 impl Model for Placed {
     ghost use Rattle.std.specs.Prelude.{option_map};
-    ghost use Rattle.ipa_layout.specs.Placements.{PlacedData};
+    ghost use Rattle.ipa_layout.specs.Layout.{PlacedData};
 
     ghost Value = { PlacedData };
 
@@ -38,8 +38,8 @@ impl Model for Placed {
 
 impl Placed {
     ghost use Rattle.std.specs.Prelude.{◌≡◌, option_map};
-    ghost use Rattle.ipa_layout.specs.PlacementViews.{contents};
-    ghost use Rattle.ipa_layout.specs.Placements.{contents_of};
+    ghost use Rattle.ipa_layout.specs.inside.LayoutViews.{contents};
+    ghost use Rattle.ipa_layout.specs.Layout.{contents_of};
 
     /// These parts.
     pub(crate) fn new(
@@ -72,7 +72,7 @@ impl Placed {
         self.recs.as_slice()
     }
 
-    /// The bytes of the devicetree that was changed before it was placed, where there is one.
+    /// The bytes of the devicetree that was edited before it was placed, if the launch has one.
     pub fn edited(&self) -> Option<&[u8]>
         ensures { option_map (λ b. b.now) result ≡ self.now.edited }
     {

@@ -1,6 +1,6 @@
 //! The RECs of a launch with their defaults.
 ghost use Rattle.std.specs.Prelude.{◌≡◌};
-ghost use Rattle.ipa_layout.specs.Recs.{rec_of};
+ghost use Rattle.ipa_layout.specs.Rec.{rec_of};
 
 use rim_launch::Rec;
 

@@ -1,5 +1,5 @@
-use Rattle.ipa_layout.proofs.PlacedFacts.{pages-apart}
+use Rattle.ipa_layout.proofs.PlacedFacts.{pages-checked_together}
 use Rattle.ipa_layout.proofs.laws.pages_are_apart.Goals as goal
 
 pub returns : goal.returns
-returns c = pages-apart
+returns c = pages-checked_together

@@ -1,0 +1,33 @@
+-- What holds of each launch that is placed, for the layers that go on from it. This project's choice.
+use Rattle.std.specs.Prelude.{◌≡◌, ℕ, ◌+◌, ◌<◌, ◌≤◌, true, false, Some, IsSome, sum_by}
+use Rattle.std.specs.List.{slice_get}
+use Rattle.rim_desc.specs.declared.source.Source.{Source}
+use Rattle.rim_desc.specs.declared.source.Source.TheVariants.{File, Edited}
+use Rattle.rim_launch.specs.declared.item.Item.{Item}
+use Rattle.ipa_layout.specs.declared.placed.PlacedItem.{PlacedItem}
+use Rattle.rim_launch.specs.LaunchData.{LaunchData}
+use Rattle.rim_launch.specs.Kinds.{file_of, has_edits}
+use Rattle.ipa_layout.specs.Extent.{first_page}
+use Rattle.ipa_layout.specs.Layout.{PlacedData}
+
+-- the launch asks for an item by this number, and it is placed so
+pub record IsItem (l : LaunchData) (p : PlacedData) (number : ℕ) (item : Item) (i : PlacedItem) : Type 0 where
+  pub in_launch : slice_get l.items number ≡ Some item
+  pub placed : slice_get p.items number ≡ Some i
+
+-- its bytes are those of its own file, or of the devicetree that this launch edited, which has some
+abbrev pub IsSourceOf : LaunchData → PlacedData → Item → Source → Type 0
+IsSourceOf l p item (File n) = (has_edits item.kind ≡ false) × (n ≡ file_of item.kind)
+IsSourceOf l p item (Edited launch) = (has_edits item.kind ≡ true) × (launch ≡ l.number) × IsSome p.edited
+
+-- the number of the first page after an item's pages
+abbrev pub page_end : PlacedItem → ℕ
+page_end i = first_page i.address + i.pages
+
+-- the page of this number is one of the item's
+abbrev pub HasPage : PlacedItem → ℕ → Type 0
+HasPage i page = (first_page i.address ≤ page) × (page < page_end i)
+
+-- how many pages all items have together
+abbrev pub page_total : PlacedData → ℕ
+page_total p = sum_by (λ i. i.pages) p.items

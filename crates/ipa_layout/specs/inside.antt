@@ -1,0 +1,2 @@
+pub mod DtbEditViews
+pub mod LayoutViews

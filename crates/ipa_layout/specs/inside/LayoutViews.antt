@@ -1,0 +1,25 @@
+-- What the program's values stand for while it places a launch.
+use Rattle.std.specs.Prelude.{ℕ, List, map, Option, Some, None, Result, Ok, Err}
+use Rattle.std.specs.Global.{Global}
+use Rattle.std.specs.declared.vec.Vec.{Vec}
+use Rattle.refusal.specs.Answer.{◌>>=◌}
+use Rattle.refusal.specs.declared.memory.NoMemory.{NoMemory}
+use Rattle.fdt_tree.specs.declared.fault.FdtFault.{FdtFault}
+use Rattle.fdt_tree.specs.Faults.{own_fault}
+use Rattle.ipa_layout.specs.declared.dtb.Dtb.{Dtb}
+use Rattle.ipa_layout.specs.declared.dtb.Dtb.TheVariants as dtb
+
+-- what files hold
+abbrev pub contents : {Z : Type 0} → List (Vec ℕ Z) → List (List ℕ)
+contents files = map (λ f. f.items) files
+
+-- the edited devicetree, if there is one, or why there is none
+abbrev pub seen : Dtb → Result (Option (List ℕ)) FdtFault
+seen dtb.AsFile = Ok None
+seen (dtb.Edited bytes) = Ok (Some bytes.items)
+seen (dtb.Refused fault) = Err fault
+
+-- what an edit of a devicetree returned: its own fault refuses it, and want of memory is no fault of it
+abbrev pub dtb_of : Result (Vec ℕ Global) FdtFault → Result Dtb NoMemory
+dtb_of (Ok bytes) = Ok (dtb.Edited bytes)
+dtb_of (Err fault) = own_fault fault >>= λ own. Ok (dtb.Refused own)

@@ -1,0 +1,267 @@
+//! Where the items of a launch are placed and with which bytes, or the first reason why they cannot be.
+ghost use Rattle.std.specs.Prelude.{◌≡◌, ◌+◌, ◌^◌, ◌<◌, length, true, None, Ok, IfOk, option_map};
+ghost use Rattle.std.specs.List.{find, position_from, slice_get};
+ghost use Rattle.std.specs.Option.{option_and_then};
+ghost use Rattle.refusal.specs.Answer.{Answers, Matches};
+ghost use Rattle.rim_launch.specs.LaunchData.{has_files, is_launch};
+ghost use Rattle.rim_launch.specs.Kinds.{file_of, has_edits, has_role};
+ghost use Rattle.ipa_layout.specs.inside.DtbEditViews.{edit_data};
+ghost use Rattle.ipa_layout.specs.Layout.{address_of, bytes_of, checked_together, edited_dtb, edits_of, extents_of, file_bytes, initrd_region, item_at, items_at, placed_at, places, recs_at, source_of};
+ghost use Rattle.ipa_layout.specs.inside.LayoutViews.{contents, seen};
+
+use crate::dtb::Dtb;
+use crate::dtb_edit::{DtbEdits, edited};
+use crate::extent::{Extent, lead};
+use crate::fault::LayoutFault;
+use crate::item_check::check_item;
+use crate::overlap::check_all;
+use crate::placed::{Placed, PlacedItem};
+use crate::rec::PlacedRec;
+use refusal::NoMemory;
+use rim_desc::Source;
+use rim_launch::{Item, Kind, Launch, Rec, Region, Role};
+use std::alloc::{AllocError, Global};
+
+/// Where the items of a launch are and with which bytes, its RECs with their defaults filled in, and the
+/// bytes of the edited devicetree; or the first reason why the launch cannot be laid out.
+///
+/// `files` are those of the release, with one for each file that the launch names
+/// ([`Launch::has_files`]). A devicetree without edits is placed as its file and is not read, and
+/// no file is copied. Item by item, in order, an item is refused for its kernel header or its devicetree,
+/// then `Unaligned`, `KernelBase`, `Size` and `OutsideRam`; then all items together for `Overlap`, then for
+/// `InitrdWindow`. `NoMemory` may come before any of them, where memory was refused.
+pub fn place(alloc: Global, launch: &Launch, files: &[Vec<u8>]) -> Result<Placed, LayoutFault>
+    requires { has_files launch.now (length files.now) ≡ true }
+    ensures { Answers LayoutFault.NoMemory (λ p. p) result (places launch.now (contents files.now)) }
+{
+    let dtb = prepare_dtb(alloc, launch, files)?;
+    let extents = extents_of(alloc, launch, files, &dtb)?;
+    check_together(launch.items(), &extents)?;
+    gather(alloc, launch, &extents, dtb.into_bytes())
+}
+
+/// A launch whose items have these extents.
+fn gather(
+    alloc: Global,
+    launch: &Launch,
+    extents: &[Extent],
+    edited: Option<Vec<u8>>,
+) -> Result<Placed, LayoutFault>
+    ensures { Answers LayoutFault.NoMemory (λ p. p) result (Ok (placed_at launch.now (option_map (λ v. v.items) edited) extents.now)) }
+{
+    let kernel = extent_at(extents, index_of(launch.items(), Role::Kernel));
+    let dtb = extent_at(extents, index_of(launch.items(), Role::Dtb));
+    let number = launch.number();
+    let items = items_at(alloc, number, launch.items(), extents)?;
+    let recs = recs_at(alloc, launch.recs(), address_of(kernel), address_of(dtb))?;
+    Ok(Placed::new(number, items, recs, edited))
+}
+
+/// The bytes of an item's file.
+fn file_bytes<'a>(files: &'a [Vec<u8>], kind: &Kind) -> &'a [u8]
+    requires { file_of kind.now < length files.now }
+    ensures { result.now ≡ file_bytes (contents files.now) kind.now }
+{
+    &files[kind.file()]
+}
+
+/// The item that is an initrd.
+fn initrd_of(launch: &Launch) -> Option<&Item>
+    ensures value { option_map (λ i. i.now) result ≡ find (has_role Role.Initrd) launch.now.items }
+    ensures kept { is_launch launch.now ≡ true }
+{
+    launch
+        .items()
+        .iter()
+        .find(|item| item.has_role(Role::Initrd))
+}
+
+/// The addresses of an initrd's bytes.
+fn initrd_region(files: &[Vec<u8>], item: &Item) -> Region
+    requires low { item.now.at < 2 ^ 63 }
+    requires there { file_of item.now.kind < length files.now }
+    ensures { result ≡ initrd_region (contents files.now) item.now }
+{
+    let len = file_bytes(files, &item.kind).len() as u64;
+    Region {
+        base: item.at,
+        end: item.at + len,
+    }
+}
+
+/// The addresses of the bytes of the launch's initrd, if it has one.
+fn initrd_at(launch: &Launch, files: &[Vec<u8>]) -> Option<Region>
+    requires { has_files launch.now (length files.now) ≡ true }
+    ensures { result ≡ option_map (initrd_region (contents files.now)) (find (has_role Role.Initrd) launch.now.items) }
+{
+    let item = initrd_of(launch)?;
+    Some(initrd_region(files, item))
+}
+
+/// The edits that a launch makes of its devicetree.
+fn edits_of<'a>(launch: &Launch, files: &[Vec<u8>], kind: &'a Kind) -> DtbEdits<'a>
+    requires { has_files launch.now (length files.now) ≡ true }
+    ensures { edit_data result ≡ edits_of launch.now (contents files.now) kind.now }
+{
+    let Kind::Dtb { edits, .. } = kind else {
+        return DtbEdits {
+            bootargs: None,
+            initrd: None,
+            memory: None,
+        };
+    };
+    DtbEdits {
+        bootargs: edits.bootargs.as_ref(),
+        initrd: if edits.initrd {
+            initrd_at(launch, files)
+        } else {
+            None
+        },
+        memory: if edits.memory {
+            launch.ram().first().copied()
+        } else {
+            None
+        },
+    }
+}
+
+/// The devicetree that is to be edited, if the launch has one.
+fn item_to_edit(launch: &Launch) -> Option<&Item>
+    ensures { option_map (λ i. i.now) result ≡ find (λ i. has_edits i.kind) launch.now.items }
+{
+    launch.items().iter().find(|item| item.kind.has_edits())
+}
+
+/// What is placed of the launch's devicetree.
+fn prepare_dtb(alloc: Global, launch: &Launch, files: &[Vec<u8>]) -> Result<Dtb, NoMemory>
+    requires { has_files launch.now (length files.now) ≡ true }
+    ensures exact { IfOk result (λ d. seen d ≡ edited_dtb launch.now (contents files.now)) }
+    // Where no devicetree is edited no memory is taken.
+    ensures as_file { find (λ i. has_edits i.kind) launch.now.items ≡ None → result ≡ Ok Dtb.AsFile }
+{
+    let Some(item) = item_to_edit(launch) else {
+        return Ok(Dtb::AsFile);
+    };
+    let edits = edits_of(launch, files, &item.kind);
+    Dtb::of(edited(alloc, file_bytes(files, &item.kind), edits))
+}
+
+/// The bytes that are placed: those of an item's file, or the edited devicetree.
+fn bytes_of<'a>(dtb: &'a Dtb, files: &'a [Vec<u8>], item: &Item) -> Result<&'a [u8], LayoutFault>
+    requires { file_of item.now.kind < length files.now }
+    ensures { Matches (λ b. b.now) result (bytes_of (seen dtb.now) (contents files.now) item.now) }
+{
+    if !item.kind.has_edits() {
+        return Ok(file_bytes(files, &item.kind));
+    }
+    match dtb {
+        Dtb::Edited(bytes) => Ok(bytes.as_slice()),
+        Dtb::AsFile => Ok(&[]),
+        Dtb::Refused(fault) => Err(LayoutFault::Dtb(*fault)),
+    }
+}
+
+/// The extents of a launch's items.
+fn extents_of(
+    alloc: Global,
+    launch: &Launch,
+    files: &[Vec<u8>],
+    dtb: &Dtb,
+) -> Result<Vec<Extent>, LayoutFault>
+    requires { has_files launch.now (length files.now) ≡ true }
+    ensures { Answers LayoutFault.NoMemory (λ v. v.items) result
+        (extents_of launch.now.ram (seen dtb.now) (contents files.now) 0 launch.now.items) }
+{
+    let mut extents = Vec::with_capacity(alloc, launch.items().len())?;
+    let mut pages = 0;
+    for item in launch.items() {
+        let bytes = bytes_of(dtb, files, item)?;
+        let extent = check_item(launch.ram(), pages, item, bytes)?;
+        pages += extent.page_count();
+        extents.push(extent)?;
+    }
+    Ok(extents)
+}
+
+/// The number of the first item with a role.
+fn index_of(items: &[Item], role: Role) -> Option<usize>
+    ensures { result ≡ position_from (has_role role) 0 items.now }
+{
+    items.iter().position(|item| item.has_role(role))
+}
+
+/// The extent of the item of this number, if there is one.
+fn extent_at(extents: &[Extent], index: Option<usize>) -> Option<Extent>
+    ensures { result ≡ option_and_then (slice_get extents.now) index }
+{
+    extents.get(index?).copied()
+}
+
+/// Refuses the items together.
+fn check_together(items: &[Item], extents: &[Extent]) -> Result<(), LayoutFault>
+    ensures { result ≡ checked_together items.now extents.now }
+{
+    check_all(
+        extents,
+        extent_at(extents, index_of(items, Role::Kernel)),
+        extent_at(extents, index_of(items, Role::Initrd)),
+    )
+}
+
+/// Where an item's bytes come from.
+fn source_of(launch: usize, kind: &Kind) -> Source
+    ensures { result ≡ source_of launch kind.now }
+{
+    if kind.has_edits() {
+        Source::Edited(launch)
+    } else {
+        Source::File(kind.file())
+    }
+}
+
+/// The item at its extent.
+#[tactic(auto, unfolding(crate::specs::Layout::item_at))]
+fn item_at(launch: usize, item: &Item, extent: &Extent) -> PlacedItem
+    ensures { result ≡ item_at launch item.now extent.now }
+{
+    PlacedItem {
+        source: source_of(launch, &item.kind),
+        address: extent.address,
+        lead: lead(extent.address),
+        pages: extent.page_count(),
+        measured: item.measured,
+    }
+}
+
+/// The items at their extents.
+fn items_at(
+    alloc: Global,
+    launch: usize,
+    items: &[Item],
+    extents: &[Extent],
+) -> Result<Vec<PlacedItem>, AllocError>
+    ensures { IfOk result (λ v. v.items ≡ items_at launch items.now extents.now) }
+{
+    items
+        .iter()
+        .zip(extents.iter())
+        .map(|(item, extent)| item_at(launch, item, extent))
+        .collect(alloc)
+}
+
+/// Each REC with its defaults filled in.
+fn recs_at(alloc: Global, recs: &[Rec], kernel: u64, dtb: u64) -> Result<Vec<PlacedRec>, AllocError>
+    ensures { IfOk result (λ v. v.items ≡ recs_at kernel dtb recs.now) }
+{
+    recs.iter()
+        .enumerate()
+        .map(|(number, rec)| PlacedRec::filled(rec, number, kernel, dtb))
+        .collect(alloc)
+}
+
+/// The address of an item, or 0 if the launch has none.
+fn address_of(extent: Option<Extent>) -> u64
+    ensures { result ≡ address_of extent }
+{
+    extent.map_or(0, |extent| extent.address)
+}
