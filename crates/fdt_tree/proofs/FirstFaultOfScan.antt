@@ -6,7 +6,7 @@ use Rattle.std.proofs.lemmas.Bool.{ltb-false}
 use Rattle.std.proofs.lemmas.List.{length-drop, nil_from_length}
 use Rattle.fdt_tree.specs.declared.fault.FdtFault.{FdtFault}
 use Rattle.fdt_tree.specs.declared.fault.FdtFault.TheVariants.{BadToken, BadName, LateProperty, TooDeep}
-use Rattle.fdt_tree.specs.declared.place.Place.{Place}
+use Rattle.fdt_tree.specs.declared.reading.place.Place.{Place}
 use Rattle.refusal.specs.Answer.{◌>>=◌}
 use Rattle.fdt_tree.specs.Devicetree.{Token, begin_node, property, end_node, nop, finish}
 use Rattle.fdt_tree.specs.Scanning.{after, number_at, padded_at, string_at, legal_at, begin_at, name_at, property_at, is_over, kind_at, token_at, joins, scan}

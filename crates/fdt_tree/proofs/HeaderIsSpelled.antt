@@ -4,7 +4,7 @@ use Rattle.std.specs.Prelude.{◌&&◌}
 use Rattle.std.proofs.lemmas.Bool.{leb-true, ltb-false, le-ltb, le-leb, eqb-true, eq-eqb}
 use Rattle.fdt_tree.specs.declared.fault.FdtFault.{FdtFault}
 use Rattle.fdt_tree.specs.declared.fault.FdtFault.TheVariants.{Short, BadMagic, BadVersion, TooLarge, BadBlock}
-use Rattle.fdt_tree.specs.declared.header.Header.{Header}
+use Rattle.fdt_tree.specs.declared.reading.header.Header.{Header}
 use Rattle.fdt_tree.specs.Blocks.{BlocksFit, HasHeader, word_at, header_of, blocks_fit, is_known_version, header_at}
 use Rattle.fdt_tree.proofs.SpellingOfToken.{unless, only_if}
 

@@ -11,7 +11,7 @@ use Rattle.std.specs.Str.{bytes_eq}
 use Rattle.std.proofs.lemmas.Map.Text.{is_eq-slice_cmp}
 use Rattle.fdt_tree.specs.Writing.{is_among, noted, strings_text, offset_in}
 use Rattle.fdt_tree.specs.inside.NameTables.{HasNames, place_in}
-use Rattle.fdt_tree.specs.declared.names.NameTable.{NameTable}
+use Rattle.fdt_tree.specs.declared.writing.names.NameTable.{NameTable}
 
 -- ---- a map whose keys are bytes
 

@@ -9,7 +9,7 @@ use Rattle.fdt_tree.specs.declared.node.Node.TheFolds.{fold-roll-Node, fold_out-
 use Rattle.fdt_tree.specs.Devicetree.{Entry, Nodes, none, node, Branch, joined, Token, begin_node, property, end_node, tokens, bare}
 use Rattle.fdt_tree.specs.inside.OpenNodes.{has_any, opened, all_opened, with_entry, followed, with_child}
 use Rattle.fdt_tree.specs.NodeViews.{branch, branches, branch_step, entry_of}
-use Rattle.fdt_tree.specs.declared.place.Place.{Place}
+use Rattle.fdt_tree.specs.declared.reading.place.Place.{Place}
 
 pub branch_roll : (strings : List ℕ) (x : Node-F Node) → branch strings (roll-Node x) ≡ record { name = x.name.items; entries = map (entry_of strings) x.properties.items; children = joined (branches strings x.children.items) }
 branch_roll strings = fold-roll-Node Branch (branch_step strings)

@@ -3,7 +3,7 @@ use Rattle.std.proofs.Common.{◌≡◌, ℕ, ◌<◌, ◌≤◌, false, List, [
 use Rattle.std.specs.Int.{w32, to_be_bytes}
 use Rattle.std.proofs.lemmas.List.{append-nil, length-append}
 use Rattle.fdt_tree.specs.Devicetree.{Nodes, none, node, Token, begin_node, property, end_node, nop, finish, tokens, Root, root_tokens}
-use Rattle.fdt_tree.specs.declared.place.Place.{Place}
+use Rattle.fdt_tree.specs.declared.reading.place.Place.{Place}
 use Rattle.fdt_tree.specs.Scanning.{start, scan}
 use Rattle.fdt_tree.specs.Grammar.{IsTokenText, IsText, without_nops, SpellsRoot}
 use Rattle.fdt_tree.specs.Names.{AreLegal, IsLegal}

@@ -2,12 +2,12 @@
 use Rattle.std.proofs.Common.{◌≡◌, ℕ, suc, ◌+◌, ◌-◌, ◌<◌, ◌≤◌, List, [], Result, Ok, Err, refl, sym, ap, ◌∙◌, arith}
 use Rattle.fdt_tree.specs.declared.fault.FdtFault.{FdtFault}
 use Rattle.fdt_tree.specs.declared.fault.FdtFault.TheVariants.{BadToken}
-use Rattle.fdt_tree.specs.declared.lexing.Token.{Token as Read}
-use Rattle.fdt_tree.specs.declared.lexing.Token.TheVariants as variants
+use Rattle.fdt_tree.specs.declared.reading.lexing.Token.{Token as Read}
+use Rattle.fdt_tree.specs.declared.reading.lexing.Token.TheVariants as variants
 use Rattle.fdt_tree.specs.inside.TokenViews.{as_token}
 use Rattle.fdt_tree.specs.Devicetree.{Token, begin_node, property, end_node, nop, finish}
 use Rattle.refusal.specs.Answer.{◌>>=◌, with_front}
-use Rattle.fdt_tree.specs.declared.place.Place.{Place}
+use Rattle.fdt_tree.specs.declared.reading.place.Place.{Place}
 use Rattle.fdt_tree.specs.Scanning.{after, token_at, joins, scan}
 use Rattle.fdt_tree.specs.inside.OpenNodes.{added}
 

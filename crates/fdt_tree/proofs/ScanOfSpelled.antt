@@ -8,7 +8,7 @@ use Rattle.std.proofs.lemmas.Nat.{from_be_bytes-to_be_bytes_4}
 use Rattle.fdt_tree.specs.declared.fault.FdtFault.{FdtFault}
 use Rattle.fdt_tree.specs.declared.fault.FdtFault.TheVariants.{BadToken, BadString}
 use Rattle.fdt_tree.specs.Devicetree.{Entry, Token, begin_node, property, end_node, nop, finish}
-use Rattle.fdt_tree.specs.declared.place.Place.{Place}
+use Rattle.fdt_tree.specs.declared.reading.place.Place.{Place}
 use Rattle.fdt_tree.specs.Scanning.{after, number_at, padded_at, until_zero, legal_at, string_at, name_at, begin_at, property_at, kind_at, token_at, scan}
 use Rattle.fdt_tree.specs.Names.{legal, all_name_characters, is_name_character}
 use Rattle.fdt_tree.specs.Grammar.{IsPadding, IsStringAt, IsTokenText, IsText, without_nops}

@@ -6,7 +6,7 @@ use Rattle.fdt_tree.specs.declared.fault.FdtFault.{FdtFault}
 use Rattle.fdt_tree.specs.declared.fault.FdtFault.TheVariants.{BadToken}
 use Rattle.fdt_tree.specs.Devicetree.{Token, begin_node, property, end_node, nop, finish}
 use Rattle.refusal.specs.Answer.{◌>>=◌}
-use Rattle.fdt_tree.specs.declared.place.Place.{Place}
+use Rattle.fdt_tree.specs.declared.reading.place.Place.{Place}
 use Rattle.fdt_tree.specs.Scanning.{after, number_at, kind_at, token_at, joins, scan}
 use Rattle.fdt_tree.specs.Grammar.{IsTokenText, IsText, without_nops}
 use Rattle.fdt_tree.proofs.AcceptedTokens.{Allowed, Accepts}

@@ -4,7 +4,7 @@ use Rattle.std.specs.Prelude.{◌^◌, ◌≡◌, ℕ, ◌+◌, ◌%◌, ◌≤�
 use Rattle.std.specs.Int.{w32, from_be_bytes}
 use Rattle.fdt_tree.specs.declared.fault.FdtFault.{FdtFault}
 use Rattle.fdt_tree.specs.declared.fault.FdtFault.TheVariants.{Short, BadMagic, BadVersion, TooLarge, BadBlock}
-use Rattle.fdt_tree.specs.declared.header.Header.{Header}
+use Rattle.fdt_tree.specs.declared.reading.header.Header.{Header}
 
 -- the number that begins at this byte
 abbrev pub word_at : ℕ → List ℕ → ℕ

@@ -1,7 +1,7 @@
 -- Which fault a structure block has: that of the token after the longest list of tokens without fault.
 use Rattle.std.specs.Prelude.{◌≡◌, ◌≢◌, ℕ, List, [], ◌∷◌, Ok, Err}
 use Rattle.fdt_tree.specs.declared.fault.FdtFault.{FdtFault}
-use Rattle.fdt_tree.specs.declared.place.Place.{Place}
+use Rattle.fdt_tree.specs.declared.reading.place.Place.{Place}
 use Rattle.fdt_tree.specs.Devicetree.{Token, finish}
 use Rattle.fdt_tree.specs.Scanning.{start, after, token_at}
 

@@ -5,7 +5,7 @@ use Rattle.std.specs.Prelude.{ℕ, zero, suc, ◌+◌, ◌-◌, ◌%◌, List, [
 use Rattle.std.specs.Int.{w32, from_be_bytes}
 use Rattle.fdt_tree.specs.declared.fault.FdtFault.{FdtFault}
 use Rattle.fdt_tree.specs.declared.fault.FdtFault.TheVariants.{BadToken, BadName, BadString, LateProperty, TooDeep}
-use Rattle.fdt_tree.specs.declared.place.Place.{Place}
+use Rattle.fdt_tree.specs.declared.reading.place.Place.{Place}
 use Rattle.refusal.specs.Answer.{◌>>=◌}
 use Rattle.fdt_tree.specs.Devicetree.{Token, begin_node, property, end_node, nop, finish, FDT_BEGIN_NODE, FDT_END_NODE, FDT_PROP, FDT_NOP, FDT_END}
 use Rattle.fdt_tree.specs.Names.{legal}

@@ -10,11 +10,13 @@ ghost use Rattle.refusal.specs.Answer.{Matches};
 ghost use Rattle.fdt_tree.specs.Edits.{with_value, value_put, edited_below, all_legal, path_names, check_names};
 ghost use Rattle.fdt_tree.specs.inside.EditViews.{names_in, names_len};
 
+pub mod memory;
+
 use crate::fault::FdtFault;
-use crate::lexing::{MAX_DEPTH, is_legal};
 use crate::lookup::slash_in;
 use crate::node::{Name, Node, Property};
-use crate::structure::new_node;
+use crate::reading::lexing::{MAX_DEPTH, is_legal};
+use crate::reading::structure::new_node;
 use std::alloc::{AllocError, Global};
 
 fn property_index(strings: &[u8], properties: &[Property], name: &[u8]) -> Option<usize>

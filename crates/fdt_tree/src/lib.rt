@@ -3,18 +3,10 @@
 
 mod edits;
 mod fault;
-mod header;
 mod laws;
-mod lexing;
 mod lookup;
-mod memory;
-mod names;
 mod node;
-mod place;
 mod reading;
-mod reservations;
-mod strings;
-mod structure;
 mod tree;
 mod writing;
 

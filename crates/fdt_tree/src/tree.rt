@@ -4,10 +4,10 @@ ghost use Rattle.std.specs.Prelude.{◌^◌, ◌≡◌, []};
 ghost use Rattle.fdt_tree.specs.NodeViews.{branch};
 ghost use Rattle.fdt_tree.specs.Wholeness.{IsWhole, IsWhole-prop, tree_in};
 
+use crate::edits::memory::{put_memory, reg_of};
 use crate::edits::{check_names, names_on, put_below};
 use crate::fault::FdtFault;
 use crate::lookup::{node_at, value_of};
-use crate::memory::{put_memory, reg_of};
 use crate::node::Node;
 use crate::writing::written;
 use std::alloc::Global;

@@ -11,12 +11,14 @@ ghost use Rattle.fdt_tree.specs.Wholeness.{IsWhole, tree_in};
 ghost use Rattle.fdt_tree.specs.Reading.{Spells};
 ghost use Rattle.fdt_tree.specs.inside.OutputViews.{AreLengths, HasTokens, size_of, tokens_of_entries, tokens_of_nodes};
 
+pub mod names;
+
 use crate::fault::FdtFault;
-use crate::header::{HEADER_LEN, LAST_COMP_VERSION, MAGIC, MAX_LEN, VERSION};
-use crate::lexing::{BEGIN_NODE, END, END_NODE, PROP};
-use crate::names::NameTable;
 use crate::node::{Node, Property};
+use crate::reading::header::{HEADER_LEN, LAST_COMP_VERSION, MAGIC, MAX_LEN, VERSION};
+use crate::reading::lexing::{BEGIN_NODE, END, END_NODE, PROP};
 use crate::tree::{Contents, Reservation};
+use crate::writing::names::NameTable;
 use std::alloc::{AllocError, Global};
 
 /// What is written so far: the structure block, and the names in it.

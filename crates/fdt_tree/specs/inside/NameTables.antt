@@ -5,8 +5,8 @@ use Rattle.std.specs.Cmp.Lexicographic.{slice_cmp}
 use Rattle.std.specs.BTreeMap.{get_by}
 use Rattle.fdt_tree.specs.declared.fault.FdtFault.{FdtFault}
 use Rattle.fdt_tree.specs.declared.fault.FdtFault.TheVariants.{NoMemory, TooLarge}
-use Rattle.fdt_tree.specs.declared.names.NameTable.{NameTable}
-use Rattle.fdt_tree.specs.declared.names.KnownRange.{KnownRange}
+use Rattle.fdt_tree.specs.declared.writing.names.NameTable.{NameTable}
+use Rattle.fdt_tree.specs.declared.writing.names.KnownRange.{KnownRange}
 use Rattle.fdt_tree.specs.Writing.{is_among, strings_text, offset_in}
 
 -- the offset of a name, if it is among the names

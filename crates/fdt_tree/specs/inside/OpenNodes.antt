@@ -1,7 +1,7 @@
 -- What the reader holds between two tokens: the nodes that are open.
 use Rattle.std.specs.Prelude.{ℕ, List, [], ◌∷◌, ◌++◌, length, map, Bool, true, false}
-use Rattle.fdt_tree.specs.declared.place.Place.{Place}
-use Rattle.fdt_tree.specs.declared.structure.OpenNodes.{OpenNodes}
+use Rattle.fdt_tree.specs.declared.reading.place.Place.{Place}
+use Rattle.fdt_tree.specs.declared.reading.structure.OpenNodes.{OpenNodes}
 use Rattle.fdt_tree.specs.Devicetree.{Entry, Nodes, none, node, Branch, Token, begin_node, property, end_node, nop, finish, tokens}
 use Rattle.fdt_tree.specs.NodeViews.{branch, branches}
 

@@ -1,8 +1,8 @@
 -- Which token a token in memory is, given the strings block.
 use Rattle.std.specs.Prelude.{◌≡◌, ℕ, ◌<◌, List, take, drop, false}
-use Rattle.fdt_tree.specs.declared.lexing.Token.{Token as Read}
-use Rattle.fdt_tree.specs.declared.lexing.Token.TheVariants.{Begin, Property, EndNode, Nop, Finish}
-use Rattle.fdt_tree.specs.declared.place.Place.{Place}
+use Rattle.fdt_tree.specs.declared.reading.lexing.Token.{Token as Read}
+use Rattle.fdt_tree.specs.declared.reading.lexing.Token.TheVariants.{Begin, Property, EndNode, Nop, Finish}
+use Rattle.fdt_tree.specs.declared.reading.place.Place.{Place}
 use Rattle.fdt_tree.specs.Devicetree.{Token, begin_node, property, end_node, nop, finish}
 
 abbrev pub as_token : List ℕ → Read → Token
