@@ -1,4 +1,4 @@
--- What is known of an error that may be want of memory.
+-- What is known of an error that may be a refusal of memory.
 use Rattle.std.proofs.Common.{◌≡◌, ℕ, ◌≤◌, ◌⊎◌, Result, Ok, Err, arith, inl, inr}
 use Rattle.fdt_tree.specs.declared.fault.FdtFault.{FdtFault}
 use Rattle.fdt_tree.specs.declared.fault.FdtFault.TheVariants.{NoMemory}

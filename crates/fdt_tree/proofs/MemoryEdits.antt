@@ -1,4 +1,4 @@
--- What a new memory makes of a tree.
+-- What setting the memory makes of a tree.
 use Rattle.std.proofs.Common.{◌≡◌, ℕ, zero, suc, ◌+◌, ◌/◌, ◌%◌, ◌<◌, Bool, true, false, cond, nat_lt, eqb, IsTrue, List, [], ◌∷◌, length, codes, Result, Ok, Err, OnOk, OnErr, IsOk, refl, sym, ap, ◌∙◌, arith}
 use Rattle.std.specs.Fmt.{digits, digits_onto, digit_glyph}
 use Rattle.std.proofs.lemmas.Bool.{lt-ltb, ne_eqb}

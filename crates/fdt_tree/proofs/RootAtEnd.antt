@@ -1,4 +1,4 @@
--- The root in the hands of the reader at END.
+-- At END the reader holds the root.
 use Rattle.std.proofs.Common.{◌≡◌, ℕ, List, [], ◌∷◌, ◌++◌, length, map, Result, Ok, refl, ap, subst, ◌∙◌, arith}
 use Rattle.std.proofs.lemmas.List.{nil_from_length}
 use Rattle.fdt_tree.specs.declared.fault.FdtFault.{FdtFault}

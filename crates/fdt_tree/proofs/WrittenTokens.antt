@@ -1,4 +1,4 @@
--- Tokens that are written one behind another.
+-- Tokens that are written one after another.
 use Rattle.std.proofs.Common.{◌^◌, ◌≡◌, ℕ, ◌+◌, ◌*◌, ◌<◌, ◌≤◌, Bool, true, false, cond, List, [], ◌∷◌, ◌++◌, length, get_or, take, drop, refl, sym, ap, ◌∙◌, append_assoc, append-nil, arith, subst}
 use Rattle.std.proofs.lemmas.List.{length-append, take_more, take-append-drop, at_drop_more, take_all}
 use Rattle.fdt_tree.specs.declared.fault.FdtFault.{FdtFault}
