@@ -24,7 +24,7 @@ found-low l t i h e =
     let range = found-holds item_in_range t l.items i (items_in_range l h) e in
     ltb-true i.at 0x8000000000000000 (and_parts (is_number i.at) (is_number (unwrap_or i.size 0)) range).0
 
--- its file is there
+-- its file is one of these
 pub found-there : (l : LaunchData) (count : ℕ) (t : Item → Bool) (i : Item) → has_files l count ≡ true → find t l.items ≡ Some i → file_of i.kind < count
 found-there l count t i h e = ltb-true (file_of i.kind) count (found-holds (λ (j : Item). nat_lt (file_of j.kind) count) t l.items i h e)
 

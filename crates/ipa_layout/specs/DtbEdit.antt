@@ -10,13 +10,14 @@ use Rattle.fdt_tree.specs.TreeAt.{tree_at}
 use Rattle.fdt_tree.specs.Edits.{set_at}
 use Rattle.fdt_tree.specs.Memory.{set_memory_at}
 use Rattle.fdt_tree.specs.Writing.{file_of}
+use Rattle.ipa_layout.specs.declared.dtb_edit.Span.{Span}
 use Rattle.rim_launch.specs.declared.item.Region.{Region}
 
 -- what it is to have, if anything: the command line, the addresses of the initrd's bytes, and the first
 -- region of RAM
 pub record EditData : Type 0 where
   pub bootargs : Option (List ℕ)
-  pub initrd : Option Region
+  pub initrd : Option Span
   pub memory : Option Region
 
 abbrev pub no_edits : EditData
@@ -32,11 +33,11 @@ with_bootargs None t = Ok t
 with_bootargs (Some text) t = chosen (codes "bootargs") (text ++ 0 ∷ []) t
 
 -- the addresses of its first byte and of the first byte after it, each as 8 bytes
-abbrev pub with_initrd : Option Region → Devicetree → Result Devicetree FdtFault
+abbrev pub with_initrd : Option Span → Devicetree → Result Devicetree FdtFault
 with_initrd None t = Ok t
-with_initrd (Some r) t = do
-  started ← chosen (codes "linux,initrd-start") (to_be_bytes w64 r.base) t
-  chosen (codes "linux,initrd-end") (to_be_bytes w64 r.end) started
+with_initrd (Some s) t = do
+  started ← chosen (codes "linux,initrd-start") (to_be_bytes w64 s.start) t
+  chosen (codes "linux,initrd-end") (to_be_bytes w64 s.end) started
 
 abbrev pub with_memory : Option Region → Devicetree → Result Devicetree FdtFault
 with_memory None t = Ok t

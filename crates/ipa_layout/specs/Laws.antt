@@ -10,7 +10,7 @@ use Rattle.rim_launch.specs.Kinds.{file_of, has_edits}
 use Rattle.ipa_layout.specs.Extent.{first_page}
 use Rattle.ipa_layout.specs.Layout.{PlacedData}
 
--- the launch asks for an item by this number, and it is placed so
+-- the launch has an item of this number, and it is placed so
 pub record IsItem (l : LaunchData) (p : PlacedData) (number : ℕ) (item : Item) (i : PlacedItem) : Type 0 where
   pub in_launch : slice_get l.items number ≡ Some item
   pub placed : slice_get p.items number ≡ Some i

@@ -12,6 +12,7 @@ use Rattle.rim_launch.specs.declared.item.Item.{Item}
 use Rattle.rim_launch.specs.declared.item.Region.{Region}
 use Rattle.rim_launch.specs.declared.rec.Rec.{Rec}
 use Rattle.ipa_layout.specs.declared.rec.PlacedRec.{PlacedRec}
+use Rattle.ipa_layout.specs.declared.dtb_edit.Span.{Span}
 use Rattle.ipa_layout.specs.declared.extent.Extent.{Extent}
 use Rattle.rim_desc.specs.declared.source.Source.{Source}
 use Rattle.rim_desc.specs.declared.source.Source.TheVariants.{File, Edited}
@@ -35,8 +36,8 @@ abbrev pub file_bytes : List (List ℕ) → Kind → List ℕ
 file_bytes files k = get_or files (file_of k) []
 
 -- the addresses of an initrd's bytes
-abbrev pub initrd_region : List (List ℕ) → Item → Region
-initrd_region files i = record { base = i.at; end = i.at + length (file_bytes files i.kind) }
+abbrev pub initrd_span : List (List ℕ) → Item → Span
+initrd_span files i = record { start = i.at; end = i.at + length (file_bytes files i.kind) }
 
 abbrev pub only_if : {A : Type 0} → Bool → Option A → Option A
 only_if b o = if b then o else None
@@ -45,7 +46,7 @@ only_if b o = if b then o else None
 abbrev pub edits_of : LaunchData → List (List ℕ) → Kind → EditData
 edits_of l files (Dtb file edits) = record {
   bootargs = edits.bootargs;
-  initrd = only_if edits.initrd (option_map (initrd_region files) (find (has_role role.Initrd) l.items));
+  initrd = only_if edits.initrd (option_map (initrd_span files) (find (has_role role.Initrd) l.items));
   memory = only_if edits.memory (slice_get l.ram 0);
 }
 edits_of l files k = no_edits

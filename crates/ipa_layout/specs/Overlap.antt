@@ -26,7 +26,7 @@ gib_span a b = (max (a.address + a.len) (b.address + b.len) + 0x3fffffff) / 0x40
 abbrev pub is_too_far : Extent → Extent → Bool
 is_too_far kernel initrd = not (initrd.len == 0) && nat_lt 32 (gib_span kernel initrd)
 
--- a kernel and an initrd, where both are there
+-- a kernel and an initrd, if the launch has both
 abbrev pub both_too_far : Option Extent → Option Extent → Bool
 both_too_far (Some kernel) (Some initrd) = is_too_far kernel initrd
 both_too_far _ _ = false

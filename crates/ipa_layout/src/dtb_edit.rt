@@ -40,15 +40,15 @@ fn put_address(alloc: Global, tree: &mut Tree, name: &[u8], address: u64) -> Res
 }
 
 /// Puts the addresses of the initrd's first byte and of the first byte after it, if there is one.
-fn put_initrd(alloc: Global, tree: &mut Tree, initrd: Option<Region>) -> Result<(), FdtFault>
+fn put_initrd(alloc: Global, tree: &mut Tree, initrd: Option<Span>) -> Result<(), FdtFault>
     ensures { Answers FdtFault.NoMemory (λ u. devicetree_of tree.new) result
         (with_initrd initrd (devicetree_of tree.old)) }
 {
-    let Some(region) = initrd else {
+    let Some(span) = initrd else {
         return Ok(());
     };
-    put_address(alloc, tree, b"linux,initrd-start", region.base)?;
-    put_address(alloc, tree, b"linux,initrd-end", region.end)
+    put_address(alloc, tree, b"linux,initrd-start", span.start)?;
+    put_address(alloc, tree, b"linux,initrd-end", span.end)
 }
 
 /// Puts the first region of RAM, if it is wanted.
@@ -59,7 +59,14 @@ fn put_memory(alloc: Global, tree: &mut Tree, memory: Option<Region>) -> Result<
     let Some(region) = memory else {
         return Ok(());
     };
-    tree.set_memory(alloc, region.base, region.end.saturating_sub(region.base))
+    tree.set_memory(alloc, region.base, region.end - region.base)
+}
+
+/// The addresses from `start` on and below `end`; none where they are equal.
+#[derive(Clone, Copy, Debug, PartialEq, Eq)]
+pub struct Span {
+    pub start: u64,
+    pub end: u64,
 }
 
 /// What a devicetree is to have, each if it is wanted: the command line, the addresses of the initrd's
@@ -67,7 +74,7 @@ fn put_memory(alloc: Global, tree: &mut Tree, memory: Option<Region>) -> Result<
 #[derive(Clone, Copy)]
 pub struct DtbEdits<'a> {
     pub bootargs: Option<&'a Bootargs>,
-    pub initrd: Option<Region>,
+    pub initrd: Option<Span>,
     pub memory: Option<Region>,
 }
 

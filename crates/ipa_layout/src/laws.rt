@@ -1,5 +1,5 @@
 //! Laws of placed launches: functions that do nothing, whose contracts are the laws.
-ghost use Rattle.std.specs.Prelude.{◌≡◌, ℕ, ◌+◌, ◌*◌, ◌%◌, ◌^◌, ◌<◌, ◌≤◌, List, length};
+ghost use Rattle.std.specs.Prelude.{◌≡◌, ℕ, ◌*◌, ◌%◌, ◌^◌, ◌<◌, ◌≤◌, List, length};
 ghost use Rattle.rim_launch.specs.declared.item.Item.{Item};
 ghost use Rattle.ipa_layout.specs.declared.placed.PlacedItem.{PlacedItem};
 ghost use Rattle.rim_launch.specs.LaunchData.{LaunchData};

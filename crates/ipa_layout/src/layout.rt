@@ -6,11 +6,11 @@ ghost use Rattle.refusal.specs.Answer.{Answers, Matches};
 ghost use Rattle.rim_launch.specs.LaunchData.{has_files, is_launch};
 ghost use Rattle.rim_launch.specs.Kinds.{file_of, has_edits, has_role};
 ghost use Rattle.ipa_layout.specs.inside.DtbEditViews.{edit_data};
-ghost use Rattle.ipa_layout.specs.Layout.{address_of, bytes_of, checked_together, edited_dtb, edits_of, extents_of, file_bytes, initrd_region, item_at, items_at, placed_at, places, recs_at, source_of};
+ghost use Rattle.ipa_layout.specs.Layout.{address_of, bytes_of, checked_together, edited_dtb, edits_of, extents_of, file_bytes, initrd_span, item_at, items_at, placed_at, places, recs_at, source_of};
 ghost use Rattle.ipa_layout.specs.inside.LayoutViews.{contents, seen};
 
 use crate::dtb::Dtb;
-use crate::dtb_edit::{DtbEdits, edited};
+use crate::dtb_edit::{DtbEdits, Span, edited};
 use crate::extent::{Extent, lead};
 use crate::fault::LayoutFault;
 use crate::item_check::check_item;
@@ -19,7 +19,7 @@ use crate::placed::{Placed, PlacedItem};
 use crate::rec::PlacedRec;
 use refusal::NoMemory;
 use rim_desc::Source;
-use rim_launch::{Item, Kind, Launch, Rec, Region, Role};
+use rim_launch::{Item, Kind, Launch, Rec, Role};
 use std::alloc::{AllocError, Global};
 
 /// Where the items of a launch are and with which bytes, its RECs with their defaults filled in, and the
@@ -77,25 +77,25 @@ fn initrd_of(launch: &Launch) -> Option<&Item>
 }
 
 /// The addresses of an initrd's bytes.
-fn initrd_region(files: &[Vec<u8>], item: &Item) -> Region
+fn initrd_span(files: &[Vec<u8>], item: &Item) -> Span
     requires low { item.now.at < 2 ^ 63 }
     requires there { file_of item.now.kind < length files.now }
-    ensures { result ≡ initrd_region (contents files.now) item.now }
+    ensures { result ≡ initrd_span (contents files.now) item.now }
 {
     let len = file_bytes(files, &item.kind).len() as u64;
-    Region {
-        base: item.at,
+    Span {
+        start: item.at,
         end: item.at + len,
     }
 }
 
 /// The addresses of the bytes of the launch's initrd, if it has one.
-fn initrd_at(launch: &Launch, files: &[Vec<u8>]) -> Option<Region>
+fn initrd_at(launch: &Launch, files: &[Vec<u8>]) -> Option<Span>
     requires { has_files launch.now (length files.now) ≡ true }
-    ensures { result ≡ option_map (initrd_region (contents files.now)) (find (has_role Role.Initrd) launch.now.items) }
+    ensures { result ≡ option_map (initrd_span (contents files.now)) (find (has_role Role.Initrd) launch.now.items) }
 {
     let item = initrd_of(launch)?;
-    Some(initrd_region(files, item))
+    Some(initrd_span(files, item))
 }
 
 /// The edits that a launch makes of its devicetree.

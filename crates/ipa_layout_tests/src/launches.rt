@@ -133,6 +133,20 @@ fn ranges_and_kinds(rt: HostRuntime) -> Result<(), AllocError> {
 }
 
 #[test]
+fn regions_have_addresses(rt: HostRuntime) {
+    let cases = [
+        (0, 1, true),
+        (4096, 4096, false),
+        (0, 0x7fff_ffff_ffff_ffff, true),
+        (0, 0x8000_0000_0000_0000, false),
+    ];
+    for (number, (base, end, makes_one)) in cases.into_iter().enumerate() {
+        let made = Region::new(base, end);
+        assert_eq!(rt; made.is_some(), makes_one, "case {number}");
+    }
+}
+
+#[test]
 fn edits_need_their_parts(rt: HostRuntime) -> Result<(), AllocError> {
     let alloc = rt.alloc();
     for initrd in [false, true] {

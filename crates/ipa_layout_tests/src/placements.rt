@@ -9,7 +9,7 @@ use rim_desc::Algo;
 use std::alloc::{AllocError, Global};
 use std::process::Abort;
 
-/// A root without anything in it, written out by hand.
+/// An empty root, written out by hand.
 pub const EMPTY: [u8; 72] = [
     0xd0, 0x0d, 0xfe, 0xed, 0, 0, 0, 0x48, 0, 0, 0, 0x38, 0, 0, 0, 0x48, 0, 0, 0, 0x28, 0, 0, 0,
     0x11, 0, 0, 0, 0x10, 0, 0, 0, 0, 0, 0, 0, 0, 0, 0, 0, 0x10, 0, 0, 0, 0, 0, 0, 0, 0, 0, 0, 0, 0,
@@ -41,13 +41,13 @@ pub enum What {
     Kernel,
     Initrd,
     Dtb,
-    /// A devicetree that is to say where RAM is.
+    /// A devicetree that is to have the place of RAM.
     Edited,
     /// Raw content of this file.
     Raw(usize),
 }
 
-/// An item, the address that it is asked to stand at, and its size where it is stated.
+/// An item, its load address, and its size where it is stated.
 pub type Asked = (What, u64, Option<u64>);
 
 /// A launch of these items, and what becomes of it: the pages of its last item, or why it is refused.
@@ -67,7 +67,7 @@ fn image(text_offset: u64, image_size: u64) -> [u8; 64] {
     bytes
 }
 
-/// A devicetree, and whether it is to say where RAM is.
+/// A devicetree, and whether it is to have the place of RAM.
 fn dtb(memory: bool) -> Kind {
     let edits = Edits {
         bootargs: None,

@@ -6,7 +6,7 @@ use Rattle.rim_launch.specs.declared.item.Region.{Region}
 use Rattle.rim_launch.specs.declared.item.Item.{Item}
 use Rattle.rim_launch.specs.declared.rec.Rec.{Rec}
 use Rattle.rim_launch.specs.declared.step.Step.{Step}
-use Rattle.rim_launch.specs.Ranges.{config_in_range, region_in_range, item_in_range}
+use Rattle.rim_launch.specs.Ranges.{config_in_range, item_in_range}
 use Rattle.rim_launch.specs.Kinds.{file_of, once_each, edits_possible}
 use Rattle.rim_launch.specs.Steps.{steps_complete}
 
@@ -24,7 +24,7 @@ abbrev pub within_limits : LaunchData → Bool
 within_limits l = nat_le (length l.ram) 64 && nat_le (length l.items) 64 && nat_le (length l.recs) 1024
 
 abbrev pub all_in_range : LaunchData → Bool
-all_in_range l = config_in_range l.config && list_all region_in_range l.ram && list_all item_in_range l.items
+all_in_range l = config_in_range l.config && list_all item_in_range l.items
 
 abbrev pub steps_fit : LaunchData → Bool
 steps_fit l = steps_complete (length l.ram) (length l.items) (length l.recs) l.steps

@@ -10,7 +10,7 @@ use Rattle.rim_launch.specs.Kinds.{has_role}
 use Rattle.rim_launch.specs.declared.ranges.Part.{Part}
 use Rattle.rim_launch.specs.declared.ranges.Part.TheVariants as part
 
--- whether a step names what is there
+-- whether a step names what the launch has
 abbrev pub names_something : ℕ → ℕ → ℕ → Step → Bool
 names_something regions items recs (step.Ram n) = nat_lt n regions
 names_something regions items recs (step.Item n) = nat_lt n items
@@ -39,7 +39,7 @@ times p k steps = count_by (names p k) steps
 unfoldable pub each_once : Part → List Step → ℕ → Bool
 each_once p steps n = list_all (λ k. times p k steps == 1) (range_with_len 0 n)
 
--- each step names what is there, and each region, item and REC is named by exactly one
+-- each step names what the launch has, and each region, item and REC is named by exactly one
 abbrev pub steps_complete : ℕ → ℕ → ℕ → List Step → Bool
 steps_complete regions items recs steps = list_all (names_something regions items recs) steps
     && each_once part.Ram steps regions && each_once part.Item steps items && each_once part.Rec steps recs

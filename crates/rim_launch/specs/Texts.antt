@@ -1,4 +1,4 @@
--- The kernel's command line. It is placed with a zero byte behind it (Devicetree Specification 0.4,
+-- The kernel's command line. It is placed with a zero byte after it (Devicetree Specification 0.4,
 -- section 2.2.4.1, strings), so it has none itself.
 use Rattle.std.specs.Prelude.{ℕ, List, Bool, not, ◌==◌}
 use Rattle.std.specs.List.{list_all}

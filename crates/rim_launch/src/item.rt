@@ -1,14 +1,36 @@
 //! Regions of RAM, and the items that are placed in them.
-ghost use Rattle.std.specs.Prelude.{◌≡◌};
+ghost use Rattle.std.specs.Prelude.{◌≡◌, ◌<◌, ◌^◌};
 ghost use Rattle.rim_launch.specs.Texts.{has_no_zero};
 
 use std::marker::Model;
 
-/// A region of RAM: the addresses from `base` on and below `end`, in bytes.
+/// The first number that a manifest cannot spell.
+pub const NUMBER_END: u64 = 0x8000_0000_0000_0000;
+
+/// A region of RAM: the addresses from `base` on and below `end`, in bytes. It has an address, and its end
+/// is a number that a manifest can spell.
 #[derive(Clone, Copy, Debug, PartialEq, Eq)]
 pub struct Region {
     pub base: u64,
     pub end: u64,
+    pub ghost ordered: { base < end },
+    pub ghost low: { end < 2 ^ 63 },
+}
+
+impl Region {
+    ghost use Rattle.std.specs.Prelude.{◌≡◌, ◌<◌, ◌^◌, ◌↔◌, IsSome, IfSome};
+
+    /// The region of these addresses, or `None` where it has none or its end is 2^63 or more.
+    pub fn new(base: u64, end: u64) -> Option<Region>
+        ensures valid { IsSome result ↔ ((base < end) × (end < 2 ^ 63)) }
+        ensures value { IfSome result (λ r. (r.base ≡ base) × (r.end ≡ end)) }
+    {
+        if base < end && end < NUMBER_END {
+            Some(Region { base, end })
+        } else {
+            None
+        }
+    }
 }
 
 /// The kernel's command line: a text without a zero character. A clause sees its bytes.

@@ -3,9 +3,7 @@ ghost use Rattle.std.specs.Prelude.{◌≡◌, ◌&&◌, nat_le, length};
 
 use crate::config::Config;
 use crate::item::{Item, Region};
-use crate::ranges::{
-    config_in_range, edits_possible, items_in_range, once_each, regions_in_range, steps_complete,
-};
+use crate::ranges::{config_in_range, edits_possible, items_in_range, once_each, steps_complete};
 use crate::rec::Rec;
 use crate::step::Step;
 use std::marker::Model;
@@ -21,7 +19,7 @@ const MOST_RECS: usize = 1024;
 /// A launch: what a realm is made of, and in which order.
 ///
 /// Its type keeps the ranges and limits of a manifest, at most one kernel, initrd and devicetree, an
-/// initrd and RAM where the devicetree is to say where they are, and one step for each region, item and
+/// initrd and RAM where the devicetree is to have their places, and one step for each region, item and
 /// REC.
 #[derive(Drop)]
 pub struct Launch {
@@ -64,7 +62,6 @@ impl Launch {
     {
         if within_limits(&ram, &items, &recs)
             && config_in_range(&config)
-            && regions_in_range(&ram)
             && items_in_range(&items)
             && once_each(&items)
             && edits_possible(&ram, &items)
@@ -114,7 +111,7 @@ impl Launch {
         self.items.as_slice()
     }
 
-    /// Its RECs, as they are asked for.
+    /// Its RECs, without their defaults.
     pub fn recs(&self) -> &[Rec]
         ensures value { result.now ≡ self.now.recs }
         ensures kept { is_launch self.now ≡ true }

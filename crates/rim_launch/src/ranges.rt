@@ -1,18 +1,15 @@
 //! Whether the parts of a launch are in their ranges.
 ghost use Rattle.std.specs.Prelude.{◌≡◌, ◌+◌, ◌<◌, ◌≤◌, ℕ, List, length, take, true, false, not, slice_index_or, slice_set};
 ghost use Rattle.std.specs.List.{list_all, list_any};
-ghost use Rattle.rim_launch.specs.Ranges.{config_in_range, region_in_range, item_in_range};
+ghost use Rattle.rim_launch.specs.Ranges.{config_in_range, item_in_range};
 ghost use Rattle.rim_launch.specs.Kinds.{count_of, edits_possible, needs_initrd, needs_memory, once_each};
 ghost use Rattle.rim_launch.specs.Steps.{names_something, number_of, each_once, steps_complete};
 ghost use Rattle.rim_launch.specs.inside.StepViews.{AreMarks, IsNext};
 ghost use Rattle.rim_launch.specs.declared.step.Step.{Step};
 
 use crate::config::Config;
-use crate::item::{Item, Region, Role};
+use crate::item::{Item, NUMBER_END, Region, Role};
 use crate::step::Step;
-
-/// The first number that a manifest cannot spell.
-const NUMBER_END: u64 = 0x8000_0000_0000_0000;
 
 /// Whether each value of a configuration is in its range.
 pub fn config_in_range(config: &Config) -> bool
@@ -28,25 +25,11 @@ pub fn config_in_range(config: &Config) -> bool
         && config.pool_count <= 16_777_216
 }
 
-/// Whether a region's base is below its end, and its end is a number of a manifest.
-fn region_in_range(region: &Region) -> bool
-    ensures { result ≡ region_in_range region.now }
-{
-    region.base < region.end && region.end < NUMBER_END
-}
-
 /// Whether an item's numbers are those of a manifest.
 fn item_in_range(item: &Item) -> bool
     ensures { result ≡ item_in_range item.now }
 {
     item.at < NUMBER_END && item.size.unwrap_or(0) < NUMBER_END
-}
-
-/// Whether each region is in range.
-pub fn regions_in_range(ram: &[Region]) -> bool
-    ensures { result ≡ list_all region_in_range ram.now }
-{
-    ram.iter().all(|region| region_in_range(region))
 }
 
 /// Whether each item is in range.
@@ -92,7 +75,7 @@ pub fn edits_possible(ram: &[Region], items: &[Item]) -> bool
         && (!ram.is_empty() || !needs_memory(items))
 }
 
-/// Whether a step names a region, an item or a REC that is there.
+/// Whether a step names a region, an item or a REC that the launch has.
 fn names_something(regions: usize, items: usize, recs: usize, step: &Step) -> bool
     ensures { result ≡ names_something regions items recs step.now }
 {
@@ -159,8 +142,8 @@ fn all_marked(named: &[bool]) -> bool
     named.iter().all(|is_named| *is_named)
 }
 
-/// Whether each number below `count` of this part is named by exactly one step. The steps are gone
-/// through once.
+/// Whether each number below `count` of this part is named by exactly one step. The steps are
+/// read once.
 fn each_once(part: Part, steps: &[Step], count: usize) -> bool
     requires { count ≤ 1024 }
     ensures { result ≡ each_once part steps.now count }
@@ -182,7 +165,7 @@ fn all_name_something(regions: usize, items: usize, recs: usize, steps: &[Step])
         .all(|step| names_something(regions, items, recs, step))
 }
 
-/// Whether each step names what is there, and each region, item and REC is named by exactly one.
+/// Whether each step names what the launch has, and each region, item and REC is named by exactly one.
 pub fn steps_complete(regions: usize, items: usize, recs: usize, steps: &[Step]) -> bool
     requires { (regions ≤ 1024) × (items ≤ 1024) × (recs ≤ 1024) }
     ensures { result ≡ steps_complete regions items recs steps.now }
