@@ -42,7 +42,7 @@ kernel_at i count (Ok h) = Ok (record {
   len = max (size_of i count) (extent_of h count);
 })
 
--- where a launch wants an item with these bytes
+-- the extent that a launch asks for, of an item with these bytes
 unfoldable pub wanted_of : Item → List ℕ → Result WantedExtent LayoutFault
 wanted_of i bytes =
     if has_role role.Kernel i then kernel_at i (length bytes) (read_of bytes)

@@ -1,4 +1,4 @@
--- Whether an item may be where its launch wants it, and the first reason why not. That a devicetree is
+-- Whether an item may be where its launch asks for it, and the first reason why not. That a devicetree is
 -- at a multiple of 8 and has at most 2 MiB: Linux, booting.rst, "Setup the device tree"; that a kernel's base
 -- is a multiple of 2 MiB: "Call the kernel image". The rest is this project's choice.
 use Rattle.std.specs.Prelude.{ℕ, ◌+◌, ◌-◌, ◌%◌, ◌^◌, List, [], ◌∷◌, length, Bool, Result, Ok, Err, not, ◌&&◌, ◌||◌, ◌==◌, nat_lt, nat_le}

@@ -1,4 +1,4 @@
-//! The extent that an item wants, and the extent that it has.
+//! The extent that is asked for an item, and the extent that it has.
 ghost use Rattle.std.specs.Prelude.{◌≡◌, ◌^◌, ◌<◌, IfOk};
 ghost use Rattle.ipa_layout.specs.Extent.{lead_of, page_count_of, size_of, wanted_of};
 
@@ -32,7 +32,7 @@ impl Extent {
     }
 }
 
-/// Where a launch wants an item. A kernel's address may exceed 64 bits, so it is kept as `u128`.
+/// Where a launch asks for an item. A kernel's address may exceed 64 bits, so it is kept as `u128`.
 #[derive(Clone, Copy, Debug, PartialEq, Eq)]
 pub struct WantedExtent {
     pub address: u128,
@@ -67,7 +67,7 @@ fn size(item: &Item, count: u64) -> u64
     item.size.unwrap_or(count)
 }
 
-/// Where a launch wants an item with these bytes.
+/// The extent that a launch asks for, of an item with these bytes.
 #[tactic(auto, unfolding(crate::specs::Extent::wanted_of))]
 pub fn wanted_extent(item: &Item, bytes: &[u8]) -> Result<WantedExtent, LayoutFault>
     ensures exact { result ≡ wanted_of item.now bytes.now }

@@ -1,4 +1,4 @@
-//! Whether an item may be where its launch wants it.
+//! Whether an item may be where its launch asks for it.
 ghost use Rattle.std.specs.Prelude.{◌≡◌, ◌+◌, ◌^◌, ◌<◌, ◌≤◌, IfOk};
 ghost use Rattle.ipa_layout.specs.Extent.{page_count_of};
 ghost use Rattle.ipa_layout.specs.ItemCheck.{checked_item, checked_wanted, is_outside, is_too_small};
@@ -45,7 +45,7 @@ fn is_too_small(pages_before: u64, wanted: &WantedExtent, count: u64) -> bool
 }
 
 /// The extent of an item with these bytes, in a launch whose items before it have `pages_before` pages;
-/// or the first reason why it may not be where the launch wants it.
+/// or the first reason why it may not be where the launch asks for it.
 pub fn check_item(
     ram: &[Region],
     pages_before: u64,
@@ -59,7 +59,7 @@ pub fn check_item(
     check_wanted(ram, pages_before, item, bytes.len() as u64, wanted)
 }
 
-/// The same, from the extent that the launch wants.
+/// The same, from the extent that the launch asks for.
 #[tactic(auto, unfolding(crate::specs::ItemCheck::checked_wanted))]
 fn check_wanted(
     ram: &[Region],
