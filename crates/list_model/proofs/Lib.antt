@@ -1,0 +1,9 @@
+pub mod Leading
+pub mod Making
+pub mod Counting
+pub mod Setting
+pub mod Filling
+pub mod Delegating
+pub mod Opening
+pub mod Stepping
+pub mod Acts

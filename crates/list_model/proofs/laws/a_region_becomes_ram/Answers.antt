@@ -1,0 +1,5 @@
+use Rattle.list_model.proofs.Stepping.{region-leads}
+use Rattle.list_model.proofs.laws.a_region_becomes_ram.Goals as goal
+
+pub returns : goal.returns
+returns c = region-leads

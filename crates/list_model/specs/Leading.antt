@@ -1,0 +1,81 @@
+-- A monitor that has carried out a list of commands, and commands that lead it on. This project's choice.
+use Rattle.std.specs.Prelude.{◌≡◌, ℕ, ◌+◌, ◌%◌, ◌<◌, ◌≤◌, true, Bool, List, Some, None}
+use Rattle.rim_desc.specs.Part.{Part}
+use Rattle.rim_desc.specs.declared.command.Command.{Command}
+use Rattle.rim_desc.specs.declared.realm.RealmParams.{RealmParams}
+use Rattle.rim_desc.specs.Rec.{RecData, rec_mpidr_of}
+use Rattle.rmm_model.specs.Blocks.{granules}
+use Rattle.rmm_model.specs.Space.{SameSpace, Space, are_some, empty_space}
+use Rattle.rmm_model.specs.Start.{protected_end}
+use Rattle.rmm_model.specs.State.{State, is_new}
+use Rattle.rmm_model.specs.Owners.{kind_of}
+use Rattle.rmm_model.specs.Run.{accepted, run, shown}
+use Rattle.rtt_plan.specs.Planned.{Planned}
+use Rattle.rtt_plan.specs.Runs.{runs_of}
+use Rattle.list_model.specs.Entries.{Entry, granule, page_entries, run_entries}
+
+-- what does not change while a realm is built
+pub record Build : Type 0 where
+  pub params : RealmParams
+  -- the number of auxiliary granules of each REC
+  pub aux : ℕ
+  -- the first granule of the pool
+  pub pool : ℕ
+
+-- what was built so far
+pub record Built : Type 0 where
+  pub space : Space
+  -- how many granules of the pool were taken
+  pub taken : ℕ
+  -- how many RECs were made
+  pub recs : ℕ
+
+-- a monitor with a new realm of which just this was built: its space is the same, and the rest of the pool is free
+pub record IsBuilt (b : Build) (w : Built) (s : State) : Type 0 where
+  pub new : is_new s.phase ≡ true
+  pub params : s.params ≡ Some b.params
+  pub aux : s.aux ≡ b.aux
+  pub recs : s.recs ≡ w.recs
+  pub space : SameSpace s.space w.space
+  pub some : are_some s.space.ram ≡ true
+  pub some_built : are_some w.space.ram ≡ true
+  pub pool : b.pool % 4096 ≡ 0
+  pub free : (g : ℕ) → granule b.pool w.taken ≤ g → kind_of s.owners g ≡ None
+
+-- commands that are all taken, measure these parts, and lead to what is built then
+pub record Leads (b : Build) (w : Built) (s : State) (commands : List Command) (parts : List Part) : Type 0 where
+  pub accepted : accepted s commands ≡ true
+  pub shown : shown s commands ≡ parts
+  pub built : IsBuilt b w (run s commands)
+
+-- ---- what is built by the realm and by a REC
+
+-- just after the realm was created: its start tables and the realm descriptor are taken
+abbrev pub opened : RealmParams → Built
+opened params = record {
+  space = empty_space params.rtt_level_start (protected_end params.s2sz);
+  taken = params.rtt_num_start + 1;
+  recs = 0;
+}
+
+abbrev pub with_rec : Build → Built → Built
+with_rec b w = record w { taken = w.taken + (b.aux + 1); recs = w.recs + 1 }
+
+-- a REC that can be created next: it is runnable, has the next number, and names the granules after its own
+pub record IsNextRec (b : Build) (w : Built) (r : RecData) : Type 0 where
+  pub runnable : r.flags ≡ 1
+  pub number : r.mpidr ≡ rec_mpidr_of w.recs
+  pub few : w.recs < 512
+  pub aux : r.aux ≡ granules b.aux (granule b.pool (w.taken + 1))
+
+-- ---- what is built by a region and by an item
+
+-- what was planned is built, with the next granule of the pool and the number of RECs
+abbrev pub planned : Planned → ℕ → ℕ → Built
+planned p taken recs = record { space = p.space; taken = taken; recs = recs }
+
+abbrev pub region_entries : ℕ → ℕ → Planned → ℕ → ℕ → List Entry
+region_entries pool n p base end = run_entries pool n p.space.start p.space.tables (runs_of base end p.least_level)
+
+abbrev pub item_entries : ℕ → ℕ → Planned → Bool → ℕ → ℕ → ℕ → List Entry
+item_entries pool n p measured item base count = page_entries pool n p.space.start p.space.tables measured item 0 (granules count base)
