@@ -2,5 +2,6 @@ pub mod Texts
 pub mod Ranges
 pub mod Kinds
 pub mod Steps
+pub mod Realm
 pub mod LaunchData
 pub mod inside

@@ -6,11 +6,13 @@ mod config;
 mod item;
 mod launch;
 mod ranges;
+mod realm;
 mod rec;
 mod step;
 
 pub use config::Config;
 pub use item::{Bootargs, Edits, Item, Kind, Region, Role};
 pub use launch::Launch;
+pub use realm::realm_params;
 pub use rec::Rec;
 pub use step::{Step, default_steps};

@@ -4,13 +4,14 @@ ghost use Rattle.std.specs.List.{flat_map};
 ghost use Rattle.refusal.specs.Answer.{Answers};
 ghost use Rattle.rim_release.specs.Report.{algo_word, digest_bytes, digest_text, line_of, report_of};
 ghost use Rattle.rim_desc.specs.Part.{rim_of};
+ghost use Rattle.rim_launch.specs.declared.config.Config.{Config};
 ghost use Rattle.rim_release.specs.Measured.{measured_parts};
 
 use crate::fault::StartFault;
 use crate::measured::rim;
 use refusal::NoMemory;
 use rim_desc::{Algo, Measurement};
-use rim_launch::Config;
+use rim_launch::Launch;
 use rim_manifest::{NamedLaunch, Release};
 use std::alloc::Global;
 
@@ -51,10 +52,10 @@ fn push_lines(alloc: Global, text: &mut Vec<u8>, launches: &[NamedLaunch]) -> Re
 fn push_line(alloc: Global, text: &mut Vec<u8>, launch: &NamedLaunch) -> Result<(), NoMemory>
     ensures { OnOk result (text.new.items ≡ text.old.items ++ line_of launch.now) }
 {
-    let config = launch.launch().config();
+    let algo = launch.launch().config().algo;
     text.extend_from_slice(launch.name().as_bytes())?;
-    text.extend_from_slice(algo_word(config.algo))?;
-    push_digest(alloc, text, config)?;
+    text.extend_from_slice(algo_word(algo))?;
+    push_digest(alloc, text, launch.launch())?;
     text.extend_from_slice(b"\n")?;
     Ok(())
 }
@@ -69,11 +70,12 @@ fn algo_word(algo: Algo) -> &'static [u8]
     }
 }
 
-fn push_digest(alloc: Global, text: &mut Vec<u8>, config: Config) -> Result<(), NoMemory>
-    ensures { OnOk result (text.new.items ≡ text.old.items ++ digest_text config.algo (rim_of config.algo (measured_parts config))) }
+fn push_digest(alloc: Global, text: &mut Vec<u8>, launch: &Launch) -> Result<(), NoMemory>
+    ensures { let c : Config = launch.now.config in
+        OnOk result (text.new.items ≡ text.old.items ++ digest_text c.algo (rim_of c.algo (measured_parts c))) }
 {
-    let rim = rim(config);
-    let digest = hex::encode(alloc, digest(config.algo, &rim))?;
+    let rim = rim(launch);
+    let digest = hex::encode(alloc, digest(launch.config().algo, &rim))?;
     text.extend_from_slice(digest.as_bytes())?;
     Ok(())
 }
