@@ -1,0 +1,4 @@
+pub mod RecParams
+pub mod Measured
+pub mod Listed
+pub mod Following

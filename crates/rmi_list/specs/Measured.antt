@@ -1,0 +1,61 @@
+-- What is measured of a launch that has its place, part by part, in the order of its steps. DEN0137, "Realm Initial
+-- Measurement"; the order is this project's choice.
+use Rattle.std.specs.Prelude.{ℕ, ◌-◌, max, List, [], ◌∷◌, Option, Some, None}
+use Rattle.std.specs.List.{flat_map, slice_get}
+use Rattle.rim_desc.specs.Measurement.{measurement_of}
+use Rattle.rim_desc.specs.PageBytes.{page_bytes}
+use Rattle.rim_desc.specs.Part.{Part, Realm, Rec}
+use Rattle.rim_desc.specs.Realm.{realm_page_of}
+use Rattle.rim_desc.specs.Rec.{rec_page_of}
+use Rattle.rim_desc.specs.declared.measurement.Algo.{Algo}
+use Rattle.rmm_model.specs.Start.{start_level}
+use Rattle.list_model.specs.Entries.{Contents}
+use Rattle.list_model.specs.Parts.{block_parts, page_parts}
+use Rattle.rim_launch.specs.LaunchData.{LaunchData}
+use Rattle.rim_launch.specs.Realm.{realm_params}
+use Rattle.rim_launch.specs.declared.config.Config.{Config}
+use Rattle.rim_launch.specs.declared.step.Step.{Step}
+use Rattle.rim_launch.specs.declared.step.Step.TheVariants as step
+use Rattle.ipa_layout.specs.Layout.{PlacedData, contents_of}
+use Rattle.ipa_layout.specs.declared.placed.PlacedItem.{PlacedItem}
+use Rattle.ipa_layout.specs.declared.rec.PlacedRec.{PlacedRec}
+use Rattle.rmi_list.specs.RecParams.{rec_params}
+
+-- ---- the contents of a placed launch
+
+-- the measurement of page k of an item; nothing where there is no such item
+abbrev pub digest_of : Algo → List (List ℕ) → PlacedData → Option PlacedItem → ℕ → List ℕ
+digest_of algo files p None k = []
+digest_of algo files p (Some item) k = measurement_of algo (page_bytes item.lead (contents_of files p item.source) k)
+
+abbrev pub contents : LaunchData → List (List ℕ) → PlacedData → Contents
+contents l files p item k = record { bytes = digest_of l.config.algo files p (slice_get p.items item) k }
+
+-- ---- its parts
+
+-- the least level of a block of RAM, which is no larger than an entry of a start table
+abbrev pub least_level : Config → ℕ
+least_level c = max c.block_level (start_level c.s2sz)
+
+-- the address of the first page of an item
+abbrev pub page_base : PlacedItem → ℕ
+page_base item = item.address - item.lead
+
+-- the part of a REC; its auxiliary granules are not measured
+abbrev pub rec_part : Algo → ℕ → PlacedRec → Part
+rec_part algo number r = Rec (measurement_of algo (rec_page_of (rec_params number r [])))
+
+-- the parts of what a number names, if it names something
+abbrev pub of_named : {A : Type 0} → (A → List Part) → Option A → List Part
+of_named parts None = []
+of_named parts (Some x) = parts x
+
+-- the parts of a step: a region's blocks, an item's pages, or a REC
+abbrev pub step_parts : LaunchData → PlacedData → Contents → Step → List Part
+step_parts l p contents (step.Ram n) = of_named (λ r. block_parts r.base r.end (least_level l.config)) (slice_get l.ram n)
+step_parts l p contents (step.Item n) = of_named (λ i. page_parts i.measured contents n (page_base i) i.pages) (slice_get p.items n)
+step_parts l p contents (step.Rec n) = of_named (λ r. rec_part l.config.algo n r ∷ []) (slice_get p.recs n)
+
+-- the whole launch: its realm, and the parts of its steps
+abbrev pub measured : LaunchData → PlacedData → Contents → List Part
+measured l p contents = Realm (realm_page_of (realm_params l.config)) ∷ flat_map (step_parts l p contents) l.steps

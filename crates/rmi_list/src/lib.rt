@@ -1,0 +1,8 @@
+//! The commands that a host gives the monitor to build a launch's realm, in order.
+#![tactic(auto)]
+
+mod fault;
+mod laws;
+
+pub use fault::ListFault;
+pub use laws::{contents_of_a_launch, list_is_followed};
