@@ -1,5 +1,6 @@
 -- The entries of a step, read off the acts of a plan; and plans with the same tables list alike.
-use Rattle.std.proofs.Common.{◌≡◌, ℕ, ◌+◌, ◌∙◌, refl, ap, arith, Bool, List, [], ◌∷◌, ◌++◌, length, map}
+use Rattle.std.proofs.Common.{◌≡◌, ℕ, ◌+◌, ◌∙◌, refl, ap, arith, Bool, true, false, List, [], ◌∷◌, ◌++◌, length, map}
+use Rattle.std.specs.Prelude.{Some, None}
 use Rattle.rim_desc.specs.declared.command.Command.TheVariants.{Delegate, InitRipas, RttCreate}
 use Rattle.rmm_model.specs.Blocks.{granules}
 use Rattle.rmm_model.specs.Space.{SameTables}
@@ -10,41 +11,57 @@ use Rattle.rtt_plan.specs.declared.act.Act.{Act}
 use Rattle.rtt_plan.specs.declared.act.Act.TheVariants as act
 use Rattle.rtt_plan.specs.declared.run.Run.{Run}
 use Rattle.rtt_plan.proofs.Alike.{missing-alike}
-use Rattle.list_model.specs.Entries.{Entry, Whole, granule, page_entries, page_entry, run_entries, table_entries}
-use Rattle.list_model.specs.inside.Acts.{act_entries, pages_of_act}
+use Rattle.list_model.specs.Entries.{Entry, Whole, delegated, granule, page_entries, page_entry, run_entries, table_entries}
+use Rattle.list_model.specs.inside.Acts.{ItemOf, act_entries, entries_of_pages, pages_in}
 
 -- ---- the entries of acts
 
-tables-first : (pool : ℕ) (measured : Bool) (item k : ℕ) (ts : List Table) (n : ℕ) (acts : List Act)
-    → act_entries pool n measured item k (map table_act ts ++ acts) ≡ table_entries pool n ts ++ act_entries pool (n + length ts) measured item k acts
+tables-first : (pool : ℕ) (item : ItemOf) (k : ℕ) (ts : List Table) (n : ℕ) (acts : List Act)
+    → act_entries pool n item k (map table_act ts ++ acts) ≡ table_entries pool n ts ++ act_entries pool (n + length ts) item k acts
 unfolding act_entries table_entries
-tables-first pool measured item k [] n acts = let e : n + 0 ≡ n = omega arith in rw e refl
-tables-first pool measured item k (t ∷ ts) n acts =
+tables-first pool item k [] n acts = let e : n + 0 ≡ n = omega arith in rw e refl
+tables-first pool item k (t ∷ ts) n acts =
     let e : n + length (t ∷ ts) ≡ n + 1 + length ts = omega arith in
     let f : k + 0 ≡ k = omega arith in
-    rw (e, f) (ap (λ (es : List Entry). Whole (Delegate (granule pool n)) ∷ Whole (RttCreate (granule pool n) t.base t.level) ∷ es) (tables-first pool measured item k ts (n + 1) acts))
+    rw (e, no-pages item t, f)
+    (ap (λ (es : List Entry). Whole (Delegate (granule pool n)) ∷ Whole (RttCreate (granule pool n) t.base t.level) ∷ es) (tables-first pool item k ts (n + 1) acts))
+  where
+    no-pages : (item : ItemOf) (t : Table) → pages_in item (table_act t) ≡ 0
+    no-pages None t = refl
+    no-pages (Some i) t = refl
 
-pub acts-of-runs : (pool start : ℕ) (measured : Bool) (item k : ℕ) (rs : List Run) (n : ℕ) (ts : List Table)
-    → act_entries pool n measured item k (run_acts start ts rs) ≡ run_entries pool n start ts rs
+no-pages-in-run : (item : ItemOf) (r : Run) → pages_in item (act.Run r.base r.top r.level) ≡ 0
+no-pages-in-run None r = refl
+no-pages-in-run (Some i) r = refl
+
+pub acts-of-runs : (pool start : ℕ) (item : ItemOf) (k : ℕ) (rs : List Run) (n : ℕ) (ts : List Table)
+    → act_entries pool n item k (run_acts start ts rs) ≡ run_entries pool n start ts rs
 unfolding act_entries run_acts run_entries
-acts-of-runs pool start measured item k [] n ts = refl
-acts-of-runs pool start measured item k (r ∷ rs) n ts =
+acts-of-runs pool start item k [] n ts = refl
+acts-of-runs pool start item k (r ∷ rs) n ts =
     let new : List Table = missing start ts r.level r.base in
     let e : n + length new + 0 ≡ n + length new = omega arith in
     let f : k + 0 ≡ k = omega arith in
-    tables-first pool measured item k new n (act.Run r.base r.top r.level ∷ run_acts start (ts ++ new) rs)
-    ∙ rw (e, f) (ap (λ (es : List Entry). table_entries pool n new ++ (Whole (InitRipas r.base r.top) ∷ es)) (acts-of-runs pool start measured item k rs (n + length new) (ts ++ new)))
+    tables-first pool item k new n (act.Run r.base r.top r.level ∷ run_acts start (ts ++ new) rs)
+    ∙ rw (no-pages-in-run item r, e, f)
+      (ap (λ (es : List Entry). table_entries pool n new ++ (Whole (InitRipas r.base r.top) ∷ es)) (acts-of-runs pool start item k rs (n + length new) (ts ++ new)))
+
+one-page : (measured : Bool) (pool n x item k : ℕ)
+    → delegated (Whole (Delegate (granule pool n)) ∷ page_entry measured (granule pool n) x item k ∷ []) ≡ 1
+one-page true pool n x item k = refl
+one-page false pool n x item k = refl
 
 pub acts-of-pages : (pool start : ℕ) (measured : Bool) (item : ℕ) (xs : List ℕ) (k n : ℕ) (ts : List Table)
-    → act_entries pool n measured item k (page_acts start ts xs) ≡ page_entries pool n start ts measured item k xs
-unfolding act_entries page_acts page_entries pages_of_act granules
+    → act_entries pool n (Some (measured, item)) k (page_acts start ts xs) ≡ page_entries pool n start ts measured item k xs
+unfolding act_entries page_acts page_entries entries_of_pages granules
 acts-of-pages pool start measured item [] k n ts = refl
 acts-of-pages pool start measured item (x ∷ xs) k n ts =
     let new : List Table = missing start ts 3 x in
-    tables-first pool measured item k new n (act.Pages x 1 ∷ page_acts start (ts ++ new) xs)
-    ∙ ap (λ (es : List Entry). table_entries pool n new
-    ++ (Whole (Delegate (granule pool (n + length new))) ∷ page_entry measured (granule pool (n + length new)) x item k ∷ es))
-    (acts-of-pages pool start measured item xs (k + 1) (n + length new + 1) (ts ++ new))
+    tables-first pool (Some (measured, item)) k new n (act.Pages x 1 ∷ page_acts start (ts ++ new) xs)
+    ∙ rw (one-page measured pool (n + length new) x item k)
+      (ap (λ (es : List Entry). table_entries pool n new
+          ++ (Whole (Delegate (granule pool (n + length new))) ∷ page_entry measured (granule pool (n + length new)) x item k ∷ es))
+      (acts-of-pages pool start measured item xs (k + 1) (n + length new + 1) (ts ++ new)))
 
 -- ---- plans with the same tables
 

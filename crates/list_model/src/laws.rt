@@ -1,6 +1,6 @@
 //! Laws of the commands of one step, proved of the definitions: a monitor takes each command, measures just the parts
 //! of the step, and goes on with what is built then.
-ghost use Rattle.std.specs.Prelude.{◌≡◌, ◌+◌, ◌<◌, ◌%◌, ℕ, Bool, List, [], ◌∷◌, false};
+ghost use Rattle.std.specs.Prelude.{◌≡◌, ◌+◌, ◌<◌, ◌%◌, ℕ, Bool, List, [], ◌∷◌, false, Some};
 ghost use Rattle.rim_desc.specs.Measurement.{measurement_of};
 ghost use Rattle.rim_desc.specs.Part.{Realm, Rec};
 ghost use Rattle.rim_desc.specs.Realm.{realm_page_of};
@@ -17,7 +17,7 @@ ghost use Rattle.rtt_plan.specs.declared.run.Run.{Run};
 ghost use Rattle.list_model.specs.Entries.{Contents, commands_of, delegated, page_entries, realm_entries, rec_entries, run_entries};
 ghost use Rattle.list_model.specs.Leading.{Build, Built, IsBuilt, IsNextRec, Leads, item_entries, opened, planned, region_entries, with_rec};
 ghost use Rattle.list_model.specs.Parts.{AreContents, block_parts, page_parts};
-ghost use Rattle.list_model.specs.inside.Acts.{act_entries};
+ghost use Rattle.list_model.specs.inside.Acts.{ItemOf, act_entries};
 
 /// The realm: a monitor that has done nothing takes the delegations of its start tables and of the realm descriptor, and
 /// the realm. It measures the realm's page.
@@ -50,10 +50,10 @@ pub fn a_rec_is_created()
 
 /// The entries of the acts of runs, or of pages, are those of the runs, or of the pages.
 pub fn acts_are_listed()
-    ensures runs { (pool start : ℕ) (measured : Bool) (item k : ℕ) (rs : List Run) (n : ℕ) (ts : List Table)
-        → act_entries pool n measured item k (run_acts start ts rs) ≡ run_entries pool n start ts rs }
+    ensures runs { (pool start : ℕ) (item : ItemOf) (k : ℕ) (rs : List Run) (n : ℕ) (ts : List Table)
+        → act_entries pool n item k (run_acts start ts rs) ≡ run_entries pool n start ts rs }
     ensures pages { (pool start : ℕ) (measured : Bool) (item : ℕ) (xs : List ℕ) (k n : ℕ) (ts : List Table)
-        → act_entries pool n measured item k (page_acts start ts xs) ≡ page_entries pool n start ts measured item k xs }
+        → act_entries pool n (Some (measured, item)) k (page_acts start ts xs) ≡ page_entries pool n start ts measured item k xs }
 {}
 
 /// Plans with the same tables have the same entries.
