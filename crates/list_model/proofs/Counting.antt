@@ -1,9 +1,9 @@
 -- How many granules some entries take.
-use Rattle.std.proofs.Common.{inl, inr, ◌≡◌, ℕ, zero, suc, ◌+◌, refl, arith, List, [], ◌∷◌, ◌++◌, length}
+use Rattle.std.proofs.Common.{inl, inr, ◌≡◌, ℕ, zero, suc, ◌+◌, refl, arith, Bool, true, false, List, [], ◌∷◌, ◌++◌, length}
 use Rattle.std.proofs.lemmas.Bool.{cases_Bool}
 use Rattle.rmm_model.specs.Blocks.{granules}
 use Rattle.rmm_model.specs.declared.table.Table.{Table}
-use Rattle.list_model.specs.Entries.{Entry, delegate_all, delegated, delegates, table_entries}
+use Rattle.list_model.specs.Entries.{Entry, delegate_all, delegated, delegates, page_entry, table_entries}
 
 pub count-append : (es fs : List Entry) → delegated (es ++ fs) ≡ delegated es + delegated fs
 count-append [] fs = omega arith
@@ -23,3 +23,7 @@ pub count-all : (n x : ℕ) → delegated (delegate_all (granules n x)) ≡ n
 unfolding granules
 count-all zero x = refl
 count-all (suc n) x = let h : delegated (delegate_all (granules n (x + 4096))) ≡ n = count-all n (x + 4096) in omega arith
+
+pub count-page : (measured : Bool) (g x item k : ℕ) (rest : List Entry) → delegated (page_entry measured g x item k ∷ rest) ≡ delegated rest
+count-page true g x item k rest = refl
+count-page false g x item k rest = refl

@@ -26,7 +26,7 @@ use Rattle.rtt_plan.specs.Missing.{missing, page_tables}
 use Rattle.list_model.specs.Entries.{Contents, Entry, Whole, command_of, commands_of, delegated, granule, page_entries, page_entry, table_entries}
 use Rattle.list_model.specs.Leading.{Build, Built, IsBuilt, Leads}
 use Rattle.list_model.specs.Parts.{AreContents, content_of, page_part}
-use Rattle.list_model.proofs.Counting.{count-append, count-tables}
+use Rattle.list_model.proofs.Counting.{count-append, count-page, count-tables}
 use Rattle.list_model.proofs.Leading.{leads-cons, leads-none, leads-then}
 use Rattle.list_model.proofs.Making.{are-inside, tables-lead, with_tables}
 
@@ -114,10 +114,6 @@ with_pages pool w measured item k xs = record w {
   space = record w.space { tables = page_tables w.space.start w.space.tables xs; assigned = piled_pages xs w.space.assigned };
   taken = w.taken + delegated (page_entries pool w.taken w.space.start w.space.tables measured item k xs);
 }
-
-count-page : (measured : Bool) (g x item k : ℕ) (rest : List Entry) → delegated (page_entry measured g x item k ∷ rest) ≡ delegated rest
-count-page true g x item k rest = refl
-count-page false g x item k rest = refl
 
 pub pages-lead : (contents : Contents) (measured : Bool) (item : ℕ) (b : Build) (count k x : ℕ) (w : Built) (s : State) → IsBuilt b w s
     → AreContents b.params.algo contents → AreFilledInTurn w.space.start w.space.tables w.space.ram w.space.assigned (granules count x)

@@ -1,3 +1,4 @@
 pub mod Contents
 pub mod Params
 pub mod Follows
+pub mod Growing

@@ -2,3 +2,4 @@ pub mod RecParams
 pub mod Measured
 pub mod Listed
 pub mod Following
+pub mod inside

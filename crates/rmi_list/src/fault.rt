@@ -4,6 +4,7 @@ ghost use Rattle.rmi_list.specs.declared.fault.ListFault.TheVariants as fault;
 
 use refusal::NoMemory;
 use rtt_plan::PlanFault;
+use std::alloc::{AllocError, AllocFailed};
 
 /// Why a launch has no list of commands. The first that holds, in the order of the list, is answered.
 #[derive(Clone, Copy, Debug, PartialEq, Eq)]
@@ -26,6 +27,22 @@ impl From<NoMemory> for ListFault {
     ghost from_gives = { λ _ e. e ≡ fault.NoMemory };
 
     fn from(_error: NoMemory) -> ListFault {
+        ListFault::NoMemory
+    }
+}
+
+impl From<AllocError> for ListFault {
+    ghost from_gives = { λ _ e. e ≡ fault.NoMemory };
+
+    fn from(_error: AllocError) -> ListFault {
+        ListFault::NoMemory
+    }
+}
+
+impl<T: Drop> From<AllocFailed<T>> for ListFault {
+    ghost from_gives = { λ _ e. e ≡ fault.NoMemory };
+
+    fn from(_error: AllocFailed<T>) -> ListFault {
         ListFault::NoMemory
     }
 }

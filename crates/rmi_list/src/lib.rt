@@ -1,7 +1,9 @@
 //! The commands that a host gives the monitor to build a launch's realm, in order.
 #![tactic(auto)]
 
+mod draft;
 mod fault;
+mod kept;
 mod laws;
 
 pub use fault::ListFault;

@@ -1,0 +1,65 @@
+-- How a list grows, command by command and step by step. This project's choice.
+use Rattle.std.specs.Prelude.{◌≡◌, ◌⊎◌, ℕ, ◌+◌, ◌<◌, List, ◌++◌, Result, Ok, Err}
+use Rattle.rtt_plan.specs.Planned.{AgreesWith}
+use Rattle.list_model.specs.Entries.{Entry, delegated}
+use Rattle.rim_launch.specs.Realm.{realm_params}
+use Rattle.rmi_list.specs.Listed.{Listing, Progress}
+use Rattle.rmi_list.specs.declared.draft.Draft.{Draft}
+use Rattle.rmi_list.specs.declared.fault.ListFault.{ListFault}
+use Rattle.rmi_list.specs.declared.fault.ListFault.TheVariants as fault
+use Rattle.rmi_list.specs.declared.kept.Kept.{Kept}
+use Rattle.rmi_list.specs.inside.Kept.{entries_of, entry_of}
+
+-- the entries of the commands that were listed
+abbrev pub entries_in : Draft → List Entry
+entries_in d = entries_of (realm_params d.launch.now.config) d.launch.now.config.num_aux d.placed.now.recs d.kept.items
+
+abbrev pub entry_in : Draft → Kept → Entry
+entry_in d k = entry_of (realm_params d.launch.now.config) d.launch.now.config.num_aux d.placed.now.recs k
+
+-- how far it is
+abbrev pub progress_of : Draft → Progress
+progress_of d = record { plan = d.tables; taken = d.taken; recs = d.recs }
+
+-- some entries were added, with the granules that they take, and nothing else has changed
+pub record Grows (old new : Draft) (es : List Entry) : Type 0 where
+  pub launch : new.launch ≡ old.launch
+  pub placed : new.placed ≡ old.placed
+  pub tables : new.tables ≡ old.tables
+  pub recs : new.recs ≡ old.recs
+  pub entries : entries_in new ≡ entries_in old ++ es
+  pub taken : new.taken ≡ old.taken + delegated es
+
+-- some entries were added, or memory was refused, or the pool has too few granules for them
+abbrev pub Lists : {U : Type 0} → Draft → Draft → Result U ListFault → List Entry → Type 0
+Lists old new (Ok done) entries = Grows old new entries
+Lists old new (Err e) entries = (e ≡ fault.NoMemory) ⊎ ((e ≡ fault.PoolEnd) × (old.launch.now.config.pool_count < old.taken + delegated entries))
+
+-- in a loop that adds some entries: these are left to be added, and nothing but entries and granules has changed
+pub record Going (old now : Draft) (all rest : List Entry) : Type 0 where
+  pub launch : now.launch ≡ old.launch
+  pub placed : now.placed ≡ old.placed
+  pub tables : now.tables ≡ old.tables
+  pub recs : now.recs ≡ old.recs
+  pub entries : entries_in now ++ rest ≡ entries_in old ++ all
+  pub taken : now.taken + delegated rest ≡ old.taken + delegated all
+
+-- ---- steps
+
+-- what is listed goes on alike
+pub record SameProgress (v w : Progress) : Type 0 where
+  pub plan : AgreesWith v.plan w.plan
+  pub taken : v.taken ≡ w.taken
+  pub recs : v.recs ≡ w.recs
+
+-- the entries of a listing were added, and its progress was made
+pub record Makes (old new : Draft) (done : Listing) : Type 0 where
+  pub launch : new.launch ≡ old.launch
+  pub placed : new.placed ≡ old.placed
+  pub entries : entries_in new ≡ entries_in old ++ done.entries
+  pub progress : SameProgress (progress_of new) done.next
+
+-- the listing that a definition answers was made; or memory was refused, or the definition's refusal was answered
+abbrev pub Continues : {U : Type 0} → Draft → Draft → Result U ListFault → Result Listing ListFault → Type 0
+Continues old new (Ok u) wanted = (done : Listing) × (wanted ≡ Ok done) × Makes old new done
+Continues old new (Err e) wanted = (e ≡ fault.NoMemory) ⊎ (wanted ≡ Err e)

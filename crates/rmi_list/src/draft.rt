@@ -1,0 +1,162 @@
+//! A list that is being made.
+ghost use Rattle.std.specs.Prelude.{◌≡◌, ◌+◌, ◌*◌, ◌<◌, ◌≤◌, ◌^◌, [], ◌∷◌, ◌++◌, Bool, false, IfOk, OnOk, Some, None, if◌then◌else◌};
+ghost use Rattle.rim_desc.specs.declared.command.Command.TheVariants.{Delegate, RttCreate, InitRipas};
+ghost use Rattle.rmm_model.specs.Blocks.{granules};
+ghost use Rattle.list_model.specs.Entries.{Whole, delegate_all, delegated, delegates, granule, page_entry};
+ghost use Rattle.list_model.specs.inside.Acts.{act_entries, entries_of_act, entries_of_pages, pages_in};
+ghost use Rattle.rmi_list.specs.inside.Acts.{HasRoom, HaveRoom, item_of};
+ghost use Rattle.rmi_list.specs.inside.Drafts.{Grows, Lists, entries_in, entry_in};
+
+use crate::fault::ListFault;
+use crate::kept::Kept;
+use ipa_layout::Placed;
+use rim_launch::Launch;
+use rtt_plan::{Act, Tables};
+
+/// The commands of a launch that were listed so far, and what they made.
+#[derive(Drop)]
+pub struct Draft<'a> {
+    pub launch: &'a Launch,
+    pub placed: &'a Placed,
+    /// The tables, the RAM and the pages of data.
+    pub tables: Tables,
+    pub kept: Vec<Kept>,
+    /// How many granules of the pool were taken.
+    pub taken: u64,
+    /// How many RECs were listed.
+    pub recs: usize,
+}
+
+/// The item whose pages are listed: its number, and whether it is measured.
+#[derive(Clone, Copy)]
+pub struct ItemPages {
+    pub number: u8,
+    pub measured: bool,
+}
+
+impl<'a> Draft<'a> {
+    /// Lists a command that takes no granule of the pool by itself.
+    pub fn push(&mut self, kept: Kept) -> Result<(), ListFault>
+        requires { delegates (entry_in self.old kept) ≡ false }
+        ensures { Lists self.old self.new result (entry_in self.old kept ∷ []) }
+    {
+        self.kept.push(kept)?;
+        Ok(())
+    }
+
+    /// Takes the next granule of the pool, and lists that it is delegated; its address.
+    pub fn delegate(&mut self) -> Result<u64, ListFault>
+        ensures lists { let g = granule self.old.launch.now.config.pool_base self.old.taken in
+            Lists self.old self.new result (Whole (Delegate g) ∷ []) }
+        ensures value { IfOk result (λ g. g ≡ granule self.old.launch.now.config.pool_base self.old.taken) }
+    {
+        let config = self.launch.config();
+        if self.taken >= config.pool_count {
+            return Err(ListFault::PoolEnd);
+        }
+        let granule = config.pool_base + 4096 * self.taken;
+        self.kept.push(Kept::Delegate { granule })?;
+        self.taken += 1;
+        Ok(granule)
+    }
+
+    /// Delegates this many granules, one after another.
+    pub fn delegate_all(&mut self, count: u64) -> Result<(), ListFault>
+        ensures { let first = granule self.old.launch.now.config.pool_base self.old.taken in
+            Lists self.old self.new result (delegate_all (granules count first)) }
+    {
+        for _ in 0..count {
+            self.delegate()?;
+        }
+        Ok(())
+    }
+
+    /// Lists a table of a level, in the next granule.
+    fn table(&mut self, base: u64, level: u8) -> Result<(), ListFault>
+        ensures { let g = granule self.old.launch.now.config.pool_base self.old.taken in
+            Lists self.old self.new result (Whole (Delegate g) ∷ Whole (RttCreate g base level) ∷ []) }
+    {
+        let rtt = self.delegate()?;
+        self.push(Kept::RttCreate {
+            rtt,
+            ipa: base,
+            level,
+        })
+    }
+
+    /// Lists page `page` of an item, in the next granule.
+    fn page(&mut self, ipa: u64, item: ItemPages, page: u64) -> Result<(), ListFault>
+        requires { page < 2 ^ 32 }
+        ensures { let g = granule self.old.launch.now.config.pool_base self.old.taken in
+            Lists self.old self.new result (Whole (Delegate g) ∷ page_entry item.measured g ipa item.number page ∷ []) }
+    {
+        let granule = self.delegate()?;
+        self.push(if item.measured {
+            Kept::Page {
+                granule,
+                ipa,
+                item: item.number,
+                page: page as u32,
+            }
+        } else {
+            Kept::Unmeasured { granule, ipa }
+        })
+    }
+
+    /// Lists `count` pages of an item, from its page `first` and the IPA `base` on.
+    fn pages(
+        &mut self,
+        base: u64,
+        count: u64,
+        item: ItemPages,
+        first: u64,
+    ) -> Result<(), ListFault>
+        requires few { first + count ≤ 2 ^ 32 }
+        requires low { base + 4096 * count ≤ 2 ^ 47 }
+        ensures { let pool = self.old.launch.now.config.pool_base in
+            Lists self.old self.new result (entries_of_pages pool self.old.taken item.measured item.number first (granules count base)) }
+    {
+        for index in 0..count {
+            self.page(base + 4096 * index, item, first + index)?;
+        }
+        Ok(())
+    }
+
+    /// Lists an act of the plan; where it creates pages, those of the item from page `page` on. It answers the
+    /// number of the item's next page.
+    fn act(&mut self, act: &Act, item: Option<ItemPages>, page: u64) -> Result<u64, ListFault>
+        requires { HasRoom (item_of item) page act.now }
+        ensures lists { let pool = self.old.launch.now.config.pool_base in
+            Lists self.old self.new result (entries_of_act pool self.old.taken (item_of item) page act.now) }
+        ensures next { IfOk result (λ next. next ≡ page + pages_in (item_of item) act.now) }
+    {
+        match (*act, item) {
+            (Act::Table { base, level }, _) => {
+                self.table(base, level)?;
+                Ok(page)
+            }
+            (Act::Run { base, top, .. }, _) => {
+                self.push(Kept::InitRipas { base, top })?;
+                Ok(page)
+            }
+            (Act::Pages { base, count }, Some(item)) => {
+                self.pages(base, count, item, page)?;
+                Ok(page + count)
+            }
+            (Act::Pages { .. }, None) => Ok(page),
+        }
+    }
+
+    /// Lists the acts of a plan, one after another; where they create pages, those of the item from its first on.
+    pub fn acts(&mut self, acts: &[Act], item: Option<ItemPages>) -> Result<(), ListFault>
+        requires { HaveRoom (item_of item) 0 acts.now }
+        ensures { let pool = self.old.launch.now.config.pool_base in
+            Lists self.old self.new result (act_entries pool self.old.taken (item_of item) 0 acts.now) }
+    {
+        let mut page = 0;
+        for act in acts {
+            page = self.act(act, item, page)?;
+        }
+        Ok(())
+    }
+}
