@@ -21,7 +21,7 @@ pool_of d = d.launch.now.config.pool_base
 -- ---- loops
 
 pub going-starts : (d : Draft) (all : List Entry) → Going d d all all
-going-starts d all = record { launch = refl; placed = refl; tables = refl; recs = refl; entries = refl; taken = refl }
+going-starts d all = record { launch = refl; placed = refl; tables = refl; recs = refl; entries = refl; taken = refl; pool = λ within. within }
 
 pub going-ends : (old now : Draft) (all rest : List Entry) → Going old now all rest → rest ≡ [] → Grows old now all
 going-ends old now all rest going none =
@@ -34,6 +34,7 @@ going-ends old now all rest going none =
       recs = over.recs;
       entries = sym (append-nil (entries_in now)) ∙ over.entries;
       taken = omega arith;
+      pool = over.pool;
     }
 
 -- one round: it adds some entries of the pool that the list has, and those after them begin at the next granule
@@ -55,6 +56,7 @@ going-on old now next all rest here later going split grows =
       recs = grown.recs ∙ going.recs;
       entries = ap (λ xs. xs ++ later next.taken) grown.entries ∙ append_assoc (entries_in now) es (later next.taken) ∙ ap (λ xs. entries_in now ++ xs) (sym parts) ∙ going.entries;
       taken = omega arith;
+      pool = λ within. grown.pool (going.pool within);
     }
 
 -- what is refused for some entries

@@ -1,4 +1,6 @@
 pub mod Contents
 pub mod Params
+pub mod Checking
 pub mod Follows
 pub mod Growing
+pub mod Stepping

@@ -8,6 +8,7 @@ use Rattle.rim_desc.specs.declared.command.Command.TheVariants.{Activate}
 use Rattle.rmm_model.specs.Blocks.{granules}
 use Rattle.rtt_plan.specs.Planned.{Planned, after_data, after_region, data_checks, nothing_planned, region_checks}
 use Rattle.rtt_plan.specs.declared.fault.PlanFault.{PlanFault}
+use Rattle.rtt_plan.specs.declared.fault.PlanFault.TheVariants as plan
 use Rattle.list_model.specs.Entries.{Entry, Whole, delegated, granule, realm_entries, rec_entries}
 use Rattle.list_model.specs.Leading.{item_entries, region_entries}
 use Rattle.rim_launch.specs.LaunchData.{LaunchData}
@@ -22,7 +23,7 @@ use Rattle.ipa_layout.specs.declared.rec.PlacedRec.{PlacedRec}
 use Rattle.rmi_list.specs.RecParams.{rec_params}
 use Rattle.rmi_list.specs.Measured.{page_base}
 use Rattle.rmi_list.specs.declared.fault.ListFault.{ListFault}
-use Rattle.rmi_list.specs.declared.fault.ListFault.TheVariants.{Plan, PoolEnd, TooManyRecs, RecOrder, RecNotRunnable}
+use Rattle.rmi_list.specs.declared.fault.ListFault.TheVariants.{Plan, PoolEnd, TooManyRecs, RecOrder, RecNotRunnable, NoMemory}
 
 -- what was listed so far
 pub record Progress : Type 0 where
@@ -41,6 +42,11 @@ pub record Listing : Type 0 where
 -- what is left of the pool has fewer granules than the entries take
 abbrev pub pool_check : Config → ℕ → List Entry → Check ListFault
 pool_check c taken entries = (PoolEnd, nat_lt c.pool_count (taken + delegated entries))
+
+-- a fault of the planner, as a list answers it: want of memory is the list's own
+abbrev pub list_fault : PlanFault → ListFault
+list_fault plan.NoMemory = NoMemory
+list_fault e = Plan e
 
 -- the checks of a plan, each refusing by its own fault
 abbrev pub plan_checks : List (Check PlanFault) → List (Check ListFault)

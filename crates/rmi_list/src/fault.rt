@@ -1,5 +1,6 @@
 //! Why a launch has no list of commands.
 ghost use Rattle.std.specs.Prelude.{◌≡◌};
+ghost use Rattle.rmi_list.specs.Listed.{list_fault};
 ghost use Rattle.rmi_list.specs.declared.fault.ListFault.TheVariants as fault;
 
 use refusal::NoMemory;
@@ -21,6 +22,17 @@ pub enum ListFault {
     RecNotRunnable,
     /// The allocator refused a growth.
     NoMemory,
+}
+
+impl From<PlanFault> for ListFault {
+    ghost from_gives = { λ e f. f ≡ list_fault e };
+
+    fn from(fault: PlanFault) -> ListFault {
+        match fault {
+            PlanFault::NoMemory => ListFault::NoMemory,
+            _ => ListFault::Plan(fault),
+        }
+    }
 }
 
 impl From<NoMemory> for ListFault {

@@ -5,6 +5,7 @@ mod draft;
 mod fault;
 mod kept;
 mod laws;
+mod step;
 
 pub use fault::ListFault;
 pub use laws::{contents_of_a_launch, list_is_followed};

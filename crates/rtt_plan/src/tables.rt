@@ -123,6 +123,7 @@ impl Tables {
         ensures acts { Answers PlanFault.NoMemory (λ acts. acts.items) result (plan_data self.old base count) }
         ensures memory { result ≡ Err PlanFault.NoMemory → IsOk (plan_data self.old base count) }
         ensures after { OnOk result (AgreesWith self.new (after_data self.old base count)) }
+        ensures low { OnOk result (base + 4096 * count ≤ 2 ^ 47) }
         ensures kept { OnErr result (self.new ≡ self.old) }
     {
         if ends_past(self.half, base, count) {

@@ -1,5 +1,5 @@
 -- How a list grows, command by command and step by step. This project's choice.
-use Rattle.std.specs.Prelude.{◌≡◌, ◌⊎◌, ℕ, ◌+◌, ◌<◌, List, ◌++◌, Result, Ok, Err}
+use Rattle.std.specs.Prelude.{◌≡◌, ◌⊎◌, ℕ, ◌+◌, ◌<◌, ◌≤◌, List, ◌++◌, Result, Ok, Err}
 use Rattle.rtt_plan.specs.Planned.{AgreesWith}
 use Rattle.list_model.specs.Entries.{Entry, delegated}
 use Rattle.rim_launch.specs.Realm.{realm_params}
@@ -21,6 +21,10 @@ entry_in d k = entry_of (realm_params d.launch.now.config) d.launch.now.config.n
 abbrev pub progress_of : Draft → Progress
 progress_of d = record { plan = d.tables; taken = d.taken; recs = d.recs }
 
+-- no more granules were taken than the pool has
+abbrev pub InPool : Draft → Type 0
+InPool d = d.taken ≤ d.launch.now.config.pool_count
+
 -- some entries were added, with the granules that they take, and nothing else has changed
 pub record Grows (old new : Draft) (es : List Entry) : Type 0 where
   pub launch : new.launch ≡ old.launch
@@ -29,6 +33,7 @@ pub record Grows (old new : Draft) (es : List Entry) : Type 0 where
   pub recs : new.recs ≡ old.recs
   pub entries : entries_in new ≡ entries_in old ++ es
   pub taken : new.taken ≡ old.taken + delegated es
+  pub pool : InPool old → InPool new
 
 -- some entries were added, or memory was refused, or the pool has too few granules for them
 abbrev pub Lists : {U : Type 0} → Draft → Draft → Result U ListFault → List Entry → Type 0
@@ -43,6 +48,7 @@ pub record Going (old now : Draft) (all rest : List Entry) : Type 0 where
   pub recs : now.recs ≡ old.recs
   pub entries : entries_in now ++ rest ≡ entries_in old ++ all
   pub taken : now.taken + delegated rest ≡ old.taken + delegated all
+  pub pool : InPool old → InPool now
 
 -- ---- steps
 
@@ -58,6 +64,7 @@ pub record Makes (old new : Draft) (done : Listing) : Type 0 where
   pub placed : new.placed ≡ old.placed
   pub entries : entries_in new ≡ entries_in old ++ done.entries
   pub progress : SameProgress (progress_of new) done.next
+  pub pool : InPool new
 
 -- the listing that a definition answers was made; or memory was refused, or the definition's refusal was answered
 abbrev pub Continues : {U : Type 0} → Draft → Draft → Result U ListFault → Result Listing ListFault → Type 0

@@ -1,0 +1,65 @@
+//! The steps of a launch, each as it is listed.
+ghost use Rattle.std.specs.Prelude.{◌≡◌, ◌<◌, ◌≤◌, Some, slice_get};
+ghost use Rattle.rmi_list.specs.Listed.{list_item, list_rec, list_region, list_step};
+ghost use Rattle.rmi_list.specs.inside.Drafts.{Continues, InPool, progress_of};
+
+use crate::draft::{Draft, ItemPages};
+use crate::fault::ListFault;
+use crate::kept::Kept;
+use ipa_layout::{PlacedItem, PlacedRec};
+use rim_launch::Region;
+
+impl<'a> Draft<'a> {
+    /// Lists that a region becomes RAM.
+    fn region(&mut self, region: &Region) -> Result<(), ListFault>
+        requires { InPool self.old }
+        ensures { Continues self.old self.new result (list_region self.old.launch.now.config (progress_of self.old) region.now) }
+    {
+        let acts = self.tables.ripas_runs(region.base, region.end)?;
+        self.acts(&acts, None)
+    }
+
+    /// Lists the pages of an item.
+    fn item(&mut self, item: &PlacedItem, number: usize) -> Result<(), ListFault>
+        requires pool { InPool self.old }
+        requires number { number < 64 }
+        requires few { item.now.pages ≤ 1048576 }
+        requires lead { item.now.lead ≤ item.now.address }
+        ensures { Continues self.old self.new result (list_item self.old.launch.now.config (progress_of self.old) number item.now) }
+    {
+        if item.pages == 0 {
+            return Ok(());
+        }
+        let acts = self
+            .tables
+            .data_pages(item.address - item.lead, item.pages)?;
+        let pages = ItemPages {
+            number: number as u8,
+            measured: item.measured,
+        };
+        self.acts(&acts, Some(pages))
+    }
+
+    /// Lists a REC.
+    fn rec(&mut self, rec: &PlacedRec, number: usize) -> Result<(), ListFault>
+        requires pool { InPool self.old }
+        requires number { number < 512 }
+        requires own { slice_get self.old.placed.now.recs number ≡ Some rec.now }
+        ensures { Continues self.old self.new result (list_rec self.old.launch.now.config (progress_of self.old) number rec.now) }
+    {
+        if number != self.recs {
+            return Err(ListFault::RecOrder);
+        }
+        if !rec.runnable {
+            return Err(ListFault::RecNotRunnable);
+        }
+        let granule = self.delegate()?;
+        self.delegate_all(self.launch.config().num_aux as u64)?;
+        self.push(Kept::RecCreate {
+            rec: granule,
+            number: number as u16,
+        })?;
+        self.recs += 1;
+        Ok(())
+    }
+}
