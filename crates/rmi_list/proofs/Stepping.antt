@@ -1,8 +1,10 @@
 -- A step of the code makes the listing of the step's definition.
-use Rattle.std.proofs.Common.{inl, inr, ◌≡◌, ℕ, zero, suc, ◌+◌, ◌-◌, ◌*◌, ◌<◌, ◌≤◌, ◌^◌, ◌∙◌, sym, refl, ap, subst, arith, Bool, true, false, not, ltb, eqb, List, [], ◌∷◌, ◌++◌, ◌⊎◌, append_assoc, map}
-use Rattle.std.specs.Prelude.{Ok, Err, Option, Some, None, Result, nat_lt}
+use Rattle.std.proofs.Common.{inl, inr, ◌≡◌, ℕ, zero, suc, ◌+◌, ◌-◌, ◌*◌, ◌<◌, ◌≤◌, ◌^◌, ◌∙◌, sym, refl, ap, subst, arith, Bool, true, false, not, ltb, eqb, List, [], ◌∷◌, ◌++◌, ◌⊎◌, append_assoc, length, map}
+use Rattle.std.specs.Prelude.{Ok, Err, Option, Some, None, Result, nat_lt, slice_index_or}
 use Rattle.std.specs.List.{slice_get}
 use Rattle.std.proofs.lemmas.Bool.Decides.{nat_tests}
+use Rattle.std.proofs.lemmas.List.{append-nil}
+use Rattle.std.proofs.lemmas.Option.{slice_get-get_or}
 use Rattle.refusal.specs.Checks.{Check, unless_refused}
 use Rattle.rim_desc.specs.Rec.{RecData}
 use Rattle.rim_desc.specs.declared.command.Command.TheVariants.{Delegate, RecCreate}
@@ -28,7 +30,7 @@ use Rattle.ipa_layout.specs.declared.rec.PlacedRec.{PlacedRec}
 use Rattle.rmi_list.specs.declared.draft.Draft.{Draft}
 use Rattle.rmi_list.specs.declared.fault.ListFault.{ListFault}
 use Rattle.rmi_list.specs.declared.fault.ListFault.TheVariants as fault
-use Rattle.rmi_list.specs.Listed.{Listing, list_fault, list_item, list_rec, list_region, plan_checks, pool_check}
+use Rattle.rmi_list.specs.Listed.{Listing, list_fault, list_item, list_named, list_rec, list_region, plan_checks, pool_check}
 use Rattle.rmi_list.specs.Measured.{page_base}
 use Rattle.rmi_list.specs.RecParams.{rec_params}
 use Rattle.rmi_list.specs.inside.Acts.{HasRoom, HaveRoom}
@@ -153,12 +155,8 @@ unfolding list_item
 item-idle old number item within none = rw none (
   record { entries = []; next = progress_of old },
   refl,
-  record { launch = refl; placed = refl; entries = sym (append-none (entries_in old)); progress = record { plan = agrees-refl old.tables; taken = refl; recs = refl }; pool = within },
+  record { launch = refl; placed = refl; entries = sym (append-nil (entries_in old)); progress = record { plan = agrees-refl old.tables; taken = refl; recs = refl }; pool = within },
 )
-  where
-    append-none : (es : List Entry) → es ++ [] ≡ es
-    append-none [] = refl
-    append-none (e ∷ es) = ap (λ xs. e ∷ xs) (append-none es)
 
 -- ---- RECs
 
@@ -292,3 +290,19 @@ rec-same old now rec number r launch placed at own =
     ∙ ap (λ (l : _). Whole (RecCreate rec (rec_params number r (granules l.now.config.num_aux (rec + 4096))))) launch
     ∙ ap (λ (g : ℕ). Whole (RecCreate g (rec_params number r (granules old.launch.now.config.num_aux (g + 4096))))) at
     ∙ ap (λ (g : ℕ). Whole (RecCreate (granule (pool_of old) old.taken) (rec_params number r (granules old.launch.now.config.num_aux g)))) (sym next))
+
+-- ---- steps that name nothing
+
+pub nothing-named : {A : Type 0} (old : Draft) (list : A → Result Listing ListFault) (o : Option A) → InPool old → o ≡ None
+    → (done : Listing) × (list_named (progress_of old) list o ≡ Ok done) × Makes old old done
+nothing-named old list o within none = rw none (
+  record { entries = []; next = progress_of old },
+  refl,
+  record { launch = refl; placed = refl; entries = sym (append-nil (entries_in old)); progress = record { plan = agrees-refl old.tables; taken = refl; recs = refl }; pool = within },
+)
+
+-- what a number names, as a look-up found it
+pub found-at : {A : Type 0} (xs ys : List A) (i : ℕ) (x d : A) → ys ≡ xs → true ≡ ltb i (length ys) → x ≡ slice_index_or ys i d → slice_get xs i ≡ Some x
+found-at xs ys i x d same within at =
+    let inside : i < length ys = grind (arith, nat_tests) in
+    ap (λ zs. slice_get zs i) (sym same) ∙ slice_get-get_or ys i d inside ∙ ap (λ y. Some y) (sym at)

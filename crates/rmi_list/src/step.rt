@@ -1,13 +1,13 @@
 //! The steps of a launch, each as it is listed.
-ghost use Rattle.std.specs.Prelude.{◌≡◌, ◌<◌, ◌≤◌, Some, slice_get};
+ghost use Rattle.std.specs.Prelude.{◌≡◌, ◌<◌, ◌≤◌, length, Some, slice_get};
 ghost use Rattle.rmi_list.specs.Listed.{list_item, list_rec, list_region, list_step};
-ghost use Rattle.rmi_list.specs.inside.Drafts.{Continues, InPool, progress_of};
+ghost use Rattle.rmi_list.specs.inside.Drafts.{AreListable, Continues, InPool, progress_of};
 
 use crate::draft::{Draft, ItemPages};
 use crate::fault::ListFault;
 use crate::kept::Kept;
 use ipa_layout::{PlacedItem, PlacedRec};
-use rim_launch::Region;
+use rim_launch::{Region, Step};
 
 impl<'a> Draft<'a> {
     /// Lists that a region becomes RAM.
@@ -61,5 +61,29 @@ impl<'a> Draft<'a> {
         })?;
         self.recs += 1;
         Ok(())
+    }
+
+    /// Lists a step of the launch.
+    pub fn step(&mut self, step: &Step) -> Result<(), ListFault>
+        requires pool { InPool self.old }
+        requires items { AreListable self.old.placed.now.items }
+        requires recs { length self.old.placed.now.recs ≤ 512 }
+        ensures { Continues self.old self.new result (list_step self.old.launch.now self.old.placed.now (progress_of self.old) step.now) }
+    {
+        let (launch, placed) = (self.launch, self.placed);
+        match step {
+            Step::Ram(number) => match launch.ram().get(*number) {
+                Some(region) => self.region(region),
+                None => Ok(()),
+            },
+            Step::Item(number) => match placed.items().get(*number) {
+                Some(item) => self.item(item, *number),
+                None => Ok(()),
+            },
+            Step::Rec(number) => match placed.recs().get(*number) {
+                Some(rec) => self.rec(rec, *number),
+                None => Ok(()),
+            },
+        }
     }
 }

@@ -1,8 +1,10 @@
 -- How a list grows, command by command and step by step. This project's choice.
-use Rattle.std.specs.Prelude.{◌≡◌, ◌⊎◌, ℕ, ◌+◌, ◌<◌, ◌≤◌, List, ◌++◌, Result, Ok, Err}
+use Rattle.std.specs.Prelude.{◌≡◌, ◌⊎◌, ℕ, ◌+◌, ◌<◌, ◌≤◌, List, ◌++◌, Some, Result, Ok, Err}
+use Rattle.std.specs.List.{slice_get}
 use Rattle.rtt_plan.specs.Planned.{AgreesWith}
 use Rattle.list_model.specs.Entries.{Entry, delegated}
 use Rattle.rim_launch.specs.Realm.{realm_params}
+use Rattle.ipa_layout.specs.declared.placed.PlacedItem.{PlacedItem}
 use Rattle.rmi_list.specs.Listed.{Listing, Progress}
 use Rattle.rmi_list.specs.declared.draft.Draft.{Draft}
 use Rattle.rmi_list.specs.declared.fault.ListFault.{ListFault}
@@ -70,3 +72,15 @@ pub record Makes (old new : Draft) (done : Listing) : Type 0 where
 abbrev pub Continues : {U : Type 0} → Draft → Draft → Result U ListFault → Result Listing ListFault → Type 0
 Continues old new (Ok u) wanted = (done : Listing) × (wanted ≡ Ok done) × Makes old new done
 Continues old new (Err e) wanted = (e ≡ fault.NoMemory) ⊎ (wanted ≡ Err e)
+
+-- ---- items
+
+-- an item whose pages a list can name: an item of a launch, of which there are at most 64, with at most 1,048,576 pages
+-- that begin inside its first page
+pub record IsListable (n : ℕ) (item : PlacedItem) : Type 0 where
+  pub few : n < 64
+  pub pages : item.pages ≤ 1048576
+  pub lead : item.lead ≤ item.address
+
+abbrev pub AreListable : List PlacedItem → Type 0
+AreListable items = (number : ℕ) (item : PlacedItem) → slice_get items number ≡ Some item → IsListable number item
