@@ -4,3 +4,4 @@ pub mod Checking
 pub mod Follows
 pub mod Growing
 pub mod Stepping
+pub mod Alike

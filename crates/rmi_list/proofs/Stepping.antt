@@ -276,20 +276,18 @@ aux-same old now config grows same =
     ∙ ap (λ (p : ℕ). delegate_all (granules old.launch.now.config.num_aux (granule p now.taken))) pool
     ∙ ap (λ (t : ℕ). delegate_all (granules old.launch.now.config.num_aux (granule (pool_of old) t))) grows.taken
 
-named-rec : (num_aux rec number : ℕ) (o : Option PlacedRec) (r : PlacedRec) → o ≡ Some r
-    → rec_entry num_aux rec number o ≡ Whole (RecCreate rec (rec_params number r (granules num_aux (rec + 4096))))
-named-rec num_aux rec number o r at = rw at refl
+named-rec : (pool num_aux n number : ℕ) (o : Option PlacedRec) (r : PlacedRec) → o ≡ Some r
+    → rec_entry pool num_aux n number o ≡ Whole (RecCreate (granule pool n) (rec_params number r (granules num_aux (granule pool (n + 1)))))
+named-rec pool num_aux n number o r at = rw at refl
 
 -- the REC itself, by its number among the launch's RECs
-pub rec-same : (old now : Draft) (rec number : ℕ) (r : PlacedRec) → now.launch ≡ old.launch → now.placed ≡ old.placed → rec ≡ granule (pool_of old) old.taken
-    → slice_get old.placed.now.recs number ≡ Some r → entry_in now (kept.RecCreate rec number) ∷ [] ≡ rec_itself old number r
-rec-same old now rec number r launch placed at own =
+pub rec-same : (old now : Draft) (n number : ℕ) (r : PlacedRec) → now.launch ≡ old.launch → now.placed ≡ old.placed → n ≡ old.taken
+    → slice_get old.placed.now.recs number ≡ Some r → entry_in now (kept.RecCreate n number) ∷ [] ≡ rec_itself old number r
+rec-same old now n number r launch placed at own =
     let found : slice_get now.placed.now.recs number ≡ Some r = ap (λ (p : _). slice_get p.now.recs number) placed ∙ own in
-    let next : granule (pool_of old) (old.taken + 1) ≡ granule (pool_of old) old.taken + 4096 = omega arith in
-    ap (λ e. e ∷ []) (named-rec now.launch.now.config.num_aux rec number (slice_get now.placed.now.recs number) r found
-    ∙ ap (λ (l : _). Whole (RecCreate rec (rec_params number r (granules l.now.config.num_aux (rec + 4096))))) launch
-    ∙ ap (λ (g : ℕ). Whole (RecCreate g (rec_params number r (granules old.launch.now.config.num_aux (g + 4096))))) at
-    ∙ ap (λ (g : ℕ). Whole (RecCreate (granule (pool_of old) old.taken) (rec_params number r (granules old.launch.now.config.num_aux g)))) (sym next))
+    ap (λ e. e ∷ []) (named-rec (pool_of now) now.launch.now.config.num_aux n number (slice_get now.placed.now.recs number) r found
+    ∙ ap (λ (l : _). Whole (RecCreate (granule l.now.config.pool_base n) (rec_params number r (granules l.now.config.num_aux (granule l.now.config.pool_base (n + 1)))))) launch
+    ∙ ap (λ (m : ℕ). Whole (RecCreate (granule (pool_of old) m) (rec_params number r (granules old.launch.now.config.num_aux (granule (pool_of old) (m + 1)))))) at)
 
 -- ---- steps that name nothing
 

@@ -44,17 +44,16 @@ impl<'a> Draft<'a> {
         Ok(())
     }
 
-    /// Takes the next granule of the pool, and lists that it is delegated; its address.
-    pub fn delegate(&mut self) -> Result<u64, ListFault>
+    /// Takes the next granule of the pool, and lists that it is delegated; its number in the pool.
+    pub fn delegate(&mut self) -> Result<u32, ListFault>
         ensures lists { let g = granule self.old.launch.now.config.pool_base self.old.taken in
             Lists self.old self.new result (Whole (Delegate g) ∷ []) }
-        ensures value { IfOk result (λ g. g ≡ granule self.old.launch.now.config.pool_base self.old.taken) }
+        ensures value { IfOk result (λ n. n ≡ self.old.taken) }
     {
-        let config = self.launch.config();
-        if self.taken >= config.pool_count {
+        if self.taken >= self.launch.config().pool_count {
             return Err(ListFault::PoolEnd);
         }
-        let granule = config.pool_base + 4096 * self.taken;
+        let granule = self.taken as u32;
         self.kept.push(Kept::Delegate { granule })?;
         self.taken += 1;
         Ok(granule)
