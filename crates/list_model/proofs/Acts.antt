@@ -44,7 +44,7 @@ acts-of-runs pool start item k (r ∷ rs) n ts =
     let f : k + 0 ≡ k = omega arith in
     tables-first pool item k new n (act.Run r.base r.top r.level ∷ run_acts start (ts ++ new) rs)
     ∙ rw (no-pages-in-run item r, e, f)
-      (ap (λ (es : List Entry). table_entries pool n new ++ (Whole (InitRipas r.base r.top) ∷ es)) (acts-of-runs pool start item k rs (n + length new) (ts ++ new)))
+    (ap (λ (es : List Entry). table_entries pool n new ++ (Whole (InitRipas r.base r.top) ∷ es)) (acts-of-runs pool start item k rs (n + length new) (ts ++ new)))
 
 one-page : (measured : Bool) (pool n x item k : ℕ)
     → delegated (Whole (Delegate (granule pool n)) ∷ page_entry measured (granule pool n) x item k ∷ []) ≡ 1
@@ -59,9 +59,9 @@ acts-of-pages pool start measured item (x ∷ xs) k n ts =
     let new : List Table = missing start ts 3 x in
     tables-first pool (Some (measured, item)) k new n (act.Pages x 1 ∷ page_acts start (ts ++ new) xs)
     ∙ rw (one-page measured pool (n + length new) x item k)
-      (ap (λ (es : List Entry). table_entries pool n new
-          ++ (Whole (Delegate (granule pool (n + length new))) ∷ page_entry measured (granule pool (n + length new)) x item k ∷ es))
-      (acts-of-pages pool start measured item xs (k + 1) (n + length new + 1) (ts ++ new)))
+    (ap (λ (es : List Entry). table_entries pool n new
+    ++ (Whole (Delegate (granule pool (n + length new))) ∷ page_entry measured (granule pool (n + length new)) x item k ∷ es))
+    (acts-of-pages pool start measured item xs (k + 1) (n + length new + 1) (ts ++ new)))
 
 -- ---- plans with the same tables
 

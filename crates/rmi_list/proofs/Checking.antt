@@ -1,5 +1,5 @@
 -- Checks, one after another, and what they answer.
-use Rattle.std.proofs.Common.{inl, inr, ◌≡◌, ◌∙◌, refl, false, ◌⊎◌, List, [], ◌∷◌, ◌++◌}
+use Rattle.std.proofs.Common.{inl, inr, ◌≡◌, refl, false, ◌⊎◌, List, [], ◌∷◌, ◌++◌}
 use Rattle.std.specs.Prelude.{Ok, Err, Result}
 use Rattle.std.proofs.lemmas.Bool.{cases_Bool, or_parts}
 use Rattle.refusal.specs.Answer.{◌>>=◌, with_front}

@@ -110,16 +110,16 @@ pages_left old measured item first base count i taken = entries_of_pages (pool_o
 
 pub next-page : (pool taken : ℕ) (measured : Bool) (item first base count i : ℕ) → i < count
     → entries_of_pages pool taken measured item (first + i) (granules (count - i) (base + 4096 * i))
-      ≡ (Whole (Delegate (granule pool taken)) ∷ page_entry measured (granule pool taken) (base + 4096 * i) item (first + i) ∷ [])
-        ++ entries_of_pages pool (taken + delegated (Whole (Delegate (granule pool taken)) ∷ page_entry measured (granule pool taken) (base + 4096 * i) item (first + i) ∷ []))
-          measured item (first + (i + 1)) (granules (count - (i + 1)) (base + 4096 * (i + 1)))
+    ≡ (Whole (Delegate (granule pool taken)) ∷ page_entry measured (granule pool taken) (base + 4096 * i) item (first + i) ∷ [])
+    ++ entries_of_pages pool (taken + delegated (Whole (Delegate (granule pool taken)) ∷ page_entry measured (granule pool taken) (base + 4096 * i) item (first + i) ∷ []))
+    measured item (first + (i + 1)) (granules (count - (i + 1)) (base + 4096 * (i + 1)))
 unfolding granules entries_of_pages
 next-page pool taken measured item first base count i lt =
     let e : count - i ≡ suc (count - (i + 1)) = omega arith in
     let f : base + 4096 * (i + 1) ≡ base + 4096 * i + 4096 = omega arith in
     let g : first + (i + 1) ≡ first + i + 1 = omega arith in
     let one : delegated (Whole (Delegate (granule pool taken)) ∷ page_entry measured (granule pool taken) (base + 4096 * i) item (first + i) ∷ []) ≡ 1 =
-        ap (λ (n : ℕ). suc n) (count-page measured (granule pool taken) (base + 4096 * i) item (first + i) []) in
+    ap (λ (n : ℕ). suc n) (count-page measured (granule pool taken) (base + 4096 * i) item (first + i) []) in
     rw (one, e, f, g) refl
 
 pub no-pages : (pool taken : ℕ) (measured : Bool) (item k count i x : ℕ) → count ≤ i → entries_of_pages pool taken measured item k (granules (count - i) x) ≡ []
@@ -128,10 +128,10 @@ no-pages pool taken measured item k count i x le = rw (no-granules count i x le)
 
 -- ---- acts
 
-pub drop-at : (acts : List Act) (i : ℕ) (d : Act) → i < length acts → drop i acts ≡ slice_index_or acts i d ∷ drop (i + 1) acts
+pub drop-at : {A : Type 0} (xs : List A) (i : ℕ) (d : A) → i < length xs → drop i xs ≡ slice_index_or xs i d ∷ drop (i + 1) xs
 drop-at [] i d lt = absurd (omega arith)
-drop-at (a ∷ acts) zero d lt = refl
-drop-at (a ∷ acts) (suc i) d lt = let e : suc i + 1 ≡ suc (i + 1) = omega arith in rw e (drop-at acts i d (omega arith))
+drop-at (x ∷ xs) zero d lt = refl
+drop-at (x ∷ xs) (suc i) d lt = let e : suc i + 1 ≡ suc (i + 1) = omega arith in rw e (drop-at xs i d (omega arith))
 
 abbrev pub act_here : Draft → ItemOf → ℕ → Act → ℕ → List Entry
 act_here now item k a pool = entries_of_act pool now.taken item k a

@@ -5,3 +5,6 @@ pub mod Follows
 pub mod Growing
 pub mod Stepping
 pub mod Alike
+pub mod Beginning
+pub mod Listable
+pub mod Listing

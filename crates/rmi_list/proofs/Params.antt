@@ -40,6 +40,9 @@ launch-in-range l h =
     let ranges : all_in_range l ≡ true = (and_parts (within_limits l) (all_in_range l) ((and_parts _ (once_each l.items) first).0)).1 in
     in-range l.config (and_parts (config_in_range l.config) (list_all item_in_range l.items) ranges).0
 
+pub is-width : (c : Config) → InRange c → is_width c.s2sz ≡ true
+is-width c range = let lo = range.least in let hi = range.most in grind (arith, nat_tests)
+
 -- ---- start tables
 
 width-more : (w : ℕ) → 32 ≤ w → w ≤ 48 → w - (12 + 9 * (4 - start_level w)) ≤ 4
@@ -79,7 +82,7 @@ good-realm c range =
     let hi : c.s2sz ≤ 48 = range.most in
     let top : c.pool_base < 0x1000000000000 = range.pool_low in
     let flags = no-other c.sve c.pmu in
-    let width : is_width c.s2sz ≡ true = grind (arith, nat_tests) in
+    let width : is_width c.s2sz ≡ true = is-width c range in
     let level : eqb (start_level c.s2sz) (start_level c.s2sz) ≡ true = grind (arith, nat_tests) in
     let count : eqb n n ≡ true = grind (arith, nat_tests) in
     let place : c.pool_base % (n * 4096) ≡ 0 = few.place c.pool_base range.pool in

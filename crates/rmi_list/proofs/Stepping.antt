@@ -1,5 +1,5 @@
 -- A step of the code makes the listing of the step's definition.
-use Rattle.std.proofs.Common.{inl, inr, ◌≡◌, ℕ, zero, suc, ◌+◌, ◌-◌, ◌*◌, ◌<◌, ◌≤◌, ◌^◌, ◌∙◌, sym, refl, ap, subst, arith, Bool, true, false, not, ltb, eqb, List, [], ◌∷◌, ◌++◌, ◌⊎◌, append_assoc, length, map}
+use Rattle.std.proofs.Common.{inl, inr, ◌≡◌, ℕ, zero, suc, ◌+◌, ◌*◌, ◌<◌, ◌≤◌, ◌^◌, ◌∙◌, sym, refl, ap, subst, arith, Bool, true, false, not, ltb, eqb, List, [], ◌∷◌, ◌++◌, ◌⊎◌, append_assoc, length, map}
 use Rattle.std.specs.Prelude.{Ok, Err, Option, Some, None, Result, nat_lt, slice_index_or}
 use Rattle.std.specs.List.{slice_get}
 use Rattle.std.proofs.lemmas.Bool.Decides.{nat_tests}
@@ -10,7 +10,7 @@ use Rattle.rim_desc.specs.Rec.{RecData}
 use Rattle.rim_desc.specs.declared.command.Command.TheVariants.{Delegate, RecCreate}
 use Rattle.rmm_model.specs.Blocks.{granules}
 use Rattle.rmm_model.specs.declared.table.Table.{Table}
-use Rattle.rtt_plan.specs.Missing.{missing, page_acts, run_acts, table_act}
+use Rattle.rtt_plan.specs.Missing.{missing, page_acts, table_act}
 use Rattle.rtt_plan.specs.Planned.{AgreesWith, Planned, after_data, after_region, data_acts, data_checks, plan_data, plan_region, region_acts, region_checks}
 use Rattle.rtt_plan.specs.Runs.{runs_of}
 use Rattle.rtt_plan.specs.declared.act.Act.{Act}
@@ -18,9 +18,9 @@ use Rattle.rtt_plan.specs.declared.act.Act.TheVariants as act
 use Rattle.rtt_plan.specs.declared.fault.PlanFault.{PlanFault}
 use Rattle.rtt_plan.specs.declared.fault.PlanFault.TheVariants as plan
 use Rattle.rtt_plan.proofs.Alike.{agrees-refl}
-use Rattle.list_model.specs.Entries.{Entry, Whole, delegate_all, delegated, granule, rec_entries, rec_granules}
+use Rattle.list_model.specs.Entries.{Entry, Whole, delegate_all, delegated, granule, rec_entries}
 use Rattle.list_model.specs.Leading.{item_entries, region_entries}
-use Rattle.list_model.specs.inside.Acts.{ItemOf, act_entries}
+use Rattle.list_model.specs.inside.Acts.{act_entries}
 use Rattle.list_model.proofs.Acts.{acts-of-pages, acts-of-runs}
 use Rattle.list_model.proofs.Counting.{count-append}
 use Rattle.rim_launch.specs.declared.config.Config.{Config}
@@ -33,10 +33,10 @@ use Rattle.rmi_list.specs.declared.fault.ListFault.TheVariants as fault
 use Rattle.rmi_list.specs.Listed.{Listing, list_fault, list_item, list_named, list_rec, list_region, plan_checks, pool_check}
 use Rattle.rmi_list.specs.Measured.{page_base}
 use Rattle.rmi_list.specs.RecParams.{rec_params}
-use Rattle.rmi_list.specs.inside.Acts.{HasRoom, HaveRoom}
+use Rattle.rmi_list.specs.inside.Acts.{HaveRoom}
 use Rattle.rmi_list.specs.declared.kept.Kept.TheVariants as kept
 use Rattle.rmi_list.specs.inside.Kept.{rec_entry}
-use Rattle.rmi_list.specs.inside.Drafts.{Continues, Grows, InPool, Lists, Makes, SameProgress, entries_in, entry_in, progress_of}
+use Rattle.rmi_list.specs.inside.Drafts.{Continues, Grows, InPool, Lists, Makes, entries_in, entry_in, progress_of}
 use Rattle.rmi_list.proofs.Checking.{is-done, passed-front, plan-told, refused-front}
 use Rattle.rmi_list.proofs.Growing.{Refuses, pool_of}
 
@@ -66,9 +66,9 @@ pages-room item start (suc count) k x ts few low =
 planned-continues : {A U : Type 0} (old new : Draft) (t after : Planned) (checks : List (Check PlanFault)) (a ok : A) (es : List Entry) (result : Result U ListFault) → InPool old
     → unless_refused checks a ≡ Ok ok → AgreesWith t after → Lists (record old { tables = t }) new result es
     → Continues old new result (unless_refused (plan_checks checks ++ pool_check old.launch.now.config old.taken es ∷ []) (record {
-        entries = es;
-        next = record (progress_of old) { plan = after; taken = old.taken + delegated es };
-      }))
+      entries = es;
+      next = record (progress_of old) { plan = after; taken = old.taken + delegated es };
+    }))
 planned-continues old new t after checks a ok es (Ok u) within passed agrees grows =
     let made : Listing = record { entries = es; next = record (progress_of old) { plan = after; taken = old.taken + delegated es } } in
     let size : InPool new = grows.pool within in
@@ -104,7 +104,7 @@ region-continues old new t r acts result within planned agrees lists =
     let same : region_acts p r.base r.end ≡ acts = is-done (region_checks p r.base r.end) (region_acts p r.base r.end) acts planned in
     let es : List Entry = region_entries (pool_of old) old.taken p r.base r.end in
     let listed : act_entries (pool_of old) old.taken None 0 acts ≡ es =
-        ap (act_entries (pool_of old) old.taken None 0) (sym same) ∙ acts-of-runs (pool_of old) p.space.start None 0 (runs_of r.base r.end p.least_level) old.taken p.space.tables in
+    ap (act_entries (pool_of old) old.taken None 0) (sym same) ∙ acts-of-runs (pool_of old) p.space.start None 0 (runs_of r.base r.end p.least_level) old.taken p.space.tables in
     planned-continues old new t (after_region p r.base r.end) (region_checks p r.base r.end) (region_acts p r.base r.end) acts es result within planned agrees
     (subst (Lists (record old { tables = t }) new result) listed lists)
 
@@ -131,8 +131,8 @@ item-continues old new t number item acts result within some planned agrees list
     let same : data_acts p base item.pages ≡ acts = is-done (data_checks p base item.pages) (data_acts p base item.pages) acts planned in
     let es : List Entry = item_entries (pool_of old) old.taken p item.measured number base item.pages in
     let listed : act_entries (pool_of old) old.taken (Some (item.measured, number)) 0 acts ≡ es =
-        ap (act_entries (pool_of old) old.taken (Some (item.measured, number)) 0) (sym same)
-        ∙ acts-of-pages (pool_of old) p.space.start item.measured number (granules item.pages base) 0 old.taken p.space.tables in
+    ap (act_entries (pool_of old) old.taken (Some (item.measured, number)) 0) (sym same)
+    ∙ acts-of-pages (pool_of old) p.space.start item.measured number (granules item.pages base) 0 old.taken p.space.tables in
     rw some (planned-continues old new t (after_data p base item.pages) (data_checks p base item.pages) (data_acts p base item.pages) acts es result within planned agrees
     (subst (Lists (record old { tables = t }) new result) listed lists))
 

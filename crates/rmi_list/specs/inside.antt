@@ -1,3 +1,4 @@
 pub mod Kept
 pub mod Drafts
 pub mod Acts
+pub mod Plans

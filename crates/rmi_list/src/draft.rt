@@ -103,13 +103,7 @@ impl<'a> Draft<'a> {
     }
 
     /// Lists `count` pages of an item, from its page `first` and the IPA `base` on.
-    fn pages(
-        &mut self,
-        base: u64,
-        count: u64,
-        item: ItemPages,
-        first: u64,
-    ) -> Result<(), ListFault>
+    fn pages(&mut self, base: u64, count: u64, item: ItemPages, first: u64) -> Result<(), ListFault>
         requires few { first + count ≤ 2 ^ 32 }
         requires low { base + 4096 * count ≤ 2 ^ 47 }
         ensures { let pool = self.old.launch.now.config.pool_base in

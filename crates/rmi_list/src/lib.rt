@@ -5,7 +5,9 @@ mod draft;
 mod fault;
 mod kept;
 mod laws;
+mod plan;
 mod step;
 
 pub use fault::ListFault;
 pub use laws::{contents_of_a_launch, list_is_followed};
+pub use plan::{Plan, list};

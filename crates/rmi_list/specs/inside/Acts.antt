@@ -1,5 +1,5 @@
 -- The item whose pages acts create, and the room that they need. This project's choice.
-use Rattle.std.specs.Prelude.{ℕ, ◌+◌, ◌*◌, ◌^◌, ◌≤◌, Bool, List, [], ◌∷◌, Option, Some, None, option_map}
+use Rattle.std.specs.Prelude.{ℕ, ◌+◌, ◌*◌, ◌^◌, ◌≤◌, List, [], ◌∷◌, Option, Some, option_map}
 use Rattle.rtt_plan.specs.declared.act.Act.{Act}
 use Rattle.rtt_plan.specs.declared.act.Act.TheVariants as act
 use Rattle.list_model.specs.inside.Acts.{ItemOf, pages_in}

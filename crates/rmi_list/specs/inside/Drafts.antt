@@ -3,9 +3,13 @@ use Rattle.std.specs.Prelude.{◌≡◌, ◌⊎◌, ℕ, ◌+◌, ◌<◌, ◌�
 use Rattle.std.specs.List.{slice_get}
 use Rattle.rtt_plan.specs.Planned.{AgreesWith}
 use Rattle.list_model.specs.Entries.{Entry, delegated}
+use Rattle.refusal.specs.Answer.{with_front}
+use Rattle.rim_launch.specs.LaunchData.{LaunchData}
 use Rattle.rim_launch.specs.Realm.{realm_params}
+use Rattle.rim_launch.specs.declared.step.Step.{Step}
+use Rattle.ipa_layout.specs.Layout.{PlacedData}
 use Rattle.ipa_layout.specs.declared.placed.PlacedItem.{PlacedItem}
-use Rattle.rmi_list.specs.Listed.{Listing, Progress}
+use Rattle.rmi_list.specs.Listed.{Listing, Progress, list_steps, listed}
 use Rattle.rmi_list.specs.declared.draft.Draft.{Draft}
 use Rattle.rmi_list.specs.declared.fault.ListFault.{ListFault}
 use Rattle.rmi_list.specs.declared.fault.ListFault.TheVariants as fault
@@ -84,3 +88,12 @@ pub record IsListable (n : ℕ) (item : PlacedItem) : Type 0 where
 
 abbrev pub AreListable : List PlacedItem → Type 0
 AreListable items = (number : ℕ) (item : PlacedItem) → slice_get items number ≡ Some item → IsListable number item
+
+-- ---- the whole list
+
+-- a draft of this launch, to which the entries of these steps are still to be added
+pub record IsListing (l : LaunchData) (p : PlacedData) (d : Draft) (rest : List Step) : Type 0 where
+  pub launch : d.launch.now ≡ l
+  pub placed : d.placed.now ≡ p
+  pub pool : InPool d
+  pub listed : listed l p ≡ with_front (entries_in d) (list_steps l p (progress_of d) rest)

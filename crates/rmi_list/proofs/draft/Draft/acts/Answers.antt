@@ -1,4 +1,4 @@
-use Rattle.std.proofs.Common.{◌≡◌, ◌+◌, refl, arith, slice_index_or}
+use Rattle.std.proofs.Common.{◌+◌, refl, arith, slice_index_or}
 use Rattle.std.proofs.lemmas.List.{drop_all}
 use Rattle.std.proofs.lemmas.Result.{err_from_is_err_and}
 use Rattle.rtt_plan.specs.declared.act.Act.TheVariants.{Table}
@@ -32,8 +32,8 @@ loop-act-preserved c =
     let act = slice_index_or acts i (Table 0 0) in
     rw c.in_ok-page.ensures.next (
       going-on c.args.self.now c.loop-act.self c.act.new.self _ _ (act_here c.loop-act.self item c.loop-act.page act)
-      (acts_left c.args.self.now item (c.loop-act.page + pages_in item act) acts (i + 1))
-      c.loop-act.invariant.0 (next-act _ _ item c.loop-act.page acts i (Table 0 0) c.loop-act-test.true) c.in_ok-page.ensures.lists,
+          (acts_left c.args.self.now item (c.loop-act.page + pages_in item act) acts (i + 1))
+          c.loop-act.invariant.0 (next-act _ _ item c.loop-act.page acts i (Table 0 0) c.loop-act-test.true) c.in_ok-page.ensures.lists,
       (room-here item c.loop-act.page acts i (Table 0 0) c.loop-act-test.true c.loop-act.invariant.1).1,
     )
 

@@ -1,4 +1,4 @@
-use Rattle.std.proofs.Common.{◌≡◌, ◌<◌, ◌≤◌, arith, Fits, w32}
+use Rattle.std.proofs.Common.{arith}
 use Rattle.std.proofs.lemmas.Grind.{common_steps}
 use Rattle.rmi_list.proofs.Params.{launch-in-range}
 use Rattle.rmi_list.proofs.draft.Draft.delegate.Goals as goal

@@ -1,5 +1,4 @@
-use Rattle.std.proofs.Common.{inr, ◌≡◌, ◌++◌, ap, subst}
-use Rattle.std.specs.Prelude.{Err, Some}
+use Rattle.std.proofs.Common.{inr, ◌++◌}
 use Rattle.std.proofs.lemmas.Result.{err_from_is_err_and}
 use Rattle.rmi_list.specs.inside.Drafts.{Grows}
 use Rattle.rmi_list.proofs.Growing.{Refuses}
@@ -45,6 +44,6 @@ returns c =
     let second : Grows one two (aux_granules old) = rw (← aux-same old one c.config.result first c.config.ensures.value) c.in_ok-delegate_all.ensures in
     let both = grows-then old one two (own_granule old) (aux_granules old) first second in
     let third : Grows two three (rec_itself old number r) =
-        rw (← rec-same old two c.in_ok-granule.granule number r both.launch both.placed c.in_ok-granule.ensures.value c.requires.own) c.in_ok-push.ensures in
+    rw (← rec-same old two c.in_ok-granule.granule number r both.launch both.placed c.in_ok-granule.ensures.value c.requires.own) c.in_ok-push.ensures in
     rec-makes old three number r c.requires.pool c.if-number-self.false c.if-not-rec.false
     (grows-then old one three (own_granule old) (aux_granules old ++ rec_itself old number r) first (grows-then one two three (aux_granules old) (rec_itself old number r) second third))

@@ -1,4 +1,3 @@
-use Rattle.std.specs.Prelude.{Err}
 use Rattle.std.proofs.lemmas.Result.{err_from_is_err_and}
 use Rattle.rmi_list.proofs.Stepping.{no-room, region-continues, region-refused}
 use Rattle.rmi_list.proofs.draft.Draft.region.Goals as goal

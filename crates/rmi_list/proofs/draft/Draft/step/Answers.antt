@@ -1,7 +1,5 @@
-use Rattle.std.proofs.Common.{rules, ◌≡◌, ◌∙◌, ap, sym}
+use Rattle.std.proofs.Common.{◌≡◌, ◌∙◌, ap, sym}
 use Rattle.std.specs.Prelude.{Some, None, slice_get}
-use Rattle.std.proofs.Common.{arith}
-use Rattle.std.proofs.lemmas.Grind.{common_steps}
 use Rattle.std.proofs.lemmas.Option.{slice_get_past}
 use Rattle.rmi_list.proofs.Stepping.{found-at, nothing-named}
 use Rattle.rmi_list.proofs.draft.Draft.step.Goals as goal
@@ -14,7 +12,7 @@ returns-in-None c =
 pub returns-in-Some-get : goal.returns-in-Some-get
 returns-in-Some-get c =
     let own : slice_get c.args.self.now.placed.now.items c.in-Item.number ≡ Some c.in-Some-get.item.now =
-        found-at _ c.items.result.now c.in-Item.number _ _ c.items.ensures c.in-Some-get.ensures.lookup.0 c.in-Some-get.ensures.lookup.1 in
+    found-at _ c.items.result.now c.in-Item.number _ _ c.items.ensures c.in-Some-get.ensures.lookup.0 c.in-Some-get.ensures.lookup.1 in
     rw (c.in-Item.is, own) c.item.ensures
 
 pub returns-in-None-get : goal.returns-in-None-get
@@ -25,7 +23,7 @@ returns-in-None-get c =
 pub returns-in-Some-get-2 : goal.returns-in-Some-get-2
 returns-in-Some-get-2 c =
     let own : slice_get c.args.self.now.placed.now.recs c.in-Rec.number ≡ Some c.in-Some-get-2.rec.now =
-        found-at _ c.recs.result.now c.in-Rec.number _ _ c.recs.ensures c.in-Some-get-2.ensures.lookup.0 c.in-Some-get-2.ensures.lookup.1 in
+    found-at _ c.recs.result.now c.in-Rec.number _ _ c.recs.ensures c.in-Some-get-2.ensures.lookup.0 c.in-Some-get-2.ensures.lookup.1 in
     rw (c.in-Rec.is, own) c.rec.ensures
 
 pub returns-in-None-get-2 : goal.returns-in-None-get-2

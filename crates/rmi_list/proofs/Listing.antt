@@ -1,0 +1,98 @@
+-- The list of a launch, step by step.
+use Rattle.std.proofs.Common.{inl, inr, ◌≡◌, ◌+◌, ◌<◌, ◌≤◌, ◌∙◌, sym, refl, ap, arith, true, false, List, [], ◌∷◌, ◌++◌, ◌⊎◌, append_assoc, length}
+use Rattle.std.specs.Prelude.{Ok, Err, IfOk, IfErr, Result, nat_lt}
+use Rattle.std.proofs.lemmas.Bool.Decides.{nat_tests}
+use Rattle.refusal.specs.Answer.{Answers, with_front}
+use Rattle.rim_desc.specs.declared.command.Command.TheVariants.{Activate}
+use Rattle.list_model.specs.Entries.{Entry, Whole, delegated}
+use Rattle.rim_launch.specs.LaunchData.{LaunchData}
+use Rattle.rim_launch.specs.declared.step.Step.{Step}
+use Rattle.ipa_layout.specs.Layout.{PlacedData}
+use Rattle.rmi_list.specs.declared.draft.Draft.{Draft}
+use Rattle.rmi_list.specs.declared.fault.ListFault.{ListFault}
+use Rattle.rmi_list.specs.declared.fault.ListFault.TheVariants as fault
+use Rattle.rmi_list.specs.Listed.{Listing, Progress, list_step, list_steps, listed, opening, opening_entries, rec_limit}
+use Rattle.rmi_list.specs.inside.Drafts.{Grows, InPool, IsListing, Makes, entries_in, progress_of}
+use Rattle.rmi_list.proofs.Alike.{steps-alike}
+use Rattle.rmi_list.proofs.Growing.{Refuses}
+
+front-front : {A E : Type 0} (xs ys : List A) (r : Result (List A) E) → with_front xs (with_front ys r) ≡ with_front (xs ++ ys) r
+front-front xs ys (Ok zs) = ap (λ all. Ok all) (sym (append_assoc xs ys zs))
+front-front xs ys (Err e) = refl
+
+-- ---- its begin
+
+pub too-many : (l : LaunchData) (p : PlacedData) → 512 < length p.recs → listed l p ≡ Err fault.TooManyRecs
+unfolding listed
+too-many l p many = (let on : nat_lt rec_limit (length p.recs) ≡ true = grind (arith, nat_tests) in rw on refl)
+
+pub begin-refused : (l : LaunchData) (p : PlacedData) (e : ListFault) → length p.recs ≤ 512
+    → (e ≡ fault.NoMemory) ⊎ ((e ≡ fault.PoolEnd) × (l.config.pool_count < delegated (opening_entries l.config)))
+    → (e ≡ fault.NoMemory) ⊎ (listed l p ≡ Err e)
+unfolding listed
+begin-refused l p e few (inl memory) = inl memory
+begin-refused l p e few (inr full) =
+    let off : nat_lt rec_limit (length p.recs) ≡ false = grind (arith, nat_tests) in
+    let small : l.config.pool_count < delegated (opening_entries l.config) = full.1 in
+    let on : nat_lt l.config.pool_count (0 + delegated (opening_entries l.config)) ≡ true = grind (arith, nat_tests) in
+    inr (rw off (rw on (rw full.0 refl)))
+
+pub listing-begins : (l : LaunchData) (p : PlacedData) (d : Draft) → length p.recs ≤ 512 → d.launch.now ≡ l → d.placed.now ≡ p → entries_in d ≡ opening_entries l.config
+    → progress_of d ≡ opening l.config → InPool d → IsListing l p d l.steps
+unfolding listed
+listing-begins l p d few launch placed entries progress within =
+    let off : nat_lt rec_limit (length p.recs) ≡ false = grind (arith, nat_tests) in
+    let taken : d.taken ≡ delegated (opening_entries l.config) = ap (λ (w : Progress). w.taken) progress in
+    let size : d.launch.now.config.pool_count ≡ l.config.pool_count = ap (λ (m : LaunchData). m.config.pool_count) launch in
+    let room : nat_lt l.config.pool_count (0 + delegated (opening_entries l.config)) ≡ false = grind (arith, nat_tests) in
+    record { launch = launch; placed = placed; pool = within; listed = rw (off, room) (rw (entries, progress) refl) }
+
+-- ---- its steps
+
+-- what a step answers, by the launch and the place that the draft has
+same-step : (l : LaunchData) (p : PlacedData) (d : Draft) (s : Step) → d.launch.now ≡ l → d.placed.now ≡ p
+    → list_step d.launch.now d.placed.now (progress_of d) s ≡ list_step l p (progress_of d) s
+same-step l p d s launch placed =
+    ap (λ (m : LaunchData). list_step m d.placed.now (progress_of d) s) launch ∙ ap (λ (q : PlacedData). list_step l q (progress_of d) s) placed
+
+pub listing-goes-on : (l : LaunchData) (p : PlacedData) (d e : Draft) (s : Step) (ss : List Step) → IsListing l p d (s ∷ ss)
+    → (done : Listing) × (list_step d.launch.now d.placed.now (progress_of d) s ≡ Ok done) × Makes d e done → IsListing l p e ss
+unfolding list_steps
+listing-goes-on l p d e s ss listing made =
+    let done : Listing = made.0 in
+    let at : list_step l p (progress_of d) s ≡ Ok done = sym (same-step l p d s listing.launch listing.placed) ∙ made.1 in
+    let makes : Makes d e done = made.2 in
+    record {
+      launch = ap (λ (m : _). m.now) makes.launch ∙ listing.launch;
+      placed = ap (λ (m : _). m.now) makes.placed ∙ listing.placed;
+      pool = makes.pool;
+      listed = listing.listed ∙ rw at (front-front (entries_in d) done.entries (list_steps l p done.next ss)
+          ∙ ap (λ es. with_front es (list_steps l p done.next ss)) (sym makes.entries)
+          ∙ ap (with_front (entries_in e)) (sym (steps-alike l p ss (progress_of e) done.next makes.progress)));
+    }
+
+pub listing-refused : (l : LaunchData) (p : PlacedData) (d : Draft) (s : Step) (ss : List Step) (e : ListFault) → IsListing l p d (s ∷ ss)
+    → (e ≡ fault.NoMemory) ⊎ (list_step d.launch.now d.placed.now (progress_of d) s ≡ Err e) → (e ≡ fault.NoMemory) ⊎ (listed l p ≡ Err e)
+unfolding list_steps
+listing-refused l p d s ss e listing (inl memory) = inl memory
+listing-refused l p d s ss e listing (inr at) =
+    inr (listing.listed ∙ rw (sym (same-step l p d s listing.launch listing.placed) ∙ at) refl)
+
+-- ---- its end
+
+pub listing-ends : (l : LaunchData) (p : PlacedData) (d e : Draft) → IsListing l p d [] → Grows d e (Whole Activate ∷ []) → listed l p ≡ Ok (entries_in e)
+unfolding list_steps
+listing-ends l p d e listing grows = listing.listed ∙ ap (λ es. Ok es) (sym grows.entries)
+
+-- the end takes no granule, so that want of memory alone refuses it
+pub end-refused : (l : LaunchData) (p : PlacedData) (d : Draft) (e : ListFault) → IsListing l p d [] → Refuses d e (Whole Activate ∷ []) → e ≡ fault.NoMemory
+end-refused l p d e listing (inl memory) = memory
+end-refused l p d e listing (inr full) =
+    let small : d.launch.now.config.pool_count < d.taken + delegated (Whole Activate ∷ []) = full.1 in
+    let within : d.taken ≤ d.launch.now.config.pool_count = listing.pool in
+    absurd (omega arith)
+
+pub plan-answered : (result : Result (List Entry) ListFault) (wanted : Result (List Entry) ListFault) (es : List Entry) → IfOk result (λ p. p ≡ es)
+    → IfErr result (λ e. e ≡ fault.NoMemory) → wanted ≡ Ok es → Answers fault.NoMemory (λ p. p) result wanted
+plan-answered (Ok p) wanted es ok err at = at ∙ ap (λ xs. Ok xs) (sym ok)
+plan-answered (Err e) wanted es ok err at = inl err

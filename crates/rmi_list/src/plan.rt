@@ -1,0 +1,212 @@
+//! The list of a launch.
+ghost use Rattle.std.specs.Prelude.{◌≡◌, ◌+◌, ◌<◌, ◌≤◌, ◌^◌, ◌⊎◌, ◌∷◌, [], ◌++◌, length, take, Some, option_map, option_and_then, slice_get, IfOk, IfErr};
+ghost use Rattle.refusal.specs.Answer.{Answers};
+ghost use Rattle.rmm_model.specs.Blocks.{granules};
+ghost use Rattle.list_model.specs.Entries.{Whole, command_of, delegated, granule, page_of};
+ghost use Rattle.rmi_list.specs.Listed.{listed, opening, opening_entries};
+ghost use Rattle.rmi_list.specs.declared.fault.ListFault.{ListFault};
+ghost use Rattle.rmi_list.specs.inside.Drafts.{InPool, entries_in, progress_of};
+ghost use Rattle.rmi_list.specs.inside.Kept.{rec_entry};
+ghost use Rattle.rmi_list.specs.inside.Plans.{HasPlace};
+
+use crate::draft::Draft;
+use crate::fault::ListFault;
+use crate::kept::Kept;
+use ipa_layout::{Placed, PlacedRec};
+use rim_desc::{Command, Measurement, RealmParams, RecParams, rec_mpidr};
+use rim_launch::{Launch, realm_params};
+use rmm_model::start::start_count;
+use rtt_plan::Tables;
+use std::alloc::Global;
+use std::marker::Model;
+
+/// The most RECs of a list.
+const MOST_RECS: usize = 512;
+
+/// The most auxiliary granules of a REC.
+const MOST_AUX: usize = 16;
+
+/// The commands that a host gives the monitor to build a launch's realm. The contents of measured pages are open:
+/// they are handed in where a command is asked for.
+///
+/// It keeps one entry for each command.
+#[derive(Drop)]
+pub struct Plan {
+    params: RealmParams,
+    num_aux: u8,
+    recs: Vec<PlacedRec>,
+    kept: Vec<Kept>,
+}
+
+impl Model for Plan {
+    ghost use Rattle.std.specs.Prelude.{List};
+    ghost use Rattle.list_model.specs.Entries.{Entry};
+
+    ghost Value = { List Entry };
+
+    ghost use Rattle.rmi_list.specs.inside.Plans.{IsWellFormed, shown_plan};
+
+    ghost view = { shown_plan };
+
+    ghost invariant = { IsWellFormed };
+}
+
+/// The list of a launch that has its place, or why it has none. The first reason that holds is answered, but want of memory
+/// may come before it.
+pub fn list(alloc: Global, launch: &Launch, placed: &Placed) -> Result<Plan, ListFault>
+    requires { HasPlace launch.now placed.now }
+    ensures { Answers ListFault.NoMemory (λ plan. plan) result (listed launch.now placed.now) }
+{
+    if placed.recs().len() > MOST_RECS {
+        return Err(ListFault::TooManyRecs);
+    }
+    let mut draft = open(alloc, launch, placed)?;
+    for step in launch.steps() {
+        draft.step(step)?;
+    }
+    draft.push(Kept::Activate)?;
+    Plan::of(alloc, draft)
+}
+
+/// The list's begin: the granules of the start tables and of the realm descriptor, and the realm.
+fn open<'a>(alloc: Global, launch: &'a Launch, placed: &'a Placed) -> Result<Draft<'a>, ListFault>
+    ensures launch { IfOk result (λ d. d.launch.now ≡ launch.now) }
+    ensures placed { IfOk result (λ d. d.placed.now ≡ placed.now) }
+    ensures entries { IfOk result (λ d. entries_in d ≡ opening_entries launch.now.config) }
+    ensures progress { IfOk result (λ d. progress_of d ≡ opening launch.now.config) }
+    ensures pool { IfOk result InPool }
+    ensures fault { IfErr result (λ e. (e ≡ ListFault.NoMemory) ⊎ ((e ≡ ListFault.PoolEnd) × (launch.now.config.pool_count < delegated (opening_entries launch.now.config)))) }
+{
+    let config = launch.config();
+    let mut draft = Draft {
+        launch,
+        placed,
+        tables: Tables::new(alloc, config.s2sz, config.block_level),
+        kept: Vec::new(alloc),
+        taken: 0,
+        recs: 0,
+    };
+    draft.delegate_all(start_count(config.s2sz))?;
+    let rd = draft.delegate()?;
+    draft.push(Kept::RealmCreate { rd })?;
+    Ok(draft)
+}
+
+impl Plan {
+    /// The plan of a list that was made.
+    fn of<'a>(alloc: Global, draft: Draft<'a>) -> Result<Plan, ListFault>
+        requires { length draft.placed.now.recs ≤ 512 }
+        ensures plan { IfOk result (λ plan. plan ≡ entries_in draft.entry) }
+        ensures fault { IfErr result (λ e. e ≡ ListFault.NoMemory) }
+    {
+        Ok(Plan {
+            params: realm_params(draft.launch),
+            num_aux: draft.launch.config().num_aux,
+            recs: Vec::from_slice(alloc, draft.placed.recs())?,
+            kept: draft.kept,
+        })
+    }
+
+    /// How many commands it has.
+    pub fn len(&self) -> usize
+        ensures { result ≡ length self.now }
+    {
+        self.kept.len()
+    }
+
+    /// The number of the item and of its page, where a command creates a measured page.
+    pub fn page_of(&self, index: usize) -> Option<(usize, u64)>
+        requires { index < length self.now }
+        ensures { result ≡ option_and_then page_of (slice_get self.now index) }
+    {
+        match self.kept[index] {
+            Kept::Page { item, page, .. } => Some((item as usize, page as u64)),
+            _ => None,
+        }
+    }
+
+    /// A command of the list. Where it creates a measured page, the page's content is this measurement; others do not use it.
+    pub fn command(&self, index: usize, content: &Measurement) -> Command
+        requires { index < length self.now }
+        ensures { option_map (command_of (λ item page. content.now)) (slice_get self.now index) ≡ Some result }
+    {
+        let pool = self.params.rtt_base;
+        match self.kept[index] {
+            Kept::Delegate { granule } => Command::Delegate {
+                granule: granule_at(pool, granule as u64),
+            },
+            Kept::RealmCreate { rd } => Command::RealmCreate {
+                rd: granule_at(pool, rd as u64),
+                params: self.params,
+            },
+            Kept::RttCreate { rtt, ipa, level } => Command::RttCreate {
+                rtt: granule_at(pool, rtt as u64),
+                ipa,
+                level,
+            },
+            Kept::InitRipas { base, top } => Command::InitRipas { base, top },
+            Kept::Page { granule, ipa, .. } => Command::DataCreate {
+                granule: granule_at(pool, granule as u64),
+                ipa,
+                content: Some(*content),
+            },
+            Kept::Unmeasured { granule, ipa } => Command::DataCreate {
+                granule: granule_at(pool, granule as u64),
+                ipa,
+                content: None,
+            },
+            Kept::RecCreate { rec, number } => {
+                rec_create(pool, self.num_aux, self.recs.as_slice(), rec, number)
+            }
+            Kept::Activate => Command::Activate,
+        }
+    }
+}
+
+/// A granule of the pool that begins at an address.
+fn granule_at(pool: u64, number: u64) -> u64
+    requires low { pool < 2 ^ 48 }
+    requires few { number < 2 ^ 33 }
+    ensures { result ≡ granule pool number }
+{
+    pool + 4096 * number
+}
+
+/// The granules from this number of the pool on, in the first places.
+fn granules_at(pool: u64, first: u64, count: usize) -> [u64; MOST_AUX]
+    requires low { pool < 2 ^ 48 }
+    requires few { first ≤ 2 ^ 32 }
+    requires count { count ≤ 16 }
+    ensures { take count result ≡ granules count (granule pool first) }
+{
+    let mut granules = [0; MOST_AUX];
+    for index in 0..count {
+        granules[index] = granule_at(pool, first + index as u64);
+    }
+    granules
+}
+
+/// The command that creates a REC of the launch, in a granule of the pool and with the auxiliary granules after it.
+fn rec_create(pool: u64, num_aux: u8, recs: &[PlacedRec], rec: u32, number: u16) -> Command
+    requires low { pool < 2 ^ 48 }
+    requires aux { num_aux ≤ 16 }
+    requires few { length recs.now ≤ 512 }
+    ensures { Whole result ≡ rec_entry pool num_aux rec number (slice_get recs.now number) }
+{
+    match recs.get(number as usize) {
+        Some(placed) => {
+            let aux = granules_at(pool, rec as u64 + 1, num_aux as usize);
+            Command::RecCreate {
+                rec: granule_at(pool, rec as u64),
+                params: RecParams::new(
+                    if placed.runnable { 1 } else { 0 },
+                    rec_mpidr(number as usize),
+                    placed.pc,
+                    placed.x,
+                    &aux[..num_aux as usize],
+                ),
+            }
+        }
+        None => Command::Activate,
+    }
+}
