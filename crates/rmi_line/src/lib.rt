@@ -1,0 +1,7 @@
+//! The one spelling of a command of the monitor in a listing: a line of words.
+#![tactic(auto)]
+
+mod line;
+mod words;
+
+pub use line::print_line;
