@@ -1,6 +1,7 @@
 //! The one spelling of a command of the monitor in a listing: a line of words.
 #![tactic(auto)]
 
+pub mod laws;
 mod line;
 mod words;
 
