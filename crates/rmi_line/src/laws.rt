@@ -3,10 +3,16 @@ ghost use Rattle.std.specs.Prelude.{◌≡◌, ◌≢◌, ◌==◌};
 ghost use Rattle.std.specs.List.{All, slice_split};
 ghost use Rattle.rim_desc.specs.declared.command.Command.{Command};
 ghost use Rattle.rmi_line.specs.Line.{line_of, words_of};
+ghost use Rattle.rmi_line.specs.Typed.{IsTyped};
 
 /// The spaces of a line part exactly its words, and no byte of it is a newline: a reader can part the lines of
 /// a listing by newlines, and their words by spaces.
 pub fn spaces_part_the_words()
     ensures words { (command : Command) → slice_split (λ b. b == 32) (line_of command) ≡ words_of command }
     ensures newline { (command : Command) → All (λ b. b ≢ 10) (line_of command) }
+{}
+
+/// No two commands have the same line.
+pub fn one_command_a_line()
+    ensures { (first second : Command) → IsTyped first → IsTyped second → line_of first ≡ line_of second → first ≡ second }
 {}
