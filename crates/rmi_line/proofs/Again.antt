@@ -1,13 +1,13 @@
 -- A command comes back from its words, so no two commands have the same line.
-use Rattle.std.proofs.Common.{◌≡◌, ℕ, zero, suc, ◌+◌, ◌*◌, ◌/◌, ◌%◌, ◌^◌, ◌<◌, true, false, cond, List, [], ◌∷◌, ◌++◌, length, map, take, drop, get_or, refl, sym, ap, ◌∙◌, arith, codes, Option, Some, None}
+use Rattle.std.proofs.Common.{◌≡◌, ℕ, zero, suc, ◌^◌, ◌<◌, cond, List, [], ◌∷◌, ◌++◌, length, map, take, drop, get_or, refl, sym, ap, ◌∙◌, arith, codes, Option, Some, None}
 use Rattle.std.proofs.Math.Seq.{drop-append_seam, take-append_seam}
 use Rattle.std.proofs.lemmas.Fmt.{decimal_is_IsNumeral}
 use Rattle.std.proofs.lemmas.List.{length-map}
-use Rattle.std.proofs.lemmas.List.Elements.{All-head, All-tail}
+use Rattle.std.proofs.lemmas.List.Elements.{All-tail}
 use Rattle.std.proofs.lemmas.Nat.{from_be_bytes-to_be_bytes_8}
 use Rattle.std.specs.Fmt.{decimal}
-use Rattle.std.specs.Int.{byte_at, bytes_high_first, from_be_bytes, to_be_bytes, w64}
-use Rattle.std.specs.List.{All, slice_split}
+use Rattle.std.specs.Int.{bytes_high_first, from_be_bytes, to_be_bytes, w64}
+use Rattle.std.specs.List.{slice_split}
 use Rattle.std.specs.Prelude.{◌==◌}
 use Rattle.std.specs.Result.{result_unwrap_or}
 use Rattle.std.specs.Str.{bytes_eq}
@@ -23,7 +23,7 @@ use Rattle.rim_desc.specs.declared.measurement.Algo.TheVariants.{Sha256, Sha512}
 use Rattle.rim_desc.specs.declared.measurement.Measurement.{Measurement}
 use Rattle.rim_desc.specs.declared.realm.RealmParams.{RealmParams}
 use Rattle.rmi_line.specs.Line.{algo_word, content_words, line_of, realm_words, rec_words, words_of}
-use Rattle.rmi_line.specs.Typed.{FitBytes, FitWords, IsTyped, content_bytes}
+use Rattle.rmi_line.specs.inside.Typed.{FitBytes, FitWords, IsTyped, content_bytes}
 use Rattle.rmi_line.proofs.Spaces.{line_of-split}
 
 -- ---- what words say
@@ -147,14 +147,14 @@ rec_again rec r (words, gprs, aux, eight) =
     let front : take 8 (xs ++ others) ≡ xs = ap (λ k. take k (xs ++ others)) (sym count) ∙ take-append_seam xs others in
     let back : drop 8 (xs ++ others) ≡ others = ap (λ k. drop k (xs ++ others)) (sym count) ∙ drop-append_seam xs others in
     rw (
-  address_again r.flags (words 1 0 (omega arith)),
-  address_again r.mpidr (words 2 0 (omega arith)),
-  address_again r.pc (words 3 0 (omega arith)),
-  front,
-  back,
-  addresses_again r.gprs gprs,
-  addresses_again r.aux aux,
-) refl
+      address_again r.flags (words 1 0 (omega arith)),
+      address_again r.mpidr (words 2 0 (omega arith)),
+      address_again r.pc (words 3 0 (omega arith)),
+      front,
+      back,
+      addresses_again r.gprs gprs,
+      addresses_again r.aux aux,
+    ) refl
 
 command_again : (command : Command) → IsTyped command → command_said (words_of command) ≡ command
 unfolding command_said

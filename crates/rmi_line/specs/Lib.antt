@@ -1,3 +1,2 @@
 pub mod Line
-pub mod Typed
 pub mod inside

@@ -3,7 +3,8 @@ ghost use Rattle.std.specs.Prelude.{◌≡◌, ◌≢◌, ◌==◌};
 ghost use Rattle.std.specs.List.{All, slice_split};
 ghost use Rattle.rim_desc.specs.declared.command.Command.{Command};
 ghost use Rattle.rmi_line.specs.Line.{line_of, words_of};
-ghost use Rattle.rmi_line.specs.Typed.{IsTyped};
+
+use crate::typed::typed;
 
 /// The spaces of a line part exactly its words, and no byte of it is a newline: a reader can part the lines of
 /// a listing by newlines, and their words by spaces.
@@ -13,6 +14,9 @@ pub fn spaces_part_the_words()
 {}
 
 /// No two commands have the same line.
-pub fn one_command_a_line()
-    ensures { (first second : Command) → IsTyped first → IsTyped second → line_of first ≡ line_of second → first ≡ second }
-{}
+pub fn one_command_a_line(first: rim_desc::Command, second: rim_desc::Command)
+    ensures { line_of first ≡ line_of second → first ≡ second }
+{
+    typed(first);
+    typed(second);
+}

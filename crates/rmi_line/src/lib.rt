@@ -3,6 +3,7 @@
 
 pub mod laws;
 mod line;
+mod typed;
 mod words;
 
 pub use line::print_line;

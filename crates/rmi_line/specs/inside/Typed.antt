@@ -1,6 +1,5 @@
--- What the type of a command keeps, for laws about all commands: each number fits in its bits, and a REC has
--- eight registers. rim_desc declares these types.
-use Rattle.std.specs.Prelude.{◌≡◌, ℕ, ◌^◌, ◌<◌, List, [], ◌∷◌, ◌++◌, Option, Some, None, length}
+-- What the type of a command keeps: each number fits in its bits, and a REC has eight registers.
+use Rattle.std.specs.Prelude.{◌≡◌, ℕ, ◌^◌, ◌<◌, List, [], ◌∷◌, Option, Some, None, length}
 use Rattle.std.specs.List.{All}
 use Rattle.rim_desc.specs.declared.command.Command.{Command}
 use Rattle.rim_desc.specs.declared.command.Command.TheVariants.{Delegate, RealmCreate, RttCreate, InitRipas, DataCreate, RecCreate, Activate}
