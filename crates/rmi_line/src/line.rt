@@ -10,8 +10,8 @@ use refusal::NoMemory;
 use rim_desc::{Algo, Command, Measurement, RealmParams, RecParams};
 use std::alloc::Global;
 
-/// The line of a command, without its newline: the command's name and its words, parted by one space.
-/// Nothing else spells the command.
+/// The line of a command, without its newline: the command's name and its other words, parted by one space.
+/// A command has this one line, and no other command has it.
 pub fn print_line(alloc: Global, command: &Command) -> Result<Vec<u8>, NoMemory>
     ensures { IfOk result (λ line. line.items ≡ line_of command.now) }
 {
