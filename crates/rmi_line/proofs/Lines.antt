@@ -1,0 +1,50 @@
+-- A line as it grows, word by word.
+use Rattle.std.proofs.Common.{◌≡◌, ℕ, List, [], ◌∷◌, ◌++◌, refl, sym, ap, ◌∙◌, append_assoc}
+use Rattle.std.proofs.lemmas.List.{append-nil}
+use Rattle.std.specs.List.{flat_map, join_with_byte}
+use Rattle.rim_desc.specs.declared.command.Command.{Command}
+use Rattle.rmi_line.specs.Line.{line_of, words_of}
+use Rattle.rmi_line.specs.inside.Words.{spaced}
+
+-- a line after some more words
+abbrev pub grown : List ℕ → List (List ℕ) → List ℕ
+grown line [] = line
+grown line (word ∷ words) = grown (line ++ spaced word) words
+
+-- the first word and all others
+abbrev pub from_first : List (List ℕ) → List ℕ
+from_first [] = []
+from_first (word ∷ words) = grown word words
+
+grown-spaced : (line : List ℕ) (words : List (List ℕ)) → grown line words ≡ line ++ flat_map spaced words
+grown-spaced line [] = sym (append-nil line)
+grown-spaced line (word ∷ words) = grown-spaced (line ++ spaced word) words ∙ append_assoc line (spaced word) (flat_map spaced words)
+
+-- two words, and some more
+pub grown-two : (line first second : List ℕ) (words : List (List ℕ))
+    → grown line (first ∷ second ∷ words) ≡ ((line ++ spaced first) ++ spaced second) ++ flat_map spaced words
+grown-two line first second words = grown-spaced ((line ++ spaced first) ++ spaced second) words
+
+grown-append : (line : List ℕ) (front back : List (List ℕ)) → grown line (front ++ back) ≡ grown (grown line front) back
+grown-append line [] back = refl
+grown-append line (word ∷ front) back = grown-append (line ++ spaced word) front back
+
+-- a word between others
+pub grown-between : (line word : List ℕ) (front back : List (List ℕ))
+    → grown line (front ++ word ∷ back) ≡ ((line ++ flat_map spaced front) ++ spaced word) ++ flat_map spaced back
+grown-between line word front back =
+    grown-append line front (word ∷ back) ∙ grown-spaced (grown line front ++ spaced word) back
+    ∙ ap (λ l. (l ++ spaced word) ++ flat_map spaced back) (grown-spaced line front)
+
+joined : (word : List ℕ) (words : List (List ℕ)) → join_with_byte 32 (word ∷ words) ≡ word ++ flat_map spaced words
+joined word [] = sym (append-nil word)
+joined word (next ∷ words) = ap (λ t. word ++ (32 ∷ t)) (joined next words)
+
+from_first-joined : (words : List (List ℕ)) → join_with_byte 32 words ≡ from_first words
+from_first-joined [] = refl
+from_first-joined (word ∷ words) = joined word words ∙ sym (grown-spaced word words)
+
+-- the line of a command, from its name on
+pub line_of-grown : (command : Command) → line_of command ≡ from_first (words_of command)
+unfolding line_of
+line_of-grown command = from_first-joined (words_of command)

@@ -1,0 +1,6 @@
+use Rattle.std.proofs.Common.{rules}
+use Rattle.rmi_line.proofs.Lines.{grown-between, line_of-grown}
+use Rattle.rmi_line.proofs.line.rec_create.Goals as goal
+
+pub returns : goal.returns
+returns c = rw (line_of-grown, grown-between) (search rules)

@@ -1,0 +1,3 @@
+-- What the loops of this crate keep, and what the types of a command keep.
+pub mod Words
+pub mod Typed

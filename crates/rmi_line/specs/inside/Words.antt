@@ -1,0 +1,6 @@
+-- A line word by word, as it grows.
+use Rattle.std.specs.Prelude.{ℕ, List, ◌++◌, codes}
+
+-- a word with the space before it
+abbrev pub spaced : List ℕ → List ℕ
+spaced word = codes " " ++ word

@@ -1,0 +1,22 @@
+//! Laws for readers of the definitions, proved.
+ghost use Rattle.std.specs.Prelude.{◌≡◌, ◌≢◌, ◌==◌};
+ghost use Rattle.std.specs.List.{All, slice_split};
+ghost use Rattle.rim_desc.specs.declared.command.Command.{Command};
+ghost use Rattle.rmi_line.specs.Line.{line_of, words_of};
+
+use crate::typed::typed;
+
+/// The spaces of a line part exactly its words, and no byte of it is a newline: a reader can part the lines of
+/// a listing by newlines, and their words by spaces.
+pub fn spaces_part_the_words()
+    ensures words { (command : Command) → slice_split (λ b. b == 32) (line_of command) ≡ words_of command }
+    ensures newline { (command : Command) → All (λ b. b ≢ 10) (line_of command) }
+{}
+
+/// No two commands have the same line.
+pub fn one_command_a_line(first: rim_desc::Command, second: rim_desc::Command)
+    ensures { line_of first ≡ line_of second → first ≡ second }
+{
+    typed(first);
+    typed(second);
+}
