@@ -22,7 +22,8 @@ use Rattle.rim_manifest.specs.declared.form.Presence.TheVariants.{Required, Opti
 use Rattle.rim_manifest.specs.Faults.{fault_if, lowest}
 use Rattle.rim_manifest.specs.Forms.{has_kind, is_over, is_table, is_within}
 use Rattle.rim_manifest.specs.Given.{AreGiven, GivesBytes, GivesNumber, GivesTruth, IsGiven, algorithm_text}
-use Rattle.rim_manifest.specs.Launches.{ReleaseData, algorithm_in, config_of, digits_in, launch_of, launches_from, number_in, text_in, truth_in}
+use Rattle.rim_manifest.specs.Launches.{ReleaseData, config_of, launch_of, launches_from}
+use Rattle.rim_manifest.specs.Values.{algorithm_in, digits_in, number_in, text_in, truth_in}
 use Rattle.rim_manifest.specs.Manifest.{fault_or_release, has_two_names, has_version, items_in, launch_faults, launches_at, launches_of, manifest_faults, read_of}
 use Rattle.rim_manifest.specs.Checks.{cell_faults, has_unknown_key, rule_faults, table_faults, value_faults}
 use Rattle.rim_manifest.specs.Rules.{launch_rules, top_rules}
