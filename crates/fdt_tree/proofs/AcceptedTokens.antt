@@ -14,7 +14,7 @@ Allowed p end_node = 0 < p.depth
 Allowed p nop = Unit {0}
 Allowed p finish = ⊥
 
--- the tokens may stand there, and the root has ended behind them
+-- the tokens may be at this place, and the root has ended after them
 abbrev pub Accepts : Place → List Token → Type 0
 Accepts p [] = (p.depth ≡ 0) × (p.late ≡ true)
 Accepts p (t ∷ ts) = Allowed p t × Accepts (after p t) ts

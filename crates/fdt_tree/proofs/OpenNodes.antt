@@ -40,7 +40,7 @@ opened_child b child =
     ∙ ap (λ (ts : List Token). begin_node b.name ∷ ts) (sym (append_assoc (map property b.properties) (tokens b.children) (opened child ++ end_node ∷ [])))
     ∙ sym (append_assoc (opened b) (opened child) (end_node ∷ []))
 
--- a property, while there are no children
+-- a property, before any child
 opened_property : (b : Branch) (e : PropertyData) → has_any b.children ≡ false → opened (with_property b e) ≡ opened b ++ property e ∷ []
 opened_property b e h = go b.children h
   where

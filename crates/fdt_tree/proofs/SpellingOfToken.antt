@@ -107,7 +107,7 @@ string_takes f bytes name e = go (until_zero bytes) refl e
     go None h q = absurd cc
     go (Some n) h q = let z : take n bytes ≡ name = cc in let t = zero_takes bytes n h in (t.0, t.1 ∙ ap (λ (x : List ℕ). x ++ (0 ∷ t.0)) z)
 
--- a token that is not END, and what it took where bytes stand behind it
+-- a token that is not END, and what it took where bytes follow it
 abbrev Taking : List ℕ → Place → List ℕ → Token → List ℕ → Type 0
 Taking strings p whole t rest = (t ≡ finish → ⊥) × (0 < length rest → Took strings p whole t rest)
 

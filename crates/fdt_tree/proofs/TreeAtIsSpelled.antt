@@ -15,7 +15,7 @@ after_properties : (es : List PropertyData) (ts : List Token) (b : Pending) (aro
 after_properties [] ts b around e none_yet = e ∙ ap (λ (xs : List PropertyData). record { properties = xs; children = b.children } ∷ around) none_yet
 after_properties (x ∷ es) ts b around e none_yet = ap (with_token (property x)) (after_properties es ts b around e none_yet)
 
--- nodes in front, where no child stands yet
+-- nodes in front, where no child is yet
 behind_nodes : (f : Nodes) (ts : List Token) (es : List PropertyData) (around : List Pending) → pending_of ts ≡ record { properties = es; children = none } ∷ around → pending_of (tokens f ++ ts) ≡ record { properties = es; children = f } ∷ around
 behind_nodes none ts es around e = e
 behind_nodes (node name properties children next) ts es around e =

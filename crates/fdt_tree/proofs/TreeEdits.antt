@@ -23,7 +23,7 @@ values_legal name value (e ∷ es) good h = go (bytes_eq e.name name) (values_le
     go true ih = (h.0, h.1)
     go false ih = (h.0, ih)
 
--- what stands inside a node that is so deep
+-- what is inside a node of this depth
 abbrev pub IsLegalBranch : ℕ → Branch → Type 0
 IsLegalBranch depth b = AreLegal b.properties × IsLegal depth b.children
 

@@ -36,7 +36,7 @@ no_nops (property e ∷ ts) = no_nops ts
 no_nops (end_node ∷ ts) = no_nops ts
 no_nops (finish ∷ ts) = no_nops ts
 
--- what stands in an open node from here up to its end
+-- what is in an open node from here up to its end
 record Inside (p : Place) (ts : List Token) : Type 0 where
   properties : List PropertyData
   children : Nodes

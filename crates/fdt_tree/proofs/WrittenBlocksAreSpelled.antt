@@ -10,7 +10,7 @@ use Rattle.fdt_tree.specs.Writing.{is_among, noted, names_after, strings_text, o
 use Rattle.fdt_tree.proofs.ScanOfSpelled.{inside}
 use Rattle.fdt_tree.proofs.NameTables.{is_noted}
 
--- ---- where a name is told to begin, it stands, also with more names behind
+-- ---- a name is where it is said to begin, also with more names after it
 
 past : (xs ys : List ℕ) (k o : ℕ) → length xs ≡ k → drop (k + o) (xs ++ ys) ≡ drop o ys
 past xs ys k o e = sym (drop-drop o k (xs ++ ys)) ∙ ap (drop o) (drop_at xs ys k e)
@@ -77,7 +77,7 @@ module _ (strings : List ℕ) (short : length strings < 2 ^ 32) where
   text_again names (nop ∷ ts) s fits = (to_be_bytes w32 4, text_after names ts, refl, text_again names ts s (omega (arith, fits)), refl)
   text_again names (finish ∷ ts) s fits = (to_be_bytes w32 9, text_after names ts, refl, text_again names ts s (omega (arith, fits)), refl)
 
--- ---- there is no NOP among the tokens of nodes
+-- ---- the tokens of nodes have no NOP among them
 
 module _ (us : List Token) where
   nops_append : (ts : List Token) → without_nops (ts ++ us) ≡ without_nops ts ++ without_nops us

@@ -54,7 +54,7 @@ names_grow names (end_node ∷ ts) = names_grow names ts
 names_grow names (nop ∷ ts) = names_grow names ts
 names_grow names (finish ∷ ts) = names_grow names ts
 
--- ---- tokens behind tokens
+-- ---- tokens after tokens
 
 pub HasTokens_then : (strings : List ℕ) (a b c : Output) (names : List (List ℕ)) (ts us : List Token) → HasTokens strings a b names ts → HasTokens strings b c (names_after names ts) us → HasTokens strings a c names (ts ++ us)
 HasTokens_then strings a b c names ts us h k = record {
@@ -64,7 +64,7 @@ HasTokens_then strings a b c names ts us h k = record {
   known = subst (HasNames strings c.names) (sym (names_append names ts us)) k.known;
 }
 
--- what is too much is so with tokens in front of it and behind it
+-- what is too much is so with tokens before it and after it
 pub too_much_then : (e : FdtFault) (names : List (List ℕ)) (ts us vs : List Token) → TooMuch e (size_of (names_after names ts) us) → TooMuch e (size_of names (ts ++ (us ++ vs)))
 too_much_then e names ts us vs h =
     let n1 = ap (λ (ns : List (List ℕ)). length (strings_text ns)) (names_append names ts (us ++ vs) ∙ names_append (names_after names ts) us vs) in
@@ -102,7 +102,7 @@ one_more_node strings ns i n lt is =
     push : (ms : List Node) → tokens_of_nodes strings (ms ++ n ∷ []) ≡ tokens_of_nodes strings ms ++ tokens_of_nodes strings (n ∷ [])
     push ms = ap (λ (bs : List Branch). tokens (joined bs)) (branches_push ms) ∙ nodes_append (branches strings ms) (branches strings (n ∷ []))
 
--- ---- the tokens up to one, that one, and those behind it
+-- ---- the tokens up to one, that one, and those after it
 
 properties_append : (strings : List ℕ) (ps qs : List Property) → tokens_of_properties strings (ps ++ qs) ≡ tokens_of_properties strings ps ++ tokens_of_properties strings qs
 properties_append strings [] qs = refl
@@ -186,7 +186,7 @@ module _ (strings : List ℕ) (node : Node) (items : List Node) (i : ℕ) (names
 
 -- ---- the file
 
--- bytes behind bytes
+-- bytes after bytes
 pub two : (front a b x y : List ℕ) → x ≡ front ++ a → y ≡ x ++ b → y ≡ front ++ (a ++ b)
 two front a b x y p q = q ∙ ap (λ (z : List ℕ). z ++ b) p ∙ append_assoc front a b
 

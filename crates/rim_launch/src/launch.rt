@@ -133,7 +133,7 @@ impl Launch {
     }
 }
 
-/// Whether there are no more regions, items and RECs than a launch may have.
+/// Whether the regions, the items and the RECs are no more than a launch may have.
 fn within_limits(ram: &[Region], items: &[Item], recs: &[Rec]) -> bool
     ensures { result ≡ (nat_le (length ram.now) 64 && nat_le (length items.now) 64 && nat_le (length recs.now) 1024) }
 {

@@ -51,7 +51,7 @@ holds : (b : Bool) → not b ≡ false → b ≡ true
 holds true e = refl
 holds false e = cc
 
--- ---- what stands at a key
+-- ---- the value at a key
 
 good_value : (f : Form) (d : Data) → cond (has_kind f d) (value_faults f d) (WrongKind ∷ []) ≡ [] → (has_kind f d ≡ true) × (is_within f d ≡ true)
 good_value f d e = go (has_kind f d) e
@@ -71,7 +71,7 @@ number_given key p low high default (Some (integer (pos n))) e = in_range (nat_l
 number_given key p low high default (Some (integer (negsuc n))) e = absurd (true≢false (sym (good_value (form.Number (pos low) (pos high)) (integer (negsuc n)) e).1))
 number_given key p low high default (Some d) e = absurd (true≢false (sym (good_value (form.Number (pos low) (pos high)) d e).0))
 
--- where it has to be there
+-- where it has to be given
 number_there : (key : List ℕ) (low high default : ℕ) (o : Option Data)
     → cell_faults (record { key = key; form = form.Number (pos low) (pos high); presence = Required }) o ≡ [] → o ≡ Some (integer (pos (number_in low high default o)))
 number_there key low high default None e = cc
