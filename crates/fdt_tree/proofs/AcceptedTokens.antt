@@ -2,7 +2,7 @@
 use Rattle.std.proofs.Common.{◌≡◌, ℕ, ◌+◌, ◌-◌, ◌<◌, true, false, List, [], ◌∷◌, ◌++◌, map, refl, sym, ap, subst, ◌∙◌, append_assoc, arith, eqb}
 use Rattle.std.proofs.lemmas.Bool.{ne_eqb}
 use Rattle.std.specs.Prelude.{IsTrue}
-use Rattle.fdt_tree.specs.Devicetree.{Entry, Nodes, none, node, Token, begin_node, property, end_node, nop, finish, tokens}
+use Rattle.fdt_tree.specs.Devicetree.{PropertyData, Nodes, none, node, Token, begin_node, property, end_node, nop, finish, tokens}
 use Rattle.fdt_tree.specs.declared.reading.place.Place.{Place}
 use Rattle.fdt_tree.specs.Scanning.{after, legal_at}
 use Rattle.fdt_tree.specs.Names.{legal, AreLegal, IsLegal}
@@ -14,7 +14,7 @@ Allowed p end_node = 0 < p.depth
 Allowed p nop = Unit {0}
 Allowed p finish = ⊥
 
--- the tokens may stand there, and the root has ended behind them
+-- the tokens may be at this place, and the root has ended after them
 abbrev pub Accepts : Place → List Token → Type 0
 Accepts p [] = (p.depth ≡ 0) × (p.late ≡ true)
 Accepts p (t ∷ ts) = Allowed p t × Accepts (after p t) ts
@@ -23,7 +23,7 @@ abbrev pub behind : Place → Nodes → Place
 behind p none = p
 behind p (node n es children next) = record { depth = p.depth; late = true }
 
-pub properties_accept : (es : List Entry) (d : ℕ) (more : List Token) → 0 < d → AreLegal es → Accepts (record { depth = d; late = false }) more → Accepts (record { depth = d; late = false }) (map property es ++ more)
+pub properties_accept : (es : List PropertyData) (d : ℕ) (more : List Token) → 0 < d → AreLegal es → Accepts (record { depth = d; late = false }) more → Accepts (record { depth = d; late = false }) (map property es ++ more)
 properties_accept [] d more h legal_es rest = rest
 properties_accept (e ∷ es) d more h legal_es rest = ((h, refl, legal_es.0), properties_accept es d more h legal_es.1 rest)
 

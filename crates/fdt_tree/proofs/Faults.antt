@@ -4,7 +4,7 @@ use Rattle.fdt_tree.specs.declared.fault.FdtFault.{FdtFault}
 use Rattle.fdt_tree.specs.declared.fault.FdtFault.TheVariants.{NoMemory}
 use Rattle.fdt_tree.specs.inside.NameTables.{TooMuch}
 
--- there is want of memory alone where something is found
+-- where something is found, want of memory is the only fault
 pub fails_ok : {X Y : Type 0} (e : FdtFault) (x : X) (y : Y) (read : Result X FdtFault) → read ≡ Ok x
     → (e ≡ NoMemory) ⊎ (read ≡ Err e) → (e ≡ NoMemory) ⊎ ((let r : Result Y FdtFault = Ok y in r) ≡ Err e)
 fails_ok e x y read h (inl memory) = inl memory

@@ -1,7 +1,7 @@
 -- Memory and faults: what is known of an error that may be a refusal of memory.
 pub mod Faults
 -- Reading is spelling. A structure block is scanned as it is spelled:
--- the tokens of a tree may be where they are, and tokens that may be there are those of one legal root
+-- the tokens of a tree may be where they are, and tokens that may be where they are spell one legal root
 pub mod AcceptedTokens
 pub mod TokensOfOneTree
 -- what is spelled is scanned

@@ -69,7 +69,7 @@ length-name_runs (c ∷ cs) = ap suc (length-name_runs cs)
 
 -- ---- a name
 
--- the letters in front of s go as far as its first zero byte, or there is another byte before that
+-- the letters in front of s go as far as its first zero byte, or to another byte before that
 abbrev pub IsName : List ℕ → ℕ → Type 0
 IsName s n = (name_run s ≡ n) × (all_name_characters (take n s) ≡ true) × (get_or s n 0 ≡ 0)
 

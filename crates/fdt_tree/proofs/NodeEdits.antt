@@ -8,8 +8,8 @@ use Rattle.fdt_tree.specs.declared.node.Property.{Property}
 use Rattle.fdt_tree.specs.declared.node.Node.{Node}
 use Rattle.fdt_tree.specs.declared.node.Node.TheOpen.{Node-F}
 use Rattle.fdt_tree.specs.declared.node.Node.TheViews.{out-Node, roll-Node}
-use Rattle.fdt_tree.specs.Devicetree.{Entry, Nodes, Branch, joined}
-use Rattle.fdt_tree.specs.NodeViews.{name_of, entry_of, branch, branches}
+use Rattle.fdt_tree.specs.Devicetree.{PropertyData, Nodes, Branch, joined}
+use Rattle.fdt_tree.specs.NodeViews.{name_of, property_data, branch, branches}
 use Rattle.fdt_tree.specs.inside.OpenNodes.{followed}
 use Rattle.fdt_tree.specs.Edits.{with_value, first_such, in_front_of}
 use Rattle.fdt_tree.proofs.OpenNodes.{branch_roll, branch_out, child_step}
@@ -22,7 +22,7 @@ has_name s name p = bytes_eq (name_of s p.name) name
 abbrev ValuePut : List ℕ → List ℕ → List ℕ → List Property → ℕ → ℕ → Type 0
 ValuePut s name v xs i at =
     (k : ℕ) × (at ≡ i + k) × (k < length xs)
-    × ((x y : Property) → x ≡ get_or xs k x → entry_of s y ≡ record { name = name_of s x.name; value = v } → map (entry_of s) (set xs k y) ≡ with_value name v (map (entry_of s) xs))
+    × ((x y : Property) → x ≡ get_or xs k x → property_data s y ≡ record { name = name_of s x.name; value = v } → map (property_data s) (set xs k y) ≡ with_value name v (map (property_data s) xs))
 
 pub value_put_at : (s name v : List ℕ) (xs : List Property) (i at : ℕ) → position_from (has_name s name) i xs ≡ Some at → ValuePut s name v xs i at
 value_put_at s name v [] i at e = absurd cc
@@ -31,21 +31,21 @@ value_put_at s name v (p ∷ ps) i at e = go (has_name s name p) refl e (value_p
     go : (b : Bool) → has_name s name p ≡ b → cond b (Some i) (position_from (has_name s name) (i + 1) ps) ≡ Some at → (position_from (has_name s name) (i + 1) ps ≡ Some at → ValuePut s name v ps (i + 1) at) → ValuePut s name v (p ∷ ps) i at
     go true h q ih =
         let here : i ≡ at = cc in
-        (0, omega arith, omega arith, λ x y is e. rw h (ap (λ (w : Entry). w ∷ map (entry_of s) ps) (e ∙ ap (λ (z : Property). let w : Entry = record { name = name_of s z.name; value = v } in w) is)))
+        (0, omega arith, omega arith, λ x y is e. rw h (ap (λ (w : PropertyData). w ∷ map (property_data s) ps) (e ∙ ap (λ (z : Property). let w : PropertyData = record { name = name_of s z.name; value = v } in w) is)))
     go false h q ih =
         let t = ih q in
-        (suc t.0, omega (arith, t.1), omega (arith, t.2), λ x y is e. rw h (ap (λ (ws : List Entry). entry_of s p ∷ ws) (t.3 x y is e)))
+        (suc t.0, omega (arith, t.1), omega (arith, t.2), λ x y is e. rw h (ap (λ (ws : List PropertyData). property_data s p ∷ ws) (t.3 x y is e)))
 
 pub value_added : (s name v : List ℕ) (xs : List Property) (i : ℕ) → position_from (has_name s name) i xs ≡ None
-    → with_value name v (map (entry_of s) xs) ≡ map (entry_of s) xs ++ record { name = name; value = v } ∷ []
+    → with_value name v (map (property_data s) xs) ≡ map (property_data s) xs ++ record { name = name; value = v } ∷ []
 value_added s name v [] i e = refl
 value_added s name v (p ∷ ps) i e = go (has_name s name p) refl e (value_added s name v ps (i + 1))
   where
     go : (b : Bool) → has_name s name p ≡ b → cond b (Some i) (position_from (has_name s name) (i + 1) ps) ≡ None
-        → (position_from (has_name s name) (i + 1) ps ≡ None → with_value name v (map (entry_of s) ps) ≡ map (entry_of s) ps ++ record { name = name; value = v } ∷ [])
-        → with_value name v (map (entry_of s) (p ∷ ps)) ≡ map (entry_of s) (p ∷ ps) ++ record { name = name; value = v } ∷ []
+        → (position_from (has_name s name) (i + 1) ps ≡ None → with_value name v (map (property_data s) ps) ≡ map (property_data s) ps ++ record { name = name; value = v } ∷ [])
+        → with_value name v (map (property_data s) (p ∷ ps)) ≡ map (property_data s) (p ∷ ps) ++ record { name = name; value = v } ∷ []
     go true h q ih = absurd cc
-    go false h q ih = rw h (ap (λ (ws : List Entry). entry_of s p ∷ ws) (ih q))
+    go false h q ih = rw h (ap (λ (ws : List PropertyData). property_data s p ∷ ws) (ih q))
 
 -- ---- children
 
@@ -102,17 +102,17 @@ around s n x children e f g =
 
 -- ---- at the index that was found
 
-pub value_put_found : (s name v : List ℕ) (xs : List Property) (at : ℕ) (x y : Property) → Some at ≡ position_from (has_name s name) 0 xs → x ≡ get_or xs at x → entry_of s y ≡ record { name = name_of s x.name; value = v }
-    → map (entry_of s) (set xs at y) ≡ with_value name v (map (entry_of s) xs)
+pub value_put_found : (s name v : List ℕ) (xs : List Property) (at : ℕ) (x y : Property) → Some at ≡ position_from (has_name s name) 0 xs → x ≡ get_or xs at x → property_data s y ≡ record { name = name_of s x.name; value = v }
+    → map (property_data s) (set xs at y) ≡ with_value name v (map (property_data s) xs)
 value_put_found s name v xs at x y e is made =
     let t = value_put_at s name v xs 0 at (sym e) in
     let same : t.0 ≡ at = omega (arith, t.1) in
     rw same at t.3 x y is made
 
-pub value_pushed : (s name v : List ℕ) (xs ys : List Property) (y : Property) → None ≡ position_from (has_name s name) 0 xs → ys ≡ xs ++ y ∷ [] → entry_of s y ≡ record { name = name; value = v }
-    → map (entry_of s) ys ≡ with_value name v (map (entry_of s) xs)
+pub value_pushed : (s name v : List ℕ) (xs ys : List Property) (y : Property) → None ≡ position_from (has_name s name) 0 xs → ys ≡ xs ++ y ∷ [] → property_data s y ≡ record { name = name; value = v }
+    → map (property_data s) ys ≡ with_value name v (map (property_data s) xs)
 value_pushed s name v xs ys y e pushed made =
-    ap (map (entry_of s)) pushed ∙ map_push (entry_of s) xs y ∙ ap (λ (w : Entry). map (entry_of s) xs ++ w ∷ []) made ∙ sym (value_added s name v xs 0 (sym e))
+    ap (map (property_data s)) pushed ∙ map_push (property_data s) xs y ∙ ap (λ (w : PropertyData). map (property_data s) xs ++ w ∷ []) made ∙ sym (value_added s name v xs 0 (sym e))
 
 pub edited_found : (s : List ℕ) (test : List ℕ → Bool) (edit : Branch → Branch) (new : Branch) (n : Node) (o : Node-F Node) (at : ℕ) (x y : Node)
     → o.name.items ≡ (out-Node n).name.items → o.properties.items ≡ (out-Node n).properties.items → o.children.items ≡ set (out-Node n).children.items at y

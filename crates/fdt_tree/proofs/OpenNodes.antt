@@ -6,15 +6,15 @@ use Rattle.fdt_tree.specs.declared.node.Node.{Node}
 use Rattle.fdt_tree.specs.declared.node.Node.TheOpen.{Node-F}
 use Rattle.fdt_tree.specs.declared.node.Node.TheViews.{out-Node, roll-Node}
 use Rattle.fdt_tree.specs.declared.node.Node.TheFolds.{fold-roll-Node, fold_out-Node}
-use Rattle.fdt_tree.specs.Devicetree.{Entry, Nodes, none, node, Branch, joined, Token, begin_node, property, end_node, tokens, bare}
-use Rattle.fdt_tree.specs.inside.OpenNodes.{has_any, opened, all_opened, with_entry, followed, with_child}
-use Rattle.fdt_tree.specs.NodeViews.{branch, branches, branch_step, entry_of}
+use Rattle.fdt_tree.specs.Devicetree.{PropertyData, Nodes, none, node, Branch, joined, Token, begin_node, property, end_node, tokens, bare}
+use Rattle.fdt_tree.specs.inside.OpenNodes.{has_any, opened, all_opened, with_property, followed, with_child}
+use Rattle.fdt_tree.specs.NodeViews.{branch, branches, branch_step, property_data}
 use Rattle.fdt_tree.specs.declared.reading.place.Place.{Place}
 
-pub branch_roll : (strings : List ℕ) (x : Node-F Node) → branch strings (roll-Node x) ≡ record { name = x.name.items; entries = map (entry_of strings) x.properties.items; children = joined (branches strings x.children.items) }
+pub branch_roll : (strings : List ℕ) (x : Node-F Node) → branch strings (roll-Node x) ≡ record { name = x.name.items; properties = map (property_data strings) x.properties.items; children = joined (branches strings x.children.items) }
 branch_roll strings = fold-roll-Node Branch (branch_step strings)
 
-pub branch_out : (strings : List ℕ) (n : Node) → branch strings n ≡ record { name = (out-Node n).name.items; entries = map (entry_of strings) (out-Node n).properties.items; children = joined (branches strings (out-Node n).children.items) }
+pub branch_out : (strings : List ℕ) (n : Node) → branch strings n ≡ record { name = (out-Node n).name.items; properties = map (property_data strings) (out-Node n).properties.items; children = joined (branches strings (out-Node n).children.items) }
 branch_out strings = fold_out-Node Branch (branch_step strings)
 
 pub all_opened_push : (bs : List Branch) (b : Branch) → all_opened (bs ++ b ∷ []) ≡ all_opened bs ++ opened b
@@ -23,7 +23,7 @@ all_opened_push (a ∷ bs) b = ap (λ (ts : List Token). opened a ++ ts) (all_op
 
 -- the tokens of nodes and one more
 tokens_followed : (f : Nodes) (b : Branch) → tokens (followed f b) ≡ tokens f ++ (opened b ++ end_node ∷ [])
-tokens_followed none b = ap (λ (ts : List Token). begin_node b.name ∷ ts) (sym (append_assoc (map property b.entries) (tokens b.children) (end_node ∷ [])))
+tokens_followed none b = ap (λ (ts : List Token). begin_node b.name ∷ ts) (sym (append_assoc (map property b.properties) (tokens b.children) (end_node ∷ [])))
 tokens_followed (node n es k next) b =
     ap (λ (ts : List Token). begin_node n ∷ (map property es ++ (tokens k ++ (end_node ∷ ts)))) (tokens_followed next b)
     ∙ ap (λ (ts : List Token). begin_node n ∷ (map property es ++ ts)) (sym (append_assoc (tokens k) (end_node ∷ tokens next) (opened b ++ end_node ∷ [])))
@@ -31,23 +31,23 @@ tokens_followed (node n es k next) b =
 
 pub joined_push : (bs : List Branch) (b : Branch) → joined (bs ++ b ∷ []) ≡ followed (joined bs) b
 joined_push [] b = refl
-joined_push (a ∷ bs) b = ap (node a.name a.entries a.children) (joined_push bs b)
+joined_push (a ∷ bs) b = ap (node a.name a.properties a.children) (joined_push bs b)
 
 -- a child that ends: its parent has one more
 opened_child : (b child : Branch) → opened (with_child b child) ≡ (opened b ++ opened child) ++ end_node ∷ []
 opened_child b child =
-    ap (λ (ts : List Token). begin_node b.name ∷ (map property b.entries ++ ts)) (tokens_followed b.children child)
-    ∙ ap (λ (ts : List Token). begin_node b.name ∷ ts) (sym (append_assoc (map property b.entries) (tokens b.children) (opened child ++ end_node ∷ [])))
+    ap (λ (ts : List Token). begin_node b.name ∷ (map property b.properties ++ ts)) (tokens_followed b.children child)
+    ∙ ap (λ (ts : List Token). begin_node b.name ∷ ts) (sym (append_assoc (map property b.properties) (tokens b.children) (opened child ++ end_node ∷ [])))
     ∙ sym (append_assoc (opened b) (opened child) (end_node ∷ []))
 
--- a property, while there are no children
-opened_entry : (b : Branch) (e : Entry) → has_any b.children ≡ false → opened (with_entry b e) ≡ opened b ++ property e ∷ []
-opened_entry b e h = go b.children h
+-- a property, before any child
+opened_property : (b : Branch) (e : PropertyData) → has_any b.children ≡ false → opened (with_property b e) ≡ opened b ++ property e ∷ []
+opened_property b e h = go b.children h
   where
-    go : (f : Nodes) → has_any f ≡ false → opened (record { name = b.name; entries = b.entries ++ e ∷ []; children = f }) ≡ opened (record { name = b.name; entries = b.entries; children = f }) ++ property e ∷ []
+    go : (f : Nodes) → has_any f ≡ false → opened (record { name = b.name; properties = b.properties ++ e ∷ []; children = f }) ≡ opened (record { name = b.name; properties = b.properties; children = f }) ++ property e ∷ []
     go none q =
-        ap (λ (ts : List Token). begin_node b.name ∷ (ts ++ [])) (map_push property b.entries e)
-        ∙ ap (λ (ts : List Token). begin_node b.name ∷ ts) (append-nil (map property b.entries ++ property e ∷ []) ∙ ap (λ (ts : List Token). ts ++ property e ∷ []) (sym (append-nil (map property b.entries))))
+        ap (λ (ts : List Token). begin_node b.name ∷ (ts ++ [])) (map_push property b.properties e)
+        ∙ ap (λ (ts : List Token). begin_node b.name ∷ ts) (append-nil (map property b.properties ++ property e ∷ []) ∙ ap (λ (ts : List Token). ts ++ property e ∷ []) (sym (append-nil (map property b.properties))))
     go (node a b' c d) q = absurd cc
 
 has_any_followed : (f : Nodes) (b : Branch) → has_any (followed f b) ≡ true
@@ -58,7 +58,7 @@ pub child_step : (strings : List ℕ) (parent child : Node) (x : Node-F Node) �
     → branch strings (roll-Node x) ≡ with_child (branch strings parent) (branch strings child)
 child_step strings parent child x n p k =
     let o = out-Node parent in
-    let made : Nodes → Branch = λ f. record { name = o.name.items; entries = map (entry_of strings) o.properties.items; children = f } in
+    let made : Nodes → Branch = λ f. record { name = o.name.items; properties = map (property_data strings) o.properties.items; children = f } in
     let one : branch strings (roll-Node x) ≡ made (joined (branches strings (o.children.items ++ child ∷ []))) = branch_roll strings x ∙ rw (n, p, k) refl in
     one
     ∙ ap (λ (bs : List Branch). made (joined bs)) (map_push (branch strings) o.children.items child)
@@ -75,11 +75,11 @@ pub begin_step : (strings : List ℕ) (outer outer' : List Node) (cur new : Node
     → all_opened (branches strings outer') ++ opened (branch strings new) ≡ (all_opened (branches strings outer) ++ opened (branch strings cur)) ++ begin_node name ∷ []
 begin_step strings outer outer' cur new name e n = rw (outer_push strings outer outer' cur e, n) refl
 
-pub property_step : (strings : List ℕ) (outer : List Node) (cur new : Node) (e : Entry) → has_any (branch strings cur).children ≡ false → branch strings new ≡ with_entry (branch strings cur) e
+pub property_step : (strings : List ℕ) (outer : List Node) (cur new : Node) (e : PropertyData) → has_any (branch strings cur).children ≡ false → branch strings new ≡ with_property (branch strings cur) e
     → all_opened (branches strings outer) ++ opened (branch strings new) ≡ (all_opened (branches strings outer) ++ opened (branch strings cur)) ++ property e ∷ []
 property_step strings outer cur new e early n =
     ap (λ (b : Branch). all_opened (branches strings outer) ++ opened b) n
-    ∙ ap (λ (ts : List Token). all_opened (branches strings outer) ++ ts) (opened_entry (branch strings cur) e early)
+    ∙ ap (λ (ts : List Token). all_opened (branches strings outer) ++ ts) (opened_property (branch strings cur) e early)
     ∙ sym (append_assoc (all_opened (branches strings outer)) (opened (branch strings cur)) (property e ∷ []))
 
 pub end_step : (strings : List ℕ) (outer outer' : List Node) (parent cur new : Node) → outer ≡ outer' ++ parent ∷ [] → branch strings new ≡ with_child (branch strings parent) (branch strings cur)

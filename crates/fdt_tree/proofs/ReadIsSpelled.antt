@@ -67,4 +67,4 @@ pub one_tree : (bytes : List ℕ) (t u : Devicetree) → Spells bytes t → Spel
 one_tree bytes t u a b = same_tree t u (same_parts (parts_of t) (parts_of u) (sym (spelled_reads bytes t a) ∙ spelled_reads bytes u b))
 
 pub spelled_whole : (bytes : List ℕ) (t : Devicetree) → Spells bytes t → IsWhole t
-spelled_whole bytes t s = record { reservations = spelled_are t.reservations _ s.reservations; entries = s.root.entries; children = s.root.children }
+spelled_whole bytes t s = record { reservations = spelled_are t.reservations _ s.reservations; properties = s.root.properties; children = s.root.children }

@@ -7,7 +7,7 @@ use Rattle.std.proofs.lemmas.List.{take_at, drop_at, length-append, length-drop,
 use Rattle.std.proofs.lemmas.Nat.{from_be_bytes-to_be_bytes_4}
 use Rattle.fdt_tree.specs.declared.fault.FdtFault.{FdtFault}
 use Rattle.fdt_tree.specs.declared.fault.FdtFault.TheVariants.{BadToken, BadString}
-use Rattle.fdt_tree.specs.Devicetree.{Entry, Token, begin_node, property, end_node, nop, finish}
+use Rattle.fdt_tree.specs.Devicetree.{PropertyData, Token, begin_node, property, end_node, nop, finish}
 use Rattle.fdt_tree.specs.declared.reading.place.Place.{Place}
 use Rattle.fdt_tree.specs.Scanning.{after, number_at, padded_at, until_zero, legal_at, string_at, name_at, begin_at, property_at, kind_at, token_at, scan}
 use Rattle.fdt_tree.specs.Names.{legal, all_name_characters, is_name_character}
@@ -88,7 +88,7 @@ name_again strings offset name there legal_here =
     let named : string_at BadString (drop offset strings) ≡ Ok name = ap (string_at BadString) there.1 ∙ string_again BadString name there.0 (and_both (ltb 0 (length name)) (all_name_characters name) legal_here) in
     rw (within, named, legal_here) refl
 
-property_again : (strings : List ℕ) (p : Place) (e : Entry) (offset : ℕ) (pad rest : List ℕ) → offset < 2 ^ 32 → length e.value < 2 ^ 32 → IsPadding (length e.value) pad
+property_again : (strings : List ℕ) (p : Place) (e : PropertyData) (offset : ℕ) (pad rest : List ℕ) → offset < 2 ^ 32 → length e.value < 2 ^ 32 → IsPadding (length e.value) pad
     → IsStringAt strings offset e.name → Allowed p (property e)
     → property_at strings p (to_be_bytes w32 (length e.value) ++ (to_be_bytes w32 offset ++ (e.value ++ (pad ++ rest)))) ≡ Ok (property e, rest)
 unfolding property_at

@@ -26,7 +26,7 @@ number_long bytes x e = go (ltb (length bytes) 4) refl e
     go true h q = absurd cc
     go false h q = let long : 4 ≤ length bytes = ltb-false _ _ h in omega arith
 
--- where tokens are scanned, there are bytes
+-- tokens are scanned of some bytes
 scan_long : (strings : List ℕ) (n : ℕ) (p : Place) (bytes : List ℕ) (ts : List Token) → scan strings n p bytes ≡ Ok ts → 0 < length bytes
 unfolding scan token_at
 scan_long strings zero p bytes ts e = absurd cc

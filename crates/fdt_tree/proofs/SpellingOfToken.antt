@@ -7,7 +7,7 @@ use Rattle.std.proofs.lemmas.List.{take_at, take-append-drop, length-append, len
 use Rattle.std.proofs.lemmas.Nat.{be_bytes_4}
 use Rattle.fdt_tree.specs.declared.fault.FdtFault.{FdtFault}
 use Rattle.fdt_tree.specs.declared.fault.FdtFault.TheVariants.{BadToken, BadName, BadString, LateProperty, TooDeep}
-use Rattle.fdt_tree.specs.Devicetree.{Entry, Token, begin_node, property, end_node, nop, finish}
+use Rattle.fdt_tree.specs.Devicetree.{PropertyData, Token, begin_node, property, end_node, nop, finish}
 use Rattle.refusal.specs.Answer.{◌>>=◌}
 use Rattle.fdt_tree.specs.declared.reading.place.Place.{Place}
 use Rattle.fdt_tree.specs.Scanning.{number_at, padded_at, until_zero, legal_at, string_at, name_at, begin_at, property_at, is_over, kind_at, token_at}
@@ -107,7 +107,7 @@ string_takes f bytes name e = go (until_zero bytes) refl e
     go None h q = absurd cc
     go (Some n) h q = let z : take n bytes ≡ name = cc in let t = zero_takes bytes n h in (t.0, t.1 ∙ ap (λ (x : List ℕ). x ++ (0 ∷ t.0)) z)
 
--- a token that is not END, and what it took where bytes stand behind it
+-- a token that is not END, and what it took where bytes follow it
 abbrev Taking : List ℕ → Place → List ℕ → Token → List ℕ → Type 0
 Taking strings p whole t rest = (t ≡ finish → ⊥) × (0 < length rest → Took strings p whole t rest)
 
@@ -165,19 +165,19 @@ property_takes strings p bytes t rest fits deep e whole shape =
     let g = unless p.late LateProperty (name_at strings b.0.0 >>= made_of c.0.0 c.0.1) (t, rest) c.2 in
     let i = bind_ok (name_at strings b.0.0) (made_of c.0.0 c.0.1) (t, rest) g.1 in
     let k = name_takes strings b.0.0 i.0 i.1 in
-    let entry : Entry = record { name = i.0; value = c.0.0 } in
-    let is = pair_is (property entry) t c.0.1 rest i.2 in (
+    let found : PropertyData = record { name = i.0; value = c.0.0 } in
+    let is = pair_is (property found) t c.0.1 rest i.2 in (
       λ z. other is.0 z,
       λ more.
           let v = padded_takes a.0.0 b.0.1 c.0.0 c.0.1 o.rest_fits (omega (arith, more, ap length is.1)) c.1 in
           let front = to_be_bytes w32 3 ++ (to_be_bytes w32 (length c.0.0) ++ (to_be_bytes w32 b.0.0 ++ (c.0.0 ++ v.pad))) in
           let parts : whole ≡ front ++ c.0.1 = shape ∙ ap (λ (x : List ℕ). to_be_bytes w32 3 ++ x) (n.parts ∙ ap (λ (m : ℕ). to_be_bytes w32 m ++ a.0.1) (sym v.len) ∙ ap (λ (x : List ℕ). to_be_bytes w32 (length c.0.0) ++ x) (o.parts ∙ ap (λ (x : List ℕ). to_be_bytes w32 b.0.0 ++ x) v.parts)) ∙ grouped (to_be_bytes w32 3) (to_be_bytes w32 (length c.0.0)) (to_be_bytes w32 b.0.0) c.0.0 v.pad c.0.1 in
           let fits_len : length c.0.0 < 2 ^ 32 = subst (λ (m : ℕ). m < 2 ^ 32) (sym v.len) n.below in
-          let made : Took strings p whole (property entry) c.0.1 = record { front = front; parts = parts; text = (b.0.0, v.pad, o.below, fits_len, subst (λ (m : ℕ). IsPadding m v.pad) (sym v.len) v.padding, k.0, refl); allowed = (deep, g.0, k.1); rest_fits = v.rest_fits } in
+          let made : Took strings p whole (property found) c.0.1 = record { front = front; parts = parts; text = (b.0.0, v.pad, o.below, fits_len, subst (λ (m : ℕ). IsPadding m v.pad) (sym v.len) v.padding, k.0, refl); allowed = (deep, g.0, k.1); rest_fits = v.rest_fits } in
           subst (λ (r : List ℕ). Took strings p whole t r) is.1 (subst (λ (u : Token). Took strings p whole u c.0.1) is.0 made),
     )
   where
-    other : {e : Entry} → property e ≡ t → t ≡ finish → ⊥
+    other : {e : PropertyData} → property e ≡ t → t ≡ finish → ⊥
     other a z = cc
 
     grouped : (a b c d e f : List ℕ) → a ++ (b ++ (c ++ (d ++ (e ++ f)))) ≡ (a ++ (b ++ (c ++ (d ++ e)))) ++ f

@@ -3,13 +3,13 @@ use Rattle.std.proofs.Common.{◌≡◌, ℕ, ◌+◌, ◌-◌, ◌<◌, true, f
 use Rattle.std.specs.Prelude.{IsTrue}
 use Rattle.std.proofs.lemmas.Bool.{ne_eqb, eqb-true}
 use Rattle.std.proofs.lemmas.List.{nil_from_length}
-use Rattle.fdt_tree.specs.Devicetree.{Entry, Nodes, none, node, Token, begin_node, property, end_node, nop, finish, tokens, Root}
+use Rattle.fdt_tree.specs.Devicetree.{PropertyData, Nodes, none, node, Token, begin_node, property, end_node, nop, finish, tokens, Root}
 use Rattle.fdt_tree.specs.declared.reading.place.Place.{Place}
 use Rattle.fdt_tree.specs.Scanning.{start, legal_at}
 use Rattle.fdt_tree.specs.Names.{legal, AreLegal, IsLegal}
 use Rattle.fdt_tree.proofs.AcceptedTokens.{Accepts, behind}
 
-properties_legal : (es : List Entry) (p : Place) (more : List Token) → Accepts p (map property es ++ more) → AreLegal es × Accepts p more
+properties_legal : (es : List PropertyData) (p : Place) (more : List Token) → Accepts p (map property es ++ more) → AreLegal es × Accepts p more
 properties_legal [] p more ok = (tt, ok)
 properties_legal (e ∷ es) p more ok = let r = properties_legal es p more ok.1 in ((ok.0.2, r.0), r.1)
 
@@ -43,8 +43,8 @@ nodes_legal (node n es children next) p rest h ok =
 -- the tokens up to END are those of a root with legal names and depths
 pub record IsRoot (f : Nodes) : Type 0 where
   pub root : Root
-  pub same : f ≡ node [] root.entries root.children none
-  pub entries : AreLegal root.entries
+  pub same : f ≡ node [] root.properties root.children none
+  pub properties : AreLegal root.properties
   pub children : IsLegal 1 root.children
 
 pub root_only : (f : Nodes) → Accepts start (tokens f) → IsRoot f
@@ -57,7 +57,7 @@ root_only (node n es children next) ok =
     let c = shut children 1 (tokens next) b.1 in
     let no_name : n ≡ [] = nil_from_length n (eqb-true _ _ ok.0.0) in
     let alone : next ≡ none = no_more next c in
-    record { root = record { entries = es; children = children }; same = rw (no_name, alone) refl; entries = a.0; children = b.0 }
+    record { root = record { properties = es; children = children }; same = rw (no_name, alone) refl; properties = a.0; children = b.0 }
   where
     no_more : (next : Nodes) → Accepts (record { depth = 0; late = true }) (tokens next) → next ≡ none
     no_more none r = refl
@@ -80,15 +80,15 @@ NoProperty (end_node ∷ ts) = Unit {0}
 NoProperty (nop ∷ ts) = Unit {0}
 NoProperty (finish ∷ ts) = Unit {0}
 
-same_entries : (es fs : List Entry) (x y : List Token) → NoProperty x → NoProperty y → map property es ++ x ≡ map property fs ++ y → (es ≡ fs) × (x ≡ y)
-same_entries [] [] x y p q e = (refl, e)
-same_entries [] (f ∷ fs) x y p q e = absurd (subst NoProperty e p)
-same_entries (f ∷ es) [] x y p q e = absurd (subst NoProperty (sym e) q)
-same_entries (a ∷ es) (b ∷ fs) x y p q e =
+same_properties : (es fs : List PropertyData) (x y : List Token) → NoProperty x → NoProperty y → map property es ++ x ≡ map property fs ++ y → (es ≡ fs) × (x ≡ y)
+same_properties [] [] x y p q e = (refl, e)
+same_properties [] (f ∷ fs) x y p q e = absurd (subst NoProperty e p)
+same_properties (f ∷ es) [] x y p q e = absurd (subst NoProperty (sym e) q)
+same_properties (a ∷ es) (b ∷ fs) x y p q e =
     let heads : property a ≡ property b = cc in
     let same : a ≡ b = cc in
     let tails : map property es ++ x ≡ map property fs ++ y = cc in
-    let r = same_entries es fs x y p q tails in
+    let r = same_properties es fs x y p q tails in
     (rw (same, r.0) refl, r.1)
 
 no_property : (f : Nodes) (x : List Token) → NoProperty (tokens f ++ (end_node ∷ x))
@@ -104,11 +104,11 @@ same_nodes (node n es k next) (node m fs l after_it) x y p q e =
     let name : n ≡ m = cc in
     let bodies : (map property es ++ (tokens k ++ (end_node ∷ tokens next))) ++ x ≡ (map property fs ++ (tokens l ++ (end_node ∷ tokens after_it))) ++ y = cc in
     let grouped = sym (group es k next x) ∙ bodies ∙ group fs l after_it y in
-    let r = same_entries es fs (tokens k ++ (end_node ∷ (tokens next ++ x))) (tokens l ++ (end_node ∷ (tokens after_it ++ y))) (no_property k (tokens next ++ x)) (no_property l (tokens after_it ++ y)) grouped in
+    let r = same_properties es fs (tokens k ++ (end_node ∷ (tokens next ++ x))) (tokens l ++ (end_node ∷ (tokens after_it ++ y))) (no_property k (tokens next ++ x)) (no_property l (tokens after_it ++ y)) grouped in
     let inner = same_nodes k l (end_node ∷ (tokens next ++ x)) (end_node ∷ (tokens after_it ++ y)) tt tt r.1 in
     let tails : tokens next ++ x ≡ tokens after_it ++ y = cc (inner.1) in
     let outer = same_nodes next after_it x y p q tails in
     (rw (name, r.0, inner.0, outer.0) refl, outer.1)
   where
-    group : (es : List Entry) (k next : Nodes) (x : List Token) → (map property es ++ (tokens k ++ (end_node ∷ tokens next))) ++ x ≡ map property es ++ (tokens k ++ (end_node ∷ (tokens next ++ x)))
+    group : (es : List PropertyData) (k next : Nodes) (x : List Token) → (map property es ++ (tokens k ++ (end_node ∷ tokens next))) ++ x ≡ map property es ++ (tokens k ++ (end_node ∷ (tokens next ++ x)))
     group es k next x = append_assoc (map property es) (tokens k ++ (end_node ∷ tokens next)) x ∙ ap (λ (ts : List Token). map property es ++ ts) (append_assoc (tokens k) (end_node ∷ tokens next) x)

@@ -6,7 +6,7 @@ use Rattle.fdt_tree.specs.declared.fault.FdtFault.{FdtFault}
 use Rattle.fdt_tree.specs.declared.fault.FdtFault.TheVariants.{BadName, TooDeep}
 use Rattle.fdt_tree.specs.declared.tree.Reservation.{Reservation}
 use Rattle.fdt_tree.specs.declared.node.Node.{Node}
-use Rattle.fdt_tree.specs.Devicetree.{Entry, Nodes, none, node, Branch, Devicetree, branch_of_root, bare}
+use Rattle.fdt_tree.specs.Devicetree.{PropertyData, Nodes, none, node, Branch, Devicetree, branch_of_root, bare}
 use Rattle.fdt_tree.specs.Names.{legal, AreLegal, IsLegal}
 use Rattle.fdt_tree.specs.NodeViews.{branch, root_of}
 use Rattle.fdt_tree.specs.Wholeness.{IsWhole}
@@ -15,17 +15,17 @@ use Rattle.fdt_tree.specs.Edits.{with_value, value_put, first_such, in_front_of,
 
 -- ---- what is legal stays legal
 
-pub values_legal : (name value : List ℕ) (es : List Entry) → IsTrue (legal name) → AreLegal es → AreLegal (with_value name value es)
+pub values_legal : (name value : List ℕ) (es : List PropertyData) → IsTrue (legal name) → AreLegal es → AreLegal (with_value name value es)
 values_legal name value [] good h = (good, tt)
 values_legal name value (e ∷ es) good h = go (bytes_eq e.name name) (values_legal name value es good h.1)
   where
-    go : (b : Bool) → AreLegal (with_value name value es) → AreLegal (cond b (let w : List Entry = record { name = e.name; value = value } ∷ es in w) (e ∷ with_value name value es))
+    go : (b : Bool) → AreLegal (with_value name value es) → AreLegal (cond b (let w : List PropertyData = record { name = e.name; value = value } ∷ es in w) (e ∷ with_value name value es))
     go true ih = (h.0, h.1)
     go false ih = (h.0, ih)
 
--- what stands inside a node that is so deep
+-- what is inside a node of this depth
 abbrev pub IsLegalBranch : ℕ → Branch → Type 0
-IsLegalBranch depth b = AreLegal b.entries × IsLegal depth b.children
+IsLegalBranch depth b = AreLegal b.properties × IsLegal depth b.children
 
 -- a change that keeps the name and what is legal
 abbrev Keeps : ℕ → (Branch → Branch) → Type 0
@@ -35,8 +35,8 @@ pub first_legal : (depth : ℕ) (test : List ℕ → Bool) (edit : Branch → Br
 first_legal depth test edit new none low good whole keeps h = (low, good, whole.0, whole.1, tt)
 first_legal depth test edit new (node n es ks next) low good whole keeps h = go (test n) (first_legal depth test edit new next low good whole keeps h.4)
   where
-    go : (t : Bool) → IsLegal depth (first_such test edit new next) → IsLegal depth (cond t (in_front_of next (edit (record { name = n; entries = es; children = ks }))) (node n es ks (first_such test edit new next)))
-    go true ih = let k = keeps (record { name = n; entries = es; children = ks }) (h.2, h.3) in (low, ap legal k.0 ∙ h.1, k.1.0, k.1.1, h.4)
+    go : (t : Bool) → IsLegal depth (first_such test edit new next) → IsLegal depth (cond t (in_front_of next (edit (record { name = n; properties = es; children = ks }))) (node n es ks (first_such test edit new next)))
+    go true ih = let k = keeps (record { name = n; properties = es; children = ks }) (h.2, h.3) in (low, ap legal k.0 ∙ h.1, k.1.0, k.1.1, h.4)
     go false ih = (h.0, h.1, h.2, h.3, ih)
 
 and_left : (a b : Bool) → a && b ≡ true → IsTrue a × IsTrue b
@@ -44,7 +44,7 @@ and_left true b e = (refl, e)
 and_left false b e = absurd cc
 
 pub edited_keeps : (depth : ℕ) (names : List (List ℕ)) (name value : List ℕ) → depth + length names < 65 → all_legal names ≡ true → IsTrue (legal name) → Keeps depth (edited_below names (value_put name value))
-edited_keeps depth [] name value deep all good b h = (refl, (values_legal name value b.entries good h.0, h.1))
+edited_keeps depth [] name value deep all good b h = (refl, (values_legal name value b.properties good h.0, h.1))
 edited_keeps depth (n ∷ ns) name value deep all good b h =
     let parts = and_left (legal n) (all_legal ns) all in
     let keeps = edited_keeps (depth + 1) ns name value (omega arith) parts.1 good in
@@ -78,7 +78,7 @@ unfolding set_at
 set_done path name value s names rs boot old new u e f unnamed made =
     let put = edited_below names (value_put name value) in
     let t = tree_with rs boot s old in
-    let named : branch_of_root (root_of s old) ≡ branch s old = ap (λ (n : List ℕ). let b : Branch = record { name = n; entries = (branch s old).entries; children = (branch s old).children } in b) (sym unnamed) in
+    let named : branch_of_root (root_of s old) ≡ branch s old = ap (λ (n : List ℕ). let b : Branch = record { name = n; properties = (branch s old).properties; children = (branch s old).children } in b) (sym unnamed) in
     rw (e, f) (ap (λ (b : Branch). Ok (with_root t b)) (ap put named ∙ sym made))
 
 pub path_refused : (path name value : List ℕ) (t : Devicetree) (e : FdtFault) → path_names (names_on path) ≡ Err e → set_at path name value t ≡ Err e
@@ -101,8 +101,8 @@ pub set_whole : (name value s : List ℕ) (names : List (List ℕ)) (rs : List R
     → branch s new ≡ edited_below names (value_put name value) (branch s old) → IsWhole (tree_with rs boot s old) → IsWhole (tree_with rs boot s new)
 set_whole name value s names rs boot old new u f made w =
     let st = stands names name u f in
-    let kept = edited_keeps 1 names name value (omega (arith, st.low)) st.all st.good (branch s old) (w.entries, w.children) in
-    record { reservations = w.reservations; entries = rw made kept.1.0; children = rw made kept.1.1 }
+    let kept = edited_keeps 1 names name value (omega (arith, st.low)) st.all st.good (branch s old) (w.properties, w.children) in
+    record { reservations = w.reservations; properties = rw made kept.1.0; children = rw made kept.1.1 }
 
 pub set_unnamed : (name value s : List ℕ) (names : List (List ℕ)) (old new : Node) → branch s new ≡ edited_below names (value_put name value) (branch s old) → (branch s old).name ≡ [] → (branch s new).name ≡ []
 set_unnamed name value s names old new made unnamed = ap (λ (b : Branch). b.name) made ∙ same names ∙ unnamed
@@ -116,7 +116,7 @@ set_unnamed name value s names old new made unnamed = ap (λ (b : Branch). b.nam
 pub either_whole : {E : Type 0} (r : Result (Unit {0}) E) (name value s : List ℕ) (names : List (List ℕ)) (rs : List Reservation) (boot : ℕ) (old new : Node) (u : Unit {0}) → check_names names name ≡ Ok u
     → OnOk r (branch s new ≡ edited_below names (value_put name value) (branch s old)) → OnErr r (branch s new ≡ branch s old) → IsWhole (tree_with rs boot s old) → IsWhole (tree_with rs boot s new)
 either_whole (Ok x) name value s names rs boot old new u f done kept w = set_whole name value s names rs boot old new u f done w
-either_whole (Err e) name value s names rs boot old new u f done kept w = record { reservations = w.reservations; entries = rw kept w.entries; children = rw kept w.children }
+either_whole (Err e) name value s names rs boot old new u f done kept w = record { reservations = w.reservations; properties = rw kept w.properties; children = rw kept w.children }
 
 pub either_unnamed : {E : Type 0} (r : Result (Unit {0}) E) (name value s : List ℕ) (names : List (List ℕ)) (old new : Node)
     → OnOk r (branch s new ≡ edited_below names (value_put name value) (branch s old)) → OnErr r (branch s new ≡ branch s old) → (branch s old).name ≡ [] → (branch s new).name ≡ []

@@ -6,7 +6,7 @@ use Rattle.std.proofs.lemmas.Bool.{cases_lt, eqb-true}
 use Rattle.std.proofs.lemmas.List.{length-append, nil_from_length, get_or_past}
 use Rattle.fdt_tree.specs.declared.fault.FdtFault.{FdtFault}
 use Rattle.fdt_tree.specs.declared.reading.place.Place.{Place}
-use Rattle.fdt_tree.specs.Devicetree.{Devicetree, Entry, Nodes, none, node, Root, Token, begin_node, property, end_node, nop, finish, tokens, root_tokens}
+use Rattle.fdt_tree.specs.Devicetree.{Devicetree, PropertyData, Nodes, none, node, Root, Token, begin_node, property, end_node, nop, finish, tokens, root_tokens}
 use Rattle.fdt_tree.specs.Scanning.{start, scan}
 use Rattle.fdt_tree.specs.Reading.{Spells, Parts, parts_of, parts_at, refusal_of}
 use Rattle.refusal.specs.Answer.{◌>>=◌}
@@ -36,18 +36,18 @@ no_nops (property e ∷ ts) = no_nops ts
 no_nops (end_node ∷ ts) = no_nops ts
 no_nops (finish ∷ ts) = no_nops ts
 
--- what stands in an open node from here up to its end
+-- what is in an open node from here up to its end
 record Inside (p : Place) (ts : List Token) : Type 0 where
-  entries : List Entry
+  properties : List PropertyData
   children : Nodes
   rest : List Token
-  parts : ts ≡ map property entries ++ (tokens children ++ (end_node ∷ rest))
-  early : p.late ≡ true → entries ≡ []
+  parts : ts ≡ map property properties ++ (tokens children ++ (end_node ∷ rest))
+  early : p.late ≡ true → properties ≡ []
   accepted : Accepts (record { depth = p.depth - 1; late = true }) rest
   plain : NoNops rest
 
 rest_shorter : (p : Place) (ts : List Token) (i : Inside p ts) → length i.rest < length ts
-rest_shorter p ts i = omega (arith, ap length i.parts, length-append (map property i.entries) (tokens i.children ++ (end_node ∷ i.rest)), length-append (tokens i.children) (end_node ∷ i.rest))
+rest_shorter p ts i = omega (arith, ap length i.parts, length-append (map property i.properties) (tokens i.children ++ (end_node ∷ i.rest)), length-append (tokens i.children) (end_node ∷ i.rest))
 
 inside : (n : ℕ) (p : Place) (ts : List Token) → length ts ≤ n → 0 < p.depth → NoNops ts → Accepts p ts → Inside p ts
 inside n p [] le deep plain ok = absurd (omega (arith, ok.0))
@@ -55,10 +55,10 @@ inside zero p (t ∷ ts) le deep plain ok = absurd (omega arith)
 inside (suc n) p (nop ∷ ts) le deep plain ok = absurd plain
 inside (suc n) p (finish ∷ ts) le deep plain ok = absurd ok.0
 inside (suc n) p (end_node ∷ ts) le deep plain ok =
-    record { entries = []; children = none; rest = ts; parts = refl; early = λ h. refl; accepted = ok.1; plain = plain }
+    record { properties = []; children = none; rest = ts; parts = refl; early = λ h. refl; accepted = ok.1; plain = plain }
 inside (suc n) p (property e ∷ ts) le deep plain ok =
     let i = inside n p ts (omega arith) deep plain ok.1 in
-    record { entries = e ∷ i.entries; children = i.children; rest = i.rest; parts = ap (λ (us : List Token). property e ∷ us) i.parts; early = λ h. absurd (never (sym h ∙ ok.0.1)); accepted = i.accepted; plain = i.plain }
+    record { properties = e ∷ i.properties; children = i.children; rest = i.rest; parts = ap (λ (us : List Token). property e ∷ us) i.parts; early = λ h. absurd (never (sym h ∙ ok.0.1)); accepted = i.accepted; plain = i.plain }
   where
     never : true ≡ false → ⊥
     never q = cc
@@ -69,13 +69,13 @@ inside (suc n) p (begin_node name ∷ ts) le deep plain ok =
     let behind : Place = record { depth = p.depth; late = true } in
     let accepted : Accepts behind i.rest = subst (λ (d : ℕ). Accepts (record { depth = d; late = true }) i.rest) same i.accepted in
     let j = inside n behind i.rest (omega (arith, rest_shorter child ts i)) deep i.plain accepted in
-    let no_more : j.entries ≡ [] = j.early refl in
-    let tail : i.rest ≡ tokens j.children ++ (end_node ∷ j.rest) = j.parts ∙ ap (λ (es : List Entry). map property es ++ (tokens j.children ++ (end_node ∷ j.rest))) no_more in
+    let no_more : j.properties ≡ [] = j.early refl in
+    let tail : i.rest ≡ tokens j.children ++ (end_node ∷ j.rest) = j.parts ∙ ap (λ (es : List PropertyData). map property es ++ (tokens j.children ++ (end_node ∷ j.rest))) no_more in
     record {
-      entries = [];
-      children = node name i.entries i.children j.children;
+      properties = [];
+      children = node name i.properties i.children j.children;
       rest = j.rest;
-      parts = ap (λ (us : List Token). begin_node name ∷ us) (i.parts ∙ ap (λ (us : List Token). map property i.entries ++ (tokens i.children ++ (end_node ∷ us))) tail ∙ regroup (map property i.entries) (tokens i.children) (tokens j.children) (end_node ∷ j.rest));
+      parts = ap (λ (us : List Token). begin_node name ∷ us) (i.parts ∙ ap (λ (us : List Token). map property i.properties ++ (tokens i.children ++ (end_node ∷ us))) tail ∙ regroup (map property i.properties) (tokens i.children) (tokens j.children) (end_node ∷ j.rest));
       early = λ h. refl;
       accepted = j.accepted;
       plain = j.plain;
@@ -103,9 +103,9 @@ some_root (begin_node name ∷ ts) plain ok =
     let i = inside (length ts) (record { depth = 1; late = false }) ts (omega arith) (omega arith) plain ok.1 in
     let last : i.rest ≡ [] = empty_pending i.rest i.plain i.accepted in
     let no_name : name ≡ [] = nil_from_length name (eqb-true _ _ ok.0.0) in (
-      record { entries = i.entries; children = i.children },
-      ap (λ (us : List Token). begin_node name ∷ us) (i.parts ∙ ap (λ (us : List Token). map property i.entries ++ (tokens i.children ++ (end_node ∷ us))) last)
-          ∙ ap (λ (n : List ℕ). begin_node n ∷ (map property i.entries ++ (tokens i.children ++ (end_node ∷ [])))) no_name,
+      record { properties = i.properties; children = i.children },
+      ap (λ (us : List Token). begin_node name ∷ us) (i.parts ∙ ap (λ (us : List Token). map property i.properties ++ (tokens i.children ++ (end_node ∷ us))) last)
+          ∙ ap (λ (n : List ℕ). begin_node n ∷ (map property i.properties ++ (tokens i.children ++ (end_node ∷ [])))) no_name,
     )
 
 pub bytes_fit : (bytes : List ℕ) → All (λ b. b < 256) bytes → IsBytes bytes

@@ -4,13 +4,13 @@ use Rattle.std.specs.Int.{w32, to_be_bytes}
 use Rattle.std.specs.Str.{bytes_eq}
 use Rattle.std.specs.Cmp.Lexicographic.{bytes_decides}
 use Rattle.std.proofs.lemmas.List.{append-nil, length-append, length-replicate, drop_at, drop-drop}
-use Rattle.fdt_tree.specs.Devicetree.{Entry, Nodes, none, node, Token, begin_node, property, end_node, nop, finish, tokens, Root, root_tokens}
+use Rattle.fdt_tree.specs.Devicetree.{PropertyData, Nodes, none, node, Token, begin_node, property, end_node, nop, finish, tokens, Root, root_tokens}
 use Rattle.fdt_tree.specs.Grammar.{IsStringAt, IsTokenText, IsText, without_nops}
 use Rattle.fdt_tree.specs.Writing.{is_among, noted, names_after, strings_text, offset_in, padding_after, begin_text, property_text, text_after}
 use Rattle.fdt_tree.proofs.ScanOfSpelled.{inside}
 use Rattle.fdt_tree.proofs.NameTables.{is_noted}
 
--- ---- where a name is told to begin, it stands, also with more names behind
+-- ---- a name is where it is said to begin, also with more names after it
 
 past : (xs ys : List ℕ) (k o : ℕ) → length xs ≡ k → drop (k + o) (xs ++ ys) ≡ drop o ys
 past xs ys k o e = sym (drop-drop o k (xs ++ ys)) ∙ ap (drop o) (drop_at xs ys k e)
@@ -51,7 +51,7 @@ more_names names (finish ∷ ts) = more_names names ts
 -- ---- the tokens
 
 module _ (strings : List ℕ) (short : length strings < 2 ^ 32) where
-  property_again : (names : List (List ℕ)) (e : Entry) (ts : List Token) → strings ≡ strings_text (names_after (noted names e.name) ts) → length e.value < 2 ^ 32
+  property_again : (names : List (List ℕ)) (e : PropertyData) (ts : List Token) → strings ≡ strings_text (names_after (noted names e.name) ts) → length e.value < 2 ^ 32
       → IsTokenText strings (property e) (property_text (offset_in (noted names e.name) e.name) e.value)
   property_again names e ts s fits =
       let known = noted names e.name in
@@ -77,7 +77,7 @@ module _ (strings : List ℕ) (short : length strings < 2 ^ 32) where
   text_again names (nop ∷ ts) s fits = (to_be_bytes w32 4, text_after names ts, refl, text_again names ts s (omega (arith, fits)), refl)
   text_again names (finish ∷ ts) s fits = (to_be_bytes w32 9, text_after names ts, refl, text_again names ts s (omega (arith, fits)), refl)
 
--- ---- there is no NOP among the tokens of nodes
+-- ---- the tokens of nodes have no NOP among them
 
 module _ (us : List Token) where
   nops_append : (ts : List Token) → without_nops (ts ++ us) ≡ without_nops ts ++ without_nops us
@@ -88,14 +88,14 @@ module _ (us : List Token) where
   nops_append (nop ∷ ts) = nops_append ts
   nops_append (finish ∷ ts) = ap (λ (x : List Token). finish ∷ x) (nops_append ts)
 
-no_nop_in_entries : (es : List Entry) → without_nops (map property es) ≡ map property es
-no_nop_in_entries [] = refl
-no_nop_in_entries (e ∷ es) = ap (λ (x : List Token). property e ∷ x) (no_nop_in_entries es)
+no_nop_in_properties : (es : List PropertyData) → without_nops (map property es) ≡ map property es
+no_nop_in_properties [] = refl
+no_nop_in_properties (e ∷ es) = ap (λ (x : List Token). property e ∷ x) (no_nop_in_properties es)
 
 no_nop_in_nodes : (f : Nodes) → without_nops (tokens f) ≡ tokens f
 no_nop_in_nodes none = refl
 no_nop_in_nodes (node name es children next) =
-    rw (nops_append (tokens children ++ (end_node ∷ tokens next)) (map property es), nops_append (end_node ∷ tokens next) (tokens children), no_nop_in_entries es, no_nop_in_nodes children, no_nop_in_nodes next) refl
+    rw (nops_append (tokens children ++ (end_node ∷ tokens next)) (map property es), nops_append (end_node ∷ tokens next) (tokens children), no_nop_in_properties es, no_nop_in_nodes children, no_nop_in_nodes next) refl
 
 pub no_nop_in_root : (r : Root) → without_nops (root_tokens r) ≡ root_tokens r
-no_nop_in_root r = no_nop_in_nodes (node [] r.entries r.children none)
+no_nop_in_root r = no_nop_in_nodes (node [] r.properties r.children none)

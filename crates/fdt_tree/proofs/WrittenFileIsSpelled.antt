@@ -117,7 +117,7 @@ root_again t whole structure strings =
       parts = refl;
       text = text_again (strings_text (names_after [] ts)) strings [] ts refl (omega (arith, structure, length-append (text_after [] ts) (to_be_bytes w32 9)));
       same = no_nop_in_root t.root;
-      entries = whole.entries;
+      properties = whole.properties;
       children = whole.children;
     }
 

@@ -8,10 +8,10 @@ use Rattle.fdt_tree.specs.declared.node.Node.{Node}
 use Rattle.fdt_tree.specs.declared.node.Node.TheViews.{out-Node}
 use Rattle.fdt_tree.specs.declared.writing.Output.{Output}
 use Rattle.fdt_tree.specs.Devicetree.{Token, begin_node, property, end_node, nop, finish, Branch, joined, tokens}
-use Rattle.fdt_tree.specs.NodeViews.{entry_of, branch, branches}
+use Rattle.fdt_tree.specs.NodeViews.{property_data, branch, branches}
 use Rattle.fdt_tree.specs.Writing.{places_text, versions_text, reservations_text, file_text, structure_text, written, noted, is_among, names_after, strings_text, text_after}
 use Rattle.fdt_tree.specs.inside.NameTables.{HasNames, TooMuch}
-use Rattle.fdt_tree.specs.inside.OutputViews.{AreLengths, HasTokens, size_of, tokens_of_entries, tokens_of_nodes}
+use Rattle.fdt_tree.specs.inside.OutputViews.{AreLengths, HasTokens, size_of, tokens_of_properties, tokens_of_nodes}
 use Rattle.fdt_tree.specs.declared.writing.Lengths.{Lengths}
 use Rattle.fdt_tree.specs.declared.tree.Reservation.{Reservation}
 use Rattle.fdt_tree.specs.declared.tree.Contents.{Contents}
@@ -54,7 +54,7 @@ names_grow names (end_node ∷ ts) = names_grow names ts
 names_grow names (nop ∷ ts) = names_grow names ts
 names_grow names (finish ∷ ts) = names_grow names ts
 
--- ---- tokens behind tokens
+-- ---- tokens after tokens
 
 pub HasTokens_then : (strings : List ℕ) (a b c : Output) (names : List (List ℕ)) (ts us : List Token) → HasTokens strings a b names ts → HasTokens strings b c (names_after names ts) us → HasTokens strings a c names (ts ++ us)
 HasTokens_then strings a b c names ts us h k = record {
@@ -64,7 +64,7 @@ HasTokens_then strings a b c names ts us h k = record {
   known = subst (HasNames strings c.names) (sym (names_append names ts us)) k.known;
 }
 
--- what is too much is so with tokens in front of it and behind it
+-- what is too much is so with tokens before it and after it
 pub too_much_then : (e : FdtFault) (names : List (List ℕ)) (ts us vs : List Token) → TooMuch e (size_of (names_after names ts) us) → TooMuch e (size_of names (ts ++ (us ++ vs)))
 too_much_then e names ts us vs h =
     let n1 = ap (λ (ns : List (List ℕ)). length (strings_text ns)) (names_append names ts (us ++ vs) ∙ names_append (names_after names ts) us vs) in
@@ -77,14 +77,14 @@ too_much_then e names ts us vs h =
 
 -- ---- one more property, or node
 
-pub one_more_entry : (strings : List ℕ) (ps : List Property) (i : ℕ) (p : Property) → i < length ps → p ≡ get_or ps i p
-    → tokens_of_entries strings (take (i + 1) ps) ≡ tokens_of_entries strings (take i ps) ++ property (entry_of strings p) ∷ []
-one_more_entry strings ps i p lt is =
-    ap (tokens_of_entries strings) (take_more ps i p lt ∙ ap (λ (x : Property). take i ps ++ x ∷ []) (sym is)) ∙ push (take i ps)
+pub one_more_property : (strings : List ℕ) (ps : List Property) (i : ℕ) (p : Property) → i < length ps → p ≡ get_or ps i p
+    → tokens_of_properties strings (take (i + 1) ps) ≡ tokens_of_properties strings (take i ps) ++ property (property_data strings p) ∷ []
+one_more_property strings ps i p lt is =
+    ap (tokens_of_properties strings) (take_more ps i p lt ∙ ap (λ (x : Property). take i ps ++ x ∷ []) (sym is)) ∙ push (take i ps)
   where
-    push : (qs : List Property) → tokens_of_entries strings (qs ++ p ∷ []) ≡ tokens_of_entries strings qs ++ property (entry_of strings p) ∷ []
+    push : (qs : List Property) → tokens_of_properties strings (qs ++ p ∷ []) ≡ tokens_of_properties strings qs ++ property (property_data strings p) ∷ []
     push [] = refl
-    push (q ∷ qs) = ap (λ (x : List Token). property (entry_of strings q) ∷ x) (push qs)
+    push (q ∷ qs) = ap (λ (x : List Token). property (property_data strings q) ∷ x) (push qs)
 
 pub nodes_append : (bs cs : List Branch) → tokens (joined (bs ++ cs)) ≡ tokens (joined bs) ++ tokens (joined cs)
 nodes_append [] cs = refl
@@ -102,21 +102,21 @@ one_more_node strings ns i n lt is =
     push : (ms : List Node) → tokens_of_nodes strings (ms ++ n ∷ []) ≡ tokens_of_nodes strings ms ++ tokens_of_nodes strings (n ∷ [])
     push ms = ap (λ (bs : List Branch). tokens (joined bs)) (branches_push ms) ∙ nodes_append (branches strings ms) (branches strings (n ∷ []))
 
--- ---- the tokens up to one, that one, and those behind it
+-- ---- the tokens up to one, that one, and those after it
 
-entries_append : (strings : List ℕ) (ps qs : List Property) → tokens_of_entries strings (ps ++ qs) ≡ tokens_of_entries strings ps ++ tokens_of_entries strings qs
-entries_append strings [] qs = refl
-entries_append strings (p ∷ ps) qs = ap (λ (x : List Token). property (entry_of strings p) ∷ x) (entries_append strings ps qs)
+properties_append : (strings : List ℕ) (ps qs : List Property) → tokens_of_properties strings (ps ++ qs) ≡ tokens_of_properties strings ps ++ tokens_of_properties strings qs
+properties_append strings [] qs = refl
+properties_append strings (p ∷ ps) qs = ap (λ (x : List Token). property (property_data strings p) ∷ x) (properties_append strings ps qs)
 
 nodes_in_memory_append : (strings : List ℕ) (ms ns : List Node) → tokens_of_nodes strings (ms ++ ns) ≡ tokens_of_nodes strings ms ++ tokens_of_nodes strings ns
 nodes_in_memory_append strings [] ns = refl
 nodes_in_memory_append strings (m ∷ ms) ns = simp (nodes_in_memory_append strings ms ns, append_assoc)
 
-pub entries_split : (strings : List ℕ) (ps : List Property) (i : ℕ) (p : Property) → i < length ps → p ≡ get_or ps i p
-    → tokens_of_entries strings ps ≡ tokens_of_entries strings (take i ps) ++ ((property (entry_of strings p) ∷ []) ++ tokens_of_entries strings (drop (i + 1) ps))
-entries_split strings ps i p lt is =
-    ap (tokens_of_entries strings) (sym (take-append-drop i ps)) ∙ entries_append strings (take i ps) (drop i ps)
-    ∙ ap (λ (x : List Token). tokens_of_entries strings (take i ps) ++ x) (at_drop_more (tokens_of_entries strings) ps i p lt ∙ ap (λ (x : Property). tokens_of_entries strings (x ∷ drop (i + 1) ps)) (sym is))
+pub properties_split : (strings : List ℕ) (ps : List Property) (i : ℕ) (p : Property) → i < length ps → p ≡ get_or ps i p
+    → tokens_of_properties strings ps ≡ tokens_of_properties strings (take i ps) ++ ((property (property_data strings p) ∷ []) ++ tokens_of_properties strings (drop (i + 1) ps))
+properties_split strings ps i p lt is =
+    ap (tokens_of_properties strings) (sym (take-append-drop i ps)) ∙ properties_append strings (take i ps) (drop i ps)
+    ∙ ap (λ (x : List Token). tokens_of_properties strings (take i ps) ++ x) (at_drop_more (tokens_of_properties strings) ps i p lt ∙ ap (λ (x : Property). tokens_of_properties strings (x ∷ drop (i + 1) ps)) (sym is))
 
 pub nodes_split : (strings : List ℕ) (ns : List Node) (i : ℕ) (n : Node) → i < length ns → n ≡ get_or ns i n
     → tokens_of_nodes strings ns ≡ tokens_of_nodes strings (take i ns) ++ (tokens_of_nodes strings (n ∷ []) ++ tokens_of_nodes strings (drop (i + 1) ns))
@@ -128,24 +128,24 @@ nodes_split strings ns i n lt is =
 
 -- a node's begin and its properties
 abbrev pub front_of : List ℕ → Node → List Token
-front_of strings n = begin_node (out-Node n).name.items ∷ tokens_of_entries strings (out-Node n).properties.items
+front_of strings n = begin_node (out-Node n).name.items ∷ tokens_of_properties strings (out-Node n).properties.items
 
 node_tokens : (strings : List ℕ) (n : Node) → tokens_of_nodes strings (n ∷ []) ≡ front_of strings n ++ (tokens_of_nodes strings (out-Node n).children.items ++ end_node ∷ [])
 node_tokens strings n = ap (λ (b : Branch). tokens (joined (b ∷ []))) (branch_out strings n)
 
 front_same : (strings : List ℕ) (n : Node) (name : List ℕ) (ps : List Property) → name ≡ (out-Node n).name.items → ps ≡ (out-Node n).properties.items
-    → begin_node name ∷ tokens_of_entries strings ps ≡ front_of strings n
-front_same strings n name ps e f = ap (λ (x : List ℕ). begin_node x ∷ tokens_of_entries strings ps) e ∙ ap (λ (x : List Property). begin_node (out-Node n).name.items ∷ tokens_of_entries strings x) f
+    → begin_node name ∷ tokens_of_properties strings ps ≡ front_of strings n
+front_same strings n name ps e f = ap (λ (x : List ℕ). begin_node x ∷ tokens_of_properties strings ps) e ∙ ap (λ (x : List Property). begin_node (out-Node n).name.items ∷ tokens_of_properties strings x) f
 
 pub front_fails : (strings : List ℕ) (n : Node) (name : List ℕ) (ps : List Property) (names : List (List ℕ)) (e : FdtFault) → name ≡ (out-Node n).name.items → ps ≡ (out-Node n).properties.items
-    → TooMuch e (size_of names (begin_node name ∷ tokens_of_entries strings ps)) → TooMuch e (size_of names (tokens_of_nodes strings (n ∷ [])))
+    → TooMuch e (size_of names (begin_node name ∷ tokens_of_properties strings ps)) → TooMuch e (size_of names (tokens_of_nodes strings (n ∷ [])))
 front_fails strings n name ps names e p q h =
     subst (λ (ts : List Token). TooMuch e (size_of names ts)) (sym (node_tokens strings n))
     (too_much_then e names [] (front_of strings n) (tokens_of_nodes strings (out-Node n).children.items ++ end_node ∷ [])
     (subst (λ (ts : List Token). TooMuch e (size_of names ts)) (front_same strings n name ps p q) h))
 
 pub begun : (strings : List ℕ) (n : Node) (name : List ℕ) (ps : List Property) (names : List (List ℕ)) (a b : Output) → name ≡ (out-Node n).name.items → ps ≡ (out-Node n).properties.items
-    → HasTokens strings a b names (begin_node name ∷ tokens_of_entries strings ps) → HasTokens strings a b names (front_of strings n ++ [])
+    → HasTokens strings a b names (begin_node name ∷ tokens_of_properties strings ps) → HasTokens strings a b names (front_of strings n ++ [])
 begun strings n name ps names a b p q h = subst (λ (ts : List Token). HasTokens strings a b names ts) (front_same strings n name ps p q ∙ sym (append-nil (front_of strings n))) h
 
 module _ (strings : List ℕ) (node : Node) (items : List Node) (i : ℕ) (names : List (List ℕ)) where
@@ -186,7 +186,7 @@ module _ (strings : List ℕ) (node : Node) (items : List Node) (i : ℕ) (names
 
 -- ---- the file
 
--- bytes behind bytes
+-- bytes after bytes
 pub two : (front a b x y : List ℕ) → x ≡ front ++ a → y ≡ x ++ b → y ≡ front ++ (a ++ b)
 two front a b x y p q = q ∙ ap (λ (z : List ℕ). z ++ b) p ∙ append_assoc front a b
 
@@ -200,7 +200,7 @@ file_len boot reserve structure strings = omega (arith, length-append reserve (s
 pub root_tokens_are : (c : Contents) → (branch c.strings.items c.root).name ≡ [] → tokens_of_nodes c.strings.items (c.root ∷ []) ≡ root_tokens (root_of c.strings.items c.root)
 root_tokens_are c h =
     let b = branch c.strings.items c.root in
-    ap (λ (n : List ℕ). tokens (node n b.entries b.children (joined []))) h
+    ap (λ (n : List ℕ). tokens (node n b.properties b.children (joined []))) h
 
 pub size_within : (c : Contents) → (branch c.strings.items c.root).name ≡ [] → size_of [] (tokens_of_nodes c.strings.items (c.root ∷ [])) ≤ length (written (tree_in c))
 size_within c h =

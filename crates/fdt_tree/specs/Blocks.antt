@@ -24,9 +24,13 @@ header_of bytes = record {
   size_dt_struct = word_at 36 bytes;
 }
 
+-- the size of the header in bytes
+abbrev pub header_size : ℕ
+header_size = 40
+
 -- The header and the blocks are within totalsize, and totalsize is within the bytes. Blocks may overlap.
 pub record BlocksFit (h : Header) (len : ℕ) : Type 0 where
-  pub own : 40 ≤ h.totalsize
+  pub own : header_size ≤ h.totalsize
   pub whole : h.totalsize ≤ len
   pub structure_aligned : h.off_dt_struct % 4 ≡ 0
   pub reserve_aligned : h.off_mem_rsvmap % 8 ≡ 0
@@ -38,7 +42,7 @@ pub record BlocksFit (h : Header) (len : ℕ) : Type 0 where
 -- arm64 (Documentation/arch/arm64/booting.rst, "Setup the device tree").
 pub record HasHeader (bytes : List ℕ) (h : Header) : Type 0 where
   pub fields : h ≡ header_of bytes
-  pub long : 40 ≤ length bytes
+  pub long : header_size ≤ length bytes
   pub magic : word_at 0 bytes ≡ 0xd00dfeed
   pub version : h.version ≡ 17
   pub compatible : h.last_comp_version ≤ 17
@@ -59,7 +63,7 @@ strings_block h bytes = take h.size_dt_strings (drop h.off_dt_strings bytes)
 
 abbrev pub blocks_fit : Header → ℕ → Bool
 blocks_fit h len =
-    nat_le 40 h.totalsize && nat_le h.totalsize len
+    nat_le header_size h.totalsize && nat_le h.totalsize len
     && (h.off_dt_struct % 4 == 0) && (h.off_mem_rsvmap % 8 == 0) && nat_le h.off_mem_rsvmap h.totalsize
     && nat_le (h.off_dt_struct + h.size_dt_struct) h.totalsize
     && nat_le (h.off_dt_strings + h.size_dt_strings) h.totalsize
@@ -70,7 +74,7 @@ is_known_version h = (h.version == 17) && nat_le h.last_comp_version 17
 -- the header, or the first check that fails
 unfoldable pub header_at : List ℕ → Result Header FdtFault
 header_at bytes =
-    if nat_lt (length bytes) 40 then Err Short
+    if nat_lt (length bytes) header_size then Err Short
     else (if word_at 0 bytes == 0xd00dfeed then
     (if is_known_version (header_of bytes) then
     (if nat_lt (2 ^ 21) (length bytes) then Err TooLarge

@@ -4,29 +4,29 @@ use Rattle.std.specs.Prelude.{ℕ, List, [], ◌∷◌, length, Bool, true, Opti
 use Rattle.std.specs.Str.{bytes_eq}
 use Rattle.fdt_tree.specs.declared.fault.FdtFault.{FdtFault}
 use Rattle.fdt_tree.specs.declared.fault.FdtFault.TheVariants.{BadName, TooDeep}
-use Rattle.fdt_tree.specs.Devicetree.{Entry, Nodes, none, node, Branch, Root, branch_of_root, Devicetree, bare}
+use Rattle.fdt_tree.specs.Devicetree.{PropertyData, Nodes, none, node, Branch, Root, branch_of_root, Devicetree, bare}
 use Rattle.fdt_tree.specs.Names.{legal}
 use Rattle.fdt_tree.specs.Lookup.{names_on}
 use Rattle.refusal.specs.Answer.{◌>>=◌}
 
 -- the first property of the name gets the value; where none has the name, one is added at the end
-abbrev pub with_value : List ℕ → List ℕ → List Entry → List Entry
+abbrev pub with_value : List ℕ → List ℕ → List PropertyData → List PropertyData
 with_value name value [] = record { name = name; value = value } ∷ []
 with_value name value (e ∷ es) =
     if bytes_eq e.name name then record { name = e.name; value = value } ∷ es else e ∷ with_value name value es
 
 abbrev pub value_put : List ℕ → List ℕ → Branch → Branch
-value_put name value b = record b { entries = with_value name value b.entries }
+value_put name value b = record b { properties = with_value name value b.properties }
 
 abbrev pub in_front_of : Nodes → Branch → Nodes
-in_front_of next b = node b.name b.entries b.children next
+in_front_of next b = node b.name b.properties b.children next
 
 -- the first node whose name passes the test is edited; where none passes, the new one is added at the end
 abbrev pub first_such : (List ℕ → Bool) → (Branch → Branch) → Branch → Nodes → Nodes
 first_such test edit new none = in_front_of none new
-first_such test edit new (node n entries children next) =
-    if test n then in_front_of next (edit (record { name = n; entries = entries; children = children }))
-    else node n entries children (first_such test edit new next)
+first_such test edit new (node n properties children next) =
+    if test n then in_front_of next (edit (record { name = n; properties = properties; children = children }))
+    else node n properties children (first_such test edit new next)
 
 -- the first node of the name is edited; where none has the name, an empty one is edited and added at the end
 abbrev pub first_edited : List ℕ → (Branch → Branch) → Nodes → Nodes
@@ -42,7 +42,7 @@ all_legal [] = true
 all_legal (name ∷ names) = legal name && all_legal names
 
 abbrev pub root_in : Branch → Root
-root_in b = record { entries = b.entries; children = b.children }
+root_in b = record { properties = b.properties; children = b.children }
 
 abbrev pub with_root : Devicetree → Branch → Devicetree
 with_root t b = record t { root = root_in b }

@@ -48,5 +48,5 @@ pub record SpellsRoot (strings block : List ℕ) (r : Root) : Type 0 where
   pub parts : block ≡ front ++ (to_be_bytes w32 FDT_END ++ rest)
   pub text : IsText strings all front
   pub same : without_nops all ≡ root_tokens r
-  pub entries : AreLegal r.entries
+  pub properties : AreLegal r.properties
   pub children : IsLegal 1 r.children

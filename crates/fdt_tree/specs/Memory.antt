@@ -6,7 +6,7 @@ use Rattle.std.specs.Str.{bytes_eq}
 use Rattle.std.specs.Fmt.{digits}
 use Rattle.fdt_tree.specs.declared.fault.FdtFault.{FdtFault}
 use Rattle.fdt_tree.specs.declared.fault.FdtFault.TheVariants.{BadCells}
-use Rattle.fdt_tree.specs.Devicetree.{Entry, Branch, branch_of_root, Devicetree, bare}
+use Rattle.fdt_tree.specs.Devicetree.{PropertyData, Branch, branch_of_root, Devicetree, bare}
 use Rattle.fdt_tree.specs.Lookup.{first_value}
 use Rattle.fdt_tree.specs.Edits.{value_put, first_such, with_root}
 use Rattle.refusal.specs.Answer.{◌>>=◌}
@@ -27,10 +27,10 @@ in_cells cells n =
     if cells == 1 then (if nat_lt n (2 ^ 32) then Ok (to_be_bytes w32 n) else Err BadCells) else Ok (to_be_bytes w64 n)
 
 -- the value of `reg`
-unfoldable pub reg_value : ℕ → ℕ → List Entry → Result (List ℕ) FdtFault
-reg_value base size entries = do
-  address_cells ← cells_or 2 (first_value (codes "#address-cells") entries)
-  size_cells ← cells_or 1 (first_value (codes "#size-cells") entries)
+unfoldable pub reg_value : ℕ → ℕ → List PropertyData → Result (List ℕ) FdtFault
+reg_value base size properties = do
+  address_cells ← cells_or 2 (first_value (codes "#address-cells") properties)
+  size_cells ← cells_or 1 (first_value (codes "#size-cells") properties)
   address ← in_cells address_cells base
   extent ← in_cells size_cells size
   Ok (address ++ extent)
@@ -56,5 +56,5 @@ memory_put base reg b = record b { children = first_such names_memory (reg_put r
 -- the tree with this memory, or the refusal
 unfoldable pub set_memory_at : ℕ → ℕ → Devicetree → Result Devicetree FdtFault
 set_memory_at base size t = do
-  reg ← reg_value base size t.root.entries
+  reg ← reg_value base size t.root.properties
   Ok (with_root t (memory_put base reg (branch_of_root t.root)))

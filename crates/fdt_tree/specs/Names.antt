@@ -2,7 +2,7 @@
 -- property names (2.2.4). Devicetrees in use have others too, so this project accepts every visible ASCII
 -- character except `/`, which separates the names of a path.
 use Rattle.std.specs.Prelude.{ℕ, ◌+◌, ◌<◌, List, [], ◌∷◌, length, Bool, true, false, nat_lt, ◌==◌, ◌&&◌, not, cond, IsTrue}
-use Rattle.fdt_tree.specs.Devicetree.{Entry, Nodes, none, node}
+use Rattle.fdt_tree.specs.Devicetree.{PropertyData, Nodes, none, node}
 
 abbrev pub is_name_character : ℕ → Bool
 is_name_character c = nat_lt 32 c && nat_lt c 127 && not (c == 47)
@@ -15,7 +15,7 @@ all_name_characters (c ∷ cs) = cond (is_name_character c) (all_name_characters
 abbrev pub legal : List ℕ → Bool
 legal name = nat_lt 0 (length name) && all_name_characters name
 
-abbrev pub AreLegal : List Entry → Type 0
+abbrev pub AreLegal : List PropertyData → Type 0
 AreLegal [] = Unit {0}
 AreLegal (e ∷ es) = IsTrue (legal e.name) × AreLegal es
 
@@ -23,5 +23,5 @@ AreLegal (e ∷ es) = IsTrue (legal e.name) × AreLegal es
 -- depth 1).
 abbrev pub IsLegal : ℕ → Nodes → Type 0
 IsLegal depth none = Unit {0}
-IsLegal depth (node name entries children next) =
-    (depth < 64) × IsTrue (legal name) × AreLegal entries × IsLegal (depth + 1) children × IsLegal depth next
+IsLegal depth (node name properties children next) =
+    (depth < 64) × IsTrue (legal name) × AreLegal properties × IsLegal (depth + 1) children × IsLegal depth next

@@ -6,18 +6,18 @@ use Rattle.fdt_tree.specs.declared.node.Node.{Node}
 use Rattle.fdt_tree.specs.declared.node.Node.TheOpen.{Node-F}
 use Rattle.fdt_tree.specs.declared.node.Node.TheFolds.{fold-Node}
 use Rattle.fdt_tree.specs.declared.node.Property.{Property}
-use Rattle.fdt_tree.specs.Devicetree.{Entry, Root, Branch, joined}
+use Rattle.fdt_tree.specs.Devicetree.{PropertyData, Root, Branch, joined}
 
 abbrev pub name_of : List ℕ → Name → List ℕ
 name_of strings (Shared start len) = take len (drop start strings)
 name_of strings (Own bytes) = bytes.items
 
-abbrev pub entry_of : List ℕ → Property → Entry
-entry_of strings p = record { name = name_of strings p.name; value = p.value.items }
+abbrev pub property_data : List ℕ → Property → PropertyData
+property_data strings p = record { name = name_of strings p.name; value = p.value.items }
 
 abbrev pub branch_step : List ℕ → Node-F Branch → Branch
 branch_step strings n =
-    record { name = n.name.items; entries = map (entry_of strings) n.properties.items; children = joined n.children.items }
+    record { name = n.name.items; properties = map (property_data strings) n.properties.items; children = joined n.children.items }
 
 -- the node that a node in memory is
 abbrev pub branch : List ℕ → Node → Branch
@@ -28,4 +28,4 @@ branches strings ns = map (branch strings) ns
 
 -- the root of a tree
 abbrev pub root_of : List ℕ → Node → Root
-root_of strings n = record { entries = (branch strings n).entries; children = (branch strings n).children }
+root_of strings n = record { properties = (branch strings n).properties; children = (branch strings n).children }

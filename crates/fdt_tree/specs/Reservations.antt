@@ -34,7 +34,7 @@ pair_at bytes =
 abbrev pub is_end : Reservation → Bool
 is_end r = (r.address == 0) && (r.size == 0)
 
--- the pairs up to the pair of zeros; as many steps as there are bytes are enough
+-- the pairs up to the pair of zeros; as many steps as bytes are enough
 unfoldable pub pairs_at : ℕ → List ℕ → Result (List Reservation) FdtFault
 pairs_at zero bytes = Err BadReserve
 pairs_at (suc n) bytes =

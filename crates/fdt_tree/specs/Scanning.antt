@@ -99,7 +99,7 @@ joins (property e) more = more >>= λ ts. Ok (property e ∷ ts)
 joins end_node more = more >>= λ ts. Ok (end_node ∷ ts)
 
 -- The tokens up to END without NOPs, or the fault of the first token that has one. Each token takes
--- a byte at least, so as many steps as there are bytes are enough.
+-- a byte at least, so as many steps as bytes are enough.
 unfoldable pub scan : List ℕ → ℕ → Place → List ℕ → Result (List Token) FdtFault
 scan strings zero p bytes = Err BadToken
 scan strings (suc n) p bytes = token_at strings p bytes >>= λ t. joins t.0 (scan strings n (after p t.0) t.1)

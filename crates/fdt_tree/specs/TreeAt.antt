@@ -2,17 +2,17 @@
 -- `tree_at_is_spelled` says that it is the tree of `Spells`.
 use Rattle.std.specs.Prelude.{ℕ, List, [], ◌∷◌, Result, Ok}
 use Rattle.fdt_tree.specs.declared.fault.FdtFault.{FdtFault}
-use Rattle.fdt_tree.specs.Devicetree.{Entry, Nodes, none, node, Token, begin_node, property, end_node, Root, Devicetree}
+use Rattle.fdt_tree.specs.Devicetree.{PropertyData, Nodes, none, node, Token, begin_node, property, end_node, Root, Devicetree}
 use Rattle.fdt_tree.specs.Reading.{Parts, parts_at}
 use Rattle.refusal.specs.Answer.{◌>>=◌}
 
 -- a node whose end was read, and whose begin was not read yet: its properties and its children so far
 pub record Pending : Type 0 where
-  pub entries : List Entry
+  pub properties : List PropertyData
   pub children : Nodes
 
 abbrev pub empty_pending : Pending
-empty_pending = record { entries = []; children = none }
+empty_pending = record { properties = []; children = none }
 
 -- Reads the token list from its end: `end_node` pushes an empty node, `begin_node` pops it into its parent.
 --
@@ -28,9 +28,9 @@ empty_pending = record { entries = []; children = none }
 --     begin_node ""     {root}               the root is popped into the outermost
 abbrev pub with_token : Token → List Pending → List Pending
 with_token end_node around = empty_pending ∷ around
-with_token (property e) (inner ∷ around) = record { entries = e ∷ inner.entries; children = inner.children } ∷ around
+with_token (property e) (inner ∷ around) = record { properties = e ∷ inner.properties; children = inner.children } ∷ around
 with_token (begin_node name) (inner ∷ outer ∷ around) =
-    record { entries = outer.entries; children = node name inner.entries inner.children outer.children } ∷ around
+    record { properties = outer.properties; children = node name inner.properties inner.children outer.children } ∷ around
 with_token _ around = around
 
 abbrev pub pending_of : List Token → List Pending
@@ -39,8 +39,8 @@ pending_of (t ∷ ts) = with_token t (pending_of ts)
 
 -- the first of nodes, as a root
 abbrev pub first_as_root : Nodes → Root
-first_as_root none = record { entries = []; children = none }
-first_as_root (node name entries children next) = record { entries = entries; children = children }
+first_as_root none = record { properties = []; children = none }
+first_as_root (node name properties children next) = record { properties = properties; children = children }
 
 abbrev pub root_at : List Pending → Root
 root_at [] = first_as_root none

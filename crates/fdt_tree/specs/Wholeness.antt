@@ -4,7 +4,7 @@ use Rattle.std.specs.Coded.{le_prop}
 use Rattle.std.proofs.Math.Bool.{Bool-set}
 use Rattle.fdt_tree.specs.declared.tree.Reservation.{Reservation}
 use Rattle.fdt_tree.specs.declared.tree.Contents.{Contents}
-use Rattle.fdt_tree.specs.Devicetree.{Entry, Nodes, none, node, Devicetree}
+use Rattle.fdt_tree.specs.Devicetree.{PropertyData, Nodes, none, node, Devicetree}
 use Rattle.fdt_tree.specs.Names.{AreLegal, IsLegal}
 use Rattle.fdt_tree.specs.NodeViews.{root_of}
 use Rattle.fdt_tree.specs.Reservations.{AreReservations}
@@ -20,7 +20,7 @@ tree_in c = record {
 -- No reservation is a pair of zeros, names are legal, and no node is deeper than 64.
 pub record IsWhole (t : Devicetree) : Type 0 where
   pub reservations : AreReservations t.reservations
-  pub entries : AreLegal t.root.entries
+  pub properties : AreLegal t.root.properties
   pub children : IsLegal 1 t.root.children
 
 -- each of these facts has one proof at most
@@ -28,15 +28,15 @@ pub AreReservations-prop : (rs : List Reservation) → IsProp (AreReservations r
 AreReservations-prop [] = hlevel
 AreReservations-prop (r ∷ rs) = hlevel (le_prop, AreReservations-prop rs)
 
-pub AreLegal-prop : (es : List Entry) → IsProp (AreLegal es)
+pub AreLegal-prop : (es : List PropertyData) → IsProp (AreLegal es)
 AreLegal-prop [] = hlevel
 AreLegal-prop (e ∷ es) = hlevel (Bool-set, AreLegal-prop es)
 
 pub IsLegal-prop : (depth : ℕ) (f : Nodes) → IsProp (IsLegal depth f)
 IsLegal-prop depth none = hlevel
-IsLegal-prop depth (node name entries children next) =
-    hlevel (le_prop, Bool-set, AreLegal-prop entries, IsLegal-prop (depth + 1) children, IsLegal-prop depth next)
+IsLegal-prop depth (node name properties children next) =
+    hlevel (le_prop, Bool-set, AreLegal-prop properties, IsLegal-prop (depth + 1) children, IsLegal-prop depth next)
 
 pub IsWhole-prop : (t : Devicetree) → IsProp (IsWhole t)
 IsWhole-prop t =
-    hlevel (AreReservations-prop t.reservations, AreLegal-prop t.root.entries, IsLegal-prop 1 t.root.children)
+    hlevel (AreReservations-prop t.reservations, AreLegal-prop t.root.properties, IsLegal-prop 1 t.root.children)

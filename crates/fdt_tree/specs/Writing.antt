@@ -7,6 +7,7 @@ use Rattle.fdt_tree.specs.declared.fault.FdtFault.{FdtFault}
 use Rattle.fdt_tree.specs.declared.fault.FdtFault.TheVariants.{TooLarge}
 use Rattle.fdt_tree.specs.declared.tree.Reservation.{Reservation}
 use Rattle.fdt_tree.specs.Devicetree.{Token, begin_node, property, end_node, nop, finish, Devicetree, root_tokens, FDT_BEGIN_NODE, FDT_END_NODE, FDT_PROP, FDT_NOP, FDT_END}
+use Rattle.fdt_tree.specs.Blocks.{header_size}
 use Rattle.fdt_tree.specs.Reservations.{pair_text}
 
 -- ---- the strings: each name once, in the order of first use
@@ -73,8 +74,8 @@ reservations_text (r ∷ rs) = pair_text r ++ reservations_text rs
 -- reservations begin.
 abbrev pub places_text : ℕ → ℕ → ℕ → List ℕ
 places_text reserve structure strings =
-    to_be_bytes w32 0xd00dfeed ++ (to_be_bytes w32 (40 + reserve + structure + strings)
-    ++ (to_be_bytes w32 (40 + reserve) ++ (to_be_bytes w32 (40 + reserve + structure) ++ to_be_bytes w32 40)))
+    to_be_bytes w32 0xd00dfeed ++ (to_be_bytes w32 (header_size + reserve + structure + strings)
+    ++ (to_be_bytes w32 (header_size + reserve) ++ (to_be_bytes w32 (header_size + reserve + structure) ++ to_be_bytes w32 header_size)))
 
 -- The second half: version 17, which a reader of version 16 can read, the processor that boots, and the
 -- lengths.

@@ -4,7 +4,7 @@ ghost use Rattle.std.specs.Prelude.{◌≡◌, ◌<◌, ◌≤◌, ◌∷◌, le
 ghost use Rattle.std.specs.Str.{bytes_eq};
 ghost use Rattle.std.specs.List.{position_from};
 ghost use Rattle.fdt_tree.specs.declared.node.Node.TheViews.{out-Node};
-ghost use Rattle.fdt_tree.specs.NodeViews.{name_of, entry_of, branch};
+ghost use Rattle.fdt_tree.specs.NodeViews.{name_of, property_data, branch};
 ghost use Rattle.fdt_tree.specs.Lookup.{between_slashes, names_on};
 ghost use Rattle.refusal.specs.Answer.{Matches};
 ghost use Rattle.fdt_tree.specs.Edits.{with_value, value_put, edited_below, all_legal, path_names, check_names};
@@ -45,8 +45,8 @@ fn put_value(
     name: &[u8],
     value: &[u8],
 ) -> Result<(), AllocError>
-    ensures done { OnOk result (map (entry_of strings.now) properties.new.items
-        ≡ with_value name.now value.now (map (entry_of strings.now) properties.old.items)) }
+    ensures done { OnOk result (map (property_data strings.now) properties.new.items
+        ≡ with_value name.now value.now (map (property_data strings.now) properties.old.items)) }
     ensures unchanged { OnErr result (properties.new.items ≡ properties.old.items) }
 {
     let value = Vec::from_slice(alloc, value)?;

@@ -53,7 +53,7 @@ pub fn node_at<'a>(root: &'a Node, path: &[u8]) -> Option<&'a Node>
 /// The value of the first property of this name, given the strings of the tree.
 pub fn value_of<'a>(strings: &[u8], node: &'a Node, name: &[u8]) -> Option<&'a [u8]>
     ensures { option_map (λ v. v.now) result
-        ≡ first_value name.now (branch strings.now node.entry.now).entries }
+        ≡ first_value name.now (branch strings.now node.entry.now).properties }
 {
     for property in &node.properties {
         if property.name.bytes(strings) == name {

@@ -2,14 +2,15 @@
 
 ghost use Rattle.std.specs.Prelude.{◌^◌, ◌≡◌, ◌+◌, ◌++◌, ◌∷◌, [], ◌≤◌, ℕ, List, length, map, IfOk, IfErr, OnOk, Ok, Err, if◌then◌else◌, nat_lt};
 ghost use Rattle.std.specs.Int.{w32, w64, to_be_bytes};
+ghost use Rattle.fdt_tree.specs.Blocks.{header_size};
 ghost use Rattle.fdt_tree.specs.Devicetree.{property, begin_node, end_node, FDT_END};
-ghost use Rattle.fdt_tree.specs.NodeViews.{entry_of, branch};
+ghost use Rattle.fdt_tree.specs.NodeViews.{property_data, branch};
 ghost use Rattle.fdt_tree.specs.Reservations.{pair_text};
 ghost use Rattle.fdt_tree.specs.Writing.{padding_after, begin_text, property_text, text_after, names_after, strings_text, reservations_text, places_text, versions_text, file_text, written};
 ghost use Rattle.fdt_tree.specs.inside.NameTables.{HasNames, TooMuch};
 ghost use Rattle.fdt_tree.specs.Wholeness.{IsWhole, tree_in};
 ghost use Rattle.fdt_tree.specs.Reading.{Spells};
-ghost use Rattle.fdt_tree.specs.inside.OutputViews.{AreLengths, HasTokens, size_of, tokens_of_entries, tokens_of_nodes};
+ghost use Rattle.fdt_tree.specs.inside.OutputViews.{AreLengths, HasTokens, size_of, tokens_of_properties, tokens_of_nodes};
 
 pub mod names;
 
@@ -70,18 +71,18 @@ fn put_property(
     alloc: Global,
     out: &mut Output,
     strings: &[u8],
-    entry: &Property,
+    pair: &Property,
 ) -> Result<(), FdtFault>
     ensures done { (names : List (List ℕ)) → HasNames strings.now out.old.names names
-        → OnOk result (HasTokens strings.now out.old out.new names (property (entry_of strings.now entry.now) ∷ [])) }
+        → OnOk result (HasTokens strings.now out.old out.new names (property (property_data strings.now pair.now) ∷ [])) }
     ensures refused { (names : List (List ℕ)) → HasNames strings.now out.old.names names
-        → IfErr result (λ e. TooMuch e (size_of names (property (entry_of strings.now entry.now) ∷ []))) }
+        → IfErr result (λ e. TooMuch e (size_of names (property (property_data strings.now pair.now) ∷ []))) }
 {
-    let value = entry.value.as_slice();
+    let value = pair.value.as_slice();
     if value.len() > MAX_LEN {
         return Err(FdtFault::TooLarge);
     }
-    let offset = out.names.offset_of(alloc, strings, &entry.name)?;
+    let offset = out.names.offset_of(alloc, strings, &pair.name)?;
     put_text(&mut out.structure, offset, value.len() as u32, value)?;
     Ok(())
 }
@@ -109,13 +110,13 @@ fn put_front(
     properties: &[Property],
 ) -> Result<(), FdtFault>
     ensures done { (names : List (List ℕ)) → HasNames strings.now out.old.names names
-        → OnOk result (HasTokens strings.now out.old out.new names (begin_node name.now ∷ tokens_of_entries strings.now properties.now)) }
+        → OnOk result (HasTokens strings.now out.old out.new names (begin_node name.now ∷ tokens_of_properties strings.now properties.now)) }
     ensures refused { (names : List (List ℕ)) → HasNames strings.now out.old.names names
-        → IfErr result (λ e. TooMuch e (size_of names (begin_node name.now ∷ tokens_of_entries strings.now properties.now))) }
+        → IfErr result (λ e. TooMuch e (size_of names (begin_node name.now ∷ tokens_of_properties strings.now properties.now))) }
 {
     put_node_begin(out, name)?;
-    for entry in properties {
-        put_property(alloc, out, strings, entry)?;
+    for pair in properties {
+        put_property(alloc, out, strings, pair)?;
     }
     Ok(())
 }
@@ -191,7 +192,7 @@ pub struct Lengths {
 
 /// Appends the magic number, the whole length, and where the blocks begin.
 fn put_places(out: &mut Vec<u8>, lengths: Lengths) -> Result<(), AllocError>
-    requires { 40 + lengths.reserve + lengths.structure + lengths.strings ≤ 2 ^ 21 }
+    requires { header_size + lengths.reserve + lengths.structure + lengths.strings ≤ 2 ^ 21 }
     ensures { OnOk result (out.new.items ≡ out.old.items
         ++ places_text lengths.reserve lengths.structure lengths.strings) }
 {
@@ -222,7 +223,7 @@ fn put_versions(out: &mut Vec<u8>, lengths: Lengths, boot_cpu: u32) -> Result<()
 fn lengths_of(reservations: &[Reservation], out: &Output) -> Result<Lengths, FdtFault>
     ensures lengths { IfOk result (λ l. AreLengths l (length (reservations_text reservations.now))
         (length out.now.structure.items) (length out.now.names.strings.items)) }
-    ensures refused { IfErr result (λ e. TooMuch e (40 + length (reservations_text reservations.now)
+    ensures refused { IfErr result (λ e. TooMuch e (header_size + length (reservations_text reservations.now)
         + length out.now.structure.items + length out.now.names.strings.items)) }
 {
     let reserve = reservations.len().saturating_mul(16).saturating_add(16);

@@ -10,7 +10,7 @@ all-next p a n m e h = rw (e, add-one m, h) refl
 pub all-stop : (p : ℕ → Bool) (a n m : ℕ) → n ≡ m + 1 → p a ≡ false → list_all p (range_with_len a n) ≡ false
 all-stop p a n m e h = rw (e, add-one m, h) refl
 
--- there is no number
+-- no number is left
 pub all-end : (p : ℕ → Bool) (a n : ℕ) → n ≡ 0 → list_all p (range_with_len a n) ≡ true
 all-end p a n e = rw e refl
 

@@ -18,7 +18,7 @@ fn put_chosen(alloc: Global, tree: &mut Tree, name: &[u8], value: &[u8]) -> Resu
     tree.set(alloc, b"/chosen", name, value)
 }
 
-/// Puts the command line, if there is one.
+/// Puts the command line, if one is given.
 fn put_bootargs(alloc: Global, tree: &mut Tree, bootargs: Option<&Bootargs>) -> Result<(), FdtFault>
     ensures { Answers FdtFault.NoMemory (λ u. devicetree_of tree.new) result
         (with_bootargs (option_map (λ b. b.now) bootargs.entry) (devicetree_of tree.old)) }
@@ -39,7 +39,7 @@ fn put_address(alloc: Global, tree: &mut Tree, name: &[u8], address: u64) -> Res
     put_chosen(alloc, tree, name, &address.to_be_bytes())
 }
 
-/// Puts the addresses of the initrd's first byte and of the first byte after it, if there is one.
+/// Puts the addresses of the initrd's first byte and of the first byte after it, if they are given.
 fn put_initrd(alloc: Global, tree: &mut Tree, initrd: Option<Span>) -> Result<(), FdtFault>
     ensures { Answers FdtFault.NoMemory (λ u. devicetree_of tree.new) result
         (with_initrd initrd (devicetree_of tree.old)) }

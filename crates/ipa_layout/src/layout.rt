@@ -1,9 +1,9 @@
 //! Where the items of a launch are placed and with which bytes, or the first reason why they cannot be.
-ghost use Rattle.std.specs.Prelude.{◌≡◌, ◌+◌, ◌^◌, ◌<◌, length, true, None, Ok, IfOk, option_map};
+ghost use Rattle.std.specs.Prelude.{◌≡◌, ◌+◌, ◌<◌, length, true, None, Ok, IfOk, option_map};
 ghost use Rattle.std.specs.List.{find, position_from, slice_get};
 ghost use Rattle.std.specs.Option.{option_and_then};
 ghost use Rattle.refusal.specs.Answer.{Answers, Matches};
-ghost use Rattle.rim_launch.specs.LaunchData.{has_files, is_launch};
+ghost use Rattle.rim_launch.specs.LaunchData.{has_files};
 ghost use Rattle.rim_launch.specs.Kinds.{file_of, has_edits, has_role};
 ghost use Rattle.ipa_layout.specs.inside.DtbEditViews.{edit_data};
 ghost use Rattle.ipa_layout.specs.Layout.{address_of, bytes_of, checked_together, edited_dtb, edits_of, extents_of, file_bytes, initrd_span, item_at, items_at, placed_at, places, recs_at, source_of};
@@ -67,8 +67,7 @@ fn file_bytes<'a>(files: &'a [Vec<u8>], kind: &Kind) -> &'a [u8]
 
 /// The item that is an initrd.
 fn initrd_of(launch: &Launch) -> Option<&Item>
-    ensures value { option_map (λ i. i.now) result ≡ find (has_role Role.Initrd) launch.now.items }
-    ensures kept { is_launch launch.now ≡ true }
+    ensures { option_map (λ i. i.now) result ≡ find (has_role Role.Initrd) launch.now.items }
 {
     launch
         .items()
@@ -78,8 +77,7 @@ fn initrd_of(launch: &Launch) -> Option<&Item>
 
 /// The addresses of an initrd's bytes.
 fn initrd_span(files: &[Vec<u8>], item: &Item) -> Span
-    requires low { item.now.at < 2 ^ 63 }
-    requires there { file_of item.now.kind < length files.now }
+    requires { file_of item.now.kind < length files.now }
     ensures { result ≡ initrd_span (contents files.now) item.now }
 {
     let len = file_bytes(files, &item.kind).len() as u64;
@@ -190,7 +188,7 @@ fn index_of(items: &[Item], role: Role) -> Option<usize>
     items.iter().position(|item| item.has_role(role))
 }
 
-/// The extent of the item of this number, if there is one.
+/// The extent of the item of this number, if a number is given.
 fn extent_at(extents: &[Extent], index: Option<usize>) -> Option<Extent>
     ensures { result ≡ option_and_then (slice_get extents.now) index }
 {

@@ -1,5 +1,5 @@
 //! Where a launch's kernel, initrd, devicetree and raw contents are in the realm's address space, or why
-//! they may not be there.
+//! they cannot be placed.
 #![tactic(auto)]
 
 mod dtb;

@@ -4,7 +4,7 @@ use fdt_tree::FdtFault;
 use ipa_layout::LayoutFault;
 use std::alloc::{AllocError, Global};
 
-/// A root with a node `a`, and after it a property `reg`, which may not be there. Written out by hand.
+/// A root with a node `a`, and after it a property `reg`, where none is allowed. Written out by hand.
 const LATE: [u8; 100] = [
     0xd0, 0x0d, 0xfe, 0xed, 0, 0, 0, 0x64, 0, 0, 0, 0x38, 0, 0, 0, 0x60, 0, 0, 0, 0x28, 0, 0, 0,
     0x11, 0, 0, 0, 0x10, 0, 0, 0, 0, 0, 0, 0, 4, 0, 0, 0, 0x28, 0, 0, 0, 0, 0, 0, 0, 0, 0, 0, 0, 0,

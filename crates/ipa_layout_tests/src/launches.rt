@@ -32,12 +32,7 @@ fn item(kind: Kind) -> Item {
 }
 
 /// A launch with one region, these kinds of items, one REC and these steps.
-fn launch(
-    alloc: Global,
-    config: Config,
-    kinds: &[bool],
-    steps: &[Step],
-) -> Result<Option<Launch>, AllocError> {
+fn launch(alloc: Global, kinds: &[bool], steps: &[Step]) -> Result<Option<Launch>, AllocError> {
     let region = Region {
         base: 0x4000_0000,
         end: 0x4020_0000,
@@ -58,7 +53,7 @@ fn launch(
     let ram = Vec::from_slice(alloc, &[region])?;
     let recs = Vec::from_slice(alloc, &[rec])?;
     let steps = Vec::from_slice(alloc, steps)?;
-    Ok(Launch::new(7, config, ram, items, recs, steps))
+    Ok(Launch::new(7, config(), ram, items, recs, steps))
 }
 
 #[test]
@@ -73,7 +68,7 @@ fn steps_name_each_part_once(rt: HostRuntime) -> Result<(), AllocError> {
         (&[false], &twice, false),
     ];
     for (number, (kinds, steps, makes_one)) in cases.into_iter().enumerate() {
-        let made = launch(alloc, config(), kinds, steps)?;
+        let made = launch(alloc, kinds, steps)?;
         assert_eq!(rt; made.is_some(), makes_one, "case {number}");
     }
     Ok(())
@@ -112,22 +107,12 @@ fn default_steps_by_kind(rt: HostRuntime) -> Result<(), Fail> {
 }
 
 #[test]
-fn ranges_and_kinds(rt: HostRuntime) -> Result<(), AllocError> {
+fn one_kernel_at_most(rt: HostRuntime) -> Result<(), AllocError> {
     let alloc = rt.alloc();
     let all = [Step::Ram(0), Step::Item(0), Step::Item(1), Step::Rec(0)];
-    let mut wide = config();
-    wide.s2sz = 49;
-    let mut odd = config();
-    odd.pool_base = 0x1000;
-    let cases = [
-        (config(), [true, false], true),
-        (config(), [true, true], false),
-        (wide, [true, false], false),
-        (odd, [true, false], false),
-    ];
-    for (number, (config, kinds, makes_one)) in cases.into_iter().enumerate() {
-        let made = launch(alloc, config, &kinds, &all)?;
-        assert_eq!(rt; made.is_some(), makes_one, "case {number}");
+    for (kinds, makes_one) in [([true, false], true), ([true, true], false)] {
+        let made = launch(alloc, &kinds, &all)?;
+        assert_eq!(rt; made.is_some(), makes_one);
     }
     Ok(())
 }
@@ -142,6 +127,21 @@ fn regions_have_addresses(rt: HostRuntime) {
     ];
     for (number, (base, end, makes_one)) in cases.into_iter().enumerate() {
         let made = Region::new(base, end);
+        assert_eq!(rt; made.is_some(), makes_one, "case {number}");
+    }
+}
+
+#[test]
+fn items_have_numbers(rt: HostRuntime) {
+    const END: u64 = 0x8000_0000_0000_0000;
+    let cases = [
+        (0, None, true),
+        (END - 1, Some(END - 1), true),
+        (END, None, false),
+        (0, Some(END), false),
+    ];
+    for (number, (at, size, makes_one)) in cases.into_iter().enumerate() {
+        let made = Item::new(Kind::Raw { file: 0 }, at, size, true);
         assert_eq!(rt; made.is_some(), makes_one, "case {number}");
     }
 }

@@ -32,14 +32,14 @@ with_digest t j m = record t { digests = slice_set t.digests j (Some m) }
 abbrev pub slot_of : List PageView → PageKey → Option ℕ
 slot_of pages key = position (λ p. is_eq (key_cmp p.key key)) pages
 
--- the digest in a slot, where there is such a slot and it is filled
+-- the digest in a slot, where such a slot exists and is filled
 abbrev pub digest_in : TableView → ℕ → Option Measurement
 digest_in t j = option_and_then (λ slot. slot) (slice_get t.digests j)
 
--- the page that has the key, where there is one
+-- the page that has the key, where one exists
 abbrev pub page_at : TableView → PageKey → Option PageView
 page_at t key = option_and_then (slice_get t.pages) (slot_of t.pages key)
 
--- the digest of the page that has the key, where there is such a page and its slot is filled
+-- the digest of the page that has the key, where such a page exists and its slot is filled
 abbrev pub digest_at : TableView → PageKey → Option Measurement
 digest_at t key = option_and_then (digest_in t) (slot_of t.pages key)

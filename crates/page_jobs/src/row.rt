@@ -50,7 +50,7 @@ impl DigestRow {
         self.digests.as_slice()
     }
 
-    /// Adds a digest, for which there is room.
+    /// Adds a digest, for which the row has room.
     pub fn push(&mut self, digest: Measurement)
         requires { length self.old.digests < self.old.room }
         ensures { self.new ≡ record self.old { digests = self.old.digests ++ digest ∷ [] } }

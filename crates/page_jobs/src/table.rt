@@ -57,7 +57,7 @@ impl<'a> Table<'a> {
         slot < self.pages.len() && self.pages[slot].is_same(page)
     }
 
-    /// Keeps a digest in the slot of its page, or hands it back where there is no such slot, the slot is
+    /// Keeps a digest in the slot of its page, or hands it back where no such slot exists, the slot is
     /// another page's, or it is filled.
     pub fn fill(&mut self, slot: usize, hashed: Hashed<'a>) -> Result<(), Hashed<'a>>
         ensures ok { OnOk result (CanFill self.old slot (page_view hashed.entry.page) × (self.new ≡ with_digest self.old slot hashed.entry.digest)) }
@@ -77,7 +77,7 @@ impl<'a> Table<'a> {
         search(self.pages, key)
     }
 
-    /// The digest in a slot, where there is such a slot and it is filled.
+    /// The digest in a slot, where such a slot exists and is filled.
     pub fn digest(&self, slot: usize) -> Option<Measurement>
         ensures value { result ≡ digest_in self.now slot }
         ensures own { IfSome result (λ m. IfSome (slice_get self.now.pages slot) (λ p. m.bytes ≡ digest_of p)) }
@@ -85,7 +85,7 @@ impl<'a> Table<'a> {
         *self.digests.get(slot)?
     }
 
-    /// The digest of the page that has a key, where there is such a page and its slot is filled.
+    /// The digest of the page that has a key, where such a page exists and its slot is filled.
     pub fn get(&self, key: &PageKey) -> Option<Measurement>
         ensures value { result ≡ digest_at self.now key.now }
         ensures own { IfSome result (λ m. IfSome (page_at self.now key.now) (λ p. (p.key ≡ key.now) × (m.bytes ≡ digest_of p))) }

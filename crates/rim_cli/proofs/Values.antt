@@ -31,7 +31,7 @@ values_accepted i p (v ∷ vs) e =
     go true e rest = rest
     go false e rest = cc
 
--- there is a value, and each passes the parser
+-- some value is given, and each passes the parser
 abbrev pub has_good_values : Row → Rule → Bool
 has_good_values r a = nat_lt 0 (length r.values) && values_pass a r.values
 

@@ -29,7 +29,7 @@ word_of FileTooLarge = codes "file-too-large"
 word_of OutputFailed = codes "output-failed"
 word_of NoMemory = codes "no-memory"
 
--- a command line that cannot be read is a mistake of usage, unless there was no memory for its words
+-- a command line that cannot be read is a mistake of usage, unless memory for its words was refused
 abbrev pub unreadable_status : ErrorKind → ℕ
 unreadable_status error.OutOfMemory = 4
 unreadable_status _ = 2

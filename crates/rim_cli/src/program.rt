@@ -150,7 +150,7 @@ fn report_fault<E: Write>(fault: Fault, err: &mut E) -> u8
 }
 
 /// Reports a command line whose words cannot be read, in one line, and answers the exit status: 4 where
-/// there is no memory for them, 2 where a word is not UTF-8.
+/// memory for them was refused, 2 where a word is not UTF-8.
 pub fn report_unreadable<E: Write>(error: &io::Error, err: &mut E) -> u8
     ensures { result ≡ unreadable_status (error_kind error.now) }
 {

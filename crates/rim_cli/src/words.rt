@@ -2,12 +2,13 @@
 ghost use Rattle.std.specs.Prelude.{◌≡◌, ◌≢◌, [], IfOk, IfErr, IfSome, Some, true, pos, map, codes, is_some, option_map};
 ghost use Rattle.clap.specs.Values.{IsSignedIn};
 ghost use Rattle.clap.specs.Words.{HasKind, Kinds, fault_of, first_of, found_of, kind_of, rows_of, subcommand_of, takes};
+ghost use Rattle.rim_cli.specs.declared.words.CommandFault.TheVariants as fault;
 ghost use Rattle.rim_cli.specs.Command.{CountsWorkers, IsEntered, IsRefusalOf, ReadsRequest, ReadsRow, rim};
 
 use crate::definition::rim_command;
 use clap::ArgMatches;
 use clap::error::ErrorKind;
-use std::alloc::Global;
+use std::alloc::{AllocError, Global};
 use std::convert::AsStr;
 use thiserror::Error;
 
@@ -33,6 +34,14 @@ pub enum CommandFault {
     NoMemory,
 }
 
+impl From<AllocError> for CommandFault {
+    ghost from_gives = { λ _ e. e ≡ fault.NoMemory };
+
+    fn from(_error: AllocError) -> CommandFault {
+        CommandFault::NoMemory
+    }
+}
+
 /// Reads the words of a command line, of which the first is the program's name.
 pub fn command<'a, S: AsStr>(alloc: Global, words: &'a [S]) -> Result<Request<'a>, CommandFault>
     // the subcommand, its operands and the workers are those that the words have by `clap`'s definition
@@ -41,9 +50,7 @@ pub fn command<'a, S: AsStr>(alloc: Global, words: &'a [S]) -> Result<Request<'a
     ensures sound { IfOk result (λ _. fault_of rim (map S.text words.entry.now) ≡ []) }
     ensures refused { IfErr result (IsRefusalOf (fault_of rim (map S.text words.entry.now))) }
 {
-    let Ok(rim) = rim_command(alloc) else {
-        return Err(CommandFault::NoMemory);
-    };
+    let rim = rim_command(alloc)?;
     let matches = match rim.try_get_matches_from(words) {
         Ok(matches) => matches,
         Err(error) => return Err(fault_of(error)),

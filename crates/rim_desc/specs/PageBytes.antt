@@ -4,7 +4,7 @@
 use Rattle.std.specs.Prelude.{ℕ, ◌+◌, ◌-◌, ◌*◌, List, map, nat_lt, slice_index, if◌then◌else◌}
 use Rattle.std.specs.List.{range_with_len}
 
--- byte j of page k is byte 4096 * k + j - lead of the item, and zero where there is no such byte
+-- byte j of page k is byte 4096 * k + j - lead of the item, and zero where the item has no such byte
 abbrev pub page_byte : ℕ → List ℕ → ℕ → ℕ → ℕ
 page_byte lead item k j = if nat_lt (4096 * k + j) lead then 0 else slice_index item (4096 * k + j - lead)
 

@@ -9,8 +9,8 @@ use Rattle.rim_launch.specs.declared.item.Kind.{Kind}
 use Rattle.rim_launch.specs.declared.item.Kind.TheVariants.{Kernel, Initrd, Dtb, Raw}
 use Rattle.rim_launch.specs.declared.step.Step.{Step}
 use Rattle.rim_launch.specs.declared.step.Step.TheVariants as step
-use Rattle.rim_launch.specs.declared.ranges.Part.{Part}
-use Rattle.rim_launch.specs.declared.ranges.Part.TheVariants as part
+use Rattle.rim_launch.specs.declared.conditions.Part.{Part}
+use Rattle.rim_launch.specs.declared.conditions.Part.TheVariants as part
 use Rattle.rim_launch.specs.declared.item.Role.{Role}
 use Rattle.rim_launch.specs.declared.item.Role.TheVariants as role
 use Rattle.rim_launch.specs.Kinds.{has_role, is_role, role_of}

@@ -1,2 +1,3 @@
 pub mod Marks
 pub mod Defaults
+pub mod Configs

@@ -8,7 +8,7 @@ use Rattle.std.proofs.lemmas.List.Folds.{list_all_at}
 use Rattle.std.proofs.lemmas.List.FromFn.{get_or-range_with_len, length-range_with_len}
 use Rattle.std.proofs.lemmas.List.Sums.{count_by_more_yes, count_by_more_no, sum_by-append}
 use Rattle.rim_launch.specs.declared.step.Step.{Step}
-use Rattle.rim_launch.specs.declared.ranges.Part.{Part}
+use Rattle.rim_launch.specs.declared.conditions.Part.{Part}
 use Rattle.rim_launch.specs.Steps.{number_of, is_number, names, times, each_once}
 use Rattle.rim_launch.specs.inside.StepViews.{AreMarks}
 

@@ -1,4 +1,5 @@
--- A launch as contracts see it, and the conditions of its type, each by its name.
+-- A launch as contracts see it, and the conditions of its type, each by its name. The ranges of its numbers are
+-- kept by the types of its parts.
 use Rattle.std.specs.Prelude.{ℕ, List, length, Bool, ◌&&◌, nat_le, nat_lt}
 use Rattle.std.specs.List.{list_all}
 use Rattle.rim_launch.specs.declared.config.Config.{Config}
@@ -6,7 +7,6 @@ use Rattle.rim_launch.specs.declared.item.Region.{Region}
 use Rattle.rim_launch.specs.declared.item.Item.{Item}
 use Rattle.rim_launch.specs.declared.rec.Rec.{Rec}
 use Rattle.rim_launch.specs.declared.step.Step.{Step}
-use Rattle.rim_launch.specs.Ranges.{config_in_range, item_in_range}
 use Rattle.rim_launch.specs.Kinds.{file_of, once_each, edits_possible}
 use Rattle.rim_launch.specs.Steps.{steps_complete}
 
@@ -23,14 +23,11 @@ pub record LaunchData : Type 0 where
 abbrev pub within_limits : LaunchData → Bool
 within_limits l = nat_le (length l.ram) 64 && nat_le (length l.items) 64 && nat_le (length l.recs) 1024
 
-abbrev pub all_in_range : LaunchData → Bool
-all_in_range l = config_in_range l.config && list_all item_in_range l.items
-
 abbrev pub steps_fit : LaunchData → Bool
 steps_fit l = steps_complete (length l.ram) (length l.items) (length l.recs) l.steps
 
 unfoldable pub is_launch : LaunchData → Bool
-is_launch l = within_limits l && all_in_range l && once_each l.items && edits_possible l.ram l.items && steps_fit l
+is_launch l = within_limits l && once_each l.items && edits_possible l.ram l.items && steps_fit l
 
 -- each item's file is one of the first `count` files
 abbrev pub has_files : LaunchData → ℕ → Bool

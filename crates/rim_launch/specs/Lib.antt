@@ -1,5 +1,4 @@
 pub mod Texts
-pub mod Ranges
 pub mod Kinds
 pub mod Steps
 pub mod Realm

@@ -7,8 +7,8 @@ use Rattle.rim_launch.specs.declared.item.Item.{Item}
 use Rattle.rim_launch.specs.declared.step.Step.{Step}
 use Rattle.rim_launch.specs.declared.step.Step.TheVariants as step
 use Rattle.rim_launch.specs.Kinds.{has_role}
-use Rattle.rim_launch.specs.declared.ranges.Part.{Part}
-use Rattle.rim_launch.specs.declared.ranges.Part.TheVariants as part
+use Rattle.rim_launch.specs.declared.conditions.Part.{Part}
+use Rattle.rim_launch.specs.declared.conditions.Part.TheVariants as part
 
 -- whether a step names what the launch has
 abbrev pub names_something : ℕ → ℕ → ℕ → Step → Bool

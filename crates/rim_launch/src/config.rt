@@ -1,8 +1,13 @@
 //! The configuration of a launch.
+ghost use Rattle.std.specs.Prelude.{◌≡◌, ◌%◌, ◌<◌, ◌≤◌, ◌^◌, true};
+ghost use Rattle.rmm_model.specs.Start.{is_width};
+
 use rim_desc::Algo;
 
 /// What a launch says of its realm, of the monitor that it is measured for and of the pool that its
-/// granules are taken from.
+/// granules are taken from. Each value is in its range. The ranges are this project's choice, but for the
+/// width of an IPA, the levels of blocks and the number of auxiliary granules: DEN0137, RmiRealmParams,
+/// "RTT levels" and RmiRecParams.
 #[derive(Clone, Copy, Debug, PartialEq, Eq)]
 pub struct Config {
     /// The hash algorithm of the realm's measurements.
@@ -31,4 +36,10 @@ pub struct Config {
     pub pool_base: u64,
     /// How many granules the pool has, 1 to 16,777,216.
     pub pool_count: u64,
+    pub ghost width: { is_width s2sz ≡ true },
+    pub ghost level: { block_level ≤ 3 },
+    pub ghost aux: { num_aux ≤ 16 },
+    pub ghost pool_aligned: { pool_base % 65536 ≡ 0 },
+    pub ghost pool_low: { pool_base < 2 ^ 48 },
+    pub ghost pool_fits: { (1 ≤ pool_count) × (pool_count ≤ 16777216) },
 }

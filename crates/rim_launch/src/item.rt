@@ -1,11 +1,11 @@
 //! Regions of RAM, and the items that are placed in them.
-ghost use Rattle.std.specs.Prelude.{◌≡◌, ◌<◌, ◌^◌};
+ghost use Rattle.std.specs.Prelude.{◌≡◌, ◌<◌, ◌^◌, unwrap_or};
 ghost use Rattle.rim_launch.specs.Texts.{has_no_zero};
 
 use std::marker::Model;
 
 /// The first number that a manifest cannot spell.
-pub const NUMBER_END: u64 = 0x8000_0000_0000_0000;
+const NUMBER_END: u64 = 0x8000_0000_0000_0000;
 
 /// A region of RAM: the addresses from `base` on and below `end`, in bytes. It has an address, and its end
 /// is a number that a manifest can spell.
@@ -172,7 +172,7 @@ impl Kind {
     }
 }
 
-/// An item, as a launch asks for it.
+/// An item, as a launch asks for it. Its address and its size are numbers that a manifest can spell.
 #[derive(Drop)]
 pub struct Item {
     pub kind: Kind,
@@ -182,11 +182,30 @@ pub struct Item {
     pub size: Option<u64>,
     /// Whether its pages are measured.
     pub measured: bool,
+    pub ghost low: { at < 2 ^ 63 },
+    pub ghost size_low: { unwrap_or size 0 < 2 ^ 63 },
 }
 
 impl Item {
-    ghost use Rattle.std.specs.Prelude.{◌≡◌};
+    ghost use Rattle.std.specs.Prelude.{◌≡◌, ◌<◌, ◌^◌, ◌↔◌, IsSome, IfSome, unwrap_or};
     ghost use Rattle.rim_launch.specs.Kinds.{has_role};
+
+    /// The item with these parts, or `None` where its address or its size is 2^63 or more.
+    pub fn new(kind: Kind, at: u64, size: Option<u64>, measured: bool) -> Option<Item>
+        ensures valid { IsSome result ↔ ((at < 2 ^ 63) × (unwrap_or size 0 < 2 ^ 63)) }
+        ensures value { IfSome result (λ i. (i.kind ≡ kind) × (i.at ≡ at) × (i.size ≡ size) × (i.measured ≡ measured)) }
+    {
+        if at < NUMBER_END && size.unwrap_or(0) < NUMBER_END {
+            Some(Item {
+                kind,
+                at,
+                size,
+                measured,
+            })
+        } else {
+            None
+        }
+    }
 
     /// Whether it has this role.
     pub fn has_role(&self, role: Role) -> bool

@@ -1,9 +1,9 @@
 //! Launches.
 ghost use Rattle.std.specs.Prelude.{◌≡◌, ◌&&◌, nat_le, length};
 
+use crate::conditions::{edits_possible, once_each, steps_complete};
 use crate::config::Config;
 use crate::item::{Item, Region};
-use crate::ranges::{config_in_range, edits_possible, items_in_range, once_each, steps_complete};
 use crate::rec::Rec;
 use crate::step::Step;
 use std::marker::Model;
@@ -18,7 +18,7 @@ const MOST_RECS: usize = 1024;
 
 /// A launch: what a realm is made of, and in which order.
 ///
-/// Its type keeps the ranges and limits of a manifest, at most one kernel, initrd and devicetree, an
+/// Its type keeps the limits of a manifest, at most one kernel, initrd and devicetree, an
 /// initrd and RAM where the devicetree is to have their places, and one step for each region, item and
 /// REC.
 #[derive(Drop)]
@@ -61,8 +61,6 @@ impl Launch {
             result ≡ (if is_launch l then Some l else None) }
     {
         if within_limits(&ram, &items, &recs)
-            && config_in_range(&config)
-            && items_in_range(&items)
             && once_each(&items)
             && edits_possible(&ram, &items)
             && steps_complete(ram.len(), items.len(), recs.len(), &steps)
@@ -135,7 +133,7 @@ impl Launch {
     }
 }
 
-/// Whether there are no more regions, items and RECs than a launch may have.
+/// Whether the regions, the items and the RECs are no more than a launch may have.
 fn within_limits(ram: &[Region], items: &[Item], recs: &[Rec]) -> bool
     ensures { result ≡ (nat_le (length ram.now) 64 && nat_le (length items.now) 64 && nat_le (length recs.now) 1024) }
 {

@@ -2,10 +2,10 @@
 //! order in which they are made.
 #![tactic(auto)]
 
+mod conditions;
 mod config;
 mod item;
 mod launch;
-mod ranges;
 mod realm;
 mod rec;
 mod step;

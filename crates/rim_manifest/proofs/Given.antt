@@ -22,7 +22,8 @@ use Rattle.rim_manifest.specs.declared.form.Presence.TheVariants.{Required, Opti
 use Rattle.rim_manifest.specs.Faults.{fault_if, lowest}
 use Rattle.rim_manifest.specs.Forms.{has_kind, is_over, is_table, is_within}
 use Rattle.rim_manifest.specs.Given.{AreGiven, GivesBytes, GivesNumber, GivesTruth, IsGiven, algorithm_text}
-use Rattle.rim_manifest.specs.Launches.{ReleaseData, algorithm_in, config_of, digits_in, launch_of, launches_from, number_in, text_in, truth_in}
+use Rattle.rim_manifest.specs.Launches.{ReleaseData, config_of, launch_of, launches_from}
+use Rattle.rim_manifest.specs.Values.{algorithm_in, digits_in, number_in, text_in, truth_in}
 use Rattle.rim_manifest.specs.Manifest.{fault_or_release, has_two_names, has_version, items_in, launch_faults, launches_at, launches_of, manifest_faults, read_of}
 use Rattle.rim_manifest.specs.Checks.{cell_faults, has_unknown_key, rule_faults, table_faults, value_faults}
 use Rattle.rim_manifest.specs.Rules.{launch_rules, top_rules}
@@ -50,7 +51,7 @@ holds : (b : Bool) → not b ≡ false → b ≡ true
 holds true e = refl
 holds false e = cc
 
--- ---- what stands at a key
+-- ---- the value at a key
 
 good_value : (f : Form) (d : Data) → cond (has_kind f d) (value_faults f d) (WrongKind ∷ []) ≡ [] → (has_kind f d ≡ true) × (is_within f d ≡ true)
 good_value f d e = go (has_kind f d) e
@@ -70,7 +71,7 @@ number_given key p low high default (Some (integer (pos n))) e = in_range (nat_l
 number_given key p low high default (Some (integer (negsuc n))) e = absurd (true≢false (sym (good_value (form.Number (pos low) (pos high)) (integer (negsuc n)) e).1))
 number_given key p low high default (Some d) e = absurd (true≢false (sym (good_value (form.Number (pos low) (pos high)) d e).0))
 
--- where it has to be there
+-- where it has to be given
 number_there : (key : List ℕ) (low high default : ℕ) (o : Option Data)
     → cell_faults (record { key = key; form = form.Number (pos low) (pos high); presence = Required }) o ≡ [] → o ≡ Some (integer (pos (number_in low high default o)))
 number_there key low high default None e = cc

@@ -14,12 +14,12 @@ use Rattle.rim_manifest.specs.Checks.{cell_faults, has_unknown_key, rule_faults,
 use Rattle.rim_manifest.specs.Launches.{ReleaseData}
 use Rattle.rim_manifest.specs.Manifest.{all_faults, fault_or_release, has_two_names, has_version, launch_faults, launches_at, launches_of, manifest_faults, read_of}
 
--- f does not come behind what was found so far
+-- f does not come after what was found so far
 AtLeast : ManifestFault → Option ManifestFault → Type 0
 AtLeast f None = Unit {0}
 AtLeast f (Some g) = rank_of f ≤ rank_of g
 
--- f does not come behind any of the faults
+-- f does not come after any of the faults
 NotBehind : ManifestFault → List ManifestFault → Type 0
 NotBehind f fs = AllByRecursion (λ g. rank_of f ≤ rank_of g) fs
 
@@ -72,7 +72,7 @@ noted_found None [] f h = cc
 noted_found (Some g) [] f h = record { origin = inl h; start = same_rank f g h; each = tt }
 noted_found o (g ∷ gs) f h = found_behind o g gs f (noted_found (lower o g) gs f h)
 
--- nothing was found only where there is nothing
+-- nothing was found only where no fault is
 kept : (x g : ManifestFault) (gs : List ManifestFault) (b : Bool) → ((y : ManifestFault) → (noted (Some y) gs ≡ None) → ⊥) → noted (cond b (Some x) (Some g)) gs ≡ None → ⊥
 kept x g gs true ih h = ih x h
 kept x g gs false ih h = ih g h
@@ -87,7 +87,7 @@ unfolding lower
 none_noted [] h = refl
 none_noted (f ∷ fs) h = absurd (some_noted f fs h)
 
--- faults that do not come behind `TwoNames`, as those of the tables
+-- faults that do not come after `TwoNames`, as those of the tables
 Early : List ManifestFault → Type 0
 Early fs = AllByRecursion (λ g. rank_of g ≤ 7) fs
 

@@ -1,60 +1,29 @@
--- Launches read one after another, and their configurations.
-use Rattle.std.proofs.Common.{◌≡◌, ℕ, ◌+◌, ◌<◌, List, [], ◌∷◌, ◌++◌, length, get_or, take, map, Bool, true, false, cond, Option, Some, None, refl, ap, sym, ◌∙◌, arith}
-use Rattle.std.specs.Prelude.{nat_le, pos, ◌&&◌, codes}
+-- Launches read one after another.
+use Rattle.std.proofs.Common.{◌≡◌, ℕ, ◌+◌, ◌<◌, List, [], ◌∷◌, ◌++◌, length, get_or, take, map, true, cond, Option, Some, None, refl, ap, sym, ◌∙◌, arith}
 use Rattle.std.proofs.lemmas.List.{length-map, length-take-le, map-append, take_more}
-use Rattle.toml.specs.Data.{Data, Members, get_member, integer}
+use Rattle.toml.specs.Data.{Data}
 use Rattle.toml.specs.View.{view}
 use Rattle.toml.specs.declared.value.Value.{Value}
 use Rattle.rim_launch.specs.declared.config.Config.{Config}
 use Rattle.rim_launch.specs.Steps.{each_once}
-use Rattle.rim_launch.specs.Ranges.{config_in_range}
 use Rattle.rim_launch.specs.LaunchData.{LaunchData, is_launch}
 use Rattle.rim_launch.specs.declared.item.Item.{Item}
 use Rattle.rim_launch.specs.declared.item.Region.{Region}
 use Rattle.rim_launch.specs.declared.rec.Rec.{Rec}
 use Rattle.rim_launch.specs.declared.step.Step.{Step}
-use Rattle.rim_manifest.specs.Launches.{NamedData, bare_launch, config_of, launch_in, launches_from, number_in}
+use Rattle.rim_manifest.specs.Launches.{NamedData, bare_launch, launch_in, launches_from}
 
--- a number that is picked, or a default, does not come below or above what both keep to
-picked-from : (low n d : ℕ) (b c : Bool) → nat_le low n ≡ b → nat_le low d ≡ true → nat_le low (cond (b && c) n d) ≡ true
-picked-from low n d true true e h = e
-picked-from low n d true false e h = h
-picked-from low n d false c e h = h
-
-picked-to : (high n d : ℕ) (b c : Bool) → nat_le n high ≡ c → nat_le d high ≡ true → nat_le (cond (b && c) n d) high ≡ true
-picked-to high n d true true e h = e
-picked-to high n d true false e h = h
-picked-to high n d false c e h = h
-
-number_in-from : (low high d : ℕ) (o : Option Data) → nat_le low d ≡ true → nat_le low (number_in low high d o) ≡ true
-number_in-from low high d (Some (integer (pos n))) h = picked-from low n d (nat_le low n) (nat_le n high) refl h
-number_in-from low high d _ h = h
-
-number_in-to : (low high d : ℕ) (o : Option Data) → nat_le d high ≡ true → nat_le (number_in low high d o) high ≡ true
-number_in-to low high d (Some (integer (pos n))) h = picked-to high n d (nat_le low n) (nat_le n high) refl h
-number_in-to low high d _ h = h
-
--- whatever a table holds, the configuration that is read from it is in range
-pub config_of-in_range : (ms : Members) → config_in_range (config_of ms) ≡ true
-unfolding config_of
-config_of-in_range ms = rw (
-  number_in-from 32 48 32 (get_member (codes "s2sz") ms) refl,
-  number_in-to 32 48 32 (get_member (codes "s2sz") ms) refl,
-  number_in-to 0 3 2 (get_member (codes "block_level") ms) refl,
-  number_in-to 0 16 0 (get_member (codes "num_aux") ms) refl,
-) refl
-
--- and a configuration in range is that of a launch, where there is nothing else
-bare_is_launch : (number : ℕ) (c : Config) → config_in_range c ≡ true → is_launch (bare_launch number c) ≡ true
+-- a configuration is that of a launch that has nothing else
+bare_is_launch : (number : ℕ) (c : Config) → is_launch (bare_launch number c) ≡ true
 unfolding is_launch each_once
-bare_is_launch number c h = rw h refl
+bare_is_launch number c = refl
 
 pub bare_is_made : (number : ℕ) (c : Config) (ram : List Region) (items : List Item) (recs : List Rec) (steps : List Step) (o : Option LaunchData)
-    → ram ≡ [] → items ≡ [] → recs ≡ [] → steps ≡ [] → config_in_range c ≡ true
+    → ram ≡ [] → items ≡ [] → recs ≡ [] → steps ≡ []
     → (let l : LaunchData = record { number = number; config = c; ram = ram; items = items; recs = recs; steps = steps } in o ≡ cond (is_launch l) (Some l) None)
     → o ≡ Some (bare_launch number c)
-bare_is_made number c ram items recs steps o ram_is items_is recs_is steps_is h made =
-    rw (ram_is, items_is, recs_is, steps_is, bare_is_launch number c h) at made
+bare_is_made number c ram items recs steps o ram_is items_is recs_is steps_is made =
+    rw (ram_is, items_is, recs_is, steps_is, bare_is_launch number c) at made
 
 -- one more launch is read
 launches_more : (n : ℕ) (ds : List Data) (d : Data) → launches_from n (ds ++ d ∷ []) ≡ launches_from n ds ++ launch_in (n + length ds) d ∷ []

@@ -1,16 +1,12 @@
--- What a launch's table says. It is read where no fault holds; of anything else, a value that is of
--- another kind or out of its range reads as the default. This project's choice.
-use Rattle.std.specs.Prelude.{ℕ, Bool, false, ◌&&◌, pos, nat_le, List, [], Option, Some, codes, map, if◌then◌else◌}
+-- What a launch's table says, as its values at the keys read. This project's choice.
+use Rattle.std.specs.Prelude.{ℕ, List, [], map, codes, refl}
 use Rattle.std.specs.List.{enumerate_from}
-use Rattle.std.specs.Result.{result_unwrap_or}
-use Rattle.std.specs.Str.{bytes_eq}
-use Rattle.hex.specs.Hex.{decode_sized}
-use Rattle.toml.specs.Data.{Data, string, integer, boolean, table, Members, no_members, get_member}
-use Rattle.rim_desc.specs.Page.{zeros}
-use Rattle.rim_desc.specs.declared.measurement.Algo.{Algo}
-use Rattle.rim_desc.specs.declared.measurement.Algo.TheVariants.{Sha256, Sha512}
+use Rattle.std.proofs.lemmas.Bool.{leb-true, ltb-true}
+use Rattle.toml.specs.Data.{Data, table, Members, no_members, get_member}
 use Rattle.rim_launch.specs.LaunchData.{LaunchData}
 use Rattle.rim_launch.specs.declared.config.Config.{Config}
+use Rattle.rim_manifest.specs.Values.{algorithm_in, digits_in, number_in, text_in, truth_in}
+use Rattle.rim_manifest.specs.inside.NumberRanges.{number_to, number_within}
 
 -- a launch and its name, as clauses see them
 pub record NamedData : Type 0 where
@@ -22,29 +18,7 @@ pub record ReleaseData : Type 0 where
   pub paths : List (List ℕ)
   pub launches : List NamedData
 
--- the text at a key, or no text
-abbrev pub text_in : Option Data → List ℕ
-text_in (Some (string s)) = s
-text_in _ = []
-
--- the number at a key that is from `low` to `high`, or a default
-abbrev pub number_in : ℕ → ℕ → ℕ → Option Data → ℕ
-number_in low high default (Some (integer (pos n))) = if nat_le low n && nat_le n high then n else default
-number_in low high default _ = default
-
-abbrev pub truth_in : Option Data → Bool
-truth_in (Some (boolean b)) = b
-truth_in _ = false
-
-abbrev pub algorithm_in : Option Data → Algo
-algorithm_in (Some (string s)) = if bytes_eq s (codes "sha512") then Sha512 else Sha256
-algorithm_in _ = Sha256
-
--- the 64 bytes that the digits at a key spell, or zeros
-abbrev pub digits_in : Option Data → List ℕ
-digits_in (Some (string s)) = result_unwrap_or (decode_sized s 64) (zeros 64)
-digits_in _ = zeros 64
-
+-- the configuration, and why each of its numbers is in range
 unfoldable pub config_of : Members → Config
 config_of ms = record {
   algo = algorithm_in (get_member (codes "algo") ms);
@@ -60,6 +34,12 @@ config_of ms = record {
   num_aux = number_in 0 16 0 (get_member (codes "num_aux") ms);
   pool_base = 0x800000000;
   pool_count = 16777216;
+  width = number_within 32 48 32 (get_member (codes "s2sz") ms) refl;
+  level = number_to 0 3 2 (get_member (codes "block_level") ms) refl;
+  aux = number_to 0 16 0 (get_member (codes "num_aux") ms) refl;
+  pool_aligned = refl;
+  pool_low = ltb-true _ _ refl;
+  pool_fits = (leb-true _ _ refl, leb-true _ _ refl);
 }
 
 -- a launch of a configuration alone, without memory, items or RECs

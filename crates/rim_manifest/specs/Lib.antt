@@ -2,6 +2,8 @@ pub mod Faults
 pub mod Forms
 pub mod Rules
 pub mod Checks
+pub mod Values
+pub mod inside
 pub mod Launches
 pub mod Manifest
 pub mod Given

@@ -1,4 +1,4 @@
--- The keys of a manifest's tables: what each may hold, and whether it has to be there. This project's
+-- The keys of a manifest's tables: what each may hold, and whether it has to be given. This project's
 -- choice; what a realm's parameters may be is DEN0137's, RmiRealmParams.
 use Rattle.std.specs.Prelude.{ℕ, pos, List, [], ◌∷◌, codes}
 use Rattle.std.specs.Borrow.{Bor}

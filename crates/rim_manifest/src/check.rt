@@ -1,8 +1,6 @@
 //! The faults of a table whose keys have rules.
-ghost use Rattle.std.specs.Prelude.{◌≡◌, map, not, option_map, string_bytes};
-ghost use Rattle.std.specs.List.{flat_map, list_any};
-ghost use Rattle.std.specs.Str.{bytes_eq};
-ghost use Rattle.std.specs.BTreeMap.{keys};
+ghost use Rattle.std.specs.Prelude.{◌≡◌, map, option_map};
+ghost use Rattle.std.specs.List.{flat_map};
 ghost use Rattle.toml.specs.Data.{get_member};
 ghost use Rattle.toml.specs.View.{table_view, view};
 ghost use Rattle.rim_manifest.specs.Faults.{noted};
@@ -71,29 +69,12 @@ pub fn cell<'a>(table: &'a Table, key: &str) -> Option<&'a Value>
 fn has_unknown_key(rules: &[Rule], table: &Table) -> bool
     ensures { result ≡ has_unknown_key (map rule_of rules.now) (table_view table.now) }
 {
-    any_unknown(rules, table)
+    table.keys().any(|key| !is_known(rules, key.as_str()))
 }
 
-fn any_unknown(rules: &[Rule], table: &Table) -> bool
-    ensures { result ≡ list_any (λ k. not (is_known (map rule_of rules.now) (string_bytes k))) (keys table.now) }
-{
-    table.keys().any(|key| is_unknown(rules, key))
-}
-
-fn is_unknown(rules: &[Rule], key: &String) -> bool
-    ensures { result ≡ not (is_known (map rule_of rules.now) (string_bytes key.now)) }
-{
-    !is_known(rules, key.as_str())
-}
-
+/// Whether a rule has the key.
 fn is_known(rules: &[Rule], key: &str) -> bool
     ensures { result ≡ is_known (map rule_of rules.now) key.now }
-{
-    has_rule(rules, key)
-}
-
-fn has_rule(rules: &[Rule], key: &str) -> bool
-    ensures { result ≡ list_any (λ r. bytes_eq r.0.now key.now) rules.now }
 {
     rules.iter().any(|rule| rule.0 == key)
 }

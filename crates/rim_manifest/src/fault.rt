@@ -13,7 +13,7 @@ pub enum ManifestFault {
     /// The bytes are not UTF-8, or are no TOML document.
     #[error("syntax")]
     Syntax,
-    /// `rim_manifest` is not there or is not the whole number 1.
+    /// `rim_manifest` is not given or is not the whole number 1.
     #[error("version")]
     Version,
     /// A known key holds another kind of value.
@@ -22,7 +22,7 @@ pub enum ManifestFault {
     /// A table has a key that its format does not list.
     #[error("unknown-key")]
     UnknownKey,
-    /// A required key is not there.
+    /// A required key is not given.
     #[error("missing-key")]
     MissingKey,
     /// A list is longer than its limit, or a key is not read yet.

@@ -32,17 +32,17 @@ pub enum Form {
     Later,
 }
 
-/// Whether a key has to be there.
+/// Whether a key has to be given.
 #[derive(Clone, Copy, Debug)]
 pub enum Presence {
     Required,
     Optional,
 }
 
-/// A key of a table, what it may hold, and whether it has to be there.
+/// A key of a table, what it may hold, and whether it has to be given.
 pub type Rule = (&'static str, Form, Presence);
 
-/// Whether a key has to be there.
+/// Whether a key has to be given.
 pub fn is_required(presence: Presence) -> bool
     ensures { result ≡ is_required presence }
 {

@@ -2,8 +2,8 @@
 ghost use Rattle.std.specs.Prelude.{◌≡◌, ◌≤◌, IfOk, string_bytes, true};
 ghost use Rattle.toml.specs.Data.{get_member};
 ghost use Rattle.toml.specs.View.{table_view, view};
-ghost use Rattle.rim_launch.specs.Ranges.{config_in_range};
-ghost use Rattle.rim_manifest.specs.Launches.{NamedData, algorithm_in, bare_launch, config_of, digits_in, launch_in, launch_of, number_in, text_in, truth_in};
+ghost use Rattle.rim_manifest.specs.Launches.{NamedData, bare_launch, config_of, launch_in, launch_of};
+ghost use Rattle.rim_manifest.specs.Values.{algorithm_in, digits_in, number_in, text_in, truth_in};
 
 use crate::check::cell;
 use rim_desc::Algo;
@@ -62,7 +62,6 @@ fn read_table(alloc: Global, number: usize, table: &Table) -> Result<NamedLaunch
 /// A launch of a configuration alone: it has no memory, items or RECs, and so breaks no condition of
 /// its type.
 fn bare_launch(alloc: Global, number: usize, config: Config) -> Launch
-    requires { config_in_range config ≡ true }
     ensures { result ≡ bare_launch number config }
 {
     let launch = Launch::new(

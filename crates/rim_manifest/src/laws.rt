@@ -14,7 +14,7 @@ pub fn the_lowest_fault_is_answered()
 {}
 
 /// In a manifest that is accepted each launch has the values that its table gives. A default is read only
-/// where the key is not there, never in the place of a value of another kind or out of its range.
+/// where the key is not given, never in the place of a value of another kind or out of its range.
 pub fn what_is_given_is_read()
     ensures { (ms : Members) (r : ReleaseData) → read_of ms ≡ Ok r → AreGiven (launches_at ms) r.launches }
 {}

@@ -48,7 +48,7 @@ impl Release {
         self.paths[i].as_str()
     }
 
-    /// How many launches there are.
+    /// The number of launches.
     pub fn launches(&self) -> usize
         ensures { result ≡ length self.now.launches }
     {
@@ -151,7 +151,7 @@ fn read_release(alloc: Global, table: &Table) -> Result<Release, ManifestFault>
     ensures { Answers ManifestFault.NoMemory (λ release. release) result (release_of (table_view table.now)) }
 {
     let launches = read_launches(alloc, launches(table))?;
-    // The search is quadratic in the launches, of which there are at most 1,024 by now.
+    // The search is quadratic in the launches, which are at most 1,024 by now.
     if has_two_names(launches.as_slice()) {
         return Err(ManifestFault::TwoNames);
     }

@@ -4,7 +4,7 @@ use Rattle.std.proofs.lemmas.List.{append-nil, map-append, take_all, take_more}
 use Rattle.std.proofs.Math.Seq.{take-append_seam}
 use Rattle.std.specs.List.{flat_map}
 use Rattle.fdt_tree.specs.Devicetree.{Branch, joined, none}
-use Rattle.fdt_tree.specs.NodeViews.{branch, branches, entry_of}
+use Rattle.fdt_tree.specs.NodeViews.{branch, branches, property_data}
 use Rattle.fdt_tree.specs.declared.node.Node.TheViews.{out-Node}
 use Rattle.fdt_tree.proofs.OpenNodes.{branch_out}
 use Rattle.fdt_tree.specs.declared.node.Node.{Node}
@@ -17,7 +17,7 @@ child_text path b = node_line (path_below path b.name) ++ inner_text (path_below
 first_text : (path : List ℕ) (b : Branch) (bs : List Branch) → nodes_text path (joined (b ∷ bs)) ≡ child_text path b ++ nodes_text path (joined bs)
 unfolding nodes_text
 first_text path b bs =
-    ap (λ t. t ++ nodes_text path (joined bs)) (append_assoc (node_line (path_below path b.name)) (flat_map property_line b.entries) (nodes_text (path_below path b.name) b.children))
+    ap (λ t. t ++ nodes_text path (joined bs)) (append_assoc (node_line (path_below path b.name)) (flat_map property_line b.properties) (nodes_text (path_below path b.name) b.children))
 
 no_text : (path : List ℕ) → nodes_text path none ≡ []
 unfolding nodes_text
@@ -64,7 +64,7 @@ cut_back above path stepped name step same =
 
 -- all children were gone through
 pub all_told : (path strings text props told : List ℕ) (ns : List Node) (i : ℕ) (n : Node) → length ns ≤ i → ns ≡ (out-Node n).children.items
-    → props ≡ text ++ flat_map property_line (map (entry_of strings) (out-Node n).properties.items)
+    → props ≡ text ++ flat_map property_line (map (property_data strings) (out-Node n).properties.items)
     → told ≡ props ++ nodes_text path (joined (branches strings (take i ns)))
     → told ≡ text ++ inner_text path (branch strings n)
 all_told path strings text props told ns i n done items first so_far =

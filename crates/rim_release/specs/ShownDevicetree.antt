@@ -3,7 +3,7 @@ use Rattle.std.specs.Prelude.{◌≡◌, ℕ, List, [], ◌∷◌, ◌++◌, cod
 use Rattle.std.specs.Fmt.{decimal}
 use Rattle.std.specs.List.{flat_map}
 use Rattle.hex.specs.Hex.{encode_lower}
-use Rattle.fdt_tree.specs.Devicetree.{Branch, Devicetree, Entry, Nodes, Root, none, node}
+use Rattle.fdt_tree.specs.Devicetree.{Branch, Devicetree, PropertyData, Nodes, Root, none, node}
 use Rattle.fdt_tree.specs.Reading.{Spells, refusal_of}
 use Rattle.fdt_tree.specs.declared.tree.Reservation.{Reservation}
 use Rattle.rim_desc.specs.Number.{digits_of}
@@ -24,7 +24,7 @@ value_text [] = []
 value_text (b ∷ bs) = codes " " ++ encode_lower (b ∷ bs)
 
 -- a property
-unfoldable pub property_line : Entry → List ℕ
+unfoldable pub property_line : PropertyData → List ℕ
 property_line e = ((codes "prop " ++ e.name) ++ value_text e.value) ++ codes "\n"
 
 -- the path of a node
@@ -38,15 +38,15 @@ path_below path name = (path ++ codes "/") ++ name
 -- siblings below a path, each with its properties and before its children
 unfoldable pub nodes_text : List ℕ → Nodes → List ℕ
 nodes_text path none = []
-nodes_text path (node name entries children next) =
-    ((node_line (path_below path name) ++ flat_map property_line entries) ++ nodes_text (path_below path name) children) ++ nodes_text path next
+nodes_text path (node name properties children next) =
+    ((node_line (path_below path name) ++ flat_map property_line properties) ++ nodes_text (path_below path name) children) ++ nodes_text path next
 
 -- what a node holds
 abbrev pub inner_text : List ℕ → Branch → List ℕ
-inner_text path b = flat_map property_line b.entries ++ nodes_text path b.children
+inner_text path b = flat_map property_line b.properties ++ nodes_text path b.children
 
 abbrev pub root_text : Root → List ℕ
-root_text r = node_line (codes "/") ++ inner_text [] (record { name = []; entries = r.entries; children = r.children })
+root_text r = node_line (codes "/") ++ inner_text [] (record { name = []; properties = r.properties; children = r.children })
 
 -- the whole text
 abbrev pub devicetree_text : Devicetree → List ℕ

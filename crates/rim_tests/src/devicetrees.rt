@@ -20,7 +20,7 @@ const SUFFIX: [u8; 89] = [
     0x78, 0x72, 0x65, 0x67, 0,
 ];
 
-/// A root with a node `a`, and after it a property `reg`, which may not be there.
+/// A root with a node `a`, and after it a property `reg`, where none is allowed.
 const LATE: [u8; 100] = [
     0xd0, 0x0d, 0xfe, 0xed, 0, 0, 0, 0x64, 0, 0, 0, 0x38, 0, 0, 0, 0x60, 0, 0, 0, 0x28, 0, 0, 0,
     0x11, 0, 0, 0, 0x10, 0, 0, 0, 0, 0, 0, 0, 4, 0, 0, 0, 0x28, 0, 0, 0, 0, 0, 0, 0, 0, 0, 0, 0, 0,

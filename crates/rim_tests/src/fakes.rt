@@ -122,7 +122,7 @@ impl Opener for InterruptedFiles {
     }
 }
 
-/// A reader for whose bytes there is no memory.
+/// A reader for whose bytes memory is refused.
 #[derive(Drop)]
 pub struct MemorylessReader;
 

@@ -34,7 +34,7 @@ use Rattle.list_model.specs.Parts.{AreContents, block_parts, page_parts}
 use Rattle.list_model.proofs.Counting.{count-all, count-append}
 use Rattle.list_model.proofs.Opening.{realm-leads, rec-leads}
 use Rattle.list_model.proofs.Stepping.{item-leads, region-leads}
-use Rattle.rim_launch.specs.LaunchData.{LaunchData, is_launch}
+use Rattle.rim_launch.specs.LaunchData.{LaunchData}
 use Rattle.rim_launch.specs.Realm.{realm_params}
 use Rattle.rim_launch.specs.declared.config.Config.{Config}
 use Rattle.rim_launch.specs.declared.item.Region.{Region}
@@ -50,7 +50,7 @@ use Rattle.rmi_list.specs.Listed.{Listing, Progress, list_item, list_named, list
 use Rattle.rmi_list.specs.Measured.{least_level, measured, of_named, page_base, rec_part, step_parts}
 use Rattle.rmi_list.specs.RecParams.{rec_params}
 use Rattle.rmi_list.proofs.Checking.{bound, fronted, is-done, plan-off}
-use Rattle.rmi_list.proofs.Params.{InRange, good-realm, launch-in-range}
+use Rattle.rmi_list.proofs.Params.{good-realm}
 
 -- ---- what was listed is built
 
@@ -234,23 +234,23 @@ steps-end l p contents (st ∷ ss) s w entries good few is_listed at =
     ap (commands_of contents) (second.2) ∙ map-append (command_of contents) done.entries others in
     rw words (then-ends s cs (commands_of contents others) (step_parts l p contents st) (flat_map (step_parts l p contents) ss) (realm_params l.config) here.accepted here.shown rest)
 
-opened-listed : (c : Config) (contents : Contents) → InRange c
+opened-listed : (c : Config) (contents : Contents)
     → Follows c (empty_state c.num_aux) (commands_of contents (opening_entries c)) (Realm (realm_page_of (realm_params c)) ∷ []) (opening c)
-opened-listed c contents range =
-    let pool : c.pool_base % 65536 ≡ 0 = range.pool in
-    let led = realm-leads contents (build_of c) (good-realm c range) refl (omega arith) in
+opened-listed c contents =
+    let pool : c.pool_base % 65536 ≡ 0 = c.pool_aligned in
+    let led = realm-leads contents (build_of c) (good-realm c) refl (omega arith) in
     let own : delegated (delegate_all (granules (start_count c.s2sz + 1) c.pool_base)) ≡ start_count c.s2sz + 1 = count-all (start_count c.s2sz + 1) c.pool_base in
     let count : delegated (opening_entries c) ≡ start_count c.s2sz + 1 = count-append (delegate_all (granules (start_count c.s2sz + 1) c.pool_base)) _ ∙ omega arith in
     record {
       accepted = led.accepted;
       shown = led.shown;
-      listed = record { built = rw count led.built; planned = planned-nothing c.s2sz c.block_level range.block; least = refl };
+      listed = record { built = rw count led.built; planned = planned-nothing c.s2sz c.block_level c.level; least = refl };
     }
 
-pub list-is-followed : (l : LaunchData) (p : PlacedData) (contents : Contents) (entries : List Entry) → is_launch l ≡ true → AreContents l.config.algo contents
+pub list-is-followed : (l : LaunchData) (p : PlacedData) (contents : Contents) (entries : List Entry) → AreContents l.config.algo contents
     → listed l p ≡ Ok entries → IsFollowed l.config.algo l.config.num_aux (commands_of contents entries) (measured l p contents)
 unfolding listed
-list-is-followed l p contents entries launch good at =
+list-is-followed l p contents entries good at =
     let c : Config = l.config in
     let s : State = empty_state c.num_aux in
     let checks : List (Check ListFault) = opening_checks c p.recs in
@@ -259,7 +259,7 @@ list-is-followed l p contents entries launch good at =
     let many : nat_lt rec_limit (length p.recs) ≡ false = off-at checks 0 fault.NoMemory (none-holds checks (opening_entries c) (first.0) (first.1)) in
     let second = fronted (first.0) (list_steps l p (opening c) l.steps) entries (first.2) in
     let others : List Entry = second.0 in
-    let here = opened-listed c contents (launch-in-range l launch) in
+    let here = opened-listed c contents in
     let cs : List Command = commands_of contents (opening_entries c) in
     let rest = steps-end l p contents l.steps (run s cs) (opening c) others good (grind (arith, nat_tests)) here.listed (second.1) in
     let words : commands_of contents entries ≡ cs ++ commands_of contents others =

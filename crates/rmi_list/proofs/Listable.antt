@@ -7,7 +7,7 @@ use Rattle.std.proofs.lemmas.Bool.Decides.{nat_tests}
 use Rattle.std.proofs.lemmas.List.Sums.{sum_by-cons}
 use Rattle.std.proofs.lemmas.Option.{slice_get_cases, slice_get_within}
 use Rattle.rim_launch.specs.Kinds.{edits_possible, once_each}
-use Rattle.rim_launch.specs.LaunchData.{LaunchData, all_in_range, is_launch, steps_fit, within_limits}
+use Rattle.rim_launch.specs.LaunchData.{LaunchData, is_launch, steps_fit, within_limits}
 use Rattle.ipa_layout.specs.Layout.{IsPlaced, PlacedData}
 use Rattle.ipa_layout.specs.declared.placed.PlacedItem.{PlacedItem}
 use Rattle.ipa_layout.proofs.PlacedFacts.{as-many-items, few-pages, lead-is}
@@ -23,8 +23,8 @@ part-le (x ∷ items) (suc n) i at = (let rest : i.pages ≤ sum_by (λ j. j.pag
 few-items : (l : LaunchData) → is_launch l ≡ true → length l.items ≤ 64
 unfolding is_launch
 few-items l h =
-    let first : (within_limits l && all_in_range l) && once_each l.items ≡ true = (and_parts _ (edits_possible l.ram l.items) ((and_parts _ (steps_fit l) h).0)).0 in
-    let within : within_limits l ≡ true = (and_parts (within_limits l) (all_in_range l) ((and_parts _ (once_each l.items) first).0)).0 in
+    let first : within_limits l && once_each l.items ≡ true = (and_parts _ (edits_possible l.ram l.items) ((and_parts _ (steps_fit l) h).0)).0 in
+    let within : within_limits l ≡ true = (and_parts (within_limits l) (once_each l.items) first).0 in
     grind (arith, nat_tests)
 
 pub are-listable : (l : LaunchData) (p : PlacedData) → is_launch l ≡ true → HasPlace l p → AreListable p.items

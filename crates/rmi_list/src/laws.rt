@@ -1,8 +1,8 @@
 //! Laws of the lists, proved of the definitions.
-ghost use Rattle.std.specs.Prelude.{◌≡◌, ℕ, true, List, Ok};
+ghost use Rattle.std.specs.Prelude.{◌≡◌, ℕ, List, Ok};
 ghost use Rattle.list_model.specs.Entries.{Contents, Entry, commands_of};
 ghost use Rattle.list_model.specs.Parts.{AreContents};
-ghost use Rattle.rim_launch.specs.LaunchData.{LaunchData, is_launch};
+ghost use Rattle.rim_launch.specs.LaunchData.{LaunchData};
 ghost use Rattle.ipa_layout.specs.Layout.{PlacedData};
 ghost use Rattle.rmi_list.specs.Following.{IsFollowed};
 ghost use Rattle.rmi_list.specs.Listed.{listed};
@@ -12,7 +12,7 @@ ghost use Rattle.rmi_list.specs.Measured.{contents, measured};
 /// Measurement; and no granule is taken twice. It holds for whatever contents the pages have, as long as these are
 /// digests of the launch's algorithm.
 pub fn list_is_followed()
-    ensures { (l : LaunchData) (p : PlacedData) (contents : Contents) (entries : List Entry) → is_launch l ≡ true → AreContents l.config.algo contents
+    ensures { (l : LaunchData) (p : PlacedData) (contents : Contents) (entries : List Entry) → AreContents l.config.algo contents
         → listed l p ≡ Ok entries
         → IsFollowed l.config.algo l.config.num_aux (commands_of contents entries) (measured l p contents) }
 {}

@@ -80,7 +80,7 @@ realm-run (c ∷ cs) s p rim h =
       ]
     ]
 
--- ---- before there is one
+-- ---- before a realm is created
 
 record IsBare (s : State) : Type 0 where
   phase : is_empty s.phase ≡ true

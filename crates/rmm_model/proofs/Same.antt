@@ -54,7 +54,7 @@ deeper-made (t ∷ ts) l base top =
       | inr k ↦ rw k (λ h. (let i = deeper-made ts l base top h in (i.0, i.1, made-there t ts (i.0) (i.1) (i.2), i.3, i.4, i.5)))
     ]
 
--- and where none is, there is no deeper one
+-- and where none is, no deeper one is
 pub deeper-none : (ts : List Table) (l base top : ℕ) → ((j b : ℕ) → made ts j b ≡ true → l < j → base ≤ b → b < top → ⊥) → deeper ts l base top ≡ false
 deeper-none [] l base top none = refl
 deeper-none (t ∷ ts) l base top none =

@@ -7,7 +7,7 @@ use Rattle.rmm_model.specs.Space.{covers, made, walk}
 use Rattle.std.proofs.Math.Nat.{eq-or-lt_of_le}
 use Rattle.std.proofs.lemmas.Bool.{cases_Bool, eq-eqb, eqb-true}
 
--- ---- which tables there are
+-- ---- which tables are made
 
 pub made-cases : (t : Table) (ts : List Table) (j b : ℕ) → made (t ∷ ts) j b ≡ true → ((t.level ≡ j) × (t.base ≡ b)) ⊎ (made ts j b ≡ true)
 made-cases t ts j b m = grind (arith, nat_tests)

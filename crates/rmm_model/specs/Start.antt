@@ -10,7 +10,7 @@ is_width s2sz = nat_le 32 s2sz && nat_le s2sz 48
 abbrev pub start_level : ℕ → ℕ
 start_level s2sz = if nat_le s2sz 34 then 2 else (if nat_le s2sz 43 then 1 else 0)
 
--- how many start tables there are: one covers addresses of 12 + 9 * (4 - level) bits, and each bit
+-- the number of start tables: one covers addresses of 12 + 9 * (4 - level) bits, and each bit
 -- more doubles their number
 abbrev pub start_count : ℕ → ℕ
 start_count s2sz = 2 ^ (s2sz - (12 + 9 * (4 - start_level s2sz)))

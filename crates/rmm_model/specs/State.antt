@@ -1,4 +1,4 @@
--- The state of a monitor. DEN0137, realm states and realm attributes; that there is one realm, and EMPTY
+-- The state of a monitor. DEN0137, realm states and realm attributes; that a monitor has one realm, and EMPTY
 -- before it was created, is this project's choice.
 use Rattle.std.specs.Prelude.{ℕ, List, [], Bool, true, false, Option, Some, None}
 use Rattle.rim_desc.specs.Page.{zeros}
@@ -12,7 +12,7 @@ use Rattle.rmm_model.specs.Space.{Space, empty_space}
 
 pub record State : Type 0 where
   pub phase : Phase
-  -- the realm's parameters, once there is a realm
+  -- the realm's parameters, once a realm is created
   pub params : Option RealmParams
   -- the number of auxiliary granules of each REC
   pub aux : ℕ
@@ -21,7 +21,7 @@ pub record State : Type 0 where
   pub space : Space
   -- the number of RECs made
   pub recs : ℕ
-  -- the Realm Initial Measurement, once there is a realm
+  -- the Realm Initial Measurement, once a realm is created
   pub rim : Option (List ℕ)
 
 -- the state before the first command

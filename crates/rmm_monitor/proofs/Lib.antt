@@ -1,5 +1,7 @@
 pub mod Gifts
-pub mod Places
-pub mod Parts
+pub mod OneMoreTable
+pub mod DeeperByLevel
+pub mod FirstPasses
+pub mod LastMeets
 pub mod Granules
 pub mod Stretches

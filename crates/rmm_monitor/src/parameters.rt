@@ -35,7 +35,7 @@ pub fn is_bad_realm(params: &RealmParams) -> bool
     params.rtt_base % bytes != 0 || params.rtt_base > u64::MAX - (bytes - 1)
 }
 
-/// Whether there are flags other than SVE and PMU.
+/// Whether flags other than SVE and PMU are set.
 fn has_other_flags(flags: u64) -> bool
     ensures { result ≡ has_other_flags flags }
 {

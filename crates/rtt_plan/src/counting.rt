@@ -1,4 +1,4 @@
-//! How many entries there are.
+//! The number of entries.
 ghost use Rattle.std.specs.Prelude.{◌≡◌, ◌+◌, ◌<◌, ◌≤◌, ◌^◌, IfNone, IfSome, length};
 ghost use Rattle.rtt_plan.specs.Entries.{entries};
 ghost use Rattle.rtt_plan.specs.Places.{IsRegion};

@@ -2,17 +2,17 @@
 use Rattle.std.specs.Prelude.{ℕ, List, [], ◌∷◌, ◌++◌, length, map, Bool, true, false}
 use Rattle.fdt_tree.specs.declared.reading.place.Place.{Place}
 use Rattle.fdt_tree.specs.declared.reading.structure.OpenNodes.{OpenNodes}
-use Rattle.fdt_tree.specs.Devicetree.{Entry, Nodes, none, node, Branch, Token, begin_node, property, end_node, nop, finish, tokens}
+use Rattle.fdt_tree.specs.Devicetree.{PropertyData, Nodes, none, node, Branch, Token, begin_node, property, end_node, nop, finish, tokens}
 use Rattle.fdt_tree.specs.NodeViews.{branch, branches}
 
 -- a node with one more property
-abbrev pub with_entry : Branch → Entry → Branch
-with_entry b e = record b { entries = b.entries ++ e ∷ [] }
+abbrev pub with_property : Branch → PropertyData → Branch
+with_property b e = record b { properties = b.properties ++ e ∷ [] }
 
 -- nodes and one more after them
 abbrev pub followed : Nodes → Branch → Nodes
-followed none b = node b.name b.entries b.children none
-followed (node name entries children next) b = node name entries children (followed next b)
+followed none b = node b.name b.properties b.children none
+followed (node name properties children next) b = node name properties children (followed next b)
 
 -- a node with one more child
 abbrev pub with_child : Branch → Branch → Branch
@@ -20,11 +20,11 @@ with_child b child = record b { children = followed b.children child }
 
 abbrev pub has_any : Nodes → Bool
 has_any none = false
-has_any (node name entries children next) = true
+has_any (node name properties children next) = true
 
 -- the tokens of a node up to its last child
 abbrev pub opened : Branch → List Token
-opened b = begin_node b.name ∷ (map property b.entries ++ tokens b.children)
+opened b = begin_node b.name ∷ (map property b.properties ++ tokens b.children)
 
 abbrev pub all_opened : List Branch → List Token
 all_opened [] = []

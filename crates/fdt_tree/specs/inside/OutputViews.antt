@@ -5,7 +5,8 @@ use Rattle.fdt_tree.specs.declared.node.Node.{Node}
 use Rattle.fdt_tree.specs.declared.writing.Output.{Output}
 use Rattle.fdt_tree.specs.declared.writing.Lengths.{Lengths}
 use Rattle.fdt_tree.specs.Devicetree.{Token, property, tokens, joined}
-use Rattle.fdt_tree.specs.NodeViews.{entry_of, branches}
+use Rattle.fdt_tree.specs.Blocks.{header_size}
+use Rattle.fdt_tree.specs.NodeViews.{property_data, branches}
 use Rattle.fdt_tree.specs.Writing.{names_after, text_after, strings_text}
 use Rattle.fdt_tree.specs.inside.NameTables.{HasNames}
 
@@ -19,8 +20,8 @@ abbrev pub size_of : List (List ℕ) → List Token → ℕ
 size_of names ts = length (text_after names ts) + length (strings_text (names_after names ts))
 
 -- the tokens of properties, and of nodes, in memory
-abbrev pub tokens_of_entries : List ℕ → List Property → List Token
-tokens_of_entries strings ps = map property (map (entry_of strings) ps)
+abbrev pub tokens_of_properties : List ℕ → List Property → List Token
+tokens_of_properties strings ps = map property (map (property_data strings) ps)
 
 abbrev pub tokens_of_nodes : List ℕ → List Node → List Token
 tokens_of_nodes strings ns = tokens (joined (branches strings ns))
@@ -30,4 +31,4 @@ pub record AreLengths (l : Lengths) (reserve structure strings : ℕ) : Type 0 w
   pub reserve_is : l.reserve ≡ reserve
   pub structure_is : l.structure ≡ structure
   pub strings_is : l.strings ≡ strings
-  pub fits : 40 + reserve + structure + strings ≤ 2 ^ 21
+  pub fits : header_size + reserve + structure + strings ≤ 2 ^ 21

@@ -58,7 +58,7 @@ fn in_cells(cells: u32, number: u64) -> Result<Cells, FdtFault>
 #[tactic(auto, unfolding(crate::specs::Memory::reg_value))]
 pub fn reg_of(strings: &[u8], root: &Node, base: u64, size: u64) -> Result<(Cells, Cells), FdtFault>
     ensures { Matches (λ x. cells_text x.0 ++ cells_text x.1) result
-        (reg_value base size (branch strings.now root.now).entries) }
+        (reg_value base size (branch strings.now root.now).properties) }
 {
     let address_cells = cells_or(2, value_of(strings, root, b"#address-cells"))?;
     let size_cells = cells_or(1, value_of(strings, root, b"#size-cells"))?;

@@ -2,7 +2,7 @@
 
 ghost use Rattle.std.specs.Prelude.{◌≡◌, ◌+◌, ◌≤◌, length, nat_le, IfOk};
 ghost use Rattle.refusal.specs.Answer.{Matches};
-ghost use Rattle.fdt_tree.specs.Blocks.{BlocksFit, word_at, header_of, blocks_fit, is_known_version, header_at, reserve_block, structure_block, strings_block};
+ghost use Rattle.fdt_tree.specs.Blocks.{BlocksFit, blocks_fit, header_at, header_of, header_size, is_known_version, reserve_block, strings_block, structure_block, word_at};
 
 use crate::fault::FdtFault;
 
@@ -44,7 +44,7 @@ fn word(bytes: &[u8], offset: usize) -> u32
 }
 
 fn fields_of(bytes: &[u8]) -> Header
-    requires { 40 ≤ length bytes.now }
+    requires { header_size ≤ length bytes.now }
     ensures { result ≡ header_of bytes.now }
 {
     Header {

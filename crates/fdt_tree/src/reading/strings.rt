@@ -14,7 +14,7 @@ use std::alloc::{AllocError, Global};
 #[derive(Drop)]
 pub struct Strings {
     pub bytes: Vec<u8>,
-    // for each byte, how many name characters there are from it on
+    // for each byte, the number of name characters from it on
     runs: Vec<usize>,
     // index just after the last zero byte; no name starts at or after it
     end: usize,

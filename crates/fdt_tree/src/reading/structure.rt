@@ -2,11 +2,11 @@
 
 ghost use Rattle.std.specs.Prelude.{◌≡◌, ◌++◌, ◌∷◌, [], ℕ, List, length, IfOk};
 ghost use Rattle.fdt_tree.specs.Devicetree.{begin_node, root_tokens, bare};
-ghost use Rattle.fdt_tree.specs.NodeViews.{branch, entry_of, root_of};
+ghost use Rattle.fdt_tree.specs.NodeViews.{branch, property_data, root_of};
 ghost use Rattle.refusal.specs.Answer.{Answers, with_front};
 ghost use Rattle.fdt_tree.specs.inside.TokenViews.{as_token, FitsPlace};
 ghost use Rattle.fdt_tree.specs.Scanning.{structure_at, start, after};
-ghost use Rattle.fdt_tree.specs.inside.OpenNodes.{so_far, place_of, added, with_entry, with_child};
+ghost use Rattle.fdt_tree.specs.inside.OpenNodes.{so_far, place_of, added, with_property, with_child};
 
 use crate::fault::FdtFault;
 use crate::node::{Name, Node, Property};
@@ -37,7 +37,7 @@ pub fn new_node(alloc: Global, name: &[u8]) -> Result<Node, AllocError>
 /// The node with a property after its other properties.
 fn with_property(node: Node, property: Property) -> Result<Node, AllocError>
     ensures { IfOk result (λ n. (strings : List ℕ) → branch strings n
-        ≡ with_entry (branch strings node) (entry_of strings property)) }
+        ≡ with_property (branch strings node) (property_data strings property)) }
 {
     let Node {
         name,

@@ -13,7 +13,7 @@ use Rattle.ipa_layout.specs.declared.dtb.Dtb.TheVariants as dtb
 abbrev pub contents : {Z : Type 0} → List (Vec ℕ Z) → List (List ℕ)
 contents files = map (λ f. f.items) files
 
--- the edited devicetree, if there is one, or why there is none
+-- the edited devicetree, if the launch has one, or why it cannot be edited
 abbrev pub seen : Dtb → Result (Option (List ℕ)) FdtFault
 seen dtb.AsFile = Ok None
 seen (dtb.Edited bytes) = Ok (Some bytes.items)

@@ -1,7 +1,7 @@
 -- What the program keeps while it tests steps.
 use Rattle.std.specs.Prelude.{◌≡◌, ℕ, ◌<◌, List, length, Bool, false, slice_index_or, if◌then◌else◌}
 use Rattle.rim_launch.specs.declared.step.Step.{Step}
-use Rattle.rim_launch.specs.declared.ranges.Part.{Part}
+use Rattle.rim_launch.specs.declared.conditions.Part.{Part}
 use Rattle.rim_launch.specs.Steps.{times}
 
 -- each number below `count` was named once where it has a mark, and never where it has none

@@ -1,7 +1,7 @@
 //! The text that shows a devicetree.
 ghost use Rattle.std.specs.Prelude.{◌≡◌, ◌++◌, IfErr, IfOk, OnOk, ℕ, List, length, map, take};
 ghost use Rattle.std.specs.List.{flat_map};
-ghost use Rattle.fdt_tree.specs.NodeViews.{branch, entry_of};
+ghost use Rattle.fdt_tree.specs.NodeViews.{branch, property_data};
 ghost use Rattle.fdt_tree.specs.Trees.{devicetree_of};
 ghost use Rattle.rim_release.specs.ShownDevicetree.{IsDevicetreeFault, ShowsDevicetree, boot_line, devicetree_text, inner_text, node_line, path_below, property_line, reservation_line, value_text};
 
@@ -83,7 +83,7 @@ fn push_properties(
     strings: &[u8],
     properties: &[Property],
 ) -> Result<(), NoMemory>
-    ensures { OnOk result (text.new.items ≡ text.old.items ++ flat_map property_line (map (entry_of strings.now) properties.now)) }
+    ensures { OnOk result (text.new.items ≡ text.old.items ++ flat_map property_line (map (property_data strings.now) properties.now)) }
 {
     for property in properties {
         push_property(alloc, text, strings, property)?;
@@ -98,7 +98,7 @@ fn push_property(
     strings: &[u8],
     property: &Property,
 ) -> Result<(), NoMemory>
-    ensures { OnOk result (text.new.items ≡ text.old.items ++ property_line (entry_of strings.now property.now)) }
+    ensures { OnOk result (text.new.items ≡ text.old.items ++ property_line (property_data strings.now property.now)) }
 {
     text.extend_from_slice(b"prop ")?;
     text.extend_from_slice(property.name.bytes(strings))?;

@@ -7,7 +7,7 @@ use Rattle.ipa_layout.specs.declared.extent.Extent.{Extent}
 use Rattle.ipa_layout.specs.Layout.{extents_of}
 use Rattle.ipa_layout.specs.inside.LayoutViews.{contents, seen}
 use Rattle.ipa_layout.proofs.Rows.{falls, lacks, next_item, stands, with_none}
-use Rattle.ipa_layout.proofs.Conditions.{all-there}
+use Rattle.ipa_layout.proofs.Conditions.{all-files}
 use Rattle.ipa_layout.proofs.layout.extents_of.Goals as goal
 
 pub loop-item-init : goal.loop-item-init
@@ -18,7 +18,7 @@ loop-item-init c =
     (items, omega arith, rw c.in_ok-extents.ensures.items (with_none (stood c.items-item-items.result.now)) ∙ ap stood items)
 
 pub bytes_of-requires : goal.bytes_of-requires
-bytes_of-requires c = all-there c.args.launch.now (length c.args.files.now) c.loop-item.item-index c.item-item.result c.requires (rw (sym c.items-item-items.ensures.value) c.loop-item-test.true) (rw (sym c.items-item-items.ensures.value) c.item-item.is)
+bytes_of-requires c = all-files c.args.launch.now (length c.args.files.now) c.loop-item.item-index c.item-item.result c.requires (rw (sym c.items-item-items.ensures.value) c.loop-item-test.true) (rw (sym c.items-item-items.ensures.value) c.item-item.is)
 
 pub returns-in_err-bytes : goal.returns-in_err-bytes
 returns-in_err-bytes c =

@@ -1,5 +1,5 @@
 use Rattle.std.proofs.Common.{◌≡◌, ◌+◌, ◌++◌, [], ◌∷◌, ℕ, List, Option, rules, map, vec_len, ap, ◌∙◌, sym, subst}
-use Rattle.std.specs.Prelude.{IfSome, Vec}
+use Rattle.std.specs.Prelude.{IfSome}
 use Rattle.std.proofs.lemmas.List.{map-append}
 use Rattle.rim_cli.specs.Files.{AreRead}
 use Rattle.rim_cli.proofs.Reading.{read_next}

@@ -12,30 +12,30 @@ words_met a words m shape matches = (matches (ap is_simple shape)).1 ∙ ap (λ 
 pub request_of-requires : goal.request_of-requires
 request_of-requires g c =
     let words = map g.S.AsStr.text c.args.words.now in
-    let met = words_met _ words _ c.in-Ok.ensures.shape c.in-Ok-try_get_matches_from.ensures.matches in
+    let met = words_met _ words _ c.in_ok-rim.ensures.shape c.in-Ok.ensures.matches in
     let rows = rows_met _ c.in-Some.name.now (rows_of (found_of c.in-Some.given.now)) (sym c.in-Some.ensures.name) (sym c.in-Some.ensures.rows) in
-    let none = c.in-Ok-try_get_matches_from.ensures.kinds (ap is_simple_and_free c.in-Ok.ensures.shape) in
-    entered_good words (c.in-Some.name.now, rows_of (found_of c.in-Some.given.now)) (ap (λ (a : App). fault_of a words) (sym c.in-Ok.ensures.shape) ∙ none) (sym met ∙ rows)
+    let none = c.in-Ok.ensures.kinds (ap is_simple_and_free c.in_ok-rim.ensures.shape) in
+    entered_good words (c.in-Some.name.now, rows_of (found_of c.in-Some.given.now)) (ap (λ (a : App). fault_of a words) (sym c.in_ok-rim.ensures.shape) ∙ none) (sym met ∙ rows)
 
 pub returns-clause-reads : goal.returns-clause-reads
 returns-clause-reads g c =
     let words = map g.S.AsStr.text c.args.words.now in
-    let met = words_met _ words _ c.in-Ok.ensures.shape c.in-Ok-try_get_matches_from.ensures.matches in
+    let met = words_met _ words _ c.in_ok-rim.ensures.shape c.in-Ok.ensures.matches in
     let rows = rows_met _ c.in-Some.name.now (rows_of (found_of c.in-Some.given.now)) (sym c.in-Some.ensures.name) (sym c.in-Some.ensures.rows) in
     rw (← met, rows) c.request_of.ensures
 
 pub returns-in-Err-clause-takes : goal.returns-in-Err-clause-takes
 returns-in-Err-clause-takes g c t =
-    c.fault_of.ensures.memory (c.in-Err.ensures.passes (ap (λ (a : App). takes a (map g.S.AsStr.text c.args.words.now)) c.in-Ok.ensures.shape ∙ t))
+    c.fault_of.ensures.memory (c.in-Err.ensures.passes (ap (λ (a : App). takes a (map g.S.AsStr.text c.args.words.now)) c.in_ok-rim.ensures.shape ∙ t))
 
 pub returns-in-Err-clause-refused : goal.returns-in-Err-clause-refused
 returns-in-Err-clause-refused g c =
     let words = map g.S.AsStr.text c.args.words.now in
-    let kinds : HasKind (fault_of rim words) c.in-Err.error = subst (λ (a : App). HasKind (fault_of a words) c.in-Err.error) c.in-Ok.ensures.shape (c.in-Err.ensures.kinds (ap is_simple_and_free c.in-Ok.ensures.shape)) in
+    let kinds : HasKind (fault_of rim words) c.in-Err.error = subst (λ (a : App). HasKind (fault_of a words) c.in-Err.error) c.in_ok-rim.ensures.shape (c.in-Err.ensures.kinds (ap is_simple_and_free c.in_ok-rim.ensures.shape)) in
     c.fault_of.ensures.kinds (fault_of rim words) kinds
 
 pub returns-clause-sound : goal.returns-clause-sound
 returns-clause-sound g c =
     let words = map g.S.AsStr.text c.args.words.now in
-    let none = c.in-Ok-try_get_matches_from.ensures.kinds (ap is_simple_and_free c.in-Ok.ensures.shape) in
-    ap (λ (a : App). fault_of a words) (sym c.in-Ok.ensures.shape) ∙ none
+    let none = c.in-Ok.ensures.kinds (ap is_simple_and_free c.in_ok-rim.ensures.shape) in
+    ap (λ (a : App). fault_of a words) (sym c.in_ok-rim.ensures.shape) ∙ none

@@ -2,7 +2,7 @@ use Rattle.std.proofs.Common.{◌≡◌, ℕ, Bool, true, false, cond, ◌&&◌,
 use Rattle.std.specs.Prelude.{ℤ, pos, negsuc, int_le}
 use Rattle.toml.specs.Data.{integer}
 use Rattle.toml.proofs.Views.{view-Integer}
-use Rattle.rim_manifest.specs.Launches.{number_in}
+use Rattle.rim_manifest.specs.Values.{number_in}
 use Rattle.rim_manifest.proofs.launch.number.Goals as goal
 
 not_picked : (b c : Bool) (n d : ℕ) → c ≡ false → d ≡ cond (b && c) n d

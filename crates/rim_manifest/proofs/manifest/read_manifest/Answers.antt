@@ -1,4 +1,4 @@
-use Rattle.std.proofs.Common.{◌∙◌, ◌≡◌, true, Some, None, sym, inl, inr}
+use Rattle.std.proofs.Common.{◌∙◌, ◌≡◌, true, Some, None, sym, inr}
 use Rattle.std.proofs.lemmas.Bool.{false≢true}
 use Rattle.toml.specs.Errors.{IsMemory}
 use Rattle.rim_manifest.proofs.Answering.{answered, document_read, document_refused, refused}

@@ -8,18 +8,17 @@ use Rattle.rmi_list.specs.Listed.{opening_entries}
 use Rattle.rmi_list.specs.inside.Drafts.{Grows}
 use Rattle.rmi_list.proofs.Beginning.{IsFresh, descriptor-same, descriptor_granule, opening-grows, opening-refused, realm_itself, table_granules, tables-same}
 use Rattle.rmi_list.proofs.Growing.{Refuses}
-use Rattle.rmi_list.proofs.Params.{is-width, launch-in-range}
 use Rattle.rmi_list.proofs.Stepping.{refused-first, refused-later}
 use Rattle.rmi_list.proofs.plan.open.Goals as goal
 
 pub new-requires-clause-width : goal.new-requires-clause-width
-new-requires-clause-width c = rw c.config-config.ensures.value (is-width _ (launch-in-range c.args.launch.now c.config-config.ensures.kept))
+new-requires-clause-width c = c.config-config.result.width
 
 pub new-requires-clause-deep : goal.new-requires-clause-deep
-new-requires-clause-deep c = rw c.config-config.ensures.value (launch-in-range c.args.launch.now c.config-config.ensures.kept).block
+new-requires-clause-deep c = c.config-config.result.level
 
 pub start_count-requires : goal.start_count-requires
-start_count-requires c = rw c.config-config.ensures.value (is-width _ (launch-in-range c.args.launch.now c.config-config.ensures.kept))
+start_count-requires c = c.config-config.result.width
 
 pub returns-in_err-delegate_all-clause-fault : goal.returns-in_err-delegate_all-clause-fault
 returns-in_err-delegate_all-clause-fault c =

@@ -5,7 +5,7 @@ use Rattle.std.specs.declared.ops.Bound.TheVariants.{Included, Excluded}
 use Rattle.std.proofs.lemmas.Bool.Decides.{nat_tests}
 use Rattle.rmm_model.specs.declared.table.Table.{Table}
 use Rattle.rmm_model.specs.Space.{table_cmp}
-use Rattle.rmm_monitor.proofs.Parts.{first-passes}
+use Rattle.rmm_monitor.proofs.FirstPasses.{first-passes}
 use Rattle.rmm_monitor.proofs.space.is_table_between.Goals as goal
 
 -- of tables in order, those from (level, base) on and before (level, top) are the level's in the range

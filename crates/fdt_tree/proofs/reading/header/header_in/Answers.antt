@@ -5,7 +5,7 @@ use Rattle.fdt_tree.specs.declared.reading.header.Header.{Header}
 use Rattle.fdt_tree.specs.Blocks.{word_at, header_of, blocks_fit, is_known_version, header_at}
 use Rattle.fdt_tree.proofs.reading.header.header_in.Goals as goal
 
--- the checks behind that of the magic number
+-- the checks after that of the magic number
 behind_magic : (bytes : List ℕ) (h : Header) → 40 ≤ length bytes → word_at 0 bytes ≡ 0xd00dfeed → h ≡ header_of bytes
     → header_at bytes ≡ cond (is_known_version h) (cond (ltb (2 ^ 21) (length bytes)) (Err TooLarge) (cond (blocks_fit h (length bytes)) (Ok h) (Err BadBlock))) (Err BadVersion)
 unfolding header_at

@@ -1,6 +1,6 @@
 use Rattle.std.proofs.Common.{take, drop, arith}
 use Rattle.fdt_tree.proofs.OpenNodes.{begin_step, property_step, end_step, end_place}
-use Rattle.fdt_tree.specs.Devicetree.{Entry}
+use Rattle.fdt_tree.specs.Devicetree.{PropertyData}
 use Rattle.fdt_tree.proofs.reading.structure.take.Goals as goal
 
 pub returns-in_ok-push-in-Begin-clause-tokens : goal.returns-in_ok-push-in-Begin-clause-tokens
@@ -11,7 +11,7 @@ pub returns-in_ok-current-in-Property-clause-tokens :
     goal.returns-in_ok-current-in-Property-clause-tokens
 returns-in_ok-current-in-Property-clause-tokens c = λ strings.
     let early = rw c.in-Property.is at (c.requires strings) in
-    let e : Entry = record { name = take c.in-Property.len (drop c.in-Property.start strings); value = c.in-Property.value.now } in
+    let e : PropertyData = record { name = take c.in-Property.len (drop c.in-Property.start strings); value = c.in-Property.value.now } in
     let new = rw c.in_ok-from_slice-in-Property.ensures.items at (c.in_ok-current-in-Property.ensures strings) in
     rw c.in-Property.is (property_step strings c.args.nodes.outer.items c.args.nodes.current c.in_ok-current-in-Property.current e early new)
 

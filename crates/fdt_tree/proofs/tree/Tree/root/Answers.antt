@@ -7,4 +7,4 @@ pub returns : goal.returns
 returns c =
     let own = c.args.self.now in
     let b = branch own.contents.strings.items own.contents.root in
-    ap (λ (x : List ℕ). let r : Branch = record { name = x; entries = b.entries; children = b.children } in r) own.unnamed
+    ap (λ (x : List ℕ). let r : Branch = record { name = x; properties = b.properties; children = b.children } in r) own.unnamed

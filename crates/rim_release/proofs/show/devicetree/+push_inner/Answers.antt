@@ -1,6 +1,6 @@
 use Rattle.std.proofs.Common.{◌≡◌, ◌++◌, ◌∙◌, map, refl, ap}
 use Rattle.std.specs.List.{flat_map}
-use Rattle.fdt_tree.specs.NodeViews.{entry_of}
+use Rattle.fdt_tree.specs.NodeViews.{property_data}
 use Rattle.fdt_tree.specs.declared.node.Node.TheViews.{out-Node}
 use Rattle.rim_release.specs.ShownDevicetree.{node_line, path_below, property_line}
 use Rattle.rim_release.proofs.Nodes.{all_told, child_step, cut_back, none_yet}
@@ -25,4 +25,4 @@ loop-child-preserved t c =
 pub returns-clause-text : goal.returns-clause-text
 returns-clause-text t c =
     all_told _ _ _ c.push_properties.new.text.items _ c.deref-child-items.result.now _ c.args.node.now c.loop-child-test.false c.deref-child-items.ensures.value
-    (c.in_ok-push_properties.ensures ∙ ap (λ ps. c.args.text.now.items ++ flat_map property_line (map (entry_of c.args.strings.now) ps)) c.deref.ensures.value) c.loop-child.invariant.text
+    (c.in_ok-push_properties.ensures ∙ ap (λ ps. c.args.text.now.items ++ flat_map property_line (map (property_data c.args.strings.now) ps)) c.deref.ensures.value) c.loop-child.invariant.text

@@ -1,10 +1,9 @@
 use Rattle.std.proofs.Common.{arith}
 use Rattle.std.proofs.lemmas.Grind.{common_steps}
-use Rattle.rmi_list.proofs.Params.{launch-in-range}
 use Rattle.rmi_list.proofs.draft.Draft.delegate.Goals as goal
 
 pub overflow_cast-granule : goal.overflow_cast-granule
 overflow_cast-granule c =
-    let count = (launch-in-range c.args.self.now.launch.now c.config.ensures.kept).count in
+    let count = c.config.result.pool_fits.1 in
     let same = c.config.ensures.value in
     grind (arith, common_steps)

@@ -1,4 +1,4 @@
-use Rattle.rmm_monitor.proofs.Places.{formed-insert}
+use Rattle.rmm_monitor.proofs.OneMoreTable.{formed-insert}
 use Rattle.rmm_monitor.proofs.space.IpaSpace.add_table.Goals as goal
 
 pub invariant_of-self-2 : goal.invariant_of-self-2

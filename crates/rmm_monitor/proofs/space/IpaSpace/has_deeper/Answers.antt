@@ -1,6 +1,6 @@
 use Rattle.std.proofs.Common.{◌≡◌, ◌||◌, arith}
 use Rattle.rmm_model.specs.Space.{deeper}
-use Rattle.rmm_monitor.proofs.Places.{deeper-by_level}
+use Rattle.rmm_monitor.proofs.DeeperByLevel.{deeper-by_level}
 use Rattle.rmm_monitor.proofs.space.IpaSpace.has_deeper.Goals as goal
 
 pub returns-then-second : goal.returns-then-second

@@ -4,7 +4,7 @@ use Rattle.std.specs.BTreeMap.Range.{range_contains}
 use Rattle.std.specs.Ordering.{nat_cmp}
 use Rattle.std.specs.declared.ops.Bound.TheVariants.{Included, Unbounded}
 use Rattle.std.proofs.lemmas.Bool.Decides.{nat_tests}
-use Rattle.rmm_monitor.proofs.Parts.{last-meets, none-meets}
+use Rattle.rmm_monitor.proofs.LastMeets.{last-meets, none-meets}
 use Rattle.rmm_monitor.proofs.space.IpaSpace.meets_ram.Goals as goal
 
 -- the test of the range up to `last`

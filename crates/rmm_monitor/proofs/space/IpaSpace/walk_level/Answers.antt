@@ -1,5 +1,5 @@
 use Rattle.std.proofs.Common.{◌∙◌, sym}
-use Rattle.rmm_monitor.proofs.Places.{walk-1, walk-2, walk-3, walk-none}
+use Rattle.rmm_model.proofs.LookUps.{walk-1, walk-2, walk-3, walk-none}
 use Rattle.rmm_monitor.proofs.space.IpaSpace.walk_level.Goals as goal
 
 pub returns-then-is_made-clause-value : goal.returns-then-is_made-clause-value

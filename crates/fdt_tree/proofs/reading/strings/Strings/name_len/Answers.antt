@@ -19,7 +19,7 @@ run_is s o k h e =
 before_end : (s : Strings) (o : ℕ) → o < s.end → o < zero_end s.bytes.items
 before_end s o h = omega (arith, s.end_known)
 
--- the byte behind the run
+-- the byte after the run
 stop_inside : (s : Strings) (o k : ℕ) → o < s.end → k ≡ name_run (drop o s.bytes.items) → o + k < length s.bytes.items
 stop_inside s o k h e = omega (arith, run_inside s.bytes.items o (before_end s o h), e)
 

@@ -1,31 +1,16 @@
--- Parts of a list that pass a test.
+-- Whether a range meets one of several ranges in order, by the last of those that begin before its end.
 use Rattle.std.proofs.Common.{inl, inr, ◌≡◌, ℕ, ◌+◌, ◌<◌, ◌≤◌, ◌∙◌, sym, refl, arith, Bool, true, false, ◌&&◌, ltb, List, [], ◌∷◌, ◌++◌, ◌⊎◌}
-use Rattle.std.specs.Prelude.{Option, Some, None, is_some}
+use Rattle.std.specs.Prelude.{Option, Some, None}
 use Rattle.std.specs.BTreeMap.{insert_entry}
-use Rattle.std.specs.List.{filter, list_any}
+use Rattle.std.specs.List.{filter}
 use Rattle.std.specs.Ordering.{nat_cmp}
-use Rattle.std.specs.Map.Iter.{TakesFirst, TakesLast}
+use Rattle.std.specs.Map.Iter.{TakesLast}
 use Rattle.std.proofs.lemmas.Bool.Decides.{nat_tests}
 use Rattle.rmm_model.specs.Space.{overlaps}
 use Rattle.std.proofs.Math.Bool.{or-false}
-use Rattle.rmm_model.proofs.Tests.{filter-same, list_any-same}
+use Rattle.rmm_model.proofs.Tests.{filter-same}
 use Rattle.std.proofs.lemmas.Bool.{cases_Bool, or_parts}
 use Rattle.rmm_monitor.specs.inside.Apart.{are_apart}
-
-filter-none : {X : Type 0} (p : X → Bool) (xs : List X) → filter p xs ≡ [] → list_any p xs ≡ false
-filter-none p [] = λ h. refl
-filter-none p (x ∷ xs) = elim (cases_Bool (p x)) [ inl t ↦ rw t (λ h. absurd (cc)) | inr f ↦ rw f (λ h. filter-none p xs h) ]
-
-filter-some : {X : Type 0} (p : X → Bool) (xs : List X) (y : X) (ys : List X) → filter p xs ≡ y ∷ ys → list_any p xs ≡ true
-filter-some p [] y ys = λ h. absurd (cc)
-filter-some p (x ∷ xs) y ys = elim (cases_Bool (p x)) [ inl t ↦ rw t (λ h. refl) | inr f ↦ rw f (λ h. filter-some p xs y ys h) ]
-
--- whether something passes, by the first that does
-pub first-passes : {A X : Type 0} (shows : A → X) (p q : X → Bool) (xs s t : List X) (r : Option A) → ((x : X) → p x ≡ q x) → s ≡ filter p xs → TakesFirst shows s r t → is_some r ≡ list_any q xs
-first-passes shows p q xs s t None same is taken = sym (filter-none p xs (sym is ∙ taken.0)) ∙ list_any-same p q xs same
-first-passes shows p q xs s t (Some x) same is taken = sym (filter-some p xs (shows x) t (sym is ∙ taken)) ∙ list_any-same p q xs same
-
--- ---- ranges in order, of which those below `top` are looked at
 
 -- none is below
 overlaps-none : (ram : List (ℕ × ℕ)) (base top : ℕ) → filter (λ (r : ℕ × ℕ). ltb r.0 top) ram ≡ [] → overlaps ram base top ≡ false

@@ -1,43 +1,13 @@
-//! Whether the parts of a launch are in their ranges.
+//! Whether the items and steps of a launch are what its type asks of them.
 ghost use Rattle.std.specs.Prelude.{◌≡◌, ◌+◌, ◌<◌, ◌≤◌, ℕ, List, length, take, true, false, not, slice_index_or, slice_set};
 ghost use Rattle.std.specs.List.{list_all, list_any};
-ghost use Rattle.rim_launch.specs.Ranges.{config_in_range, item_in_range};
 ghost use Rattle.rim_launch.specs.Kinds.{count_of, edits_possible, needs_initrd, needs_memory, once_each};
 ghost use Rattle.rim_launch.specs.Steps.{names_something, number_of, each_once, steps_complete};
 ghost use Rattle.rim_launch.specs.inside.StepViews.{AreMarks, IsNext};
 ghost use Rattle.rim_launch.specs.declared.step.Step.{Step};
 
-use crate::config::Config;
-use crate::item::{Item, NUMBER_END, Region, Role};
+use crate::item::{Item, Region, Role};
 use crate::step::Step;
-
-/// Whether each value of a configuration is in its range.
-pub fn config_in_range(config: &Config) -> bool
-    ensures { result ≡ config_in_range config.now }
-{
-    32 <= config.s2sz
-        && config.s2sz <= 48
-        && config.block_level <= 3
-        && config.num_aux <= 16
-        && config.pool_base % 65_536 == 0
-        && config.pool_base < 0x1_0000_0000_0000
-        && 1 <= config.pool_count
-        && config.pool_count <= 16_777_216
-}
-
-/// Whether an item's numbers are those of a manifest.
-fn item_in_range(item: &Item) -> bool
-    ensures { result ≡ item_in_range item.now }
-{
-    item.at < NUMBER_END && item.size.unwrap_or(0) < NUMBER_END
-}
-
-/// Whether each item is in range.
-pub fn items_in_range(items: &[Item]) -> bool
-    ensures { result ≡ list_all item_in_range items.now }
-{
-    items.iter().all(|item| item_in_range(item))
-}
 
 /// How many items have a role.
 fn count_of(items: &[Item], role: Role) -> usize

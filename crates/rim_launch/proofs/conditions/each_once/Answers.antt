@@ -3,7 +3,7 @@ use Rattle.std.proofs.lemmas.List.{take_all}
 use Rattle.rim_launch.specs.declared.step.Step.{Step}
 use Rattle.rim_launch.specs.inside.StepViews.{AreMarks}
 use Rattle.rim_launch.proofs.Marks.{no_marks, all_marked}
-use Rattle.rim_launch.proofs.ranges.each_once.Goals as goal
+use Rattle.rim_launch.proofs.conditions.each_once.Goals as goal
 
 pub loop-step-init : goal.loop-step-init
 loop-step-init c = (refl, no_marks c.args.part c.args.count c.requires)
