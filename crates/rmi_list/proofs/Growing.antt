@@ -13,12 +13,22 @@ use Rattle.rmi_list.specs.declared.draft.Draft.{Draft}
 use Rattle.rmi_list.specs.declared.fault.ListFault.{ListFault}
 use Rattle.rmi_list.specs.declared.fault.ListFault.TheVariants as fault
 use Rattle.rmi_list.specs.inside.Acts.{HasRoom, HaveRoom}
-use Rattle.rmi_list.specs.inside.Drafts.{Going, Grows, entries_in}
+use Rattle.rmi_list.specs.inside.Drafts.{Grows, InPool, entries_in}
 
 abbrev pub pool_of : Draft → ℕ
 pool_of d = d.launch.now.config.pool_base
 
 -- ---- loops
+
+-- in a loop that adds some entries: these are left to be added, and nothing but entries and granules has changed
+pub record Going (old now : Draft) (all rest : List Entry) : Type 0 where
+  pub launch : now.launch ≡ old.launch
+  pub placed : now.placed ≡ old.placed
+  pub tables : now.tables ≡ old.tables
+  pub recs : now.recs ≡ old.recs
+  pub entries : entries_in now ++ rest ≡ entries_in old ++ all
+  pub taken : now.taken + delegated rest ≡ old.taken + delegated all
+  pub pool : InPool old → InPool now
 
 pub going-starts : (d : Draft) (all : List Entry) → Going d d all all
 going-starts d all = record { launch = refl; placed = refl; tables = refl; recs = refl; entries = refl; taken = refl; pool = λ within. within }

@@ -12,13 +12,20 @@ use Rattle.rmi_list.specs.declared.draft.Draft.{Draft}
 use Rattle.rmi_list.specs.declared.fault.ListFault.{ListFault}
 use Rattle.rmi_list.specs.declared.fault.ListFault.TheVariants as fault
 use Rattle.rmi_list.specs.Listed.{Listing, Progress, list_step, list_steps, listed, opening, opening_entries, rec_limit}
-use Rattle.rmi_list.specs.inside.Drafts.{Grows, InPool, IsListing, Makes, entries_in, progress_of}
+use Rattle.rmi_list.specs.inside.Drafts.{Grows, InPool, Makes, entries_in, progress_of}
 use Rattle.rmi_list.proofs.Alike.{steps-alike}
 use Rattle.rmi_list.proofs.Growing.{Refuses}
 
 front-front : {A E : Type 0} (xs ys : List A) (r : Result (List A) E) → with_front xs (with_front ys r) ≡ with_front (xs ++ ys) r
 front-front xs ys (Ok zs) = ap (λ all. Ok all) (sym (append_assoc xs ys zs))
 front-front xs ys (Err e) = refl
+
+-- a draft of this launch, to which the entries of these steps are still to be added
+pub record IsListing (l : LaunchData) (p : PlacedData) (d : Draft) (rest : List Step) : Type 0 where
+  pub launch : d.launch.now ≡ l
+  pub placed : d.placed.now ≡ p
+  pub pool : InPool d
+  pub listed : listed l p ≡ with_front (entries_in d) (list_steps l p (progress_of d) rest)
 
 -- ---- its begin
 

@@ -3,13 +3,9 @@ use Rattle.std.specs.Prelude.{◌≡◌, ◌⊎◌, ℕ, ◌+◌, ◌<◌, ◌�
 use Rattle.std.specs.List.{slice_get}
 use Rattle.rtt_plan.specs.Planned.{AgreesWith}
 use Rattle.list_model.specs.Entries.{Entry, delegated}
-use Rattle.refusal.specs.Answer.{with_front}
-use Rattle.rim_launch.specs.LaunchData.{LaunchData}
 use Rattle.rim_launch.specs.Realm.{realm_params}
-use Rattle.rim_launch.specs.declared.step.Step.{Step}
-use Rattle.ipa_layout.specs.Layout.{PlacedData}
 use Rattle.ipa_layout.specs.declared.placed.PlacedItem.{PlacedItem}
-use Rattle.rmi_list.specs.Listed.{Listing, Progress, list_steps, listed}
+use Rattle.rmi_list.specs.Listed.{Listing, Progress}
 use Rattle.rmi_list.specs.declared.draft.Draft.{Draft}
 use Rattle.rmi_list.specs.declared.fault.ListFault.{ListFault}
 use Rattle.rmi_list.specs.declared.fault.ListFault.TheVariants as fault
@@ -46,16 +42,6 @@ abbrev pub Lists : {U : Type 0} → Draft → Draft → Result U ListFault → L
 Lists old new (Ok done) entries = Grows old new entries
 Lists old new (Err e) entries = (e ≡ fault.NoMemory) ⊎ ((e ≡ fault.PoolEnd) × (old.launch.now.config.pool_count < old.taken + delegated entries))
 
--- in a loop that adds some entries: these are left to be added, and nothing but entries and granules has changed
-pub record Going (old now : Draft) (all rest : List Entry) : Type 0 where
-  pub launch : now.launch ≡ old.launch
-  pub placed : now.placed ≡ old.placed
-  pub tables : now.tables ≡ old.tables
-  pub recs : now.recs ≡ old.recs
-  pub entries : entries_in now ++ rest ≡ entries_in old ++ all
-  pub taken : now.taken + delegated rest ≡ old.taken + delegated all
-  pub pool : InPool old → InPool now
-
 -- ---- steps
 
 -- what is listed goes on alike
@@ -88,12 +74,3 @@ pub record IsListable (n : ℕ) (item : PlacedItem) : Type 0 where
 
 abbrev pub AreListable : List PlacedItem → Type 0
 AreListable items = (number : ℕ) (item : PlacedItem) → slice_get items number ≡ Some item → IsListable number item
-
--- ---- the whole list
-
--- a draft of this launch, to which the entries of these steps are still to be added
-pub record IsListing (l : LaunchData) (p : PlacedData) (d : Draft) (rest : List Step) : Type 0 where
-  pub launch : d.launch.now ≡ l
-  pub placed : d.placed.now ≡ p
-  pub pool : InPool d
-  pub listed : listed l p ≡ with_front (entries_in d) (list_steps l p (progress_of d) rest)

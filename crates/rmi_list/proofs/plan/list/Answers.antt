@@ -3,7 +3,7 @@ use Rattle.std.proofs.lemmas.List.{drop_all}
 use Rattle.std.proofs.lemmas.Result.{err_from_is_err_and}
 use Rattle.rim_launch.specs.declared.step.Step.TheVariants.{Ram}
 use Rattle.ipa_layout.specs.Layout.{PlacedData}
-use Rattle.rmi_list.specs.inside.Drafts.{IsListing}
+use Rattle.rmi_list.proofs.Listing.{IsListing}
 use Rattle.rmi_list.proofs.Growing.{drop-at}
 use Rattle.rmi_list.proofs.Listable.{are-listable}
 use Rattle.rmi_list.proofs.Listing.{begin-refused, end-refused, listing-begins, listing-ends, listing-goes-on, listing-refused, plan-answered, too-many}

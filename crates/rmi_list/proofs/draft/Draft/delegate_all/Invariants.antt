@@ -1,6 +1,6 @@
 use Rattle.rmm_model.specs.Blocks.{granules}
 use Rattle.list_model.specs.Entries.{delegate_all, granule}
-use Rattle.rmi_list.specs.inside.Drafts.{Going}
+use Rattle.rmi_list.proofs.Growing.{Going}
 use Rattle.rmi_list.proofs.Growing.{delegations_left, pool_of}
 use Rattle.rmi_list.proofs.draft.Draft.delegate_all.Given as goal
 

@@ -1,6 +1,6 @@
 use Rattle.rmm_model.specs.Blocks.{granules}
 use Rattle.list_model.specs.inside.Acts.{entries_of_pages}
-use Rattle.rmi_list.specs.inside.Drafts.{Going}
+use Rattle.rmi_list.proofs.Growing.{Going}
 use Rattle.rmi_list.proofs.Growing.{pages_left, pool_of}
 use Rattle.rmi_list.proofs.draft.Draft.pages.Given as goal
 

@@ -1,0 +1,149 @@
+//! The commands of worked launches, line by line. The granules before the realm are left out but for one row.
+use crate::launches::{CONFIG, Parts, WIDE, launch_of, list_of};
+use rim_desc::Measurement;
+use rim_launch::{Config, Step};
+use rmi_list::{Plan, print_line};
+use std::alloc::Global;
+use std::process::Abort;
+use std::test::Fail;
+
+/// The content that measured pages are given.
+const CONTENT: Measurement = Measurement { bytes: [0xab; 64] };
+
+/// The lines of a plan from a command on, each with a newline.
+fn lines_of(alloc: Global, plan: &Plan, first: usize) -> Result<Vec<u8>, Fail> {
+    let mut text = Vec::new(alloc);
+    for index in first..plan.len() {
+        let line = print_line(alloc, &plan.command(index, &CONTENT))?;
+        text.extend_from_slice(line.as_slice())?;
+        text.push(b'\n')?;
+    }
+    Ok(text)
+}
+
+fn check(
+    rt: &impl Abort,
+    alloc: Global,
+    config: &Config,
+    parts: &Parts,
+    first: usize,
+    lines: &str,
+) -> Result<(), Fail> {
+    let Some(launch) = launch_of(alloc, config, parts)? else {
+        return Err("no launch".into());
+    };
+    let Ok(plan) = list_of(alloc, &launch)? else {
+        return Err("no list".into());
+    };
+    let text = lines_of(alloc, &plan, first)?;
+    assert_eq!(rt; text.as_slice(), lines.as_bytes());
+    Ok(())
+}
+
+/// A configuration, the parts of a launch, the number of the first line that is compared, and the lines from it on.
+const ROWS: [(&str, Config, Parts, usize, &str); 8] = [
+    (
+        "nothing but a realm",
+        CONFIG,
+        Parts {
+            ram: &[],
+            items: &[],
+            recs: &[],
+            steps: &[],
+        },
+        8,
+        "delegate 0000000800008000\nrealm_create 0000000800008000 0000000800000000 2 8 33 sha256 0000000000000000 0 0 0 0 00000000000000000000000000000000000000000000000000000000000000000000000000000000000000000000000000000000000000000000000000000000\nactivate\n",
+    ),
+    (
+        "one region that ends past 2 MiB",
+        CONFIG,
+        Parts {
+            ram: &[(0x4000_0000, 0x4020_1000)],
+            items: &[],
+            recs: &[],
+            steps: &[Step::Ram(0)],
+        },
+        10,
+        "init_ripas 0000000040000000 0000000040200000\ndelegate 0000000800009000\nrtt_create 0000000800009000 0000000040200000 3\ninit_ripas 0000000040200000 0000000040201000\nactivate\n",
+    ),
+    (
+        "a region from 4 KiB on",
+        CONFIG,
+        Parts {
+            ram: &[(0x4000_1000, 0x4040_0000)],
+            items: &[],
+            recs: &[],
+            steps: &[Step::Ram(0)],
+        },
+        10,
+        "delegate 0000000800009000\nrtt_create 0000000800009000 0000000040000000 3\ninit_ripas 0000000040001000 0000000040200000\ninit_ripas 0000000040200000 0000000040400000\nactivate\n",
+    ),
+    (
+        "blocks of 1 GiB",
+        WIDE,
+        Parts {
+            ram: &[(0x4000_0000, 0xc000_0000)],
+            items: &[],
+            recs: &[],
+            steps: &[Step::Ram(0)],
+        },
+        4,
+        "init_ripas 0000000040000000 00000000c0000000\nactivate\n",
+    ),
+    (
+        "a page of data that is not measured in a block of 1 GiB",
+        WIDE,
+        Parts {
+            ram: &[(0x4000_0000, 0xc000_0000)],
+            items: &[(0x4000_0000, 4096, false)],
+            recs: &[],
+            steps: &[Step::Ram(0), Step::Item(0)],
+        },
+        0,
+        "delegate 0000000800000000\ndelegate 0000000800001000\ndelegate 0000000800002000\nrealm_create 0000000800002000 0000000800000000 1 2 40 sha256 0000000000000000 0 0 0 0 00000000000000000000000000000000000000000000000000000000000000000000000000000000000000000000000000000000000000000000000000000000\ninit_ripas 0000000040000000 00000000c0000000\ndelegate 0000000800003000\nrtt_create 0000000800003000 0000000040000000 2\ndelegate 0000000800004000\nrtt_create 0000000800004000 0000000040000000 3\ndelegate 0000000800005000\ndata_create 0000000800005000 0000000040000000 unmeasured\nactivate\n",
+    ),
+    (
+        "a second region by a later step",
+        WIDE,
+        Parts {
+            ram: &[(0x4000_0000, 0xc000_0000), (0xc000_0000, 0xc020_0000)],
+            items: &[(0x4000_0000, 4096, false)],
+            recs: &[],
+            steps: &[Step::Ram(0), Step::Item(0), Step::Ram(1)],
+        },
+        11,
+        "delegate 0000000800006000\nrtt_create 0000000800006000 00000000c0000000 2\ninit_ripas 00000000c0000000 00000000c0200000\nactivate\n",
+    ),
+    (
+        "a measured item that begins inside a page, and one without pages",
+        CONFIG,
+        Parts {
+            ram: &[(0x4000_0000, 0x4020_0000)],
+            items: &[(0x4000_0004, 4096, true), (0x4010_0000, 0, true)],
+            recs: &[],
+            steps: &[Step::Ram(0), Step::Item(1), Step::Item(0)],
+        },
+        11,
+        "delegate 0000000800009000\nrtt_create 0000000800009000 0000000040000000 3\ndelegate 000000080000a000\ndata_create 000000080000a000 0000000040000000 measured abababababababababababababababababababababababababababababababababababababababababababababababababababababababababababababababab\ndelegate 000000080000b000\ndata_create 000000080000b000 0000000040001000 measured abababababababababababababababababababababababababababababababababababababababababababababababababababababababababababababababab\nactivate\n",
+    ),
+    (
+        "two RECs",
+        CONFIG,
+        Parts {
+            ram: &[],
+            items: &[],
+            recs: &[true, true],
+            steps: &[Step::Rec(0), Step::Rec(1)],
+        },
+        10,
+        "delegate 0000000800009000\nrec_create 0000000800009000 0000000000000001 0000000000000000 0000000040080000 0000000000000000 0000000000000000 0000000000000000 0000000000000000 0000000000000000 0000000000000000 0000000000000000 0000000000000000 0\ndelegate 000000080000a000\nrec_create 000000080000a000 0000000000000001 0000000000000001 0000000040080000 0000000000000000 0000000000000000 0000000000000000 0000000000000000 0000000000000000 0000000000000000 0000000000000000 0000000000000000 0\nactivate\n",
+    ),
+];
+
+#[test]
+fn worked_lists(rt: HostRuntime) -> Result<(), Fail> {
+    for (_, config, parts, first, lines) in &ROWS {
+        check(&rt, rt.alloc(), config, parts, *first, lines)?;
+    }
+    Ok(())
+}

@@ -1,0 +1,188 @@
+//! A monitor follows the lists of worked launches: it takes each command, and its Realm Initial Measurement is the fold
+//! over parts that were written by hand.
+use crate::launches::{CONFIG, Parts, WIDE, config, launch_of, list_of};
+use rim_desc::{
+    Algo, Measurement, data_descriptor, extend, hash, rec_descriptor, ripas_descriptor,
+};
+use rim_launch::{Config, Launch, Step};
+use rmm_monitor::Monitor;
+use std::alloc::Global;
+use std::process::Abort;
+use std::test::Fail;
+
+const CONTENT: Measurement = Measurement { bytes: [0; 64] };
+
+/// Parts of a measurement.
+enum Measured {
+    /// So many blocks of a size in bytes, side by side from an address on.
+    Blocks(u64, u64, u64),
+    /// A page at an IPA, measured or not.
+    Page(u64, bool),
+    /// A runnable REC that begins at 0x40080000.
+    Rec,
+}
+
+fn add(algo: Algo, rim: Measurement, part: &Measured) -> Measurement {
+    match part {
+        Measured::Blocks(base, count, size) => {
+            let mut rim = rim;
+            for number in 0..*count {
+                let at = base.saturating_add(number.saturating_mul(*size));
+                rim = extend(algo, &ripas_descriptor(&rim, at, at.saturating_add(*size)));
+            }
+            rim
+        }
+        Measured::Page(ipa, true) => extend(algo, &data_descriptor(&rim, *ipa, Some(&CONTENT))),
+        Measured::Page(ipa, false) => extend(algo, &data_descriptor(&rim, *ipa, None)),
+        Measured::Rec => {
+            let mut page = [0; 4096];
+            page[0] = 1;
+            page[0x202] = 0x08;
+            page[0x203] = 0x40;
+            extend(algo, &rec_descriptor(&rim, &hash(algo, &page)))
+        }
+    }
+}
+
+/// The measurement of a realm of a width, and then of some parts.
+fn rim_of(algo: Algo, s2sz: u8, parts: &[Measured]) -> Measurement {
+    let mut page = [0; 4096];
+    page[8] = s2sz;
+    let mut rim = hash(algo, &page);
+    for part in parts {
+        rim = add(algo, rim, part);
+    }
+    rim
+}
+
+/// What a monitor holds after the commands of a launch.
+fn followed(alloc: Global, launch: &Launch) -> Result<Option<Measurement>, Fail> {
+    let Ok(plan) = list_of(alloc, launch)? else {
+        return Err("no list".into());
+    };
+    let mut monitor = Monitor::new(alloc, launch.config().num_aux);
+    for index in 0..plan.len() {
+        if monitor.apply(&plan.command(index, &CONTENT)).is_err() {
+            return Err("a command is refused".into());
+        }
+    }
+    Ok(monitor.rim())
+}
+
+fn check(
+    rt: &impl Abort,
+    alloc: Global,
+    config: &Config,
+    parts: &Parts,
+    measured: &[Measured],
+) -> Result<(), Fail> {
+    let Some(launch) = launch_of(alloc, config, parts)? else {
+        return Err("no launch".into());
+    };
+    let rim = followed(alloc, &launch)?;
+    assert_eq!(rt; rim, Some(rim_of(Algo::Sha256, config.s2sz, measured)));
+    Ok(())
+}
+
+const GIB: u64 = 0x4000_0000;
+
+const MIB_2: u64 = 0x20_0000;
+
+const ROWS: [(&str, Config, Parts, &[Measured]); 7] = [
+    (
+        "one region that ends past 2 MiB",
+        CONFIG,
+        Parts {
+            ram: &[(GIB, 0x4020_1000)],
+            items: &[],
+            recs: &[],
+            steps: &[],
+        },
+        &[
+            Measured::Blocks(GIB, 1, MIB_2),
+            Measured::Blocks(0x4020_0000, 1, 4096),
+        ],
+    ),
+    (
+        "a region from 4 KiB on",
+        CONFIG,
+        Parts {
+            ram: &[(0x4000_1000, 0x4040_0000)],
+            items: &[],
+            recs: &[],
+            steps: &[],
+        },
+        &[
+            Measured::Blocks(0x4000_1000, 511, 4096),
+            Measured::Blocks(0x4020_0000, 1, MIB_2),
+        ],
+    ),
+    (
+        "blocks of 1 GiB",
+        WIDE,
+        Parts {
+            ram: &[(GIB, 0xc000_0000)],
+            items: &[],
+            recs: &[],
+            steps: &[],
+        },
+        &[Measured::Blocks(GIB, 2, GIB)],
+    ),
+    (
+        "blocks of 2 MiB",
+        config!(40, 2, 0, 16_777_216),
+        Parts {
+            ram: &[(GIB, 0xc000_0000)],
+            items: &[],
+            recs: &[],
+            steps: &[],
+        },
+        &[Measured::Blocks(GIB, 1024, MIB_2)],
+    ),
+    (
+        "a page of data that is not measured in a block of 1 GiB",
+        WIDE,
+        Parts {
+            ram: &[(GIB, 0xc000_0000)],
+            items: &[(GIB, 4096, false)],
+            recs: &[],
+            steps: &[],
+        },
+        &[Measured::Blocks(GIB, 2, GIB), Measured::Page(GIB, false)],
+    ),
+    (
+        "a second region by a later step",
+        WIDE,
+        Parts {
+            ram: &[(GIB, 0xc000_0000), (0xc000_0000, 0xc020_0000)],
+            items: &[(GIB, 8192, true)],
+            recs: &[],
+            steps: &[Step::Ram(0), Step::Item(0), Step::Ram(1)],
+        },
+        &[
+            Measured::Blocks(GIB, 2, GIB),
+            Measured::Page(GIB, true),
+            Measured::Page(0x4000_1000, true),
+            Measured::Blocks(0xc000_0000, 1, MIB_2),
+        ],
+    ),
+    (
+        "pages of RAM and a REC with sixteen auxiliary granules",
+        config!(33, 3, 16, 16_777_216),
+        Parts {
+            ram: &[(GIB, 0x4000_2000)],
+            items: &[],
+            recs: &[true],
+            steps: &[],
+        },
+        &[Measured::Blocks(GIB, 2, 4096), Measured::Rec],
+    ),
+];
+
+#[test]
+fn monitor_follows(rt: HostRuntime) -> Result<(), Fail> {
+    for (_, config, parts, measured) in &ROWS {
+        check(&rt, rt.alloc(), config, parts, measured)?;
+    }
+    Ok(())
+}

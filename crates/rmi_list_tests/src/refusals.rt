@@ -1,0 +1,270 @@
+//! Launches without a list, each beside one that has a list; and which reason comes first where two hold.
+use crate::launches::{CONFIG, Parts, config, launch_of, list_of};
+use rim_launch::{Config, Step};
+use rmi_list::ListFault;
+use rtt_plan::PlanFault;
+use std::alloc::Global;
+use std::process::Abort;
+use std::test::Fail;
+
+const NOTHING: Parts = Parts {
+    ram: &[],
+    items: &[],
+    recs: &[],
+    steps: &[],
+};
+
+/// A table and two runs: one granule after those of the realm.
+const PAST_A_BLOCK: Parts = Parts {
+    ram: &[(0x4000_0000, 0x4020_1000)],
+    items: &[],
+    recs: &[],
+    steps: &[],
+};
+
+/// Two regions that share a page.
+const TWICE: Parts = Parts {
+    ram: &[(0x4000_0000, 0x4000_2000), (0x4000_1000, 0x4000_3000)],
+    items: &[],
+    recs: &[],
+    steps: &[],
+};
+
+/// An item whose step comes before that of its region.
+const ITEM_FIRST: Parts = Parts {
+    ram: &[(0x4000_0000, 0x4020_0000)],
+    items: &[(0x4000_0000, 4096, true)],
+    recs: &[],
+    steps: &[Step::Item(0), Step::Ram(0)],
+};
+
+/// An item after its region: a table and a page, two granules.
+const ITEM: Parts = Parts {
+    ram: &[(0x4000_0000, 0x4020_0000)],
+    items: &[(0x4000_0000, 4096, true)],
+    recs: &[],
+    steps: &[],
+};
+
+const REC: Parts = Parts {
+    ram: &[],
+    items: &[],
+    recs: &[true],
+    steps: &[],
+};
+
+const STOPPED_REC: Parts = Parts {
+    ram: &[],
+    items: &[],
+    recs: &[false],
+    steps: &[],
+};
+
+/// The second REC comes first, and it is not runnable.
+const RECS_TURNED: Parts = Parts {
+    ram: &[],
+    items: &[],
+    recs: &[true, false],
+    steps: &[Step::Rec(1), Step::Rec(0)],
+};
+
+const MOST_RECS: Parts = Parts {
+    ram: &[],
+    items: &[],
+    recs: &[true; 512],
+    steps: &[],
+};
+
+const TOO_MANY_RECS: Parts = Parts {
+    ram: &[],
+    items: &[],
+    recs: &[true; 513],
+    steps: &[],
+};
+
+/// The last 2 MiB of the protected half.
+const LAST_BLOCK: Parts = Parts {
+    ram: &[(0xffe0_0000, 0x1_0000_0000)],
+    items: &[],
+    recs: &[],
+    steps: &[],
+};
+
+const PAST_THE_HALF: Parts = Parts {
+    ram: &[(0xffe0_0000, 0x1_0000_1000)],
+    items: &[],
+    recs: &[],
+    steps: &[],
+};
+
+const ODD: Parts = Parts {
+    ram: &[(0x4000_0000, 0x4000_0800)],
+    items: &[],
+    recs: &[],
+    steps: &[],
+};
+
+/// 4,194,305 pages.
+const TOO_MANY_PAGES: Parts = Parts {
+    ram: &[(0, 0x4_0000_1000)],
+    items: &[],
+    recs: &[],
+    steps: &[],
+};
+
+/// A configuration, parts, and the fault if there is one.
+const ROWS: [(&str, Config, &Parts, Option<ListFault>); 24] = [
+    ("a pool of 9", config!(33, 2, 0, 9), &NOTHING, None),
+    (
+        "a pool of 8",
+        config!(33, 2, 0, 8),
+        &NOTHING,
+        Some(ListFault::PoolEnd),
+    ),
+    (
+        "a pool of 1",
+        config!(33, 2, 0, 1),
+        &NOTHING,
+        Some(ListFault::PoolEnd),
+    ),
+    (
+        "a table in the last granule",
+        config!(33, 2, 0, 10),
+        &PAST_A_BLOCK,
+        None,
+    ),
+    (
+        "a table past the pool",
+        config!(33, 2, 0, 9),
+        &PAST_A_BLOCK,
+        Some(ListFault::PoolEnd),
+    ),
+    (
+        "a page in the last granule",
+        config!(33, 2, 0, 11),
+        &ITEM,
+        None,
+    ),
+    (
+        "a page past the pool",
+        config!(33, 2, 0, 10),
+        &ITEM,
+        Some(ListFault::PoolEnd),
+    ),
+    (
+        "a page set twice",
+        CONFIG,
+        &TWICE,
+        Some(ListFault::Plan(PlanFault::RipasTwice)),
+    ),
+    (
+        "no RAM",
+        CONFIG,
+        &ITEM_FIRST,
+        Some(ListFault::Plan(PlanFault::NotRam)),
+    ),
+    (
+        "no RAM and no granule",
+        config!(33, 2, 0, 9),
+        &ITEM_FIRST,
+        Some(ListFault::Plan(PlanFault::NotRam)),
+    ),
+    (
+        "a REC in the last granule",
+        config!(33, 2, 0, 10),
+        &REC,
+        None,
+    ),
+    (
+        "a REC past the pool",
+        config!(33, 2, 0, 9),
+        &REC,
+        Some(ListFault::PoolEnd),
+    ),
+    (
+        "a REC with an auxiliary granule",
+        config!(33, 2, 1, 11),
+        &REC,
+        None,
+    ),
+    (
+        "an auxiliary granule past the pool",
+        config!(33, 2, 1, 10),
+        &REC,
+        Some(ListFault::PoolEnd),
+    ),
+    (
+        "a REC that is not runnable",
+        CONFIG,
+        &STOPPED_REC,
+        Some(ListFault::RecNotRunnable),
+    ),
+    (
+        "not runnable, and no granule",
+        config!(33, 2, 0, 9),
+        &STOPPED_REC,
+        Some(ListFault::RecNotRunnable),
+    ),
+    (
+        "RECs turned",
+        CONFIG,
+        &RECS_TURNED,
+        Some(ListFault::RecOrder),
+    ),
+    ("512 RECs", CONFIG, &MOST_RECS, None),
+    (
+        "513 RECs",
+        CONFIG,
+        &TOO_MANY_RECS,
+        Some(ListFault::TooManyRecs),
+    ),
+    (
+        "513 RECs and a pool of 1",
+        config!(33, 2, 0, 1),
+        &TOO_MANY_RECS,
+        Some(ListFault::TooManyRecs),
+    ),
+    ("the end of the protected half", CONFIG, &LAST_BLOCK, None),
+    (
+        "past the protected half",
+        CONFIG,
+        &PAST_THE_HALF,
+        Some(ListFault::Plan(PlanFault::OutsideProtected)),
+    ),
+    (
+        "a region that is no whole page",
+        CONFIG,
+        &ODD,
+        Some(ListFault::Plan(PlanFault::Unaligned)),
+    ),
+    (
+        "too many entries",
+        config!(48, 3, 0, 16_777_216),
+        &TOO_MANY_PAGES,
+        Some(ListFault::Plan(PlanFault::TooManyEntries)),
+    ),
+];
+
+fn check(
+    rt: &impl Abort,
+    alloc: Global,
+    name: &str,
+    config: &Config,
+    parts: &Parts,
+    fault: Option<ListFault>,
+) -> Result<(), Fail> {
+    let Some(launch) = launch_of(alloc, config, parts)? else {
+        return Err("no launch".into());
+    };
+    let list = list_of(alloc, &launch)?;
+    assert_eq!(rt; list.err(), fault, "{name}");
+    Ok(())
+}
+
+#[test]
+fn refusals(rt: HostRuntime) -> Result<(), Fail> {
+    for (name, config, parts, fault) in &ROWS {
+        check(&rt, rt.alloc(), name, config, parts, *fault)?;
+    }
+    Ok(())
+}
