@@ -1,5 +1,5 @@
 #!/usr/bin/env python3
-"""Times the monitor and the hashing of pages. Not part of the gate.
+"""Times the monitor, lists of commands and the hashing of pages. Not part of the gate.
 
 usage: bench/crates.py [RUNS]
 
@@ -45,14 +45,18 @@ def least(program, words, runs):
 def main():
     runs = int(sys.argv[1]) if len(sys.argv) > 1 else 5
     with tempfile.TemporaryDirectory() as folder:
-        program = built(folder, "timed", "rim_desc rmm_model rmm_monitor page_jobs", ["bytes"])
+        program = built(folder, "timed", "rim_desc rmm_model rmm_monitor page_jobs rim_launch ipa_layout rmi_list", ["bytes"])
         hashes = least(program, ["descriptors"], runs)[0]
         data, data_size = least(program, ["data"], runs)
         ripas, ripas_size = least(program, ["ripas"], runs)
+        listed, listed_size = least(program, ["list_data"], runs)
+        entries, entries_size = least(program, ["list_ripas"], runs)
         made = least(program, ["bytes"], runs)[0]
         slices, pages, lead = (least(program, [work], runs)[0] - made for work in ["slices", "pages", "lead"])
     print(f"1,048,576 pages delegated, made RAM and created: {data:.2f} s, {data_size:.0f} MB; their hashes {hashes / 2:.2f} s")
     print(f"4,194,304 entries made RAM: {ripas:.2f} s, {ripas_size:.0f} MB; their hashes {hashes:.2f} s")
+    print(f"1,048,576 pages placed and listed: {listed:.2f} s, {listed_size:.0f} MB")
+    print(f"4,194,304 entries placed and listed: {entries:.2f} s, {entries_size:.0f} MB")
     print(f"65,536 pages hashed: {pages:.3f} s, with a lead {lead:.3f} s; their slices alone {slices:.3f} s")
 
 
