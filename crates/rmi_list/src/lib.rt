@@ -3,6 +3,8 @@
 
 mod fault;
 mod laws;
+mod plan;
 
 pub use fault::ListFault;
 pub use laws::{contents_of_a_launch, list_is_followed};
+pub use plan::Plan;
