@@ -1,0 +1,31 @@
+-- A chain over links, one link after another.
+use Rattle.std.proofs.Common.{◌≡◌, ℕ, ◌+◌, ◌<◌, ◌≤◌, ◌∙◌, sym, ap, List, length, take, drop, get_or, length-append}
+use Rattle.std.proofs.lemmas.List.{at_drop_all, at_drop_more}
+use Rattle.rim_desc.specs.Part.{extended_by}
+use Rattle.rim_desc.specs.declared.measurement.Algo.{Algo}
+use Rattle.rim_desc.specs.declared.measurement.Measurement.{Measurement}
+use Rattle.rim_desc.proofs.Parts.{extended_by-append}
+use Rattle.rim_chain.specs.Links.{keys_in, keys_of, link_parts, page_count, parts_with}
+use Rattle.rim_chain.specs.declared.link.Link.{Link}
+use Rattle.rim_chain.proofs.Keys.{keys-next, length-keys_in}
+
+pub links-next : (algo : Algo) (rim : List ℕ) (links : List Link) (i : ℕ) (d : Link) (digests : List Measurement) → i < length links
+    → extended_by algo rim (parts_with (drop i links) digests)
+    ≡ extended_by algo (extended_by algo rim (link_parts (get_or links i d) (take (page_count (get_or links i d)) digests)))
+    (parts_with (drop (i + 1) links) (drop (page_count (get_or links i d)) digests))
+unfolding parts_with
+links-next algo rim links i d digests inside =
+    at_drop_more (λ ls. extended_by algo rim (parts_with ls digests)) links i d inside
+    ∙ extended_by-append algo rim (link_parts (get_or links i d) (take (page_count (get_or links i d)) digests)) _
+
+pub links-end : (algo : Algo) (rim : List ℕ) (links : List Link) (i : ℕ) (digests : List Measurement) → length links ≤ i
+    → extended_by algo rim (parts_with (drop i links) digests) ≡ rim
+unfolding parts_with
+links-end algo rim links i digests past = at_drop_all (λ ls. extended_by algo rim (parts_with ls digests)) links i past
+
+-- how many digests are left for the links that are left
+pub keys-left : (links : List Link) (i : ℕ) (d : Link) (n : ℕ) → i < length links → n ≡ page_count (get_or links i d)
+    → length (keys_of (drop i links)) ≡ n + length (keys_of (drop (i + 1) links))
+keys-left links i d n inside count =
+    ap length (keys-next links i d inside)
+    ∙ (length-append (keys_in (get_or links i d)) (keys_of (drop (i + 1) links)) ∙ ap (λ m. m + length (keys_of (drop (i + 1) links))) (length-keys_in (get_or links i d) ∙ sym count))

@@ -1,0 +1,4 @@
+pub mod Links
+pub mod Rows
+pub mod Reading
+pub mod inside

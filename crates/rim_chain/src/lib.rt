@@ -1,0 +1,10 @@
+//! A launch's Realm Initial Measurement from the digests of its pages.
+#![tactic(auto)]
+
+mod chaining;
+mod link;
+mod plan;
+
+pub use chaining::chain;
+pub use link::Link;
+pub use plan::LaunchPlan;
