@@ -1,3 +1,6 @@
 pub mod Extending
 pub mod Keys
 pub mod LinkByLink
+pub mod Fitting
+pub mod Readable
+pub mod ReadParts

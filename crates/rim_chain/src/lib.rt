@@ -4,6 +4,7 @@
 mod chaining;
 mod link;
 mod plan;
+mod reading;
 
 pub use chaining::chain;
 pub use link::Link;

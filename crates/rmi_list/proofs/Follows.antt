@@ -56,22 +56,22 @@ use Rattle.rmi_list.proofs.Params.{InRange, good-realm, launch-in-range}
 -- ---- answers
 
 -- an answer is what was asked for, and no check holds
-is-done : {A E : Type 0} (checks : List (Check E)) (done answer : A) → unless_refused checks done ≡ Ok answer → done ≡ answer
+pub is-done : {A E : Type 0} (checks : List (Check E)) (done answer : A) → unless_refused checks done ≡ Ok answer → done ≡ answer
 is-done [] done answer = λ at. cc
 is-done (check ∷ others) done answer = elim (cases_Bool check.1) [
   | inl on ↦ rw on (λ at. absurd (cc))
   | inr off ↦ rw off (λ at. is-done others done answer at)
 ]
 
-bound : {A B E : Type 0} (r : Result A E) (f : A → Result B E) (b : B) → (r >>= f) ≡ Ok b → (a : A) × (r ≡ Ok a) × (f a ≡ Ok b)
+pub bound : {A B E : Type 0} (r : Result A E) (f : A → Result B E) (b : B) → (r >>= f) ≡ Ok b → (a : A) × (r ≡ Ok a) × (f a ≡ Ok b)
 bound (Ok a) f b h = (a, refl, h)
 bound (Err e) f b h = absurd (cc)
 
-fronted : {A E : Type 0} (front : List A) (r : Result (List A) E) (all : List A) → with_front front r ≡ Ok all → (others : List A) × (r ≡ Ok others) × (all ≡ front ++ others)
+pub fronted : {A E : Type 0} (front : List A) (r : Result (List A) E) (all : List A) → with_front front r ≡ Ok all → (others : List A) × (r ≡ Ok others) × (all ≡ front ++ others)
 fronted front (Ok others) all h = (others, refl, cc)
 fronted front (Err e) all h = absurd (cc)
 
-plan-off : (checks : List (Check PlanFault)) (others : List (Check ListFault)) → holds (plan_checks checks ++ others) ≡ false → holds checks ≡ false
+pub plan-off : (checks : List (Check PlanFault)) (others : List (Check ListFault)) → holds (plan_checks checks ++ others) ≡ false → holds checks ≡ false
 plan-off [] others off = refl
 plan-off (c ∷ cs) others off =
     let both = or_parts (c.1) (holds (plan_checks cs ++ others)) off in

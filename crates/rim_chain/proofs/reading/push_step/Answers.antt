@@ -1,0 +1,8 @@
+use Rattle.rmi_list.proofs.Params.{launch-in-range}
+use Rattle.rim_chain.proofs.Readable.{least-low}
+use Rattle.rim_chain.proofs.reading.push_step.Goals as goal
+
+pub push_region-requires-clause-low : goal.push_region-requires-clause-low
+push_region-requires-clause-low c =
+    let range = launch-in-range c.args.launch.now c.config.ensures.kept in
+    rw (c.least_level.ensures, c.config.ensures.value) (least-low c.args.launch.now.config range.block)
