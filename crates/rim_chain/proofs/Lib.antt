@@ -4,3 +4,4 @@ pub mod LinkByLink
 pub mod Fitting
 pub mod Readable
 pub mod ReadParts
+pub mod Rows

@@ -1,3 +1,4 @@
 -- What the fields and loops of this crate keep.
+pub mod Filling
 pub mod Fitting
 pub mod Steps

@@ -2,6 +2,7 @@
 #![tactic(auto)]
 
 mod chaining;
+mod filling;
 mod link;
 mod plan;
 mod reading;
