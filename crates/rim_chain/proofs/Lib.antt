@@ -5,3 +5,4 @@ pub mod Fitting
 pub mod Readable
 pub mod ReadParts
 pub mod Rows
+pub mod Own

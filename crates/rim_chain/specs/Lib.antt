@@ -1,4 +1,6 @@
 pub mod Links
 pub mod Rows
 pub mod Reading
+pub mod Jobs
+pub mod OwnDigests
 pub mod inside

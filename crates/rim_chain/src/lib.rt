@@ -3,10 +3,14 @@
 
 mod chaining;
 mod filling;
+mod job;
+mod laws;
 mod link;
 mod plan;
 mod reading;
 
 pub use chaining::chain;
+pub use job::{LaunchJob, LaunchRim};
+pub use laws::{a_row_has_the_digests_of_its_pages, the_chain_is_what_a_monitor_holds};
 pub use link::Link;
 pub use plan::LaunchPlan;
