@@ -1,6 +1,8 @@
 -- A chain over links, one link after another.
-use Rattle.std.proofs.Common.{◌≡◌, ℕ, ◌+◌, ◌<◌, ◌≤◌, ◌∙◌, sym, ap, List, length, take, drop, get_or, length-append}
-use Rattle.std.proofs.lemmas.List.{at_drop_all, at_drop_more}
+use Rattle.std.proofs.Common.{◌≡◌, ℕ, ◌+◌, ◌<◌, ◌≤◌, ◌∙◌, sym, ap, arith, List, [], ◌∷◌, ◌++◌, length, take, drop, get_or, length-append}
+use Rattle.std.proofs.lemmas.List.Concat.{flat_map-append}
+use Rattle.std.proofs.lemmas.List.Folds.{length-flat_map-take}
+use Rattle.std.proofs.lemmas.List.{append-nil, take_more, at_drop_all, at_drop_more}
 use Rattle.rim_desc.specs.Part.{extended_by}
 use Rattle.rim_desc.specs.declared.measurement.Algo.{Algo}
 use Rattle.rim_desc.specs.declared.measurement.Measurement.{Measurement}
@@ -29,3 +31,25 @@ pub keys-left : (links : List Link) (i : ℕ) (d : Link) (n : ℕ) → i < lengt
 keys-left links i d n inside count =
     ap length (keys-next links i d inside)
     ∙ (length-append (keys_in (get_or links i d)) (keys_of (drop (i + 1) links)) ∙ ap (λ m. m + length (keys_of (drop (i + 1) links))) (length-keys_in (get_or links i d) ∙ sym count))
+
+-- ---- the links so far
+
+pub keys-taken : (links : List Link) (i : ℕ) (d : Link) → i < length links → keys_of (take (i + 1) links) ≡ keys_of (take i links) ++ keys_in (get_or links i d)
+keys-taken links i d inside =
+    ap keys_of (take_more links i d inside)
+    ∙ (flat_map-append keys_in (take i links) (get_or links i d ∷ []) ∙ ap (λ keys. keys_of (take i links) ++ keys) (append-nil (keys_in (get_or links i d))))
+
+pub keys-so-far : (links : List Link) (i : ℕ) (d : Link) (n : ℕ) → i < length links → n ≡ page_count (get_or links i d)
+    → length (keys_of (take (i + 1) links)) ≡ length (keys_of (take i links)) + n
+keys-so-far links i d n inside count =
+    let own : length (keys_in (get_or links i d)) ≡ page_count (get_or links i d) = length-keys_in (get_or links i d) in
+    let both : length (keys_of (take (i + 1) links)) ≡ length (keys_of (take i links)) + length (keys_in (get_or links i d)) =
+    ap length (keys-taken links i d inside) ∙ length-append (keys_of (take i links)) (keys_in (get_or links i d)) in
+    omega arith
+
+pub keys-within : (links : List Link) (i : ℕ) (d : Link) (n : ℕ) → i < length links → n ≡ page_count (get_or links i d)
+    → length (keys_of (take i links)) + n ≤ length (keys_of links)
+keys-within links i d n inside count =
+    let own : length (keys_in (get_or links i d)) ≡ page_count (get_or links i d) = length-keys_in (get_or links i d) in
+    let room : length (keys_of (take i links)) + length (keys_in (get_or links i d)) ≤ length (keys_of links) = length-flat_map-take keys_in links i d inside in
+    omega arith

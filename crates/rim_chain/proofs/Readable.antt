@@ -35,7 +35,7 @@ use Rattle.rmi_list.proofs.Follows.{bound, fronted, is-done, plan-off}
 use Rattle.rmi_list.proofs.Params.{InRange, launch-in-range}
 use Rattle.rim_chain.specs.Links.{keys_in, keys_of}
 use Rattle.rim_chain.specs.declared.link.Link.{Link}
-use Rattle.rim_chain.specs.inside.Fitting.{IsFitting}
+use Rattle.rim_chain.specs.Fitting.{IsFitting}
 use Rattle.rim_chain.specs.inside.Steps.{IsReadable, IsReadableRegion, item_links, rec_links, region_links, step_links}
 use Rattle.rim_chain.proofs.Fitting.{item-fits, item-keys-few, pages-taken, runs-fit, runs-keyless}
 

@@ -2,9 +2,8 @@
 use Rattle.std.proofs.Common.{◌≡◌, ℕ, zero, suc, ◌+◌, ◌<◌, ◌≤◌, ◌∙◌, sym, refl, ap, arith, Bool, true, false, ◌&&◌, List, [], ◌∷◌, ◌++◌, length, map, take, drop, get_or, append_assoc}
 use Rattle.std.specs.Prelude.{◌↔◌, Some, None, is_some}
 use Rattle.std.specs.List.{range_with_len}
-use Rattle.std.proofs.lemmas.List.{append-nil, drop_at, get_or-map, length-map, map-append, map_push, take_at, take_more}
-use Rattle.std.proofs.lemmas.List.Concat.{flat_map-append}
-use Rattle.std.proofs.lemmas.List.Folds.{length-flat_map-take, list_all-append, list_all_at}
+use Rattle.std.proofs.lemmas.List.{drop_at, get_or-map, length-map, map-append, map_push, take_at, take_more}
+use Rattle.std.proofs.lemmas.List.Folds.{list_all-append, list_all_at}
 use Rattle.std.proofs.lemmas.List.FromFn.{get_or-map-range_with_len, length-map-range_with_len, map-range_with_len_more}
 use Rattle.rim_desc.specs.declared.measurement.Measurement.{Measurement}
 use Rattle.page_jobs.specs.Table.{TableView, digest_at}
@@ -14,6 +13,7 @@ use Rattle.rim_chain.specs.Rows.{IsRowOf, has_all}
 use Rattle.rim_chain.specs.declared.link.Link.{Link}
 use Rattle.rim_chain.specs.inside.Filling.{AreAdded}
 use Rattle.rim_chain.proofs.Keys.{keys-next, length-keys_in}
+use Rattle.rim_chain.proofs.LinkByLink.{keys-taken, keys-within}
 
 -- ---- one key more
 
@@ -65,17 +65,11 @@ row-at t key n digests d inside row =
 pub row-length : (t : TableView) (keys : List PageKey) (digests : List Measurement) → IsRowOf t keys digests → length digests ≡ length keys
 row-length t keys digests row = sym (length-map digests (λ m. Some m)) ∙ (sym (ap length row) ∙ length-map keys (digest_at t))
 
-keys-taken : (links : List Link) (i : ℕ) (d : Link) → i < length links → keys_of (take (i + 1) links) ≡ keys_of (take i links) ++ keys_in (get_or links i d)
-keys-taken links i d inside =
-    ap keys_of (take_more links i d inside)
-    ∙ (flat_map-append keys_in (take i links) (get_or links i d ∷ []) ∙ ap (λ keys. keys_of (take i links) ++ keys) (append-nil (keys_in (get_or links i d))))
-
 pub row-room : (t : TableView) (links : List Link) (i : ℕ) (d : Link) (digests : List Measurement) (n : ℕ) → i < length links
     → n ≡ page_count (get_or links i d) → IsRowOf t (keys_of (take i links)) digests → length digests + n ≤ length (keys_of links)
 row-room t links i d digests n inside count row =
-    let own : length (keys_in (get_or links i d)) ≡ page_count (get_or links i d) = length-keys_in (get_or links i d) in
     let size : length digests ≡ length (keys_of (take i links)) = row-length t (keys_of (take i links)) digests row in
-    let room : length (keys_of (take i links)) + length (keys_in (get_or links i d)) ≤ length (keys_of links) = length-flat_map-take keys_in links i d inside in
+    let room : length (keys_of (take i links)) + n ≤ length (keys_of links) = keys-within links i d n inside count in
     omega arith
 
 pub row-longer : (t : TableView) (links : List Link) (i : ℕ) (d : Link) (old new : List Measurement) → i < length links

@@ -1,4 +1,5 @@
 pub mod Links
+pub mod Fitting
 pub mod Rows
 pub mod Reading
 pub mod Jobs

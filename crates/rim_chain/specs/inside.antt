@@ -1,4 +1,4 @@
 -- What the fields and loops of this crate keep.
 pub mod Filling
-pub mod Fitting
+pub mod Counted
 pub mod Steps

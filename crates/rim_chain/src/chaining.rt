@@ -6,7 +6,7 @@ ghost use Rattle.rmm_model.specs.Blocks.{granules, stretches};
 ghost use Rattle.rmm_model.specs.Effects.{ripas_parts};
 ghost use Rattle.rim_chain.specs.Links.{chain_of, keys_of, link_parts, page_count, pages_with};
 ghost use Rattle.rim_chain.specs.Rows.{IsFilled};
-ghost use Rattle.rim_chain.specs.inside.Fitting.{IsFitting};
+ghost use Rattle.rim_chain.specs.Fitting.{IsFitting};
 
 use crate::link::Link;
 use crate::plan::{LaunchPlan, page_count};

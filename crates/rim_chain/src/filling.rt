@@ -3,9 +3,9 @@ ghost use Rattle.std.specs.Prelude.{◌≡◌, ◌+◌, ◌^◌, ◌<◌, ◌≤
 ghost use Rattle.std.specs.List.{range_with_len};
 ghost use Rattle.page_jobs.specs.Table.{digest_at};
 ghost use Rattle.rim_chain.specs.Links.{key_after, keys_in, keys_of, page_count};
-ghost use Rattle.rim_chain.specs.Rows.{IsRowOf, has_all};
+ghost use Rattle.rim_chain.specs.Rows.{IsFilled, IsRowOf, has_all};
 ghost use Rattle.rim_chain.specs.inside.Filling.{AreAdded};
-ghost use Rattle.rim_chain.specs.inside.Fitting.{IsFitting};
+ghost use Rattle.rim_chain.specs.Fitting.{IsFitting};
 
 use crate::link::Link;
 use crate::plan::{LaunchPlan, page_count};
@@ -20,6 +20,7 @@ impl LaunchPlan {
         requires empty { row.old.digests ≡ [] }
         requires room { length (keys_of self.now.links) ≤ row.old.room }
         ensures filled { result ≡ true → IsRowOf table.now (keys_of self.now.links) row.new.digests }
+        ensures size { result ≡ true → IsFilled self.now row.new.digests }
         ensures missing { result ≡ false → has_all table.now (keys_of self.now.links) ≡ false }
         ensures kept { result ≡ false → row.new ≡ row.old }
         ensures room { row.new.room ≡ row.old.room }

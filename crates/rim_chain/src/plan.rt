@@ -1,8 +1,9 @@
 //! What is measured of a launch, without the digests of its pages.
-ghost use Rattle.std.specs.Prelude.{◌≡◌, ◌<◌, length, Some, IsTrue, ◌↔◌};
+ghost use Rattle.std.specs.Prelude.{◌≡◌, ◌+◌, ◌*◌, ◌^◌, ◌<◌, length, Some, IfSome, IsSome, IsTrue, ◌↔◌};
 ghost use Rattle.std.specs.List.{slice_get};
 ghost use Rattle.rim_chain.specs.Links.{keys_in, keys_of, page_count};
-ghost use Rattle.rim_chain.specs.inside.Fitting.{AreLinks, IsFitting};
+ghost use Rattle.rim_chain.specs.inside.Counted.{AreLinks};
+ghost use Rattle.rim_chain.specs.Fitting.{AreFitting, IsFitting};
 
 use crate::link::Link;
 use page_jobs::PageKey;
@@ -20,7 +21,7 @@ pub struct LaunchPlan {
 
 impl Model for LaunchPlan {
     ghost use Rattle.rim_chain.specs.Links.{PlanView};
-    ghost use Rattle.rim_chain.specs.inside.Fitting.{AreLinks};
+    ghost use Rattle.rim_chain.specs.inside.Counted.{AreLinks};
 
     ghost Value = { PlanView };
 
@@ -30,8 +31,18 @@ impl Model for LaunchPlan {
 }
 
 impl LaunchPlan {
-    /// These parts.
-    pub(crate) fn new(params: RealmParams, links: Vec<Link>, pages: usize) -> LaunchPlan
+    /// A plan of these parts, or `None` where the end of a link's addresses or page numbers, or the number of measured
+    /// pages, is 2^64 or more.
+    pub fn new(params: RealmParams, links: Vec<Link>) -> Option<LaunchPlan>
+        ensures valid { IsSome result ↔ AreFitting links.items }
+        ensures value { IfSome result (λ p. p ≡ record { params = params; links = links.items }) }
+    {
+        let pages = checked_pages(links.as_slice())?;
+        Some(LaunchPlan::of_links(params, links, pages))
+    }
+
+    /// A plan of these parts, which fit and have this many measured pages.
+    pub(crate) fn of_links(params: RealmParams, links: Vec<Link>, pages: usize) -> LaunchPlan
         requires { AreLinks links.items pages }
         ensures { result ≡ record { params = params; links = links.items } }
     {
@@ -84,6 +95,47 @@ impl LaunchPlan {
         ensures { IsTrue result ↔ (self.now ≡ other.now) }
     {
         self.params == other.params && is_same_links(self.links.as_slice(), other.links.as_slice())
+    }
+}
+
+/// How many measured pages some links have, or `None` where they do not fit.
+fn checked_pages(links: &[Link]) -> Option<usize>
+    ensures valid { IsSome result ↔ AreFitting links.now }
+    ensures value { IfSome result (λ n. n ≡ length (keys_of links.now)) }
+{
+    let mut pages = 0u64;
+    for link in links {
+        if !is_fitting(link) {
+            return None;
+        }
+        let Some(more) = pages.checked_add(page_count(link)) else {
+            return None;
+        };
+        pages = more;
+    }
+    Some(pages as usize)
+}
+
+fn is_fitting(link: &Link) -> bool
+    ensures { IsTrue result ↔ IsFitting link.now }
+{
+    match link {
+        Link::Blocks { base, size, count } => ends_within(*base, *size, *count),
+        Link::Pages { ipa, key, count } => {
+            ends_within(*ipa, 4096, *count) && key.number.checked_add(*count).is_some()
+        }
+        Link::Unmeasured { ipa, count } => ends_within(*ipa, 4096, *count),
+        Link::Rec { .. } => true,
+    }
+}
+
+/// Whether this many stretches of a size end below 2^64.
+fn ends_within(base: u64, size: u64, count: u64) -> bool
+    ensures { IsTrue result ↔ (base + count * size < 2 ^ 64) }
+{
+    match count.checked_mul(size) {
+        Some(length) => base.checked_add(length).is_some(),
+        None => false,
     }
 }
 

@@ -40,7 +40,7 @@ impl LaunchPlan {
         let mut links = Vec::new(alloc);
         push_steps(&mut links, algo, launch, placed, launch.steps())?;
         let pages = pages_of(links.as_slice());
-        Ok(LaunchPlan::new(realm_params(launch), links, pages))
+        Ok(LaunchPlan::of_links(realm_params(launch), links, pages))
     }
 }
 

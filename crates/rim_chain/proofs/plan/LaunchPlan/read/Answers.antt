@@ -14,8 +14,8 @@ pages_of-pages-requires c =
     let links = rw (c.new-links.ensures.items, c.steps.ensures.value) at c.in_ok-push_steps.ensures in
     rw (c.as_slice.ensures.value, links) (omega (arith, few))
 
-pub new-requires : goal.new-requires
-new-requires c =
+pub of_links-requires : goal.of_links-requires
+of_links-requires c =
     let fit = (launch-readable c.args.launch.now c.args.placed.now c.args._list.now c.steps.ensures.kept c.requires.list).fit in
     let links = rw (c.new-links.ensures.items, c.steps.ensures.value) at c.in_ok-push_steps.ensures in
     let count = rw (c.as_slice.ensures.value, links) at c.pages_of-pages.ensures in
@@ -26,4 +26,4 @@ returns c =
     let range = launch-in-range c.args.launch.now c.steps.ensures.kept in
     let all = (launch-readable c.args.launch.now c.args.placed.now c.args._list.now c.steps.ensures.kept c.requires.list).readable in
     let links = rw (c.new-links.ensures.items, c.steps.ensures.value) at c.in_ok-push_steps.ensures in
-    rw (c.new.ensures, links, c.realm_params.ensures) (read-of c.args.launch.now c.args.placed.now (least-low c.args.launch.now.config range.block) all)
+    rw (c.of_links.ensures, links, c.realm_params.ensures) (read-of c.args.launch.now c.args.placed.now (least-low c.args.launch.now.config range.block) all)
