@@ -1,8 +1,8 @@
 -- A chain over links, one link after another.
-use Rattle.std.proofs.Common.{◌≡◌, ℕ, ◌+◌, ◌<◌, ◌≤◌, ◌∙◌, sym, ap, arith, List, [], ◌∷◌, ◌++◌, length, take, drop, get_or, length-append}
+use Rattle.std.proofs.Common.{◌≡◌, ℕ, ◌+◌, ◌<◌, ◌≤◌, ◌∙◌, sym, refl, ap, arith, List, [], ◌∷◌, ◌++◌, length, take, drop, get_or, length-append}
 use Rattle.std.proofs.lemmas.List.Concat.{flat_map-append}
 use Rattle.std.proofs.lemmas.List.Folds.{length-flat_map-take}
-use Rattle.std.proofs.lemmas.List.{append-nil, take_more, at_drop_all, at_drop_more}
+use Rattle.std.proofs.lemmas.List.{append-nil, append_assoc, at_drop_all, at_drop_more, drop-drop, drop-take, take-take, take_more}
 use Rattle.rim_desc.specs.Part.{extended_by}
 use Rattle.rim_desc.specs.declared.measurement.Algo.{Algo}
 use Rattle.rim_desc.specs.declared.measurement.Measurement.{Measurement}
@@ -53,3 +53,27 @@ keys-within links i d n inside count =
     let own : length (keys_in (get_or links i d)) ≡ page_count (get_or links i d) = length-keys_in (get_or links i d) in
     let room : length (keys_of (take i links)) + length (keys_in (get_or links i d)) ≤ length (keys_of links) = length-flat_map-take keys_in links i d inside in
     omega arith
+
+-- ---- a list of links in two pieces
+
+parts-cut : (front back : List Link) (digests : List Measurement)
+    → parts_with (front ++ back) digests ≡ parts_with front (take (length (keys_of front)) digests) ++ parts_with back (drop (length (keys_of front)) digests)
+unfolding parts_with
+parts-cut [] back digests = refl
+parts-cut (l ∷ front) back digests =
+    let n : ℕ = page_count l in
+    let m : ℕ = length (keys_of front) in
+    let count : length (keys_in l ++ keys_of front) ≡ n + m = length-append (keys_in l) (keys_of front) ∙ ap (λ k. k + m) (length-keys_in l) in
+    let own : take n (take (n + m) digests) ≡ take n digests = take-take n (n + m) digests (omega arith) in
+    let rest : drop n (take (n + m) digests) ≡ take m (drop n digests) = drop-take n m digests in
+    let back_part : drop m (drop n digests) ≡ drop (n + m) digests = drop-drop m n digests in
+    let i = parts-cut front back (drop n digests) in
+    rw (count, own, rest, ← back_part)
+    (ap (λ ps. link_parts l (take n digests) ++ ps) i ∙ sym (append_assoc (link_parts l (take n digests)) (parts_with front (take m (drop n digests))) (parts_with back (drop m (drop n digests)))))
+
+pub chain-cut : (algo : Algo) (rim : List ℕ) (front back : List Link) (digests : List Measurement)
+    → extended_by algo rim (parts_with (front ++ back) digests)
+    ≡ extended_by algo (extended_by algo rim (parts_with front (take (length (keys_of front)) digests))) (parts_with back (drop (length (keys_of front)) digests))
+chain-cut algo rim front back digests =
+    ap (extended_by algo rim) (parts-cut front back digests)
+    ∙ extended_by-append algo rim (parts_with front (take (length (keys_of front)) digests)) (parts_with back (drop (length (keys_of front)) digests))

@@ -11,6 +11,9 @@ mod reading;
 
 pub use chaining::chain;
 pub use job::{LaunchJob, LaunchRim};
-pub use laws::{a_row_has_the_digests_of_its_pages, the_chain_is_what_a_monitor_holds};
+pub use laws::{
+    a_chain_goes_on_from_its_front, a_row_has_the_digests_of_its_pages,
+    the_chain_is_what_a_monitor_holds,
+};
 pub use link::Link;
 pub use plan::LaunchPlan;
