@@ -1,5 +1,5 @@
 //! The plan of a launch that has its place.
-ghost use Rattle.std.specs.Prelude.{◌≡◌, [], ◌++◌, ◌^◌, ◌<◌, ◌≤◌, length, map, Some, Ok, IfOk, OnOk};
+ghost use Rattle.std.specs.Prelude.{◌≡◌, [], ◌++◌, ◌^◌, ◌<◌, ◌≤◌, length, map, Some, Ok, IfOk, OnErr, OnOk};
 ghost use Rattle.std.specs.List.{All, flat_map, slice_get};
 ghost use Rattle.rim_desc.specs.Measurement.{measurement_of};
 ghost use Rattle.rim_desc.specs.Rec.{rec_page_of};
@@ -35,7 +35,9 @@ impl LaunchPlan {
     ) -> Result<LaunchPlan, NoMemory>
         requires algo { algo ≡ launch.now.config.algo }
         requires list { listed launch.now placed.now ≡ Ok _list.now }
-        ensures { IfOk result (λ p. IsReadOf launch.now placed.now p) }
+        ensures read { IfOk result (λ p. IsReadOf launch.now placed.now p) }
+        // A launch without steps takes no memory.
+        ensures growth { OnErr result (0 < length launch.now.steps) }
     {
         let mut links = Vec::new(alloc);
         push_steps(&mut links, algo, launch, placed, launch.steps())?;
@@ -54,7 +56,8 @@ fn push_steps(
 ) -> Result<(), NoMemory>
     requires algo { algo ≡ launch.now.config.algo }
     requires readable { All (IsReadable launch.now) steps.now }
-    ensures { OnOk result (links.new.items ≡ links.old.items ++ flat_map (step_links launch.now placed.now) steps.now) }
+    ensures links { OnOk result (links.new.items ≡ links.old.items ++ flat_map (step_links launch.now placed.now) steps.now) }
+    ensures growth { OnErr result (0 < length steps.now) }
 {
     for step in steps {
         push_step(links, algo, launch, placed, *step)?;

@@ -11,19 +11,19 @@ push_steps-requires-clause-readable c =
 pub pages_of-pages-requires : goal.pages_of-pages-requires
 pages_of-pages-requires c =
     let few = (launch-readable c.args.launch.now c.args.placed.now c.args._list.now c.steps.ensures.kept c.requires.list).few in
-    let links = rw (c.new-links.ensures.items, c.steps.ensures.value) at c.in_ok-push_steps.ensures in
+    let links = rw (c.new-links.ensures.items, c.steps.ensures.value) at c.in_ok-push_steps.ensures.links in
     rw (c.as_slice.ensures.value, links) (omega (arith, few))
 
 pub of_links-requires : goal.of_links-requires
 of_links-requires c =
     let fit = (launch-readable c.args.launch.now c.args.placed.now c.args._list.now c.steps.ensures.kept c.requires.list).fit in
-    let links = rw (c.new-links.ensures.items, c.steps.ensures.value) at c.in_ok-push_steps.ensures in
+    let links = rw (c.new-links.ensures.items, c.steps.ensures.value) at c.in_ok-push_steps.ensures.links in
     let count = rw (c.as_slice.ensures.value, links) at c.pages_of-pages.ensures in
     rw links (record { fit = fit; pages = count })
 
-pub returns : goal.returns
-returns c =
+pub returns-clause-read : goal.returns-clause-read
+returns-clause-read c =
     let range = launch-in-range c.args.launch.now c.steps.ensures.kept in
     let all = (launch-readable c.args.launch.now c.args.placed.now c.args._list.now c.steps.ensures.kept c.requires.list).readable in
-    let links = rw (c.new-links.ensures.items, c.steps.ensures.value) at c.in_ok-push_steps.ensures in
+    let links = rw (c.new-links.ensures.items, c.steps.ensures.value) at c.in_ok-push_steps.ensures.links in
     rw (c.of_links.ensures, links, c.realm_params.ensures) (read-of c.args.launch.now c.args.placed.now (least-low c.args.launch.now.config range.block) all)
