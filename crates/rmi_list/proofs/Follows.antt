@@ -126,26 +126,26 @@ item-follows : (c : Config) (contents : Contents) (s : State) (w : Progress) (nu
 unfolding list_item
 item-follows c contents s w number item done is_listed good = elim (cases_Bool (eqb item.pages 0)) [
   | inl none ↦ rw none (λ at.
-      (let no_pages : item.pages ≡ 0 = eqb-true item.pages 0 none in
-      let idle : Listing = record { entries = []; next = w } in
-      let same : idle ≡ done = cc in
-      subst (λ (d : Listing). Follows c s (commands_of contents d.entries) (page_parts item.measured contents number (page_base item) item.pages) d.next) same
-      (rw no_pages (nothing-follows c s w is_listed))))
+    (let no_pages : item.pages ≡ 0 = eqb-true item.pages 0 none in
+    let idle : Listing = record { entries = []; next = w } in
+    let same : idle ≡ done = cc in
+    subst (λ (d : Listing). Follows c s (commands_of contents d.entries) (page_parts item.measured contents number (page_base item) item.pages) d.next) same
+    (rw no_pages (nothing-follows c s w is_listed))))
   | inr some ↦ rw some (λ at.
-      (let base : ℕ = page_base item in
-      let entries : List Entry = item_entries c.pool_base w.taken w.plan item.measured number base item.pages in
-      let made : Listing = record { entries = entries; next = record w { plan = after_data w.plan base item.pages; taken = w.taken + delegated entries } } in
-      let last : List (Check ListFault) = pool_check c w.taken entries ∷ [] in
-      let checks : List (Check ListFault) = plan_checks (data_checks w.plan base item.pages) ++ last in
-      let same : made ≡ done = is-done checks made done at in
-      let off : holds (data_checks w.plan base item.pages) ≡ false = plan-off (data_checks w.plan base item.pages) last (none-holds checks made done at) in
-      let accepts = data-accepted w.plan base item.pages off in
-      let led = item-leads contents (build_of c) w.plan w.taken w.recs item.measured number base item.pages s is_listed.built is_listed.planned good accepts in
-      subst (λ (d : Listing). Follows c s (commands_of contents d.entries) (page_parts item.measured contents number base item.pages) d.next) same (record {
-        accepted = led.accepted;
-        shown = led.shown;
-        listed = record { built = led.built; planned = planned-data w.plan base item.pages is_listed.planned accepts.in_ram; least = is_listed.least };
-      })))
+    (let base : ℕ = page_base item in
+    let entries : List Entry = item_entries c.pool_base w.taken w.plan item.measured number base item.pages in
+    let made : Listing = record { entries = entries; next = record w { plan = after_data w.plan base item.pages; taken = w.taken + delegated entries } } in
+    let last : List (Check ListFault) = pool_check c w.taken entries ∷ [] in
+    let checks : List (Check ListFault) = plan_checks (data_checks w.plan base item.pages) ++ last in
+    let same : made ≡ done = is-done checks made done at in
+    let off : holds (data_checks w.plan base item.pages) ≡ false = plan-off (data_checks w.plan base item.pages) last (none-holds checks made done at) in
+    let accepts = data-accepted w.plan base item.pages off in
+    let led = item-leads contents (build_of c) w.plan w.taken w.recs item.measured number base item.pages s is_listed.built is_listed.planned good accepts in
+    subst (λ (d : Listing). Follows c s (commands_of contents d.entries) (page_parts item.measured contents number base item.pages) d.next) same (record {
+      accepted = led.accepted;
+      shown = led.shown;
+      listed = record { built = led.built; planned = planned-data w.plan base item.pages is_listed.planned accepts.in_ram; least = is_listed.least };
+    })))
 ]
 
 abbrev flag_of : Bool → ℕ
@@ -256,7 +256,7 @@ steps-end l p contents (st ∷ ss) s w entries good few is_listed at =
     let cs : List Command = commands_of contents done.entries in
     let rest = steps-end l p contents ss (run s cs) done.next others good few here.listed (second.1) in
     let words : commands_of contents entries ≡ cs ++ commands_of contents others =
-    ap (commands_of contents) (second.2) ∙ map-append (command_of contents) done.entries others in
+        ap (commands_of contents) (second.2) ∙ map-append (command_of contents) done.entries others in
     rw words (then-ends s cs (commands_of contents others) (step_parts l p contents st) (flat_map (step_parts l p contents) ss) (realm_params l.config) here.accepted here.shown rest)
 
 opened-listed : (c : Config) (contents : Contents) → InRange c
@@ -288,10 +288,10 @@ list-is-followed l p contents entries launch good at =
     let cs : List Command = commands_of contents (opening_entries c) in
     let rest = steps-end l p contents l.steps (run s cs) (opening c) others good (grind (arith, nat_tests)) here.listed (second.1) in
     let words : commands_of contents entries ≡ cs ++ commands_of contents others =
-    ap (commands_of contents) (second.2 ∙ ap (λ es. es ++ others) (sym opened)) ∙ map-append (command_of contents) (opening_entries c) others in
+        ap (commands_of contents) (second.2 ∙ ap (λ es. es ++ others) (sym opened)) ∙ map-append (command_of contents) (opening_entries c) others in
     let ends : Ends s (commands_of contents entries) (measured l p contents) (realm_params c) =
-    rw words (then-ends s cs (commands_of contents others) (Realm (realm_page_of (realm_params c)) ∷ []) (flat_map (step_parts l p contents) l.steps) (realm_params c)
-    here.accepted here.shown rest) in
+        rw words (then-ends s cs (commands_of contents others) (Realm (realm_page_of (realm_params c)) ∷ []) (flat_map (step_parts l p contents) l.steps) (realm_params c)
+        here.accepted here.shown rest) in
     record {
       accepted = ends.accepted;
       shown = ends.shown;
