@@ -1,5 +1,5 @@
 //! The table of digests: a slot for each of the pages of a run, in the order of their keys.
-ghost use Rattle.std.specs.Prelude.{◌≡◌, ◌<◌, length, map, replicate, None, Some, IfOk, OnOk, OnErr, IfErr, IfSome, IsTrue, ◌↔◌, slice_get};
+ghost use Rattle.std.specs.Prelude.{◌≡◌, ◌<◌, length, map, replicate, None, Some, IfOk, OnOk, OnErr, IfErr, IfSome, IsTrue, ◌↔◌, true, slice_get};
 ghost use Rattle.page_jobs.specs.Key.{IsRising, key_cmp};
 ghost use Rattle.page_jobs.specs.Page.{digest_of, page_view};
 ghost use Rattle.page_jobs.specs.Table.{CanFill, IsTable, digest_at, digest_in, keys_of, page_at, slot_of, with_digest};
@@ -77,6 +77,28 @@ impl<'a> Table<'a> {
         search(self.pages, key)
     }
 
+    /// The slot of the page that has a key. The guess is looked at first; where it is right no slot is searched for.
+    /// The slot of an item's next page is the next one.
+    pub fn slot_near(&self, guess: usize, key: &PageKey) -> Option<usize>
+        ensures { result ≡ slot_of self.now.pages key.now }
+    {
+        if self.has_key(guess, key) {
+            Some(guess)
+        } else {
+            self.slot_of(key)
+        }
+    }
+
+    /// Whether the page of a slot has a key.
+    fn has_key(&self, slot: usize, key: &PageKey) -> bool
+        ensures { result ≡ true → slot_of self.now.pages key.now ≡ Some slot }
+    {
+        match self.pages.get(slot) {
+            Some(page) => is_key(page, key),
+            None => false,
+        }
+    }
+
     /// The digest in a slot, where such a slot exists and is filled.
     pub fn digest(&self, slot: usize) -> Option<Measurement>
         ensures value { result ≡ digest_in self.now slot }
@@ -112,6 +134,13 @@ fn search(pages: &[Page], key: &PageKey) -> Option<usize>
     ensures { result ≡ slot_of (map page_view pages.now) key.now }
 {
     pages.binary_search_by(|page| compare(page, key)).ok()
+}
+
+/// Whether a page has a key.
+fn is_key(page: &Page, key: &PageKey) -> bool
+    ensures { IsTrue result ↔ (page.now.key ≡ key.now) }
+{
+    page.key == *key
 }
 
 /// The order of a page's key and a key.

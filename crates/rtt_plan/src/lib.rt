@@ -17,5 +17,7 @@ pub mod tables;
 
 pub use act::Act;
 pub use fault::PlanFault;
+pub use longest::run_from;
+pub use run::Run;
 pub use start::start_of;
 pub use tables::Tables;

@@ -25,6 +25,8 @@ fn digests_are_kept_in_their_slots(rt: HostRuntime) -> Result<(), Fail> {
         assert!(rt; table.fill(slot, hashed).is_ok());
         assert_eq!(rt; table.get(&page.key), Some(digest));
         assert_eq!(rt; table.slot_of(&page.key), Some(slot));
+        assert_eq!(rt; table.slot_near(slot, &page.key), Some(slot));
+        assert_eq!(rt; table.slot_near(slot + 1, &page.key), Some(slot));
     }
     assert_eq!(rt; table.get(&led.page(Algo::Sha512, 0).key), None);
     assert_eq!(rt; table.get(&blob.page(Algo::Sha256, 2).key), None);

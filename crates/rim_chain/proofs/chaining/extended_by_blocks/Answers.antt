@@ -1,0 +1,25 @@
+use Rattle.std.proofs.Common.{◌≡◌, ◌∙◌, ◌+◌, ◌-◌, ◌<◌, sym, refl, arith}
+use Rattle.rim_chain.proofs.Extending.{blocks-end, blocks-next, place-fits, place-next}
+use Rattle.rim_chain.proofs.chaining.extended_by_blocks.Goals as goal
+
+pub loop-init : goal.loop-init
+loop-init c = let e : c.args.count - 0 ≡ c.args.count = omega arith in rw e (record { place = refl; left = refl })
+
+pub overflow_add-top : goal.overflow_add-top
+overflow_add-top c =
+    let some : 0 < c.args.count - c.loop.counter = omega arith in
+    omega (arith, place-fits c.loop.from (c.args.count - c.loop.counter) c.args.size _ some c.loop.invariant.place)
+
+pub loop-preserved : goal.loop-preserved
+loop-preserved c =
+    let some : 0 < c.args.count - c.loop.counter = omega arith in
+    let one : c.args.count - (c.loop.counter + 1) ≡ c.args.count - c.loop.counter - 1 = omega arith in
+    rw (one, c.extend-rim.ensures, c.ripas_descriptor.ensures) (record {
+      place = place-next c.loop.from (c.args.count - c.loop.counter) c.args.size _ some c.loop.invariant.place;
+      left = sym (blocks-next c.args.algo c.loop.rim.bytes (c.args.count - c.loop.counter) c.args.size c.loop.from some) ∙ c.loop.invariant.left;
+    })
+
+pub returns : goal.returns
+returns c =
+    let none : c.args.count - c.loop.counter ≡ 0 = omega arith in
+    sym (blocks-end c.args.algo c.loop.rim.bytes c.args.size c.loop.from) ∙ rw none at c.loop.invariant.left

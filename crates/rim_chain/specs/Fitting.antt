@@ -1,0 +1,17 @@
+-- Which links a plan may have. This project's choice.
+use Rattle.std.specs.Prelude.{◌+◌, ◌*◌, ◌^◌, ◌<◌, ⊤, List, length}
+use Rattle.std.specs.List.{All}
+use Rattle.rim_chain.specs.Links.{keys_of}
+use Rattle.rim_chain.specs.declared.link.Link.{Link}
+use Rattle.rim_chain.specs.declared.link.Link.TheVariants as link
+
+-- the end of a link's addresses and of its page numbers has 64 bits
+abbrev pub IsFitting : Link → Type 0
+IsFitting (link.Blocks base size count) = base + count * size < 2 ^ 64
+IsFitting (link.Pages ipa key count) = (ipa + 4096 * count < 2 ^ 64) × (key.number + count < 2 ^ 64)
+IsFitting (link.Unmeasured ipa count) = ipa + 4096 * count < 2 ^ 64
+IsFitting (link.Rec content) = ⊤
+
+-- links that fit, with a number of measured pages that has 64 bits
+abbrev pub AreFitting : List Link → Type 0
+AreFitting links = All IsFitting links × (length (keys_of links) < 2 ^ 64)

@@ -1,0 +1,19 @@
+-- Rows of digests that belong to a plan. This project's choice.
+use Rattle.std.specs.Prelude.{◌≡◌, Bool, List, map, length, Some, is_some}
+use Rattle.std.specs.List.{list_all}
+use Rattle.rim_desc.specs.declared.measurement.Measurement.{Measurement}
+use Rattle.page_jobs.specs.Table.{TableView, digest_at}
+use Rattle.page_jobs.specs.declared.page.PageKey.{PageKey}
+use Rattle.rim_chain.specs.Links.{PlanView, keys_of}
+
+-- the digests are those that a table has for the keys, in order
+abbrev pub IsRowOf : TableView → List PageKey → List Measurement → Type 0
+IsRowOf t keys digests = map (digest_at t) keys ≡ map (λ d. Some d) digests
+
+-- whether a table has a digest for each of the keys
+abbrev pub has_all : TableView → List PageKey → Bool
+has_all t keys = list_all (λ key. is_some (digest_at t key)) keys
+
+-- as many digests as a plan has measured pages
+abbrev pub IsFilled : PlanView → List Measurement → Type 0
+IsFilled p digests = length digests ≡ length (keys_of p.links)

@@ -1,0 +1,4 @@
+-- What the fields and loops of this crate keep.
+pub mod Filling
+pub mod Counted
+pub mod Steps

@@ -1,0 +1,19 @@
+//! A launch's Realm Initial Measurement from the digests of its pages.
+#![tactic(auto)]
+
+mod chaining;
+mod filling;
+mod job;
+mod laws;
+mod link;
+mod plan;
+mod reading;
+
+pub use chaining::chain;
+pub use job::{LaunchJob, LaunchRim};
+pub use laws::{
+    a_chain_goes_on_from_its_front, a_row_has_the_digests_of_its_pages,
+    the_chain_is_what_a_monitor_holds,
+};
+pub use link::Link;
+pub use plan::LaunchPlan;

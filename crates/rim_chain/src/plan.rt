@@ -1,0 +1,177 @@
+//! What is measured of a launch, without the digests of its pages.
+ghost use Rattle.std.specs.Prelude.{◌≡◌, ◌+◌, ◌*◌, ◌^◌, ◌<◌, length, Some, IfSome, IsSome, IsTrue, ◌↔◌};
+ghost use Rattle.std.specs.List.{slice_get};
+ghost use Rattle.rim_chain.specs.Links.{keys_in, keys_of, page_count};
+ghost use Rattle.rim_chain.specs.inside.Counted.{AreLinks};
+ghost use Rattle.rim_chain.specs.Fitting.{AreFitting, IsFitting};
+
+use crate::link::Link;
+use page_jobs::PageKey;
+use rim_desc::RealmParams;
+use std::marker::Model;
+
+/// What is measured of a launch, in order: its realm and what follows it, with keys in the places of the digests of
+/// its pages. It borrows nothing.
+#[derive(Drop)]
+pub struct LaunchPlan {
+    params: RealmParams,
+    links: Vec<Link>,
+    pages: usize,
+}
+
+impl Model for LaunchPlan {
+    ghost use Rattle.rim_chain.specs.Links.{PlanView};
+    ghost use Rattle.rim_chain.specs.inside.Counted.{AreLinks};
+
+    ghost Value = { PlanView };
+
+    ghost view = { λ p. record { params = p.params; links = p.links.items } };
+
+    ghost invariant = { λ p. AreLinks p.links.items p.pages };
+}
+
+impl LaunchPlan {
+    /// A plan of these parts, or `None` where the end of a link's addresses or page numbers, or the number of measured
+    /// pages, is 2^64 or more.
+    pub fn new(params: RealmParams, links: Vec<Link>) -> Option<LaunchPlan>
+        ensures valid { IsSome result ↔ AreFitting links.items }
+        ensures value { IfSome result (λ p. p ≡ record { params = params; links = links.items }) }
+    {
+        let pages = checked_pages(links.as_slice())?;
+        Some(LaunchPlan::of_links(params, links, pages))
+    }
+
+    /// A plan of these parts, which fit and have this many measured pages.
+    pub(crate) fn of_links(params: RealmParams, links: Vec<Link>, pages: usize) -> LaunchPlan
+        requires { AreLinks links.items pages }
+        ensures { result ≡ record { params = params; links = links.items } }
+    {
+        LaunchPlan {
+            params,
+            links,
+            pages,
+        }
+    }
+
+    /// How many measured pages it has.
+    pub fn pages(&self) -> usize
+        ensures { result ≡ length (keys_of self.now.links) }
+    {
+        self.pages
+    }
+
+    /// The parameters of its realm.
+    pub(crate) fn params(&self) -> RealmParams
+        ensures { result ≡ self.now.params }
+    {
+        self.params
+    }
+
+    /// What follows the realm.
+    pub(crate) fn links(&self) -> &[Link]
+        ensures links { result.now ≡ self.now.links }
+        ensures kept { AreLinks self.now.links (length (keys_of self.now.links)) }
+    {
+        self.links.as_slice()
+    }
+
+    /// The key of a measured page, by its place among them.
+    pub fn key(&self, index: usize) -> PageKey
+        requires { index < length (keys_of self.now.links) }
+        ensures { Some result ≡ slice_get (keys_of self.now.links) index }
+    {
+        let mut rest = index as u64;
+        for link in self.links() {
+            if let Some(key) = key_in(link, rest) {
+                return key;
+            }
+            rest -= page_count(link);
+        }
+        unreachable!()
+    }
+
+    /// Whether two plans are equal: they have the same realm, parts and keys.
+    pub fn is_same(&self, other: &LaunchPlan) -> bool
+        ensures { IsTrue result ↔ (self.now ≡ other.now) }
+    {
+        self.params == other.params && is_same_links(self.links.as_slice(), other.links.as_slice())
+    }
+}
+
+/// How many measured pages some links have, or `None` where they do not fit.
+fn checked_pages(links: &[Link]) -> Option<usize>
+    ensures valid { IsSome result ↔ AreFitting links.now }
+    ensures value { IfSome result (λ n. n ≡ length (keys_of links.now)) }
+{
+    let mut pages = 0u64;
+    for link in links {
+        if !is_fitting(link) {
+            return None;
+        }
+        let Some(more) = pages.checked_add(page_count(link)) else {
+            return None;
+        };
+        pages = more;
+    }
+    Some(pages as usize)
+}
+
+fn is_fitting(link: &Link) -> bool
+    ensures { IsTrue result ↔ IsFitting link.now }
+{
+    match link {
+        Link::Blocks { base, size, count } => ends_within(*base, *size, *count),
+        Link::Pages { ipa, key, count } => {
+            ends_within(*ipa, 4096, *count) && key.number.checked_add(*count).is_some()
+        }
+        Link::Unmeasured { ipa, count } => ends_within(*ipa, 4096, *count),
+        Link::Rec { .. } => true,
+    }
+}
+
+/// Whether this many stretches of a size end below 2^64.
+fn ends_within(base: u64, size: u64, count: u64) -> bool
+    ensures { IsTrue result ↔ (base + count * size < 2 ^ 64) }
+{
+    match count.checked_mul(size) {
+        Some(length) => base.checked_add(length).is_some(),
+        None => false,
+    }
+}
+
+/// How many measured pages a link has.
+pub(crate) fn page_count(link: &Link) -> u64
+    ensures { result ≡ page_count link.now }
+{
+    match link {
+        Link::Pages { count, .. } => *count,
+        _ => 0,
+    }
+}
+
+/// The key of a link's page, if it has one of this number.
+fn key_in(link: &Link, number: u64) -> Option<PageKey>
+    requires { IsFitting link.now }
+    ensures { result ≡ slice_get (keys_in link.now) number }
+{
+    match link {
+        Link::Pages { key, count, .. } => {
+            if number < *count {
+                Some(PageKey {
+                    number: key.number + number,
+                    ..*key
+                })
+            } else {
+                None
+            }
+        }
+        _ => None,
+    }
+}
+
+/// Whether two lists of links are equal.
+fn is_same_links(a: &[Link], b: &[Link]) -> bool
+    ensures { IsTrue result ↔ (a.now ≡ b.now) }
+{
+    a == b
+}

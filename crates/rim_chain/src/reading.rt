@@ -1,0 +1,205 @@
+//! The plan of a launch that has its place.
+ghost use Rattle.std.specs.Prelude.{◌≡◌, [], ◌++◌, ◌^◌, ◌<◌, ◌≤◌, length, map, Some, Ok, IfOk, OnErr, OnOk};
+ghost use Rattle.std.specs.List.{All, flat_map, slice_get};
+ghost use Rattle.rim_desc.specs.Measurement.{measurement_of};
+ghost use Rattle.rim_desc.specs.Rec.{rec_page_of};
+ghost use Rattle.rtt_plan.specs.Places.{IsRegion};
+ghost use Rattle.rtt_plan.specs.Runs.{runs_of};
+ghost use Rattle.rmi_list.specs.Listed.{listed};
+ghost use Rattle.rmi_list.specs.Measured as measured;
+ghost use Rattle.rmi_list.specs.RecParams.{rec_params};
+ghost use Rattle.rim_chain.specs.Links.{keys_of};
+ghost use Rattle.rim_chain.specs.Reading.{IsReadOf};
+ghost use Rattle.rim_chain.specs.inside.Steps.{IsReadable, item_links, rec_links, run_link, step_links};
+
+use crate::link::Link;
+use crate::plan::{LaunchPlan, page_count};
+use ipa_layout::{Placed, PlacedItem, PlacedRec};
+use page_jobs::PageKey;
+use rim_desc::{Algo, Measurement, NoMemory, RecParams, hash, rec_page};
+use rim_launch::{Config, Launch, Region, Step, realm_params};
+use rmi_list::Plan;
+use rmm_model::size::size_of_level;
+use rmm_model::start::start_level;
+use rtt_plan::{Run, run_from};
+use std::alloc::Global;
+
+impl LaunchPlan {
+    /// The plan of a launch that has its place and a list of commands. It has no page's digest yet.
+    pub fn read(
+        alloc: Global,
+        algo: Algo,
+        launch: &Launch,
+        placed: &Placed,
+        _list: &Plan,
+    ) -> Result<LaunchPlan, NoMemory>
+        requires algo { algo ≡ launch.now.config.algo }
+        requires list { listed launch.now placed.now ≡ Ok _list.now }
+        ensures read { IfOk result (λ p. IsReadOf launch.now placed.now p) }
+        // A launch without steps takes no memory.
+        ensures growth { OnErr result (0 < length launch.now.steps) }
+    {
+        let mut links = Vec::new(alloc);
+        push_steps(&mut links, algo, launch, placed, launch.steps())?;
+        let pages = pages_of(links.as_slice());
+        Ok(LaunchPlan::of_links(realm_params(launch), links, pages))
+    }
+}
+
+/// Adds the links of some steps.
+fn push_steps(
+    links: &mut Vec<Link>,
+    algo: Algo,
+    launch: &Launch,
+    placed: &Placed,
+    steps: &[Step],
+) -> Result<(), NoMemory>
+    requires algo { algo ≡ launch.now.config.algo }
+    requires readable { All (IsReadable launch.now) steps.now }
+    ensures links { OnOk result (links.new.items ≡ links.old.items ++ flat_map (step_links launch.now placed.now) steps.now) }
+    ensures growth { OnErr result (0 < length steps.now) }
+{
+    for step in steps {
+        push_step(links, algo, launch, placed, *step)?;
+    }
+    Ok(())
+}
+
+/// Adds the links of a step.
+fn push_step(
+    links: &mut Vec<Link>,
+    algo: Algo,
+    launch: &Launch,
+    placed: &Placed,
+    step: Step,
+) -> Result<(), NoMemory>
+    requires algo { algo ≡ launch.now.config.algo }
+    requires readable { IsReadable launch.now step }
+    ensures { OnOk result (links.new.items ≡ links.old.items ++ step_links launch.now placed.now step) }
+{
+    match step {
+        Step::Ram(number) => match region_at(launch, number) {
+            Some(region) => push_region(links, least_level(&launch.config()), &region),
+            None => Ok(()),
+        },
+        Step::Item(number) => match item_at(placed, number) {
+            Some(item) => push_item(links, algo, &item),
+            None => Ok(()),
+        },
+        Step::Rec(number) => match rec_at(placed, number) {
+            Some(rec) => push_rec(links, algo, &rec),
+            None => Ok(()),
+        },
+    }
+}
+
+/// The region of this number, if the launch has one.
+fn region_at(launch: &Launch, number: usize) -> Option<Region>
+    ensures { result ≡ slice_get launch.now.ram number }
+{
+    launch.ram().get(number).copied()
+}
+
+/// The item of this number, if the launch has one.
+fn item_at(placed: &Placed, number: usize) -> Option<PlacedItem>
+    ensures { result ≡ slice_get placed.now.items number }
+{
+    placed.items().get(number).copied()
+}
+
+/// The REC of this number, if the launch has one.
+fn rec_at(placed: &Placed, number: usize) -> Option<PlacedRec>
+    ensures { result ≡ slice_get placed.now.recs number }
+{
+    placed.recs().get(number).copied()
+}
+
+/// The least level of a block of RAM, which is no larger than an entry of a start table.
+fn least_level(config: &Config) -> u8
+    ensures { result ≡ measured.least_level config.now }
+{
+    config.block_level.max(start_level(config.s2sz))
+}
+
+/// Adds the links of a region of RAM, one for each of its runs.
+fn push_region(links: &mut Vec<Link>, least_level: u8, region: &Region) -> Result<(), NoMemory>
+    requires whole { IsRegion region.now.base region.now.end }
+    requires small { region.now.end ≤ 2 ^ 47 }
+    requires low { least_level ≤ 3 }
+    ensures { OnOk result (links.new.items ≡ links.old.items ++ map run_link (runs_of region.now.base region.now.end least_level)) }
+{
+    let mut x = region.base;
+    while x < region.end {
+        let run = run_from(region.base, region.end, least_level, x);
+        links.push(run_link(&run))?;
+        x = run.top;
+    }
+    Ok(())
+}
+
+/// The blocks of a run.
+fn run_link(run: &Run) -> Link
+    requires { run.now.base ≤ run.now.top }
+    ensures { result ≡ run_link run.now }
+{
+    let size = size_of_level(run.level);
+    Link::Blocks {
+        base: run.base,
+        size,
+        count: (run.top - run.base) / size,
+    }
+}
+
+/// Adds the link of an item, if it has pages.
+fn push_item(links: &mut Vec<Link>, algo: Algo, item: &PlacedItem) -> Result<(), NoMemory>
+    ensures { OnOk result (links.new.items ≡ links.old.items ++ item_links algo (Some item.now)) }
+{
+    if item.pages == 0 {
+        return Ok(());
+    }
+    let ipa = item.address.saturating_sub(item.lead);
+    let count = item.pages;
+    links.push(if item.measured {
+        let key = PageKey {
+            algo,
+            source: item.source,
+            lead: item.lead,
+            number: 0,
+        };
+        Link::Pages { ipa, key, count }
+    } else {
+        Link::Unmeasured { ipa, count }
+    })?;
+    Ok(())
+}
+
+/// Adds the link of a REC.
+fn push_rec(links: &mut Vec<Link>, algo: Algo, rec: &PlacedRec) -> Result<(), NoMemory>
+    ensures { OnOk result (links.new.items ≡ links.old.items ++ rec_links algo (Some rec.now)) }
+{
+    links.push(Link::Rec {
+        content: rec_content(algo, rec),
+    })?;
+    Ok(())
+}
+
+/// The measurement of a REC's page. Its MPIDR and its auxiliary granules are not measured.
+fn rec_content(algo: Algo, rec: &PlacedRec) -> Measurement
+    ensures { result.bytes ≡ measurement_of algo (rec_page_of (rec_params 0 rec.now [])) }
+{
+    let flags = if rec.runnable { 1 } else { 0 };
+    let params = RecParams::new(flags, 0, rec.pc, rec.x, &[]);
+    hash(algo, &rec_page(&params))
+}
+
+/// How many measured pages some links have.
+fn pages_of(links: &[Link]) -> usize
+    requires { length (keys_of links.now) < 2 ^ 32 }
+    ensures { result ≡ length (keys_of links.now) }
+{
+    let mut pages = 0;
+    for link in links {
+        pages += page_count(link) as usize;
+    }
+    pages
+}
