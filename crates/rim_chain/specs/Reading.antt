@@ -17,7 +17,7 @@ use Rattle.rim_chain.specs.Links.{PlanView, keys_of, parts_of}
 abbrev pub key_at : Algo → PlacedItem → ℕ → PageKey
 key_at algo item page = record { algo = algo; source = item.source; lead = item.lead; number = page }
 
--- the keys of an item's pages, where there is such an item and it is measured
+-- the keys of an item's pages, where such an item exists and is measured
 abbrev pub item_keys : Algo → Option PlacedItem → List PageKey
 item_keys algo None = []
 item_keys algo (Some item) = if item.measured then map (key_at algo item) (range_with_len 0 item.pages) else []

@@ -49,7 +49,7 @@ step_links l p (step.Ram n) = region_links (least_level l.config) (slice_get l.r
 step_links l p (step.Item n) = item_links l.config.algo (slice_get p.items n)
 step_links l p (step.Rec n) = rec_links l.config.algo (slice_get p.recs n)
 
--- a region, where there is one, is of whole pages in the lower half of 48 bits
+-- a region, where one exists, is of whole pages below 2^47
 abbrev pub IsReadableRegion : Option Region → Type 0
 IsReadableRegion None = ⊤
 IsReadableRegion (Some r) = IsRegion r.base r.end × (r.end ≤ 2 ^ 47)
