@@ -52,18 +52,18 @@ refused-front (c ∷ cs) a e others b = elim (cases_Bool c.1) [
 ]
 
 -- what the planner answered, as the list answers it
-pub plan-told : {A B : Type 0} (e : PlanFault) (planned : Result A PlanFault) (listed : Result B ListFault) → (planned ≡ Err e → listed ≡ Err (fault.Plan e))
+pub plan-refused : {A B : Type 0} (e : PlanFault) (planned : Result A PlanFault) (listed : Result B ListFault) → (planned ≡ Err e → listed ≡ Err (fault.Plan e))
     → (e ≡ plan.NoMemory) ⊎ (planned ≡ Err e) → (list_fault e ≡ fault.NoMemory) ⊎ (listed ≡ Err (list_fault e))
-plan-told plan.NoMemory planned listed on h = inl refl
-plan-told plan.OutsideProtected planned listed on (inl h) = absurd (cc)
-plan-told plan.OutsideProtected planned listed on (inr h) = inr (on h)
-plan-told plan.Unaligned planned listed on (inl h) = absurd (cc)
-plan-told plan.Unaligned planned listed on (inr h) = inr (on h)
-plan-told plan.RipasTwice planned listed on (inl h) = absurd (cc)
-plan-told plan.RipasTwice planned listed on (inr h) = inr (on h)
-plan-told plan.NotRam planned listed on (inl h) = absurd (cc)
-plan-told plan.NotRam planned listed on (inr h) = inr (on h)
-plan-told plan.DataTwice planned listed on (inl h) = absurd (cc)
-plan-told plan.DataTwice planned listed on (inr h) = inr (on h)
-plan-told plan.TooManyEntries planned listed on (inl h) = absurd (cc)
-plan-told plan.TooManyEntries planned listed on (inr h) = inr (on h)
+plan-refused plan.NoMemory planned listed on h = inl refl
+plan-refused plan.OutsideProtected planned listed on (inl h) = absurd (cc)
+plan-refused plan.OutsideProtected planned listed on (inr h) = inr (on h)
+plan-refused plan.Unaligned planned listed on (inl h) = absurd (cc)
+plan-refused plan.Unaligned planned listed on (inr h) = inr (on h)
+plan-refused plan.RipasTwice planned listed on (inl h) = absurd (cc)
+plan-refused plan.RipasTwice planned listed on (inr h) = inr (on h)
+plan-refused plan.NotRam planned listed on (inl h) = absurd (cc)
+plan-refused plan.NotRam planned listed on (inr h) = inr (on h)
+plan-refused plan.DataTwice planned listed on (inl h) = absurd (cc)
+plan-refused plan.DataTwice planned listed on (inr h) = inr (on h)
+plan-refused plan.TooManyEntries planned listed on (inl h) = absurd (cc)
+plan-refused plan.TooManyEntries planned listed on (inr h) = inr (on h)

@@ -12,7 +12,7 @@ use Rattle.ipa_layout.specs.Layout.{IsPlaced, PlacedData}
 use Rattle.ipa_layout.specs.declared.placed.PlacedItem.{PlacedItem}
 use Rattle.ipa_layout.proofs.PlacedFacts.{as-many-items, few-pages, lead-is}
 use Rattle.rmi_list.specs.inside.Drafts.{AreListable}
-use Rattle.rmi_list.specs.inside.Plans.{HasPlace}
+use Rattle.rmi_list.specs.Listed.{HasPlace}
 
 -- a part of a sum is no more than the sum
 part-le : (items : List PlacedItem) (n : ℕ) (i : PlacedItem) → slice_get items n ≡ Some i → i.pages ≤ sum_by (λ j. j.pages) items

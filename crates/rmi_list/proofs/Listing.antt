@@ -91,7 +91,7 @@ pub listing-ends : (l : LaunchData) (p : PlacedData) (d e : Draft) → IsListing
 unfolding list_steps
 listing-ends l p d e listing grows = listing.listed ∙ ap (λ es. Ok es) (sym grows.entries)
 
--- the end takes no granule, so that want of memory alone refuses it
+-- the end takes no granule, so it is refused only where memory is
 pub end-refused : (l : LaunchData) (p : PlacedData) (d : Draft) (e : ListFault) → IsListing l p d [] → Refuses d e (Whole Activate ∷ []) → e ≡ fault.NoMemory
 end-refused l p d e listing (inl memory) = memory
 end-refused l p d e listing (inr full) =

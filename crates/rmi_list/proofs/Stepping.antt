@@ -37,7 +37,7 @@ use Rattle.rmi_list.specs.inside.Acts.{HaveRoom}
 use Rattle.rmi_list.specs.declared.kept.Kept.TheVariants as kept
 use Rattle.rmi_list.specs.inside.Kept.{rec_entry}
 use Rattle.rmi_list.specs.inside.Drafts.{Continues, Grows, InPool, Lists, Makes, entries_in, entry_in, progress_of}
-use Rattle.rmi_list.proofs.Checking.{is-done, passed-front, plan-told, refused-front}
+use Rattle.rmi_list.proofs.Checking.{is-done, passed-front, plan-refused, refused-front}
 use Rattle.rmi_list.proofs.Growing.{Refuses, pool_of}
 
 -- ---- room for the pages of an item
@@ -115,7 +115,7 @@ region-refused old r e h =
     let c : Config = old.launch.now.config in
     let es : List Entry = region_entries c.pool_base old.taken old.tables r.base r.end in
     let made : Listing = record { entries = es; next = record (progress_of old) { plan = after_region old.tables r.base r.end; taken = old.taken + delegated es } } in
-    plan-told e (plan_region old.tables r.base r.end) (list_region c (progress_of old) r)
+    plan-refused e (plan_region old.tables r.base r.end) (list_region c (progress_of old) r)
     (refused-front (region_checks old.tables r.base r.end) (region_acts old.tables r.base r.end) e (pool_check c old.taken es ∷ []) made) h
 
 -- ---- items
@@ -146,7 +146,7 @@ item-refused old number item e some h =
     let es : List Entry = item_entries c.pool_base old.taken old.tables item.measured number base item.pages in
     let made : Listing = record { entries = es; next = record (progress_of old) { plan = after_data old.tables base item.pages; taken = old.taken + delegated es } } in
     let last : List (Check ListFault) = pool_check c old.taken es ∷ [] in
-    rw some (plan-told e (plan_data old.tables base item.pages) (unless_refused (plan_checks (data_checks old.tables base item.pages) ++ last) made)
+    rw some (plan-refused e (plan_data old.tables base item.pages) (unless_refused (plan_checks (data_checks old.tables base item.pages) ++ last) made)
     (refused-front (data_checks old.tables base item.pages) (data_acts old.tables base item.pages) e last made) h)
 
 pub item-idle : (old : Draft) (number : ℕ) (item : PlacedItem) → InPool old → eqb item.pages 0 ≡ true

@@ -17,7 +17,7 @@ use Rattle.rim_launch.specs.declared.config.Config.{Config}
 use Rattle.rim_launch.specs.declared.item.Region.{Region}
 use Rattle.rim_launch.specs.declared.step.Step.{Step}
 use Rattle.rim_launch.specs.declared.step.Step.TheVariants as step
-use Rattle.ipa_layout.specs.Layout.{PlacedData}
+use Rattle.ipa_layout.specs.Layout.{IsPlaced, PlacedData}
 use Rattle.ipa_layout.specs.declared.placed.PlacedItem.{PlacedItem}
 use Rattle.ipa_layout.specs.declared.rec.PlacedRec.{PlacedRec}
 use Rattle.rmi_list.specs.RecParams.{rec_params}
@@ -118,3 +118,7 @@ opening_checks c recs = (TooManyRecs, nat_lt rec_limit (length recs)) ∷ pool_c
 unfoldable pub listed : LaunchData → PlacedData → Result (List Entry) ListFault
 listed l p = unless_refused (opening_checks l.config p.recs) (opening_entries l.config)
     >>= λ first. with_front first (list_steps l p (opening l.config) l.steps)
+
+-- the launch has its place, with some files: what a call asks that lists it
+abbrev pub HasPlace : LaunchData → PlacedData → Type 0
+HasPlace l p = (files : List (List ℕ)) × IsPlaced l files p

@@ -3,11 +3,10 @@ ghost use Rattle.std.specs.Prelude.{◌≡◌, ◌+◌, ◌<◌, ◌≤◌, ◌^
 ghost use Rattle.refusal.specs.Answer.{Answers};
 ghost use Rattle.rmm_model.specs.Blocks.{granules};
 ghost use Rattle.list_model.specs.Entries.{Whole, command_of, delegated, granule, page_of};
-ghost use Rattle.rmi_list.specs.Listed.{listed, opening, opening_entries};
+ghost use Rattle.rmi_list.specs.Listed.{HasPlace, listed, opening, opening_entries};
 ghost use Rattle.rmi_list.specs.declared.fault.ListFault.{ListFault};
 ghost use Rattle.rmi_list.specs.inside.Drafts.{InPool, entries_in, progress_of};
 ghost use Rattle.rmi_list.specs.inside.Kept.{rec_entry};
-ghost use Rattle.rmi_list.specs.inside.Plans.{HasPlace};
 
 use crate::draft::Draft;
 use crate::fault::ListFault;

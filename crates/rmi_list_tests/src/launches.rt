@@ -1,7 +1,7 @@
 //! The launches of the rows.
 ghost use Rattle.std.specs.Prelude.{◌≡◌, IfOk, length, true};
 ghost use Rattle.rim_launch.specs.LaunchData.{has_files};
-ghost use Rattle.rmi_list.specs.inside.Plans.{HasPlace};
+ghost use Rattle.rmi_list.specs.Listed.{HasPlace};
 
 use ipa_layout::{Placed, place};
 use rim_launch::{Config, Item, Kind, Launch, Rec, Region, Step, default_steps};
@@ -94,7 +94,8 @@ pub fn list_of(alloc: Global, launch: &Launch) -> Result<Result<Plan, ListFault>
     Ok(list(alloc, launch, &placed))
 }
 
-fn placed_of(alloc: Global, launch: &Launch, files: &[Vec<u8>]) -> Result<Placed, Fail>
+/// The place of a launch with these files.
+pub fn placed_of(alloc: Global, launch: &Launch, files: &[Vec<u8>]) -> Result<Placed, Fail>
     requires { has_files launch.now (length files.now) ≡ true }
     ensures { IfOk result (λ placed. HasPlace launch.now placed) }
 {

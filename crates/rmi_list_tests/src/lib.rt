@@ -1,6 +1,9 @@
-//! Tests of lists: the commands of worked launches, the monitor that follows them, and the refusals at their edges.
+//! Tests of lists: the commands of worked launches, the monitor that follows them, the refusals at their edges; and the
+//! chains of such launches.
 #![tactic(auto)]
 
+#[cfg(test)]
+mod chains;
 #[cfg(test)]
 mod launches;
 #[cfg(test)]

@@ -88,7 +88,7 @@ const GIB: u64 = 0x4000_0000;
 
 const MIB_2: u64 = 0x20_0000;
 
-const ROWS: [(&str, Config, Parts, &[Measured]); 7] = [
+const ROWS: [(&str, Config, Parts, &[Measured]); 10] = [
     (
         "one region that ends past 2 MiB",
         CONFIG,
@@ -164,6 +164,49 @@ const ROWS: [(&str, Config, Parts, &[Measured]); 7] = [
             Measured::Page(GIB, true),
             Measured::Page(0x4000_1000, true),
             Measured::Blocks(0xc000_0000, 1, MIB_2),
+        ],
+    ),
+    (
+        "IPAs of 32 bits, up to the end of the protected half",
+        config!(32, 0, 0, 16_777_216),
+        Parts {
+            ram: &[(0x7fe0_0000, 0x8000_0000)],
+            items: &[(0x7fff_f000, 4096, true)],
+            recs: &[],
+            steps: &[],
+        },
+        &[
+            Measured::Blocks(0x7fe0_0000, 1, MIB_2),
+            Measured::Page(0x7fff_f000, true),
+        ],
+    ),
+    (
+        "IPAs of 48 bits, and a block of 512 GiB",
+        config!(48, 0, 0, 16_777_216),
+        Parts {
+            ram: &[(0x7f80_0000_0000, 0x8000_0000_0000)],
+            items: &[(0x7fff_ffff_f000, 4096, true)],
+            recs: &[],
+            steps: &[],
+        },
+        &[
+            Measured::Blocks(0x7f80_0000_0000, 1, 0x80_0000_0000),
+            Measured::Page(0x7fff_ffff_f000, true),
+        ],
+    ),
+    (
+        "IPAs of 43 bits, and a region around blocks of 1 GiB",
+        config!(43, 0, 0, 16_777_216),
+        Parts {
+            ram: &[(0x3fff_f000, 0xc000_1000)],
+            items: &[],
+            recs: &[],
+            steps: &[],
+        },
+        &[
+            Measured::Blocks(0x3fff_f000, 1, 4096),
+            Measured::Blocks(GIB, 2, GIB),
+            Measured::Blocks(0xc000_0000, 1, 4096),
         ],
     ),
     (

@@ -1,8 +1,6 @@
 -- What contracts see of a plan, and what its type keeps. This project's choice.
 use Rattle.std.specs.Prelude.{ℕ, ◌<◌, ◌≤◌, ◌^◌, List, length}
 use Rattle.list_model.specs.Entries.{Entry}
-use Rattle.rim_launch.specs.LaunchData.{LaunchData}
-use Rattle.ipa_layout.specs.Layout.{IsPlaced, PlacedData}
 use Rattle.rmi_list.specs.declared.plan.Plan.TheInside.{Inside}
 use Rattle.rmi_list.specs.inside.Kept.{entries_of}
 
@@ -15,7 +13,3 @@ pub record IsWellFormed (p : Inside) : Type 0 where
   pub pool : p.params.rtt_base < 2 ^ 48
   pub aux : p.num_aux ≤ 16
   pub few : length p.recs.items ≤ 512
-
--- the launch has its place, with some files
-abbrev pub HasPlace : LaunchData → PlacedData → Type 0
-HasPlace l p = (files : List (List ℕ)) × IsPlaced l files p

@@ -1,0 +1,217 @@
+//! The chain of a launch is what a monitor holds after the launch's list: both are made of the digests of its pages.
+ghost use Rattle.std.specs.Prelude.{◌≡◌, ◌<◌, length, Ok};
+ghost use Rattle.rim_desc.specs.declared.measurement.Algo.TheVariants.{Sha256};
+ghost use Rattle.rmi_list.specs.Listed.{listed};
+
+use crate::launches::{Parts, WIDE, config, launch_of, placed_of};
+use ipa_layout::{Placed, PlacedItem};
+use page_jobs::{Blob, DigestRow, Page, PageJob, Table, distinct_pages};
+use rim_chain::{LaunchPlan, chain};
+use rim_desc::{Algo, Measurement};
+use rim_launch::{Config, Launch, Step};
+use rmi_list::{Plan, list};
+use rmm_monitor::Monitor;
+use std::alloc::Global;
+use std::process::Abort;
+use std::test::Fail;
+
+/// A page of an item whose bytes are these.
+fn page_of<'a>(item: &PlacedItem, bytes: &'a [u8], page: u64) -> Option<Page<'a>> {
+    if item.lead < 4096 && page < 0x10_0000 {
+        Some(Blob::new(item.source, item.lead, bytes).page(Algo::Sha256, page))
+    } else {
+        None
+    }
+}
+
+/// The measured pages of a list, each as often as it is created.
+fn pages_of<'a>(
+    alloc: Global,
+    placed: &'a Placed,
+    plan: &Plan,
+    files: &'a [Vec<u8>],
+) -> Result<Vec<Page<'a>>, Fail> {
+    let mut pages = Vec::new(alloc);
+    for index in 0..plan.len() {
+        if let Some((number, page)) = plan.page_of(index)
+            && let Some(item) = placed.items().get(number)
+            && let Some(page) = page_of(item, placed.bytes(files, item.source), page)
+        {
+            pages.push(page)?;
+        }
+    }
+    Ok(pages)
+}
+
+/// Puts the digest of each page into its slot.
+fn fill(table: &mut Table) {
+    for (slot, page) in table.pages().iter().enumerate() {
+        let _ = table.fill(slot, PageJob::new(*page).run());
+    }
+}
+
+/// The digest of a command's page, where it creates a measured one: the next of those that are left.
+fn next_content(plan: &Plan, index: usize, rest: &mut &[Measurement]) -> Measurement
+    requires { index < length plan.now }
+{
+    if plan.page_of(index).is_some()
+        && let Some((first, others)) = rest.split_first()
+    {
+        *rest = others;
+        *first
+    } else {
+        Measurement { bytes: [0; 64] }
+    }
+}
+
+/// What a monitor holds after the commands of a list, whose measured pages have these digests in order.
+fn followed(
+    alloc: Global,
+    launch: &Launch,
+    plan: &Plan,
+    digests: &[Measurement],
+) -> Result<Option<Measurement>, Fail> {
+    let mut monitor = Monitor::new(alloc, launch.config().num_aux);
+    let mut rest = digests;
+    for index in 0..plan.len() {
+        let content = next_content(plan, index, &mut rest);
+        if monitor.apply(&plan.command(index, &content)).is_err() {
+            return Err("a command is refused".into());
+        }
+    }
+    Ok(monitor.rim())
+}
+
+/// The digests of a launch's measured pages in a table, in order, and their chain.
+fn chained(
+    alloc: Global,
+    launch: &Launch,
+    placed: &Placed,
+    commands: &Plan,
+    table: &Table,
+) -> Result<(DigestRow, Measurement), Fail>
+    requires algo { launch.now.config.algo ≡ Sha256 }
+    requires list { listed launch.now placed.now ≡ Ok commands.now }
+{
+    let plan = LaunchPlan::read(alloc, Algo::Sha256, launch, placed, commands)?;
+    let mut row = DigestRow::reserve(alloc, plan.pages())?;
+    if !plan.fill_row(table, &mut row) {
+        return Err("a page has no digest".into());
+    }
+    let rim = chain(&plan, &row);
+    Ok((row, rim))
+}
+
+/// The digests of a launch's measured pages, their chain, and what a monitor holds after its list.
+fn both(
+    alloc: Global,
+    launch: &Launch,
+    placed: &Placed,
+    commands: &Plan,
+    files: &[Vec<u8>],
+) -> Result<(usize, Measurement, Option<Measurement>), Fail>
+    requires algo { launch.now.config.algo ≡ Sha256 }
+    requires list { listed launch.now placed.now ≡ Ok commands.now }
+{
+    let mut pages = pages_of(alloc, placed, commands, files)?;
+    distinct_pages(&mut pages);
+    let mut table = Table::reserve(alloc, &pages)?;
+    fill(&mut table);
+    let (row, rim) = chained(alloc, launch, placed, commands, &table)?;
+    let held = followed(alloc, launch, commands, row.digests())?;
+    Ok((row.digests().len(), rim, held))
+}
+
+fn check(
+    rt: &impl Abort,
+    alloc: Global,
+    config: &Config,
+    parts: &Parts,
+    measured: usize,
+) -> Result<(), Fail> {
+    let Some(launch) = launch_of(alloc, config, parts)? else {
+        return Err("no launch".into());
+    };
+    let files = Vec::from_array(alloc, [Vec::from_slice(alloc, &[7])?, Vec::new(alloc)])?;
+    if !launch.has_files(files.len()) || launch.config().algo != Algo::Sha256 {
+        return Err("no files".into());
+    }
+    let placed = placed_of(alloc, &launch, &files)?;
+    let Ok(commands) = list(alloc, &launch, &placed) else {
+        return Err("no list".into());
+    };
+    let (pages, rim, held) = both(alloc, &launch, &placed, &commands, &files)?;
+    assert_eq!(rt; pages, measured);
+    assert_eq!(rt; held, Some(rim));
+    Ok(())
+}
+
+const GIB: u64 = 0x4000_0000;
+
+/// A configuration, the parts of a launch, and how many measured pages it has.
+const ROWS: [(&str, Config, Parts, usize); 4] = [
+    (
+        "nothing but a realm",
+        WIDE,
+        Parts {
+            ram: &[],
+            items: &[],
+            recs: &[],
+            steps: &[],
+        },
+        0,
+    ),
+    (
+        "a page of data that is not measured in a block of 1 GiB",
+        WIDE,
+        Parts {
+            ram: &[(GIB, 0xc000_0000)],
+            items: &[(GIB, 4096, false)],
+            recs: &[],
+            steps: &[],
+        },
+        0,
+    ),
+    (
+        "pages with and without a lead, and a second region by a later step",
+        WIDE,
+        Parts {
+            ram: &[(GIB, 0xc000_0000), (0xc000_0000, 0xc020_0000)],
+            items: &[
+                (GIB, 8192, true),
+                (0x4010_0004, 4096, true),
+                (0x4020_0000, 12288, false),
+                (0x4030_0000, 0, true),
+            ],
+            recs: &[],
+            steps: &[
+                Step::Ram(0),
+                Step::Item(1),
+                Step::Item(2),
+                Step::Item(0),
+                Step::Item(3),
+                Step::Ram(1),
+            ],
+        },
+        4,
+    ),
+    (
+        "pages of RAM, a page of data and two RECs with auxiliary granules",
+        config!(33, 3, 2, 16_777_216),
+        Parts {
+            ram: &[(GIB, 0x4020_2000)],
+            items: &[(0x4020_1000, 4096, true)],
+            recs: &[true, true],
+            steps: &[],
+        },
+        1,
+    ),
+];
+
+#[test]
+fn chains_are_what_a_monitor_holds(rt: HostRuntime) -> Result<(), Fail> {
+    for (_, config, parts, measured) in &ROWS {
+        check(&rt, rt.alloc(), config, parts, *measured)?;
+    }
+    Ok(())
+}
