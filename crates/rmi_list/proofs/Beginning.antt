@@ -1,5 +1,5 @@
 -- The begin of a list: the granules of the start tables, that of the realm descriptor, and the realm.
-use Rattle.std.proofs.Common.{inl, inr, ◌≡◌, ℕ, ◌+◌, ◌*◌, ◌<◌, ◌∙◌, sym, ap, subst, arith, List, [], ◌∷◌, ◌++◌, ◌⊎◌, append_assoc}
+use Rattle.std.proofs.Common.{inl, inr, ◌≡◌, ℕ, ◌+◌, ◌*◌, ◌<◌, ◌∙◌, sym, refl, ap, subst, arith, List, [], ◌∷◌, ◌++◌, ◌⊎◌, append_assoc}
 use Rattle.std.proofs.lemmas.List.{map-append}
 use Rattle.rim_desc.specs.declared.command.Command.TheVariants.{Delegate, RealmCreate}
 use Rattle.rmm_model.specs.Blocks.{granules}
@@ -16,7 +16,7 @@ use Rattle.rmi_list.specs.declared.kept.Kept.TheVariants as kept
 use Rattle.rmi_list.specs.Listed.{opening_entries}
 use Rattle.rmi_list.specs.inside.Drafts.{Grows, entry_in}
 use Rattle.rmi_list.proofs.Growing.{Refuses, pool_of}
-use Rattle.rmi_list.proofs.Stepping.{grows-then}
+use Rattle.rmi_list.proofs.Stepping.{grows-then, refused-first, refused-later}
 
 abbrev pub table_granules : Config → List Entry
 table_granules c = delegate_all (granules (start_count c.s2sz) (granule c.pool_base 0))
@@ -88,3 +88,38 @@ opening-refused c d e fresh (inr full) =
     let size : d.launch.now.config.pool_count ≡ c.pool_count = ap (λ (k : Config). k.pool_count) fresh.config in
     let same : delegated (opening_entries c) ≡ delegated es = ap delegated (opening-split c) in
     inr (full.0, omega arith)
+
+-- ---- the begin as the code makes it, from a draft that has taken nothing
+
+-- the granules of n start tables are those of the launch's, where n is the number that its configuration asks for
+first-tables : (d : Draft) (asked : Config) (n : ℕ) → asked ≡ d.launch.now.config → n ≡ start_count asked.s2sz → d.taken ≡ 0
+    → delegate_all (granules n (granule (pool_of d) d.taken)) ≡ table_granules d.launch.now.config
+first-tables d asked n config count none =
+    tables-same d.launch.now.config d n (record { config = refl; taken = none }) (count ∙ ap (λ (c : Config). start_count c.s2sz) config)
+
+pub first-grows : (d e f g : Draft) (asked : Config) (n rd : ℕ) → asked ≡ d.launch.now.config → n ≡ start_count asked.s2sz → d.taken ≡ 0
+    → Grows d e (delegate_all (granules n (granule (pool_of d) d.taken))) → Grows e f (Whole (Delegate (granule (pool_of e) e.taken)) ∷ []) → rd ≡ e.taken
+    → Grows f g (entry_in f (kept.RealmCreate rd) ∷ []) → Grows d g (opening_entries d.launch.now.config)
+first-grows d e f g asked n rd config count none grown next at realm =
+    let c : Config = d.launch.now.config in
+    let fresh : IsFresh c d = record { config = refl; taken = none } in
+    let tables : Grows d e (table_granules c) = rw (← first-tables d asked n config count none) grown in
+    let descriptor : Grows e f (descriptor_granule c) = rw (← descriptor-same c d e fresh tables) next in
+    opening-grows c d e f g rd fresh tables descriptor at realm
+
+pub first-tables-refused : (d : Draft) (e : ListFault) (asked : Config) (n : ℕ) → asked ≡ d.launch.now.config → n ≡ start_count asked.s2sz → d.taken ≡ 0
+    → Refuses d e (delegate_all (granules n (granule (pool_of d) d.taken)))
+    → (e ≡ fault.NoMemory) ⊎ ((e ≡ fault.PoolEnd) × (d.launch.now.config.pool_count < delegated (opening_entries d.launch.now.config)))
+first-tables-refused d e asked n config count none refuses =
+    let c : Config = d.launch.now.config in
+    let refused : Refuses d e (table_granules c) = rw (← first-tables d asked n config count none) refuses in
+    opening-refused c d e (record { config = refl; taken = none }) (refused-first d e (table_granules c) (descriptor_granule c ++ realm_itself c) refused)
+
+pub first-descriptor-refused : (d b : Draft) (e : ListFault) (asked : Config) (n : ℕ) → asked ≡ d.launch.now.config → n ≡ start_count asked.s2sz → d.taken ≡ 0
+    → Grows d b (delegate_all (granules n (granule (pool_of d) d.taken))) → Refuses b e (descriptor_granule d.launch.now.config)
+    → (e ≡ fault.NoMemory) ⊎ ((e ≡ fault.PoolEnd) × (d.launch.now.config.pool_count < delegated (opening_entries d.launch.now.config)))
+first-descriptor-refused d b e asked n config count none grown refuses =
+    let c : Config = d.launch.now.config in
+    let tables : Grows d b (table_granules c) = rw (← first-tables d asked n config count none) grown in
+    opening-refused c d e (record { config = refl; taken = none })
+    (refused-later d b e (table_granules c) (descriptor_granule c ++ realm_itself c) tables (refused-first b e (descriptor_granule c) (realm_itself c) refuses))
