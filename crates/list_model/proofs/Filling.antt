@@ -49,7 +49,7 @@ with_page w x = record w { space = record w.space { assigned = x ∷ w.space.ass
 same-filled : (s t : Space) (x : ℕ) → SameSpace s t → SameSpace (after_page s x) (record t { assigned = x ∷ t.assigned })
 same-filled s t x same = record {
   start = same.start;
-  half = same.half;
+  protected_end = same.protected_end;
   tables = same.tables;
   ram = same.ram;
   ranges = same.ranges;
@@ -75,7 +75,7 @@ page-built b w s x content built = record {
 
 page-leads : (contents : Contents) (measured : Bool) (item page : ℕ) (b : Build) (w v : Built) (s : State) (x : ℕ) (cs : List Command) (qs : List Part)
     → IsBuilt b w s → AreContents b.params.algo contents → CanGetData w.space.start w.space.tables w.space.ram w.space.assigned x
-    → x % 4096 ≡ 0 → x < w.space.half
+    → x % 4096 ≡ 0 → x < w.space.protected_end
     → ((u : State) → IsBuilt b (with_page w x) u → Leads b v u cs qs)
     → let g = granule b.pool w.taken in
     Leads b v s (Delegate g ∷ command_of contents (page_entry measured g x item page) ∷ cs) (page_part measured contents item x page ∷ qs)
@@ -86,7 +86,7 @@ page-leads contents measured item page b w v s x cs qs built good can at inside 
     let g_at : g % 4096 ≡ 0 = omega (arith, built.pool) in
     let delegated : step s (Delegate g) ≡ Ok s1 = delegate-taken s g g_at (built.free g (omega arith)) in
     let walked : walk_of s.space x ≡ 3 = walk-same s.space w.space x built.space ∙ can.ends in
-    let half : s.space.half ≡ w.space.half = built.space.half in
+    let protected_end : s.space.protected_end ≡ w.space.protected_end = built.space.protected_end in
     let algo : algo_of s.params ≡ b.params.algo = rw built.params refl in
     let fine : is_bad_content (algo_of s.params) content ≡ false = rw algo (good-content b.params.algo contents measured item page good) in
     let taken = data_create-taken s1 g x content built.new fine g_at at (omega arith) walked (built.space.ram x ∙ can.in_ram)
@@ -117,7 +117,7 @@ with_pages pool w measured item k xs = record w {
 
 pub pages-lead : (contents : Contents) (measured : Bool) (item : ℕ) (b : Build) (count k x : ℕ) (w : Built) (s : State) → IsBuilt b w s
     → AreContents b.params.algo contents → AreFilledInTurn w.space.start w.space.tables w.space.ram w.space.assigned (granules count x)
-    → x % 4096 ≡ 0 → x + 4096 * count ≤ w.space.half
+    → x % 4096 ≡ 0 → x + 4096 * count ≤ w.space.protected_end
     → Leads b (with_pages b.pool w measured item k (granules count x)) s
     (commands_of contents (page_entries b.pool w.taken w.space.start w.space.tables measured item k (granules count x)))
     (parts_from measured contents item k (granules count x))
@@ -136,7 +136,7 @@ pages-lead contents measured item b (suc count) k x w s built good filled at ins
     let all : Built = with_pages b.pool w2 measured item (k + 1) xs in
     let parts : List Part = parts_from measured contents item (k + 1) xs in
     let first : Leads b w1 s (commands_of contents (table_entries b.pool w.taken new)) [] =
-    tables-lead contents b new w s built (filled.0) (are-inside start w.space.tables 3 x w.space.half (omega arith)) in
+    tables-lead contents b new w s built (filled.0) (are-inside start w.space.tables 3 x w.space.protected_end (omega arith)) in
     let later : (u : State) → IsBuilt b w2 u → Leads b all u (commands_of contents rest) parts =
     λ u then. pages-lead contents measured item b count (k + 1) (x + 4096) w2 u then good (filled.2) (omega arith) (omega arith) in
     let whole = leads-then b w1 all s (commands_of contents (table_entries b.pool w.taken new))

@@ -29,12 +29,12 @@ use Rattle.list_model.proofs.Leading.{leads-cons, leads-none, not-empty}
 -- ---- tables of the protected half
 
 abbrev pub are_inside : ℕ → List Table → Bool
-are_inside half ts = list_all (λ t. nat_lt t.base half) ts
+are_inside protected_end ts = list_all (λ t. nat_lt t.base protected_end) ts
 
-missing-inside : (ts : List Table) (half x n j : ℕ) → x < half → are_inside half (filter (λ t. not (made ts t.level t.base)) (needed n j x)) ≡ true
+missing-inside : (ts : List Table) (protected_end x n j : ℕ) → x < protected_end → are_inside protected_end (filter (λ t. not (made ts t.level t.base)) (needed n j x)) ≡ true
 unfolding needed
-missing-inside ts half x zero j inside = refl
-missing-inside ts half x (suc n) j inside = by_test (missing-inside ts half x n (suc j) inside) (made ts (suc j) (down (span (suc j)) x))
+missing-inside ts protected_end x zero j inside = refl
+missing-inside ts protected_end x (suc n) j inside = by_test (missing-inside ts protected_end x n (suc j) inside) (made ts (suc j) (down (span (suc j)) x))
   where
     t : Table
     t = record { level = suc j; base = down (span (suc j)) x }
@@ -42,15 +42,15 @@ missing-inside ts half x (suc n) j inside = by_test (missing-inside ts half x n 
     rest : List Table
     rest = filter (λ t. not (made ts t.level t.base)) (needed n (suc j) x)
 
-    here : nat_lt t.base half ≡ true
+    here : nat_lt t.base protected_end ≡ true
     here = let low : down (span (suc j)) x ≤ x = down-le (span (suc j)) x in grind (arith, nat_tests)
 
-    by_test : are_inside half rest ≡ true → (c : Bool) → are_inside half (cond (not c) (t ∷ rest) rest) ≡ true
+    by_test : are_inside protected_end rest ≡ true → (c : Bool) → are_inside protected_end (cond (not c) (t ∷ rest) rest) ≡ true
     by_test others true = others
     by_test others false = rw (here, others) refl
 
-pub are-inside : (start : ℕ) (ts : List Table) (l x half : ℕ) → x < half → are_inside half (missing start ts l x) ≡ true
-are-inside start ts l x half inside = missing-inside ts half x (l - start) start inside
+pub are-inside : (start : ℕ) (ts : List Table) (l x protected_end : ℕ) → x < protected_end → are_inside protected_end (missing start ts l x) ≡ true
+are-inside start ts l x protected_end inside = missing-inside ts protected_end x (l - start) start inside
 
 -- ---- one table
 
@@ -65,7 +65,7 @@ with_tables w ts = record w { space = record w.space { tables = w.space.tables +
 same-more : (s t : Space) (u : Table) → SameSpace s t → SameSpace (after_table s u.level u.base) (record t { tables = t.tables ++ u ∷ [] })
 same-more s t u same = record {
   start = same.start;
-  half = same.half;
+  protected_end = same.protected_end;
   tables = insert-alike s.tables t.tables u same.tables;
   ram = same.ram;
   ranges = same.ranges;
@@ -89,7 +89,7 @@ table-built b w s t built = record {
 }
 
 table-leads : (contents : Contents) (b : Build) (w v : Built) (s : State) (t : Table) (cs : List Command) → IsBuilt b w s
-    → CanBeMade w.space.start w.space.tables t → t.base < w.space.half
+    → CanBeMade w.space.start w.space.tables t → t.base < w.space.protected_end
     → ((u : State) → IsBuilt b (with_tables w (t ∷ [])) u → Leads b v u cs [])
     → Leads b v s (Delegate (granule b.pool w.taken) ∷ RttCreate (granule b.pool w.taken) t.base t.level ∷ cs) []
 table-leads contents b w v s t cs built can inside later =
@@ -103,7 +103,7 @@ table-leads contents b w v s t cs built can inside later =
     let spanned : span t.level ≡ size (t.level - 1) = span-above t.level (omega arith) deepest in
     let place : t.base % size (t.level - 1) ≡ 0 = multiple-of (size (t.level - 1)) t.base (rw (← spanned) can.base_at) in
     let start : s.space.start ≡ w.space.start = built.space.start in
-    let half : s.space.half ≡ w.space.half = built.space.half in
+    let protected_end : s.space.protected_end ≡ w.space.protected_end = built.space.protected_end in
     let made_it : step s1 (RttCreate g t.base t.level) ≡ Ok (changed s1 (RttCreate g t.base t.level)) =
     rtt_create-taken s1 g t.base t.level (not-empty s.phase built.new) (omega arith) deepest g_at place (omega arith) walked (kind_of-here s.owners g kind.Delegated) in
     leads-cons b v s s1 (Delegate g) (RttCreate g t.base t.level ∷ cs) [] [] delegated refl
@@ -113,7 +113,7 @@ table-leads contents b w v s t cs built can inside later =
 -- ---- some tables
 
 pub tables-lead : (contents : Contents) (b : Build) (new : List Table) (w : Built) (s : State) → IsBuilt b w s
-    → AreMadeInTurn w.space.start w.space.tables new → are_inside w.space.half new ≡ true
+    → AreMadeInTurn w.space.start w.space.tables new → are_inside w.space.protected_end new ≡ true
     → Leads b (with_tables w new) s (commands_of contents (table_entries b.pool w.taken new)) []
 unfolding AreMadeInTurn table_entries
 tables-lead contents b [] w s built made inside =
@@ -121,7 +121,7 @@ tables-lead contents b [] w s built made inside =
     let f : w.taken + 0 ≡ w.taken = omega arith in
     leads-none b (with_tables w []) s (rw (e, f) built)
 tables-lead contents b (t ∷ new) w s built made inside =
-    let parts = and_parts (nat_lt t.base w.space.half) (are_inside w.space.half new) inside in
+    let parts = and_parts (nat_lt t.base w.space.protected_end) (are_inside w.space.protected_end new) inside in
     let e : (w.space.tables ++ t ∷ []) ++ new ≡ w.space.tables ++ (t ∷ new) = append_assoc w.space.tables (t ∷ []) new in
     let f : (w.taken + 1) + length new ≡ w.taken + length (t ∷ new) = omega arith in
     table-leads contents b w (with_tables w (t ∷ new)) s t (commands_of contents (table_entries b.pool (w.taken + 1) new)) built (made.0) (grind (arith, nat_tests))

@@ -37,7 +37,7 @@ same-set : (s t : Space) (base top : ℕ) → are_some s.ram ≡ true → base <
     → SameSpace (after_run s base top) (record t { ram = (base, top) ∷ t.ram })
 same-set s t base top some lt free same = record {
   start = same.start;
-  half = same.half;
+  protected_end = same.protected_end;
   tables = same.tables;
   ram = λ x. is_ram-insert s.ram base top x some lt free ∙ ap (λ old. (leb base x && ltb x top) || old) (same.ram x);
   ranges = λ from to below. overlaps-insert s.ram base top from to some lt free ∙ ap (λ old. (ltb base to && ltb from top) || old) (same.ranges from to below);
@@ -78,7 +78,7 @@ abbrev blocks_in : Run → List (ℕ × ℕ)
 blocks_in r = stretches ((r.top - r.base) / size r.level) (size r.level) r.base
 
 run-leads : (b : Build) (w v : Built) (s : State) (least_level : ℕ) (r : Run) (cs : List Command) (qs : List Part) → IsBuilt b w s
-    → CanBeSet w.space.start w.space.tables w.space.ram r → IsRun least_level r → r.top ≤ w.space.half
+    → CanBeSet w.space.start w.space.tables w.space.ram r → IsRun least_level r → r.top ≤ w.space.protected_end
     → ((u : State) → IsBuilt b (with_run w r) u → Leads b v u cs qs)
     → Leads b v s (InitRipas r.base r.top ∷ cs) (ripas_parts (blocks_in r) ++ qs)
 run-leads b w v s least_level r cs qs built can run inside later =
@@ -86,7 +86,7 @@ run-leads b w v s least_level r cs qs built can run inside later =
     let walked : walk_of s.space r.base ≡ r.level = walk-same s.space w.space r.base built.space ∙ can.ends in
     let free : overlaps s.space.ram r.base r.top ≡ false = built.space.ranges r.base r.top some ∙ can.free in
     let none : deeper s.space.tables r.level r.base r.top ≡ false = deeper-alike s.space.tables w.space.tables r.level r.base r.top built.space.tables ∙ can.none_deeper in
-    let half : s.space.half ≡ w.space.half = built.space.half in
+    let protected_end : s.space.protected_end ≡ w.space.protected_end = built.space.protected_end in
     let page_base : r.base % 4096 ≡ 0 = page-multiple r.base (down-size r.level 3 r.base run.deepest run.base_at) in
     let page_top : r.top % 4096 ≡ 0 = page-multiple r.top (down-size r.level 3 r.top run.deepest run.top_at) in
     let next : State = measured (changed s (InitRipas r.base r.top)) (parts s (InitRipas r.base r.top)) in
@@ -111,7 +111,7 @@ with_runs pool w rs = record w {
 }
 
 pub runs-lead : (contents : Contents) (b : Build) (least_level end : ℕ) (rs : List Run) (x : ℕ) (w : Built) (s : State) → IsBuilt b w s
-    → AreSetInTurn w.space.start w.space.tables w.space.ram rs → AreRuns least_level x end rs → end ≤ w.space.half
+    → AreSetInTurn w.space.start w.space.tables w.space.ram rs → AreRuns least_level x end rs → end ≤ w.space.protected_end
     → Leads b (with_runs b.pool w rs) s (commands_of contents (run_entries b.pool w.taken w.space.start w.space.tables rs)) (ripas_parts (blocks_of rs))
 unfolding AreSetInTurn AreRuns run_entries run_tables blocks_of piled
 runs-lead contents b least_level end [] x w s built set runs inside =
@@ -127,7 +127,7 @@ runs-lead contents b least_level end (r ∷ rs) x w s built set runs inside =
     let rest : List Entry = run_entries b.pool (w.taken + length new) w.space.start (w.space.tables ++ new) rs in
     let all : Built = with_runs b.pool w2 rs in
     let first : Leads b w1 s (commands_of contents (table_entries b.pool w.taken new)) [] =
-    tables-lead contents b new w s built (set.0) (are-inside w.space.start w.space.tables r.level r.base w.space.half (omega arith)) in
+    tables-lead contents b new w s built (set.0) (are-inside w.space.start w.space.tables r.level r.base w.space.protected_end (omega arith)) in
     let later : (u : State) → IsBuilt b w2 u → Leads b all u (commands_of contents rest) (ripas_parts (blocks_of rs)) =
     λ u then. runs-lead contents b least_level end rs r.top w2 u then (set.2) (runs.3) inside in
     let whole = leads-then b w1 all s (commands_of contents (table_entries b.pool w.taken new)) (InitRipas r.base r.top ∷ commands_of contents rest)

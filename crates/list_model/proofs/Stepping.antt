@@ -104,7 +104,7 @@ region-leads contents b p n recs base end s built is_planned lt accepts =
     let after : Built = planned (after_region p base end) (n + delegated (region_entries b.pool n p base end)) recs in
     let same : SameSpace (with_runs b.pool (planned p n recs) rs).space after.space = record {
       start = refl;
-      half = refl;
+      protected_end = refl;
       tables = λ level at. refl;
       ram = same_ram;
       ranges = λ from to below. overlaps-same (piled rs ram) (ram ++ (base, end) ∷ []) some some_after same_ram from to below;
@@ -159,7 +159,7 @@ item-leads contents b p n recs measured item base count s built is_planned good 
     let after : Built = planned (after_data p base count) (n + delegated (item_entries b.pool n p measured item base count)) recs in
     let same : SameSpace (with_pages b.pool (planned p n recs) measured item 0 xs).space after.space = record {
       start = refl;
-      half = refl;
+      protected_end = refl;
       tables = λ level at. refl;
       ram = λ x. refl;
       ranges = λ from to below. refl;

@@ -45,7 +45,7 @@ last-off (c ∷ cs) last off = last-off cs last ((or_parts (c.1) (holds (cs ++ l
 
 -- what was listed so far is within bounds
 record IsBounded (c : Config) (w : Progress) : Type 0 where
-  half : w.plan.space.half ≤ 2 ^ 47
+  protected_end : w.plan.space.protected_end ≤ 2 ^ 47
   pool : w.taken ≤ c.pool_count
 
 -- some links fit, and have no more keys than granules were taken
@@ -80,8 +80,8 @@ region-read c w r done is_bounded at =
     let same : made ≡ done = is-done checks made done at in
     let none : holds checks ≡ false = none-holds checks made done at in
     let accepts = region-accepted w.plan r.base r.end (plan-off (region_checks w.plan r.base r.end) (last ∷ []) none) in
-    let half : w.plan.space.half ≤ 2 ^ 47 = is_bounded.half in
-    let inside : r.end ≤ w.plan.space.half = accepts.inside in
+    let protected_end : w.plan.space.protected_end ≤ 2 ^ 47 = is_bounded.protected_end in
+    let inside : r.end ≤ w.plan.space.protected_end = accepts.inside in
     let small : r.end ≤ 2 ^ 47 = omega arith in
     let room : w.taken + delegated entries ≤ c.pool_count = ltb-false c.pool_count (w.taken + delegated entries) (last-off (plan_checks (region_checks w.plan r.base r.end)) last none) in
     let runs = region-runs (least_level c) r.base r.end (least_level c) (omega arith) accepts.whole (least-low c c.level) r.ordered in
@@ -90,7 +90,7 @@ region-read c w r done is_bounded at =
       read = record {
         fit = runs-fit (least_level c) r.base r.end _ runs small;
         few = rw (runs-keyless _) (omega arith);
-        bounded = record { half = is_bounded.half; pool = room };
+        bounded = record { protected_end = is_bounded.protected_end; pool = room };
       };
     })
 
@@ -120,8 +120,8 @@ item-read c w number item done is_bounded = elim (cases_Bool (eqb item.pages 0))
         let same : made ≡ done = is-done checks made done at in
         let none : holds checks ≡ false = none-holds checks made done at in
         let accepts = data-accepted w.plan base item.pages (plan-off (data_checks w.plan base item.pages) (last ∷ []) none) in
-        let half : w.plan.space.half ≤ 2 ^ 47 = is_bounded.half in
-        let inside : base + 4096 * item.pages ≤ w.plan.space.half = accepts.inside in
+        let protected_end : w.plan.space.protected_end ≤ 2 ^ 47 = is_bounded.protected_end in
+        let inside : base + 4096 * item.pages ≤ w.plan.space.protected_end = accepts.inside in
         let room : w.taken + delegated entries ≤ c.pool_count = ltb-false c.pool_count (w.taken + delegated entries) (last-off (plan_checks (data_checks w.plan base item.pages)) last none) in
         let keys : length (keys_of (item_links c.algo (Some item))) ≤ item.pages = item-keys-few c.algo item in
         let size : length (granules item.pages base) ≡ item.pages = length-granules item.pages base in
@@ -130,7 +130,7 @@ item-read c w number item done is_bounded = elim (cases_Bool (eqb item.pages 0))
         subst (λ (d : Listing). AreRead c w (item_links c.algo (Some item)) d.next) same (record {
           fit = item-fits c.algo item (omega arith);
           few = omega arith;
-          bounded = record { half = is_bounded.half; pool = room };
+          bounded = record { protected_end = is_bounded.protected_end; pool = room };
         }))
 
 rec-read : (c : Config) (w : Progress) (number : ℕ) (r : PlacedRec) (done : Listing) → IsBounded c w → list_rec c w number r ≡ Ok done
@@ -146,7 +146,7 @@ rec-read c w number r done is_bounded at =
     subst (λ (d : Listing). AreRead c w (rec_links c.algo (Some r)) d.next) same (record {
       fit = All-cons IsFitting _ [] tt (All-nil IsFitting);
       few = omega arith;
-      bounded = record { half = is_bounded.half; pool = room };
+      bounded = record { protected_end = is_bounded.protected_end; pool = room };
     })
 
 -- ---- steps
@@ -220,5 +220,5 @@ launch-readable l p entries at =
     let low : 0 < 2 = omega arith in
     let width : c.s2sz - 1 ≤ 47 = let is : is_width c.s2sz ≡ true = c.width in let most : c.s2sz ≤ 48 = grind (arith, nat_tests) in omega arith in
     let count : c.pool_count ≤ 16777216 = c.pool_fits.1 in
-    let is_bounded : IsBounded c (opening c) = record { half = pow-le-pow_right low width; pool = omega arith } in
+    let is_bounded : IsBounded c (opening c) = record { protected_end = pow-le-pow_right low width; pool = omega arith } in
     steps-read l p l.steps (opening c) (second.0) 16777216 is_bounded (omega arith) (second.1)

@@ -72,7 +72,7 @@ region-alike c v w r same =
     let entries : es ≡ fs =
     rw (same.taken, space.start, same.plan.least_level) (runs-alike c.pool_base q.space.start (runs_of r.base r.end q.least_level) w.taken p.space.tables q.space.tables space.tables) in
     let checks : region_checks p r.base r.end ≡ region_checks q r.base r.end =
-    rw (space.half, space.ranges r.base r.end r.ordered, same.plan.entries, same.plan.least_level) refl in
+    rw (space.protected_end, space.ranges r.base r.end r.ordered, same.plan.entries, same.plan.least_level) refl in
     checked-alike (planned_checks c v (region_checks p r.base r.end) es) (planned_checks c w (region_checks q r.base r.end) fs)
     (record { entries = es; next = record v { plan = after_region p r.base r.end; taken = v.taken + delegated es } })
     (record { entries = fs; next = record w { plan = after_region q r.base r.end; taken = w.taken + delegated fs } })
@@ -106,7 +106,7 @@ item-alike c v w number item same = by_pages (eqb item.pages 0)
         let entries : entries_at v ≡ entries_at w =
         rw (same.taken, space.start) (pages-alike c.pool_base q.space.start item.measured number xs 0 w.taken p.space.tables q.space.tables space.tables) in
         let checks : data_checks p base item.pages ≡ data_checks q base item.pages =
-        rw (space.half, list_all-same (is_ram p.space.ram) (is_ram q.space.ram) xs space.ram, list_any-same (has p.space.assigned) (has q.space.assigned) xs space.assigned) refl in
+        rw (space.protected_end, list_all-same (is_ram p.space.ram) (is_ram q.space.ram) xs space.ram, list_any-same (has p.space.assigned) (has q.space.assigned) xs space.assigned) refl in
         checked-alike (checks_at v) (checks_at w) (made v) (made w)
         (same-checks c v w (data_checks p base item.pages) (data_checks q base item.pages) (entries_at v) (entries_at w) same.taken checks entries) entries
         (record { plan = after_data-alike p q base item.pages same.plan; taken = same-taken v w (entries_at v) (entries_at w) same.taken entries; recs = same.recs })

@@ -98,12 +98,12 @@ overlaps-same ram other some some_other same base top lt =
 -- ---- whole spaces
 
 pub same-refl : (s : Space) → SameSpace s s
-same-refl s = record { start = refl; half = refl; tables = λ level base. refl; ram = λ x. refl; ranges = λ base top lt. refl; assigned = λ x. refl }
+same-refl s = record { start = refl; protected_end = refl; tables = λ level base. refl; ram = λ x. refl; ranges = λ base top lt. refl; assigned = λ x. refl }
 
 pub same-sym : (s t : Space) → SameSpace s t → SameSpace t s
 same-sym s t same = record {
   start = sym same.start;
-  half = sym same.half;
+  protected_end = sym same.protected_end;
   tables = λ level base. sym (same.tables level base);
   ram = λ x. sym (same.ram x);
   ranges = λ base top lt. sym (same.ranges base top lt);
@@ -113,7 +113,7 @@ same-sym s t same = record {
 pub same-trans : (r s t : Space) → SameSpace r s → SameSpace s t → SameSpace r t
 same-trans r s t first second = record {
   start = first.start ∙ second.start;
-  half = first.half ∙ second.half;
+  protected_end = first.protected_end ∙ second.protected_end;
   tables = λ level base. first.tables level base ∙ second.tables level base;
   ram = λ x. first.ram x ∙ second.ram x;
   ranges = λ base top lt. first.ranges base top lt ∙ second.ranges base top lt;
@@ -128,7 +128,7 @@ walk-same s t x same = ap (λ start. walk start s.tables x) same.start ∙ walk-
 pub same-table : (s t : Space) (level base : ℕ) → SameSpace s t → SameSpace (after_table s level base) (after_table t level base)
 same-table s t level base same = record {
   start = same.start;
-  half = same.half;
+  protected_end = same.protected_end;
   tables = λ j b. made-insert s.tables (record { level = level; base = base }) j b
       ∙ ap (λ old. (eqb level j && eqb base b) || old) (same.tables j b)
       ∙ sym (made-insert t.tables (record { level = level; base = base }) j b);
@@ -143,7 +143,7 @@ same-run s t base top some some_other lt free same =
     let free_other : overlaps t.ram base top ≡ false = sym (same.ranges base top lt) ∙ free in
     record {
       start = same.start;
-      half = same.half;
+      protected_end = same.protected_end;
       tables = same.tables;
       ram = λ x. is_ram-insert s.ram base top x some lt free
           ∙ ap (λ old. (leb base x && ltb x top) || old) (same.ram x)
@@ -157,7 +157,7 @@ same-run s t base top some some_other lt free same =
 pub same-page : (s t : Space) (page : ℕ) → SameSpace s t → SameSpace (after_page s page) (after_page t page)
 same-page s t page same = record {
   start = same.start;
-  half = same.half;
+  protected_end = same.protected_end;
   tables = same.tables;
   ram = same.ram;
   ranges = same.ranges;

@@ -21,31 +21,31 @@ pub delegate-taken : (s : State) (g : ℕ) → g % 4096 ≡ 0 → kind_of s.owne
 delegate-taken s g at free = rw (at, free) refl
 
 pub rtt_create-taken : (s : State) (g ipa level : ℕ) → is_empty s.phase ≡ false → s.space.start < level → level ≤ 3 → g % 4096 ≡ 0
-    → ipa % size (level - 1) ≡ 0 → ipa < s.space.half → walk_of s.space ipa ≡ level - 1 → kind_of s.owners g ≡ Some Delegated
+    → ipa % size (level - 1) ≡ 0 → ipa < s.space.protected_end → walk_of s.space ipa ≡ level - 1 → kind_of s.owners g ≡ Some Delegated
     → step s (RttCreate g ipa level) ≡ Ok (changed s (RttCreate g ipa level))
 rtt_create-taken s g ipa level phase lo hi at place inside walk own =
     let t1 : (leb level s.space.start || ltb 3 level) ≡ false = grind (arith, nat_tests) in
-    let t2 : leb s.space.half ipa ≡ false = grind (arith, nat_tests) in
+    let t2 : leb s.space.protected_end ipa ≡ false = grind (arith, nat_tests) in
     let t3 : eqb (level - 1) (level - 1) ≡ true = grind (arith, nat_tests) in
     rw phase (rw t1 (rw (at, place) (rw t2 (rw walk (rw t3 (rw own refl))))))
 
 -- after these the state is measured too
-pub init_ripas-taken : (s : State) (base top level : ℕ) → is_new s.phase ≡ true → base < top → base % 4096 ≡ 0 → top % 4096 ≡ 0 → top ≤ s.space.half
+pub init_ripas-taken : (s : State) (base top level : ℕ) → is_new s.phase ≡ true → base < top → base % 4096 ≡ 0 → top % 4096 ≡ 0 → top ≤ s.space.protected_end
     → walk_of s.space base ≡ level → base % size level ≡ 0 → top % size level ≡ 0 → top ≤ down (span level) base + span level
     → overlaps s.space.ram base top ≡ false → deeper s.space.tables level base top ≡ false
     → step s (InitRipas base top) ≡ Ok (measured (changed s (InitRipas base top)) (parts s (InitRipas base top)))
 init_ripas-taken s base top level phase lt low high inside walk low_at high_at in_table fresh none =
     let t1 : leb top base ≡ false = grind (arith, nat_tests) in
-    let t2 : ltb s.space.half top ≡ false = grind (arith, nat_tests) in
+    let t2 : ltb s.space.protected_end top ≡ false = grind (arith, nat_tests) in
     let t3 : ltb (down (span level) base + span level) top ≡ false = grind (arith, nat_tests) in
     rw phase (rw t1 (rw (low, high) (rw t2 (rw walk (rw (low_at, high_at) (rw t3 (rw (fresh, none) refl)))))))
 
 pub data_create-taken : (s : State) (g ipa : ℕ) (content : Option Measurement) → is_new s.phase ≡ true → is_bad_content (algo_of s.params) content ≡ false
-    → g % 4096 ≡ 0 → ipa % 4096 ≡ 0 → ipa < s.space.half → walk_of s.space ipa ≡ 3 → is_ram s.space.ram ipa ≡ true → has s.space.assigned ipa ≡ false
+    → g % 4096 ≡ 0 → ipa % 4096 ≡ 0 → ipa < s.space.protected_end → walk_of s.space ipa ≡ 3 → is_ram s.space.ram ipa ≡ true → has s.space.assigned ipa ≡ false
     → kind_of s.owners g ≡ Some Delegated
     → step s (DataCreate g ipa content) ≡ Ok (measured (changed s (DataCreate g ipa content)) (parts s (DataCreate g ipa content)))
 data_create-taken s g ipa content phase good at place inside walk ram free own =
-    let t1 : leb s.space.half ipa ≡ false = grind (arith, nat_tests) in
+    let t1 : leb s.space.protected_end ipa ≡ false = grind (arith, nat_tests) in
     rw phase (rw good (rw (at, place) (rw t1 (rw walk (rw ram (rw free (rw own refl)))))))
 
 pub rec_create-taken : (s : State) (g : ℕ) (r : RecData) → is_new s.phase ≡ true → is_bad_rec r ≡ false → g % 4096 ≡ 0 → list_all (is_multiple 4096) r.aux ≡ true

@@ -91,7 +91,7 @@ table_checks s rtt ipa level =
     (State, monitor.is_empty s.phase)
     ∷ (BadParams, nat_le level s.space.start || nat_lt 3 level)
     ∷ (Unaligned, not (is_multiple 4096 rtt) || not (is_multiple (size (level - 1)) ipa))
-    ∷ (OutsideProtected, nat_le s.space.half ipa)
+    ∷ (OutsideProtected, nat_le s.space.protected_end ipa)
     ∷ (WalkLevel, not (walk_of s.space ipa == level - 1))
     ∷ (NotDelegated, not (is_delegated s.owners rtt)) ∷ []
 
@@ -100,7 +100,7 @@ ripas_checks s base top =
     (State, not (monitor.is_new s.phase))
     ∷ (BadParams, nat_le top base)
     ∷ (Unaligned, not (is_multiple 4096 base) || not (is_multiple 4096 top))
-    ∷ (OutsideProtected, nat_lt s.space.half top)
+    ∷ (OutsideProtected, nat_lt s.space.protected_end top)
     ∷ (WalkLevel, is_cut (walk_of s.space base) base top)
     ∷ (NotFresh, is_not_fresh s.space (walk_of s.space base) base top) ∷ []
 
@@ -109,7 +109,7 @@ data_checks s granule ipa content =
     (State, not (monitor.is_new s.phase))
     ∷ (BadParams, is_bad_content (monitor.algo_of s.params) content)
     ∷ (Unaligned, not (is_multiple 4096 granule) || not (is_multiple 4096 ipa))
-    ∷ (OutsideProtected, nat_le s.space.half ipa)
+    ∷ (OutsideProtected, nat_le s.space.protected_end ipa)
     ∷ (WalkLevel, not (walk_of s.space ipa == 3))
     ∷ (NotRam, not (is_ram s.space.ram ipa))
     ∷ (Assigned, has s.space.assigned ipa)

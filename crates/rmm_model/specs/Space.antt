@@ -17,7 +17,7 @@ pub record Space : Type 0 where
   -- the level of the start tables
   pub start : ℕ
   -- the first address past the protected half
-  pub half : ℕ
+  pub protected_end : ℕ
   -- the tables below the start tables, in the order of table_cmp
   pub tables : List Table
   -- the ranges that became RAM, by address: the first address of each and the first past it
@@ -27,7 +27,7 @@ pub record Space : Type 0 where
 
 -- start tables alone
 abbrev pub empty_space : ℕ → ℕ → Space
-empty_space start half = record { start = start; half = half; tables = []; ram = []; assigned = [] }
+empty_space start protected_end = record { start = start; protected_end = protected_end; tables = []; ram = []; assigned = [] }
 
 -- whether a table covers x
 abbrev pub covers : Table → ℕ → Bool
@@ -91,7 +91,7 @@ SameTables ts us = (level base : ℕ) → made ts level base ≡ made us level b
 -- are kept, and the pieces in which RAM is.
 pub record SameSpace (s t : Space) : Type 0 where
   pub start : s.start ≡ t.start
-  pub half : s.half ≡ t.half
+  pub protected_end : s.protected_end ≡ t.protected_end
   pub tables : SameTables s.tables t.tables
   -- which addresses are RAM
   pub ram : (x : ℕ) → is_ram s.ram x ≡ is_ram t.ram x

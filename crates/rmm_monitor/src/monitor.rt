@@ -113,7 +113,7 @@ impl Monitor {
         if rtt % 4096 != 0 || ipa % size_of_level(level - 1) != 0 {
             return Err(Refused::Unaligned);
         }
-        if ipa >= self.space.half() {
+        if ipa >= self.space.protected_end() {
             return Err(Refused::OutsideProtected);
         }
         if self.space.walk_level(ipa) != level - 1 {
@@ -170,7 +170,7 @@ impl Monitor {
         if base % 4096 != 0 || top % 4096 != 0 {
             return Err(Refused::Unaligned);
         }
-        if top > self.space.half() {
+        if top > self.space.protected_end() {
             return Err(Refused::OutsideProtected);
         }
         let level = self.space.walk_level(base);
@@ -206,7 +206,7 @@ impl Monitor {
         if granule % 4096 != 0 || ipa % 4096 != 0 {
             return Err(Refused::Unaligned);
         }
-        if ipa >= self.space.half() {
+        if ipa >= self.space.protected_end() {
             return Err(Refused::OutsideProtected);
         }
         if self.space.walk_level(ipa) != 3 {

@@ -17,7 +17,7 @@ use std::marker::Model;
 #[derive(Drop)]
 pub struct IpaSpace {
     start: u8,
-    half: u64,
+    protected_end: u64,
     tables: BTreeSet<Table>,
     ram: BTreeMap<u64, u64>,
     assigned: BTreeSet<u64>,
@@ -36,15 +36,15 @@ impl Model for IpaSpace {
 }
 
 impl IpaSpace {
-    /// Start tables of a level alone, with `half` the first address past the protected half.
-    pub fn new(alloc: Global, start: u8, half: u64) -> IpaSpace
+    /// Start tables of a level alone, with `protected_end` the first address past the protected half.
+    pub fn new(alloc: Global, start: u8, protected_end: u64) -> IpaSpace
         requires start { start ≤ 2 }
-        requires half { half ≤ 2 ^ 47 }
-        ensures { result ≡ empty_space start half }
+        requires protected_end { protected_end ≤ 2 ^ 47 }
+        ensures { result ≡ empty_space start protected_end }
     {
         IpaSpace {
             start,
-            half,
+            protected_end,
             tables: BTreeSet::new(alloc),
             ram: BTreeMap::new(alloc),
             assigned: BTreeSet::new(alloc),
@@ -60,11 +60,11 @@ impl IpaSpace {
     }
 
     /// The first address past the protected half.
-    pub fn half(&self) -> u64
-        ensures value { result ≡ self.now.half }
+    pub fn protected_end(&self) -> u64
+        ensures value { result ≡ self.now.protected_end }
         ensures most { result ≤ 2 ^ 47 }
     {
-        self.half
+        self.protected_end
     }
 
     /// The level at which the walk of an IPA ends: the deepest table that covers it decides.

@@ -33,7 +33,7 @@ region-accepted p base end off =
     let checks = region_checks p base end in
     let ends = or_parts (not (eqb (base % 4096) 0)) (not (eqb (end % 4096) 0)) (off-at checks 1 fault.NoMemory off) in
     record {
-      inside = not-above p.space.half end (off-at checks 0 fault.NoMemory off);
+      inside = not-above p.space.protected_end end (off-at checks 0 fault.NoMemory off);
       whole = whole-region base end (whole-from base ends.0) (whole-from end ends.1);
       fresh = off-at checks 2 fault.NoMemory off;
       few = not-above entry_limit (p.entries + entry_count p base end) (off-at checks 3 fault.NoMemory off);
@@ -43,7 +43,7 @@ pub data-accepted : (p : Planned) (base count : ℕ) → holds (data_checks p ba
 data-accepted p base count off =
     let checks = data_checks p base count in
     record {
-      inside = not-above p.space.half (base + 4096 * count) (off-at checks 0 fault.NoMemory off);
+      inside = not-above p.space.protected_end (base + 4096 * count) (off-at checks 0 fault.NoMemory off);
       whole = whole-from base (off-at checks 1 fault.NoMemory off);
       in_ram = not-false (list_all (is_ram p.space.ram) (granules count base)) (off-at checks 2 fault.NoMemory off);
       fresh = off-at checks 3 fault.NoMemory off;

@@ -86,14 +86,14 @@ walks-alike p q x agrees = walk-same p.space q.space x agrees.space
 pub plan_region-alike : (p q : Planned) (base end : ℕ) → base < end → AgreesWith p q → plan_region p base end ≡ plan_region q base end
 unfolding plan_region
 plan_region-alike p q base end lt agrees =
-    rw (agrees.space.half, agrees.space.ranges base end lt, agrees.entries, agrees.least_level, agrees.space.start)
+    rw (agrees.space.protected_end, agrees.space.ranges base end lt, agrees.entries, agrees.least_level, agrees.space.start)
     (ap (unless_refused (region_checks q base end)) (run_acts-alike q.space.start (runs_of base end q.least_level) p.space.tables q.space.tables agrees.space.tables))
 
 pub plan_data-alike : (p q : Planned) (base count : ℕ) → AgreesWith p q → plan_data p base count ≡ plan_data q base count
 unfolding plan_data
 plan_data-alike p q base count agrees =
     rw (
-      agrees.space.half,
+      agrees.space.protected_end,
       list_all-same (is_ram p.space.ram) (is_ram q.space.ram) (granules count base) agrees.space.ram,
       list_any-same (has p.space.assigned) (has q.space.assigned) (granules count base) agrees.space.assigned,
     )
@@ -103,7 +103,7 @@ pub after_region-alike : (p q : Planned) (base end : ℕ) → AgreesWith p q →
 after_region-alike p q base end agrees = record {
   space = record {
     start = agrees.space.start;
-    half = agrees.space.half;
+    protected_end = agrees.space.protected_end;
     tables = rw (agrees.space.start, agrees.least_level) (run_tables-alike q.space.start (runs_of base end q.least_level) p.space.tables q.space.tables agrees.space.tables);
     ram = λ x. ram-append p.space.ram ((base, end) ∷ []) x ∙ ap (λ b. b || is_ram ((base, end) ∷ []) x) (agrees.space.ram x)
         ∙ sym (ram-append q.space.ram ((base, end) ∷ []) x);
@@ -119,7 +119,7 @@ pub after_data-alike : (p q : Planned) (base count : ℕ) → AgreesWith p q →
 after_data-alike p q base count agrees = record {
   space = record {
     start = agrees.space.start;
-    half = agrees.space.half;
+    protected_end = agrees.space.protected_end;
     tables = rw (agrees.space.start) (page_tables-alike q.space.start (granules count base) p.space.tables q.space.tables agrees.space.tables);
     ram = agrees.space.ram;
     ranges = agrees.space.ranges;

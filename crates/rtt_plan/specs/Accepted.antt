@@ -8,14 +8,14 @@ use Rattle.rtt_plan.specs.Planned.{Planned, entry_count, entry_limit}
 
 -- a region is whole pages in the protected half of which nothing is RAM, and its entries are not too many
 pub record AcceptsRegion (p : Planned) (base end : ℕ) : Type 0 where
-  pub inside : end ≤ p.space.half
+  pub inside : end ≤ p.space.protected_end
   pub whole : IsRegion base end
   pub fresh : overlaps p.space.ram base end ≡ false
   pub few : p.entries + entry_count p base end ≤ entry_limit
 
 -- pages of data are in the protected half, RAM, and without data
 pub record AcceptsData (p : Planned) (base count : ℕ) : Type 0 where
-  pub inside : base + 4096 * count ≤ p.space.half
+  pub inside : base + 4096 * count ≤ p.space.protected_end
   pub whole : base % 4096 ≡ 0
   pub in_ram : list_all (is_ram p.space.ram) (granules count base) ≡ true
   pub fresh : list_any (has p.space.assigned) (granules count base) ≡ false

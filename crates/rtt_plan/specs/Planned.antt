@@ -39,7 +39,7 @@ entry_count p base end = length (region.entries base end p.least_level)
 
 abbrev pub region_checks : Planned → ℕ → ℕ → List (Check PlanFault)
 region_checks p base end =
-    (OutsideProtected, nat_lt p.space.half end)
+    (OutsideProtected, nat_lt p.space.protected_end end)
     ∷ (Unaligned, not (is_multiple 4096 base) || not (is_multiple 4096 end))
     ∷ (RipasTwice, overlaps p.space.ram base end)
     ∷ (TooManyEntries, nat_lt entry_limit (p.entries + entry_count p base end)) ∷ []
@@ -53,7 +53,7 @@ plan_region p base end = unless_refused (region_checks p base end) (region_acts 
 
 abbrev pub data_checks : Planned → ℕ → ℕ → List (Check PlanFault)
 data_checks p base count =
-    (OutsideProtected, nat_lt p.space.half (base + 4096 * count))
+    (OutsideProtected, nat_lt p.space.protected_end (base + 4096 * count))
     ∷ (Unaligned, not (is_multiple 4096 base))
     ∷ (NotRam, not (list_all (is_ram p.space.ram) (granules count base)))
     ∷ (DataTwice, list_any (has p.space.assigned) (granules count base)) ∷ []

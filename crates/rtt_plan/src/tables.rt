@@ -29,7 +29,7 @@ use std::marker::Model;
 pub struct Tables {
     alloc: Global,
     start: u8,
-    half: u64,
+    protected_end: u64,
     least_level: u8,
     entries: u64,
     tables: BTreeSet<Table>,
@@ -61,7 +61,7 @@ impl Tables {
         Tables {
             alloc,
             start,
-            half: protected_end(s2sz),
+            protected_end: protected_end(s2sz),
             least_level: block_level.max(start),
             entries: 0,
             tables: BTreeSet::new(alloc),
@@ -88,7 +88,7 @@ impl Tables {
         ensures after { OnOk result (AgreesWith self.new (after_region self.old base end)) }
         ensures kept { OnErr result (self.new ≡ self.old) }
     {
-        if end > self.half {
+        if end > self.protected_end {
             return Err(PlanFault::OutsideProtected);
         }
         if base % 4096 != 0 || end % 4096 != 0 {
@@ -126,7 +126,7 @@ impl Tables {
         ensures low { OnOk result (base + 4096 * count ≤ 2 ^ 47) }
         ensures kept { OnErr result (self.new ≡ self.old) }
     {
-        if ends_past(self.half, base, count) {
+        if ends_past(self.protected_end, base, count) {
             return Err(PlanFault::OutsideProtected);
         }
         if base % 4096 != 0 {

@@ -5,10 +5,10 @@ use Rattle.rmm_monitor.specs.inside.Apart.{are_apart}
 use Rattle.rmm_monitor.specs.declared.space.IpaSpace.TheInside.{Inside}
 
 abbrev pub shown_space : Inside → Space
-shown_space s = record { start = s.start; half = s.half; tables = s.tables.keys; ram = s.ram.entries; assigned = s.assigned.keys }
+shown_space s = record { start = s.start; protected_end = s.protected_end; tables = s.tables.keys; ram = s.ram.entries; assigned = s.assigned.keys }
 
 pub record IsWellFormed (s : Inside) : Type 0 where
   pub start : s.start ≤ 2
-  pub half : s.half ≤ 2 ^ 47
+  pub protected_end : s.protected_end ≤ 2 ^ 47
   pub tables : ArePlaced s.start s.tables.keys
   pub ram : are_apart 0 s.ram.entries ≡ true

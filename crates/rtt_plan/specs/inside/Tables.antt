@@ -7,7 +7,7 @@ use Rattle.rtt_plan.specs.declared.tables.Tables.TheInside.{Inside}
 
 abbrev pub shown_plan : Inside → Planned
 shown_plan t = record {
-  space = record { start = t.start; half = t.half; tables = t.tables.keys; ram = t.ram.items; assigned = pages_of t.assigned.items };
+  space = record { start = t.start; protected_end = t.protected_end; tables = t.tables.keys; ram = t.ram.items; assigned = pages_of t.assigned.items };
   least_level = t.least_level;
   entries = t.entries;
 }
@@ -15,7 +15,7 @@ shown_plan t = record {
 pub record IsWellFormed (t : Inside) : Type 0 where
   pub start : t.start ≤ t.least_level
   pub least_level : t.least_level ≤ 3
-  pub half : t.half ≤ 2 ^ 47
+  pub protected_end : t.protected_end ≤ 2 ^ 47
   pub entries : t.entries ≤ 4194304
   pub tables : ArePlaced t.start t.tables.keys
   pub assigned : are_pages t.assigned.items ≡ true

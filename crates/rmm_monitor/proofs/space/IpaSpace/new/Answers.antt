@@ -6,7 +6,7 @@ pub invariant_of-result : goal.invariant_of-result
 unfolding are_apart
 invariant_of-result c = record {
   start = c.requires.start;
-  half = c.requires.half;
+  protected_end = c.requires.protected_end;
   tables = record { shape = λ level base. rw c.new.ensures.empty (λ m. absurd (cc)) };
   ram = rw c.new-2.ensures.empty refl;
 }

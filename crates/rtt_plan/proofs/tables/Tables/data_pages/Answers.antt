@@ -11,7 +11,7 @@ pub invariant_of-self-2 : goal.invariant_of-self-2
 invariant_of-self-2 c = record {
   start = c.self.invariant.start;
   least_level = c.self.invariant.least_level;
-  half = c.self.invariant.half;
+  protected_end = c.self.invariant.protected_end;
   entries = c.self.invariant.entries;
   tables = placed-alike _ _ _ (λ level base. sym (c.in_ok-acts.ensures.tables level base))
       (pages-placed c.self.inside.start (granules c.args.count c.args.base) _ c.self.invariant.tables);
@@ -22,7 +22,7 @@ pub returns-clause-after : goal.returns-clause-after
 returns-clause-after c = rw (← c.self.view_is) (record {
   space = record {
     start = refl;
-    half = refl;
+    protected_end = refl;
     tables = c.in_ok-acts.ensures.tables;
     ram = λ x. refl;
     ranges = λ base top lt. refl;

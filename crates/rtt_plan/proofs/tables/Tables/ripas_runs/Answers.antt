@@ -15,7 +15,7 @@ pub invariant_of-self-2 : goal.invariant_of-self-2
 invariant_of-self-2 c = record {
   start = c.self.invariant.start;
   least_level = c.self.invariant.least_level;
-  half = c.self.invariant.half;
+  protected_end = c.self.invariant.protected_end;
   entries = c.in-Some.ensures.limit;
   tables = placed-alike _ _ _ (λ level base. sym (c.in_ok-acts.ensures.tables level base))
       (runs-placed _ _ _ _ _ (region-runs _ _ _ _ c.self.invariant.start (whole-region _ _ c.if-base-ne0.false c.if-end-ne0.false) c.self.invariant.least_level c.requires)
