@@ -62,8 +62,8 @@ page-built : (b : Build) (w : Built) (s : State) (x : ℕ) (content : Option Mea
 page-built b w s x content built = record {
   new = built.new;
   params = built.params;
-  aux = built.aux;
-  recs = built.recs;
+  num_aux = built.num_aux;
+  num_recs = built.num_recs;
   space = same-filled s.space w.space x built.space;
   some = built.some;
   some_built = built.some_built;

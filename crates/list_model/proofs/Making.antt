@@ -77,8 +77,8 @@ table-built : (b : Build) (w : Built) (s : State) (t : Table) → IsBuilt b w s
 table-built b w s t built = record {
   new = built.new;
   params = built.params;
-  aux = built.aux;
-  recs = built.recs;
+  num_aux = built.num_aux;
+  num_recs = built.num_recs;
   space = same-more s.space w.space t built.space;
   some = built.some;
   some_built = built.some_built;

@@ -41,11 +41,11 @@ delegated-first b w n x s ds ps given later =
 -- ---- the realm
 
 pub realm-leads : (contents : Contents) (b : Build) → is_bad_realm b.params ≡ false → b.params.rtt_base ≡ b.pool → b.pool % 4096 ≡ 0
-    → Leads b (opened b.params) (empty_state b.aux) (commands_of contents (realm_entries b.pool b.params)) (Realm (realm_page_of b.params) ∷ [])
+    → Leads b (opened b.params) (empty_state b.num_aux) (commands_of contents (realm_entries b.pool b.params)) (Realm (realm_page_of b.params) ∷ [])
 realm-leads contents b good base at =
     let n : ℕ = b.params.rtt_num_start in
     let rd : ℕ = granule b.pool n in
-    let s : State = empty_state b.aux in
+    let s : State = empty_state b.num_aux in
     let given : List (ℕ × Kind) = give_all [] (granules (n + 1) b.pool) kind.Delegated in
     let s1 : State = record s { owners = given } in
     let next : State = measured (changed s1 (RealmCreate rd b.params)) (parts s1 (RealmCreate rd b.params)) in
@@ -56,8 +56,8 @@ realm-leads contents b good base at =
     let built : IsBuilt b (opened b.params) next = record {
       new = refl;
       params = refl;
-      aux = refl;
-      recs = refl;
+      num_aux = refl;
+      num_recs = refl;
       space = same-refl (opened b.params).space;
       some = refl;
       some_built = refl;
@@ -84,49 +84,49 @@ index-again n few = omega arith
 
 rec-built : (b : Build) (w : Built) (s : State) (r : RecData) → IsBuilt b w s → IsNextRec b w r
     → let g = granule b.pool w.taken in
-    let s1 : State = record s { owners = give_all s.owners (granules (b.aux + 1) g) kind.Delegated } in
+    let s1 : State = record s { owners = give_all s.owners (granules (b.num_aux + 1) g) kind.Delegated } in
     IsBuilt b (with_rec b w) (measured (changed s1 (RecCreate g r)) (parts s1 (RecCreate g r)))
 rec-built b w s r built next = record {
   new = built.new;
   params = built.params;
-  aux = built.aux;
-  recs = ap (λ (n : ℕ). n + 1) built.recs;
+  num_aux = built.num_aux;
+  num_recs = ap (λ (n : ℕ). n + 1) built.num_recs;
   space = built.space;
   some = built.some;
   some_built = built.some_built;
   pool = built.pool;
   free = λ h o.
       (let g : ℕ = granule b.pool w.taken in
-      let given : List (ℕ × Kind) = give_all s.owners (granules (b.aux + 1) g) kind.Delegated in
-      rw next.aux (free-given b.aux (granule b.pool (w.taken + 1)) (give given g kind.Rec) kind.RecAux h (omega arith)
+      let given : List (ℕ × Kind) = give_all s.owners (granules (b.num_aux + 1) g) kind.Delegated in
+      rw next.aux (free-given b.num_aux (granule b.pool (w.taken + 1)) (give given g kind.Rec) kind.RecAux h (omega arith)
       ∙ (kind_of-other given g h kind.Rec (λ e. omega arith)
-      ∙ (free-given (b.aux + 1) g s.owners kind.Delegated h (omega arith) ∙ built.free h (omega arith)))));
+      ∙ (free-given (b.num_aux + 1) g s.owners kind.Delegated h (omega arith) ∙ built.free h (omega arith)))));
 }
 
 pub rec-leads : (contents : Contents) (b : Build) (w : Built) (s : State) (r : RecData) → IsBuilt b w s → IsNextRec b w r
-    → Leads b (with_rec b w) s (commands_of contents (rec_entries b.pool w.taken b.aux r)) (Rec (measurement_of b.params.algo (rec_page_of r)) ∷ [])
+    → Leads b (with_rec b w) s (commands_of contents (rec_entries b.pool w.taken b.num_aux r)) (Rec (measurement_of b.params.algo (rec_page_of r)) ∷ [])
 unfolding granules
 rec-leads contents b w s r built next =
     let g : ℕ = granule b.pool w.taken in
-    let s1 : State = record s { owners = give_all s.owners (granules (b.aux + 1) g) kind.Delegated } in
+    let s1 : State = record s { owners = give_all s.owners (granules (b.num_aux + 1) g) kind.Delegated } in
     let after : State = measured (changed s1 (RecCreate g r)) (parts s1 (RecCreate g r)) in
     let g_at : g % 4096 ≡ 0 = omega (arith, built.pool) in
-    let mpidr = good-mpidr w.recs next.few in
+    let mpidr = good-mpidr w.num_recs next.few in
     let good : is_bad_rec r ≡ false = rw (next.runnable, next.number) (rw (mpidr.0, mpidr.1) refl) in
-    let one : b.aux + 1 ≡ suc b.aux = omega arith in
+    let one : b.num_aux + 1 ≡ suc b.num_aux = omega arith in
     let second : granule b.pool (w.taken + 1) ≡ g + 4096 = omega arith in
-    let all : g ∷ r.aux ≡ granules (b.aux + 1) g = rw (next.aux, second, one) refl in
-    let own : all_delegated s1.owners (g ∷ r.aux) ≡ true = ap (all_delegated s1.owners) all ∙ all-given (b.aux + 1) g s.owners in
-    let apart : repeats (g ∷ r.aux) ≡ false = ap repeats all ∙ repeats-granules (b.aux + 1) g in
-    let places : list_all (is_multiple 4096) r.aux ≡ true = rw next.aux (granules-multiple b.aux (granule b.pool (w.taken + 1)) (omega (arith, built.pool))) in
-    let index : rec_index r.mpidr ≡ s.recs = rw next.number (index-again w.recs next.few ∙ sym built.recs) in
-    let count : length r.aux ≡ s.aux = rw next.aux (length-granules b.aux (granule b.pool (w.taken + 1)) ∙ sym built.aux) in
+    let all : g ∷ r.aux ≡ granules (b.num_aux + 1) g = rw (next.aux, second, one) refl in
+    let own : all_delegated s1.owners (g ∷ r.aux) ≡ true = ap (all_delegated s1.owners) all ∙ all-given (b.num_aux + 1) g s.owners in
+    let apart : repeats (g ∷ r.aux) ≡ false = ap repeats all ∙ repeats-granules (b.num_aux + 1) g in
+    let places : list_all (is_multiple 4096) r.aux ≡ true = rw next.aux (granules-multiple b.num_aux (granule b.pool (w.taken + 1)) (omega (arith, built.pool))) in
+    let index : rec_index r.mpidr ≡ s.num_recs = rw next.number (index-again w.num_recs next.few ∙ sym built.num_recs) in
+    let count : length r.aux ≡ s.num_aux = rw next.aux (length-granules b.num_aux (granule b.pool (w.taken + 1)) ∙ sym built.num_aux) in
     let taken = rec_create-taken s1 g r built.new good g_at places index count own apart in
     let algo : algo_of s.params ≡ b.params.algo = rw built.params refl in
     let said : parts s1 (RecCreate g r) ≡ Rec (measurement_of b.params.algo (rec_page_of r)) ∷ [] = ap (λ a. Rec (measurement_of a (rec_page_of r)) ∷ []) algo in
     let led : Leads b (with_rec b w) s1 (RecCreate g r ∷ []) (Rec (measurement_of b.params.algo (rec_page_of r)) ∷ []) =
     leads-cons b (with_rec b w) s1 after (RecCreate g r) [] (Rec (measurement_of b.params.algo (rec_page_of r)) ∷ []) [] taken said
     (leads-none b (with_rec b w) after (rec-built b w s r built next)) in
-    rw (delegate-commands contents (granules (b.aux + 1) g) (Whole (RecCreate g r) ∷ []))
-    (delegated-first b (with_rec b w) (b.aux + 1) g s (RecCreate g r ∷ []) (Rec (measurement_of b.params.algo (rec_page_of r)) ∷ [])
-    (are-delegated (b.aux + 1) g s g_at built.free) led)
+    rw (delegate-commands contents (granules (b.num_aux + 1) g) (Whole (RecCreate g r) ∷ []))
+    (delegated-first b (with_rec b w) (b.num_aux + 1) g s (RecCreate g r ∷ []) (Rec (measurement_of b.params.algo (rec_page_of r)) ∷ [])
+    (are-delegated (b.num_aux + 1) g s g_at built.free) led)

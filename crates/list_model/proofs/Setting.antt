@@ -49,8 +49,8 @@ run-built : (b : Build) (w : Built) (s : State) (r : Run) (ps : List Part) → I
 run-built b w s r [] built lt free = record {
   new = built.new;
   params = built.params;
-  aux = built.aux;
-  recs = built.recs;
+  num_aux = built.num_aux;
+  num_recs = built.num_recs;
   space = same-set s.space w.space r.base r.top built.some lt free built.space;
   some = are_some-insert s.space.ram r.base r.top built.some lt;
   some_built = (let i : are_some w.space.ram ≡ true = built.some_built in grind (arith, nat_tests));
@@ -60,8 +60,8 @@ run-built b w s r [] built lt free = record {
 run-built b w s r (p ∷ ps) built lt free = record {
   new = built.new;
   params = built.params;
-  aux = built.aux;
-  recs = built.recs;
+  num_aux = built.num_aux;
+  num_recs = built.num_recs;
   space = same-set s.space w.space r.base r.top built.some lt free built.space;
   some = are_some-insert s.space.ram r.base r.top built.some lt;
   some_built = (let i : are_some w.space.ram ≡ true = built.some_built in grind (arith, nat_tests));

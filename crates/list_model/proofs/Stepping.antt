@@ -25,12 +25,12 @@ use Rattle.list_model.proofs.Filling.{pages-lead, parts_from, piled_pages, with_
 use Rattle.list_model.proofs.Setting.{piled, runs-lead, with_runs}
 
 -- what is built is the same where the spaces are
-same-built : (b : Build) (v w : Built) (s : State) → IsBuilt b v s → SameSpace v.space w.space → v.taken ≡ w.taken → v.recs ≡ w.recs → are_some w.space.ram ≡ true → IsBuilt b w s
-same-built b v w s built same taken recs some = record {
+same-built : (b : Build) (v w : Built) (s : State) → IsBuilt b v s → SameSpace v.space w.space → v.taken ≡ w.taken → v.num_recs ≡ w.num_recs → are_some w.space.ram ≡ true → IsBuilt b w s
+same-built b v w s built same taken num_recs some = record {
   new = built.new;
   params = built.params;
-  aux = built.aux;
-  recs = built.recs ∙ recs;
+  num_aux = built.num_aux;
+  num_recs = built.num_recs ∙ num_recs;
   space = same-trans s.space v.space w.space built.space same;
   some = built.some;
   some_built = some;
@@ -84,25 +84,25 @@ block-parts : (base end least_level : ℕ) (xs : List ℕ)
 block-parts base end least_level [] = refl
 block-parts base end least_level (x ∷ xs) = ap (λ ps. Ripas x (x + size (block_level base end least_level x)) ∷ ps) (block-parts base end least_level xs)
 
-pub region-leads : (contents : Contents) (b : Build) (p : Planned) (n recs base end : ℕ) (s : State) → IsBuilt b (planned p n recs) s → IsPlanned p → base < end
+pub region-leads : (contents : Contents) (b : Build) (p : Planned) (n num_recs base end : ℕ) (s : State) → IsBuilt b (planned p n num_recs) s → IsPlanned p → base < end
     → AcceptsRegion p base end
-    → Leads b (planned (after_region p base end) (n + delegated (region_entries b.pool n p base end)) recs) s
+    → Leads b (planned (after_region p base end) (n + delegated (region_entries b.pool n p base end)) num_recs) s
     (commands_of contents (region_entries b.pool n p base end)) (block_parts base end p.least_level)
-region-leads contents b p n recs base end s built is_planned lt accepts =
+region-leads contents b p n num_recs base end s built is_planned lt accepts =
     let start : ℕ = p.space.start in
     let ram : List (ℕ × ℕ) = p.space.ram in
     let rs : List Run = runs_of base end p.least_level in
     let runs : AreRuns start base end rs = region-runs start base end p.least_level is_planned.allowed accepts.whole is_planned.deepest lt in
     let set : AreSetInTurn start p.space.tables ram rs = region-in-turn start base end p.least_level p.space.tables ram
     is_planned.allowed is_planned.deepest lt accepts.whole is_planned.formed is_planned.used accepts.fresh in
-    let led = runs-lead contents b start end rs base (planned p n recs) s built set runs accepts.inside in
+    let led = runs-lead contents b start end rs base (planned p n num_recs) s built set runs accepts.inside in
     let some : are_some (piled rs ram) ≡ true = piled-some start base end rs ram runs built.some_built in
     let some_after : are_some (ram ++ (base, end) ∷ []) ≡ true = some-append ram base end lt built.some_built in
     let same_ram : (y : ℕ) → is_ram (piled rs ram) y ≡ is_ram (ram ++ (base, end) ∷ []) y = λ y.
     piled-ram rs ram y ∙ ap (λ h. h || is_ram ram y) (ram-runs start base end rs runs y) ∙ or-last (leb base y && ltb y end) (is_ram ram y)
     ∙ sym (ram-append ram ((base, end) ∷ []) y) in
-    let after : Built = planned (after_region p base end) (n + delegated (region_entries b.pool n p base end)) recs in
-    let same : SameSpace (with_runs b.pool (planned p n recs) rs).space after.space = record {
+    let after : Built = planned (after_region p base end) (n + delegated (region_entries b.pool n p base end)) num_recs in
+    let same : SameSpace (with_runs b.pool (planned p n num_recs) rs).space after.space = record {
       start = refl;
       protected_end = refl;
       tables = λ level at. refl;
@@ -115,7 +115,7 @@ region-leads contents b p n recs base end s built is_planned lt accepts =
     record {
       accepted = led.accepted;
       shown = led.shown ∙ said;
-      built = same-built b (with_runs b.pool (planned p n recs) rs) after _ led.built same refl refl some_after;
+      built = same-built b (with_runs b.pool (planned p n num_recs) rs) after _ led.built same refl refl some_after;
     }
 
 -- ---- an item
@@ -145,19 +145,19 @@ parts-numbered measured contents item base (suc count) k =
     let e : base + 4096 * k + 4096 ≡ base + 4096 * (k + 1) = omega arith in
     rw e (ap (λ ps. page_part measured contents item (base + 4096 * k) k ∷ ps) (parts-numbered measured contents item base count (k + 1)))
 
-pub item-leads : (contents : Contents) (b : Build) (p : Planned) (n recs : ℕ) (measured : Bool) (item base count : ℕ) (s : State) → IsBuilt b (planned p n recs) s → IsPlanned p
+pub item-leads : (contents : Contents) (b : Build) (p : Planned) (n num_recs : ℕ) (measured : Bool) (item base count : ℕ) (s : State) → IsBuilt b (planned p n num_recs) s → IsPlanned p
     → AreContents b.params.algo contents → AcceptsData p base count
-    → Leads b (planned (after_data p base count) (n + delegated (item_entries b.pool n p measured item base count)) recs) s
+    → Leads b (planned (after_data p base count) (n + delegated (item_entries b.pool n p measured item base count)) num_recs) s
     (commands_of contents (item_entries b.pool n p measured item base count)) (page_parts measured contents item base count)
-item-leads contents b p n recs measured item base count s built is_planned good accepts =
+item-leads contents b p n num_recs measured item base count s built is_planned good accepts =
     let start : ℕ = p.space.start in
     let xs : List ℕ = granules count base in
     let high : start ≤ 2 = is_planned.highest in
     let filled : AreFilledInTurn start p.space.tables p.space.ram p.space.assigned xs =
     pages-in-turn count start base p.space.tables p.space.ram p.space.assigned (omega arith) is_planned.formed accepts.in_ram accepts.fresh in
-    let led = pages-lead contents measured item b count 0 base (planned p n recs) s built good filled accepts.whole accepts.inside in
-    let after : Built = planned (after_data p base count) (n + delegated (item_entries b.pool n p measured item base count)) recs in
-    let same : SameSpace (with_pages b.pool (planned p n recs) measured item 0 xs).space after.space = record {
+    let led = pages-lead contents measured item b count 0 base (planned p n num_recs) s built good filled accepts.whole accepts.inside in
+    let after : Built = planned (after_data p base count) (n + delegated (item_entries b.pool n p measured item base count)) num_recs in
+    let same : SameSpace (with_pages b.pool (planned p n num_recs) measured item 0 xs).space after.space = record {
       start = refl;
       protected_end = refl;
       tables = λ level at. refl;
@@ -171,5 +171,5 @@ item-leads contents b p n recs measured item base count s built is_planned good 
     record {
       accepted = led.accepted;
       shown = led.shown ∙ said;
-      built = same-built b (with_pages b.pool (planned p n recs) measured item 0 xs) after _ led.built same refl refl built.some_built;
+      built = same-built b (with_pages b.pool (planned p n num_recs) measured item 0 xs) after _ led.built same refl refl built.some_built;
     }

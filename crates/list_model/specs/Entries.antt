@@ -91,8 +91,8 @@ page_entries pool n start ts measured item k (x ∷ xs) =
 
 -- the granules of a REC: its own, and the auxiliary granules after it
 abbrev pub rec_granules : ℕ → ℕ → ℕ → List ℕ
-rec_granules pool n aux = granules (aux + 1) (granule pool n)
+rec_granules pool n num_aux = granules (num_aux + 1) (granule pool n)
 
 -- a REC, whose parameters name its auxiliary granules
 abbrev pub rec_entries : ℕ → ℕ → ℕ → RecData → List Entry
-rec_entries pool n aux r = delegate_all (rec_granules pool n aux) ++ (Whole (RecCreate (granule pool n) r) ∷ [])
+rec_entries pool n num_aux r = delegate_all (rec_granules pool n num_aux) ++ (Whole (RecCreate (granule pool n) r) ∷ [])

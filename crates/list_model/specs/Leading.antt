@@ -18,7 +18,7 @@ use Rattle.list_model.specs.Entries.{Entry, granule, page_entries, run_entries}
 pub record Build : Type 0 where
   pub params : RealmParams
   -- the number of auxiliary granules of each REC
-  pub aux : ℕ
+  pub num_aux : ℕ
   -- the first granule of the pool
   pub pool : ℕ
 
@@ -28,14 +28,14 @@ pub record Built : Type 0 where
   -- how many granules of the pool were taken
   pub taken : ℕ
   -- how many RECs were made
-  pub recs : ℕ
+  pub num_recs : ℕ
 
 -- a monitor with a new realm of which just this was built: its space is the same, and the rest of the pool is free
 pub record IsBuilt (b : Build) (w : Built) (s : State) : Type 0 where
   pub new : is_new s.phase ≡ true
   pub params : s.params ≡ Some b.params
-  pub aux : s.aux ≡ b.aux
-  pub recs : s.recs ≡ w.recs
+  pub num_aux : s.num_aux ≡ b.num_aux
+  pub num_recs : s.num_recs ≡ w.num_recs
   pub space : SameSpace s.space w.space
   pub some : are_some s.space.ram ≡ true
   pub some_built : are_some w.space.ram ≡ true
@@ -55,24 +55,24 @@ abbrev pub opened : RealmParams → Built
 opened params = record {
   space = empty_space params.rtt_level_start (protected_end params.s2sz);
   taken = params.rtt_num_start + 1;
-  recs = 0;
+  num_recs = 0;
 }
 
 abbrev pub with_rec : Build → Built → Built
-with_rec b w = record w { taken = w.taken + (b.aux + 1); recs = w.recs + 1 }
+with_rec b w = record w { taken = w.taken + (b.num_aux + 1); num_recs = w.num_recs + 1 }
 
 -- a REC that can be created next: it is runnable, has the next number, and names the granules after its own
 pub record IsNextRec (b : Build) (w : Built) (r : RecData) : Type 0 where
   pub runnable : r.flags ≡ 1
-  pub number : r.mpidr ≡ rec_mpidr_of w.recs
-  pub few : w.recs < 512
-  pub aux : r.aux ≡ granules b.aux (granule b.pool (w.taken + 1))
+  pub number : r.mpidr ≡ rec_mpidr_of w.num_recs
+  pub few : w.num_recs < 512
+  pub aux : r.aux ≡ granules b.num_aux (granule b.pool (w.taken + 1))
 
 -- ---- what is built by a region and by an item
 
 -- what was planned is built, with the next granule of the pool and the number of RECs
 abbrev pub planned : Planned → ℕ → ℕ → Built
-planned p taken recs = record { space = p.space; taken = taken; recs = recs }
+planned p taken num_recs = record { space = p.space; taken = taken; num_recs = num_recs }
 
 abbrev pub region_entries : ℕ → ℕ → Planned → ℕ → ℕ → List Entry
 region_entries pool n p base end = run_entries pool n p.space.start p.space.tables (runs_of base end p.least_level)

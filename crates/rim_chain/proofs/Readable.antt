@@ -138,8 +138,8 @@ rec-read : (c : Config) (w : Progress) (number : ℕ) (r : PlacedRec) (done : Li
 unfolding list_rec
 rec-read c w number r done is_bounded at =
     let entries : List Entry = rec_entries c.pool_base w.taken c.num_aux (rec_params number r (granules c.num_aux (granule c.pool_base (w.taken + 1)))) in
-    let made : Listing = record { entries = entries; next = record w { taken = w.taken + delegated entries; recs = w.recs + 1 } } in
-    let checks : List (Check ListFault) = (fault.RecOrder, not (eqb number w.recs)) ∷ (fault.RecNotRunnable, not r.runnable) ∷ pool_check c w.taken entries ∷ [] in
+    let made : Listing = record { entries = entries; next = record w { taken = w.taken + delegated entries; num_recs = w.num_recs + 1 } } in
+    let checks : List (Check ListFault) = (fault.RecOrder, not (eqb number w.num_recs)) ∷ (fault.RecNotRunnable, not r.runnable) ∷ pool_check c w.taken entries ∷ [] in
     let same : made ≡ done = is-done checks made done at in
     let none : holds checks ≡ false = none-holds checks made done at in
     let room : w.taken + delegated entries ≤ c.pool_count = ltb-false c.pool_count (w.taken + delegated entries) (off-at checks 2 fault.NoMemory none) in

@@ -56,12 +56,12 @@ module _ (make : ℕ → Step) (p : Part) (other : (n k : ℕ) → names p k (ma
   row-other a (suc n) k = omega (arith, times-next p k (make a) (map make (range_with_len (a + 1) n)) false (other a k), row-other (a + 1) n k)
 
 -- each names something
-row-there : (make : ℕ → Step) (regions items recs count : ℕ) → ((n : ℕ) → n < count → names_something regions items recs (make n) ≡ true) → (a n : ℕ) → a + n ≤ count
-    → list_all (names_something regions items recs) (map make (range_with_len a n)) ≡ true
-row-there make regions items recs count h a zero fits = refl
-row-there make regions items recs count h a (suc n) fits =
-    let first : names_something regions items recs (make a) ≡ true = h a (omega arith) in
-    rw first (row-there make regions items recs count h (a + 1) n (omega arith))
+row-there : (make : ℕ → Step) (num_regions items num_recs count : ℕ) → ((n : ℕ) → n < count → names_something num_regions items num_recs (make n) ≡ true) → (a n : ℕ) → a + n ≤ count
+    → list_all (names_something num_regions items num_recs) (map make (range_with_len a n)) ≡ true
+row-there make num_regions items num_recs count h a zero fits = refl
+row-there make num_regions items num_recs count h a (suc n) fits =
+    let first : names_something num_regions items num_recs (make a) ≡ true = h a (omega arith) in
+    rw first (row-there make num_regions items num_recs count h (a + 1) n (omega arith))
 
 -- ---- steps of items
 
@@ -127,22 +127,22 @@ items-once a k (i ∷ items) low high = go (eqb a k) refl (λ above. items-once 
     go false e rest =
         omega (arith, items-later role.Kernel a k i items e, items-later role.Initrd a k i items e, items-later role.Dtb a k i items e, items-later role.Raw a k i items e, rest (omega (arith, eqb-false a k e)))
 
-items-there : (r : Role) (regions count recs a : ℕ) (items : List Item) → a + length items ≤ count → list_all (names_something regions count recs) (from r a items) ≡ true
+items-there : (r : Role) (num_regions count num_recs a : ℕ) (items : List Item) → a + length items ≤ count → list_all (names_something num_regions count num_recs) (from r a items) ≡ true
 unfolding from
-items-there r regions count recs a [] fits = refl
-items-there r regions count recs a (i ∷ items) fits =
-    let rest = items-there r regions count recs (a + 1) items (omega arith) in
+items-there r num_regions count num_recs a [] fits = refl
+items-there r num_regions count num_recs a (i ∷ items) fits =
+    let rest = items-there r num_regions count num_recs (a + 1) items (omega arith) in
     let first : nat_lt a count ≡ true = lt-ltb a count (omega arith) in
-    from-next r a i items (λ (steps : List Step). list_all (names_something regions count recs) steps ≡ true) (λ e. rw first rest) (λ e. rest)
+    from-next r a i items (λ (steps : List Step). list_all (names_something num_regions count num_recs) steps ≡ true) (λ e. rw first rest) (λ e. rest)
 
 -- ---- all of them
 
-module _ (regions : ℕ) (items : List Item) (recs : ℕ) where
+module _ (num_regions : ℕ) (items : List Item) (num_recs : ℕ) where
   ram : List Step
-  ram = map step.Ram (range_with_len 0 regions)
+  ram = map step.Ram (range_with_len 0 num_regions)
 
   made : List Step
-  made = map step.Rec (range_with_len 0 recs)
+  made = map step.Rec (range_with_len 0 num_recs)
 
   all-append : (t : Step → Bool) (xs ys : List Step) → list_all t xs ≡ true → list_all t ys ≡ true → list_all t (xs ++ ys) ≡ true
   all-append t [] ys h k = k
@@ -152,7 +152,7 @@ module _ (regions : ℕ) (items : List Item) (recs : ℕ) where
       go true e all rest = rw e (rest all)
       go false e all rest = absurd (let z : false ≡ true = all in let y : ⊥ = cc in y)
 
-  split : (p : Part) (k : ℕ) → times p k (default_steps regions items recs)
+  split : (p : Part) (k : ℕ) → times p k (default_steps num_regions items num_recs)
       ≡ times p k ram + (times p k (from role.Kernel 0 items) + times p k (from role.Initrd 0 items) + times p k (from role.Dtb 0 items) + times p k (from role.Raw 0 items)) + times p k made
   unfolding default_steps from ram made
   split p k =
@@ -162,50 +162,50 @@ module _ (regions : ℕ) (items : List Item) (recs : ℕ) where
       let d = from role.Raw 0 items in
       omega (arith, times-append p k (ram ++ a ++ b ++ c ++ d) made, times-append p k (ram ++ a ++ b ++ c) d, times-append p k (ram ++ a ++ b) c, times-append p k (ram ++ a) b, times-append p k ram a)
 
-  there : list_all (names_something regions (length items) recs) (default_steps regions items recs) ≡ true
+  there : list_all (names_something num_regions (length items) num_recs) (default_steps num_regions items num_recs) ≡ true
   unfolding default_steps from ram made
   there =
-      let t : Step → Bool = names_something regions (length items) recs in
+      let t : Step → Bool = names_something num_regions (length items) num_recs in
       let a = from role.Kernel 0 items in
       let b = from role.Initrd 0 items in
       let c = from role.Dtb 0 items in
       let d = from role.Raw 0 items in
-      let of_ram : list_all t ram ≡ true = row-there (λ n. step.Ram n) regions (length items) recs regions (λ n lt. lt-ltb n regions lt) 0 regions (omega arith) in
-      let of_recs : list_all t made ≡ true = row-there (λ n. step.Rec n) regions (length items) recs recs (λ n lt. lt-ltb n recs lt) 0 recs (omega arith) in
-      let of_a = items-there role.Kernel regions (length items) recs 0 items (omega arith) in
-      let of_b = items-there role.Initrd regions (length items) recs 0 items (omega arith) in
-      let of_c = items-there role.Dtb regions (length items) recs 0 items (omega arith) in
-      let of_d = items-there role.Raw regions (length items) recs 0 items (omega arith) in
+      let of_ram : list_all t ram ≡ true = row-there (λ n. step.Ram n) num_regions (length items) num_recs num_regions (λ n lt. lt-ltb n num_regions lt) 0 num_regions (omega arith) in
+      let of_recs : list_all t made ≡ true = row-there (λ n. step.Rec n) num_regions (length items) num_recs num_recs (λ n lt. lt-ltb n num_recs lt) 0 num_recs (omega arith) in
+      let of_a = items-there role.Kernel num_regions (length items) num_recs 0 items (omega arith) in
+      let of_b = items-there role.Initrd num_regions (length items) num_recs 0 items (omega arith) in
+      let of_c = items-there role.Dtb num_regions (length items) num_recs 0 items (omega arith) in
+      let of_d = items-there role.Raw num_regions (length items) num_recs 0 items (omega arith) in
       all-append t (ram ++ a ++ b ++ c ++ d) made (all-append t (ram ++ a ++ b ++ c) d (all-append t (ram ++ a ++ b) c (all-append t (ram ++ a) b (all-append t ram a of_ram of_a) of_b) of_c) of_d) of_recs
 
   -- each part by itself
-  ram-once : (k : ℕ) → k < regions → times part.Ram k (default_steps regions items recs) ≡ 1
+  ram-once : (k : ℕ) → k < num_regions → times part.Ram k (default_steps num_regions items num_recs) ≡ 1
   unfolding ram made
   ram-once k low =
-      let own = row-once (λ n. step.Ram n) part.Ram (λ n k. refl) 0 regions k (omega arith) (omega arith) in
+      let own = row-once (λ n. step.Ram n) part.Ram (λ n k. refl) 0 num_regions k (omega arith) (omega arith) in
       let other = items-other part.Ram (λ n k. refl) in
-      let recs_none = row-other (λ n. step.Rec n) part.Ram (λ n k. refl) 0 recs k in
+      let recs_none = row-other (λ n. step.Rec n) part.Ram (λ n k. refl) 0 num_recs k in
       omega (arith, split part.Ram k, own, other role.Kernel 0 k items, other role.Initrd 0 k items, other role.Dtb 0 k items, other role.Raw 0 k items, recs_none)
 
-  item-once : (k : ℕ) → k < length items → times part.Item k (default_steps regions items recs) ≡ 1
+  item-once : (k : ℕ) → k < length items → times part.Item k (default_steps num_regions items num_recs) ≡ 1
   unfolding ram made counted
   item-once k low =
       let own = items-once 0 k items (omega arith) (omega arith) in
-      let ram_none = row-other (λ n. step.Ram n) part.Item (λ n k. refl) 0 regions k in
-      let recs_none = row-other (λ n. step.Rec n) part.Item (λ n k. refl) 0 recs k in
+      let ram_none = row-other (λ n. step.Ram n) part.Item (λ n k. refl) 0 num_regions k in
+      let recs_none = row-other (λ n. step.Rec n) part.Item (λ n k. refl) 0 num_recs k in
       omega (arith, split part.Item k, own, ram_none, recs_none)
 
-  rec-once : (k : ℕ) → k < recs → times part.Rec k (default_steps regions items recs) ≡ 1
+  rec-once : (k : ℕ) → k < num_recs → times part.Rec k (default_steps num_regions items num_recs) ≡ 1
   unfolding ram made
   rec-once k low =
-      let own = row-once (λ n. step.Rec n) part.Rec (λ n k. refl) 0 recs k (omega arith) (omega arith) in
+      let own = row-once (λ n. step.Rec n) part.Rec (λ n k. refl) 0 num_recs k (omega arith) (omega arith) in
       let other = items-other part.Rec (λ n k. refl) in
-      let ram_none = row-other (λ n. step.Ram n) part.Rec (λ n k. refl) 0 regions k in
+      let ram_none = row-other (λ n. step.Ram n) part.Rec (λ n k. refl) 0 num_regions k in
       omega (arith, split part.Rec k, own, other role.Kernel 0 k items, other role.Initrd 0 k items, other role.Dtb 0 k items, other role.Raw 0 k items, ram_none)
 
-  each-once : (p : Part) (n : ℕ) → ((k : ℕ) → k < n → times p k (default_steps regions items recs) ≡ 1) → each_once p (default_steps regions items recs) n ≡ true
+  each-once : (p : Part) (n : ℕ) → ((k : ℕ) → k < n → times p k (default_steps num_regions items num_recs) ≡ 1) → each_once p (default_steps num_regions items num_recs) n ≡ true
   unfolding each_once
-  each-once p n once = all-pass (λ k. times p k (default_steps regions items recs) == 1) 0 n (λ k low. ap (λ (m : ℕ). m == 1) (once k (omega arith)))
+  each-once p n once = all-pass (λ k. times p k (default_steps num_regions items num_recs) == 1) 0 n (λ k low. ap (λ (m : ℕ). m == 1) (once k (omega arith)))
 
-  pub default-complete : steps_complete regions (length items) recs (default_steps regions items recs) ≡ true
-  default-complete = rw (there, each-once part.Ram regions ram-once, each-once part.Item (length items) item-once, each-once part.Rec recs rec-once) refl
+  pub default-complete : steps_complete num_regions (length items) num_recs (default_steps num_regions items num_recs) ≡ true
+  default-complete = rw (there, each-once part.Ram num_regions ram-once, each-once part.Item (length items) item-once, each-once part.Rec num_recs rec-once) refl

@@ -12,9 +12,9 @@ use Rattle.rim_launch.specs.declared.conditions.Part.TheVariants as part
 
 -- whether a step names what the launch has
 abbrev pub names_something : ℕ → ℕ → ℕ → Step → Bool
-names_something regions items recs (step.Ram n) = nat_lt n regions
-names_something regions items recs (step.Item n) = nat_lt n items
-names_something regions items recs (step.Rec n) = nat_lt n recs
+names_something num_regions num_items num_recs (step.Ram n) = nat_lt n num_regions
+names_something num_regions num_items num_recs (step.Item n) = nat_lt n num_items
+names_something num_regions num_items num_recs (step.Rec n) = nat_lt n num_recs
 
 -- the number that a step names of this part, where it is a step of this part
 abbrev pub number_of : Part → Step → Option ℕ
@@ -41,8 +41,8 @@ each_once p steps n = list_all (λ k. times p k steps == 1) (range_with_len 0 n)
 
 -- each step names what the launch has, and each region, item and REC is named by exactly one
 abbrev pub steps_complete : ℕ → ℕ → ℕ → List Step → Bool
-steps_complete regions items recs steps = list_all (names_something regions items recs) steps
-    && each_once part.Ram steps regions && each_once part.Item steps items && each_once part.Rec steps recs
+steps_complete num_regions num_items num_recs steps = list_all (names_something num_regions num_items num_recs) steps
+    && each_once part.Ram steps num_regions && each_once part.Item steps num_items && each_once part.Rec steps num_recs
 
 -- ---- the steps of a launch that names none
 
@@ -52,6 +52,6 @@ item_steps r items = map (λ p. step.Item p.0) (filter (λ p. has_role r p.1) (e
 
 -- the regions, the kernel, the initrd, the devicetree, the other items, the RECs
 unfoldable pub default_steps : ℕ → List Item → ℕ → List Step
-default_steps regions items recs =
-    map step.Ram (range_with_len 0 regions) ++ item_steps role.Kernel items ++ item_steps role.Initrd items
-    ++ item_steps role.Dtb items ++ item_steps role.Raw items ++ map step.Rec (range_with_len 0 recs)
+default_steps num_regions items num_recs =
+    map step.Ram (range_with_len 0 num_regions) ++ item_steps role.Kernel items ++ item_steps role.Initrd items
+    ++ item_steps role.Dtb items ++ item_steps role.Raw items ++ map step.Rec (range_with_len 0 num_recs)

@@ -46,13 +46,13 @@ pub fn edits_possible(ram: &[Region], items: &[Item]) -> bool
 }
 
 /// Whether a step names a region, an item or a REC that the launch has.
-fn names_something(regions: usize, items: usize, recs: usize, step: &Step) -> bool
-    ensures { result ≡ names_something regions items recs step.now }
+fn names_something(num_regions: usize, num_items: usize, num_recs: usize, step: &Step) -> bool
+    ensures { result ≡ names_something num_regions num_items num_recs step.now }
 {
     match step {
-        Step::Ram(number) => *number < regions,
-        Step::Item(number) => *number < items,
-        Step::Rec(number) => *number < recs,
+        Step::Ram(number) => *number < num_regions,
+        Step::Item(number) => *number < num_items,
+        Step::Rec(number) => *number < num_recs,
     }
 }
 
@@ -127,21 +127,19 @@ fn each_once(part: Part, steps: &[Step], count: usize) -> bool
     all_marked(&named[..count])
 }
 
-fn all_name_something(regions: usize, items: usize, recs: usize, steps: &[Step]) -> bool
-    ensures { result ≡ list_all (names_something regions items recs) steps.now }
+fn all_name_something(num_regions: usize, num_items: usize, num_recs: usize, steps: &[Step]) -> bool
+    ensures { result ≡ list_all (names_something num_regions num_items num_recs) steps.now }
 {
-    steps
-        .iter()
-        .all(|step| names_something(regions, items, recs, step))
+    steps.iter().all(|step| names_something(num_regions, num_items, num_recs, step))
 }
 
 /// Whether each step names what the launch has, and each region, item and REC is named by exactly one.
-pub fn steps_complete(regions: usize, items: usize, recs: usize, steps: &[Step]) -> bool
-    requires { (regions ≤ 1024) × (items ≤ 1024) × (recs ≤ 1024) }
-    ensures { result ≡ steps_complete regions items recs steps.now }
+pub fn steps_complete(num_regions: usize, num_items: usize, num_recs: usize, steps: &[Step]) -> bool
+    requires { (num_regions ≤ 1024) × (num_items ≤ 1024) × (num_recs ≤ 1024) }
+    ensures { result ≡ steps_complete num_regions num_items num_recs steps.now }
 {
-    all_name_something(regions, items, recs, steps)
-        && each_once(Part::Ram, steps, regions)
-        && each_once(Part::Item, steps, items)
-        && each_once(Part::Rec, steps, recs)
+    all_name_something(num_regions, num_items, num_recs, steps)
+        && each_once(Part::Ram, steps, num_regions)
+        && each_once(Part::Item, steps, num_items)
+        && each_once(Part::Rec, steps, num_recs)
 }

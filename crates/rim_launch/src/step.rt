@@ -49,19 +49,19 @@ fn push_items(steps: &mut Vec<Step>, items: &[Item], role: Role) -> Result<(), A
 #[tactic(auto, unfolding(crate::specs::Steps::default_steps))]
 pub fn default_steps(
     alloc: Global,
-    regions: usize,
+    num_regions: usize,
     items: &[Item],
-    recs: usize,
+    num_recs: usize,
 ) -> Result<Vec<Step>, NoMemory>
-    ensures exact { IfOk result (λ v. v.items ≡ default_steps regions items.now recs) }
-    ensures complete { IfOk result (λ v. steps_complete regions (length items.now) recs v.items ≡ true) }
+    ensures exact { IfOk result (λ v. v.items ≡ default_steps num_regions items.now num_recs) }
+    ensures complete { IfOk result (λ v. steps_complete num_regions (length items.now) num_recs v.items ≡ true) }
 {
     let mut steps = Vec::new(alloc);
-    push_regions(&mut steps, regions)?;
+    push_regions(&mut steps, num_regions)?;
     push_items(&mut steps, items, Role::Kernel)?;
     push_items(&mut steps, items, Role::Initrd)?;
     push_items(&mut steps, items, Role::Dtb)?;
     push_items(&mut steps, items, Role::Raw)?;
-    push_recs(&mut steps, recs)?;
+    push_recs(&mut steps, num_recs)?;
     Ok(steps)
 }

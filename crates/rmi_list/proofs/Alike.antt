@@ -77,7 +77,7 @@ region-alike c v w r same =
     (record { entries = es; next = record v { plan = after_region p r.base r.end; taken = v.taken + delegated es } })
     (record { entries = fs; next = record w { plan = after_region q r.base r.end; taken = w.taken + delegated fs } })
     (same-checks c v w (region_checks p r.base r.end) (region_checks q r.base r.end) es fs same.taken checks entries) entries
-    (record { plan = after_region-alike p q r.base r.end same.plan; taken = same-taken v w es fs same.taken entries; recs = same.recs })
+    (record { plan = after_region-alike p q r.base r.end same.plan; taken = same-taken v w es fs same.taken entries; num_recs = same.num_recs })
 
 item-alike : (c : Config) (v w : Progress) (number : ℕ) (item : PlacedItem) → SameProgress v w → AreAlike (list_item c v number item) (list_item c w number item)
 unfolding list_item
@@ -109,23 +109,23 @@ item-alike c v w number item same = by_pages (eqb item.pages 0)
         rw (space.protected_end, list_all-same (is_ram p.space.ram) (is_ram q.space.ram) xs space.ram, list_any-same (has p.space.assigned) (has q.space.assigned) xs space.assigned) refl in
         checked-alike (checks_at v) (checks_at w) (made v) (made w)
         (same-checks c v w (data_checks p base item.pages) (data_checks q base item.pages) (entries_at v) (entries_at w) same.taken checks entries) entries
-        (record { plan = after_data-alike p q base item.pages same.plan; taken = same-taken v w (entries_at v) (entries_at w) same.taken entries; recs = same.recs })
+        (record { plan = after_data-alike p q base item.pages same.plan; taken = same-taken v w (entries_at v) (entries_at w) same.taken entries; num_recs = same.num_recs })
 
 -- a REC is listed by the granules and RECs so far, and by no plan
 rec-alike : (c : Config) (v w : Progress) (number : ℕ) (r : PlacedRec) → SameProgress v w → AreAlike (list_rec c v number r) (list_rec c w number r)
 unfolding list_rec
 rec-alike c v w number r same =
-    checked-alike (checks_at v) (checks_at w) (made v) (made w) (rw (same.taken, same.recs) refl) (rw same.taken refl)
-    (record { plan = same.plan; taken = rw same.taken refl; recs = ap (λ (n : ℕ). n + 1) same.recs })
+    checked-alike (checks_at v) (checks_at w) (made v) (made w) (rw (same.taken, same.num_recs) refl) (rw same.taken refl)
+    (record { plan = same.plan; taken = rw same.taken refl; num_recs = ap (λ (n : ℕ). n + 1) same.num_recs })
   where
     entries_at : Progress → List Entry
     entries_at u = rec_entries c.pool_base u.taken c.num_aux (rec_params number r (granules c.num_aux (granule c.pool_base (u.taken + 1))))
 
     made : Progress → Listing
-    made u = record { entries = entries_at u; next = record u { taken = u.taken + delegated (entries_at u); recs = u.recs + 1 } }
+    made u = record { entries = entries_at u; next = record u { taken = u.taken + delegated (entries_at u); num_recs = u.num_recs + 1 } }
 
     checks_at : Progress → List (Check ListFault)
-    checks_at u = (fault.RecOrder, not (eqb number u.recs)) ∷ (fault.RecNotRunnable, not r.runnable) ∷ pool_check c u.taken (entries_at u) ∷ []
+    checks_at u = (fault.RecOrder, not (eqb number u.num_recs)) ∷ (fault.RecNotRunnable, not r.runnable) ∷ pool_check c u.taken (entries_at u) ∷ []
 
 named-alike : {A : Type 0} (v w : Progress) (f g : A → Result Listing ListFault) (o : Option A) → SameProgress v w → ((x : A) → AreAlike (f x) (g x))
     → AreAlike (list_named v f o) (list_named w g o)

@@ -55,10 +55,10 @@ use Rattle.rmi_list.proofs.Params.{good-realm}
 -- ---- what was listed is built
 
 abbrev build_of : Config → Build
-build_of c = record { params = realm_params c; aux = c.num_aux; pool = c.pool_base }
+build_of c = record { params = realm_params c; num_aux = c.num_aux; pool = c.pool_base }
 
 abbrev built_of : Progress → Built
-built_of w = planned w.plan w.taken w.recs
+built_of w = planned w.plan w.taken w.num_recs
 
 record IsListed (c : Config) (w : Progress) (s : State) : Type 0 where
   built : IsBuilt (build_of c) (built_of w) s
@@ -88,7 +88,7 @@ region-follows c contents s w r done is_listed at =
     let same : made ≡ done = is-done checks made done at in
     let off : holds (region_checks w.plan r.base r.end) ≡ false = plan-off (region_checks w.plan r.base r.end) last (none-holds checks made done at) in
     let accepts = region-accepted w.plan r.base r.end off in
-    let led = region-leads contents (build_of c) w.plan w.taken w.recs r.base r.end s is_listed.built is_listed.planned r.ordered accepts in
+    let led = region-leads contents (build_of c) w.plan w.taken w.num_recs r.base r.end s is_listed.built is_listed.planned r.ordered accepts in
     subst (λ (d : Listing). Follows c s (commands_of contents d.entries) (block_parts r.base r.end (least_level c)) d.next) same (record {
       accepted = led.accepted;
       shown = led.shown ∙ ap (block_parts r.base r.end) is_listed.least;
@@ -115,7 +115,7 @@ item-follows c contents s w number item done is_listed good = elim (cases_Bool (
       let same : made ≡ done = is-done checks made done at in
       let off : holds (data_checks w.plan base item.pages) ≡ false = plan-off (data_checks w.plan base item.pages) last (none-holds checks made done at) in
       let accepts = data-accepted w.plan base item.pages off in
-      let led = item-leads contents (build_of c) w.plan w.taken w.recs item.measured number base item.pages s is_listed.built is_listed.planned good accepts in
+      let led = item-leads contents (build_of c) w.plan w.taken w.num_recs item.measured number base item.pages s is_listed.built is_listed.planned good accepts in
       subst (λ (d : Listing). Follows c s (commands_of contents d.entries) (page_parts item.measured contents number base item.pages) d.next) same (record {
         accepted = led.accepted;
         shown = led.shown;
@@ -141,11 +141,11 @@ unfolding list_rec
 rec-follows c contents s w number r done is_listed few at =
     let params : RecData = rec_params number r (granules c.num_aux (granule c.pool_base (w.taken + 1))) in
     let entries : List Entry = rec_entries c.pool_base w.taken c.num_aux params in
-    let made : Listing = record { entries = entries; next = record w { taken = w.taken + delegated entries; recs = w.recs + 1 } } in
-    let checks : List (Check ListFault) = (fault.RecOrder, not (eqb number w.recs)) ∷ (fault.RecNotRunnable, not r.runnable) ∷ pool_check c w.taken entries ∷ [] in
+    let made : Listing = record { entries = entries; next = record w { taken = w.taken + delegated entries; num_recs = w.num_recs + 1 } } in
+    let checks : List (Check ListFault) = (fault.RecOrder, not (eqb number w.num_recs)) ∷ (fault.RecNotRunnable, not r.runnable) ∷ pool_check c w.taken entries ∷ [] in
     let same : made ≡ done = is-done checks made done at in
     let off : holds checks ≡ false = none-holds checks made done at in
-    let order : number ≡ w.recs = eqb-true number w.recs (not-false (eqb number w.recs) (off-at checks 0 fault.NoMemory off)) in
+    let order : number ≡ w.num_recs = eqb-true number w.num_recs (not-false (eqb number w.num_recs) (off-at checks 0 fault.NoMemory off)) in
     let next : IsNextRec (build_of c) (built_of w) params = record {
       runnable = flag-one r.runnable (off-at checks 1 fault.NoMemory off);
       number = ap rec_mpidr_of order;

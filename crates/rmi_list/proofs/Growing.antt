@@ -25,13 +25,13 @@ pub record Going (old now : Draft) (all rest : List Entry) : Type 0 where
   pub launch : now.launch ≡ old.launch
   pub placed : now.placed ≡ old.placed
   pub tables : now.tables ≡ old.tables
-  pub recs : now.recs ≡ old.recs
+  pub num_recs : now.num_recs ≡ old.num_recs
   pub entries : entries_in now ++ rest ≡ entries_in old ++ all
   pub taken : now.taken + delegated rest ≡ old.taken + delegated all
   pub pool : InPool old → InPool now
 
 pub going-starts : (d : Draft) (all : List Entry) → Going d d all all
-going-starts d all = record { launch = refl; placed = refl; tables = refl; recs = refl; entries = refl; taken = refl; pool = λ within. within }
+going-starts d all = record { launch = refl; placed = refl; tables = refl; num_recs = refl; entries = refl; taken = refl; pool = λ within. within }
 
 pub going-ends : (old now : Draft) (all rest : List Entry) → Going old now all rest → rest ≡ [] → Grows old now all
 going-ends old now all rest going none =
@@ -41,7 +41,7 @@ going-ends old now all rest going none =
       launch = over.launch;
       placed = over.placed;
       tables = over.tables;
-      recs = over.recs;
+      num_recs = over.num_recs;
       entries = sym (append-nil (entries_in now)) ∙ over.entries;
       taken = omega arith;
       pool = over.pool;
@@ -63,7 +63,7 @@ going-on old now next all rest here later going split grows =
       launch = grown.launch ∙ going.launch;
       placed = grown.placed ∙ going.placed;
       tables = grown.tables ∙ going.tables;
-      recs = grown.recs ∙ going.recs;
+      num_recs = grown.num_recs ∙ going.num_recs;
       entries = ap (λ xs. xs ++ later next.taken) grown.entries ∙ append_assoc (entries_in now) es (later next.taken) ∙ ap (λ xs. entries_in now ++ xs) (sym parts) ∙ going.entries;
       taken = omega arith;
       pool = λ within. grown.pool (going.pool within);

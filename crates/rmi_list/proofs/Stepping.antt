@@ -81,7 +81,7 @@ planned-continues old new t after checks a ok es (Ok u) within passed agrees gro
         launch = grows.launch;
         placed = grows.placed;
         entries = grows.entries;
-        progress = record { plan = rw grows.tables agrees; taken = grows.taken; recs = grows.recs };
+        progress = record { plan = rw grows.tables agrees; taken = grows.taken; num_recs = grows.num_recs };
         pool = size;
       },
     )
@@ -155,7 +155,7 @@ unfolding list_item
 item-idle old number item within none = rw none (
   record { entries = []; next = progress_of old },
   refl,
-  record { launch = refl; placed = refl; entries = sym (append-nil (entries_in old)); progress = record { plan = agrees-refl old.tables; taken = refl; recs = refl }; pool = within },
+  record { launch = refl; placed = refl; entries = sym (append-nil (entries_in old)); progress = record { plan = agrees-refl old.tables; taken = refl; num_recs = refl }; pool = within },
 )
 
 -- ---- RECs
@@ -169,7 +169,7 @@ grows-then a b d es fs first second =
       launch = second.launch ∙ first.launch;
       placed = second.placed ∙ first.placed;
       tables = second.tables ∙ first.tables;
-      recs = second.recs ∙ first.recs;
+      num_recs = second.num_recs ∙ first.num_recs;
       entries = second.entries ∙ ap (λ xs. xs ++ fs) first.entries ∙ append_assoc (entries_in a) es fs;
       taken = omega arith;
       pool = λ within. second.pool (first.pool within);
@@ -215,23 +215,23 @@ rec-split old number r =
     let f : granule (pool_of old) (old.taken + 1) ≡ granule (pool_of old) old.taken + 4096 = omega arith in
     rw (e, f) refl
 
-order-off : (number recs : ℕ) → number ≡ recs → not (eqb number recs) ≡ false
-order-off number recs e = grind (arith, nat_tests)
+order-off : (number num_recs : ℕ) → number ≡ num_recs → not (eqb number num_recs) ≡ false
+order-off number num_recs e = grind (arith, nat_tests)
 
-order-on : (number recs : ℕ) → (number ≡ recs → ⊥) → not (eqb number recs) ≡ true
-order-on number recs e = grind (arith, nat_tests)
+order-on : (number num_recs : ℕ) → (number ≡ num_recs → ⊥) → not (eqb number num_recs) ≡ true
+order-on number num_recs e = grind (arith, nat_tests)
 
-pub rec-out-of-order : (old : Draft) (number : ℕ) (r : PlacedRec) → (number ≡ old.recs → ⊥) → list_rec old.launch.now.config (progress_of old) number r ≡ Err fault.RecOrder
+pub rec-out-of-order : (old : Draft) (number : ℕ) (r : PlacedRec) → (number ≡ old.num_recs → ⊥) → list_rec old.launch.now.config (progress_of old) number r ≡ Err fault.RecOrder
 unfolding list_rec
-rec-out-of-order old number r other = rw (order-on number old.recs other) refl
+rec-out-of-order old number r other = rw (order-on number old.num_recs other) refl
 
-pub rec-not-runnable : (old : Draft) (number : ℕ) (r : PlacedRec) → number ≡ old.recs → r.runnable ≡ false
+pub rec-not-runnable : (old : Draft) (number : ℕ) (r : PlacedRec) → number ≡ old.num_recs → r.runnable ≡ false
     → list_rec old.launch.now.config (progress_of old) number r ≡ Err fault.RecNotRunnable
 unfolding list_rec
-rec-not-runnable old number r order off = rw (order-off number old.recs order, off) refl
+rec-not-runnable old number r order off = rw (order-off number old.num_recs order, off) refl
 
 -- a REC of which some granule is refused
-pub rec-refused : (old : Draft) (number : ℕ) (r : PlacedRec) (e : ListFault) → number ≡ old.recs → r.runnable ≡ true
+pub rec-refused : (old : Draft) (number : ℕ) (r : PlacedRec) (e : ListFault) → number ≡ old.num_recs → r.runnable ≡ true
     → Refuses old e (own_granule old ++ (aux_granules old ++ rec_itself old number r))
     → (e ≡ fault.NoMemory) ⊎ (list_rec old.launch.now.config (progress_of old) number r ≡ Err e)
 unfolding list_rec
@@ -240,28 +240,28 @@ rec-refused old number r e order on (inr full) =
     let small : old.launch.now.config.pool_count < old.taken + delegated (own_granule old ++ (aux_granules old ++ rec_itself old number r)) = full.1 in
     let over : old.launch.now.config.pool_count < old.taken + delegated (all_of_rec old number r) = rw (rec-split old number r) small in
     let test : nat_lt old.launch.now.config.pool_count (old.taken + delegated (all_of_rec old number r)) ≡ true = grind (arith, nat_tests) in
-    inr (rw (order-off number old.recs order) (rw test (rw (on, full.0) refl)))
+    inr (rw (order-off number old.num_recs order) (rw test (rw (on, full.0) refl)))
 
 -- a REC that is listed
-pub rec-makes : (old new : Draft) (number : ℕ) (r : PlacedRec) → InPool old → number ≡ old.recs → r.runnable ≡ true
+pub rec-makes : (old new : Draft) (number : ℕ) (r : PlacedRec) → InPool old → number ≡ old.num_recs → r.runnable ≡ true
     → Grows old new (own_granule old ++ (aux_granules old ++ rec_itself old number r))
-    → (done : Listing) × (list_rec old.launch.now.config (progress_of old) number r ≡ Ok done) × Makes old (record new { recs = new.recs + 1 }) done
+    → (done : Listing) × (list_rec old.launch.now.config (progress_of old) number r ≡ Ok done) × Makes old (record new { num_recs = new.num_recs + 1 }) done
 unfolding list_rec
 rec-makes old new number r within order on grown =
     let es : List Entry = all_of_rec old number r in
     let grows : Grows old new es = rw (rec-split old number r) grown in
-    let made : Listing = record { entries = es; next = record (progress_of old) { taken = old.taken + delegated es; recs = old.recs + 1 } } in
+    let made : Listing = record { entries = es; next = record (progress_of old) { taken = old.taken + delegated es; num_recs = old.num_recs + 1 } } in
     let size : InPool new = grows.pool within in
     let taken : new.taken ≡ old.taken + delegated es = grows.taken in
     let pool : new.launch.now.config.pool_count ≡ old.launch.now.config.pool_count = ap (λ (l : _). l.now.config.pool_count) grows.launch in
     let off : nat_lt old.launch.now.config.pool_count (old.taken + delegated es) ≡ false = grind (arith, nat_tests) in (
       made,
-      rw (order-off number old.recs order) (rw off (rw on refl)),
+      rw (order-off number old.num_recs order) (rw off (rw on refl)),
       record {
         launch = grows.launch;
         placed = grows.placed;
         entries = grows.entries;
-        progress = record { plan = rw grows.tables (agrees-refl old.tables); taken = grows.taken; recs = ap (λ (n : ℕ). n + 1) grows.recs };
+        progress = record { plan = rw grows.tables (agrees-refl old.tables); taken = grows.taken; num_recs = ap (λ (n : ℕ). n + 1) grows.num_recs };
         pool = size;
       },
     )
@@ -296,7 +296,7 @@ pub nothing-named : {A : Type 0} (old : Draft) (list : A → Result Listing List
 nothing-named old list o within none = rw none (
   record { entries = []; next = progress_of old },
   refl,
-  record { launch = refl; placed = refl; entries = sym (append-nil (entries_in old)); progress = record { plan = agrees-refl old.tables; taken = refl; recs = refl }; pool = within },
+  record { launch = refl; placed = refl; entries = sym (append-nil (entries_in old)); progress = record { plan = agrees-refl old.tables; taken = refl; num_recs = refl }; pool = within },
 )
 
 -- what a number names, as a look-up found it

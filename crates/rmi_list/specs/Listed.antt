@@ -32,7 +32,7 @@ pub record Progress : Type 0 where
   -- how many granules of the pool were taken
   pub taken : ℕ
   -- how many RECs were listed
-  pub recs : ℕ
+  pub num_recs : ℕ
 
 -- the entries of a step, and what was listed with them
 pub record Listing : Type 0 where
@@ -77,9 +77,9 @@ list_item c w number item =
 unfoldable pub list_rec : Config → Progress → ℕ → PlacedRec → Result Listing ListFault
 list_rec c w number r =
     let entries = rec_entries c.pool_base w.taken c.num_aux (rec_params number r (granules c.num_aux (granule c.pool_base (w.taken + 1)))) in
-    unless_refused ((RecOrder, not (number == w.recs)) ∷ (RecNotRunnable, not r.runnable) ∷ pool_check c w.taken entries ∷ []) (record {
+    unless_refused ((RecOrder, not (number == w.num_recs)) ∷ (RecNotRunnable, not r.runnable) ∷ pool_check c w.taken entries ∷ []) (record {
       entries = entries;
-      next = record w { taken = w.taken + delegated entries; recs = w.recs + 1 };
+      next = record w { taken = w.taken + delegated entries; num_recs = w.num_recs + 1 };
     })
 
 -- what a number names is listed; nothing where it names nothing
@@ -105,7 +105,7 @@ opening_entries c = realm_entries c.pool_base (realm_params c)
 
 -- what was listed with them
 abbrev pub opening : Config → Progress
-opening c = record { plan = nothing_planned c.s2sz c.block_level; taken = delegated (opening_entries c); recs = 0 }
+opening c = record { plan = nothing_planned c.s2sz c.block_level; taken = delegated (opening_entries c); num_recs = 0 }
 
 -- the most RECs of a list
 abbrev pub rec_limit : ℕ

@@ -24,7 +24,7 @@ pub struct Draft<'a> {
     /// How many granules of the pool were taken.
     pub taken: u64,
     /// How many RECs were listed.
-    pub recs: usize,
+    pub num_recs: usize,
 }
 
 /// The item whose pages are listed: its number, and whether it is measured.

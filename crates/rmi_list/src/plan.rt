@@ -83,7 +83,7 @@ fn open<'a>(alloc: Global, launch: &'a Launch, placed: &'a Placed) -> Result<Dra
         tables: Tables::new(alloc, config.s2sz, config.block_level),
         kept: Vec::new(alloc),
         taken: 0,
-        recs: 0,
+        num_recs: 0,
     };
     draft.delegate_all(start_count(config.s2sz))?;
     let rd = draft.delegate()?;

@@ -47,7 +47,7 @@ impl<'a> Draft<'a> {
         requires own { slice_get self.old.placed.now.recs number ≡ Some rec.now }
         ensures { Continues self.old self.new result (list_rec self.old.launch.now.config (progress_of self.old) number rec.now) }
     {
-        if number != self.recs {
+        if number != self.num_recs {
             return Err(ListFault::RecOrder);
         }
         if !rec.runnable {
@@ -59,7 +59,7 @@ impl<'a> Draft<'a> {
             rec: granule,
             number: number as u16,
         })?;
-        self.recs += 1;
+        self.num_recs += 1;
         Ok(())
     }
 

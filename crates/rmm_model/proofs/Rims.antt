@@ -130,6 +130,6 @@ bare-run (c ∷ cs) s p h =
     ]
 
 -- from the empty state on
-pub rim-run : (aux : ℕ) (cs : List Command) (p : RealmParams) → (run (empty_state aux) cs).params ≡ Some p
-    → (run (empty_state aux) cs).rim ≡ Some (rim_of p.algo (shown (empty_state aux) cs))
-rim-run aux cs p at = bare-run cs (empty_state aux) p (record { phase = refl; params = refl; rim = refl }) at
+pub rim-run : (num_aux : ℕ) (cs : List Command) (p : RealmParams) → (run (empty_state num_aux) cs).params ≡ Some p
+    → (run (empty_state num_aux) cs).rim ≡ Some (rim_of p.algo (shown (empty_state num_aux) cs))
+rim-run num_aux cs p at = bare-run cs (empty_state num_aux) p (record { phase = refl; params = refl; rim = refl }) at

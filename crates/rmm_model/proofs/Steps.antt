@@ -49,11 +49,11 @@ data_create-taken s g ipa content phase good at place inside walk ram free own =
     rw phase (rw good (rw (at, place) (rw t1 (rw walk (rw ram (rw free (rw own refl)))))))
 
 pub rec_create-taken : (s : State) (g : ℕ) (r : RecData) → is_new s.phase ≡ true → is_bad_rec r ≡ false → g % 4096 ≡ 0 → list_all (is_multiple 4096) r.aux ≡ true
-    → rec_index r.mpidr ≡ s.recs → length r.aux ≡ s.aux → all_delegated s.owners (g ∷ r.aux) ≡ true → repeats (g ∷ r.aux) ≡ false
+    → rec_index r.mpidr ≡ s.num_recs → length r.aux ≡ s.num_aux → all_delegated s.owners (g ∷ r.aux) ≡ true → repeats (g ∷ r.aux) ≡ false
     → step s (RecCreate g r) ≡ Ok (measured (changed s (RecCreate g r)) (parts s (RecCreate g r)))
 rec_create-taken s g r phase good at places index count own apart =
-    let t1 : eqb s.recs s.recs ≡ true = grind (arith, nat_tests) in
-    let t2 : eqb s.aux s.aux ≡ true = grind (arith, nat_tests) in
+    let t1 : eqb s.num_recs s.num_recs ≡ true = grind (arith, nat_tests) in
+    let t2 : eqb s.num_aux s.num_aux ≡ true = grind (arith, nat_tests) in
     rw phase (rw good (rw at (rw places (rw index (rw t1 (rw count (rw t2 (rw (own, apart) refl))))))))
 
 pub realm_create-taken : (s : State) (rd : ℕ) (p : RealmParams) → is_empty s.phase ≡ true → is_bad_realm p ≡ false → rd % 4096 ≡ 0

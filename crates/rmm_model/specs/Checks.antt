@@ -120,8 +120,8 @@ rec_checks s rec r =
     (State, not (monitor.is_new s.phase))
     ∷ (BadParams, is_bad_rec r)
     ∷ (Unaligned, not (is_multiple 4096 rec) || not (list_all (is_multiple 4096) r.aux))
-    ∷ (RecIndex, not (rec_index r.mpidr == s.recs))
-    ∷ (AuxCount, not (length r.aux == s.aux))
+    ∷ (RecIndex, not (rec_index r.mpidr == s.num_recs))
+    ∷ (AuxCount, not (length r.aux == s.num_aux))
     ∷ (NotDelegated, not (all_delegated s.owners (rec ∷ r.aux)) || repeats (rec ∷ r.aux)) ∷ []
 
 abbrev pub activate_checks : monitor.State → List (Check Refused)

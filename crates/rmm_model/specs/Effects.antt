@@ -43,7 +43,7 @@ changed s (RealmCreate rd params) = record s {
 changed s (RttCreate rtt ipa level) = record s { owners = give s.owners rtt kind.Rtt; space = after_table s.space level ipa }
 changed s (InitRipas base top) = record s { space = after_run s.space base top }
 changed s (DataCreate granule ipa content) = record s { owners = give s.owners granule kind.DataPage; space = after_page s.space ipa }
-changed s (RecCreate rec params) = record s { owners = give_all (give s.owners rec kind.Rec) params.aux kind.RecAux; recs = s.recs + 1 }
+changed s (RecCreate rec params) = record s { owners = give_all (give s.owners rec kind.Rec) params.aux kind.RecAux; num_recs = s.num_recs + 1 }
 changed s Activate = record s { phase = Active }
 
 -- the state with its measurement set or extended by some parts; without parts as it was

@@ -15,18 +15,18 @@ pub record State : Type 0 where
   -- the realm's parameters, once a realm is created
   pub params : Option RealmParams
   -- the number of auxiliary granules of each REC
-  pub aux : ℕ
+  pub num_aux : ℕ
   -- granules and their kinds, by address
   pub owners : List (ℕ × Kind)
   pub space : Space
   -- the number of RECs made
-  pub recs : ℕ
+  pub num_recs : ℕ
   -- the Realm Initial Measurement, once a realm is created
   pub rim : Option (List ℕ)
 
 -- the state before the first command
 abbrev pub empty_state : ℕ → State
-empty_state aux = record { phase = Empty; params = None; aux = aux; owners = []; space = empty_space 0 0; recs = 0; rim = None }
+empty_state num_aux = record { phase = Empty; params = None; num_aux = num_aux; owners = []; space = empty_space 0 0; num_recs = 0; rim = None }
 
 abbrev pub is_empty : Phase → Bool
 is_empty Empty = true

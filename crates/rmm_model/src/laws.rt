@@ -69,8 +69,8 @@ pub fn overlap_is_some_ram()
 /// The measurement that commands leave is the one that their parts make, in order; a command that is
 /// refused has no part in it.
 pub fn rim_is_of_its_parts()
-    ensures { (aux : ℕ) (commands : List Command) (params : RealmParams) → (run (empty_state aux) commands).params ≡ Some params
-        → (run (empty_state aux) commands).rim ≡ Some (rim_of params.algo (shown (empty_state aux) commands)) }
+    ensures { (num_aux : ℕ) (commands : List Command) (params : RealmParams) → (run (empty_state num_aux) commands).params ≡ Some params
+        → (run (empty_state num_aux) commands).rim ≡ Some (rim_of params.algo (shown (empty_state num_aux) commands)) }
 {}
 
 /// Commands that are all accepted take no granule twice.

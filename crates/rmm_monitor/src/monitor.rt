@@ -31,10 +31,10 @@ use std::marker::Model;
 pub struct Monitor {
     phase: Phase,
     params: Option<RealmParams>,
-    aux: u8,
+    num_aux: u8,
     owners: Owners,
     space: IpaSpace,
-    recs: u64,
+    num_recs: u64,
     rim: Option<Measurement>,
     alloc: Global,
 }
@@ -50,18 +50,18 @@ impl Model for Monitor {
 }
 
 impl Monitor {
-    /// A monitor without a realm, whose RECs have `aux` auxiliary granules each. It takes no memory.
-    pub fn new(alloc: Global, aux: u8) -> Monitor
-        requires { aux ≤ 16 }
-        ensures { result ≡ empty_state aux }
+    /// A monitor without a realm, whose RECs have `num_aux` auxiliary granules each. It takes no memory.
+    pub fn new(alloc: Global, num_aux: u8) -> Monitor
+        requires { num_aux ≤ 16 }
+        ensures { result ≡ empty_state num_aux }
     {
         Monitor {
             phase: Phase::Empty,
             params: None,
-            aux,
+            num_aux,
             owners: Owners::new(alloc),
             space: IpaSpace::new(alloc, 0, 0),
-            recs: 0,
+            num_recs: 0,
             rim: None,
             alloc,
         }
@@ -241,10 +241,10 @@ impl Monitor {
         if rec % 4096 != 0 || !all_aligned(aux) {
             return Err(Refused::Unaligned);
         }
-        if rec_index(params.mpidr()) != self.recs {
+        if rec_index(params.mpidr()) != self.num_recs {
             return Err(Refused::RecIndex);
         }
-        if params.num_aux() != self.aux {
+        if params.num_aux() != self.num_aux {
             return Err(Refused::AuxCount);
         }
         if cannot_hold_rec(&self.owners, rec, aux) {
@@ -252,7 +252,7 @@ impl Monitor {
         }
         self.owners.give(rec, Kind::Rec);
         self.owners.give_all(aux, Kind::RecAux);
-        self.recs += 1;
+        self.num_recs += 1;
         self.rim = Some(extended_by_rec(algo_of(self.params), measured_so_far(self.rim), params));
         Ok(())
     }

@@ -21,7 +21,7 @@ entry_in d k = entry_of (realm_params d.launch.now.config) d.launch.now.config.n
 
 -- how far it is
 abbrev pub progress_of : Draft → Progress
-progress_of d = record { plan = d.tables; taken = d.taken; recs = d.recs }
+progress_of d = record { plan = d.tables; taken = d.taken; num_recs = d.num_recs }
 
 -- no more granules were taken than the pool has
 abbrev pub InPool : Draft → Type 0
@@ -32,7 +32,7 @@ pub record Grows (old new : Draft) (es : List Entry) : Type 0 where
   pub launch : new.launch ≡ old.launch
   pub placed : new.placed ≡ old.placed
   pub tables : new.tables ≡ old.tables
-  pub recs : new.recs ≡ old.recs
+  pub num_recs : new.num_recs ≡ old.num_recs
   pub entries : entries_in new ≡ entries_in old ++ es
   pub taken : new.taken ≡ old.taken + delegated es
   pub pool : InPool old → InPool new
@@ -48,7 +48,7 @@ Lists old new (Err e) entries = (e ≡ fault.NoMemory) ⊎ ((e ≡ fault.PoolEnd
 pub record SameProgress (v w : Progress) : Type 0 where
   pub plan : AgreesWith v.plan w.plan
   pub taken : v.taken ≡ w.taken
-  pub recs : v.recs ≡ w.recs
+  pub num_recs : v.num_recs ≡ w.num_recs
 
 -- the entries of a listing were added, and its progress was made
 pub record Makes (old new : Draft) (done : Listing) : Type 0 where

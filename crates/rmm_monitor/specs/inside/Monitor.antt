@@ -7,9 +7,9 @@ abbrev pub shown_state : Inside → State
 shown_state m = record {
   phase = m.phase;
   params = m.params;
-  aux = m.aux;
+  num_aux = m.num_aux;
   owners = m.owners;
   space = m.space;
-  recs = m.recs;
+  num_recs = m.num_recs;
   rim = option_map (λ r. r.bytes) m.rim;
 }

@@ -8,5 +8,5 @@ pub returns-clause-complete : goal.returns-clause-complete
 unfolding default_steps
 returns-clause-complete c =
     let n = length c.args.items.now in
-    let made : c.push_recs.new.steps.items ≡ default_steps c.args.regions c.args.items.now c.args.recs = search rules in
-    subst (λ (steps : List Step). steps_complete c.args.regions n c.args.recs steps ≡ true) (sym made) (default-complete c.args.regions c.args.items.now c.args.recs)
+    let made : c.push_recs.new.steps.items ≡ default_steps c.args.num_regions c.args.items.now c.args.num_recs = search rules in
+    subst (λ (steps : List Step). steps_complete c.args.num_regions n c.args.num_recs steps ≡ true) (sym made) (default-complete c.args.num_regions c.args.items.now c.args.num_recs)

@@ -18,7 +18,7 @@ start_count-requires c = c.config-config.result.width
 pub returns-in_err-delegate_all-clause-fault : goal.returns-in_err-delegate_all-clause-fault
 returns-in_err-delegate_all-clause-fault c =
     let p = err_from_is_err_and c.from_residual.result c.from_residual.ensures.1 in
-    let first : Draft = record { launch = c.args.launch; placed = c.args.placed; tables = c.new.result; kept = c.new-2.result; taken = 0; recs = 0 } in
+    let first : Draft = record { launch = c.args.launch; placed = c.args.placed; tables = c.new.result; kept = c.new-2.result; taken = 0; num_recs = 0 } in
     rw (p.1, p.2) (first-tables-refused first _ _ _ c.config-config.ensures.value c.start_count.ensures.value refl c.in_err-delegate_all.ensures)
 
 pub returns-in_err-rd-clause-fault : goal.returns-in_err-rd-clause-fault
@@ -35,4 +35,4 @@ pub returns-clause-progress : goal.returns-clause-progress
 returns-clause-progress c =
     let grows = first-grows _ _ _ _ _ _ _ c.config-config.ensures.value c.start_count.ensures.value refl c.in_ok-delegate_all.ensures c.in_ok-rd.ensures.lists c.in_ok-rd.ensures.value c.in_ok-push.ensures in
     let none : 0 + delegated (opening_entries c.args.launch.now.config) ≡ delegated (opening_entries c.args.launch.now.config) = omega arith in
-    rw (grows.tables, grows.taken, grows.recs, c.new.ensures, none, c.config-config.ensures.value) refl
+    rw (grows.tables, grows.taken, grows.num_recs, c.new.ensures, none, c.config-config.ensures.value) refl
