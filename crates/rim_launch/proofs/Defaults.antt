@@ -9,14 +9,14 @@ use Rattle.rim_launch.specs.declared.item.Kind.{Kind}
 use Rattle.rim_launch.specs.declared.item.Kind.TheVariants.{Kernel, Initrd, Dtb, Raw}
 use Rattle.rim_launch.specs.declared.step.Step.{Step}
 use Rattle.rim_launch.specs.declared.step.Step.TheVariants as step
-use Rattle.rim_launch.specs.declared.conditions.Part.{Part}
-use Rattle.rim_launch.specs.declared.conditions.Part.TheVariants as part
+use Rattle.rim_launch.specs.declared.conditions.StepTarget.{StepTarget}
+use Rattle.rim_launch.specs.declared.conditions.StepTarget.TheVariants as target
 use Rattle.rim_launch.specs.declared.item.Role.{Role}
 use Rattle.rim_launch.specs.declared.item.Role.TheVariants as role
 use Rattle.rim_launch.specs.Kinds.{has_role, is_role, role_of}
 use Rattle.rim_launch.specs.Steps.{names, names_something, times, each_once, steps_complete, default_steps}
 
-times-append : (p : Part) (k : ℕ) (xs ys : List Step) → times p k (xs ++ ys) ≡ times p k xs + times p k ys
+times-append : (p : StepTarget) (k : ℕ) (xs ys : List Step) → times p k (xs ++ ys) ≡ times p k xs + times p k ys
 times-append p k xs ys = sum_by-append (λ x. cond (names p k x) 1 0) xs ys
 
 -- a test of all numbers, which each passes
@@ -26,7 +26,7 @@ all-pass t a (suc n) h =
     let first : t a ≡ true = h a (omega arith) in
     rw first (all-pass t (a + 1) n (λ k low. h k (omega arith)))
 
-times-next : (p : Part) (k : ℕ) (x : Step) (xs : List Step) (b : Bool) → names p k x ≡ b → times p k (x ∷ xs) ≡ cond b 1 0 + times p k xs
+times-next : (p : StepTarget) (k : ℕ) (x : Step) (xs : List Step) (b : Bool) → names p k x ≡ b → times p k (x ∷ xs) ≡ cond b 1 0 + times p k xs
 times-next p k x xs b e =
     let first = sum_by-append (λ y. cond (names p k y) 1 0) (x ∷ []) xs in
     let counts : cond {A = ℕ} (names p k x) 1 0 ≡ cond {A = ℕ} b 1 0 = ap (λ (c : Bool). cond c 1 0) e in
@@ -34,7 +34,7 @@ times-next p k x xs b e =
 
 -- ---- steps of a row of numbers
 
-module _ (make : ℕ → Step) (p : Part) (own : (n k : ℕ) → names p k (make n) ≡ (n == k)) where
+module _ (make : ℕ → Step) (p : StepTarget) (own : (n k : ℕ) → names p k (make n) ≡ (n == k)) where
   row-none : (a n k : ℕ) → k < a → times p k (map make (range_with_len a n)) ≡ 0
   row-none a zero k lt = refl
   row-none a (suc n) k lt =
@@ -50,7 +50,7 @@ module _ (make : ℕ → Step) (p : Part) (own : (n k : ℕ) → names p k (make
       go false e rest = omega (arith, times-next p k (make a) (map make (range_with_len (a + 1) n)) false (own a k ∙ e), rest (omega (arith, eqb-false a k e)))
 
 -- steps of another part
-module _ (make : ℕ → Step) (p : Part) (other : (n k : ℕ) → names p k (make n) ≡ false) where
+module _ (make : ℕ → Step) (p : StepTarget) (other : (n k : ℕ) → names p k (make n) ≡ false) where
   row-other : (a n k : ℕ) → times p k (map make (range_with_len a n)) ≡ 0
   row-other a zero k = refl
   row-other a (suc n) k = omega (arith, times-next p k (make a) (map make (range_with_len (a + 1) n)) false (other a k), row-other (a + 1) n k)
@@ -78,32 +78,32 @@ from-next r a i items P taken left = go (has_role r i) refl
     go true e = taken e
     go false e = left e
 
-items-other : (p : Part) (other : (n k : ℕ) → names p k (step.Item n) ≡ false) (r : Role) (a k : ℕ) (items : List Item) → times p k (from r a items) ≡ 0
+items-other : (p : StepTarget) (other : (n k : ℕ) → names p k (step.Item n) ≡ false) (r : Role) (a k : ℕ) (items : List Item) → times p k (from r a items) ≡ 0
 unfolding from
 items-other p other r a k [] = refl
 items-other p other r a k (i ∷ items) =
     let rest = items-other p other r (a + 1) k items in
     from-next r a i items (λ (steps : List Step). times p k steps ≡ 0) (λ e. omega (arith, times-next p k (step.Item a) (from r (a + 1) items) false (other a k), rest)) (λ e. rest)
 
-items-none : (r : Role) (a k : ℕ) (items : List Item) → k < a → times part.Item k (from r a items) ≡ 0
+items-none : (r : Role) (a k : ℕ) (items : List Item) → k < a → times target.Item k (from r a items) ≡ 0
 unfolding from
 items-none r a k [] lt = refl
 items-none r a k (i ∷ items) lt =
     let rest = items-none r (a + 1) k items (omega arith) in
     let past : (a == k) ≡ false = ne_eqb a k (λ same. omega (arith, same)) in
-    from-next r a i items (λ (steps : List Step). times part.Item k steps ≡ 0) (λ e. omega (arith, times-next part.Item k (step.Item a) (from r (a + 1) items) false past, rest)) (λ e. rest)
+    from-next r a i items (λ (steps : List Step). times target.Item k steps ≡ 0) (λ e. omega (arith, times-next target.Item k (step.Item a) (from r (a + 1) items) false past, rest)) (λ e. rest)
 
 -- the first item counts where it has the role
-items-first : (r : Role) (a : ℕ) (i : Item) (items : List Item) → times part.Item a (from r a (i ∷ items)) ≡ cond (has_role r i) 1 0
+items-first : (r : Role) (a : ℕ) (i : Item) (items : List Item) → times target.Item a (from r a (i ∷ items)) ≡ cond (has_role r i) 1 0
 items-first r a i items =
     let rest = items-none r (a + 1) a items (omega arith) in
-    from-next r a i items (λ (steps : List Step). times part.Item a steps ≡ cond (has_role r i) 1 0)
-    (λ e. rw e (omega (arith, times-next part.Item a (step.Item a) (from r (a + 1) items) true (eq-eqb a a refl), rest))) (λ e. rw e rest)
+    from-next r a i items (λ (steps : List Step). times target.Item a steps ≡ cond (has_role r i) 1 0)
+    (λ e. rw e (omega (arith, times-next target.Item a (step.Item a) (from r (a + 1) items) true (eq-eqb a a refl), rest))) (λ e. rw e rest)
 
 -- it does not count at another number
-items-later : (r : Role) (a k : ℕ) (i : Item) (items : List Item) → eqb a k ≡ false → times part.Item k (from r a (i ∷ items)) ≡ times part.Item k (from r (a + 1) items)
+items-later : (r : Role) (a k : ℕ) (i : Item) (items : List Item) → eqb a k ≡ false → times target.Item k (from r a (i ∷ items)) ≡ times target.Item k (from r (a + 1) items)
 items-later r a k i items other =
-    from-next r a i items (λ (steps : List Step). times part.Item k steps ≡ times part.Item k (from r (a + 1) items)) (λ e. omega (arith, times-next part.Item k (step.Item a) (from r (a + 1) items) false other)) (λ e. refl)
+    from-next r a i items (λ (steps : List Step). times target.Item k steps ≡ times target.Item k (from r (a + 1) items)) (λ e. omega (arith, times-next target.Item k (step.Item a) (from r (a + 1) items) false other)) (λ e. refl)
 
 -- an item has exactly one role
 one-role : (k : Kind) → cond (is_role role.Kernel (role_of k)) 1 0 + cond (is_role role.Initrd (role_of k)) 1 0 + cond (is_role role.Dtb (role_of k)) 1 0 + cond (is_role role.Raw (role_of k)) 1 0 ≡ 1
@@ -113,7 +113,7 @@ one-role (Dtb file edits) = refl
 one-role (Raw file) = refl
 
 counted : ℕ → ℕ → List Item → ℕ
-counted k a items = times part.Item k (from role.Kernel a items) + times part.Item k (from role.Initrd a items) + times part.Item k (from role.Dtb a items) + times part.Item k (from role.Raw a items)
+counted k a items = times target.Item k (from role.Kernel a items) + times target.Item k (from role.Initrd a items) + times target.Item k (from role.Dtb a items) + times target.Item k (from role.Raw a items)
 
 items-once : (a k : ℕ) (items : List Item) → a ≤ k → k < a + length items → counted k a items ≡ 1
 unfolding counted
@@ -152,7 +152,7 @@ module _ (num_regions : ℕ) (items : List Item) (num_recs : ℕ) where
       go true e all rest = rw e (rest all)
       go false e all rest = absurd (let z : false ≡ true = all in let y : ⊥ = cc in y)
 
-  split : (p : Part) (k : ℕ) → times p k (default_steps num_regions items num_recs)
+  split : (p : StepTarget) (k : ℕ) → times p k (default_steps num_regions items num_recs)
       ≡ times p k ram + (times p k (from role.Kernel 0 items) + times p k (from role.Initrd 0 items) + times p k (from role.Dtb 0 items) + times p k (from role.Raw 0 items)) + times p k made
   unfolding default_steps from ram made
   split p k =
@@ -179,33 +179,33 @@ module _ (num_regions : ℕ) (items : List Item) (num_recs : ℕ) where
       all-append t (ram ++ a ++ b ++ c ++ d) made (all-append t (ram ++ a ++ b ++ c) d (all-append t (ram ++ a ++ b) c (all-append t (ram ++ a) b (all-append t ram a of_ram of_a) of_b) of_c) of_d) of_recs
 
   -- each part by itself
-  ram-once : (k : ℕ) → k < num_regions → times part.Ram k (default_steps num_regions items num_recs) ≡ 1
+  ram-once : (k : ℕ) → k < num_regions → times target.Ram k (default_steps num_regions items num_recs) ≡ 1
   unfolding ram made
   ram-once k low =
-      let own = row-once (λ n. step.Ram n) part.Ram (λ n k. refl) 0 num_regions k (omega arith) (omega arith) in
-      let other = items-other part.Ram (λ n k. refl) in
-      let recs_none = row-other (λ n. step.Rec n) part.Ram (λ n k. refl) 0 num_recs k in
-      omega (arith, split part.Ram k, own, other role.Kernel 0 k items, other role.Initrd 0 k items, other role.Dtb 0 k items, other role.Raw 0 k items, recs_none)
+      let own = row-once (λ n. step.Ram n) target.Ram (λ n k. refl) 0 num_regions k (omega arith) (omega arith) in
+      let other = items-other target.Ram (λ n k. refl) in
+      let recs_none = row-other (λ n. step.Rec n) target.Ram (λ n k. refl) 0 num_recs k in
+      omega (arith, split target.Ram k, own, other role.Kernel 0 k items, other role.Initrd 0 k items, other role.Dtb 0 k items, other role.Raw 0 k items, recs_none)
 
-  item-once : (k : ℕ) → k < length items → times part.Item k (default_steps num_regions items num_recs) ≡ 1
+  item-once : (k : ℕ) → k < length items → times target.Item k (default_steps num_regions items num_recs) ≡ 1
   unfolding ram made counted
   item-once k low =
       let own = items-once 0 k items (omega arith) (omega arith) in
-      let ram_none = row-other (λ n. step.Ram n) part.Item (λ n k. refl) 0 num_regions k in
-      let recs_none = row-other (λ n. step.Rec n) part.Item (λ n k. refl) 0 num_recs k in
-      omega (arith, split part.Item k, own, ram_none, recs_none)
+      let ram_none = row-other (λ n. step.Ram n) target.Item (λ n k. refl) 0 num_regions k in
+      let recs_none = row-other (λ n. step.Rec n) target.Item (λ n k. refl) 0 num_recs k in
+      omega (arith, split target.Item k, own, ram_none, recs_none)
 
-  rec-once : (k : ℕ) → k < num_recs → times part.Rec k (default_steps num_regions items num_recs) ≡ 1
+  rec-once : (k : ℕ) → k < num_recs → times target.Rec k (default_steps num_regions items num_recs) ≡ 1
   unfolding ram made
   rec-once k low =
-      let own = row-once (λ n. step.Rec n) part.Rec (λ n k. refl) 0 num_recs k (omega arith) (omega arith) in
-      let other = items-other part.Rec (λ n k. refl) in
-      let ram_none = row-other (λ n. step.Ram n) part.Rec (λ n k. refl) 0 num_regions k in
-      omega (arith, split part.Rec k, own, other role.Kernel 0 k items, other role.Initrd 0 k items, other role.Dtb 0 k items, other role.Raw 0 k items, ram_none)
+      let own = row-once (λ n. step.Rec n) target.Rec (λ n k. refl) 0 num_recs k (omega arith) (omega arith) in
+      let other = items-other target.Rec (λ n k. refl) in
+      let ram_none = row-other (λ n. step.Ram n) target.Rec (λ n k. refl) 0 num_regions k in
+      omega (arith, split target.Rec k, own, other role.Kernel 0 k items, other role.Initrd 0 k items, other role.Dtb 0 k items, other role.Raw 0 k items, ram_none)
 
-  each-once : (p : Part) (n : ℕ) → ((k : ℕ) → k < n → times p k (default_steps num_regions items num_recs) ≡ 1) → each_once p (default_steps num_regions items num_recs) n ≡ true
+  each-once : (p : StepTarget) (n : ℕ) → ((k : ℕ) → k < n → times p k (default_steps num_regions items num_recs) ≡ 1) → each_once p (default_steps num_regions items num_recs) n ≡ true
   unfolding each_once
   each-once p n once = all-pass (λ k. times p k (default_steps num_regions items num_recs) == 1) 0 n (λ k low. ap (λ (m : ℕ). m == 1) (once k (omega arith)))
 
   pub default-complete : steps_complete num_regions (length items) num_recs (default_steps num_regions items num_recs) ≡ true
-  default-complete = rw (there, each-once part.Ram num_regions ram-once, each-once part.Item (length items) item-once, each-once part.Rec num_recs rec-once) refl
+  default-complete = rw (there, each-once target.Ram num_regions ram-once, each-once target.Item (length items) item-once, each-once target.Rec num_recs rec-once) refl

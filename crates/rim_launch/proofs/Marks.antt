@@ -8,14 +8,14 @@ use Rattle.std.proofs.lemmas.List.Folds.{list_all_at}
 use Rattle.std.proofs.lemmas.List.FromFn.{get_or-range_with_len, length-range_with_len}
 use Rattle.std.proofs.lemmas.List.Sums.{count_by_more_yes, count_by_more_no, sum_by-append}
 use Rattle.rim_launch.specs.declared.step.Step.{Step}
-use Rattle.rim_launch.specs.declared.conditions.Part.{Part}
+use Rattle.rim_launch.specs.declared.conditions.StepTarget.{StepTarget}
 use Rattle.rim_launch.specs.Steps.{number_of, is_number, names, times, each_once}
 use Rattle.rim_launch.specs.inside.StepViews.{AreMarks}
 
 count_in : {X : Type 0} (t : X → Bool) (n : ℕ) (xs : List X) → count_by t (take n xs) ≤ count_by t xs
 count_in t n xs = omega (arith, ap (count_by t) (sym (take-append-drop n xs)), sum_by-append (λ x. cond (t x) 1 0) (take n xs) (drop n xs))
 
-module _ (p : Part) (count : ℕ) (steps : List Step) (named : List Bool) (i : ℕ) (x : Step) (lt : i < length steps) (is : x ≡ get_or steps i x) (marks : AreMarks p count (take i steps) named) where
+module _ (p : StepTarget) (count : ℕ) (steps : List Step) (named : List Bool) (i : ℕ) (x : Step) (lt : i < length steps) (is : x ≡ get_or steps i x) (marks : AreMarks p count (take i steps) named) where
   here : (k : ℕ) (o : Option ℕ) → number_of p x ≡ o → names p k (get_or steps i x) ≡ is_number k o
   here k o e = ap (λ (s : Step). names p k s) (sym is) ∙ ap (is_number k) e
 
@@ -67,7 +67,7 @@ pointwise f (b ∷ bs) a (suc n) le same =
     rw (first, rest) refl
 
 -- at the end each number has a mark where each was named once
-pub all_marked : (p : Part) (count : ℕ) (steps : List Step) (named : List Bool) → count ≤ length named → AreMarks p count steps named → list_all (λ b. b) (take count named) ≡ each_once p steps count
+pub all_marked : (p : StepTarget) (count : ℕ) (steps : List Step) (named : List Bool) → count ≤ length named → AreMarks p count steps named → list_all (λ b. b) (take count named) ≡ each_once p steps count
 unfolding each_once
 all_marked p count steps named room marks = pointwise (λ k. times p k steps == 1) named 0 count room (λ k lt. one (get_or named k false) ∙ ap (λ (m : ℕ). m == 1) (sym (marks k lt)) ∙ ap (λ (m : ℕ). times p m steps == 1) (from_zero k))
   where
@@ -79,5 +79,5 @@ all_marked p count steps named room marks = pointwise (λ k. times p k steps == 
     one false = refl
 
 -- before the first step
-pub no_marks : (p : Part) (count : ℕ) → count ≤ 1024 → AreMarks p count [] (replicate 1024 false)
+pub no_marks : (p : StepTarget) (count : ℕ) → count ≤ 1024 → AreMarks p count [] (replicate 1024 false)
 no_marks p count le k lt = ap (λ (b : Bool). cond b 1 0) (sym (get_or-replicate 1024 k false false (omega arith)))

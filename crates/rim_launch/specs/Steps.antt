@@ -7,8 +7,8 @@ use Rattle.rim_launch.specs.declared.item.Item.{Item}
 use Rattle.rim_launch.specs.declared.step.Step.{Step}
 use Rattle.rim_launch.specs.declared.step.Step.TheVariants as step
 use Rattle.rim_launch.specs.Kinds.{has_role}
-use Rattle.rim_launch.specs.declared.conditions.Part.{Part}
-use Rattle.rim_launch.specs.declared.conditions.Part.TheVariants as part
+use Rattle.rim_launch.specs.declared.conditions.StepTarget.{StepTarget}
+use Rattle.rim_launch.specs.declared.conditions.StepTarget.TheVariants as target
 
 -- whether a step names what the launch has
 abbrev pub names_something : ℕ → ℕ → ℕ → Step → Bool
@@ -16,33 +16,33 @@ names_something num_regions num_items num_recs (step.Ram n) = nat_lt n num_regio
 names_something num_regions num_items num_recs (step.Item n) = nat_lt n num_items
 names_something num_regions num_items num_recs (step.Rec n) = nat_lt n num_recs
 
--- the number that a step names of this part, where it is a step of this part
-abbrev pub number_of : Part → Step → Option ℕ
-number_of part.Ram (step.Ram n) = Some n
-number_of part.Item (step.Item n) = Some n
-number_of part.Rec (step.Rec n) = Some n
+-- the number that a step names, where it is a step for this target
+abbrev pub number_of : StepTarget → Step → Option ℕ
+number_of target.Ram (step.Ram n) = Some n
+number_of target.Item (step.Item n) = Some n
+number_of target.Rec (step.Rec n) = Some n
 number_of _ _ = None
 
 abbrev pub is_number : ℕ → Option ℕ → Bool
 is_number k None = false
 is_number k (Some n) = n == k
 
--- whether a step names this number of this part
-abbrev pub names : Part → ℕ → Step → Bool
+-- whether a step is for this target and names this number
+abbrev pub names : StepTarget → ℕ → Step → Bool
 names p k s = is_number k (number_of p s)
 
 -- how many steps name it
-abbrev pub times : Part → ℕ → List Step → ℕ
+abbrev pub times : StepTarget → ℕ → List Step → ℕ
 times p k steps = count_by (names p k) steps
 
--- each number below n is named by exactly one step
-unfoldable pub each_once : Part → List Step → ℕ → Bool
+-- each number below n is named by exactly one step for this target
+unfoldable pub each_once : StepTarget → List Step → ℕ → Bool
 each_once p steps n = list_all (λ k. times p k steps == 1) (range_with_len 0 n)
 
 -- each step names what the launch has, and each region, item and REC is named by exactly one
 abbrev pub steps_complete : ℕ → ℕ → ℕ → List Step → Bool
 steps_complete num_regions num_items num_recs steps = list_all (names_something num_regions num_items num_recs) steps
-    && each_once part.Ram steps num_regions && each_once part.Item steps num_items && each_once part.Rec steps num_recs
+    && each_once target.Ram steps num_regions && each_once target.Item steps num_items && each_once target.Rec steps num_recs
 
 -- ---- the steps of a launch that names none
 

@@ -59,22 +59,22 @@ fn names_something(num_regions: usize, num_items: usize, num_recs: usize, step: 
 /// The most regions, items or RECs of a launch.
 const MOST_PARTS: usize = 1024;
 
-/// Which of a launch's parts a step is for.
+/// What a step is for: a region, an item or a REC.
 #[derive(Clone, Copy, Debug, PartialEq, Eq)]
-pub enum Part {
+pub enum StepTarget {
     Ram,
     Item,
     Rec,
 }
 
-/// The number that a step names of a part, where it is a step of that part.
-fn number_of(part: Part, step: &Step) -> Option<usize>
-    ensures { result ≡ number_of part step.now }
+/// The number that a step names, where it is a step for this target.
+fn number_of(target: StepTarget, step: &Step) -> Option<usize>
+    ensures { result ≡ number_of target step.now }
 {
-    match (part, step) {
-        (Part::Ram, Step::Ram(number)) => Some(*number),
-        (Part::Item, Step::Item(number)) => Some(*number),
-        (Part::Rec, Step::Rec(number)) => Some(*number),
+    match (target, step) {
+        (StepTarget::Ram, Step::Ram(number)) => Some(*number),
+        (StepTarget::Item, Step::Item(number)) => Some(*number),
+        (StepTarget::Rec, Step::Rec(number)) => Some(*number),
         _ => None,
     }
 }
@@ -90,16 +90,16 @@ fn mark(named: &mut [bool], number: usize) -> bool
     is_fresh
 }
 
-/// Marks the number that a step names of a part, where it is below `count`; and whether it had no mark.
-fn mark_step(named: &mut [bool], part: Part, count: usize, step: &Step) -> bool
+/// Marks the number that a step for this target names, where it is below `count`; and whether it had no mark.
+fn mark_step(named: &mut [bool], target: StepTarget, count: usize, step: &Step) -> bool
     requires { count ≤ length named.old }
     ensures len { length named.new ≡ length named.old }
-    ensures once { (steps : List Step) (at : ℕ) → IsNext steps at step.now → AreMarks part count (take at steps) named.old
-        → result ≡ true → AreMarks part count (take (at + 1) steps) named.new }
-    ensures twice { (steps : List Step) (at : ℕ) → IsNext steps at step.now → AreMarks part count (take at steps) named.old
-        → result ≡ false → each_once part steps count ≡ false }
+    ensures once { (steps : List Step) (at : ℕ) → IsNext steps at step.now → AreMarks target count (take at steps) named.old
+        → result ≡ true → AreMarks target count (take (at + 1) steps) named.new }
+    ensures twice { (steps : List Step) (at : ℕ) → IsNext steps at step.now → AreMarks target count (take at steps) named.old
+        → result ≡ false → each_once target steps count ≡ false }
 {
-    match number_of(part, step) {
+    match number_of(target, step) {
         Some(number) if number < count => mark(named, number),
         _ => true,
     }
@@ -112,15 +112,15 @@ fn all_marked(named: &[bool]) -> bool
     named.iter().all(|is_named| *is_named)
 }
 
-/// Whether each number below `count` of this part is named by exactly one step. The steps are
+/// Whether each number below `count` is named by exactly one step for this target. The steps are
 /// read once.
-fn each_once(part: Part, steps: &[Step], count: usize) -> bool
+fn each_once(target: StepTarget, steps: &[Step], count: usize) -> bool
     requires { count ≤ 1024 }
-    ensures { result ≡ each_once part steps.now count }
+    ensures { result ≡ each_once target steps.now count }
 {
     let mut named = [false; MOST_PARTS];
     for step in steps {
-        if !mark_step(&mut named, part, count, step) {
+        if !mark_step(&mut named, target, count, step) {
             return false;
         }
     }
@@ -139,7 +139,7 @@ pub fn steps_complete(num_regions: usize, num_items: usize, num_recs: usize, ste
     ensures { result ≡ steps_complete num_regions num_items num_recs steps.now }
 {
     all_name_something(num_regions, num_items, num_recs, steps)
-        && each_once(Part::Ram, steps, num_regions)
-        && each_once(Part::Item, steps, num_items)
-        && each_once(Part::Rec, steps, num_recs)
+        && each_once(StepTarget::Ram, steps, num_regions)
+        && each_once(StepTarget::Item, steps, num_items)
+        && each_once(StepTarget::Rec, steps, num_recs)
 }

@@ -1,11 +1,11 @@
 -- What the program keeps while it tests steps.
 use Rattle.std.specs.Prelude.{◌≡◌, ℕ, ◌<◌, List, length, Bool, false, slice_index_or, if◌then◌else◌}
 use Rattle.rim_launch.specs.declared.step.Step.{Step}
-use Rattle.rim_launch.specs.declared.conditions.Part.{Part}
+use Rattle.rim_launch.specs.declared.conditions.StepTarget.{StepTarget}
 use Rattle.rim_launch.specs.Steps.{times}
 
 -- each number below `count` was named once where it has a mark, and never where it has none
-abbrev pub AreMarks : Part → ℕ → List Step → List Bool → Type 0
+abbrev pub AreMarks : StepTarget → ℕ → List Step → List Bool → Type 0
 AreMarks p count steps named = (k : ℕ) → k < count → times p k steps ≡ (if slice_index_or named k false then 1 else 0)
 
 -- the step has this place among the steps
