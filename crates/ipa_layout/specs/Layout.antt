@@ -6,8 +6,8 @@ use Rattle.std.specs.Option.{option_and_then}
 use Rattle.std.specs.Result.{result_unwrap_or}
 use Rattle.refusal.specs.Answer.{◌>>=◌}
 use Rattle.fdt_tree.specs.declared.fault.FdtFault.{FdtFault}
-use Rattle.rim_launch.specs.declared.item.Kind.{Kind}
-use Rattle.rim_launch.specs.declared.item.Kind.TheVariants.{Dtb}
+use Rattle.rim_launch.specs.declared.item.ItemKind.{ItemKind}
+use Rattle.rim_launch.specs.declared.item.ItemKind.TheVariants.{Dtb}
 use Rattle.rim_launch.specs.declared.item.Item.{Item}
 use Rattle.rim_launch.specs.declared.item.Region.{Region}
 use Rattle.rim_launch.specs.declared.rec.Rec.{Rec}
@@ -32,7 +32,7 @@ use Rattle.ipa_layout.specs.Rec.{rec_of}
 -- ---- the bytes of items
 
 -- those of its file
-abbrev pub file_bytes : List (List ℕ) → Kind → List ℕ
+abbrev pub file_bytes : List (List ℕ) → ItemKind → List ℕ
 file_bytes files k = get_or files (file_of k) []
 
 -- the addresses of an initrd's bytes
@@ -43,7 +43,7 @@ abbrev pub only_if : {A : Type 0} → Bool → Option A → Option A
 only_if b o = if b then o else None
 
 -- the edits that a launch makes of its devicetree
-abbrev pub edits_of : LaunchData → List (List ℕ) → Kind → EditData
+abbrev pub edits_of : LaunchData → List (List ℕ) → ItemKind → EditData
 edits_of l files (Dtb file edits) = record {
   bootargs = edits.bootargs;
   initrd = only_if edits.initrd (option_map (initrd_span files) (find (has_role role.Initrd) l.items));
@@ -86,7 +86,7 @@ extent_with r items extents = option_and_then (slice_get extents) (position_from
 
 -- ---- the whole launch
 
-abbrev pub source_of : ℕ → Kind → Source
+abbrev pub source_of : ℕ → ItemKind → Source
 source_of launch k = if has_edits k then Edited launch else File (file_of k)
 
 unfoldable pub item_at : ℕ → Item → Extent → PlacedItem

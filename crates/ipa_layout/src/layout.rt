@@ -19,7 +19,7 @@ use crate::placed::{Placed, PlacedItem};
 use crate::rec::PlacedRec;
 use refusal::NoMemory;
 use rim_desc::Source;
-use rim_launch::{Item, Kind, Launch, Rec, Role};
+use rim_launch::{Item, ItemKind, Launch, Rec, Role};
 use std::alloc::{AllocError, Global};
 
 /// Where the items of a launch are and with which bytes, its RECs with their defaults filled in, and the
@@ -58,7 +58,7 @@ fn gather(
 }
 
 /// The bytes of an item's file.
-fn file_bytes<'a>(files: &'a [Vec<u8>], kind: &Kind) -> &'a [u8]
+fn file_bytes<'a>(files: &'a [Vec<u8>], kind: &ItemKind) -> &'a [u8]
     requires { file_of kind.now < length files.now }
     ensures { result.now ≡ file_bytes (contents files.now) kind.now }
 {
@@ -97,11 +97,11 @@ fn initrd_at(launch: &Launch, files: &[Vec<u8>]) -> Option<Span>
 }
 
 /// The edits that a launch makes of its devicetree.
-fn edits_of<'a>(launch: &Launch, files: &[Vec<u8>], kind: &'a Kind) -> DtbEdits<'a>
+fn edits_of<'a>(launch: &Launch, files: &[Vec<u8>], kind: &'a ItemKind) -> DtbEdits<'a>
     requires { has_files launch.now (length files.now) ≡ true }
     ensures { edit_data result ≡ edits_of launch.now (contents files.now) kind.now }
 {
-    let Kind::Dtb { edits, .. } = kind else {
+    let ItemKind::Dtb { edits, .. } = kind else {
         return DtbEdits {
             bootargs: None,
             initrd: None,
@@ -207,7 +207,7 @@ fn check_together(items: &[Item], extents: &[Extent]) -> Result<(), LayoutFault>
 }
 
 /// Where an item's bytes come from.
-fn source_of(launch: usize, kind: &Kind) -> Source
+fn source_of(launch: usize, kind: &ItemKind) -> Source
     ensures { result ≡ source_of launch kind.now }
 {
     if kind.has_edits() {

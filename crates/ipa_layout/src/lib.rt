@@ -23,5 +23,5 @@ pub use placed::{Placed, PlacedItem};
 pub use rec::PlacedRec;
 pub use rim_desc::Source;
 pub use rim_launch::{
-    Bootargs, Config, Edits, Item, Kind, Launch, Rec, Region, Role, Step, default_steps,
+    Bootargs, Config, Edits, Item, ItemKind, Launch, Rec, Region, Role, Step, default_steps,
 };

@@ -1,5 +1,5 @@
 //! Which parts make a launch.
-use ipa_layout::{Bootargs, Config, Edits, Item, Kind, Launch, Rec, Region, Step, default_steps};
+use ipa_layout::{Bootargs, Config, Edits, Item, ItemKind, Launch, Rec, Region, Step, default_steps};
 use rim_desc::Algo;
 use std::alloc::{AllocError, Global};
 use std::test::Fail;
@@ -22,7 +22,7 @@ fn config() -> Config {
     }
 }
 
-fn item(kind: Kind) -> Item {
+fn item(kind: ItemKind) -> Item {
     Item {
         kind,
         at: 0x4000_0000,
@@ -45,9 +45,9 @@ fn launch(alloc: Global, kinds: &[bool], steps: &[Step]) -> Result<Option<Launch
     let mut items = Vec::new(alloc);
     for is_kernel in kinds {
         if *is_kernel {
-            items.push(item(Kind::Kernel { file: 0 }))?;
+            items.push(item(ItemKind::Kernel { file: 0 }))?;
         } else {
-            items.push(item(Kind::Raw { file: 0 }))?;
+            items.push(item(ItemKind::Raw { file: 0 }))?;
         }
     }
     let ram = Vec::from_slice(alloc, &[region])?;
@@ -96,11 +96,11 @@ fn default_steps_by_kind(rt: HostRuntime) -> Result<(), Fail> {
         memory: false,
     };
     let mut items = Vec::new(alloc);
-    items.push(item(Kind::Raw { file: 0 }))?;
-    items.push(item(Kind::Dtb { file: 0, edits }))?;
-    items.push(item(Kind::Initrd { file: 0 }))?;
-    items.push(item(Kind::Kernel { file: 0 }))?;
-    items.push(item(Kind::Raw { file: 0 }))?;
+    items.push(item(ItemKind::Raw { file: 0 }))?;
+    items.push(item(ItemKind::Dtb { file: 0, edits }))?;
+    items.push(item(ItemKind::Initrd { file: 0 }))?;
+    items.push(item(ItemKind::Kernel { file: 0 }))?;
+    items.push(item(ItemKind::Raw { file: 0 }))?;
     let steps = default_steps(alloc, 2, &items, 2)?;
     assert_eq!(rt; steps.as_slice(), KINDS_IN_ORDER.as_slice());
     Ok(())
@@ -141,7 +141,7 @@ fn items_have_numbers(rt: HostRuntime) {
         (0, Some(END), false),
     ];
     for (number, (at, size, makes_one)) in cases.into_iter().enumerate() {
-        let made = Item::new(Kind::Raw { file: 0 }, at, size, true);
+        let made = Item::new(ItemKind::Raw { file: 0 }, at, size, true);
         assert_eq!(rt; made.is_some(), makes_one, "case {number}");
     }
 }
@@ -156,7 +156,7 @@ fn edits_need_their_parts(rt: HostRuntime) -> Result<(), AllocError> {
             memory: false,
         };
         let mut items = Vec::new(alloc);
-        items.push(item(Kind::Dtb { file: 0, edits }))?;
+        items.push(item(ItemKind::Dtb { file: 0, edits }))?;
         let steps = Vec::from_slice(alloc, &[Step::Item(0)])?;
         let made = Launch::new(0, config(), Vec::new(alloc), items, Vec::new(alloc), steps);
         assert_eq!(rt; made.is_some(), !initrd);

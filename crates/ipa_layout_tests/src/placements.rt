@@ -2,7 +2,7 @@
 use arm64_image::ImageFault;
 use fdt_tree::FdtFault;
 use ipa_layout::{
-    Bootargs, Config, Edits, Item, Kind, Launch, LayoutFault, Placed, PlacedItem, PlacedRec, Rec,
+    Bootargs, Config, Edits, Item, ItemKind, Launch, LayoutFault, Placed, PlacedItem, PlacedRec, Rec,
     Region, Source, Step, place,
 };
 use rim_desc::Algo;
@@ -68,27 +68,27 @@ fn image(text_offset: u64, image_size: u64) -> [u8; 64] {
 }
 
 /// A devicetree, and whether it is to have the place of RAM.
-fn dtb(memory: bool) -> Kind {
+fn dtb(memory: bool) -> ItemKind {
     let edits = Edits {
         bootargs: None,
         initrd: false,
         memory,
     };
-    Kind::Dtb { file: 2, edits }
+    ItemKind::Dtb { file: 2, edits }
 }
 
-fn kind(what: What) -> Kind {
+fn kind(what: What) -> ItemKind {
     match what {
-        What::Kernel => Kind::Kernel { file: 0 },
-        What::Initrd => Kind::Initrd { file: 1 },
+        What::Kernel => ItemKind::Kernel { file: 0 },
+        What::Initrd => ItemKind::Initrd { file: 1 },
         What::Dtb => dtb(false),
         What::Edited => dtb(true),
-        What::Raw(file) => Kind::Raw { file },
+        What::Raw(file) => ItemKind::Raw { file },
     }
 }
 
 /// An item that is measured, with numbers that a manifest can spell.
-fn item(kind: Kind, at: u64, size: Option<u64>) -> Result<Item, AllocError> {
+fn item(kind: ItemKind, at: u64, size: Option<u64>) -> Result<Item, AllocError> {
     Item::new(kind, at, size, true).ok_or(AllocError)
 }
 
@@ -320,7 +320,7 @@ fn command_line(rt: HostRuntime) -> Result<(), AllocError> {
         memory: false,
     };
     let mut items = Vec::new(alloc);
-    items.push(item(Kind::Dtb { file: 2, edits }, 0x4000_0008, None)?)?;
+    items.push(item(ItemKind::Dtb { file: 2, edits }, 0x4000_0008, None)?)?;
     let placed = placed(&rt, alloc, &SMALL, items, &files)?;
     let item = PlacedItem {
         source: Source::Edited(3),
@@ -346,7 +346,7 @@ fn places_of_initrd_and_memory(rt: HostRuntime) -> Result<(), AllocError> {
         memory: true,
     };
     let mut items = Vec::new(alloc);
-    items.push(item(Kind::Dtb { file: 2, edits }, 0x4000_0000, None)?)?;
+    items.push(item(ItemKind::Dtb { file: 2, edits }, 0x4000_0000, None)?)?;
     items.push(item(kind(What::Initrd), 0x4000_1000, Some(4097))?)?;
     let placed = placed(&rt, alloc, &SMALL, items, &files)?;
     assert_eq!(rt; last_pages(&placed), 2);

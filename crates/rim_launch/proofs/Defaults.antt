@@ -5,8 +5,8 @@ use Rattle.std.specs.List.{enumerate_from, list_all, range_with_len}
 use Rattle.std.proofs.lemmas.Bool.{eq-eqb, eqb-false, eqb-true, lt-ltb, ne_eqb}
 use Rattle.std.proofs.lemmas.List.Sums.{sum_by-append}
 use Rattle.rim_launch.specs.declared.item.Item.{Item}
-use Rattle.rim_launch.specs.declared.item.Kind.{Kind}
-use Rattle.rim_launch.specs.declared.item.Kind.TheVariants.{Kernel, Initrd, Dtb, Raw}
+use Rattle.rim_launch.specs.declared.item.ItemKind.{ItemKind}
+use Rattle.rim_launch.specs.declared.item.ItemKind.TheVariants.{Kernel, Initrd, Dtb, Raw}
 use Rattle.rim_launch.specs.declared.step.Step.{Step}
 use Rattle.rim_launch.specs.declared.step.Step.TheVariants as step
 use Rattle.rim_launch.specs.declared.conditions.StepTarget.{StepTarget}
@@ -106,7 +106,7 @@ items-later r a k i items other =
     from-next r a i items (λ (steps : List Step). times target.Item k steps ≡ times target.Item k (from r (a + 1) items)) (λ e. omega (arith, times-next target.Item k (step.Item a) (from r (a + 1) items) false other)) (λ e. refl)
 
 -- an item has exactly one role
-one-role : (k : Kind) → cond (is_role role.Kernel (role_of k)) 1 0 + cond (is_role role.Initrd (role_of k)) 1 0 + cond (is_role role.Dtb (role_of k)) 1 0 + cond (is_role role.Raw (role_of k)) 1 0 ≡ 1
+one-role : (k : ItemKind) → cond (is_role role.Kernel (role_of k)) 1 0 + cond (is_role role.Initrd (role_of k)) 1 0 + cond (is_role role.Dtb (role_of k)) 1 0 + cond (is_role role.Raw (role_of k)) 1 0 ≡ 1
 one-role (Kernel file) = refl
 one-role (Initrd file) = refl
 one-role (Dtb file edits) = refl

@@ -2,14 +2,14 @@
 -- This project's choice.
 use Rattle.std.specs.Prelude.{ℕ, List, length, Bool, true, false, not, ◌&&◌, ◌||◌, ◌==◌, nat_le, nat_lt, count_by, is_some}
 use Rattle.std.specs.List.{list_any}
-use Rattle.rim_launch.specs.declared.item.Kind.{Kind}
-use Rattle.rim_launch.specs.declared.item.Kind.TheVariants.{Kernel, Initrd, Dtb, Raw}
+use Rattle.rim_launch.specs.declared.item.ItemKind.{ItemKind}
+use Rattle.rim_launch.specs.declared.item.ItemKind.TheVariants.{Kernel, Initrd, Dtb, Raw}
 use Rattle.rim_launch.specs.declared.item.Role.{Role}
 use Rattle.rim_launch.specs.declared.item.Role.TheVariants as role
 use Rattle.rim_launch.specs.declared.item.Item.{Item}
 use Rattle.rim_launch.specs.declared.item.Region.{Region}
 
-abbrev pub role_of : Kind → Role
+abbrev pub role_of : ItemKind → Role
 role_of (Kernel file) = role.Kernel
 role_of (Initrd file) = role.Initrd
 role_of (Dtb file edits) = role.Dtb
@@ -30,22 +30,22 @@ abbrev pub count_of : Role → List Item → ℕ
 count_of r items = count_by (has_role r) items
 
 -- the file that its bytes come from
-abbrev pub file_of : Kind → ℕ
+abbrev pub file_of : ItemKind → ℕ
 file_of (Kernel file) = file
 file_of (Initrd file) = file
 file_of (Dtb file edits) = file
 file_of (Raw file) = file
 
 -- whether it is edited before it is placed
-abbrev pub has_edits : Kind → Bool
+abbrev pub has_edits : ItemKind → Bool
 has_edits (Dtb file edits) = is_some edits.bootargs || edits.initrd || edits.memory
 has_edits _ = false
 
-abbrev pub needs_initrd : Kind → Bool
+abbrev pub needs_initrd : ItemKind → Bool
 needs_initrd (Dtb file edits) = edits.initrd
 needs_initrd _ = false
 
-abbrev pub needs_memory : Kind → Bool
+abbrev pub needs_memory : ItemKind → Bool
 needs_memory (Dtb file edits) = edits.memory
 needs_memory _ = false
 

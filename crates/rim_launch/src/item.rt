@@ -102,7 +102,7 @@ pub enum Role {
 
 /// What an item is, and the number of the file that its bytes come from.
 #[derive(Drop)]
-pub enum Kind {
+pub enum ItemKind {
     /// An arm64 Image. It begins at its base plus the offset in its header.
     Kernel { file: usize },
     /// An initial ramdisk.
@@ -113,7 +113,7 @@ pub enum Kind {
     Raw { file: usize },
 }
 
-impl Kind {
+impl ItemKind {
     ghost use Rattle.std.specs.Prelude.{◌≡◌};
     ghost use Rattle.rim_launch.specs.Kinds.{file_of, has_edits, needs_initrd, needs_memory, role_of};
 
@@ -122,10 +122,10 @@ impl Kind {
         ensures { result ≡ role_of self.now }
     {
         match self {
-            Kind::Kernel { .. } => Role::Kernel,
-            Kind::Initrd { .. } => Role::Initrd,
-            Kind::Dtb { .. } => Role::Dtb,
-            Kind::Raw { .. } => Role::Raw,
+            ItemKind::Kernel { .. } => Role::Kernel,
+            ItemKind::Initrd { .. } => Role::Initrd,
+            ItemKind::Dtb { .. } => Role::Dtb,
+            ItemKind::Raw { .. } => Role::Raw,
         }
     }
 
@@ -134,10 +134,10 @@ impl Kind {
         ensures { result ≡ file_of self.now }
     {
         match self {
-            Kind::Kernel { file } => *file,
-            Kind::Initrd { file } => *file,
-            Kind::Dtb { file, .. } => *file,
-            Kind::Raw { file } => *file,
+            ItemKind::Kernel { file } => *file,
+            ItemKind::Initrd { file } => *file,
+            ItemKind::Dtb { file, .. } => *file,
+            ItemKind::Raw { file } => *file,
         }
     }
 
@@ -146,7 +146,7 @@ impl Kind {
         ensures { result ≡ has_edits self.now }
     {
         match self {
-            Kind::Dtb { edits, .. } => edits.bootargs.is_some() || edits.initrd || edits.memory,
+            ItemKind::Dtb { edits, .. } => edits.bootargs.is_some() || edits.initrd || edits.memory,
             _ => false,
         }
     }
@@ -156,7 +156,7 @@ impl Kind {
         ensures { result ≡ needs_initrd self.now }
     {
         match self {
-            Kind::Dtb { edits, .. } => edits.initrd,
+            ItemKind::Dtb { edits, .. } => edits.initrd,
             _ => false,
         }
     }
@@ -166,7 +166,7 @@ impl Kind {
         ensures { result ≡ needs_memory self.now }
     {
         match self {
-            Kind::Dtb { edits, .. } => edits.memory,
+            ItemKind::Dtb { edits, .. } => edits.memory,
             _ => false,
         }
     }
@@ -175,7 +175,7 @@ impl Kind {
 /// An item, as a launch asks for it. Its address and its size are numbers that a manifest can spell.
 #[derive(Drop)]
 pub struct Item {
-    pub kind: Kind,
+    pub kind: ItemKind,
     /// Its load address; for a kernel, its base. In bytes, below 2^63.
     pub at: u64,
     /// Its size in bytes, where it is stated; below 2^63.
@@ -191,7 +191,7 @@ impl Item {
     ghost use Rattle.rim_launch.specs.Kinds.{has_role};
 
     /// The item with these parts, or `None` where its address or its size is 2^63 or more.
-    pub fn new(kind: Kind, at: u64, size: Option<u64>, measured: bool) -> Option<Item>
+    pub fn new(kind: ItemKind, at: u64, size: Option<u64>, measured: bool) -> Option<Item>
         ensures valid { IsSome result ↔ ((at < 2 ^ 63) × (unwrap_or size 0 < 2 ^ 63)) }
         ensures value { IfSome result (λ i. (i.kind ≡ kind) × (i.at ≡ at) × (i.size ≡ size) × (i.measured ≡ measured)) }
     {

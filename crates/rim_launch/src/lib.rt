@@ -11,7 +11,7 @@ mod rec;
 mod step;
 
 pub use config::Config;
-pub use item::{Bootargs, Edits, Item, Kind, Region, Role};
+pub use item::{Bootargs, Edits, Item, ItemKind, Region, Role};
 pub use launch::Launch;
 pub use realm::realm_params;
 pub use rec::Rec;

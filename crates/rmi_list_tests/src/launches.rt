@@ -4,7 +4,7 @@ ghost use Rattle.rim_launch.specs.LaunchData.{has_files};
 ghost use Rattle.rmi_list.specs.Listed.{HasPlace};
 
 use ipa_layout::{Placed, place};
-use rim_launch::{Config, Item, Kind, Launch, Rec, Region, Step, default_steps};
+use rim_launch::{Config, Item, ItemKind, Launch, Rec, Region, Step, default_steps};
 use rmi_list::{ListFault, Plan, list};
 use std::alloc::Global;
 use std::test::Fail;
@@ -63,7 +63,7 @@ pub fn launch_of(alloc: Global, config: &Config, parts: &Parts) -> Result<Option
     let mut items = Vec::new(alloc);
     for (at, size, measured) in parts.items {
         let file = if *size == 0 { 1 } else { 0 };
-        if let Some(item) = Item::new(Kind::Raw { file }, *at, Some(*size), *measured) {
+        if let Some(item) = Item::new(ItemKind::Raw { file }, *at, Some(*size), *measured) {
             items.push(item)?;
         }
     }

@@ -1,5 +1,5 @@
 use Rattle.std.proofs.Common.{rules}
-use Rattle.rim_launch.proofs.item.Kind.has_edits.Goals as goal
+use Rattle.rim_launch.proofs.item.ItemKind.has_edits.Goals as goal
 
 pub returns-then-edits : goal.returns-then-edits
 returns-then-edits c = search rules

@@ -1,5 +1,5 @@
 use Rattle.std.proofs.Common.{rules}
-use Rattle.rim_launch.proofs.item.Kind.file.Goals as goal
+use Rattle.rim_launch.proofs.item.ItemKind.file.Goals as goal
 
 pub returns-in-Kernel : goal.returns-in-Kernel
 returns-in-Kernel c = search rules
