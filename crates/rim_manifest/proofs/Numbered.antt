@@ -1,17 +1,17 @@
 -- Launches read one after another.
-use Rattle.std.proofs.Common.{◌≡◌, ℕ, ◌+◌, ◌<◌, List, [], ◌∷◌, ◌++◌, length, get_or, take, map, true, cond, Option, Some, None, refl, ap, sym, ◌∙◌, arith}
+use Rattle.std.proofs.Common.{◌≡◌, ℕ, zero, suc, slice_get, ◌+◌, ◌<◌, List, [], ◌∷◌, ◌++◌, length, get_or, take, map, true, cond, Option, Some, None, refl, ap, sym, ◌∙◌, arith}
 use Rattle.std.proofs.lemmas.List.{length-map, length-take-le, map-append, take_more}
-use Rattle.toml.specs.Data.{Data}
+use Rattle.toml.specs.Data.{Data, table}
 use Rattle.toml.specs.View.{view}
 use Rattle.toml.specs.declared.value.Value.{Value}
 use Rattle.rim_launch.specs.declared.config.Config.{Config}
 use Rattle.rim_launch.specs.Steps.{each_once}
-use Rattle.rim_launch.specs.LaunchData.{LaunchData, is_launch}
+use Rattle.rim_launch.specs.LaunchData.{LaunchData, has_files, is_launch}
 use Rattle.rim_launch.specs.declared.item.Item.{Item}
 use Rattle.rim_launch.specs.declared.item.Region.{Region}
 use Rattle.rim_launch.specs.declared.rec.Rec.{Rec}
 use Rattle.rim_launch.specs.declared.step.Step.{Step}
-use Rattle.rim_manifest.specs.Launches.{NamedData, bare_launch, launch_in, launches_from}
+use Rattle.rim_manifest.specs.Launches.{AreNumbered, NamedData, ReleaseData, bare_launch, launch_in, launches_from}
 
 -- a configuration is that of a launch that has nothing else
 bare_is_launch : (number : ℕ) (c : Config) → is_launch (bare_launch number c) ≡ true
@@ -42,3 +42,28 @@ launches_step vs i v ls after l h at so_far read pushed =
     ap (map view) (take_more vs i v h ∙ ap (λ w. take i vs ++ w ∷ []) (sym at)) ∙ map-append view (take i vs) (v ∷ []) in
     pushed ∙ ap (λ ms. ms ++ l ∷ []) so_far ∙ ap (λ m. launches_from 0 (map view (take i vs)) ++ m ∷ []) (read ∙ ap (λ k. launch_in k (view v)) place)
     ∙ sym (ap (launches_from 0) one_more ∙ launches_more 0 (map view (take i vs)) (view v))
+
+-- ---- the number of a launch is its place
+
+number_is : (n : ℕ) (d : Data) → (launch_in n d).launch.number ≡ n
+number_is n (table ms) = refl
+number_is n _ = refl
+
+no_files : (n : ℕ) (d : Data) (count : ℕ) → has_files (launch_in n d).launch count ≡ true
+no_files n (table ms) count = refl
+no_files n _ count = refl
+
+place : (n : ℕ) (ds : List Data) (i count : ℕ) (l : NamedData) → slice_get (launches_from n ds) i ≡ Some l
+    → (l.launch.number ≡ n + i) × (has_files l.launch count ≡ true)
+place n [] i count l e = cc
+place n (d ∷ ds) zero count l e =
+    let same : launch_in n d ≡ l = cc in
+    (ap (λ (m : NamedData). m.launch.number) (sym same) ∙ number_is n d ∙ omega arith, ap (λ (m : NamedData). has_files m.launch count) (sym same) ∙ no_files n d count)
+place n (d ∷ ds) (suc i) count l e =
+    let rest = place (n + 1) ds i count l e in
+    (rest.0 ∙ omega arith, rest.1)
+
+pub are_numbered : (ds : List Data) (r : ReleaseData) → r.launches ≡ launches_from 0 ds → AreNumbered r
+are_numbered ds r e = λ i l there.
+    let found = place 0 ds i (length r.paths) l (ap (λ ls. slice_get ls i) (sym e) ∙ there) in
+    (found.0 ∙ omega arith, found.1)

@@ -1,9 +1,9 @@
 -- What a launch's table says, as its values at the keys read. This project's choice.
-use Rattle.std.specs.Prelude.{ℕ, List, [], map, codes, refl}
+use Rattle.std.specs.Prelude.{◌≡◌, ℕ, true, List, [], length, map, Option, Some, codes, refl, slice_get}
 use Rattle.std.specs.List.{enumerate_from}
 use Rattle.std.proofs.lemmas.Bool.{leb-true, ltb-true}
 use Rattle.toml.specs.Data.{Data, table, Members, no_members, get_member}
-use Rattle.rim_launch.specs.LaunchData.{LaunchData}
+use Rattle.rim_launch.specs.LaunchData.{LaunchData, has_files}
 use Rattle.rim_launch.specs.declared.config.Config.{Config}
 use Rattle.rim_manifest.specs.Values.{algorithm_in, digits_in, number_in, text_in, truth_in}
 use Rattle.rim_manifest.specs.inside.NumberRanges.{number_to, number_within}
@@ -17,6 +17,10 @@ pub record NamedData : Type 0 where
 pub record ReleaseData : Type 0 where
   pub paths : List (List ℕ)
   pub launches : List NamedData
+
+-- each launch has its place among the launches as its number, and the release has the files of its items
+abbrev pub AreNumbered : ReleaseData → Type 0
+AreNumbered r = (i : ℕ) (l : NamedData) → slice_get r.launches i ≡ Some l → (l.launch.number ≡ i) × (has_files l.launch (length r.paths) ≡ true)
 
 -- the configuration, and why each of its numbers is in range
 unfoldable pub config_of : Members → Config

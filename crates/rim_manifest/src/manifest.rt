@@ -5,7 +5,7 @@ ghost use Rattle.refusal.specs.Answer.{Answers};
 ghost use Rattle.toml.specs.Data.{get_member};
 ghost use Rattle.toml.specs.View.{table_view, view};
 ghost use Rattle.rim_manifest.specs.Faults.{lowest, noted};
-ghost use Rattle.rim_manifest.specs.Launches.{ReleaseData, launches_from};
+ghost use Rattle.rim_manifest.specs.Launches.{AreNumbered, ReleaseData, launches_from};
 ghost use Rattle.rim_manifest.specs.Manifest.{has_two_names, has_version, items_of, launch_faults, launches_at, manifest_faults, manifest_of, name_in, release_of};
 
 use crate::check::{cell, check_table};
@@ -19,7 +19,8 @@ use toml::{Table, Value};
 /// The number of the format.
 const VERSION: i64 = 1;
 
-/// What a manifest describes: files by their paths, and launches.
+/// What a manifest describes: files by their paths, and launches. A launch's number is its place among them, and the
+/// files of its items are files of the release.
 #[derive(Drop)]
 pub struct Release {
     paths: Vec<String>,
@@ -30,6 +31,8 @@ impl Model for Release {
     ghost Value = { ReleaseData };
 
     ghost view = { λ r. record { paths = map string_bytes r.paths.items; launches = r.launches.items } };
+
+    ghost invariant = { λ r. AreNumbered (record { paths = map string_bytes r.paths.items; launches = r.launches.items }) };
 }
 
 impl Release {
@@ -66,7 +69,8 @@ impl Release {
 
     /// All launches, in the manifest's order.
     pub fn all_launches(&self) -> &[NamedLaunch]
-        ensures { result.now ≡ self.now.launches }
+        ensures value { result.now ≡ self.now.launches }
+        ensures kept { AreNumbered self.now }
     {
         self.launches.as_slice()
     }
