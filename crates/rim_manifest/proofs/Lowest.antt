@@ -8,9 +8,9 @@ use Rattle.toml.specs.Data.{Data, Members, table, get_member}
 use Rattle.rim_manifest.specs.declared.fault.ManifestFault.{ManifestFault}
 use Rattle.rim_manifest.specs.declared.fault.ManifestFault.TheVariants.{Version, WrongKind, UnknownKey, MissingKey, Limit, Range, TwoNames}
 use Rattle.rim_manifest.specs.Faults.{IsLowest, fault_if, lower, lowest, noted, rank_of}
-use Rattle.rim_manifest.specs.Forms.{has_kind, is_over, is_required, is_within}
-use Rattle.rim_manifest.specs.Rules.{Rule, launch_rules, top_rules}
-use Rattle.rim_manifest.specs.Checks.{cell_faults, has_unknown_key, rule_faults, table_faults}
+use Rattle.rim_manifest.specs.Forms.{has_kind, is_over, is_required, is_within, items_in}
+use Rattle.rim_manifest.specs.Rules.{Rule, launch_rules, rec_rules, top_rules}
+use Rattle.rim_manifest.specs.Checks.{cell_faults, has_unknown_key, rule_faults, ruled_faults, table_faults}
 use Rattle.rim_manifest.specs.Launches.{ReleaseData}
 use Rattle.rim_manifest.specs.Manifest.{all_faults, fault_or_release, has_two_names, has_version, launch_faults, launches_at, launches_of, manifest_faults, read_of}
 
@@ -119,9 +119,14 @@ early_table : (rs : List Rule) (ms : Members) → Early (table_faults rs ms)
 early_table rs ms =
     early_append _ _ (early_if (has_unknown_key rs ms) UnknownKey (omega arith)) (early_flat_map (λ r. rule_faults r ms) (λ r. early_cell r (get_member r.key ms)) rs)
 
+early_ruled : (rs : List Rule) (d : Data) → Early (ruled_faults rs d)
+unfolding Early
+early_ruled rs (table ms) = early_table rs ms
+early_ruled rs _ = tt
+
 early_launch : (d : Data) → Early (launch_faults d)
 unfolding launch_faults Early
-early_launch (table ms) = early_table launch_rules ms
+early_launch (table ms) = early_append _ _ (early_table launch_rules ms) (early_flat_map (ruled_faults rec_rules) (early_ruled rec_rules) (items_in (get_member (codes "rec") ms)))
 early_launch _ = tt
 
 early_manifest : (ms : Members) → Early (manifest_faults ms)

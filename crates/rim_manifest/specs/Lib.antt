@@ -1,4 +1,5 @@
 pub mod Faults
+pub mod Words
 pub mod Forms
 pub mod Rules
 pub mod Checks

@@ -41,9 +41,16 @@ launch_rules =
     ∷ rule (codes "rpv") (form.Digits 128) Optional
     ∷ rule (codes "block_level") (form.Number (pos 0) (pos 3)) Optional
     ∷ rule (codes "num_aux") (form.Number (pos 0) (pos 16)) Optional
-    ∷ rule (codes "pool_base") form.Later Optional
-    ∷ rule (codes "pool_count") form.Later Optional
-    ∷ rule (codes "ram") form.Later Optional
+    ∷ rule (codes "pool_base") form.PoolBase Optional
+    ∷ rule (codes "pool_count") (form.Number (pos 1) (pos 16777216)) Optional
+    ∷ rule (codes "ram") (form.Regions 64) Optional
     ∷ rule (codes "item") form.Later Optional
-    ∷ rule (codes "rec") form.Later Optional
+    ∷ rule (codes "rec") (form.Tables 1024) Optional
     ∷ rule (codes "steps") form.Later Optional ∷ []
+
+-- the keys of a REC
+abbrev pub rec_rules : List Rule
+rec_rules =
+    rule (codes "pc") form.Word Optional
+    ∷ rule (codes "x") (form.Words 8) Optional
+    ∷ rule (codes "runnable") form.Truth Optional ∷ []

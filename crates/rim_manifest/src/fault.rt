@@ -3,6 +3,7 @@ ghost use Rattle.std.specs.Prelude.{◌≡◌, Option};
 ghost use Rattle.rim_manifest.specs.declared.fault.ManifestFault.TheVariants as fault;
 ghost use Rattle.rim_manifest.specs.Faults.{fault_if, kind_of, lower, noted};
 
+use refusal::NoMemory;
 use std::alloc::AllocError;
 use thiserror::Error;
 
@@ -49,6 +50,14 @@ impl From<AllocError> for ManifestFault {
     ghost from_gives = { λ _ e. e ≡ fault.NoMemory };
 
     fn from(_error: AllocError) -> ManifestFault {
+        ManifestFault::NoMemory
+    }
+}
+
+impl From<NoMemory> for ManifestFault {
+    ghost from_gives = { λ _ e. e ≡ fault.NoMemory };
+
+    fn from(_error: NoMemory) -> ManifestFault {
         ManifestFault::NoMemory
     }
 }

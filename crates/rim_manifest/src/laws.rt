@@ -3,7 +3,7 @@ ghost use Rattle.std.specs.Prelude.{◌≡◌, Err, Ok};
 ghost use Rattle.toml.specs.Data.{Members};
 ghost use Rattle.rim_manifest.specs.declared.fault.ManifestFault.{ManifestFault};
 ghost use Rattle.rim_manifest.specs.Faults.{IsLowest};
-ghost use Rattle.rim_manifest.specs.Given.{AreGiven};
+ghost use Rattle.rim_manifest.specs.Given.{EachGives, IsGiven};
 ghost use Rattle.rim_manifest.specs.Launches.{ReleaseData};
 ghost use Rattle.rim_manifest.specs.Manifest.{all_faults, launches_at, read_of};
 
@@ -16,5 +16,5 @@ pub fn the_lowest_fault_is_answered()
 /// In a manifest that is accepted each launch has the values that its table gives. A default is read only
 /// where the key is not given, never in the place of a value of another kind or out of its range.
 pub fn what_is_given_is_read()
-    ensures { (ms : Members) (r : ReleaseData) → read_of ms ≡ Ok r → AreGiven (launches_at ms) r.launches }
+    ensures { (ms : Members) (r : ReleaseData) → read_of ms ≡ Ok r → EachGives IsGiven (launches_at ms) r.launches }
 {}

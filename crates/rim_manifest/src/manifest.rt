@@ -1,17 +1,19 @@
 //! Reading a manifest.
-ghost use Rattle.std.specs.Prelude.{◌≡◌, ◌<◌, IfOk, Some, codes, length, map, position, slice_get, string_bytes};
+ghost use Rattle.std.specs.Prelude.{◌≡◌, ◌<◌, [], ◌∷◌, ◌++◌, None, OnOk, Some, codes, length, map, position, slice_get, string_bytes};
 ghost use Rattle.std.specs.List.{flat_map, list_any};
 ghost use Rattle.refusal.specs.Answer.{Answers};
 ghost use Rattle.toml.specs.Data.{get_member};
 ghost use Rattle.toml.specs.View.{table_view, view};
 ghost use Rattle.rim_manifest.specs.Faults.{lowest, noted};
 ghost use Rattle.rim_manifest.specs.Launches.{AreNumbered, ReleaseData, launches_from};
-ghost use Rattle.rim_manifest.specs.Manifest.{has_two_names, has_version, items_of, launch_faults, launches_at, manifest_faults, manifest_of, name_in, release_of};
+ghost use Rattle.rim_manifest.specs.Forms.{items_in};
+ghost use Rattle.rim_manifest.specs.Manifest.{all_made, has_two_names, has_version, launch_faults, launches_at, manifest_faults, manifest_of, name_in, release_of};
 
-use crate::check::{cell, check_table};
+use crate::check::{cell, check_table, check_tables};
 use crate::fault::{ManifestFault, note_if};
 use crate::launch::{NamedLaunch, read_launch};
-use crate::rules::{LAUNCH_RULES, TOP_RULES};
+use crate::rules::{LAUNCH_RULES, REC_RULES, TOP_RULES};
+use crate::value::items;
 use std::alloc::{AllocError, Global};
 use std::marker::Model;
 use toml::{Table, Value};
@@ -103,7 +105,7 @@ fn lowest_fault(table: &Table) -> Option<ManifestFault>
     let mut found = None;
     note_if(&mut found, !has_version(table), ManifestFault::Version);
     check_table(&TOP_RULES, table, &mut found);
-    check_launches(launches(table), &mut found);
+    check_launches(entries(table, "launch"), &mut found);
     found
 }
 
@@ -113,23 +115,13 @@ fn has_version(table: &Table) -> bool
     matches!(cell(table, "rim_manifest"), Some(Value::Integer(x)) if *x == VERSION)
 }
 
-/// The values in the array of launches.
-fn launches(table: &Table) -> &[Value]
-    ensures { map view result.now ≡ launches_at (table_view table.now) }
+/// The values of the array at a key; none where it is not given.
+fn entries<'a>(table: &'a Table, key: &str) -> &'a [Value]
+    ensures { map view result.now ≡ items_in (get_member key.now (table_view table.now)) }
 {
-    match cell(table, "launch") {
+    match cell(table, key) {
         Some(value) => items(value),
         None => &[],
-    }
-}
-
-/// The values of an array, and none of another value.
-fn items(value: &Value) -> &[Value]
-    ensures { map view result.now ≡ items_of (view value.now) }
-{
-    match value {
-        Value::Array(items) => items.as_slice(),
-        _ => &[],
     }
 }
 
@@ -141,20 +133,23 @@ fn check_launches(items: &[Value], found: &mut Option<ManifestFault>)
     }
 }
 
+/// Notes the faults of a launch's table and of the tables of its RECs.
 #[tactic(auto, unfolding(crate::specs::Manifest::launch_faults))]
 fn check_launch(item: &Value, found: &mut Option<ManifestFault>)
     ensures { found.new ≡ noted found.old (launch_faults (view item.now)) }
 {
     if let Value::Table(table) = item {
         check_table(&LAUNCH_RULES, table, found);
+        check_tables(&REC_RULES, entries(table, "rec"), found);
     }
 }
 
 /// Reads what a document without faults in its tables describes.
 fn read_release(alloc: Global, table: &Table) -> Result<Release, ManifestFault>
+    requires { lowest (manifest_faults (table_view table.now)) ≡ None }
     ensures { Answers ManifestFault.NoMemory (λ release. release) result (release_of (table_view table.now)) }
 {
-    let launches = read_launches(alloc, launches(table))?;
+    let launches = read_launches(alloc, entries(table, "launch"))?;
     // The search is quadratic in the launches, which are at most 1,024 by now.
     if has_two_names(launches.as_slice()) {
         return Err(ManifestFault::TwoNames);
@@ -165,14 +160,21 @@ fn read_release(alloc: Global, table: &Table) -> Result<Release, ManifestFault>
     })
 }
 
-fn read_launches(alloc: Global, items: &[Value]) -> Result<Vec<NamedLaunch>, AllocError>
-    ensures { IfOk result (λ ls. ls.items ≡ launches_from 0 (map view items.now)) }
+fn read_launches(alloc: Global, items: &[Value]) -> Result<Vec<NamedLaunch>, ManifestFault>
+    ensures { Answers ManifestFault.NoMemory (λ ls. ls.items) result (all_made (launches_from 0 (map view items.now))) }
 {
     let mut launches = Vec::with_capacity(alloc, items.len())?;
     for (number, item) in items.iter().enumerate() {
-        launches.push(read_launch(alloc, number, item)?)?;
+        push(&mut launches, read_launch(alloc, number, item)?)?;
     }
     Ok(launches)
+}
+
+fn push(launches: &mut Vec<NamedLaunch>, launch: NamedLaunch) -> Result<(), AllocError>
+    ensures { OnOk result (launches.new.items ≡ launches.old.items ++ launch ∷ []) }
+{
+    launches.push(launch)?;
+    Ok(())
 }
 
 /// Whether two launches share a name.

@@ -24,10 +24,24 @@ pub const LAUNCH_RULES: [Rule; 18] = [
     ("rpv", Form::Digits { count: 128 }, Optional),
     ("block_level", Form::Number { low: 0, high: 3 }, Optional),
     ("num_aux", Form::Number { low: 0, high: 16 }, Optional),
-    ("pool_base", Form::Later, Optional),
-    ("pool_count", Form::Later, Optional),
-    ("ram", Form::Later, Optional),
+    ("pool_base", Form::PoolBase, Optional),
+    (
+        "pool_count",
+        Form::Number {
+            low: 1,
+            high: 16_777_216,
+        },
+        Optional,
+    ),
+    ("ram", Form::Regions { most: 64 }, Optional),
     ("item", Form::Later, Optional),
-    ("rec", Form::Later, Optional),
+    ("rec", Form::Tables { most: 1024 }, Optional),
     ("steps", Form::Later, Optional),
+];
+
+/// The keys of a REC.
+pub const REC_RULES: [Rule; 3] = [
+    ("pc", Form::Word, Optional),
+    ("x", Form::Words { most: 8 }, Optional),
+    ("runnable", Form::Truth, Optional),
 ];

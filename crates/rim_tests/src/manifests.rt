@@ -117,12 +117,8 @@ fn kinds_at_the_top(rt: HostRuntime) {
     check_texts(&rt, &TOPS);
 }
 
-const LATER_KEYS: [Row; 9] = [
-    ("pool_base = 0", LIMIT),
-    ("pool_count = 1", LIMIT),
-    ("ram = []", LIMIT),
+const LATER_KEYS: [Row; 5] = [
     ("item = 3", LIMIT),
-    ("rec = []", LIMIT),
     ("steps = \"a\"", LIMIT),
     ("file = 3", UNKNOWN_KEY),
     ("rec_rule = \"all\"", UNKNOWN_KEY),
@@ -149,6 +145,112 @@ const WRONG_KINDS: [Row; 9] = [
 #[test]
 fn wrong_kinds(rt: HostRuntime) -> Result<(), Fail> {
     check_lines(&rt, &WRONG_KINDS)
+}
+
+const POOLS: [Row; 10] = [
+    ("pool_base = 0", None),
+    ("pool_base = 65536", None),
+    ("pool_base = 0xffffffff0000", None),
+    ("pool_base = 0x1000000000000", RANGE),
+    ("pool_base = 65535", RANGE),
+    ("pool_base = -65536", RANGE),
+    ("pool_base = \"0x0\"", WRONG_KIND),
+    ("pool_count = 1\nnum_aux = 0", None),
+    ("pool_count = 16777216", None),
+    ("pool_count = 16777217", RANGE),
+];
+
+const REGIONS: [Row; 14] = [
+    ("ram = []", None),
+    ("ram = [[0, 1]]", None),
+    ("ram = [[0, 9223372036854775807], [3, 4]]", None),
+    ("ram = [[1, 1]]", RANGE),
+    ("ram = [[2, 1]]", RANGE),
+    ("ram = [[-1, 1]]", RANGE),
+    ("ram = [[0, -1]]", RANGE),
+    ("ram = [[0, 1], [0, 0]]", RANGE),
+    ("ram = [[0, 1, 2]]", WRONG_KIND),
+    ("ram = [[0]]", WRONG_KIND),
+    ("ram = [0, 1]", WRONG_KIND),
+    ("ram = [[0, \"1\"]]", WRONG_KIND),
+    ("ram = 1", WRONG_KIND),
+    ("ram = [[0, 1.0]]", WRONG_KIND),
+];
+
+const RECS: [Row; 26] = [
+    ("rec = []", None),
+    ("rec = [{}]", None),
+    (
+        "rec = [{pc = 9223372036854775807}, {pc = \"0xffffffffffffffff\"}]",
+        None,
+    ),
+    ("rec = [{pc = \"0xA\"}, {pc = \"0xa\"}]", None),
+    ("rec = [{x = []}]", None),
+    ("rec = [{x = [1, \"0x2\", 3, 4, 5, 6, 7, 8]}]", None),
+    ("rec = [{x = [1, 2, 3, 4, 5, 6, 7, 8, 9]}]", LIMIT),
+    ("rec = [{x = [1, 2, 3, 4, 5, 6, 7, 8, -9]}]", LIMIT),
+    ("rec = [{x = [1, 2, 3, 4, 5, 6, 7, 8, true]}]", WRONG_KIND),
+    ("rec = [{runnable = false}]", None),
+    ("rec = [{runnable = 0}]", WRONG_KIND),
+    ("rec = [{pc = -1}]", RANGE),
+    ("rec = [{pc = \"\"}]", RANGE),
+    ("rec = [{pc = \"0x\"}]", RANGE),
+    ("rec = [{pc = \"12\"}]", RANGE),
+    ("rec = [{pc = \"0X1\"}]", RANGE),
+    ("rec = [{pc = \"0x+1\"}]", RANGE),
+    ("rec = [{pc = \"0x1 \"}]", RANGE),
+    ("rec = [{pc = \"0xg\"}]", RANGE),
+    ("rec = [{pc = \"0x00000000000000000\"}]", RANGE),
+    ("rec = [{pc = 1.0}]", WRONG_KIND),
+    ("rec = [{x = [true]}]", WRONG_KIND),
+    ("rec = [{x = 1}]", WRONG_KIND),
+    ("rec = [{}, {name = 1}]", UNKNOWN_KEY),
+    ("rec = {}", WRONG_KIND),
+    ("rec = [1]", WRONG_KIND),
+];
+
+#[test]
+fn pools(rt: HostRuntime) -> Result<(), Fail> {
+    check_lines(&rt, &POOLS)
+}
+
+#[test]
+fn regions(rt: HostRuntime) -> Result<(), Fail> {
+    check_lines(&rt, &REGIONS)
+}
+
+#[test]
+fn recs(rt: HostRuntime) -> Result<(), Fail> {
+    check_lines(&rt, &RECS)
+}
+
+/// A key of an array of this many equal members.
+fn array_of(alloc: Global, key: &str, member: &str, count: usize) -> Result<String, Fail> {
+    let mut line = format!(in alloc; "{key} = [")?;
+    for _ in 0..count {
+        line.push_str(member)?;
+        line.push_str(",")?;
+    }
+    line.push_str("]")?;
+    Ok(line)
+}
+
+/// Arrays: their keys, members and numbers of members, and the faults.
+const LENGTHS: [(&str, &str, usize, Option<ManifestFault>); 4] = [
+    ("ram", "[0, 1]", 64, None),
+    ("ram", "[0, 1]", 65, LIMIT),
+    ("rec", "{}", 1024, None),
+    ("rec", "{}", 1025, LIMIT),
+];
+
+#[test]
+fn how_many_regions_and_recs(rt: HostRuntime) -> Result<(), Fail> {
+    for (key, member, count, fault) in &LENGTHS {
+        let line = array_of(rt.alloc(), key, member, *count)?;
+        let found = fault_with(rt.alloc(), line.as_str())?;
+        assert_eq!(rt; found, *fault, "{count} of {key}");
+    }
+    Ok(())
 }
 
 const VALUES: [Row; 20] = [

@@ -11,6 +11,6 @@ returns c = rw (
   ← c.has_version.ensures,
   ← c.note_if.ensures,
   ← c.check_table.ensures,
-  ← c.launches.ensures,
-  flat_map_map launch_faults view c.launches.result.now,
+  ← c.entries.ensures,
+  flat_map_map launch_faults view c.entries.result.now,
 ) c.check_launches.ensures
