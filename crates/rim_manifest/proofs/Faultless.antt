@@ -1,19 +1,21 @@
 -- What holds where no fault does.
-use Rattle.std.proofs.Common.{◌≡◌, ℕ, ◌≤◌, List, [], ◌∷◌, ◌++◌, length, Bool, true, false, cond, not, ◌&&◌, Option, Some, None, refl, sym, codes, true≢false, arith}
+use Rattle.std.proofs.Common.{◌≡◌, ℕ, ◌≤◌, List, [], ◌∷◌, ◌++◌, length, Bool, true, false, cond, not, ◌&&◌, ◌||◌, Option, Some, None, refl, sym, codes, true≢false, arith}
 use Rattle.std.specs.Prelude.{nat_lt}
 use Rattle.std.specs.List.{AllByRecursion, flat_map, list_all}
 use Rattle.std.proofs.lemmas.Bool.{ltb-false}
 use Rattle.toml.specs.Data.{Data, array, table, Members, get_member}
 use Rattle.rim_manifest.specs.declared.fault.ManifestFault.{ManifestFault}
-use Rattle.rim_manifest.specs.declared.fault.ManifestFault.TheVariants.{Limit, Range, UnknownKey, Version, WrongKind}
+use Rattle.rim_manifest.specs.declared.fault.ManifestFault.TheVariants.{Limit, MissingKey, Range, UnknownKey, Version, WrongKind}
 use Rattle.rim_manifest.specs.declared.form.Form.{Form}
 use Rattle.rim_manifest.specs.declared.form.Form.TheVariants as form
 use Rattle.rim_manifest.specs.declared.form.Presence.{Presence}
 use Rattle.rim_manifest.specs.Faults.{fault_if}
 use Rattle.rim_manifest.specs.Forms.{has_kind, is_over, is_table, is_within, items_in, items_list}
-use Rattle.rim_manifest.specs.Manifest.{has_version, launch_faults, launches_at, manifest_faults}
+use Rattle.rim_manifest.specs.Manifest.{files_at, has_version, item_faults, launch_faults, launches_at, manifest_faults}
+use Rattle.rim_manifest.specs.Names.{has_asked}
+use Rattle.rim_manifest.specs.Values.{array_at}
 use Rattle.rim_manifest.specs.Checks.{cell_faults, has_unknown_key, rule_faults, ruled_faults, table_faults, value_faults}
-use Rattle.rim_manifest.specs.Rules.{Rule, launch_rules, rec_rules, top_rules}
+use Rattle.rim_manifest.specs.Rules.{Rule, file_rules, launch_rules, rec_rules, top_rules}
 
 -- ---- lists of faults that are empty
 
@@ -25,7 +27,7 @@ pub each_empty : {X Y : Type 0} (f : X → List Y) (xs : List X) → flat_map f 
 each_empty f [] e = tt
 each_empty f (x ∷ xs) e = let parts = empty_parts (f x) (flat_map f xs) e in (parts.0, each_empty f xs parts.1)
 
-not_faulty : (b : Bool) (f : ManifestFault) → fault_if b f ≡ [] → b ≡ false
+pub not_faulty : (b : Bool) (f : ManifestFault) → fault_if b f ≡ [] → b ≡ false
 not_faulty false f e = refl
 not_faulty true f e = cc
 
@@ -33,7 +35,11 @@ pub both : (a b : Bool) → (a && b) ≡ true → (a ≡ true) × (b ≡ true)
 both true b e = (refl, e)
 both false b e = cc
 
-holds : (b : Bool) → not b ≡ false → b ≡ true
+pub neither : (a b : Bool) → (a || b) ≡ false → (a ≡ false) × (b ≡ false)
+neither true b e = cc
+neither false b e = (refl, e)
+
+pub holds : (b : Bool) → not b ≡ false → b ≡ true
 holds true e = refl
 holds false e = cc
 
@@ -83,20 +89,32 @@ each_value rs ms e = each_empty (λ r. rule_faults r ms) rs (empty_parts (fault_
 
 pub record TopIsGood (ms : Members) : Type 0 where
   pub top : AllByRecursion (λ r. rule_faults r ms ≡ []) top_rules
+  pub files : flat_map (ruled_faults file_rules) (files_at ms) ≡ []
   pub launches : flat_map launch_faults (launches_at ms) ≡ []
 
 pub good_top : (ms : Members) → manifest_faults ms ≡ [] → TopIsGood ms
 unfolding manifest_faults
 good_top ms e =
-    let parts = empty_parts (table_faults top_rules ms) _ (empty_parts (fault_if (not (has_version (get_member (codes "rim_manifest") ms))) Version) _ e).1 in
-    record { top = each_value top_rules ms parts.0; launches = parts.1 }
+    let after_version = empty_parts (fault_if (not (has_version (get_member (codes "rim_manifest") ms))) Version) _ e in
+    let after_top = empty_parts (table_faults top_rules ms) _ after_version.1 in
+    let after_files = empty_parts (flat_map (ruled_faults file_rules) (files_at ms)) _ after_top.1 in
+    record { top = each_value top_rules ms after_top.0; files = after_files.0; launches = after_files.1 }
 
 pub record LaunchIsGood (ms : Members) : Type 0 where
   pub launch : AllByRecursion (λ r. rule_faults r ms ≡ []) launch_rules
-  pub recs : flat_map (ruled_faults rec_rules) (items_in (get_member (codes "rec") ms)) ≡ []
+  pub items : flat_map item_faults (array_at (codes "item") (table ms)) ≡ []
+  pub recs : flat_map (ruled_faults rec_rules) (array_at (codes "rec") (table ms)) ≡ []
+  pub asked : has_asked (table ms) ≡ true
 
 pub good_launch : (ms : Members) → launch_faults (table ms) ≡ [] → LaunchIsGood ms
 unfolding launch_faults
 good_launch ms e =
-    let parts = empty_parts (table_faults launch_rules ms) _ e in
-    record { launch = each_value launch_rules ms parts.0; recs = parts.1 }
+    let after_table = empty_parts (table_faults launch_rules ms) _ e in
+    let after_items = empty_parts (flat_map item_faults (array_at (codes "item") (table ms))) _ after_table.1 in
+    let after_recs = empty_parts (flat_map (ruled_faults rec_rules) (array_at (codes "rec") (table ms))) _ after_items.1 in
+    record {
+      launch = each_value launch_rules ms after_table.0;
+      items = after_items.0;
+      recs = after_recs.0;
+      asked = holds (has_asked (table ms)) (not_faulty (not (has_asked (table ms))) MissingKey after_recs.1);
+    }

@@ -1,7 +1,7 @@
 -- What is read of a manifest without faults is what the manifest gives.
-use Rattle.std.proofs.Common.{◌≡◌, IsOk, ℕ, zero, suc, ◌+◌, List, [], ◌∷◌, ◌++◌, length, take, drop, map, Bool, true, false, cond, ◌&&◌, ◌||◌, Option, Some, None, Result, Ok, Err, pos, negsuc, refl, ap, sym, subst, ◌∙◌, codes, true≢false}
-use Rattle.std.specs.Prelude.{nat_le, ◌==◌, is_some, unwrap_or}
-use Rattle.std.specs.List.{flat_map, list_all}
+use Rattle.std.proofs.Common.{◌≡◌, IsOk, ℕ, zero, suc, ◌+◌, List, [], ◌∷◌, ◌++◌, length, take, drop, map, Bool, true, false, cond, not, ◌&&◌, ◌||◌, Option, Some, None, Result, Ok, Err, pos, negsuc, refl, ap, sym, subst, ◌∙◌, codes, true≢false}
+use Rattle.std.specs.Prelude.{nat_le, ◌==◌, is_some, position, slice_get, unwrap_or}
+use Rattle.std.specs.List.{AllByRecursion, flat_map, list_all, list_any}
 use Rattle.std.specs.Result.{result_unwrap_or}
 use Rattle.std.specs.Str.{bytes_eq}
 use Rattle.std.specs.Str.Parse.{digits_value}
@@ -12,24 +12,31 @@ use Rattle.std.proofs.lemmas.List.Sums.{AllPass-from_list_all}
 use Rattle.hex.specs.Hex.{decode_sized, is_hex_digit}
 use Rattle.hex.specs.declared.error.FromHexError.{FromHexError}
 use Rattle.hex.proofs.HexLemmas.{IsOk-decode_sized}
-use Rattle.toml.specs.Data.{Data, string, integer, boolean, array, table, Items, no_items, item, Members, at, get_item, get_member}
+use Rattle.toml.specs.Data.{Data, string, integer, boolean, array, table, Items, no_items, item, Members, at, get, get_item, get_member}
 use Rattle.rim_desc.specs.Page.{zeros}
 use Rattle.rim_desc.specs.declared.measurement.Algo.TheVariants.{Sha256, Sha512}
 use Rattle.rim_manifest.specs.declared.fault.ManifestFault.{ManifestFault}
-use Rattle.rim_manifest.specs.declared.fault.ManifestFault.TheVariants.{TwoNames}
+use Rattle.rim_manifest.specs.declared.fault.ManifestFault.TheVariants.{NoSuchFile, TwoNames}
 use Rattle.rim_manifest.specs.declared.form.Form.TheVariants as form
 use Rattle.rim_manifest.specs.declared.form.Presence.{Presence}
 use Rattle.rim_manifest.specs.declared.form.Presence.TheVariants.{Required, Optional}
-use Rattle.rim_manifest.specs.Faults.{lowest}
+use Rattle.rim_manifest.specs.Faults.{fault_if, lowest}
 use Rattle.rim_manifest.specs.Forms.{is_pool_base, is_range, is_range_pair, is_table, items_in, items_list}
-use Rattle.rim_manifest.specs.Given.{EachGives, FillsWord, GivesBytes, GivesNumber, GivesRec, GivesRegion, GivesTruth, GivesWord, GivesWords, IsGiven, SpellsWord, algorithm_text}
-use Rattle.rim_manifest.specs.Launches.{ReleaseData, array_at, config_of, launch_of, launches_from, rec_of, region_in, region_of}
-use Rattle.rim_manifest.specs.Values.{algorithm_in, base_in, digits_in, number_in, text_in, truth_in, whole_in, word_at, word_in, words_in}
+use Rattle.rim_manifest.specs.Given.{EachGives, FillsWord, GivesBootargs, GivesBytes, GivesFile, GivesItem, GivesKind, GivesNumber, GivesPath, GivesRec, GivesRegion, GivesSize, GivesTruth, GivesWord, GivesWords, IsGiven, SpellsWord, algorithm_text, role_text}
+use Rattle.rim_manifest.specs.Launches.{ReleaseData, config_of, launch_of, launches_from, rec_of, region_in, region_of}
+use Rattle.rim_manifest.specs.Values.{algorithm_in, array_at, base_in, digits_in, number_in, text_in, truth_in, whole_in, word_at, word_in, words_in}
 use Rattle.rim_manifest.specs.Words.{are_digits, hex_number, is_word, word_of}
-use Rattle.rim_manifest.specs.Manifest.{fault_or_release, has_two_names, launch_faults, launches_at, launches_of, manifest_faults, read_of}
-use Rattle.rim_manifest.specs.Checks.{cell_faults, ruled_faults}
-use Rattle.rim_manifest.specs.Rules.{rec_rules}
-use Rattle.rim_manifest.proofs.Faultless.{all_tables, both, each_value, empty_parts, good_launch, good_top, good_value}
+use Rattle.rim_manifest.specs.Manifest.{fault_or_named, fault_or_release, files_at, has_no_file, has_two_names, item_faults, launch_faults, launches_at, manifest_faults, name_faults, path_of, read_of, release_of, rules_of}
+use Rattle.rim_manifest.specs.Checks.{cell_faults, rule_faults, ruled_faults, table_faults}
+use Rattle.rim_launch.specs.Kinds.{file_of}
+use Rattle.rim_launch.specs.Texts.{has_no_zero}
+use Rattle.rim_launch.specs.declared.item.Role.{Role}
+use Rattle.rim_launch.specs.declared.item.Role.TheVariants.{Kernel, Initrd, Dtb, Raw}
+use Rattle.rim_manifest.specs.Items.{bootargs_in, item_of, kind_of, size_in}
+use Rattle.rim_manifest.specs.Names.{file_at, has_file, is_named, lacks_file, name_of, role_at, role_of_word}
+use Rattle.rim_manifest.specs.Rules.{dtb_rules, file_rules, item_rules, rec_rules}
+use Rattle.rim_manifest.proofs.Faultless.{all_tables, both, each_value, empty_parts, good_launch, good_top, good_value, holds, neither, not_faulty}
+use Rattle.rim_manifest.proofs.Lookups.{file_of-kind, found_there, role_of-kind}
 use Rattle.rim_manifest.proofs.Lowest.{none_noted}
 use Rattle.rim_manifest.proofs.Regions.{reads_as}
 
@@ -182,56 +189,178 @@ tables_given R f faults each (d ∷ ds) tables e =
     let parts = empty_parts (faults d) (flat_map faults ds) e in
     (each d shapes.0 parts.0, tables_given R f faults each ds shapes.1 parts.1)
 
--- ---- launches
+-- ---- files and items
 
-launch_given : (n : ℕ) (d : Data) → is_table d ≡ true → launch_faults d ≡ [] → IsGiven d (launch_of n d)
-unfolding config_of
-launch_given n (table ms) t e =
-    let good = good_launch ms e in
-    let each = good.launch in
-    let rest = each.1.1.1.1.1.1.1.1.1.1.1.1 in
-    record {
-      name = text_there (codes "name") _ each.0;
-      algo = algorithm_there (codes "algo") _ each.1.0;
-      s2sz = number_there (codes "s2sz") 32 48 32 _ each.1.1.0;
-      sve = truth_given (codes "sve") Optional false _ each.1.1.1.0;
-      pmu = truth_given (codes "pmu") Optional false _ each.1.1.1.1.0;
-      sve_vl = number_given (codes "sve_vl") Optional 0 255 0 _ each.1.1.1.1.1.0;
-      num_bps = number_given (codes "num_bps") Optional 0 255 0 _ each.1.1.1.1.1.1.0;
-      num_wps = number_given (codes "num_wps") Optional 0 255 0 _ each.1.1.1.1.1.1.1.0;
-      pmu_num_ctrs = number_given (codes "pmu_num_ctrs") Optional 0 255 0 _ each.1.1.1.1.1.1.1.1.0;
-      rpv = bytes_given (codes "rpv") Optional _ each.1.1.1.1.1.1.1.1.1.0;
-      block_level = number_given (codes "block_level") Optional 0 3 2 _ each.1.1.1.1.1.1.1.1.1.1.0;
-      num_aux = number_given (codes "num_aux") Optional 0 16 0 _ each.1.1.1.1.1.1.1.1.1.1.1.0;
-      pool_base = base_given (codes "pool_base") Optional _ rest.0;
-      pool_count = number_given (codes "pool_count") Optional 1 16777216 16777216 _ rest.1.0;
-      ram = regions_given (codes "ram") Optional 64 _ rest.1.1.0;
-      recs = tables_given GivesRec rec_of (ruled_faults rec_rules) rec_given (array_at (codes "rec") (table ms)) (all_tables (codes "rec") Optional 1024 (get_member (codes "rec") ms) rest.1.1.1.1.0) good.recs;
-    }
-launch_given n _ t e = cc
+path_there : (key : List ℕ) (o : Option Data) → cell_faults (record { key = key; form = form.Text; presence = Required }) o ≡ [] → o ≡ Some (string (text_in o))
+path_there key None e = cc
+path_there key (Some (string s)) e = refl
+path_there key (Some d) e = absurd (true≢false (sym (good_value form.Text d e).kind))
 
-launches_given : (n : ℕ) (ds : List Data) → list_all is_table ds ≡ true → flat_map launch_faults ds ≡ [] → EachGives IsGiven ds (launches_from n ds)
-launches_given n [] tables e = tt
-launches_given n (d ∷ ds) tables e =
-    let shapes = both (is_table d) (list_all is_table ds) tables in
-    let parts = empty_parts (launch_faults d) (flat_map launch_faults ds) e in
-    (launch_given n d shapes.0 parts.0, launches_given (n + 1) ds shapes.1 parts.1)
+path_given : (d : Data) → is_table d ≡ true → ruled_faults file_rules d ≡ [] → GivesPath d (path_of d)
+path_given (table ms) t e = path_there (codes "path") (get_member (codes "path") ms) (each_value file_rules ms e).1.0
+path_given _ t e = cc
 
-faultless : (ms : Members) → manifest_faults ms ≡ [] → EachGives IsGiven (launches_at ms) (launches_of ms)
-faultless ms e =
+size_given : (key : List ℕ) (p : Presence) (o : Option Data) → cell_faults (record { key = key; form = form.Number (pos 0) (pos 9223372036854775807); presence = p }) o ≡ [] → GivesSize o (size_in o)
+size_given key p None e = tt
+size_given key p (Some d) e = number_given key p 0 9223372036854775807 0 (Some d) e
+
+taken_text : (b : Bool) (s : List ℕ) → b ≡ true → GivesBootargs (Some (string s)) (cond b (Some s) None)
+taken_text true s e = refl
+taken_text false s e = cc
+
+bootargs_given : (key : List ℕ) (p : Presence) (o : Option Data) → cell_faults (record { key = key; form = form.Bootargs; presence = p }) o ≡ [] → GivesBootargs o (bootargs_in o)
+bootargs_given key p None e = tt
+bootargs_given key p (Some (string s)) e = taken_text (has_no_zero s) s (good_value form.Bootargs (string s) e).within
+bootargs_given key p (Some d) e = absurd (true≢false (sym (good_value form.Bootargs d e).kind))
+
+-- one of the four words
+word_is : (s : List ℕ) (a b c d : Bool) → bytes_eq s (codes "kernel") ≡ a → bytes_eq s (codes "initrd") ≡ b → bytes_eq s (codes "dtb") ≡ c → bytes_eq s (codes "raw") ≡ d
+    → (a || b || c || d) ≡ true → s ≡ role_text (cond a Kernel (cond b Initrd (cond c Dtb Raw)))
+word_is s true b c d kernel initrd dtb raw e = (bytes_eq-Decides s (codes "kernel")).0 kernel
+word_is s false true c d kernel initrd dtb raw e = (bytes_eq-Decides s (codes "initrd")).0 initrd
+word_is s false false true d kernel initrd dtb raw e = (bytes_eq-Decides s (codes "dtb")).0 dtb
+word_is s false false false true kernel initrd dtb raw e = (bytes_eq-Decides s (codes "raw")).0 raw
+word_is s false false false false kernel initrd dtb raw e = cc
+
+role_there : (key : List ℕ) (o : Option Data) → cell_faults (record { key = key; form = form.ItemKind; presence = Required }) o ≡ []
+    → o ≡ Some (string (role_text (role_of_word (text_in o))))
+role_there key None e = cc
+role_there key (Some (string s)) e =
+    ap (λ t. Some (string t)) (word_is s (bytes_eq s (codes "kernel")) (bytes_eq s (codes "initrd")) (bytes_eq s (codes "dtb")) (bytes_eq s (codes "raw")) refl refl refl refl (good_value form.ItemKind (string s) e).within)
+role_there key (Some d) e = absurd (true≢false (sym (good_value form.ItemKind d e).kind))
+
+any_text_there : (key : List ℕ) (o : Option Data) → cell_faults (record { key = key; form = form.AnyText; presence = Required }) o ≡ [] → o ≡ Some (string (text_in o))
+any_text_there key None e = cc
+any_text_there key (Some (string s)) e = refl
+any_text_there key (Some d) e = absurd (true≢false (sym (good_value form.AnyText d e).kind))
+
+-- the files, each without faults
+module _ (files : List Data) (tables : list_all is_table files ≡ true) (good : flat_map (ruled_faults file_rules) files ≡ []) where
+  at_place : (fs : List Data) (n : ℕ) (f : Data) → list_all is_table fs ≡ true → flat_map (ruled_faults file_rules) fs ≡ [] → slice_get fs n ≡ Some f
+      → (is_table f ≡ true) × (ruled_faults file_rules f ≡ [])
+  at_place [] n f t e there = cc
+  at_place (g ∷ fs) zero f t e there =
+      let same : g ≡ f = cc in
+      (ap is_table (sym same) ∙ (both (is_table g) (list_all is_table fs) t).0, ap (ruled_faults file_rules) (sym same) ∙ (empty_parts (ruled_faults file_rules g) _ e).0)
+  at_place (g ∷ fs) (suc n) f t e there = at_place fs n f (both (is_table g) (list_all is_table fs) t).1 (empty_parts (ruled_faults file_rules g) _ e).1 there
+
+  name_there : (f : Data) → is_table f ≡ true → ruled_faults file_rules f ≡ [] → get (codes "name") f ≡ Some (string (name_of f))
+  name_there (table ms) t e = text_there (codes "name") (get_member (codes "name") ms) (each_value file_rules ms e).0
+  name_there _ t e = cc
+
+  file_given : (name : List ℕ) → list_any (is_named name) files ≡ true → GivesFile files (Some (string name)) (unwrap_or (position (is_named name) files) 0)
+  file_given name any =
+      let found = found_there (is_named name) files any in
+      let whole = at_place files _ found.0 tables good found.1 in
+      let named : name_of found.0 ≡ name = (bytes_eq-Decides (name_of found.0) name).0 found.2 in
+      (found.0, found.1, name_there found.0 whole.0 whole.1 ∙ ap (λ n. Some (string n)) named)
+
+  item_rules_hold : (r : Role) (ms : Members) → table_faults (rules_of r) ms ≡ [] → AllByRecursion (λ rule. rule_faults rule ms ≡ []) item_rules
+  item_rules_hold Dtb ms e = let each = each_value dtb_rules ms e in (each.0, (each.1.0, (each.1.1.0, (each.1.1.1.0, (each.1.1.1.1.0, (each.1.1.1.1.1.0, tt))))))
+  item_rules_hold Kernel ms e = each_value item_rules ms e
+  item_rules_hold Initrd ms e = each_value item_rules ms e
+  item_rules_hold Raw ms e = each_value item_rules ms e
+
+  kind_given : (r : Role) (file : ℕ) (ms : Members) → table_faults (rules_of r) ms ≡ [] → GivesKind (table ms) (kind_of r file (table ms))
+  kind_given Dtb file ms e =
+      let each = (each_value dtb_rules ms e).1.1.1.1.1.1 in
+      record {
+        bootargs = bootargs_given (codes "bootargs") Optional (get_member (codes "bootargs") ms) each.0;
+        initrd = truth_given (codes "initrd") Optional false (get_member (codes "initrd") ms) each.1.0;
+        memory = truth_given (codes "memory") Optional false (get_member (codes "memory") ms) each.1.1.0;
+      }
+  kind_given Kernel file ms e = tt
+  kind_given Initrd file ms e = tt
+  kind_given Raw file ms e = tt
+
+  item_given : (d : Data) → is_table d ≡ true → item_faults d ≡ [] → has_file files d ≡ true → GivesItem files d (item_of files d)
+  unfolding item_of
+  item_given (table ms) t e there =
+      let each = item_rules_hold (role_at (table ms)) ms e in
+      let file : get_member (codes "file") ms ≡ Some (string (text_in (get_member (codes "file") ms))) = any_text_there (codes "file") _ each.1.1.0 in
+      record {
+        role = role_there (codes "kind") _ each.1.0 ∙ ap (λ r. Some (string (role_text r))) (sym (role_of-kind (role_at (table ms)) (file_at files (table ms)) (table ms)));
+        file = subst (λ o. GivesFile files o (file_of (kind_of (role_at (table ms)) (file_at files (table ms)) (table ms)))) (sym file)
+            (subst (GivesFile files (Some (string (text_in (get_member (codes "file") ms))))) (sym (file_of-kind (role_at (table ms)) (file_at files (table ms)) (table ms)))
+            (file_given (text_in (get_member (codes "file") ms)) there));
+        kind = kind_given (role_at (table ms)) (file_at files (table ms)) ms e;
+        at = number_there (codes "at") 0 9223372036854775807 0 _ each.1.1.1.0;
+        size = size_given (codes "size") Optional (get_member (codes "size") ms) each.1.1.1.1.0;
+        measured = truth_given (codes "measured") Optional true (get_member (codes "measured") ms) each.1.1.1.1.1.0;
+      }
+  item_given _ t e there = cc
+
+  items_given : (ds : List Data) → list_all is_table ds ≡ true → flat_map item_faults ds ≡ [] → list_any (λ i. not (has_file files i)) ds ≡ false
+      → EachGives (GivesItem files) ds (map (item_of files) ds)
+  items_given [] t e there = tt
+  items_given (d ∷ ds) t e there =
+      let shapes = both (is_table d) (list_all is_table ds) t in
+      let parts = empty_parts (item_faults d) (flat_map item_faults ds) e in
+      let found = neither (not (has_file files d)) (list_any (λ i. not (has_file files i)) ds) there in
+      (item_given d shapes.0 parts.0 (holds (has_file files d) found.0), items_given ds shapes.1 parts.1 found.1)
+
+  -- ---- launches
+
+  launch_given : (n : ℕ) (d : Data) → is_table d ≡ true → launch_faults d ≡ [] → lacks_file files d ≡ false → IsGiven files d (launch_of files n d)
+  unfolding config_of
+  launch_given n (table ms) t e found =
+      let whole = good_launch ms e in
+      let each = whole.launch in
+      let rest = each.1.1.1.1.1.1.1.1.1.1.1.1 in
+      record {
+        name = text_there (codes "name") _ each.0;
+        algo = algorithm_there (codes "algo") _ each.1.0;
+        s2sz = number_there (codes "s2sz") 32 48 32 _ each.1.1.0;
+        sve = truth_given (codes "sve") Optional false _ each.1.1.1.0;
+        pmu = truth_given (codes "pmu") Optional false _ each.1.1.1.1.0;
+        sve_vl = number_given (codes "sve_vl") Optional 0 255 0 _ each.1.1.1.1.1.0;
+        num_bps = number_given (codes "num_bps") Optional 0 255 0 _ each.1.1.1.1.1.1.0;
+        num_wps = number_given (codes "num_wps") Optional 0 255 0 _ each.1.1.1.1.1.1.1.0;
+        pmu_num_ctrs = number_given (codes "pmu_num_ctrs") Optional 0 255 0 _ each.1.1.1.1.1.1.1.1.0;
+        rpv = bytes_given (codes "rpv") Optional _ each.1.1.1.1.1.1.1.1.1.0;
+        block_level = number_given (codes "block_level") Optional 0 3 2 _ each.1.1.1.1.1.1.1.1.1.1.0;
+        num_aux = number_given (codes "num_aux") Optional 0 16 0 _ each.1.1.1.1.1.1.1.1.1.1.1.0;
+        pool_base = base_given (codes "pool_base") Optional _ rest.0;
+        pool_count = number_given (codes "pool_count") Optional 1 16777216 16777216 _ rest.1.0;
+        ram = regions_given (codes "ram") Optional 64 _ rest.1.1.0;
+        items = items_given (array_at (codes "item") (table ms)) (all_tables (codes "item") Optional 64 (get_member (codes "item") ms) rest.1.1.1.0) whole.items found;
+        recs = tables_given GivesRec rec_of (ruled_faults rec_rules) rec_given (array_at (codes "rec") (table ms)) (all_tables (codes "rec") Optional 1024 (get_member (codes "rec") ms) rest.1.1.1.1.0) whole.recs;
+      }
+  launch_given n _ t e found = cc
+
+  launches_given : (n : ℕ) (ds : List Data) → list_all is_table ds ≡ true → flat_map launch_faults ds ≡ [] → list_any (lacks_file files) ds ≡ false
+      → EachGives (IsGiven files) ds (launches_from files n ds)
+  launches_given n [] t e found = tt
+  launches_given n (d ∷ ds) t e found =
+      let shapes = both (is_table d) (list_all is_table ds) t in
+      let parts = empty_parts (launch_faults d) (flat_map launch_faults ds) e in
+      let each = neither (lacks_file files d) (list_any (lacks_file files) ds) found in
+      (launch_given n d shapes.0 parts.0 each.0, launches_given (n + 1) ds shapes.1 parts.1 each.1)
+
+-- ---- the document
+
+abbrev AllGiven : Members → ReleaseData → Type 0
+AllGiven ms r = EachGives GivesPath (files_at ms) r.paths × EachGives (IsGiven (files_at ms)) (launches_at ms) r.launches
+
+faultless : (ms : Members) → manifest_faults ms ≡ [] → name_faults ms ≡ [] → AllGiven ms (release_of ms)
+unfolding name_faults
+faultless ms e named =
     let good = good_top ms e in
-    launches_given 0 (launches_at ms) (all_tables (codes "launch") Optional 1024 (get_member (codes "launch") ms) good.top.1.0) good.launches
+    let files = all_tables (codes "file") Optional 64 (get_member (codes "file") ms) good.top.1.1.0 in
+    let found = not_faulty (has_no_file ms) NoSuchFile (empty_parts (fault_if (has_two_names ms) TwoNames) _ named).1 in (
+      tables_given GivesPath path_of (ruled_faults file_rules) path_given (files_at ms) files good.files,
+      launches_given (files_at ms) files good.files 0 (launches_at ms) (all_tables (codes "launch") Optional 1024 (get_member (codes "launch") ms) good.top.1.0) good.launches found,
+    )
 
-pub accepted_as_given : (ms : Members) (r : ReleaseData) → read_of ms ≡ Ok r → EachGives IsGiven (launches_at ms) r.launches
-accepted_as_given ms r h = by_fault (lowest (manifest_faults ms)) refl h
+pub accepted_as_given : (ms : Members) (r : ReleaseData) → read_of ms ≡ Ok r → AllGiven ms r
+accepted_as_given ms r h = of_tables (lowest (manifest_faults ms)) refl h
   where
-    by_names : (b : Bool) → manifest_faults ms ≡ [] → cond b (Err TwoNames) (Ok (record { paths = []; launches = launches_of ms })) ≡ Ok r
-        → EachGives IsGiven (launches_at ms) r.launches
-    by_names true none e = cc
-    by_names false none e =
-        let same : launches_of ms ≡ r.launches = cc in
-        subst (EachGives IsGiven (launches_at ms)) same (faultless ms none)
+    of_names : (o : Option ManifestFault) → manifest_faults ms ≡ [] → lowest (name_faults ms) ≡ o → fault_or_release ms o ≡ Ok r → AllGiven ms r
+    of_names (Some g) none found e = cc
+    of_names None none found e =
+        let same : release_of ms ≡ r = cc in
+        subst (AllGiven ms) same (faultless ms none (none_noted (name_faults ms) found))
 
-    by_fault : (o : Option ManifestFault) → lowest (manifest_faults ms) ≡ o → fault_or_release ms o ≡ Ok r → EachGives IsGiven (launches_at ms) r.launches
-    by_fault (Some g) found e = cc
-    by_fault None found e = by_names (has_two_names (launches_of ms)) (none_noted (manifest_faults ms) found) e
+    of_tables : (o : Option ManifestFault) → lowest (manifest_faults ms) ≡ o → fault_or_named ms o ≡ Ok r → AllGiven ms r
+    of_tables (Some g) found e = cc
+    of_tables None found e = of_names (lowest (name_faults ms)) (none_noted (manifest_faults ms) found) refl e

@@ -4,6 +4,8 @@ pub mod Lowest
 pub mod Notes
 pub mod Numbered
 pub mod Trees
+pub mod Lookups
+pub mod SameItem
 pub mod Made
 pub mod Given
 pub mod Digits

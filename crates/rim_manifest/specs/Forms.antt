@@ -9,6 +9,7 @@ use Rattle.rim_manifest.specs.declared.form.Form.{Form}
 use Rattle.rim_manifest.specs.declared.form.Form.TheVariants as form
 use Rattle.rim_manifest.specs.declared.form.Presence.{Presence}
 use Rattle.rim_manifest.specs.declared.form.Presence.TheVariants.{Required, Optional}
+use Rattle.rim_launch.specs.Texts.{has_no_zero}
 use Rattle.rim_manifest.specs.Words.{is_word}
 
 -- the values of an array
@@ -72,6 +73,10 @@ abbrev pub is_base : ℤ → Bool
 is_base (pos n) = is_pool_base n
 is_base (negsuc n) = false
 
+-- the word of an item's kind
+abbrev pub is_item_kind : List ℕ → Bool
+is_item_kind s = bytes_eq s (codes "kernel") || bytes_eq s (codes "initrd") || bytes_eq s (codes "dtb") || bytes_eq s (codes "raw")
+
 abbrev pub is_required : Presence → Bool
 is_required Required = true
 is_required Optional = false
@@ -89,6 +94,10 @@ has_kind form.PoolBase d = is_integer d
 has_kind (form.Regions most) d = option_map_or (λ ds. list_all is_pair (items_list ds)) (as_array d) false
 has_kind form.Word d = is_word_kind d
 has_kind (form.Words most) d = option_map_or (λ ds. list_all is_word_kind (items_list ds)) (as_array d) false
+has_kind form.Text d = is_some (as_str d)
+has_kind form.AnyText d = is_some (as_str d)
+has_kind form.ItemKind d = is_some (as_str d)
+has_kind form.Bootargs d = is_some (as_str d)
 has_kind form.Later d = true
 
 -- whether a value has more parts than its form allows
@@ -109,4 +118,7 @@ is_within form.PoolBase (integer z) = is_base z
 is_within (form.Regions most) (array ds) = list_all is_range_pair (items_list ds)
 is_within form.Word d = is_word d
 is_within (form.Words most) (array ds) = list_all is_word (items_list ds)
+is_within form.Text (string s) = nat_le 1 (length s)
+is_within form.ItemKind (string s) = is_item_kind s
+is_within form.Bootargs (string s) = has_no_zero s
 is_within _ _ = true

@@ -1,15 +1,23 @@
 -- What a manifest gives, said apart from the defaults that its reader falls back on: what is read at a key is the
 -- value at it, and a default is read only where the key is absent. This project's choice.
-use Rattle.std.specs.Prelude.{◌≡◌, ℕ, ◌+◌, Bool, true, false, pos, List, [], ◌∷◌, ◌++◌, length, Option, Some, None, Ok, codes}
+use Rattle.std.specs.Prelude.{◌≡◌, ℕ, ◌+◌, Bool, true, false, pos, List, [], ◌∷◌, ◌++◌, length, Option, Some, None, Ok, codes, slice_get}
 use Rattle.std.specs.Str.Parse.{digits_value}
 use Rattle.hex.specs.Hex.{decode_sized}
 use Rattle.toml.specs.Data.{Data, string, integer, boolean, at, get}
 use Rattle.rim_desc.specs.Page.{zeros}
 use Rattle.rim_desc.specs.declared.measurement.Algo.{Algo}
 use Rattle.rim_desc.specs.declared.measurement.Algo.TheVariants.{Sha256, Sha512}
+use Rattle.rim_launch.specs.Kinds.{file_of, role_of}
+use Rattle.rim_launch.specs.declared.item.Edits.{Edits}
+use Rattle.rim_launch.specs.declared.item.Item.{Item}
+use Rattle.rim_launch.specs.declared.item.Kind.{Kind}
+use Rattle.rim_launch.specs.declared.item.Kind.TheVariants as kind
 use Rattle.rim_launch.specs.declared.item.Region.{Region}
+use Rattle.rim_launch.specs.declared.item.Role.{Role}
+use Rattle.rim_launch.specs.declared.item.Role.TheVariants.{Kernel, Initrd, Dtb, Raw}
 use Rattle.rim_launch.specs.declared.rec.Rec.{Rec}
-use Rattle.rim_manifest.specs.Launches.{NamedData, array_at}
+use Rattle.rim_manifest.specs.Launches.{NamedData}
+use Rattle.rim_manifest.specs.Values.{array_at}
 
 -- the word of a hash algorithm
 abbrev pub algorithm_text : Algo → List ℕ
@@ -76,10 +84,55 @@ pub record GivesRec (d : Data) (r : Rec) : Type 0 where
   pub x : GivesWords (get (codes "x") d) r.x
   pub runnable : GivesTruth true (get (codes "runnable") d) r.runnable
 
+-- ---- files and items
+
+abbrev pub GivesPath : Data → List ℕ → Type 0
+GivesPath d path = get (codes "path") d ≡ Some (string path)
+
+-- the word of an item's kind
+abbrev pub role_text : Role → List ℕ
+role_text Kernel = codes "kernel"
+role_text Initrd = codes "initrd"
+role_text Dtb = codes "dtb"
+role_text Raw = codes "raw"
+
+-- the file of this number has the name that a key gives
+abbrev pub GivesFile : List Data → Option Data → ℕ → Type 0
+GivesFile files (Some (string name)) n = (file : Data) × (slice_get files n ≡ Some file) × (get (codes "name") file ≡ Some (string name))
+GivesFile files _ n = ⊥
+
+abbrev pub GivesSize : Option Data → Option ℕ → Type 0
+GivesSize None None = Unit {0}
+GivesSize (Some d) (Some n) = d ≡ integer (pos n)
+GivesSize _ _ = ⊥
+
+abbrev pub GivesBootargs : Option Data → Option (List ℕ) → Type 0
+GivesBootargs None None = Unit {0}
+GivesBootargs (Some d) (Some text) = d ≡ string text
+GivesBootargs _ _ = ⊥
+
+pub record GivesEdits (d : Data) (e : Edits) : Type 0 where
+  pub bootargs : GivesBootargs (get (codes "bootargs") d) e.bootargs
+  pub initrd : GivesTruth false (get (codes "initrd") d) e.initrd
+  pub memory : GivesTruth false (get (codes "memory") d) e.memory
+
+-- a devicetree has the edits that are given
+abbrev pub GivesKind : Data → Kind → Type 0
+GivesKind d (kind.Dtb file edits) = GivesEdits d edits
+GivesKind d _ = Unit {0}
+
+pub record GivesItem (files : List Data) (d : Data) (i : Item) : Type 0 where
+  pub role : get (codes "kind") d ≡ Some (string (role_text (role_of i.kind)))
+  pub file : GivesFile files (get (codes "file") d) (file_of i.kind)
+  pub kind : GivesKind d i.kind
+  pub at : get (codes "at") d ≡ Some (integer (pos i.at))
+  pub size : GivesSize (get (codes "size") d) i.size
+  pub measured : GivesTruth true (get (codes "measured") d) i.measured
+
 -- ---- launches
 
 -- the launch has what its table gives
-pub record IsGiven (d : Data) (l : NamedData) : Type 0 where
+pub record IsGiven (files : List Data) (d : Data) (l : NamedData) : Type 0 where
   pub name : get (codes "name") d ≡ Some (string l.name)
   pub algo : get (codes "algo") d ≡ Some (string (algorithm_text l.launch.config.algo))
   pub s2sz : get (codes "s2sz") d ≡ Some (integer (pos l.launch.config.s2sz))
@@ -95,4 +148,5 @@ pub record IsGiven (d : Data) (l : NamedData) : Type 0 where
   pub pool_base : GivesNumber 0x800000000 (get (codes "pool_base") d) l.launch.config.pool_base
   pub pool_count : GivesNumber 16777216 (get (codes "pool_count") d) l.launch.config.pool_count
   pub ram : EachGives GivesRegion (array_at (codes "ram") d) l.launch.ram
+  pub items : EachGives (GivesItem files) (array_at (codes "item") d) l.launch.items
   pub recs : EachGives GivesRec (array_at (codes "rec") d) l.launch.recs

@@ -1,14 +1,16 @@
 -- What a launch's table says, as its values at the keys read. This project's choice.
-use Rattle.std.specs.Prelude.{◌≡◌, ℕ, true, false, List, [], length, map, Some, codes, refl, slice_get}
+use Rattle.std.specs.Prelude.{◌≡◌, ℕ, true, false, List, length, map, Some, codes, refl, slice_get}
 use Rattle.std.specs.List.{enumerate_from}
 use Rattle.toml.specs.Data.{Data, at, get}
 use Rattle.rim_launch.specs.LaunchData.{LaunchData, has_files}
 use Rattle.rim_launch.specs.Steps.{default_steps}
 use Rattle.rim_launch.specs.declared.config.Config.{Config}
+use Rattle.rim_launch.specs.declared.item.Item.{Item}
 use Rattle.rim_launch.specs.declared.item.Region.{Region}
 use Rattle.rim_launch.specs.declared.rec.Rec.{Rec}
-use Rattle.rim_manifest.specs.Forms.{is_region, items_in}
-use Rattle.rim_manifest.specs.Values.{algorithm_in, base_in, digits_in, number_in, text_in, truth_in, whole_in, word_in, words_in}
+use Rattle.rim_manifest.specs.Forms.{is_region}
+use Rattle.rim_manifest.specs.Items.{item_of}
+use Rattle.rim_manifest.specs.Values.{algorithm_in, array_at, base_in, digits_in, number_in, text_in, truth_in, whole_in, word_in, words_in}
 use Rattle.rim_manifest.specs.inside.NumberRanges.{base_aligned, base_low, number_from, number_to, number_within, region_if}
 
 -- a launch and its name, as clauses see them
@@ -64,30 +66,29 @@ rec_of d = record {
   runnable = truth_in true (get (codes "runnable") d);
 }
 
--- the values of the array at a key
-abbrev pub array_at : List ℕ → Data → List Data
-array_at key d = items_in (get key d)
-
 abbrev pub ram_of : Data → List Region
 ram_of d = map region_in (array_at (codes "ram") d)
 
 abbrev pub recs_of : Data → List Rec
 recs_of d = map rec_of (array_at (codes "rec") d)
 
--- a launch by its number and its table
-abbrev pub launch_of : ℕ → Data → NamedData
-launch_of number d = record {
+abbrev pub items_of : List Data → Data → List Item
+items_of files d = map (item_of files) (array_at (codes "item") d)
+
+-- a launch by its number and its table, where the files are these
+abbrev pub launch_of : List Data → ℕ → Data → NamedData
+launch_of files number d = record {
   name = text_in (get (codes "name") d);
   launch = record {
     number = number;
     config = config_of d;
     ram = ram_of d;
-    items = [];
+    items = items_of files d;
     recs = recs_of d;
-    steps = default_steps (length (ram_of d)) [] (length (recs_of d));
+    steps = default_steps (length (ram_of d)) (items_of files d) (length (recs_of d));
   };
 }
 
 -- launches, of which the first has the number n
-abbrev pub launches_from : ℕ → List Data → List NamedData
-launches_from n ds = map (λ p. launch_of p.0 p.1) (enumerate_from n ds)
+abbrev pub launches_from : List Data → ℕ → List Data → List NamedData
+launches_from files n ds = map (λ p. launch_of files p.0 p.1) (enumerate_from n ds)

@@ -4,7 +4,9 @@ pub mod Forms
 pub mod Rules
 pub mod Checks
 pub mod Values
+pub mod Names
 pub mod inside
+pub mod Items
 pub mod Launches
 pub mod Manifest
 pub mod Given

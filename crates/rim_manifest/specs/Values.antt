@@ -4,8 +4,8 @@ use Rattle.std.specs.Prelude.{ℕ, Bool, false, ◌&&◌, ℤ, pos, negsuc, nat_
 use Rattle.std.specs.Result.{result_unwrap_or}
 use Rattle.std.specs.Str.{bytes_eq}
 use Rattle.hex.specs.Hex.{decode_sized}
-use Rattle.toml.specs.Data.{Data, string, integer, boolean, at}
-use Rattle.rim_manifest.specs.Forms.{is_pool_base}
+use Rattle.toml.specs.Data.{Data, string, integer, boolean, at, get}
+use Rattle.rim_manifest.specs.Forms.{is_pool_base, items_in}
 use Rattle.rim_manifest.specs.Words.{word_of}
 use Rattle.rim_desc.specs.Page.{zeros}
 use Rattle.rim_desc.specs.declared.measurement.Algo.{Algo}
@@ -25,6 +25,10 @@ is_from low high (negsuc n) = false
 abbrev pub number_in : ℕ → ℕ → ℕ → Option Data → ℕ
 number_in low high default (Some (integer (pos n))) = if is_from low high (pos n) then n else default
 number_in low high default _ = default
+
+-- the values of the array at a key
+abbrev pub array_at : List ℕ → Data → List Data
+array_at key d = items_in (get key d)
 
 abbrev pub truth_in : Bool → Option Data → Bool
 truth_in default (Some (boolean b)) = b

@@ -41,7 +41,7 @@ pub fn check_tables(rules: &[Rule], items: &[Value], found: &mut Option<Manifest
     }
 }
 
-fn check_ruled(rules: &[Rule], item: &Value, found: &mut Option<ManifestFault>)
+pub fn check_ruled(rules: &[Rule], item: &Value, found: &mut Option<ManifestFault>)
     ensures { found.new ≡ noted found.old (ruled_faults (map rule_of rules.now) (view item.now)) }
 {
     if let Value::Table(table) = item {

@@ -3,8 +3,9 @@ ghost use Rattle.std.specs.Prelude.{◌≡◌, ◌==◌, ◌&&◌, length, optio
 ghost use Rattle.std.specs.List.{list_all};
 ghost use Rattle.hex.specs.Hex.{is_hex_digit};
 ghost use Rattle.toml.specs.View.{view};
+ghost use Rattle.rim_launch.specs.Texts.{has_no_zero};
 ghost use Rattle.rim_manifest.specs.Words.{is_word};
-ghost use Rattle.rim_manifest.specs.Forms.{has_kind, is_base, is_integer, is_name, is_name_byte, is_over, is_pair, is_range, is_range_pair, is_required, is_table, is_within, is_word_kind};
+ghost use Rattle.rim_manifest.specs.Forms.{has_kind, is_base, is_integer, is_item_kind, is_name, is_name_byte, is_over, is_pair, is_range, is_range_pair, is_required, is_table, is_within, is_word_kind};
 
 use crate::word::is_word;
 use toml::Value;
@@ -37,6 +38,14 @@ pub enum Form {
     Word,
     /// An array of words, at most this many.
     Words { most: usize },
+    /// A text of at least one byte.
+    Text,
+    /// Any text.
+    AnyText,
+    /// The word of an item's kind: `kernel`, `initrd`, `dtb` or `raw`.
+    ItemKind,
+    /// A command line: a text without a zero character.
+    Bootargs,
     /// A key that is not read yet: its presence is the fault `Limit`, and what it holds is not
     /// looked at.
     Later,
@@ -68,6 +77,7 @@ pub fn has_kind(form: Form, value: &Value) -> bool
 {
     match form {
         Form::Name | Form::Algorithm | Form::Digits { .. } => value.is_str(),
+        Form::Text | Form::AnyText | Form::ItemKind | Form::Bootargs => value.is_str(),
         Form::Version | Form::Number { .. } | Form::PoolBase => value.is_integer(),
         Form::Truth => value.is_bool(),
         Form::Tables { .. } => match value {
@@ -111,6 +121,9 @@ pub fn is_within(form: Form, value: &Value) -> bool
             && are_digits(text.as_bytes()),
         (Form::Number { low, high }, Value::Integer(x)) => low <= *x && *x <= high,
         (Form::PoolBase, Value::Integer(x)) => is_pool_base(*x),
+        (Form::Text, Value::String(text)) => 1 <= text.len(),
+        (Form::ItemKind, Value::String(text)) => is_item_kind(text.as_str()),
+        (Form::Bootargs, Value::String(text)) => has_no_zero(text.as_bytes()),
         (Form::Regions { .. }, Value::Array(items)) => are_ranges(items.as_slice()),
         (Form::Word, value) => is_word(value),
         (Form::Words { .. }, Value::Array(items)) => are_words(items.as_slice()),
@@ -128,6 +141,18 @@ fn are_tables(items: &[Value]) -> bool
     ensures { result ≡ list_all (λ v. is_table (view v)) items.now }
 {
     items.iter().all(|item| item.is_table())
+}
+
+fn is_item_kind(word: &str) -> bool
+    ensures { result ≡ is_item_kind word.now }
+{
+    matches!(word, "kernel" | "initrd" | "dtb" | "raw")
+}
+
+fn has_no_zero(text: &[u8]) -> bool
+    ensures { result ≡ has_no_zero text.now }
+{
+    text.iter().all(|byte| *byte != 0)
 }
 
 fn are_integers(items: &[Value]) -> bool

@@ -1,5 +1,5 @@
 //! Reading the launches of a release.
-ghost use Rattle.std.specs.Prelude.{◌≡◌, IfOk, length, string_bytes};
+ghost use Rattle.std.specs.Prelude.{◌≡◌, IfOk, length, map, string_bytes};
 ghost use Rattle.rim_launch.specs.Steps.{default_steps};
 ghost use Rattle.refusal.specs.Answer.{Answers};
 ghost use Rattle.toml.specs.View.{view};
@@ -7,6 +7,7 @@ ghost use Rattle.rim_manifest.specs.Launches.{NamedData, config_of, launch_of};
 ghost use Rattle.rim_manifest.specs.Manifest.{made};
 
 use crate::fault::ManifestFault;
+use crate::item::read_items;
 use crate::rec::read_recs;
 use crate::region::read_regions;
 use crate::value::{algorithm, array, byte, digits, number, pool_base, text, truth};
@@ -48,19 +49,20 @@ impl NamedLaunch {
     }
 }
 
-/// Reads the launch of this number from a table without faults. A launch that its type does not have is
+/// Reads the launch of this number from a table without faults, where the files are these. A launch that its type does not have is
 /// `BadStep`.
 pub fn read_launch(
     alloc: Global,
+    files: &[Value],
     number: usize,
     table: &Value,
 ) -> Result<NamedLaunch, ManifestFault>
-    ensures { Answers ManifestFault.NoMemory (λ l. l) result (made (launch_of number (view table.now))) }
+    ensures { Answers ManifestFault.NoMemory (λ l. l) result (made (launch_of (map view files.now) number (view table.now))) }
 {
     let name = String::from_str(alloc, text(table, "name"))?;
     let config = read_config(table);
     let ram = read_regions(alloc, array(table, "ram"))?;
-    let items = Vec::new(alloc);
+    let items = read_items(alloc, files, array(table, "item"))?;
     let recs = read_recs(alloc, array(table, "rec"))?;
     let steps = read_steps(alloc, &ram, &items, &recs)?;
     match Launch::new(number, config, ram, items, recs, steps) {

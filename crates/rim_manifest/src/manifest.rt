@@ -1,5 +1,5 @@
 //! Reading a manifest.
-ghost use Rattle.std.specs.Prelude.{◌≡◌, ◌<◌, [], ◌∷◌, ◌++◌, None, OnOk, Some, codes, length, map, position, slice_get, string_bytes};
+ghost use Rattle.std.specs.Prelude.{◌≡◌, ◌<◌, [], ◌∷◌, ◌++◌, ◌||◌, None, OnOk, Some, codes, length, map, position, slice_get, string_bytes};
 ghost use Rattle.std.specs.List.{flat_map, list_any};
 ghost use Rattle.refusal.specs.Answer.{Answers};
 ghost use Rattle.toml.specs.Data.{get_member};
@@ -7,13 +7,17 @@ ghost use Rattle.toml.specs.View.{table_view, view};
 ghost use Rattle.rim_manifest.specs.Faults.{lowest, noted};
 ghost use Rattle.rim_manifest.specs.Launches.{AreNumbered, ReleaseData, launches_from};
 ghost use Rattle.rim_manifest.specs.Forms.{items_in};
-ghost use Rattle.rim_manifest.specs.Manifest.{all_made, has_two_names, has_version, launch_faults, launches_at, manifest_faults, manifest_of, name_in, release_of};
+ghost use Rattle.rim_manifest.specs.Manifest.{all_made, has_version, item_faults, launch_faults, manifest_faults, manifest_of, name_in, named_of};
+ghost use Rattle.rim_manifest.specs.Names.{lacks_file, repeats, share_names};
 
-use crate::check::{cell, check_table, check_tables};
+use crate::check::{cell, check_ruled, check_table, check_tables};
 use crate::fault::{ManifestFault, note_if};
+use crate::file::read_paths;
 use crate::launch::{NamedLaunch, read_launch};
-use crate::rules::{LAUNCH_RULES, REC_RULES, TOP_RULES};
-use crate::value::items;
+use crate::names::{has_asked, lacks_file, repeats, role, share_names};
+use crate::rules::{DTB_RULES, FILE_RULES, ITEM_RULES, LAUNCH_RULES, REC_RULES, TOP_RULES};
+use crate::value::{array, items};
+use rim_launch::Role;
 use std::alloc::{AllocError, Global};
 use std::marker::Model;
 use toml::{Table, Value};
@@ -105,6 +109,7 @@ fn lowest_fault(table: &Table) -> Option<ManifestFault>
     let mut found = None;
     note_if(&mut found, !has_version(table), ManifestFault::Version);
     check_table(&TOP_RULES, table, &mut found);
+    check_tables(&FILE_RULES, entries(table, "file"), &mut found);
     check_launches(entries(table, "launch"), &mut found);
     found
 }
@@ -133,39 +138,87 @@ fn check_launches(items: &[Value], found: &mut Option<ManifestFault>)
     }
 }
 
-/// Notes the faults of a launch's table and of the tables of its RECs.
+/// Notes the faults of a launch's table and of the tables of its items and RECs, and an edit without what it
+/// asks for.
 #[tactic(auto, unfolding(crate::specs::Manifest::launch_faults))]
-fn check_launch(item: &Value, found: &mut Option<ManifestFault>)
-    ensures { found.new ≡ noted found.old (launch_faults (view item.now)) }
+fn check_launch(launch: &Value, found: &mut Option<ManifestFault>)
+    ensures { found.new ≡ noted found.old (launch_faults (view launch.now)) }
 {
-    if let Value::Table(table) = item {
+    if let Value::Table(table) = launch {
         check_table(&LAUNCH_RULES, table, found);
-        check_tables(&REC_RULES, entries(table, "rec"), found);
+        check_items(array(launch, "item"), found);
+        check_tables(&REC_RULES, array(launch, "rec"), found);
+        note_if(found, !has_asked(launch), ManifestFault::MissingKey);
     }
 }
 
-/// Reads what a document without faults in its tables describes.
+fn check_items(items: &[Value], found: &mut Option<ManifestFault>)
+    ensures { found.new ≡ noted found.old (flat_map (λ v. item_faults (view v)) items.now) }
+{
+    for item in items {
+        check_item(item, found);
+    }
+}
+
+/// Notes the faults of an item's table, which has the keys of its kind.
+fn check_item(item: &Value, found: &mut Option<ManifestFault>)
+    ensures { found.new ≡ noted found.old (item_faults (view item.now)) }
+{
+    match role(item) {
+        Role::Dtb => check_ruled(&DTB_RULES, item, found),
+        _ => check_ruled(&ITEM_RULES, item, found),
+    }
+}
+
+/// Reads what a document without faults in its tables describes. The searches are quadratic in the launches and
+/// in the items of each, which are at most 1,024 and 64 by now, and in the files, which are at most 64.
 fn read_release(alloc: Global, table: &Table) -> Result<Release, ManifestFault>
     requires { lowest (manifest_faults (table_view table.now)) ≡ None }
-    ensures { Answers ManifestFault.NoMemory (λ release. release) result (release_of (table_view table.now)) }
+    ensures { Answers ManifestFault.NoMemory (λ release. release) result (named_of (table_view table.now)) }
 {
-    let launches = read_launches(alloc, entries(table, "launch"))?;
-    // The search is quadratic in the launches, which are at most 1,024 by now.
-    if has_two_names(launches.as_slice()) {
+    let files = entries(table, "file");
+    let launches = entries(table, "launch");
+    if has_two_names(files, launches) {
         return Err(ManifestFault::TwoNames);
     }
-    Ok(Release {
-        paths: Vec::new(alloc),
-        launches,
-    })
+    if has_no_file(files, launches) {
+        return Err(ManifestFault::NoSuchFile);
+    }
+    let paths = read_paths(alloc, files)?;
+    let launches = read_launches(alloc, files, launches)?;
+    Ok(Release { paths, launches })
 }
 
-fn read_launches(alloc: Global, items: &[Value]) -> Result<Vec<NamedLaunch>, ManifestFault>
-    ensures { Answers ManifestFault.NoMemory (λ ls. ls.items) result (all_made (launches_from 0 (map view items.now))) }
+/// Whether two files, two launches or two items of a launch share a name, or two items a kind other than raw.
+fn has_two_names(files: &[Value], launches: &[Value]) -> bool
+    ensures { result ≡ (share_names (map view files.now) || share_names (map view launches.now) || list_any (λ l. repeats (view l)) launches.now) }
 {
-    let mut launches = Vec::with_capacity(alloc, items.len())?;
-    for (number, item) in items.iter().enumerate() {
-        push(&mut launches, read_launch(alloc, number, item)?)?;
+    share_names(files) || share_names(launches) || any_repeats(launches)
+}
+
+fn any_repeats(launches: &[Value]) -> bool
+    ensures { result ≡ list_any (λ l. repeats (view l)) launches.now }
+{
+    launches.iter().any(|launch| repeats(launch))
+}
+
+/// Whether an item of a launch names no file.
+fn has_no_file(files: &[Value], launches: &[Value]) -> bool
+    ensures { result ≡ list_any (λ l. lacks_file (map view files.now) (view l)) launches.now }
+{
+    launches.iter().any(|launch| lacks_file(files, launch))
+}
+
+fn read_launches(
+    alloc: Global,
+    files: &[Value],
+    tables: &[Value],
+) -> Result<Vec<NamedLaunch>, ManifestFault>
+    ensures { Answers ManifestFault.NoMemory (λ ls. ls.items) result (all_made (launches_from (map view files.now) 0 (map view tables.now))) }
+{
+    let mut launches = Vec::with_capacity(alloc, tables.len())?;
+    for (number, table) in tables.iter().enumerate() {
+        push(&mut launches, read_launch(alloc, files, number, table)?)?;
     }
     Ok(launches)
 }
@@ -175,22 +228,4 @@ fn push(launches: &mut Vec<NamedLaunch>, launch: NamedLaunch) -> Result<(), Allo
 {
     launches.push(launch)?;
     Ok(())
-}
-
-/// Whether two launches share a name.
-fn has_two_names(launches: &[NamedLaunch]) -> bool
-    ensures { result ≡ has_two_names launches.now }
-{
-    'launches: for i in 0..launches.len() {
-        if is_named(&launches[i + 1..], launches[i].name()) {
-            return true;
-        }
-    }
-    false
-}
-
-fn is_named(launches: &[NamedLaunch], name: &str) -> bool
-    ensures { result ≡ list_any (name_in name.now) launches.now }
-{
-    launches.iter().any(|launch| launch.name() == name)
 }

@@ -1,6 +1,7 @@
 -- What is read is in its range, whatever value its key has.
 use Rattle.std.specs.Prelude.{◌≡◌, ℕ, ◌%◌, ◌^◌, ◌≤◌, ◌<◌, Bool, true, false, ◌&&◌, pos, nat_le, Option, Some, if◌then◌else◌, refl}
 use Rattle.std.proofs.lemmas.Bool.{and_parts, eqb-true, leb-true, ltb-true}
+use lib.Pow.{lt_of_le_ones}
 use Rattle.toml.specs.Data.{Data, integer}
 use Rattle.rim_launch.specs.declared.item.Region.{Region}
 use Rattle.rim_manifest.specs.Forms.{is_pool_base, is_region}
@@ -40,6 +41,13 @@ base_low o = ltb-true _ _ (and_parts _ _ (base_within o)).1
 pub number_from : (low high default : ℕ) (o : Option Data) → is_within low high default ≡ true
     → low ≤ number_in low high default o
 number_from low high default o h = leb-true _ _ (and_parts _ _ (number_within low high default o h)).0
+
+-- the largest number
+abbrev pub most_number : ℕ
+most_number = 9223372036854775807
+
+pub number_low : (o : Option Data) → number_in 0 most_number 0 o < 2 ^ 63
+number_low o = lt_of_le_ones 63 (number_to 0 most_number 0 o refl)
 
 -- the region of these addresses; of others, the region of one byte at 0
 unfoldable pub region_if : (base end : ℕ) (b : Bool) → is_region base end ≡ b → Region
