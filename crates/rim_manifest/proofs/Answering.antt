@@ -1,14 +1,14 @@
 -- What a manifest is read as, step by step.
-use Rattle.std.proofs.Common.{◌≡◌, ℕ, cond, true, false, List, [], Option, Some, None, Ok, Err, refl}
+use Rattle.std.proofs.Common.{◌≡◌, ℕ, Bool, cond, true, false, List, [], Option, Some, None, Ok, Err, refl, ap, sym}
 use Rattle.std.proofs.lemmas.Str.{IsUtf8-from_is_utf8, is_utf8-from_IsUtf8}
 use Rattle.std.specs.Str.{IsUtf8, is_utf8}
 use Rattle.toml.specs.Data.{Members}
 use Rattle.toml.specs.Parse.{parse_document}
 use Rattle.rim_manifest.specs.declared.fault.ManifestFault.{ManifestFault}
-use Rattle.rim_manifest.specs.declared.fault.ManifestFault.TheVariants.{Syntax, TwoNames}
-use Rattle.rim_manifest.specs.Faults.{lowest}
-use Rattle.rim_manifest.specs.Launches.{NamedData}
-use Rattle.rim_manifest.specs.Manifest.{document_of, fault_or_release, has_two_names, launches_of, manifest_faults, manifest_of, release_of}
+use Rattle.rim_manifest.specs.declared.fault.ManifestFault.TheVariants.{NoSuchFile, Syntax, TwoNames}
+use Rattle.rim_manifest.specs.Faults.{lower, lowest}
+use Rattle.rim_manifest.specs.Launches.{ReleaseData}
+use Rattle.rim_manifest.specs.Manifest.{document_of, fault_or_named, has_no_file, has_two_names, launches_of, manifest_faults, manifest_of, name_faults, named_of, paths_of}
 
 pub document_read : (b : List ℕ) (ms : Members) → IsUtf8 b → parse_document b ≡ Some ms → document_of b ≡ Some ms
 unfolding document_of
@@ -24,12 +24,26 @@ document_refused b h = elim (is_utf8 b) as (λ t. is_utf8 b ≡ t → cond t (pa
 pub refused : (b : List ℕ) → document_of b ≡ None → Err Syntax ≡ manifest_of b
 refused b d = rw d
 
-pub answered : (b : List ℕ) (ms : Members) (o : Option ManifestFault) → document_of b ≡ Some ms → o ≡ lowest (manifest_faults ms) → fault_or_release ms o ≡ manifest_of b
+pub answered : (b : List ℕ) (ms : Members) (o : Option ManifestFault) → document_of b ≡ Some ms → o ≡ lowest (manifest_faults ms) → fault_or_named ms o ≡ manifest_of b
 answered b ms o d e = rw (d, ← e)
 
-pub release_two : (ms : Members) (ls : List NamedData) → ls ≡ launches_of ms → has_two_names ls ≡ true → release_of ms ≡ Err TwoNames
-release_two ms ls e t = rw (← e, t)
+-- ---- the faults of names, one after another
 
-pub release_one : (ms : Members) (paths : List (List ℕ)) (ls : List NamedData) → paths ≡ [] → ls ≡ launches_of ms → has_two_names ls ≡ false
-    → release_of ms ≡ Ok (record { paths = paths; launches = ls })
-release_one ms paths ls none e t = rw (none, ← e, t)
+pub refused_twice : (ms : Members) → has_two_names ms ≡ true → named_of ms ≡ Err TwoNames
+unfolding name_faults lower
+refused_twice ms two = go (has_no_file ms) refl
+  where
+    go : (b : Bool) → has_no_file ms ≡ b → named_of ms ≡ Err TwoNames
+    go true e = rw (two, e)
+    go false e = rw (two, e)
+
+pub refused_without : (ms : Members) → has_two_names ms ≡ false → has_no_file ms ≡ true → named_of ms ≡ Err NoSuchFile
+unfolding name_faults lower
+refused_without ms one no_file = rw (one, no_file)
+
+pub no_name_fault : (ms : Members) → has_two_names ms ≡ false → has_no_file ms ≡ false → name_faults ms ≡ []
+unfolding name_faults
+no_name_fault ms one each = rw (one, each)
+
+pub named : (ms : Members) (r : ReleaseData) → name_faults ms ≡ [] → r.paths ≡ paths_of ms → r.launches ≡ launches_of ms → named_of ms ≡ Ok r
+named ms r none paths launches = rw none (ap Ok (sym (λ i. record { paths = paths i; launches = launches i })))

@@ -1,6 +1,12 @@
 pub mod Answering
+pub mod Faultless
 pub mod Lowest
 pub mod Notes
 pub mod Numbered
 pub mod Trees
+pub mod Lookups
+pub mod SameItem
+pub mod Made
 pub mod Given
+pub mod Digits
+pub mod Regions

@@ -1,18 +1,19 @@
 -- The lowest of some faults: where it comes from, and what it is below.
-use Rattle.std.proofs.Common.{◌≡◌, ℕ, ◌≤◌, ◌<◌, List, [], ◌∷◌, ◌++◌, length, zero, suc, Bool, true, false, cond, not, Option, Some, None, Ok, Err, refl, ap, sym, ◌∙◌, arith, ◌⊎◌, inl, inr, codes}
+use Rattle.std.proofs.Common.{◌≡◌, ℕ, ◌≤◌, ◌<◌, List, [], ◌∷◌, ◌++◌, length, zero, suc, Bool, true, false, cond, not, Option, Some, None, Err, refl, ap, ◌∙◌, arith, ◌⊎◌, inl, inr, codes}
 use Rattle.std.specs.Prelude.{nat_le, Contains, slice_index_or}
 use Rattle.std.specs.List.{AllByRecursion, flat_map}
 use Rattle.std.proofs.lemmas.Bool.{leb-false, leb-true}
 use Rattle.std.proofs.lemmas.List.Elements.{All-from_recursion, Contains-append_left, Contains-append_right}
 use Rattle.toml.specs.Data.{Data, Members, table, get_member}
 use Rattle.rim_manifest.specs.declared.fault.ManifestFault.{ManifestFault}
-use Rattle.rim_manifest.specs.declared.fault.ManifestFault.TheVariants.{Version, WrongKind, UnknownKey, MissingKey, Limit, Range, TwoNames}
+use Rattle.rim_manifest.specs.declared.fault.ManifestFault.TheVariants.{Version, WrongKind, UnknownKey, MissingKey, Limit, Range, TwoNames, NoSuchFile}
 use Rattle.rim_manifest.specs.Faults.{IsLowest, fault_if, lower, lowest, noted, rank_of}
 use Rattle.rim_manifest.specs.Forms.{has_kind, is_over, is_required, is_within}
-use Rattle.rim_manifest.specs.Rules.{Rule, launch_rules, top_rules}
-use Rattle.rim_manifest.specs.Checks.{cell_faults, has_unknown_key, rule_faults, table_faults}
-use Rattle.rim_manifest.specs.Launches.{ReleaseData}
-use Rattle.rim_manifest.specs.Manifest.{all_faults, fault_or_release, has_two_names, has_version, launch_faults, launches_at, launches_of, manifest_faults, read_of}
+use Rattle.rim_manifest.specs.Rules.{Rule, file_rules, launch_rules, rec_rules, top_rules}
+use Rattle.rim_manifest.specs.Checks.{cell_faults, has_unknown_key, rule_faults, ruled_faults, table_faults}
+use Rattle.rim_manifest.specs.Manifest.{all_faults, fault_or_named, fault_or_release, files_at, has_no_file, has_two_names, has_version, item_faults, launch_faults, launches_at, manifest_faults, name_faults, read_of, rules_of}
+use Rattle.rim_manifest.specs.Names.{has_asked, role_at}
+use Rattle.rim_manifest.specs.Values.{array_at}
 
 -- f does not come after what was found so far
 AtLeast : ManifestFault → Option ManifestFault → Type 0
@@ -119,16 +120,26 @@ early_table : (rs : List Rule) (ms : Members) → Early (table_faults rs ms)
 early_table rs ms =
     early_append _ _ (early_if (has_unknown_key rs ms) UnknownKey (omega arith)) (early_flat_map (λ r. rule_faults r ms) (λ r. early_cell r (get_member r.key ms)) rs)
 
+early_ruled : (rs : List Rule) (d : Data) → Early (ruled_faults rs d)
+unfolding Early
+early_ruled rs (table ms) = early_table rs ms
+early_ruled rs _ = tt
+
 early_launch : (d : Data) → Early (launch_faults d)
 unfolding launch_faults Early
-early_launch (table ms) = early_table launch_rules ms
+early_launch (table ms) =
+    early_append _ _ (early_table launch_rules ms)
+    (early_append _ _ (early_flat_map item_faults (λ d. early_ruled (rules_of (role_at d)) d) (array_at (codes "item") (table ms)))
+    (early_append _ _ (early_flat_map (ruled_faults rec_rules) (early_ruled rec_rules) (array_at (codes "rec") (table ms)))
+    (early_if (not (has_asked (table ms))) MissingKey (omega arith))))
 early_launch _ = tt
 
 early_manifest : (ms : Members) → Early (manifest_faults ms)
 unfolding manifest_faults
 early_manifest ms =
     early_append _ _ (early_if (not (has_version (get_member (codes "rim_manifest") ms))) Version (omega arith))
-    (early_append _ _ (early_table top_rules ms) (early_flat_map launch_faults early_launch (launches_at ms)))
+    (early_append _ _ (early_table top_rules ms)
+    (early_append _ _ (early_flat_map (ruled_faults file_rules) (early_ruled file_rules) (files_at ms)) (early_flat_map launch_faults early_launch (launches_at ms))))
 
 behind_append : (f : ManifestFault) (fs gs : List ManifestFault) → NotBehind f fs → NotBehind f gs → NotBehind f (fs ++ gs)
 unfolding NotBehind
@@ -146,37 +157,41 @@ early_of f [] p k h e = absurd (omega arith)
 early_of f (g ∷ gs) p zero h e = let same : rank_of g ≡ rank_of f = ap rank_of e in let low : rank_of g ≤ 7 = p.0 in omega arith
 early_of f (g ∷ gs) p (suc k) h e = early_of f gs p.1 k (omega arith) e
 
--- the fault that a document is refused with is the lowest of all that hold: one of a table, or else `TwoNames`
-by_tables : (ms : Members) (f g : ManifestFault) → lowest (manifest_faults ms) ≡ Some g → g ≡ f → IsLowest f (all_faults ms)
+late_names : (ms : Members) (f : ManifestFault) → rank_of f ≤ 7 → NotBehind f (name_faults ms)
+unfolding name_faults
+late_names ms f low =
+    behind_append f _ _ (behind_if f (has_two_names ms) TwoNames low) (behind_if f (has_no_file ms) NoSuchFile (omega (arith, low)))
+
+-- the fault that a document is refused with is the lowest of all that hold: one of a table, or else one of names
+by_tables : (ms : Members) (f : ManifestFault) → lowest (manifest_faults ms) ≡ Some f → IsLowest f (all_faults ms)
 unfolding NotBehind AtLeast
-by_tables ms f g found e =
-    let facts = noted_found None (manifest_faults ms) f (found ∙ ap Some e) in
+by_tables ms f found =
+    let facts = noted_found None (manifest_faults ms) f found in
     let there : Contains (manifest_faults ms) f = elim facts.origin [ inl none ↦ absurd (cc) | inr there ↦ there ] in
     let low : rank_of f ≤ 7 = early_of f (manifest_faults ms) (early_manifest ms) there.0 there.1 there.2 in
     record {
       holds = Contains-append_left (manifest_faults ms) _ f there;
-      first = All-from_recursion (λ g. rank_of f ≤ rank_of g) (all_faults ms)
-          (behind_append f (manifest_faults ms) _ facts.each (behind_if f (has_two_names (launches_of ms)) TwoNames low));
+      first = All-from_recursion (λ g. rank_of f ≤ rank_of g) (all_faults ms) (behind_append f (manifest_faults ms) _ facts.each (late_names ms f low));
     }
 
-by_names : (ms : Members) (f : ManifestFault) (b : Bool) (release : ReleaseData) → manifest_faults ms ≡ [] → cond b (Err TwoNames) (Ok release) ≡ Err f
-    → IsLowest f (manifest_faults ms ++ fault_if b TwoNames)
-unfolding NotBehind
-by_names ms f false release none e = cc
-by_names ms f true release none e =
-    let same : TwoNames ≡ f = cc in
-    let ranks : rank_of f ≡ 7 = ap rank_of (sym same) in
-    let low : rank_of f ≤ 7 = omega arith in
+by_names : (ms : Members) (f : ManifestFault) → manifest_faults ms ≡ [] → lowest (name_faults ms) ≡ Some f → IsLowest f (all_faults ms)
+unfolding NotBehind AtLeast
+by_names ms f none found =
+    let facts = noted_found None (name_faults ms) f found in
+    let there : Contains (name_faults ms) f = elim facts.origin [ inl none ↦ absurd (cc) | inr there ↦ there ] in
     let nothing : NotBehind f (manifest_faults ms) = rw none tt in
     record {
-      holds = Contains-append_right (manifest_faults ms) (TwoNames ∷ []) f (at_head f TwoNames [] same);
-      first = All-from_recursion (λ g. rank_of f ≤ rank_of g) (manifest_faults ms ++ TwoNames ∷ [])
-          (behind_append f (manifest_faults ms) (TwoNames ∷ []) nothing (low, tt));
+      holds = Contains-append_right (manifest_faults ms) (name_faults ms) f there;
+      first = All-from_recursion (λ g. rank_of f ≤ rank_of g) (all_faults ms) (behind_append f (manifest_faults ms) (name_faults ms) nothing facts.each);
     }
 
 pub refused_by_lowest : (ms : Members) (f : ManifestFault) → read_of ms ≡ Err f → IsLowest f (all_faults ms)
-refused_by_lowest ms f h = by_fault (lowest (manifest_faults ms)) refl h
+refused_by_lowest ms f h = of_tables (lowest (manifest_faults ms)) refl h
   where
-    by_fault : (o : Option ManifestFault) → lowest (manifest_faults ms) ≡ o → fault_or_release ms o ≡ Err f → IsLowest f (all_faults ms)
-    by_fault (Some g) found e = by_tables ms f g found (cc)
-    by_fault None found e = by_names ms f (has_two_names (launches_of ms)) _ (none_noted (manifest_faults ms) found) e
+    of_names : (o : Option ManifestFault) → manifest_faults ms ≡ [] → lowest (name_faults ms) ≡ o → fault_or_release ms o ≡ Err f → IsLowest f (all_faults ms)
+    of_names (Some g) none found e = let same : g ≡ f = cc in by_names ms f none (found ∙ ap Some same)
+    of_names None none found e = cc
+
+    of_tables : (o : Option ManifestFault) → lowest (manifest_faults ms) ≡ o → fault_or_named ms o ≡ Err f → IsLowest f (all_faults ms)
+    of_tables (Some g) found e = let same : g ≡ f = cc in by_tables ms f (found ∙ ap Some same)
+    of_tables None found e = of_names (lowest (name_faults ms)) (none_noted (manifest_faults ms) found) refl e

@@ -1,5 +1,5 @@
 -- The lists of a value's parts, beside the vectors and maps that hold them.
-use Rattle.std.proofs.Common.{◌≡◌, ℕ, suc, Bool, ◌&&◌, ◌||◌, List, [], ◌∷◌, length, map, string_bytes, refl, ap}
+use Rattle.std.proofs.Common.{◌≡◌, ℕ, suc, Bool, ◌&&◌, ◌||◌, List, [], ◌∷◌, length, map, string_bytes, refl, ap, ◌∙◌}
 use Rattle.std.specs.List.{list_all, list_any}
 use Rattle.std.specs.Map.{keys_of}
 use Rattle.toml.specs.Data.{Data}
@@ -19,6 +19,14 @@ length-items_list (v ∷ vs) = ap suc (length-items_list vs)
 pub all_items : (p : Data → Bool) (vs : List Value) → list_all p (items_list (items_view vs)) ≡ list_all (λ v. p (view v)) vs
 all_items p [] = refl
 all_items p (v ∷ vs) = ap (λ b. p (view v) && b) (all_items p vs)
+
+-- what is read of values, as read of what they stand for
+pub map_of_views : {X : Type 0} (f : Data → X) (vs : List Value) (ds : List Data) → map view vs ≡ ds → map (λ v. f (view v)) vs ≡ map f ds
+map_of_views f vs ds e = each vs ∙ ap (map f) e
+  where
+    each : (us : List Value) → map (λ v. f (view v)) us ≡ map f (map view us)
+    each [] = refl
+    each (u ∷ us) = ap (λ xs. f (view u) ∷ xs) (each us)
 
 pub keys_list-view : (es : List Entry) → keys_list (members_view es) ≡ map string_bytes (keys_of es)
 keys_list-view [] = refl

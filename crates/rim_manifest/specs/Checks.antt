@@ -2,7 +2,7 @@
 use Rattle.std.specs.Prelude.{ℕ, Bool, not, List, [], ◌∷◌, ◌++◌, Option, Some, None, if◌then◌else◌}
 use Rattle.std.specs.List.{list_any, flat_map}
 use Rattle.std.specs.Str.{bytes_eq}
-use Rattle.toml.specs.Data.{Data, Members, get_member}
+use Rattle.toml.specs.Data.{Data, Members, get_member, table}
 use Rattle.rim_manifest.specs.declared.fault.ManifestFault.{ManifestFault}
 use Rattle.rim_manifest.specs.declared.fault.ManifestFault.TheVariants.{WrongKind, UnknownKey, MissingKey, Limit, Range}
 use Rattle.rim_manifest.specs.declared.form.Form.{Form}
@@ -32,3 +32,8 @@ has_unknown_key rs ms = list_any (λ k. not (is_known rs k)) (keys_list ms)
 -- the faults of a table: a key without a rule, and the values at the keys of the rules
 abbrev pub table_faults : List Rule → Members → List ManifestFault
 table_faults rs ms = fault_if (has_unknown_key rs ms) UnknownKey ++ flat_map (λ r. rule_faults r ms) rs
+
+-- the faults of a value in an array of tables whose keys have these rules
+abbrev pub ruled_faults : List Rule → Data → List ManifestFault
+ruled_faults rs (table ms) = table_faults rs ms
+ruled_faults rs _ = []

@@ -1,19 +1,30 @@
 -- What a key of a manifest may hold. This project's choice.
-use Rattle.std.specs.Prelude.{ℕ, Bool, true, false, ◌&&◌, ◌||◌, ◌==◌, nat_le, nat_lt, int_le, List, [], ◌∷◌, length, is_some, codes}
+use Rattle.std.specs.Prelude.{ℕ, ◌%◌, ◌^◌, ℤ, pos, negsuc, Bool, true, false, ◌&&◌, ◌||◌, ◌==◌, nat_le, nat_lt, int_le, List, [], ◌∷◌, length, Option, Some, None, is_some, codes}
 use Rattle.std.specs.List.{list_all}
 use Rattle.std.specs.Option.{option_map_or}
 use Rattle.std.specs.Str.{bytes_eq}
 use Rattle.hex.specs.Hex.{is_hex_digit}
-use Rattle.toml.specs.Data.{Data, string, integer, array, Items, no_items, item, Members, no_members, member, as_str, as_integer, as_bool, as_table, as_array}
+use Rattle.toml.specs.Data.{Data, string, integer, array, Items, no_items, item, Members, no_members, member, as_str, as_integer, as_bool, as_table, as_array, at}
 use Rattle.rim_manifest.specs.declared.form.Form.{Form}
 use Rattle.rim_manifest.specs.declared.form.Form.TheVariants as form
 use Rattle.rim_manifest.specs.declared.form.Presence.{Presence}
 use Rattle.rim_manifest.specs.declared.form.Presence.TheVariants.{Required, Optional}
+use Rattle.rim_launch.specs.Texts.{has_no_zero}
+use Rattle.rim_manifest.specs.Words.{is_word}
 
 -- the values of an array
 abbrev pub items_list : Items → List Data
 items_list no_items = []
 items_list (item d ds) = d ∷ items_list ds
+
+-- the values of an array, and none of another value
+abbrev pub items_of : Data → List Data
+items_of (array ds) = items_list ds
+items_of _ = []
+
+abbrev pub items_in : Option Data → List Data
+items_in (Some d) = items_of d
+items_in None = []
 
 -- the keys of a table
 abbrev pub keys_list : Members → List (List ℕ)
@@ -31,6 +42,41 @@ is_name text = nat_le 1 (length text) && nat_le (length text) 64 && list_all is_
 abbrev pub is_table : Data → Bool
 is_table d = is_some (as_table d)
 
+abbrev pub is_integer : Data → Bool
+is_integer d = is_some (as_integer d)
+
+-- a number or a text
+abbrev pub is_word_kind : Data → Bool
+is_word_kind d = is_integer d || is_some (as_str d)
+
+-- an array of two numbers
+abbrev pub is_pair : Data → Bool
+is_pair d = option_map_or (λ ds. (length (items_list ds) == 2) && list_all is_integer (items_list ds)) (as_array d) false
+
+-- addresses of a region: its base is below its end
+abbrev pub is_region : ℕ → ℕ → Bool
+is_region base end = nat_lt base end && nat_lt end (2 ^ 63)
+
+abbrev pub is_range : Option Data → Option Data → Bool
+is_range (Some (integer (pos base))) (Some (integer (pos end))) = is_region base end
+is_range _ _ = false
+
+-- a pair that is a base and an end
+abbrev pub is_range_pair : Data → Bool
+is_range_pair d = is_range (at 0 d) (at 1 d)
+
+-- a multiple of 64 KiB below 2^48
+abbrev pub is_pool_base : ℕ → Bool
+is_pool_base n = (n % 65536 == 0) && nat_lt n (2 ^ 48)
+
+abbrev pub is_base : ℤ → Bool
+is_base (pos n) = is_pool_base n
+is_base (negsuc n) = false
+
+-- the word of an item's kind
+abbrev pub is_item_kind : List ℕ → Bool
+is_item_kind s = bytes_eq s (codes "kernel") || bytes_eq s (codes "initrd") || bytes_eq s (codes "dtb") || bytes_eq s (codes "raw")
+
 abbrev pub is_required : Presence → Bool
 is_required Required = true
 is_required Optional = false
@@ -44,11 +90,21 @@ has_kind (form.Number low high) d = is_some (as_integer d)
 has_kind form.Truth d = is_some (as_bool d)
 has_kind (form.Digits count) d = is_some (as_str d)
 has_kind (form.Tables most) d = option_map_or (λ ds. list_all is_table (items_list ds)) (as_array d) false
+has_kind form.PoolBase d = is_integer d
+has_kind (form.Regions most) d = option_map_or (λ ds. list_all is_pair (items_list ds)) (as_array d) false
+has_kind form.Word d = is_word_kind d
+has_kind (form.Words most) d = option_map_or (λ ds. list_all is_word_kind (items_list ds)) (as_array d) false
+has_kind form.Text d = is_some (as_str d)
+has_kind form.AnyText d = is_some (as_str d)
+has_kind form.ItemKind d = is_some (as_str d)
+has_kind form.Bootargs d = is_some (as_str d)
 has_kind form.Later d = true
 
 -- whether a value has more parts than its form allows
 abbrev pub is_over : Form → Data → Bool
 is_over (form.Tables most) (array ds) = nat_lt most (length (items_list ds))
+is_over (form.Regions most) (array ds) = nat_lt most (length (items_list ds))
+is_over (form.Words most) (array ds) = nat_lt most (length (items_list ds))
 is_over form.Later d = true
 is_over _ _ = false
 
@@ -58,4 +114,11 @@ is_within form.Name (string s) = is_name s
 is_within form.Algorithm (string s) = bytes_eq s (codes "sha256") || bytes_eq s (codes "sha512")
 is_within (form.Digits count) (string s) = (length s == count) && list_all is_hex_digit s
 is_within (form.Number low high) (integer z) = int_le low z && int_le z high
+is_within form.PoolBase (integer z) = is_base z
+is_within (form.Regions most) (array ds) = list_all is_range_pair (items_list ds)
+is_within form.Word d = is_word d
+is_within (form.Words most) (array ds) = list_all is_word (items_list ds)
+is_within form.Text (string s) = nat_le 1 (length s)
+is_within form.ItemKind (string s) = is_item_kind s
+is_within form.Bootargs (string s) = has_no_zero s
 is_within _ _ = true

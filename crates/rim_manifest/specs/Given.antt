@@ -1,12 +1,23 @@
 -- What a manifest gives, said apart from the defaults that its reader falls back on: what is read at a key is the
 -- value at it, and a default is read only where the key is absent. This project's choice.
-use Rattle.std.specs.Prelude.{◌≡◌, ℕ, Bool, false, pos, List, [], ◌∷◌, Option, Some, None, Ok, codes}
+use Rattle.std.specs.Prelude.{◌≡◌, ℕ, ◌+◌, Bool, true, false, pos, List, [], ◌∷◌, ◌++◌, length, Option, Some, None, Ok, codes, slice_get}
+use Rattle.std.specs.Str.Parse.{digits_value}
 use Rattle.hex.specs.Hex.{decode_sized}
-use Rattle.toml.specs.Data.{Data, string, integer, boolean, table, Members, get_member}
+use Rattle.toml.specs.Data.{Data, string, integer, boolean, at, get}
 use Rattle.rim_desc.specs.Page.{zeros}
 use Rattle.rim_desc.specs.declared.measurement.Algo.{Algo}
 use Rattle.rim_desc.specs.declared.measurement.Algo.TheVariants.{Sha256, Sha512}
+use Rattle.rim_launch.specs.Kinds.{file_of, role_of}
+use Rattle.rim_launch.specs.declared.item.Edits.{Edits}
+use Rattle.rim_launch.specs.declared.item.Item.{Item}
+use Rattle.rim_launch.specs.declared.item.Kind.{Kind}
+use Rattle.rim_launch.specs.declared.item.Kind.TheVariants as kind
+use Rattle.rim_launch.specs.declared.item.Region.{Region}
+use Rattle.rim_launch.specs.declared.item.Role.{Role}
+use Rattle.rim_launch.specs.declared.item.Role.TheVariants.{Kernel, Initrd, Dtb, Raw}
+use Rattle.rim_launch.specs.declared.rec.Rec.{Rec}
 use Rattle.rim_manifest.specs.Launches.{NamedData}
+use Rattle.rim_manifest.specs.Values.{array_at}
 
 -- the word of a hash algorithm
 abbrev pub algorithm_text : Algo → List ℕ
@@ -18,9 +29,9 @@ abbrev pub GivesNumber : ℕ → Option Data → ℕ → Type 0
 GivesNumber default None n = n ≡ default
 GivesNumber default (Some d) n = d ≡ integer (pos n)
 
-abbrev pub GivesTruth : Option Data → Bool → Type 0
-GivesTruth None b = b ≡ false
-GivesTruth (Some d) b = d ≡ boolean b
+abbrev pub GivesTruth : Bool → Option Data → Bool → Type 0
+GivesTruth default None b = b ≡ default
+GivesTruth default (Some d) b = d ≡ boolean b
 
 -- 64 bytes by their hexadecimal digits
 abbrev pub GivesBytes : Option Data → List ℕ → Type 0
@@ -28,23 +39,114 @@ GivesBytes None bytes = bytes ≡ zeros 64
 GivesBytes (Some (string s)) bytes = decode_sized s 64 ≡ Ok bytes
 GivesBytes (Some _) bytes = ⊥
 
--- the launch has what its table gives
-pub record IsGiven (ms : Members) (l : NamedData) : Type 0 where
-  pub name : get_member (codes "name") ms ≡ Some (string l.name)
-  pub algo : get_member (codes "algo") ms ≡ Some (string (algorithm_text l.launch.config.algo))
-  pub s2sz : get_member (codes "s2sz") ms ≡ Some (integer (pos l.launch.config.s2sz))
-  pub sve : GivesTruth (get_member (codes "sve") ms) l.launch.config.sve
-  pub pmu : GivesTruth (get_member (codes "pmu") ms) l.launch.config.pmu
-  pub sve_vl : GivesNumber 0 (get_member (codes "sve_vl") ms) l.launch.config.sve_vl
-  pub num_bps : GivesNumber 0 (get_member (codes "num_bps") ms) l.launch.config.num_bps
-  pub num_wps : GivesNumber 0 (get_member (codes "num_wps") ms) l.launch.config.num_wps
-  pub pmu_num_ctrs : GivesNumber 0 (get_member (codes "pmu_num_ctrs") ms) l.launch.config.pmu_num_ctrs
-  pub rpv : GivesBytes (get_member (codes "rpv") ms) l.launch.config.rpv
-  pub block_level : GivesNumber 2 (get_member (codes "block_level") ms) l.launch.config.block_level
-  pub num_aux : GivesNumber 0 (get_member (codes "num_aux") ms) l.launch.config.num_aux
+-- ---- lists
 
--- each value is a table, and the launch at its place has what it gives
-abbrev pub AreGiven : List Data → List NamedData → Type 0
-AreGiven [] [] = Unit {0}
-AreGiven (table ms ∷ ds) (l ∷ ls) = IsGiven ms l × AreGiven ds ls
-AreGiven _ _ = ⊥
+-- as many values as things, and each gives the thing at its place
+abbrev pub EachGives : {X : Type 0} → (Data → X → Type 0) → List Data → List X → Type 0
+EachGives R [] [] = Unit {0}
+EachGives R (d ∷ ds) (x ∷ xs) = R d x × EachGives R ds xs
+EachGives R _ _ = ⊥
+
+-- a pair of addresses gives a region
+abbrev pub GivesRegion : Data → Region → Type 0
+GivesRegion d r = (at 0 d ≡ Some (integer (pos r.base))) × (at 1 d ≡ Some (integer (pos r.end)))
+
+-- ---- words
+
+-- a number, or a text `0x` and the number's hexadecimal digits
+abbrev pub SpellsWord : Data → ℕ → Type 0
+SpellsWord (integer z) n = z ≡ pos n
+SpellsWord (string s) n = (digits : List ℕ) × (s ≡ codes "0x" ++ digits) × (digits_value 16 digits ≡ n)
+SpellsWord _ n = ⊥
+
+abbrev pub GivesWord : Option Data → Option ℕ → Type 0
+GivesWord None None = Unit {0}
+GivesWord (Some d) (Some n) = SpellsWord d n
+GivesWord _ _ = ⊥
+
+-- the word at a place of an array, or zero past its end
+abbrev pub FillsWord : Option Data → ℕ → Type 0
+FillsWord None n = n ≡ 0
+FillsWord (Some d) n = SpellsWord d n
+
+-- the words of an array from a place on
+abbrev pub FillsWords : ℕ → Data → List ℕ → Type 0
+FillsWords i d [] = Unit {0}
+FillsWords i d (n ∷ ns) = FillsWord (at i d) n × FillsWords (i + 1) d ns
+
+abbrev pub GivesWords : Option Data → Option (List ℕ) → Type 0
+GivesWords None None = Unit {0}
+GivesWords (Some d) (Some ns) = (length ns ≡ 8) × FillsWords 0 d ns
+GivesWords _ _ = ⊥
+
+pub record GivesRec (d : Data) (r : Rec) : Type 0 where
+  pub pc : GivesWord (get (codes "pc") d) r.pc
+  pub x : GivesWords (get (codes "x") d) r.x
+  pub runnable : GivesTruth true (get (codes "runnable") d) r.runnable
+
+-- ---- files and items
+
+abbrev pub GivesPath : Data → List ℕ → Type 0
+GivesPath d path = get (codes "path") d ≡ Some (string path)
+
+-- the word of an item's kind
+abbrev pub role_text : Role → List ℕ
+role_text Kernel = codes "kernel"
+role_text Initrd = codes "initrd"
+role_text Dtb = codes "dtb"
+role_text Raw = codes "raw"
+
+-- the file of this number has the name that a key gives
+abbrev pub GivesFile : List Data → Option Data → ℕ → Type 0
+GivesFile files (Some (string name)) n = (file : Data) × (slice_get files n ≡ Some file) × (get (codes "name") file ≡ Some (string name))
+GivesFile files _ n = ⊥
+
+abbrev pub GivesSize : Option Data → Option ℕ → Type 0
+GivesSize None None = Unit {0}
+GivesSize (Some d) (Some n) = d ≡ integer (pos n)
+GivesSize _ _ = ⊥
+
+abbrev pub GivesBootargs : Option Data → Option (List ℕ) → Type 0
+GivesBootargs None None = Unit {0}
+GivesBootargs (Some d) (Some text) = d ≡ string text
+GivesBootargs _ _ = ⊥
+
+pub record GivesEdits (d : Data) (e : Edits) : Type 0 where
+  pub bootargs : GivesBootargs (get (codes "bootargs") d) e.bootargs
+  pub initrd : GivesTruth false (get (codes "initrd") d) e.initrd
+  pub memory : GivesTruth false (get (codes "memory") d) e.memory
+
+-- a devicetree has the edits that are given
+abbrev pub GivesKind : Data → Kind → Type 0
+GivesKind d (kind.Dtb file edits) = GivesEdits d edits
+GivesKind d _ = Unit {0}
+
+pub record GivesItem (files : List Data) (d : Data) (i : Item) : Type 0 where
+  pub role : get (codes "kind") d ≡ Some (string (role_text (role_of i.kind)))
+  pub file : GivesFile files (get (codes "file") d) (file_of i.kind)
+  pub kind : GivesKind d i.kind
+  pub at : get (codes "at") d ≡ Some (integer (pos i.at))
+  pub size : GivesSize (get (codes "size") d) i.size
+  pub measured : GivesTruth true (get (codes "measured") d) i.measured
+
+-- ---- launches
+
+-- the launch has what its table gives
+pub record IsGiven (files : List Data) (d : Data) (l : NamedData) : Type 0 where
+  pub name : get (codes "name") d ≡ Some (string l.name)
+  pub algo : get (codes "algo") d ≡ Some (string (algorithm_text l.launch.config.algo))
+  pub s2sz : get (codes "s2sz") d ≡ Some (integer (pos l.launch.config.s2sz))
+  pub sve : GivesTruth false (get (codes "sve") d) l.launch.config.sve
+  pub pmu : GivesTruth false (get (codes "pmu") d) l.launch.config.pmu
+  pub sve_vl : GivesNumber 0 (get (codes "sve_vl") d) l.launch.config.sve_vl
+  pub num_bps : GivesNumber 0 (get (codes "num_bps") d) l.launch.config.num_bps
+  pub num_wps : GivesNumber 0 (get (codes "num_wps") d) l.launch.config.num_wps
+  pub pmu_num_ctrs : GivesNumber 0 (get (codes "pmu_num_ctrs") d) l.launch.config.pmu_num_ctrs
+  pub rpv : GivesBytes (get (codes "rpv") d) l.launch.config.rpv
+  pub block_level : GivesNumber 2 (get (codes "block_level") d) l.launch.config.block_level
+  pub num_aux : GivesNumber 0 (get (codes "num_aux") d) l.launch.config.num_aux
+  pub pool_base : GivesNumber 0x800000000 (get (codes "pool_base") d) l.launch.config.pool_base
+  pub pool_count : GivesNumber 16777216 (get (codes "pool_count") d) l.launch.config.pool_count
+  pub ram : EachGives GivesRegion (array_at (codes "ram") d) l.launch.ram
+  pub items : EachGives (GivesItem files) (array_at (codes "item") d) l.launch.items
+  pub recs : EachGives GivesRec (array_at (codes "rec") d) l.launch.recs

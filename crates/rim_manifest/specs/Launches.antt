@@ -1,12 +1,17 @@
 -- What a launch's table says, as its values at the keys read. This project's choice.
-use Rattle.std.specs.Prelude.{ℕ, List, [], map, codes, refl}
+use Rattle.std.specs.Prelude.{◌≡◌, ℕ, true, false, List, length, map, Some, codes, refl, slice_get}
 use Rattle.std.specs.List.{enumerate_from}
-use Rattle.std.proofs.lemmas.Bool.{leb-true, ltb-true}
-use Rattle.toml.specs.Data.{Data, table, Members, no_members, get_member}
-use Rattle.rim_launch.specs.LaunchData.{LaunchData}
+use Rattle.toml.specs.Data.{Data, at, get}
+use Rattle.rim_launch.specs.LaunchData.{LaunchData, has_files}
+use Rattle.rim_launch.specs.Steps.{default_steps}
 use Rattle.rim_launch.specs.declared.config.Config.{Config}
-use Rattle.rim_manifest.specs.Values.{algorithm_in, digits_in, number_in, text_in, truth_in}
-use Rattle.rim_manifest.specs.inside.NumberRanges.{number_to, number_within}
+use Rattle.rim_launch.specs.declared.item.Item.{Item}
+use Rattle.rim_launch.specs.declared.item.Region.{Region}
+use Rattle.rim_launch.specs.declared.rec.Rec.{Rec}
+use Rattle.rim_manifest.specs.Forms.{is_region}
+use Rattle.rim_manifest.specs.Items.{item_of}
+use Rattle.rim_manifest.specs.Values.{algorithm_in, array_at, base_in, digits_in, number_in, text_in, truth_in, whole_in, word_in, words_in}
+use Rattle.rim_manifest.specs.inside.NumberRanges.{base_aligned, base_low, number_from, number_to, number_within, region_if}
 
 -- a launch and its name, as clauses see them
 pub record NamedData : Type 0 where
@@ -18,41 +23,72 @@ pub record ReleaseData : Type 0 where
   pub paths : List (List ℕ)
   pub launches : List NamedData
 
+-- each launch has its place among the launches as its number, and the release has the files of its items
+abbrev pub AreNumbered : ReleaseData → Type 0
+AreNumbered r = (i : ℕ) (l : NamedData) → slice_get r.launches i ≡ Some l → (l.launch.number ≡ i) × (has_files l.launch (length r.paths) ≡ true)
+
 -- the configuration, and why each of its numbers is in range
-unfoldable pub config_of : Members → Config
-config_of ms = record {
-  algo = algorithm_in (get_member (codes "algo") ms);
-  s2sz = number_in 32 48 32 (get_member (codes "s2sz") ms);
-  sve = truth_in (get_member (codes "sve") ms);
-  pmu = truth_in (get_member (codes "pmu") ms);
-  sve_vl = number_in 0 255 0 (get_member (codes "sve_vl") ms);
-  num_bps = number_in 0 255 0 (get_member (codes "num_bps") ms);
-  num_wps = number_in 0 255 0 (get_member (codes "num_wps") ms);
-  pmu_num_ctrs = number_in 0 255 0 (get_member (codes "pmu_num_ctrs") ms);
-  rpv = digits_in (get_member (codes "rpv") ms);
-  block_level = number_in 0 3 2 (get_member (codes "block_level") ms);
-  num_aux = number_in 0 16 0 (get_member (codes "num_aux") ms);
-  pool_base = 0x800000000;
-  pool_count = 16777216;
-  width = number_within 32 48 32 (get_member (codes "s2sz") ms) refl;
-  level = number_to 0 3 2 (get_member (codes "block_level") ms) refl;
-  aux = number_to 0 16 0 (get_member (codes "num_aux") ms) refl;
-  pool_aligned = refl;
-  pool_low = ltb-true _ _ refl;
-  pool_fits = (leb-true _ _ refl, leb-true _ _ refl);
+unfoldable pub config_of : Data → Config
+config_of d = record {
+  algo = algorithm_in (get (codes "algo") d);
+  s2sz = number_in 32 48 32 (get (codes "s2sz") d);
+  sve = truth_in false (get (codes "sve") d);
+  pmu = truth_in false (get (codes "pmu") d);
+  sve_vl = number_in 0 255 0 (get (codes "sve_vl") d);
+  num_bps = number_in 0 255 0 (get (codes "num_bps") d);
+  num_wps = number_in 0 255 0 (get (codes "num_wps") d);
+  pmu_num_ctrs = number_in 0 255 0 (get (codes "pmu_num_ctrs") d);
+  rpv = digits_in (get (codes "rpv") d);
+  block_level = number_in 0 3 2 (get (codes "block_level") d);
+  num_aux = number_in 0 16 0 (get (codes "num_aux") d);
+  pool_base = base_in (get (codes "pool_base") d);
+  pool_count = number_in 1 16777216 16777216 (get (codes "pool_count") d);
+  width = number_within 32 48 32 (get (codes "s2sz") d) refl;
+  level = number_to 0 3 2 (get (codes "block_level") d) refl;
+  aux = number_to 0 16 0 (get (codes "num_aux") d) refl;
+  pool_aligned = base_aligned (get (codes "pool_base") d);
+  pool_low = base_low (get (codes "pool_base") d);
+  pool_fits = (number_from 1 16777216 16777216 (get (codes "pool_count") d) refl, number_to 1 16777216 16777216 (get (codes "pool_count") d) refl);
 }
 
--- a launch of a configuration alone, without memory, items or RECs
-abbrev pub bare_launch : ℕ → Config → LaunchData
-bare_launch number config = record { number = number; config = config; ram = []; items = []; recs = []; steps = [] }
+-- the region of two addresses
+unfoldable pub region_of : ℕ → ℕ → Region
+region_of base end = region_if base end (is_region base end) refl
 
-abbrev pub launch_of : ℕ → Members → NamedData
-launch_of number ms = record { name = text_in (get_member (codes "name") ms); launch = bare_launch number (config_of ms) }
+-- the region of a pair of addresses
+abbrev pub region_in : Data → Region
+region_in d = region_of (whole_in (at 0 d)) (whole_in (at 1 d))
 
-abbrev pub launch_in : ℕ → Data → NamedData
-launch_in number (table ms) = launch_of number ms
-launch_in number _ = launch_of number no_members
+abbrev pub rec_of : Data → Rec
+rec_of d = record {
+  pc = word_in (get (codes "pc") d);
+  x = words_in (get (codes "x") d);
+  runnable = truth_in true (get (codes "runnable") d);
+}
+
+abbrev pub ram_of : Data → List Region
+ram_of d = map region_in (array_at (codes "ram") d)
+
+abbrev pub recs_of : Data → List Rec
+recs_of d = map rec_of (array_at (codes "rec") d)
+
+abbrev pub items_of : List Data → Data → List Item
+items_of files d = map (item_of files) (array_at (codes "item") d)
+
+-- a launch by its number and its table, where the files are these
+abbrev pub launch_of : List Data → ℕ → Data → NamedData
+launch_of files number d = record {
+  name = text_in (get (codes "name") d);
+  launch = record {
+    number = number;
+    config = config_of d;
+    ram = ram_of d;
+    items = items_of files d;
+    recs = recs_of d;
+    steps = default_steps (length (ram_of d)) (items_of files d) (length (recs_of d));
+  };
+}
 
 -- launches, of which the first has the number n
-abbrev pub launches_from : ℕ → List Data → List NamedData
-launches_from n ds = map (λ p. launch_in p.0 p.1) (enumerate_from n ds)
+abbrev pub launches_from : List Data → ℕ → List Data → List NamedData
+launches_from files n ds = map (λ p. launch_of files p.0 p.1) (enumerate_from n ds)

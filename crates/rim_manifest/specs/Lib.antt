@@ -1,9 +1,12 @@
 pub mod Faults
+pub mod Words
 pub mod Forms
 pub mod Rules
 pub mod Checks
 pub mod Values
+pub mod Names
 pub mod inside
+pub mod Items
 pub mod Launches
 pub mod Manifest
 pub mod Given

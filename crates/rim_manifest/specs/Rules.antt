@@ -1,6 +1,6 @@
 -- The keys of a manifest's tables: what each may hold, and whether it has to be given. This project's
 -- choice; what a realm's parameters may be is DEN0137's, RmiRealmParams.
-use Rattle.std.specs.Prelude.{ℕ, pos, List, [], ◌∷◌, codes}
+use Rattle.std.specs.Prelude.{ℕ, pos, List, [], ◌∷◌, ◌++◌, codes}
 use Rattle.std.specs.Borrow.{Bor}
 use Rattle.rim_manifest.specs.declared.form.Form.{Form}
 use Rattle.rim_manifest.specs.declared.form.Form.TheVariants as form
@@ -24,7 +24,13 @@ abbrev pub top_rules : List Rule
 top_rules =
     rule (codes "rim_manifest") form.Version Required
     ∷ rule (codes "launch") (form.Tables 1024) Optional
-    ∷ rule (codes "file") form.Later Optional ∷ []
+    ∷ rule (codes "file") (form.Tables 64) Optional ∷ []
+
+-- the keys of a file
+abbrev pub file_rules : List Rule
+file_rules =
+    rule (codes "name") form.Name Required
+    ∷ rule (codes "path") form.Text Required ∷ []
 
 -- the keys of a launch
 abbrev pub launch_rules : List Rule
@@ -41,9 +47,33 @@ launch_rules =
     ∷ rule (codes "rpv") (form.Digits 128) Optional
     ∷ rule (codes "block_level") (form.Number (pos 0) (pos 3)) Optional
     ∷ rule (codes "num_aux") (form.Number (pos 0) (pos 16)) Optional
-    ∷ rule (codes "pool_base") form.Later Optional
-    ∷ rule (codes "pool_count") form.Later Optional
-    ∷ rule (codes "ram") form.Later Optional
-    ∷ rule (codes "item") form.Later Optional
-    ∷ rule (codes "rec") form.Later Optional
+    ∷ rule (codes "pool_base") form.PoolBase Optional
+    ∷ rule (codes "pool_count") (form.Number (pos 1) (pos 16777216)) Optional
+    ∷ rule (codes "ram") (form.Regions 64) Optional
+    ∷ rule (codes "item") (form.Tables 64) Optional
+    ∷ rule (codes "rec") (form.Tables 1024) Optional
     ∷ rule (codes "steps") form.Later Optional ∷ []
+
+-- the keys of an item that is no devicetree
+abbrev pub item_rules : List Rule
+item_rules =
+    rule (codes "name") form.Name Required
+    ∷ rule (codes "kind") form.ItemKind Required
+    ∷ rule (codes "file") form.AnyText Required
+    ∷ rule (codes "at") (form.Number (pos 0) (pos 9223372036854775807)) Required
+    ∷ rule (codes "size") (form.Number (pos 0) (pos 9223372036854775807)) Optional
+    ∷ rule (codes "measured") form.Truth Optional ∷ []
+
+-- the keys of a devicetree
+abbrev pub dtb_rules : List Rule
+dtb_rules = item_rules
+    ++ (rule (codes "bootargs") form.Bootargs Optional
+    ∷ rule (codes "initrd") form.Truth Optional
+    ∷ rule (codes "memory") form.Truth Optional ∷ [])
+
+-- the keys of a REC
+abbrev pub rec_rules : List Rule
+rec_rules =
+    rule (codes "pc") form.Word Optional
+    ∷ rule (codes "x") (form.Words 8) Optional
+    ∷ rule (codes "runnable") form.Truth Optional ∷ []

@@ -4,7 +4,7 @@ ghost use Rattle.std.specs.List.{flat_map};
 ghost use Rattle.toml.specs.Data.{get_member};
 ghost use Rattle.toml.specs.View.{table_view, view};
 ghost use Rattle.rim_manifest.specs.Faults.{noted};
-ghost use Rattle.rim_manifest.specs.Checks.{has_unknown_key, is_known, rule_faults, table_faults, value_faults};
+ghost use Rattle.rim_manifest.specs.Checks.{has_unknown_key, is_known, rule_faults, ruled_faults, table_faults, value_faults};
 ghost use Rattle.rim_manifest.specs.Rules.{rule_of};
 
 use crate::fault::{ManifestFault, note, note_if};
@@ -29,6 +29,23 @@ fn check_rules(rules: &[Rule], table: &Table, found: &mut Option<ManifestFault>)
 {
     for rule in rules {
         check_rule(rule, table, found);
+    }
+}
+
+/// Notes the faults of each table of an array, whose keys have rules.
+pub fn check_tables(rules: &[Rule], items: &[Value], found: &mut Option<ManifestFault>)
+    ensures { found.new ≡ noted found.old (flat_map (λ v. ruled_faults (map rule_of rules.now) (view v)) items.now) }
+{
+    for item in items {
+        check_ruled(rules, item, found);
+    }
+}
+
+pub fn check_ruled(rules: &[Rule], item: &Value, found: &mut Option<ManifestFault>)
+    ensures { found.new ≡ noted found.old (ruled_faults (map rule_of rules.now) (view item.now)) }
+{
+    if let Value::Table(table) = item {
+        check_table(rules, table, found);
     }
 }
 

@@ -3,6 +3,7 @@ ghost use Rattle.std.specs.Prelude.{◌≡◌, Option};
 ghost use Rattle.rim_manifest.specs.declared.fault.ManifestFault.TheVariants as fault;
 ghost use Rattle.rim_manifest.specs.Faults.{fault_if, kind_of, lower, noted};
 
+use refusal::NoMemory;
 use std::alloc::AllocError;
 use thiserror::Error;
 
@@ -22,7 +23,7 @@ pub enum ManifestFault {
     /// A table has a key that its format does not list.
     #[error("unknown-key")]
     UnknownKey,
-    /// A required key is not given.
+    /// A required key is not given, or a devicetree asks for an initrd or for RAM that the launch has not.
     #[error("missing-key")]
     MissingKey,
     /// A list is longer than its limit, or a key is not read yet.
@@ -31,10 +32,10 @@ pub enum ManifestFault {
     /// A value is outside its range or form.
     #[error("range")]
     Range,
-    /// Two launches share a name.
+    /// Two files, two launches or two items of a launch share a name, or two items a kind other than raw.
     #[error("two-names")]
     TwoNames,
-    /// An item's `file` names no file. Not answered yet.
+    /// An item's `file` names no file.
     #[error("no-such-file")]
     NoSuchFile,
     /// A text of `steps` is no step, or the steps do not name each thing once. Not answered yet.
@@ -49,6 +50,14 @@ impl From<AllocError> for ManifestFault {
     ghost from_gives = { λ _ e. e ≡ fault.NoMemory };
 
     fn from(_error: AllocError) -> ManifestFault {
+        ManifestFault::NoMemory
+    }
+}
+
+impl From<NoMemory> for ManifestFault {
+    ghost from_gives = { λ _ e. e ≡ fault.NoMemory };
+
+    fn from(_error: NoMemory) -> ManifestFault {
         ManifestFault::NoMemory
     }
 }

@@ -1,10 +1,13 @@
 //! What a key may hold.
-ghost use Rattle.std.specs.Prelude.{◌≡◌};
+ghost use Rattle.std.specs.Prelude.{◌≡◌, ◌==◌, ◌&&◌, length, option_map};
 ghost use Rattle.std.specs.List.{list_all};
 ghost use Rattle.hex.specs.Hex.{is_hex_digit};
 ghost use Rattle.toml.specs.View.{view};
-ghost use Rattle.rim_manifest.specs.Forms.{has_kind, is_name, is_name_byte, is_over, is_required, is_table, is_within};
+ghost use Rattle.rim_launch.specs.Texts.{has_no_zero};
+ghost use Rattle.rim_manifest.specs.Words.{is_word};
+ghost use Rattle.rim_manifest.specs.Forms.{has_kind, is_base, is_integer, is_item_kind, is_name, is_name_byte, is_over, is_pair, is_range, is_range_pair, is_required, is_table, is_within, is_word_kind};
 
+use crate::word::is_word;
 use toml::Value;
 
 /// How many characters a name may have.
@@ -27,6 +30,22 @@ pub enum Form {
     Digits { count: usize },
     /// An array of tables, at most this many.
     Tables { most: usize },
+    /// The address of a pool: a multiple of 64 KiB below 2^48.
+    PoolBase,
+    /// An array of regions of RAM, at most this many, each a pair of a base and an end above it.
+    Regions { most: usize },
+    /// A word: a whole number, or a text `0x` and 1 to 16 hexadecimal digits.
+    Word,
+    /// An array of words, at most this many.
+    Words { most: usize },
+    /// A text of at least one byte.
+    Text,
+    /// Any text.
+    AnyText,
+    /// The word of an item's kind: `kernel`, `initrd`, `dtb` or `raw`.
+    ItemKind,
+    /// A command line: a text without a zero character.
+    Bootargs,
     /// A key that is not read yet: its presence is the fault `Limit`, and what it holds is not
     /// looked at.
     Later,
@@ -58,10 +77,20 @@ pub fn has_kind(form: Form, value: &Value) -> bool
 {
     match form {
         Form::Name | Form::Algorithm | Form::Digits { .. } => value.is_str(),
-        Form::Version | Form::Number { .. } => value.is_integer(),
+        Form::Text | Form::AnyText | Form::ItemKind | Form::Bootargs => value.is_str(),
+        Form::Version | Form::Number { .. } | Form::PoolBase => value.is_integer(),
         Form::Truth => value.is_bool(),
         Form::Tables { .. } => match value {
             Value::Array(items) => are_tables(items.as_slice()),
+            _ => false,
+        },
+        Form::Regions { .. } => match value {
+            Value::Array(items) => are_pairs(items.as_slice()),
+            _ => false,
+        },
+        Form::Word => is_word_kind(value),
+        Form::Words { .. } => match value {
+            Value::Array(items) => are_word_kinds(items.as_slice()),
             _ => false,
         },
         Form::Later => true,
@@ -74,6 +103,8 @@ pub fn is_over(form: Form, value: &Value) -> bool
 {
     match (form, value) {
         (Form::Tables { most }, Value::Array(items)) => most < items.as_slice().len(),
+        (Form::Regions { most }, Value::Array(items)) => most < items.as_slice().len(),
+        (Form::Words { most }, Value::Array(items)) => most < items.as_slice().len(),
         (Form::Later, _) => true,
         _ => false,
     }
@@ -89,6 +120,13 @@ pub fn is_within(form: Form, value: &Value) -> bool
         (Form::Digits { count }, Value::String(text)) => text.len() == count
             && are_digits(text.as_bytes()),
         (Form::Number { low, high }, Value::Integer(x)) => low <= *x && *x <= high,
+        (Form::PoolBase, Value::Integer(x)) => is_pool_base(*x),
+        (Form::Text, Value::String(text)) => 1 <= text.len(),
+        (Form::ItemKind, Value::String(text)) => is_item_kind(text.as_str()),
+        (Form::Bootargs, Value::String(text)) => has_no_zero(text.as_bytes()),
+        (Form::Regions { .. }, Value::Array(items)) => are_ranges(items.as_slice()),
+        (Form::Word, value) => is_word(value),
+        (Form::Words { .. }, Value::Array(items)) => are_words(items.as_slice()),
         _ => true,
     }
 }
@@ -103,6 +141,94 @@ fn are_tables(items: &[Value]) -> bool
     ensures { result ≡ list_all (λ v. is_table (view v)) items.now }
 {
     items.iter().all(|item| item.is_table())
+}
+
+fn is_item_kind(word: &str) -> bool
+    ensures { result ≡ is_item_kind word.now }
+{
+    matches!(word, "kernel" | "initrd" | "dtb" | "raw")
+}
+
+fn has_no_zero(text: &[u8]) -> bool
+    ensures { result ≡ has_no_zero text.now }
+{
+    text.iter().all(|byte| *byte != 0)
+}
+
+fn are_integers(items: &[Value]) -> bool
+    ensures { result ≡ list_all (λ v. is_integer (view v)) items.now }
+{
+    items.iter().all(|item| item.is_integer())
+}
+
+/// Whether a value is an array of two numbers.
+fn is_pair(value: &Value) -> bool
+    ensures { result ≡ is_pair (view value.now) }
+{
+    match value {
+        Value::Array(items) => are_two(items.as_slice()),
+        _ => false,
+    }
+}
+
+fn are_two(items: &[Value]) -> bool
+    ensures { result ≡ ((length items.now == 2) && list_all (λ v. is_integer (view v)) items.now) }
+{
+    items.len() == 2 && are_integers(items)
+}
+
+fn are_pairs(items: &[Value]) -> bool
+    ensures { result ≡ list_all (λ v. is_pair (view v)) items.now }
+{
+    items.iter().all(|item| is_pair(item))
+}
+
+/// Whether a value is a number or a text.
+fn is_word_kind(value: &Value) -> bool
+    ensures { result ≡ is_word_kind (view value.now) }
+{
+    value.is_integer() || value.is_str()
+}
+
+fn are_word_kinds(items: &[Value]) -> bool
+    ensures { result ≡ list_all (λ v. is_word_kind (view v)) items.now }
+{
+    items.iter().all(|item| is_word_kind(item))
+}
+
+fn are_words(items: &[Value]) -> bool
+    ensures { result ≡ list_all (λ v. is_word (view v)) items.now }
+{
+    items.iter().all(|item| is_word(item))
+}
+
+/// Whether a pair is a base and an end above it.
+fn is_range_pair(value: &Value) -> bool
+    ensures { result ≡ is_range_pair (view value.now) }
+{
+    is_range(value.get(0), value.get(1))
+}
+
+fn is_range(base: Option<&Value>, end: Option<&Value>) -> bool
+    ensures { result ≡ is_range (option_map (λ v. view v.now) base.entry) (option_map (λ v. view v.now) end.entry) }
+{
+    match (base, end) {
+        (Some(Value::Integer(base)), Some(Value::Integer(end))) => 0 <= *base && *base < *end,
+        _ => false,
+    }
+}
+
+fn are_ranges(items: &[Value]) -> bool
+    ensures { result ≡ list_all (λ v. is_range_pair (view v)) items.now }
+{
+    items.iter().all(|item| is_range_pair(item))
+}
+
+/// Whether an address of a pool is a multiple of 64 KiB below 2^48.
+pub fn is_pool_base(x: i64) -> bool
+    ensures { result ≡ is_base x }
+{
+    0 <= x && x % 65536 == 0 && x < 0x1_0000_0000_0000
 }
 
 fn are_digits(text: &[u8]) -> bool

@@ -1,16 +1,24 @@
 //! Reading the launches of a release.
-ghost use Rattle.std.specs.Prelude.{◌≡◌, ◌≤◌, IfOk, string_bytes, true};
-ghost use Rattle.toml.specs.Data.{get_member};
-ghost use Rattle.toml.specs.View.{table_view, view};
-ghost use Rattle.rim_manifest.specs.Launches.{NamedData, bare_launch, config_of, launch_in, launch_of};
-ghost use Rattle.rim_manifest.specs.Values.{algorithm_in, digits_in, number_in, text_in, truth_in};
+ghost use Rattle.std.specs.Prelude.{◌≡◌, IfOk, length, map, string_bytes};
+ghost use Rattle.rim_launch.specs.Steps.{default_steps};
+ghost use Rattle.refusal.specs.Answer.{Answers};
+ghost use Rattle.toml.specs.View.{view};
+ghost use Rattle.rim_manifest.specs.Launches.{NamedData, config_of, launch_of};
+ghost use Rattle.rim_manifest.specs.Manifest.{made};
 
-use crate::check::cell;
-use rim_desc::Algo;
-use rim_launch::{Config, Launch};
-use std::alloc::{AllocError, Global};
+use crate::fault::ManifestFault;
+use crate::item::read_items;
+use crate::rec::read_recs;
+use crate::region::read_regions;
+use crate::value::{algorithm, array, byte, digits, number, pool_base, text, truth};
+use refusal::NoMemory;
+use rim_launch::{Config, Item, Launch, Rec, Region, Step, default_steps};
+use std::alloc::Global;
 use std::marker::Model;
-use toml::{Table, Value};
+use toml::Value;
+
+/// The most granules of a pool.
+const MOST_GRANULES: u64 = 16_777_216;
 
 /// A launch of a release, with the name that the manifest gives it.
 #[derive(Drop)]
@@ -41,108 +49,57 @@ impl NamedLaunch {
     }
 }
 
-/// Reads the launch of this number from a value without faults.
-pub fn read_launch(alloc: Global, number: usize, value: &Value) -> Result<NamedLaunch, AllocError>
-    ensures { IfOk result (λ l. l ≡ launch_in number (view value.now)) }
+/// Reads the launch of this number from a table without faults, where the files are these. A launch that its type does not have is
+/// `BadStep`.
+pub fn read_launch(
+    alloc: Global,
+    files: &[Value],
+    number: usize,
+    table: &Value,
+) -> Result<NamedLaunch, ManifestFault>
+    ensures { Answers ManifestFault.NoMemory (λ l. l) result (made (launch_of (map view files.now) number (view table.now))) }
 {
-    match value {
-        Value::Table(table) => read_table(alloc, number, table),
-        _ => read_table(alloc, number, &Table::new(alloc)),
+    let name = String::from_str(alloc, text(table, "name"))?;
+    let config = read_config(table);
+    let ram = read_regions(alloc, array(table, "ram"))?;
+    let items = read_items(alloc, files, array(table, "item"))?;
+    let recs = read_recs(alloc, array(table, "rec"))?;
+    let steps = read_steps(alloc, &ram, &items, &recs)?;
+    match Launch::new(number, config, ram, items, recs, steps) {
+        Some(launch) => Ok(NamedLaunch { name, launch }),
+        None => Err(ManifestFault::BadStep),
     }
 }
 
-fn read_table(alloc: Global, number: usize, table: &Table) -> Result<NamedLaunch, AllocError>
-    ensures { IfOk result (λ l. l ≡ launch_of number (table_view table.now)) }
+/// The steps of a launch that has these regions, items and RECs.
+fn read_steps(
+    alloc: Global,
+    ram: &[Region],
+    items: &[Item],
+    recs: &[Rec],
+) -> Result<Vec<Step>, NoMemory>
+    ensures { IfOk result (λ v. v.items ≡ default_steps (length ram.now) items.now (length recs.now)) }
 {
-    let name = String::from_str(alloc, text(table, "name"))?;
-    let launch = bare_launch(alloc, number, read_config(table));
-    Ok(NamedLaunch { name, launch })
-}
-
-/// A launch of a configuration alone: it has no memory, items or RECs, and so breaks no condition of
-/// its type.
-fn bare_launch(alloc: Global, number: usize, config: Config) -> Launch
-    ensures { result ≡ bare_launch number config }
-{
-    let launch = Launch::new(
-        number,
-        config,
-        Vec::new(alloc),
-        Vec::new(alloc),
-        Vec::new(alloc),
-        Vec::new(alloc),
-    );
-    launch.unwrap()
+    default_steps(alloc, ram.len(), items, recs.len())
 }
 
 #[tactic(auto, unfolding(crate::specs::Launches::config_of))]
-fn read_config(table: &Table) -> Config
-    ensures { result ≡ config_of (table_view table.now) }
+fn read_config(table: &Value) -> Config
+    ensures { result ≡ config_of (view table.now) }
 {
     Config {
         algo: algorithm(table, "algo"),
-        s2sz: number(table, "s2sz", 32, 48, 32),
-        sve: truth(table, "sve"),
-        pmu: truth(table, "pmu"),
-        sve_vl: number(table, "sve_vl", 0, 255, 0),
-        num_bps: number(table, "num_bps", 0, 255, 0),
-        num_wps: number(table, "num_wps", 0, 255, 0),
-        pmu_num_ctrs: number(table, "pmu_num_ctrs", 0, 255, 0),
+        s2sz: byte(table, "s2sz", 32, 48, 32),
+        sve: truth(table, "sve", false),
+        pmu: truth(table, "pmu", false),
+        sve_vl: byte(table, "sve_vl", 0, 255, 0),
+        num_bps: byte(table, "num_bps", 0, 255, 0),
+        num_wps: byte(table, "num_wps", 0, 255, 0),
+        pmu_num_ctrs: byte(table, "pmu_num_ctrs", 0, 255, 0),
         rpv: digits(table, "rpv"),
-        block_level: number(table, "block_level", 0, 3, 2),
-        num_aux: number(table, "num_aux", 0, 16, 0),
-        pool_base: 0x8_0000_0000,
-        pool_count: 16_777_216,
-    }
-}
-
-fn text<'a>(table: &'a Table, key: &str) -> &'a str
-    ensures { result.now ≡ text_in (get_member key.now (table_view table.now)) }
-{
-    match cell(table, key) {
-        Some(Value::String(text)) => text.as_str(),
-        _ => "",
-    }
-}
-
-/// The number at a key that is from `low` to `high`, or a default.
-fn number(table: &Table, key: &str, low: u8, high: u8, default: u8) -> u8
-    ensures { result ≡ number_in low high default (get_member key.now (table_view table.now)) }
-{
-    match cell(table, key) {
-        Some(Value::Integer(x)) if low as i64 <= *x && *x <= high as i64 => *x as u8,
-        _ => default,
-    }
-}
-
-fn truth(table: &Table, key: &str) -> bool
-    ensures { result ≡ truth_in (get_member key.now (table_view table.now)) }
-{
-    match cell(table, key) {
-        Some(Value::Boolean(x)) => *x,
-        _ => false,
-    }
-}
-
-fn algorithm(table: &Table, key: &str) -> Algo
-    ensures { result ≡ algorithm_in (get_member key.now (table_view table.now)) }
-{
-    match cell(table, key) {
-        Some(Value::String(text)) if text.as_str() == "sha512" => Algo::Sha512,
-        _ => Algo::Sha256,
-    }
-}
-
-#[tactic(auto, unfolding(rim_desc::specs::Page::zeros))]
-fn digits(table: &Table, key: &str) -> [u8; 64]
-    ensures { result ≡ digits_in (get_member key.now (table_view table.now)) }
-{
-    let mut bytes = [0; 64];
-    match cell(table, key) {
-        Some(Value::String(text)) => match hex::decode_to_slice(text.as_str(), &mut bytes) {
-            Ok(()) => bytes,
-            Err(_) => [0; 64],
-        },
-        _ => bytes,
+        block_level: byte(table, "block_level", 0, 3, 2),
+        num_aux: byte(table, "num_aux", 0, 16, 0),
+        pool_base: pool_base(table, "pool_base"),
+        pool_count: number(table, "pool_count", 1, MOST_GRANULES, MOST_GRANULES),
     }
 }

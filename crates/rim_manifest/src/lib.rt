@@ -1,17 +1,23 @@
 //! The manifest of a release: a TOML text that describes launches, read into typed values or refused
 //! by the lowest fault that holds anywhere in it.
 //!
-//! Today the launches have no memory, files or processors: the keys that speak of them are the fault
-//! `Limit`.
+//! Today the launches name no steps: the key that speaks of them is the fault `Limit`.
 #![tactic(auto)]
 
 pub mod check;
 pub mod fault;
+pub mod file;
 pub mod form;
+pub mod item;
 pub mod launch;
 pub mod laws;
 pub mod manifest;
+pub mod names;
+pub mod rec;
+pub mod region;
 pub mod rules;
+pub mod value;
+pub mod word;
 
 pub use fault::ManifestFault;
 pub use launch::NamedLaunch;

@@ -1,17 +1,23 @@
 //! Reading a manifest.
-ghost use Rattle.std.specs.Prelude.{◌≡◌, ◌<◌, IfOk, Some, codes, length, map, position, slice_get, string_bytes};
+ghost use Rattle.std.specs.Prelude.{◌≡◌, ◌<◌, [], ◌∷◌, ◌++◌, ◌||◌, None, OnOk, Some, codes, length, map, position, slice_get, string_bytes};
 ghost use Rattle.std.specs.List.{flat_map, list_any};
 ghost use Rattle.refusal.specs.Answer.{Answers};
 ghost use Rattle.toml.specs.Data.{get_member};
 ghost use Rattle.toml.specs.View.{table_view, view};
 ghost use Rattle.rim_manifest.specs.Faults.{lowest, noted};
-ghost use Rattle.rim_manifest.specs.Launches.{ReleaseData, launches_from};
-ghost use Rattle.rim_manifest.specs.Manifest.{has_two_names, has_version, items_of, launch_faults, launches_at, manifest_faults, manifest_of, name_in, release_of};
+ghost use Rattle.rim_manifest.specs.Launches.{AreNumbered, ReleaseData, launches_from};
+ghost use Rattle.rim_manifest.specs.Forms.{items_in};
+ghost use Rattle.rim_manifest.specs.Manifest.{all_made, has_version, item_faults, launch_faults, manifest_faults, manifest_of, name_in, named_of};
+ghost use Rattle.rim_manifest.specs.Names.{lacks_file, repeats, share_names};
 
-use crate::check::{cell, check_table};
+use crate::check::{cell, check_ruled, check_table, check_tables};
 use crate::fault::{ManifestFault, note_if};
+use crate::file::read_paths;
 use crate::launch::{NamedLaunch, read_launch};
-use crate::rules::{LAUNCH_RULES, TOP_RULES};
+use crate::names::{has_asked, lacks_file, repeats, role, share_names};
+use crate::rules::{DTB_RULES, FILE_RULES, ITEM_RULES, LAUNCH_RULES, REC_RULES, TOP_RULES};
+use crate::value::{array, items};
+use rim_launch::Role;
 use std::alloc::{AllocError, Global};
 use std::marker::Model;
 use toml::{Table, Value};
@@ -19,7 +25,8 @@ use toml::{Table, Value};
 /// The number of the format.
 const VERSION: i64 = 1;
 
-/// What a manifest describes: files by their paths, and launches.
+/// What a manifest describes: files by their paths, and launches. A launch's number is its place among them, and the
+/// files of its items are files of the release.
 #[derive(Drop)]
 pub struct Release {
     paths: Vec<String>,
@@ -30,6 +37,8 @@ impl Model for Release {
     ghost Value = { ReleaseData };
 
     ghost view = { λ r. record { paths = map string_bytes r.paths.items; launches = r.launches.items } };
+
+    ghost invariant = { λ r. AreNumbered (record { paths = map string_bytes r.paths.items; launches = r.launches.items }) };
 }
 
 impl Release {
@@ -66,7 +75,8 @@ impl Release {
 
     /// All launches, in the manifest's order.
     pub fn all_launches(&self) -> &[NamedLaunch]
-        ensures { result.now ≡ self.now.launches }
+        ensures value { result.now ≡ self.now.launches }
+        ensures kept { AreNumbered self.now }
     {
         self.launches.as_slice()
     }
@@ -99,7 +109,8 @@ fn lowest_fault(table: &Table) -> Option<ManifestFault>
     let mut found = None;
     note_if(&mut found, !has_version(table), ManifestFault::Version);
     check_table(&TOP_RULES, table, &mut found);
-    check_launches(launches(table), &mut found);
+    check_tables(&FILE_RULES, entries(table, "file"), &mut found);
+    check_launches(entries(table, "launch"), &mut found);
     found
 }
 
@@ -109,23 +120,13 @@ fn has_version(table: &Table) -> bool
     matches!(cell(table, "rim_manifest"), Some(Value::Integer(x)) if *x == VERSION)
 }
 
-/// The values in the array of launches.
-fn launches(table: &Table) -> &[Value]
-    ensures { map view result.now ≡ launches_at (table_view table.now) }
+/// The values of the array at a key; none where it is not given.
+fn entries<'a>(table: &'a Table, key: &str) -> &'a [Value]
+    ensures { map view result.now ≡ items_in (get_member key.now (table_view table.now)) }
 {
-    match cell(table, "launch") {
+    match cell(table, key) {
         Some(value) => items(value),
         None => &[],
-    }
-}
-
-/// The values of an array, and none of another value.
-fn items(value: &Value) -> &[Value]
-    ensures { map view result.now ≡ items_of (view value.now) }
-{
-    match value {
-        Value::Array(items) => items.as_slice(),
-        _ => &[],
     }
 }
 
@@ -137,54 +138,94 @@ fn check_launches(items: &[Value], found: &mut Option<ManifestFault>)
     }
 }
 
+/// Notes the faults of a launch's table and of the tables of its items and RECs, and an edit without what it
+/// asks for.
 #[tactic(auto, unfolding(crate::specs::Manifest::launch_faults))]
-fn check_launch(item: &Value, found: &mut Option<ManifestFault>)
-    ensures { found.new ≡ noted found.old (launch_faults (view item.now)) }
+fn check_launch(launch: &Value, found: &mut Option<ManifestFault>)
+    ensures { found.new ≡ noted found.old (launch_faults (view launch.now)) }
 {
-    if let Value::Table(table) = item {
+    if let Value::Table(table) = launch {
         check_table(&LAUNCH_RULES, table, found);
+        check_items(array(launch, "item"), found);
+        check_tables(&REC_RULES, array(launch, "rec"), found);
+        note_if(found, !has_asked(launch), ManifestFault::MissingKey);
     }
 }
 
-/// Reads what a document without faults in its tables describes.
-fn read_release(alloc: Global, table: &Table) -> Result<Release, ManifestFault>
-    ensures { Answers ManifestFault.NoMemory (λ release. release) result (release_of (table_view table.now)) }
+fn check_items(items: &[Value], found: &mut Option<ManifestFault>)
+    ensures { found.new ≡ noted found.old (flat_map (λ v. item_faults (view v)) items.now) }
 {
-    let launches = read_launches(alloc, launches(table))?;
-    // The search is quadratic in the launches, which are at most 1,024 by now.
-    if has_two_names(launches.as_slice()) {
+    for item in items {
+        check_item(item, found);
+    }
+}
+
+/// Notes the faults of an item's table, which has the keys of its kind.
+fn check_item(item: &Value, found: &mut Option<ManifestFault>)
+    ensures { found.new ≡ noted found.old (item_faults (view item.now)) }
+{
+    match role(item) {
+        Role::Dtb => check_ruled(&DTB_RULES, item, found),
+        _ => check_ruled(&ITEM_RULES, item, found),
+    }
+}
+
+/// Reads what a document without faults in its tables describes. The searches are quadratic in the launches and
+/// in the items of each, which are at most 1,024 and 64 by now, and in the files, which are at most 64.
+fn read_release(alloc: Global, table: &Table) -> Result<Release, ManifestFault>
+    requires { lowest (manifest_faults (table_view table.now)) ≡ None }
+    ensures { Answers ManifestFault.NoMemory (λ release. release) result (named_of (table_view table.now)) }
+{
+    let files = entries(table, "file");
+    let launches = entries(table, "launch");
+    if has_two_names(files, launches) {
         return Err(ManifestFault::TwoNames);
     }
-    Ok(Release {
-        paths: Vec::new(alloc),
-        launches,
-    })
+    if has_no_file(files, launches) {
+        return Err(ManifestFault::NoSuchFile);
+    }
+    let paths = read_paths(alloc, files)?;
+    let launches = read_launches(alloc, files, launches)?;
+    Ok(Release { paths, launches })
 }
 
-fn read_launches(alloc: Global, items: &[Value]) -> Result<Vec<NamedLaunch>, AllocError>
-    ensures { IfOk result (λ ls. ls.items ≡ launches_from 0 (map view items.now)) }
+/// Whether two files, two launches or two items of a launch share a name, or two items a kind other than raw.
+fn has_two_names(files: &[Value], launches: &[Value]) -> bool
+    ensures { result ≡ (share_names (map view files.now) || share_names (map view launches.now) || list_any (λ l. repeats (view l)) launches.now) }
 {
-    let mut launches = Vec::with_capacity(alloc, items.len())?;
-    for (number, item) in items.iter().enumerate() {
-        launches.push(read_launch(alloc, number, item)?)?;
+    share_names(files) || share_names(launches) || any_repeats(launches)
+}
+
+fn any_repeats(launches: &[Value]) -> bool
+    ensures { result ≡ list_any (λ l. repeats (view l)) launches.now }
+{
+    launches.iter().any(|launch| repeats(launch))
+}
+
+/// Whether an item of a launch names no file.
+fn has_no_file(files: &[Value], launches: &[Value]) -> bool
+    ensures { result ≡ list_any (λ l. lacks_file (map view files.now) (view l)) launches.now }
+{
+    launches.iter().any(|launch| lacks_file(files, launch))
+}
+
+fn read_launches(
+    alloc: Global,
+    files: &[Value],
+    tables: &[Value],
+) -> Result<Vec<NamedLaunch>, ManifestFault>
+    ensures { Answers ManifestFault.NoMemory (λ ls. ls.items) result (all_made (launches_from (map view files.now) 0 (map view tables.now))) }
+{
+    let mut launches = Vec::with_capacity(alloc, tables.len())?;
+    for (number, table) in tables.iter().enumerate() {
+        push(&mut launches, read_launch(alloc, files, number, table)?)?;
     }
     Ok(launches)
 }
 
-/// Whether two launches share a name.
-fn has_two_names(launches: &[NamedLaunch]) -> bool
-    ensures { result ≡ has_two_names launches.now }
+fn push(launches: &mut Vec<NamedLaunch>, launch: NamedLaunch) -> Result<(), AllocError>
+    ensures { OnOk result (launches.new.items ≡ launches.old.items ++ launch ∷ []) }
 {
-    'launches: for i in 0..launches.len() {
-        if is_named(&launches[i + 1..], launches[i].name()) {
-            return true;
-        }
-    }
-    false
-}
-
-fn is_named(launches: &[NamedLaunch], name: &str) -> bool
-    ensures { result ≡ list_any (name_in name.now) launches.now }
-{
-    launches.iter().any(|launch| launch.name() == name)
+    launches.push(launch)?;
+    Ok(())
 }

@@ -31,6 +31,10 @@ const LIMIT: Option<ManifestFault> = Some(ManifestFault::Limit);
 
 const RANGE: Option<ManifestFault> = Some(ManifestFault::Range);
 
+const TWO_NAMES: Option<ManifestFault> = Some(ManifestFault::TwoNames);
+
+const NO_SUCH_FILE: Option<ManifestFault> = Some(ManifestFault::NoSuchFile);
+
 /// A text and its fault. The tables are constants: each row of an array in a body is proved too.
 type Row = (&'static str, Option<ManifestFault>);
 
@@ -95,8 +99,8 @@ const TOPS: [Row; 12] = [
     ("rim_manifest = 1\nlaunch = [{}, \"a\"]", WRONG_KIND),
     ("rim_manifest = 1\nlaunc = 3", UNKNOWN_KEY),
     ("rim_manifest = 1\n[files]", UNKNOWN_KEY),
-    ("rim_manifest = 1\nfile = 3", LIMIT),
-    ("rim_manifest = 1\n[[file]]", LIMIT),
+    ("rim_manifest = 1\nfile = 3", WRONG_KIND),
+    ("rim_manifest = 1\n[[file]]", MISSING_KEY),
     ("rim_manifest = 1\n[[launch]]", MISSING_KEY),
     (
         "rim_manifest = 1\n[[launch]]\nname = \"a\"\nalgo = \"sha256\"",
@@ -117,12 +121,7 @@ fn kinds_at_the_top(rt: HostRuntime) {
     check_texts(&rt, &TOPS);
 }
 
-const LATER_KEYS: [Row; 9] = [
-    ("pool_base = 0", LIMIT),
-    ("pool_count = 1", LIMIT),
-    ("ram = []", LIMIT),
-    ("item = 3", LIMIT),
-    ("rec = []", LIMIT),
+const LATER_KEYS: [Row; 4] = [
     ("steps = \"a\"", LIMIT),
     ("file = 3", UNKNOWN_KEY),
     ("rec_rule = \"all\"", UNKNOWN_KEY),
@@ -149,6 +148,323 @@ const WRONG_KINDS: [Row; 9] = [
 #[test]
 fn wrong_kinds(rt: HostRuntime) -> Result<(), Fail> {
     check_lines(&rt, &WRONG_KINDS)
+}
+
+const POOLS: [Row; 10] = [
+    ("pool_base = 0", None),
+    ("pool_base = 65536", None),
+    ("pool_base = 0xffffffff0000", None),
+    ("pool_base = 0x1000000000000", RANGE),
+    ("pool_base = 65535", RANGE),
+    ("pool_base = -65536", RANGE),
+    ("pool_base = \"0x0\"", WRONG_KIND),
+    ("pool_count = 1\nnum_aux = 0", None),
+    ("pool_count = 16777216", None),
+    ("pool_count = 16777217", RANGE),
+];
+
+const REGIONS: [Row; 14] = [
+    ("ram = []", None),
+    ("ram = [[0, 1]]", None),
+    ("ram = [[0, 9223372036854775807], [3, 4]]", None),
+    ("ram = [[1, 1]]", RANGE),
+    ("ram = [[2, 1]]", RANGE),
+    ("ram = [[-1, 1]]", RANGE),
+    ("ram = [[0, -1]]", RANGE),
+    ("ram = [[0, 1], [0, 0]]", RANGE),
+    ("ram = [[0, 1, 2]]", WRONG_KIND),
+    ("ram = [[0]]", WRONG_KIND),
+    ("ram = [0, 1]", WRONG_KIND),
+    ("ram = [[0, \"1\"]]", WRONG_KIND),
+    ("ram = 1", WRONG_KIND),
+    ("ram = [[0, 1.0]]", WRONG_KIND),
+];
+
+const RECS: [Row; 26] = [
+    ("rec = []", None),
+    ("rec = [{}]", None),
+    (
+        "rec = [{pc = 9223372036854775807}, {pc = \"0xffffffffffffffff\"}]",
+        None,
+    ),
+    ("rec = [{pc = \"0xA\"}, {pc = \"0xa\"}]", None),
+    ("rec = [{x = []}]", None),
+    ("rec = [{x = [1, \"0x2\", 3, 4, 5, 6, 7, 8]}]", None),
+    ("rec = [{x = [1, 2, 3, 4, 5, 6, 7, 8, 9]}]", LIMIT),
+    ("rec = [{x = [1, 2, 3, 4, 5, 6, 7, 8, -9]}]", LIMIT),
+    ("rec = [{x = [1, 2, 3, 4, 5, 6, 7, 8, true]}]", WRONG_KIND),
+    ("rec = [{runnable = false}]", None),
+    ("rec = [{runnable = 0}]", WRONG_KIND),
+    ("rec = [{pc = -1}]", RANGE),
+    ("rec = [{pc = \"\"}]", RANGE),
+    ("rec = [{pc = \"0x\"}]", RANGE),
+    ("rec = [{pc = \"12\"}]", RANGE),
+    ("rec = [{pc = \"0X1\"}]", RANGE),
+    ("rec = [{pc = \"0x+1\"}]", RANGE),
+    ("rec = [{pc = \"0x1 \"}]", RANGE),
+    ("rec = [{pc = \"0xg\"}]", RANGE),
+    ("rec = [{pc = \"0x00000000000000000\"}]", RANGE),
+    ("rec = [{pc = 1.0}]", WRONG_KIND),
+    ("rec = [{x = [true]}]", WRONG_KIND),
+    ("rec = [{x = 1}]", WRONG_KIND),
+    ("rec = [{}, {name = 1}]", UNKNOWN_KEY),
+    ("rec = {}", WRONG_KIND),
+    ("rec = [1]", WRONG_KIND),
+];
+
+#[test]
+fn pools(rt: HostRuntime) -> Result<(), Fail> {
+    check_lines(&rt, &POOLS)
+}
+
+#[test]
+fn regions(rt: HostRuntime) -> Result<(), Fail> {
+    check_lines(&rt, &REGIONS)
+}
+
+#[test]
+fn recs(rt: HostRuntime) -> Result<(), Fail> {
+    check_lines(&rt, &RECS)
+}
+
+/// Arrays of files, and the faults of a manifest that has nothing else.
+const FILES: [Row; 12] = [
+    ("[]", None),
+    ("[{name = \"a\", path = \"p\"}]", None),
+    (
+        "[{name = \"a\", path = \"p\"}, {name = \"b\", path = \"p\"}]",
+        None,
+    ),
+    (
+        "[{name = \"a\", path = \"p\"}, {name = \"a\", path = \"q\"}]",
+        TWO_NAMES,
+    ),
+    ("[{name = \"a\", path = \"\"}]", RANGE),
+    ("[{name = \"a b\", path = \"p\"}]", RANGE),
+    ("[{name = \"a\"}]", MISSING_KEY),
+    ("[{path = \"p\"}]", MISSING_KEY),
+    ("[{name = \"a\", path = 1}]", WRONG_KIND),
+    ("[{name = \"a\", path = \"p\", size = 1}]", UNKNOWN_KEY),
+    ("{name = \"a\", path = \"p\"}", WRONG_KIND),
+    ("[1]", WRONG_KIND),
+];
+
+#[test]
+fn files(rt: HostRuntime) -> Result<(), Fail> {
+    for (files, fault) in &FILES {
+        let text = format!(in rt.alloc(); "rim_manifest = 1\nfile = {files}\n")?;
+        assert_eq!(rt;
+            fault_of(rt.alloc(), text.as_str()),
+            *fault,
+            "files {files}"
+        );
+    }
+    Ok(())
+}
+
+/// The fault of a launch of one region that has these items, in a manifest of a file `f`.
+fn fault_of_items(alloc: Global, items: &str) -> Result<Option<ManifestFault>, Fail> {
+    let text = format!(in alloc;
+        "rim_manifest = 1\nfile = [{{name = \"f\", path = \"p\"}}]\n[[launch]]\nname = \"f\"\nalgo = \"sha256\"\ns2sz = 33\n{items}\n"
+    )?;
+    Ok(fault_of(alloc, text.as_str()))
+}
+
+/// Items that are well but for what follows.
+const ITEMS: [Row; 31] = [
+    ("item = []", None),
+    (
+        "item = [{name = \"f\", kind = \"raw\", file = \"f\", at = 0}]",
+        None,
+    ),
+    (
+        "item = [{name = \"a\", kind = \"kernel\", file = \"f\", at = 9223372036854775807}]",
+        None,
+    ),
+    (
+        "item = [{name = \"a\", kind = \"initrd\", file = \"f\", at = 0, size = 0, measured = false}]",
+        None,
+    ),
+    (
+        "item = [{name = \"a\", kind = \"dtb\", file = \"f\", at = 0, bootargs = \"\", initrd = false, memory = false}]",
+        None,
+    ),
+    (
+        "item = [{name = \"a\", kind = \"raw\", file = \"f\", at = 0}, {name = \"b\", kind = \"raw\", file = \"f\", at = 0}]",
+        None,
+    ),
+    (
+        "item = [{kind = \"raw\", file = \"f\", at = 0}]",
+        MISSING_KEY,
+    ),
+    ("item = [{name = \"a\", file = \"f\", at = 0}]", MISSING_KEY),
+    (
+        "item = [{name = \"a\", kind = \"raw\", at = 0}]",
+        MISSING_KEY,
+    ),
+    (
+        "item = [{name = \"a\", kind = \"raw\", file = \"f\"}]",
+        MISSING_KEY,
+    ),
+    (
+        "item = [{name = \"a\", kind = \"elf\", file = \"f\", at = 0}]",
+        RANGE,
+    ),
+    (
+        "item = [{name = \"\", kind = \"raw\", file = \"f\", at = 0}]",
+        RANGE,
+    ),
+    (
+        "item = [{name = \"a\", kind = \"raw\", file = \"f\", at = -1}]",
+        RANGE,
+    ),
+    (
+        "item = [{name = \"a\", kind = \"raw\", file = \"f\", at = \"0x0\"}]",
+        WRONG_KIND,
+    ),
+    (
+        "item = [{name = \"a\", kind = \"raw\", file = \"f\", at = 0, size = -1}]",
+        RANGE,
+    ),
+    (
+        "item = [{name = \"a\", kind = \"raw\", file = 1, at = 0}]",
+        WRONG_KIND,
+    ),
+    (
+        "item = [{name = \"a\", kind = 1, file = \"f\", at = 0}]",
+        WRONG_KIND,
+    ),
+    (
+        "item = [{name = \"a\", kind = \"raw\", file = \"\", at = 0}]",
+        NO_SUCH_FILE,
+    ),
+    (
+        "item = [{name = \"a\", kind = \"raw\", file = \"g\", at = 0}]",
+        NO_SUCH_FILE,
+    ),
+    (
+        "item = [{name = \"a\", kind = \"raw\", file = \"f\", at = 0, bootargs = 5}]",
+        UNKNOWN_KEY,
+    ),
+    (
+        "item = [{name = \"a\", kind = \"raw\", file = \"f\", at = 0, initrd = false}]",
+        UNKNOWN_KEY,
+    ),
+    (
+        "item = [{name = \"a\", kind = \"kernel\", file = \"f\", at = 0, memory = false}]",
+        UNKNOWN_KEY,
+    ),
+    (
+        "item = [{name = \"a\", kind = \"dtb\", file = \"f\", at = 0, bootargs = 5}]",
+        WRONG_KIND,
+    ),
+    (
+        "item = [{name = \"a\", kind = \"dtb\", file = \"f\", at = 0, bootargs = \"a\\u0000\"}]",
+        RANGE,
+    ),
+    (
+        "item = [{name = \"a\", kind = \"dtb\", file = \"f\", at = 0, initrd = true}]",
+        MISSING_KEY,
+    ),
+    (
+        "item = [{name = \"a\", kind = \"dtb\", file = \"f\", at = 0, memory = true}]",
+        MISSING_KEY,
+    ),
+    (
+        "ram = [[0, 1]]\nitem = [{name = \"a\", kind = \"dtb\", file = \"f\", at = 0, memory = true, initrd = true}, {name = \"b\", kind = \"initrd\", file = \"f\", at = 0}]",
+        None,
+    ),
+    (
+        "item = [{name = \"a\", kind = \"raw\", file = \"f\", at = 0}, {name = \"a\", kind = \"dtb\", file = \"f\", at = 0}]",
+        TWO_NAMES,
+    ),
+    (
+        "item = [{name = \"a\", kind = \"dtb\", file = \"g\", at = 0}, {name = \"b\", kind = \"dtb\", file = \"f\", at = 0}]",
+        TWO_NAMES,
+    ),
+    (
+        "item = [{name = \"a\", kind = \"initrd\", file = \"f\", at = 0}, {name = \"b\", kind = \"initrd\", file = \"f\", at = 0}]",
+        TWO_NAMES,
+    ),
+    (
+        "item = [{name = \"a\", kind = \"kernel\", file = \"f\", at = 0}, {name = \"b\", kind = \"kernel\", file = \"f\", at = 0}]",
+        TWO_NAMES,
+    ),
+];
+
+#[test]
+fn items(rt: HostRuntime) -> Result<(), Fail> {
+    for (items, fault) in &ITEMS {
+        assert_eq!(rt; fault_of_items(rt.alloc(), items)?, *fault, "{items}");
+    }
+    Ok(())
+}
+
+/// This many tables of a name of their own each, with the same further keys.
+fn tables_of(alloc: Global, key: &str, keys: &str, count: usize) -> Result<String, Fail> {
+    let mut line = format!(in alloc; "{key} = [")?;
+    for i in 0..count {
+        let table = format!(in alloc; "{{name = \"n{i}\", {keys}}},")?;
+        line.push_str(table.as_str())?;
+    }
+    line.push_str("]")?;
+    Ok(line)
+}
+
+const COUNTS: [(usize, Option<ManifestFault>); 2] = [(64, None), (65, LIMIT)];
+
+#[test]
+fn how_many_files_and_items(rt: HostRuntime) -> Result<(), Fail> {
+    for (count, fault) in &COUNTS {
+        let files = tables_of(rt.alloc(), "file", "path = \"p\"", *count)?;
+        let text = format!(in rt.alloc(); "rim_manifest = 1\n{files}\n")?;
+        assert_eq!(rt;
+            fault_of(rt.alloc(), text.as_str()),
+            *fault,
+            "{count} files"
+        );
+        let items = tables_of(
+            rt.alloc(),
+            "item",
+            "kind = \"raw\", file = \"f\", at = 0",
+            *count,
+        )?;
+        assert_eq!(rt;
+            fault_of_items(rt.alloc(), items.as_str())?,
+            *fault,
+            "{count} items"
+        );
+    }
+    Ok(())
+}
+
+/// A key of an array of this many equal members.
+fn array_of(alloc: Global, key: &str, member: &str, count: usize) -> Result<String, Fail> {
+    let mut line = format!(in alloc; "{key} = [")?;
+    for _ in 0..count {
+        line.push_str(member)?;
+        line.push_str(",")?;
+    }
+    line.push_str("]")?;
+    Ok(line)
+}
+
+/// Arrays: their keys, members and numbers of members, and the faults.
+const LENGTHS: [(&str, &str, usize, Option<ManifestFault>); 4] = [
+    ("ram", "[0, 1]", 64, None),
+    ("ram", "[0, 1]", 65, LIMIT),
+    ("rec", "{}", 1024, None),
+    ("rec", "{}", 1025, LIMIT),
+];
+
+#[test]
+fn how_many_regions_and_recs(rt: HostRuntime) -> Result<(), Fail> {
+    for (key, member, count, fault) in &LENGTHS {
+        let line = array_of(rt.alloc(), key, member, *count)?;
+        let found = fault_with(rt.alloc(), line.as_str())?;
+        assert_eq!(rt; found, *fault, "{count} of {key}");
+    }
+    Ok(())
 }
 
 const VALUES: [Row; 20] = [
@@ -311,8 +627,8 @@ fn how_many_launches(rt: HostRuntime) -> Result<(), Fail> {
 const PAIRS: [(&str, &str, Option<ManifestFault>); 4] = [
     ("sve = 1", "other = 1", WRONG_KIND),
     ("other = 1", "num_aux = 17", UNKNOWN_KEY),
-    ("num_aux = 17", "item = 1", LIMIT),
-    ("item = 1", "sve = 1", WRONG_KIND),
+    ("num_aux = 17", "rec = [{x = [1,2,3,4,5,6,7,8,9]}]", LIMIT),
+    ("steps = 1", "sve = 1", WRONG_KIND),
 ];
 
 /// The fault of these lines, one after the other.

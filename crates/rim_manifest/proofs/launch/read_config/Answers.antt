@@ -1,25 +1,25 @@
-use Rattle.std.proofs.Common.{◌≤◌, refl, ap, sym, subst, codes, ◌∙◌}
-use Rattle.std.proofs.lemmas.Bool.{leb-true, ltb-true}
-use Rattle.toml.specs.Data.{get_member}
-use Rattle.toml.specs.View.{table_view}
+use Rattle.std.proofs.Common.{◌≡◌, ◌%◌, ◌^◌, ◌≤◌, ◌<◌, refl, ap, sym, subst, codes, ◌∙◌}
+use Rattle.toml.specs.Data.{get}
+use Rattle.toml.specs.View.{view}
 use Rattle.rim_launch.proofs.Configs.{same-config}
 use Rattle.rim_manifest.specs.Launches.{config_of}
-use Rattle.rim_manifest.specs.inside.NumberRanges.{is_within, number_to, number_within}
+use Rattle.rim_manifest.specs.inside.NumberRanges.{base_aligned, base_low, is_within, number_from, number_to, number_within}
 use Rattle.rim_manifest.proofs.launch.read_config.Goals as goal
 
 pub invariant_of-result : goal.invariant_of-result
 invariant_of-result c =
-    let ms = table_view c.args.table.now in
+    let d = view c.args.table.now in
     record {
-      width = ap (is_within 32 48) c.number.ensures ∙ number_within 32 48 32 (get_member (codes "s2sz") ms) refl;
-      level = subst (λ n. n ≤ 3) (sym c.number-6.ensures) (number_to 0 3 2 (get_member (codes "block_level") ms) refl);
-      aux = subst (λ n. n ≤ 16) (sym c.number-7.ensures) (number_to 0 16 0 (get_member (codes "num_aux") ms) refl);
-      pool_aligned = refl;
-      pool_low = ltb-true _ _ refl;
-      pool_fits = (leb-true _ _ refl, leb-true _ _ refl);
+      width = ap (is_within 32 48) c.byte.ensures ∙ number_within 32 48 32 (get (codes "s2sz") d) refl;
+      level = subst (λ n. n ≤ 3) (sym c.byte-6.ensures) (number_to 0 3 2 (get (codes "block_level") d) refl);
+      aux = subst (λ n. n ≤ 16) (sym c.byte-7.ensures) (number_to 0 16 0 (get (codes "num_aux") d) refl);
+      pool_aligned = subst (λ n. n % 65536 ≡ 0) (sym c.pool_base.ensures) (base_aligned (get (codes "pool_base") d));
+      pool_low = subst (λ n. n < 2 ^ 48) (sym c.pool_base.ensures) (base_low (get (codes "pool_base") d));
+      pool_fits = subst (λ n. (1 ≤ n) × (n ≤ 16777216)) (sym c.number.ensures)
+          (number_from 1 16777216 16777216 (get (codes "pool_count") d) refl, number_to 1 16777216 16777216 (get (codes "pool_count") d) refl);
     }
 
 pub returns : goal.returns
 unfolding config_of
-returns c = same-config _ _ c.algorithm.ensures c.number.ensures c.truth.ensures c.truth-2.ensures c.number-2.ensures c.number-3.ensures c.number-4.ensures c.number-5.ensures c.digits.ensures c.number-6.ensures
-    c.number-7.ensures refl refl
+returns c = same-config _ _ c.algorithm.ensures c.byte.ensures c.truth.ensures c.truth-2.ensures c.byte-2.ensures c.byte-3.ensures c.byte-4.ensures c.byte-5.ensures c.digits.ensures c.byte-6.ensures
+    c.byte-7.ensures c.pool_base.ensures c.number.ensures

@@ -1,5 +1,33 @@
-use Rattle.toml.proofs.Views.{view-Table}
+use Rattle.std.proofs.Common.{◌≡◌, List, length, map, ◌∙◌, inr, string_bytes}
+use Rattle.toml.specs.View.{view}
+use Rattle.rim_launch.specs.Steps.{default_steps}
+use Rattle.rim_launch.specs.declared.item.Item.{Item}
+use Rattle.rim_launch.specs.declared.item.Region.{Region}
+use Rattle.rim_launch.specs.declared.rec.Rec.{Rec}
+use Rattle.rim_manifest.specs.Items.{item_of}
+use Rattle.rim_manifest.specs.Launches.{launch_of, rec_of, region_in}
+use Rattle.rim_manifest.proofs.Made.{none_made, parts_read, some_made}
+use Rattle.rim_manifest.proofs.Trees.{map_of_views}
 use Rattle.rim_manifest.proofs.launch.read_launch.Goals as goal
 
-pub returns-in-Table : goal.returns-in-Table
-returns-in-Table c = rw (c.in-Table.is, view-Table) c.read_table.ensures
+steps_of : {ram ram' : List Region} {items items' : List Item} {recs recs' : List Rec} → ram ≡ ram' → items ≡ items' → recs ≡ recs'
+    → default_steps (length ram) items (length recs) ≡ default_steps (length ram') items' (length recs')
+steps_of ram items recs = λ i. default_steps (length (ram i)) (items i) (length (recs i))
+
+pub returns-in-Some : goal.returns-in-Some
+returns-in-Some c =
+    some_made (launch_of (map view c.args.files.now) c.args.number (view c.args.table.now)) (string_bytes c.in_ok-name.name) c.in-Some.launch c.new.result (c.in_ok-name.ensures.ok ∙ c.text.ensures)
+    (parts_read (map view c.args.files.now) c.args.number (view c.args.table.now) _ _ _ _ _ c.new.result c.read_config-config.ensures
+    (c.in_ok-ram.ensures ∙ map_of_views region_in c.array.result.now _ c.array.ensures) (c.in_ok-items.ensures ∙ map_of_views (item_of (map view c.args.files.now)) c.array-2.result.now _ c.array-2.ensures)
+    (c.in_ok-recs.ensures ∙ map_of_views rec_of c.array-3.result.now _ c.array-3.ensures)
+    (c.in_ok-steps.ensures ∙ steps_of c.deref.ensures.value c.deref-2.ensures.value c.deref-3.ensures.value) c.new.ensures)
+    c.in-Some.is
+
+pub returns-in-None : goal.returns-in-None
+returns-in-None c =
+    inr (none_made (launch_of (map view c.args.files.now) c.args.number (view c.args.table.now)) c.new.result
+    (parts_read (map view c.args.files.now) c.args.number (view c.args.table.now) _ _ _ _ _ c.new.result c.read_config-config.ensures
+    (c.in_ok-ram.ensures ∙ map_of_views region_in c.array.result.now _ c.array.ensures) (c.in_ok-items.ensures ∙ map_of_views (item_of (map view c.args.files.now)) c.array-2.result.now _ c.array-2.ensures)
+    (c.in_ok-recs.ensures ∙ map_of_views rec_of c.array-3.result.now _ c.array-3.ensures)
+    (c.in_ok-steps.ensures ∙ steps_of c.deref.ensures.value c.deref-2.ensures.value c.deref-3.ensures.value) c.new.ensures)
+    c.in-None.is)

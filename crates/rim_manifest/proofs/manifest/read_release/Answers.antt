@@ -1,14 +1,67 @@
-use Rattle.std.proofs.Common.{◌∙◌, sym, ap, map, inr, string_bytes}
-use Rattle.toml.specs.View.{table_view}
+use Rattle.std.proofs.Common.{◌≡◌, List, length, Bool, ◌||◌, map, ◌∙◌, sym, ap, inl, inr, string_bytes}
+use Rattle.std.specs.List.{list_any}
+use Rattle.std.proofs.lemmas.List.{length-map}
+use Rattle.std.proofs.lemmas.Result.{err_from_is_err_and}
+use Rattle.toml.specs.Data.{Data, Members}
+use Rattle.toml.specs.View.{table_view, view}
+use Rattle.toml.specs.declared.value.Value.{Value}
 use Rattle.rim_manifest.specs.Launches.{launches_from}
-use Rattle.rim_manifest.specs.Manifest.{has_two_names}
-use Rattle.rim_manifest.proofs.Answering.{release_one, release_two}
+use Rattle.rim_manifest.specs.Manifest.{all_made, files_at, has_no_file, has_two_names, launches_at, path_of}
+use Rattle.rim_manifest.specs.Names.{lacks_file, repeats, share_names}
+use Rattle.rim_manifest.proofs.Answering.{named, no_name_fault, refused_twice, refused_without}
+use Rattle.rim_manifest.proofs.Made.{all_read, none_refused}
+use Rattle.rim_manifest.proofs.Notes.{list_any_map}
+use Rattle.rim_manifest.proofs.Numbered.{are_numbered}
+use Rattle.rim_manifest.proofs.Trees.{map_of_views}
 use Rattle.rim_manifest.proofs.manifest.read_release.Goals as goal
 
-pub returns : goal.returns
-returns c = release_one (table_view c.args.table.now) _ c.in_ok-launches.launches.items (ap (map string_bytes) c.new.ensures.items)
-    (c.in_ok-launches.ensures ∙ ap (launches_from 0) c.launches.ensures) (ap has_two_names (sym c.as_slice.ensures.value) ∙ sym c.has_two_names.ensures ∙ c.if-has_two_names.false)
+twice : (ms : Members) (files launches : List Value) (b : Bool) → map view files ≡ files_at ms → map view launches ≡ launches_at ms
+    → b ≡ (share_names (map view files) || share_names (map view launches) || list_any (λ l. repeats (view l)) launches) → b ≡ has_two_names ms
+twice ms files launches b files_are launches_are h = rw (← files_are, ← launches_are, list_any_map repeats view launches) h
+
+without : (ms : Members) (files launches : List Value) (b : Bool) → map view files ≡ files_at ms → map view launches ≡ launches_at ms
+    → b ≡ list_any (λ l. lacks_file (map view files) (view l)) launches → b ≡ has_no_file ms
+without ms files launches b files_are launches_are h = rw (← files_are, ← launches_are, list_any_map (lacks_file (map view files)) view launches) h
+
+same : {files files' launches launches' : List Data} → files ≡ files' → launches ≡ launches' → all_made (launches_from files 0 launches) ≡ all_made (launches_from files' 0 launches')
+same files launches = λ i. all_made (launches_from (files i) 0 (launches i))
 
 pub returns-then-has_two_names : goal.returns-then-has_two_names
-returns-then-has_two_names c = inr (release_two (table_view c.args.table.now) c.in_ok-launches.launches.items (c.in_ok-launches.ensures ∙ ap (launches_from 0) c.launches.ensures)
-    (ap has_two_names (sym c.as_slice.ensures.value) ∙ sym c.has_two_names.ensures ∙ c.if-has_two_names.true))
+returns-then-has_two_names c =
+    let ms = table_view c.args.table.now in
+    inr (refused_twice ms (sym (twice ms _ _ _ c.entries-files.ensures c.entries-launches.ensures c.has_two_names.ensures) ∙ c.if-has_two_names.true))
+
+pub returns-then-has_no_file : goal.returns-then-has_no_file
+returns-then-has_no_file c =
+    let ms = table_view c.args.table.now in
+    inr (refused_without ms (sym (twice ms _ _ _ c.entries-files.ensures c.entries-launches.ensures c.has_two_names.ensures) ∙ c.if-has_two_names.false)
+    (sym (without ms _ _ _ c.entries-files.ensures c.entries-launches.ensures c.has_no_file.ensures) ∙ c.if-has_no_file.true))
+
+pub returns-in_err-launches : goal.returns-in_err-launches
+returns-in_err-launches c =
+    let ms = table_view c.args.table.now in
+    let single = sym (twice ms _ _ _ c.entries-files.ensures c.entries-launches.ensures c.has_two_names.ensures) ∙ c.if-has_two_names.false in
+    let p = err_from_is_err_and c.from_residual-in_err-launches.result c.from_residual-in_err-launches.ensures.1 in
+    rw (p.1, p.2) (elim c.in_err-launches.ensures [
+      | inl memory ↦ inl memory
+      | inr refused ↦ absurd (none_refused ms _ c.requires single (same (sym c.entries-files.ensures) (sym c.entries-launches.ensures) ∙ refused))
+    ])
+
+pub invariant_of-result : goal.invariant_of-result
+invariant_of-result c =
+    let ms = table_view c.args.table.now in
+    let single = sym (twice ms _ _ _ c.entries-files.ensures c.entries-launches.ensures c.has_two_names.ensures) ∙ c.if-has_two_names.false in
+    let found = sym (without ms _ _ _ c.entries-files.ensures c.entries-launches.ensures c.has_no_file.ensures) ∙ c.if-has_no_file.false in
+    let read = all_read ms _ c.requires single (same (sym c.entries-files.ensures) (sym c.entries-launches.ensures) ∙ c.in_ok-launches.ensures) in
+    let paths = c.in_ok-paths.ensures ∙ map_of_views path_of c.entries-files.result.now _ c.entries-files.ensures in
+    are_numbered (files_at ms) (launches_at ms) (record { paths = map string_bytes c.in_ok-paths.paths.items; launches = c.in_ok-launches.launches.items }) found
+    (ap length paths ∙ length-map (files_at ms) path_of) read
+
+pub returns : goal.returns
+returns c =
+    let ms = table_view c.args.table.now in
+    let single = sym (twice ms _ _ _ c.entries-files.ensures c.entries-launches.ensures c.has_two_names.ensures) ∙ c.if-has_two_names.false in
+    let found = sym (without ms _ _ _ c.entries-files.ensures c.entries-launches.ensures c.has_no_file.ensures) ∙ c.if-has_no_file.false in
+    let read = all_read ms _ c.requires single (same (sym c.entries-files.ensures) (sym c.entries-launches.ensures) ∙ c.in_ok-launches.ensures) in
+    let paths = c.in_ok-paths.ensures ∙ map_of_views path_of c.entries-files.result.now _ c.entries-files.ensures in
+    named ms _ (no_name_fault ms single found) paths read

@@ -1,6 +1,6 @@
 use Rattle.std.proofs.Common.{rules}
 use Rattle.toml.proofs.Views.{view-String}
-use Rattle.rim_manifest.proofs.launch.algorithm.Goals as goal
+use Rattle.rim_manifest.proofs.value.algorithm.Goals as goal
 
 pub returns-in-Some-String : goal.returns-in-Some-String
 returns-in-Some-String c = rw (

@@ -1,0 +1,120 @@
+-- What holds where no fault does.
+use Rattle.std.proofs.Common.{◌≡◌, ℕ, ◌≤◌, List, [], ◌∷◌, ◌++◌, length, Bool, true, false, cond, not, ◌&&◌, ◌||◌, Option, Some, None, refl, sym, codes, true≢false, arith}
+use Rattle.std.specs.Prelude.{nat_lt}
+use Rattle.std.specs.List.{AllByRecursion, flat_map, list_all}
+use Rattle.std.proofs.lemmas.Bool.{ltb-false}
+use Rattle.toml.specs.Data.{Data, array, table, Members, get_member}
+use Rattle.rim_manifest.specs.declared.fault.ManifestFault.{ManifestFault}
+use Rattle.rim_manifest.specs.declared.fault.ManifestFault.TheVariants.{Limit, MissingKey, Range, UnknownKey, Version, WrongKind}
+use Rattle.rim_manifest.specs.declared.form.Form.{Form}
+use Rattle.rim_manifest.specs.declared.form.Form.TheVariants as form
+use Rattle.rim_manifest.specs.declared.form.Presence.{Presence}
+use Rattle.rim_manifest.specs.Faults.{fault_if}
+use Rattle.rim_manifest.specs.Forms.{has_kind, is_over, is_table, is_within, items_in, items_list}
+use Rattle.rim_manifest.specs.Manifest.{files_at, has_version, item_faults, launch_faults, launches_at, manifest_faults}
+use Rattle.rim_manifest.specs.Names.{has_asked}
+use Rattle.rim_manifest.specs.Values.{array_at}
+use Rattle.rim_manifest.specs.Checks.{cell_faults, has_unknown_key, rule_faults, ruled_faults, table_faults, value_faults}
+use Rattle.rim_manifest.specs.Rules.{Rule, file_rules, launch_rules, rec_rules, top_rules}
+
+-- ---- lists of faults that are empty
+
+pub empty_parts : {X : Type 0} (xs ys : List X) → xs ++ ys ≡ [] → (xs ≡ []) × (ys ≡ [])
+empty_parts [] ys e = (refl, e)
+empty_parts (x ∷ xs) ys e = cc
+
+pub each_empty : {X Y : Type 0} (f : X → List Y) (xs : List X) → flat_map f xs ≡ [] → AllByRecursion (λ x. f x ≡ []) xs
+each_empty f [] e = tt
+each_empty f (x ∷ xs) e = let parts = empty_parts (f x) (flat_map f xs) e in (parts.0, each_empty f xs parts.1)
+
+pub not_faulty : (b : Bool) (f : ManifestFault) → fault_if b f ≡ [] → b ≡ false
+not_faulty false f e = refl
+not_faulty true f e = cc
+
+pub both : (a b : Bool) → (a && b) ≡ true → (a ≡ true) × (b ≡ true)
+both true b e = (refl, e)
+both false b e = cc
+
+pub neither : (a b : Bool) → (a || b) ≡ false → (a ≡ false) × (b ≡ false)
+neither true b e = cc
+neither false b e = (refl, e)
+
+pub holds : (b : Bool) → not b ≡ false → b ≡ true
+holds true e = refl
+holds false e = cc
+
+-- ---- the value at a key
+
+pub record IsGood (f : Form) (d : Data) : Type 0 where
+  pub kind : has_kind f d ≡ true
+  pub few : is_over f d ≡ false
+  pub within : is_within f d ≡ true
+
+pub good_value : (f : Form) (d : Data) → cond (has_kind f d) (value_faults f d) (WrongKind ∷ []) ≡ [] → IsGood f d
+good_value f d e = go (has_kind f d) refl e
+  where
+    go : (b : Bool) → has_kind f d ≡ b → cond b (value_faults f d) (WrongKind ∷ []) ≡ [] → IsGood f d
+    go true k h =
+        let parts = empty_parts (fault_if (is_over f d) Limit) _ h in
+        record { kind = k; few = not_faulty (is_over f d) Limit parts.0; within = holds (is_within f d) (not_faulty (not (is_within f d)) Range parts.1) }
+    go false k h = cc
+
+-- an array of tables has no more members than its form allows
+not_over : (most n : ℕ) → nat_lt most n ≡ false → n ≤ most
+not_over most n e = ltb-false most n e
+
+pub few_tables : (key : List ℕ) (p : Presence) (most : ℕ) (o : Option Data) → cell_faults (record { key = key; form = form.Tables most; presence = p }) o ≡ []
+    → length (items_in o) ≤ most
+few_tables key p most None e = omega arith
+few_tables key p most (Some (array ds)) e = not_over most (length (items_list ds)) (good_value (form.Tables most) (array ds) e).few
+few_tables key p most (Some d) e = absurd (true≢false (sym (good_value (form.Tables most) d e).kind))
+
+pub all_tables : (key : List ℕ) (p : Presence) (most : ℕ) (o : Option Data) → cell_faults (record { key = key; form = form.Tables most; presence = p }) o ≡ []
+    → list_all is_table (items_in o) ≡ true
+all_tables key p most None e = refl
+all_tables key p most (Some (array ds)) e = (good_value (form.Tables most) (array ds) e).kind
+all_tables key p most (Some d) e = refl
+
+pub few_regions : (key : List ℕ) (p : Presence) (most : ℕ) (o : Option Data) → cell_faults (record { key = key; form = form.Regions most; presence = p }) o ≡ []
+    → length (items_in o) ≤ most
+few_regions key p most None e = omega arith
+few_regions key p most (Some (array ds)) e = not_over most (length (items_list ds)) (good_value (form.Regions most) (array ds) e).few
+few_regions key p most (Some d) e = absurd (true≢false (sym (good_value (form.Regions most) d e).kind))
+
+-- ---- the tables
+
+-- the values at the keys of a table that has no fault
+pub each_value : (rs : List Rule) (ms : Members) → table_faults rs ms ≡ [] → AllByRecursion (λ r. rule_faults r ms ≡ []) rs
+each_value rs ms e = each_empty (λ r. rule_faults r ms) rs (empty_parts (fault_if (has_unknown_key rs ms) UnknownKey) _ e).1
+
+pub record TopIsGood (ms : Members) : Type 0 where
+  pub top : AllByRecursion (λ r. rule_faults r ms ≡ []) top_rules
+  pub files : flat_map (ruled_faults file_rules) (files_at ms) ≡ []
+  pub launches : flat_map launch_faults (launches_at ms) ≡ []
+
+pub good_top : (ms : Members) → manifest_faults ms ≡ [] → TopIsGood ms
+unfolding manifest_faults
+good_top ms e =
+    let after_version = empty_parts (fault_if (not (has_version (get_member (codes "rim_manifest") ms))) Version) _ e in
+    let after_top = empty_parts (table_faults top_rules ms) _ after_version.1 in
+    let after_files = empty_parts (flat_map (ruled_faults file_rules) (files_at ms)) _ after_top.1 in
+    record { top = each_value top_rules ms after_top.0; files = after_files.0; launches = after_files.1 }
+
+pub record LaunchIsGood (ms : Members) : Type 0 where
+  pub launch : AllByRecursion (λ r. rule_faults r ms ≡ []) launch_rules
+  pub items : flat_map item_faults (array_at (codes "item") (table ms)) ≡ []
+  pub recs : flat_map (ruled_faults rec_rules) (array_at (codes "rec") (table ms)) ≡ []
+  pub asked : has_asked (table ms) ≡ true
+
+pub good_launch : (ms : Members) → launch_faults (table ms) ≡ [] → LaunchIsGood ms
+unfolding launch_faults
+good_launch ms e =
+    let after_table = empty_parts (table_faults launch_rules ms) _ e in
+    let after_items = empty_parts (flat_map item_faults (array_at (codes "item") (table ms))) _ after_table.1 in
+    let after_recs = empty_parts (flat_map (ruled_faults rec_rules) (array_at (codes "rec") (table ms))) _ after_items.1 in
+    record {
+      launch = each_value launch_rules ms after_table.0;
+      items = after_items.0;
+      recs = after_recs.0;
+      asked = holds (has_asked (table ms)) (not_faulty (not (has_asked (table ms))) MissingKey after_recs.1);
+    }

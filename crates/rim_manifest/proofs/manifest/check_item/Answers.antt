@@ -1,0 +1,24 @@
+use Rattle.std.proofs.Common.{◌≡◌, refl, ap, sym, ◌∙◌}
+use Rattle.toml.specs.View.{view}
+use Rattle.rim_launch.specs.declared.item.Role.{Role}
+use Rattle.rim_launch.specs.declared.item.Role.TheVariants.{Kernel, Initrd, Dtb, Raw}
+use Rattle.rim_manifest.specs.Checks.{ruled_faults}
+use Rattle.rim_manifest.specs.Faults.{noted}
+use Rattle.rim_manifest.specs.Manifest.{rules_of}
+use Rattle.rim_manifest.specs.Rules.{item_rules}
+use Rattle.rim_manifest.proofs.manifest.check_item.Goals as goal
+
+other_rules : (r : Role) → (r ≡ Dtb → ⊥) → rules_of r ≡ item_rules
+other_rules Kernel h = refl
+other_rules Initrd h = refl
+other_rules Dtb h = absurd (h refl)
+other_rules Raw h = refl
+
+pub returns-in-Dtb : goal.returns-in-Dtb
+returns-in-Dtb c =
+    c.check_ruled.ensures ∙ ap (λ r. noted c.args.found.now (ruled_faults (rules_of r) (view c.args.item.now))) (sym c.in-Dtb.is ∙ c.role.ensures)
+
+pub returns-in_default : goal.returns-in_default
+returns-in_default c =
+    c.check_ruled-in_default.ensures
+    ∙ ap (λ rs. noted c.args.found.now (ruled_faults rs (view c.args.item.now))) (sym (ap rules_of (sym c.role.ensures) ∙ other_rules c.role.result c.in_default.not-Dtb))

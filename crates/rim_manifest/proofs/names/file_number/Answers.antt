@@ -1,0 +1,7 @@
+use Rattle.toml.specs.View.{view}
+use Rattle.rim_manifest.specs.Names.{is_named}
+use Rattle.rim_manifest.proofs.Lookups.{position-map}
+use Rattle.rim_manifest.proofs.names.file_number.Goals as goal
+
+pub returns : goal.returns
+returns c = rw (← c.text.ensures, position-map (is_named c.text.result.now) view c.args.files.now, ← c.position_of.ensures) c.unwrap_or.ensures

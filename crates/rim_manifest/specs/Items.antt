@@ -1,0 +1,53 @@
+-- What an item's table reads as. This project's choice.
+use Rattle.std.specs.Prelude.{◌<◌, ◌^◌, ℕ, true, false, List, Option, Some, None, codes, if◌then◌else◌, refl, unwrap_or}
+use Rattle.std.proofs.lemmas.Bool.{ltb-true}
+use Rattle.toml.specs.Data.{Data, string, get}
+use Rattle.rim_launch.specs.Texts.{has_no_zero}
+use Rattle.rim_launch.specs.declared.item.Edits.{Edits}
+use Rattle.rim_launch.specs.declared.item.Item.{Item}
+use Rattle.rim_launch.specs.declared.item.Kind.{Kind}
+use Rattle.rim_launch.specs.declared.item.Kind.TheVariants as kind
+use Rattle.rim_launch.specs.declared.item.Role.{Role}
+use Rattle.rim_launch.specs.declared.item.Role.TheVariants.{Kernel, Initrd, Dtb, Raw}
+use Rattle.rim_manifest.specs.Names.{file_at, role_at}
+use Rattle.rim_manifest.specs.Values.{number_in, truth_in}
+use Rattle.rim_manifest.specs.inside.NumberRanges.{most_number, number_low}
+
+-- the command line at a key, if any
+abbrev pub bootargs_in : Option Data → Option (List ℕ)
+bootargs_in (Some (string s)) = if has_no_zero s then Some s else None
+bootargs_in _ = None
+
+abbrev pub edits_of : Data → Edits
+edits_of d = record {
+  bootargs = bootargs_in (get (codes "bootargs") d);
+  initrd = truth_in false (get (codes "initrd") d);
+  memory = truth_in false (get (codes "memory") d);
+}
+
+-- what an item is for, of this file
+abbrev pub kind_of : Role → ℕ → Data → Kind
+kind_of Kernel file d = kind.Kernel file
+kind_of Initrd file d = kind.Initrd file
+kind_of Dtb file d = kind.Dtb file (edits_of d)
+kind_of Raw file d = kind.Raw file
+
+-- the size at a key, if any
+abbrev pub size_in : Option Data → Option ℕ
+size_in (Some d) = Some (number_in 0 most_number 0 (Some d))
+size_in None = None
+
+pub size_within : (o : Option Data) → unwrap_or (size_in o) 0 < 2 ^ 63
+size_within (Some d) = number_low (Some d)
+size_within None = ltb-true _ _ refl
+
+-- the item of a table, where the files are these
+unfoldable pub item_of : List Data → Data → Item
+item_of files d = record {
+  kind = kind_of (role_at d) (file_at files d) d;
+  at = number_in 0 most_number 0 (get (codes "at") d);
+  size = size_in (get (codes "size") d);
+  measured = truth_in true (get (codes "measured") d);
+  low = number_low (get (codes "at") d);
+  size_low = size_within (get (codes "size") d);
+}

@@ -1,0 +1,83 @@
+//! Reading items.
+ghost use Rattle.std.specs.Prelude.{◌≡◌, IfOk, map};
+ghost use Rattle.toml.specs.Data.{get};
+ghost use Rattle.toml.specs.View.{view};
+ghost use Rattle.rim_manifest.specs.Items.{bootargs_in, edits_of, item_of, kind_of, size_in};
+ghost use Rattle.rim_manifest.specs.Names.{file_at, role_at};
+
+use crate::names::{file_number, role};
+use crate::value::{field, number, truth};
+use rim_launch::{Bootargs, Edits, Item, Kind, Role};
+use std::alloc::{AllocError, Global};
+use toml::Value;
+
+/// The largest number.
+const MOST_NUMBER: u64 = 0x7fff_ffff_ffff_ffff;
+
+/// Reads each item from its table, where the files are these.
+pub fn read_items(alloc: Global, files: &[Value], tables: &[Value]) -> Result<Vec<Item>, AllocError>
+    ensures { IfOk result (λ v. v.items ≡ map (λ t. item_of (map view files.now) (view t)) tables.now) }
+{
+    let mut items = Vec::with_capacity(alloc, tables.len())?;
+    for table in tables {
+        items.push(read_item(alloc, files, table)?)?;
+    }
+    Ok(items)
+}
+
+#[tactic(auto, unfolding(crate::specs::Items::item_of))]
+fn read_item(alloc: Global, files: &[Value], table: &Value) -> Result<Item, AllocError>
+    ensures { IfOk result (λ i. i ≡ item_of (map view files.now) (view table.now)) }
+{
+    let kind = read_kind(alloc, file_number(files, table), table)?;
+    Ok(Item {
+        kind,
+        at: number(table, "at", 0, MOST_NUMBER, 0),
+        size: size(table, "size"),
+        measured: truth(table, "measured", true),
+    })
+}
+
+fn read_kind(alloc: Global, file: usize, table: &Value) -> Result<Kind, AllocError>
+    ensures { IfOk result (λ k. k ≡ kind_of (role_at (view table.now)) file (view table.now)) }
+{
+    Ok(match role(table) {
+        Role::Kernel => Kind::Kernel { file },
+        Role::Initrd => Kind::Initrd { file },
+        Role::Dtb => Kind::Dtb {
+            file,
+            edits: read_edits(alloc, table)?,
+        },
+        Role::Raw => Kind::Raw { file },
+    })
+}
+
+fn read_edits(alloc: Global, table: &Value) -> Result<Edits, AllocError>
+    ensures { IfOk result (λ e. e ≡ edits_of (view table.now)) }
+{
+    Ok(Edits {
+        bootargs: bootargs(alloc, table, "bootargs")?,
+        initrd: truth(table, "initrd", false),
+        memory: truth(table, "memory", false),
+    })
+}
+
+/// The command line at a key, if it is given.
+fn bootargs(alloc: Global, table: &Value, key: &str) -> Result<Option<Bootargs>, AllocError>
+    ensures { IfOk result (λ b. b ≡ bootargs_in (get key.now (view table.now))) }
+{
+    match field(table, key) {
+        Some(Value::String(text)) => { Ok(Bootargs::new(String::from_str(alloc, text.as_str())?)) }
+        _ => Ok(None),
+    }
+}
+
+/// The size at a key, if it is given.
+fn size(table: &Value, key: &str) -> Option<u64>
+    ensures { result ≡ size_in (get key.now (view table.now)) }
+{
+    match field(table, key) {
+        Some(_) => Some(number(table, key, 0, MOST_NUMBER, 0)),
+        None => None,
+    }
+}
