@@ -347,7 +347,8 @@ unfolding name_faults
 faultless ms e named =
     let good = good_top ms e in
     let files = all_tables (codes "file") Optional 64 (get_member (codes "file") ms) good.top.1.1.0 in
-    let found = not_faulty (has_no_file ms) NoSuchFile (empty_parts (fault_if (has_two_names ms) TwoNames) _ named).1 in (
+    let after_names = (empty_parts (fault_if (has_two_names ms) TwoNames) _ named).1 in
+    let found = not_faulty (has_no_file ms) NoSuchFile (empty_parts (fault_if (has_no_file ms) NoSuchFile) _ after_names).0 in (
       tables_given GivesPath path_of (ruled_faults file_rules) path_given (files_at ms) files good.files,
       launches_given (files_at ms) files good.files 0 (launches_at ms) (all_tables (codes "launch") Optional 1024 (get_member (codes "launch") ms) good.top.1.0) good.launches found,
     )
