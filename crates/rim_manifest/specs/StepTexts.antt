@@ -40,7 +40,7 @@ step_of items text =
 abbrev pub step_in : List Data → Data → Step
 step_in items d = unwrap_or (step_of items (text_in (Some d))) (step.Ram 64)
 
--- the steps of a launch, of which the number of regions, the tables of the items, the items and the number of RECs are given
+-- the steps of a launch of n regions, these items and m RECs, where the tables of its items are these
 abbrev pub steps_in : ℕ → List Data → List Item → ℕ → Option Data → List Step
 steps_in regions tables items recs None = default_steps regions items recs
 steps_in regions tables items recs (Some d) = map (step_in tables) (items_of d)
@@ -50,7 +50,7 @@ steps_in regions tables items recs (Some d) = map (step_in tables) (items_of d)
 abbrev pub part_count : Data → ℕ
 part_count d = length (array_at (codes "ram") d) + length (array_at (codes "item") d) + length (array_at (codes "rec") d)
 
--- there are other than as many steps as regions, items and RECs
+-- the steps are not as many as the regions, items and RECs together; such steps never fit, and are not read
 abbrev pub miscounts : Data → Option Data → Bool
 miscounts d None = false
 miscounts d (Some s) = not (length (items_of s) == part_count d)

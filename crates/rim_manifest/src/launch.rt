@@ -48,8 +48,8 @@ impl NamedLaunch {
     }
 }
 
-/// Reads the launch of this number from a table without faults, where the files are these. A launch that its type does not have is
-/// `BadStep`.
+/// Reads the launch of this number from a table without faults, where the files are these. A launch that its
+/// type does not have is `BadStep`.
 pub fn read_launch(
     alloc: Global,
     files: &[Value],

@@ -21,8 +21,8 @@ const MOST_DIGITS: usize = 4;
 /// A region that no launch has.
 const NO_REGION: usize = 64;
 
-/// Reads the steps of a launch that has these regions, items and RECs. A text that spells no step reads as the step of
-/// a region that no launch has.
+/// Reads the steps of a launch that has these regions, items and RECs. A text that spells no step reads as the
+/// step of a region that no launch has.
 pub fn read_steps(
     alloc: Global,
     launch: &Value,
