@@ -1,14 +1,15 @@
 -- What a manifest is read as, step by step.
-use Rattle.std.proofs.Common.{◌≡◌, ℕ, Bool, cond, true, false, List, [], Option, Some, None, Ok, Err, refl, ap, sym}
+use Rattle.std.proofs.Common.{◌≡◌, ℕ, Bool, cond, true, false, List, [], ◌++◌, Option, Some, None, Ok, Err, refl, ap, sym, ◌∙◌}
 use Rattle.std.proofs.lemmas.Str.{IsUtf8-from_is_utf8, is_utf8-from_IsUtf8}
 use Rattle.std.specs.Str.{IsUtf8, is_utf8}
 use Rattle.toml.specs.Data.{Members}
 use Rattle.toml.specs.Parse.{parse_document}
 use Rattle.rim_manifest.specs.declared.fault.ManifestFault.{ManifestFault}
-use Rattle.rim_manifest.specs.declared.fault.ManifestFault.TheVariants.{NoSuchFile, Syntax, TwoNames}
-use Rattle.rim_manifest.specs.Faults.{lower, lowest}
+use Rattle.rim_manifest.specs.declared.fault.ManifestFault.TheVariants.{BadStep, NoSuchFile, Syntax, TwoNames}
+use Rattle.rim_manifest.specs.Faults.{fault_if, lower, lowest}
 use Rattle.rim_manifest.specs.Launches.{ReleaseData}
-use Rattle.rim_manifest.specs.Manifest.{document_of, fault_or_named, has_no_file, has_two_names, launches_of, manifest_faults, manifest_of, name_faults, named_of, paths_of}
+use Rattle.rim_manifest.specs.StepTexts.{has_bad_steps}
+use Rattle.rim_manifest.specs.Manifest.{document_of, fault_or_named, fault_or_release, has_no_file, has_two_names, launches_at, launches_of, manifest_faults, manifest_of, name_faults, named_of, paths_of}
 
 pub document_read : (b : List ℕ) (ms : Members) → IsUtf8 b → parse_document b ≡ Some ms → document_of b ≡ Some ms
 unfolding document_of
@@ -27,23 +28,44 @@ refused b d = rw d
 pub answered : (b : List ℕ) (ms : Members) (o : Option ManifestFault) → document_of b ≡ Some ms → o ≡ lowest (manifest_faults ms) → fault_or_named ms o ≡ manifest_of b
 answered b ms o d e = rw (d, ← e)
 
--- ---- the faults of names, one after another
+-- ---- the faults of names and of steps, one after another
+
+first_of : (a b c : Bool) → List ManifestFault
+first_of a b c = fault_if a TwoNames ++ (fault_if b NoSuchFile ++ fault_if c BadStep)
+
+-- the first of the three that holds
+lowest_two : (b c : Bool) → lowest (first_of true b c) ≡ Some TwoNames
+unfolding lower first_of
+lowest_two true true = refl
+lowest_two true false = refl
+lowest_two false true = refl
+lowest_two false false = refl
+
+lowest_file : (c : Bool) → lowest (first_of false true c) ≡ Some NoSuchFile
+unfolding lower first_of
+lowest_file true = refl
+lowest_file false = refl
 
 pub refused_twice : (ms : Members) → has_two_names ms ≡ true → named_of ms ≡ Err TwoNames
-unfolding name_faults lower
-refused_twice ms two = go (has_no_file ms) refl
-  where
-    go : (b : Bool) → has_no_file ms ≡ b → named_of ms ≡ Err TwoNames
-    go true e = rw (two, e)
-    go false e = rw (two, e)
+unfolding name_faults first_of
+refused_twice ms two =
+    ap (fault_or_release ms) (ap (λ a. lowest (first_of a (has_no_file ms) (has_bad_steps (launches_at ms)))) two ∙ lowest_two (has_no_file ms) (has_bad_steps (launches_at ms)))
 
 pub refused_without : (ms : Members) → has_two_names ms ≡ false → has_no_file ms ≡ true → named_of ms ≡ Err NoSuchFile
-unfolding name_faults lower
-refused_without ms one no_file = rw (one, no_file)
+unfolding name_faults first_of
+refused_without ms one no_file =
+    ap (fault_or_release ms) (ap (λ a. lowest (first_of a (has_no_file ms) (has_bad_steps (launches_at ms)))) one
+    ∙ ap (λ b. lowest (first_of false b (has_bad_steps (launches_at ms)))) no_file ∙ lowest_file (has_bad_steps (launches_at ms)))
 
-pub no_name_fault : (ms : Members) → has_two_names ms ≡ false → has_no_file ms ≡ false → name_faults ms ≡ []
+pub refused_steps : (ms : Members) → has_two_names ms ≡ false → has_no_file ms ≡ false → has_bad_steps (launches_at ms) ≡ true → named_of ms ≡ Err BadStep
+unfolding name_faults first_of lower
+refused_steps ms one each bad =
+    ap (fault_or_release ms) (ap (λ a. lowest (first_of a (has_no_file ms) (has_bad_steps (launches_at ms)))) one
+    ∙ ap (λ b. lowest (first_of false b (has_bad_steps (launches_at ms)))) each ∙ ap (λ c. lowest (first_of false false c)) bad)
+
+pub no_name_fault : (ms : Members) → has_two_names ms ≡ false → has_no_file ms ≡ false → has_bad_steps (launches_at ms) ≡ false → name_faults ms ≡ []
 unfolding name_faults
-no_name_fault ms one each = rw (one, each)
+no_name_fault ms one each good = rw (one, each, good) refl
 
 pub named : (ms : Members) (r : ReleaseData) → name_faults ms ≡ [] → r.paths ≡ paths_of ms → r.launches ≡ launches_of ms → named_of ms ≡ Ok r
 named ms r none paths launches = rw none (ap Ok (sym (λ i. record { paths = paths i; launches = launches i })))

@@ -1,5 +1,5 @@
 -- What is read of a manifest without faults is what the manifest gives.
-use Rattle.std.proofs.Common.{◌≡◌, IsOk, ℕ, zero, suc, ◌+◌, List, [], ◌∷◌, ◌++◌, length, take, drop, map, Bool, true, false, cond, not, ◌&&◌, ◌||◌, Option, Some, None, Result, Ok, Err, pos, negsuc, refl, ap, sym, subst, ◌∙◌, codes, true≢false}
+use Rattle.std.proofs.Common.{◌≡◌, ◌≤◌, IsOk, ℕ, zero, suc, ◌+◌, List, [], ◌∷◌, ◌++◌, length, take, drop, map, Bool, true, false, cond, not, ◌&&◌, ◌||◌, Option, Some, None, Result, Ok, Err, pos, negsuc, refl, ap, sym, subst, ◌∙◌, codes, true≢false}
 use Rattle.std.specs.Prelude.{nat_le, ◌==◌, is_some, position, slice_get, unwrap_or}
 use Rattle.std.specs.List.{AllByRecursion, flat_map, list_all, list_any}
 use Rattle.std.specs.Result.{result_unwrap_or}
@@ -16,26 +16,30 @@ use Rattle.toml.specs.Data.{Data, string, integer, boolean, array, table, Items,
 use Rattle.rim_desc.specs.Page.{zeros}
 use Rattle.rim_desc.specs.declared.measurement.Algo.TheVariants.{Sha256, Sha512}
 use Rattle.rim_manifest.specs.declared.fault.ManifestFault.{ManifestFault}
-use Rattle.rim_manifest.specs.declared.fault.ManifestFault.TheVariants.{NoSuchFile, TwoNames}
+use Rattle.rim_manifest.specs.declared.fault.ManifestFault.TheVariants.{BadStep, NoSuchFile, TwoNames}
 use Rattle.rim_manifest.specs.declared.form.Form.TheVariants as form
 use Rattle.rim_manifest.specs.declared.form.Presence.{Presence}
 use Rattle.rim_manifest.specs.declared.form.Presence.TheVariants.{Required, Optional}
 use Rattle.rim_manifest.specs.Faults.{fault_if, lowest}
 use Rattle.rim_manifest.specs.Forms.{is_pool_base, is_range, is_range_pair, is_table, items_in, items_list}
-use Rattle.rim_manifest.specs.Given.{EachGives, FillsWord, GivesBootargs, GivesBytes, GivesFile, GivesItem, GivesKind, GivesNumber, GivesPath, GivesRec, GivesRegion, GivesSize, GivesTruth, GivesWord, GivesWords, IsGiven, SpellsWord, algorithm_text, role_text}
-use Rattle.rim_manifest.specs.Launches.{ReleaseData, config_of, launch_of, launches_from, rec_of, region_in, region_of}
+use Rattle.rim_manifest.specs.Given.{EachGives, FillsWord, GivesBootargs, GivesBytes, GivesFile, GivesItem, GivesKind, GivesNumber, GivesPath, GivesRec, GivesRegion, GivesSize, GivesSteps, GivesTruth, GivesWord, GivesWords, IsGiven, SpellsWord, algorithm_text, role_text}
+use Rattle.rim_manifest.specs.Launches.{ReleaseData, config_of, items_of, ram_of, recs_of, launch_of, launches_from, rec_of, region_in, region_of}
 use Rattle.rim_manifest.specs.Values.{algorithm_in, array_at, base_in, digits_in, number_in, text_in, truth_in, whole_in, word_at, word_in, words_in}
 use Rattle.rim_manifest.specs.Words.{are_digits, hex_number, is_word, word_of}
 use Rattle.rim_manifest.specs.Manifest.{fault_or_named, fault_or_release, files_at, has_no_file, has_two_names, item_faults, launch_faults, launches_at, manifest_faults, name_faults, path_of, read_of, release_of, rules_of}
 use Rattle.rim_manifest.specs.Checks.{cell_faults, rule_faults, ruled_faults, table_faults}
 use Rattle.rim_launch.specs.Kinds.{file_of}
+use Rattle.rim_launch.specs.Steps.{each_once, names_something, steps_complete}
+use Rattle.rim_launch.specs.declared.conditions.Part.TheVariants as part
+use Rattle.rim_manifest.specs.StepTexts.{has_bad_steps, is_miscounted, is_misnamed, misnames, step_in, steps_in}
+use Rattle.rim_manifest.proofs.Steps.{texts_given}
 use Rattle.rim_launch.specs.Texts.{has_no_zero}
 use Rattle.rim_launch.specs.declared.item.Role.{Role}
 use Rattle.rim_launch.specs.declared.item.Role.TheVariants.{Kernel, Initrd, Dtb, Raw}
 use Rattle.rim_manifest.specs.Items.{bootargs_in, item_of, kind_of, size_in}
 use Rattle.rim_manifest.specs.Names.{file_at, has_file, is_named, lacks_file, name_of, role_at, role_of_word}
 use Rattle.rim_manifest.specs.Rules.{dtb_rules, file_rules, item_rules, rec_rules}
-use Rattle.rim_manifest.proofs.Faultless.{all_tables, both, each_value, empty_parts, good_launch, good_top, good_value, holds, neither, not_faulty}
+use Rattle.rim_manifest.proofs.Faultless.{all_tables, both, each_value, empty_parts, few_regions, good_launch, good_top, good_value, holds, neither, not_faulty}
 use Rattle.rim_manifest.proofs.Lookups.{file_of-kind, found_there, role_of-kind}
 use Rattle.rim_manifest.proofs.Lowest.{none_noted}
 use Rattle.rim_manifest.proofs.Regions.{reads_as}
@@ -234,6 +238,10 @@ any_text_there key None e = cc
 any_text_there key (Some (string s)) e = refl
 any_text_there key (Some d) e = absurd (true≢false (sym (good_value form.AnyText d e).kind))
 
+first_of_four : (a b c d : Bool) → (a && b && c && d) ≡ true → a ≡ true
+first_of_four true b c d e = refl
+first_of_four false b c d e = cc
+
 -- the files, each without faults
 module _ (files : List Data) (tables : list_all is_table files ≡ true) (good : flat_map (ruled_faults file_rules) files ≡ []) where
   at_place : (fs : List Data) (n : ℕ) (f : Data) → list_all is_table fs ≡ true → flat_map (ruled_faults file_rules) fs ≡ [] → slice_get fs n ≡ Some f
@@ -299,11 +307,26 @@ module _ (files : List Data) (tables : list_all is_table files ≡ true) (good :
       let found = neither (not (has_file files d)) (list_any (λ i. not (has_file files i)) ds) there in
       (item_given d shapes.0 parts.0 (holds (has_file files d) found.0), items_given ds shapes.1 parts.1 found.1)
 
+  -- the steps, given or not
+  steps_given : (d : Data) (n : ℕ) (key : List ℕ) (p : Presence) (o : Option Data) → length (array_at (codes "ram") d) ≤ 64
+      → cell_faults (record { key = key; form = form.Texts; presence = p }) o ≡ [] → misnames d o ≡ false
+      → GivesSteps (array_at (codes "item") d) o (record (launch_of files n d).launch { steps = steps_in (length (ram_of d)) (array_at (codes "item") d) (items_of files d) (length (recs_of d)) o })
+  steps_given d n key p None few e fits = refl
+  steps_given d n key p (Some (array ds)) few e fits =
+      let items = array_at (codes "item") d in
+      let regions = length (array_at (codes "ram") d) in
+      let recs = length (array_at (codes "rec") d) in
+      let steps = map (step_in items) (items_list ds) in
+      let named = first_of_four (list_all (names_something regions (length items) recs) steps) (each_once part.Ram steps regions) (each_once part.Item steps (length items)) (each_once part.Rec steps recs)
+      (holds (steps_complete regions (length items) recs steps) fits) in
+      texts_given items regions (length items) recs (items_list ds) few (good_value form.Texts (array ds) e).kind named
+  steps_given d n key p (Some d') few e fits = absurd (true≢false (sym (good_value form.Texts d' e).kind))
+
   -- ---- launches
 
-  launch_given : (n : ℕ) (d : Data) → is_table d ≡ true → launch_faults d ≡ [] → lacks_file files d ≡ false → IsGiven files d (launch_of files n d)
+  launch_given : (n : ℕ) (d : Data) → is_table d ≡ true → launch_faults d ≡ [] → lacks_file files d ≡ false → is_misnamed d ≡ false → IsGiven files d (launch_of files n d)
   unfolding config_of
-  launch_given n (table ms) t e found =
+  launch_given n (table ms) t e found fits =
       let whole = good_launch ms e in
       let each = whole.launch in
       let rest = each.1.1.1.1.1.1.1.1.1.1.1.1 in
@@ -325,17 +348,19 @@ module _ (files : List Data) (tables : list_all is_table files ≡ true) (good :
         ram = regions_given (codes "ram") Optional 64 _ rest.1.1.0;
         items = items_given (array_at (codes "item") (table ms)) (all_tables (codes "item") Optional 64 (get_member (codes "item") ms) rest.1.1.1.0) whole.items found;
         recs = tables_given GivesRec rec_of (ruled_faults rec_rules) rec_given (array_at (codes "rec") (table ms)) (all_tables (codes "rec") Optional 1024 (get_member (codes "rec") ms) rest.1.1.1.1.0) whole.recs;
+        steps = steps_given (table ms) n (codes "steps") Optional (get_member (codes "steps") ms) (few_regions (codes "ram") Optional 64 _ rest.1.1.0) rest.1.1.1.1.1.0 fits;
       }
-  launch_given n _ t e found = cc
+  launch_given n _ t e found fits = cc
 
-  launches_given : (n : ℕ) (ds : List Data) → list_all is_table ds ≡ true → flat_map launch_faults ds ≡ [] → list_any (lacks_file files) ds ≡ false
+  launches_given : (n : ℕ) (ds : List Data) → list_all is_table ds ≡ true → flat_map launch_faults ds ≡ [] → list_any (lacks_file files) ds ≡ false → list_any is_misnamed ds ≡ false
       → EachGives (IsGiven files) ds (launches_from files n ds)
-  launches_given n [] t e found = tt
-  launches_given n (d ∷ ds) t e found =
+  launches_given n [] t e found fits = tt
+  launches_given n (d ∷ ds) t e found fits =
       let shapes = both (is_table d) (list_all is_table ds) t in
       let parts = empty_parts (launch_faults d) (flat_map launch_faults ds) e in
       let each = neither (lacks_file files d) (list_any (lacks_file files) ds) found in
-      (launch_given n d shapes.0 parts.0 each.0, launches_given (n + 1) ds shapes.1 parts.1 each.1)
+      let steps = neither (is_misnamed d) (list_any is_misnamed ds) fits in
+      (launch_given n d shapes.0 parts.0 each.0 steps.0, launches_given (n + 1) ds shapes.1 parts.1 each.1 steps.1)
 
 -- ---- the document
 
@@ -347,9 +372,12 @@ unfolding name_faults
 faultless ms e named =
     let good = good_top ms e in
     let files = all_tables (codes "file") Optional 64 (get_member (codes "file") ms) good.top.1.1.0 in
-    let found = not_faulty (has_no_file ms) NoSuchFile (empty_parts (fault_if (has_two_names ms) TwoNames) _ named).1 in (
+    let after_names = (empty_parts (fault_if (has_two_names ms) TwoNames) _ named).1 in
+    let found = not_faulty (has_no_file ms) NoSuchFile (empty_parts (fault_if (has_no_file ms) NoSuchFile) _ after_names).0 in
+    let steps = not_faulty (has_bad_steps (launches_at ms)) BadStep (empty_parts (fault_if (has_no_file ms) NoSuchFile) _ after_names).1 in
+    let fits = (neither (list_any is_miscounted (launches_at ms)) (list_any is_misnamed (launches_at ms)) steps).1 in (
       tables_given GivesPath path_of (ruled_faults file_rules) path_given (files_at ms) files good.files,
-      launches_given (files_at ms) files good.files 0 (launches_at ms) (all_tables (codes "launch") Optional 1024 (get_member (codes "launch") ms) good.top.1.0) good.launches found,
+      launches_given (files_at ms) files good.files 0 (launches_at ms) (all_tables (codes "launch") Optional 1024 (get_member (codes "launch") ms) good.top.1.0) good.launches found fits,
     )
 
 pub accepted_as_given : (ms : Members) (r : ReleaseData) → read_of ms ≡ Ok r → AllGiven ms r

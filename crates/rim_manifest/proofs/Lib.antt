@@ -7,6 +7,7 @@ pub mod Trees
 pub mod Lookups
 pub mod SameItem
 pub mod Made
+pub mod Steps
 pub mod Given
 pub mod Digits
 pub mod Regions

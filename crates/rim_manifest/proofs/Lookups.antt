@@ -1,8 +1,8 @@
 -- What is found among tables, and the items that their tables read as.
-use Rattle.std.proofs.Common.{◌≡◌, ℕ, suc, ◌+◌, ◌<◌, List, [], ◌∷◌, length, map, Bool, true, false, cond, not, ◌&&◌, ◌||◌, Some, refl, ap, ◌∙◌, arith}
-use Rattle.std.specs.Prelude.{slice_get, count_by, position, unwrap_or}
+use Rattle.std.proofs.Common.{◌≡◌, ℕ, suc, ◌+◌, ◌<◌, List, [], ◌∷◌, length, map, Bool, true, false, cond, not, ◌&&◌, ◌||◌, Some, None, refl, ap, sym, ◌∙◌, arith}
+use Rattle.std.specs.Prelude.{count_by, nat_lt, position, slice_get, unwrap_or}
 use Rattle.std.specs.List.{list_any, position_or_len}
-use Rattle.std.proofs.lemmas.Bool.{lt-ltb}
+use Rattle.std.proofs.lemmas.Bool.{lt-ltb, ltb-true}
 use Rattle.std.proofs.lemmas.List.{length-map}
 use Rattle.std.proofs.lemmas.List.Sums.{sum_by-append}
 use Rattle.toml.specs.Data.{Data}
@@ -30,20 +30,32 @@ place_below p (x ∷ xs) e = below_more (p x) (position_or_len p xs) (length xs)
 pub found_below : {X : Type 0} (p : X → Bool) (xs : List X) → list_any p xs ≡ true → unwrap_or (position p xs) 0 < length xs
 found_below p xs e = let below = place_below p xs e in rw (lt-ltb _ _ below) below
 
-first_more : {X : Type 0} (p : X → Bool) (x : X) (xs : List X) (n : ℕ) (b any : Bool) → p x ≡ b → (any ≡ true → (y : X) × (slice_get xs n ≡ Some y) × (p y ≡ true)) → (b || any) ≡ true
+place_more : {X : Type 0} (p : X → Bool) (x : X) (xs : List X) (n m : ℕ) (b : Bool) → p x ≡ b → (n < m → (y : X) × (slice_get xs n ≡ Some y) × (p y ≡ true)) → cond (not b) (1 + n) 0 < suc m
     → (y : X) × (slice_get (x ∷ xs) (cond (not b) (1 + n) 0) ≡ Some y) × (p y ≡ true)
-first_more p x xs n true any h rest e = (x, refl, h)
-first_more p x xs n false any h rest e =
-    let found = rest e in
+place_more p x xs n m true h rest below = (x, refl, h)
+place_more p x xs n m false h rest below =
+    let found = rest (omega (arith, below)) in
     let next : 1 + n ≡ suc n = omega arith in
     (found.0, ap (slice_get (x ∷ xs)) next ∙ found.1, found.2)
 
-first_found : {X : Type 0} (p : X → Bool) (xs : List X) → list_any p xs ≡ true → (y : X) × (slice_get xs (position_or_len p xs) ≡ Some y) × (p y ≡ true)
-first_found p [] e = cc
-first_found p (x ∷ xs) e = first_more p x xs (position_or_len p xs) (p x) (list_any p xs) refl (first_found p xs) e
+-- what is at the first place that passes
+first_found : {X : Type 0} (p : X → Bool) (xs : List X) → position_or_len p xs < length xs → (y : X) × (slice_get xs (position_or_len p xs) ≡ Some y) × (p y ≡ true)
+first_found p [] below = absurd (omega (arith, below))
+first_found p (x ∷ xs) below = place_more p x xs (position_or_len p xs) (length xs) (p x) refl (first_found p xs) below
 
 pub found_there : {X : Type 0} (p : X → Bool) (xs : List X) → list_any p xs ≡ true → (y : X) × (slice_get xs (unwrap_or (position p xs) 0) ≡ Some y) × (p y ≡ true)
-found_there p xs e = let below = place_below p xs e in rw (lt-ltb _ _ below) (first_found p xs e)
+found_there p xs e = let below = place_below p xs e in rw (lt-ltb _ _ below) (first_found p xs below)
+
+at_position : {X : Type 0} (p : X → Bool) (xs : List X) (n : ℕ) (b : Bool) → nat_lt (position_or_len p xs) (length xs) ≡ b → cond b (Some (position_or_len p xs)) None ≡ Some n
+    → (y : X) × (slice_get xs n ≡ Some y) × (p y ≡ true)
+at_position p xs n true below e =
+    let found = first_found p xs (ltb-true _ _ below) in
+    let same : position_or_len p xs ≡ n = cc in
+    (found.0, ap (slice_get xs) (sym same) ∙ found.1, found.2)
+at_position p xs n false below e = cc
+
+pub found_at : {X : Type 0} (p : X → Bool) (xs : List X) (n : ℕ) → position p xs ≡ Some n → (y : X) × (slice_get xs n ≡ Some y) × (p y ≡ true)
+found_at p xs n e = at_position p xs n (nat_lt (position_or_len p xs) (length xs)) refl e
 
 -- ---- items
 

@@ -6,13 +6,14 @@ use Rattle.std.proofs.lemmas.Bool.{leb-false, leb-true}
 use Rattle.std.proofs.lemmas.List.Elements.{All-from_recursion, Contains-append_left, Contains-append_right}
 use Rattle.toml.specs.Data.{Data, Members, table, get_member}
 use Rattle.rim_manifest.specs.declared.fault.ManifestFault.{ManifestFault}
-use Rattle.rim_manifest.specs.declared.fault.ManifestFault.TheVariants.{Version, WrongKind, UnknownKey, MissingKey, Limit, Range, TwoNames, NoSuchFile}
+use Rattle.rim_manifest.specs.declared.fault.ManifestFault.TheVariants.{Version, WrongKind, UnknownKey, MissingKey, Limit, Range, TwoNames, NoSuchFile, BadStep}
 use Rattle.rim_manifest.specs.Faults.{IsLowest, fault_if, lower, lowest, noted, rank_of}
 use Rattle.rim_manifest.specs.Forms.{has_kind, is_over, is_required, is_within}
 use Rattle.rim_manifest.specs.Rules.{Rule, file_rules, launch_rules, rec_rules, top_rules}
 use Rattle.rim_manifest.specs.Checks.{cell_faults, has_unknown_key, rule_faults, ruled_faults, table_faults}
 use Rattle.rim_manifest.specs.Manifest.{all_faults, fault_or_named, fault_or_release, files_at, has_no_file, has_two_names, has_version, item_faults, launch_faults, launches_at, manifest_faults, name_faults, read_of, rules_of}
 use Rattle.rim_manifest.specs.Names.{has_asked, role_at}
+use Rattle.rim_manifest.specs.StepTexts.{has_bad_steps}
 use Rattle.rim_manifest.specs.Values.{array_at}
 
 -- f does not come after what was found so far
@@ -160,7 +161,8 @@ early_of f (g ∷ gs) p (suc k) h e = early_of f gs p.1 k (omega arith) e
 late_names : (ms : Members) (f : ManifestFault) → rank_of f ≤ 7 → NotBehind f (name_faults ms)
 unfolding name_faults
 late_names ms f low =
-    behind_append f _ _ (behind_if f (has_two_names ms) TwoNames low) (behind_if f (has_no_file ms) NoSuchFile (omega (arith, low)))
+    behind_append f _ _ (behind_if f (has_two_names ms) TwoNames low)
+    (behind_append f _ _ (behind_if f (has_no_file ms) NoSuchFile (omega (arith, low))) (behind_if f (has_bad_steps (launches_at ms)) BadStep (omega (arith, low))))
 
 -- the fault that a document is refused with is the lowest of all that hold: one of a table, or else one of names
 by_tables : (ms : Members) (f : ManifestFault) → lowest (manifest_faults ms) ≡ Some f → IsLowest f (all_faults ms)

@@ -45,6 +45,9 @@ is_table d = is_some (as_table d)
 abbrev pub is_integer : Data → Bool
 is_integer d = is_some (as_integer d)
 
+abbrev pub is_text : Data → Bool
+is_text d = is_some (as_str d)
+
 -- a number or a text
 abbrev pub is_word_kind : Data → Bool
 is_word_kind d = is_integer d || is_some (as_str d)
@@ -98,14 +101,13 @@ has_kind form.Text d = is_some (as_str d)
 has_kind form.AnyText d = is_some (as_str d)
 has_kind form.ItemKind d = is_some (as_str d)
 has_kind form.Bootargs d = is_some (as_str d)
-has_kind form.Later d = true
+has_kind form.Texts d = option_map_or (λ ds. list_all is_text (items_list ds)) (as_array d) false
 
 -- whether a value has more parts than its form allows
 abbrev pub is_over : Form → Data → Bool
 is_over (form.Tables most) (array ds) = nat_lt most (length (items_list ds))
 is_over (form.Regions most) (array ds) = nat_lt most (length (items_list ds))
 is_over (form.Words most) (array ds) = nat_lt most (length (items_list ds))
-is_over form.Later d = true
 is_over _ _ = false
 
 -- whether a value that is of a form's kind is in the form's range

@@ -8,6 +8,13 @@ use Rattle.rim_desc.specs.Page.{zeros}
 use Rattle.rim_desc.specs.declared.measurement.Algo.{Algo}
 use Rattle.rim_desc.specs.declared.measurement.Algo.TheVariants.{Sha256, Sha512}
 use Rattle.rim_launch.specs.Kinds.{file_of, role_of}
+use Rattle.rim_launch.specs.LaunchData.{LaunchData}
+use Rattle.rim_launch.specs.Steps.{default_steps}
+use Rattle.rim_launch.specs.declared.step.Step.{Step}
+use Rattle.rim_launch.specs.declared.step.Step.TheVariants as step
+use Rattle.rim_manifest.specs.Forms.{items_of}
+use Rattle.rim_manifest.specs.Names.{name_of}
+use Rattle.rim_manifest.specs.StepTexts.{is_decimal}
 use Rattle.rim_launch.specs.declared.item.Edits.{Edits}
 use Rattle.rim_launch.specs.declared.item.Item.{Item}
 use Rattle.rim_launch.specs.declared.item.Kind.{Kind}
@@ -129,6 +136,27 @@ pub record GivesItem (files : List Data) (d : Data) (i : Item) : Type 0 where
   pub size : GivesSize (get (codes "size") d) i.size
   pub measured : GivesTruth true (get (codes "measured") d) i.measured
 
+-- ---- steps
+
+-- a word, a space and the decimal digits of a number, without a leading zero
+abbrev pub SpellsNumber : List ℕ → List ℕ → ℕ → Type 0
+SpellsNumber word text n = (digits : List ℕ) × (text ≡ word ++ digits) × (is_decimal digits ≡ true) × (digits_value 10 digits ≡ n)
+
+-- the text names the region, the item or the REC of the step, where the tables of the items are these
+abbrev pub SpellsStep : List Data → List ℕ → Step → Type 0
+SpellsStep items text (step.Ram n) = SpellsNumber (codes "ram ") text n
+SpellsStep items text (step.Item n) = (item : Data) × (slice_get items n ≡ Some item) × (text ≡ codes "item " ++ name_of item)
+SpellsStep items text (step.Rec n) = SpellsNumber (codes "rec ") text n
+
+abbrev pub GivesStep : List Data → Data → Step → Type 0
+GivesStep items (string text) s = SpellsStep items text s
+GivesStep items _ s = ⊥
+
+-- the steps that are given, or the default ones
+abbrev pub GivesSteps : List Data → Option Data → LaunchData → Type 0
+GivesSteps items None l = l.steps ≡ default_steps (length l.ram) l.items (length l.recs)
+GivesSteps items (Some d) l = EachGives (GivesStep items) (items_of d) l.steps
+
 -- ---- launches
 
 -- the launch has what its table gives
@@ -150,3 +178,4 @@ pub record IsGiven (files : List Data) (d : Data) (l : NamedData) : Type 0 where
   pub ram : EachGives GivesRegion (array_at (codes "ram") d) l.launch.ram
   pub items : EachGives (GivesItem files) (array_at (codes "item") d) l.launch.items
   pub recs : EachGives GivesRec (array_at (codes "rec") d) l.launch.recs
+  pub steps : GivesSteps (array_at (codes "item") d) (get (codes "steps") d) l.launch

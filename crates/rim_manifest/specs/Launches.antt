@@ -3,13 +3,13 @@ use Rattle.std.specs.Prelude.{◌≡◌, ℕ, true, false, List, length, map, So
 use Rattle.std.specs.List.{enumerate_from}
 use Rattle.toml.specs.Data.{Data, at, get}
 use Rattle.rim_launch.specs.LaunchData.{LaunchData, has_files}
-use Rattle.rim_launch.specs.Steps.{default_steps}
 use Rattle.rim_launch.specs.declared.config.Config.{Config}
 use Rattle.rim_launch.specs.declared.item.Item.{Item}
 use Rattle.rim_launch.specs.declared.item.Region.{Region}
 use Rattle.rim_launch.specs.declared.rec.Rec.{Rec}
 use Rattle.rim_manifest.specs.Forms.{is_region}
 use Rattle.rim_manifest.specs.Items.{item_of}
+use Rattle.rim_manifest.specs.StepTexts.{steps_in}
 use Rattle.rim_manifest.specs.Values.{algorithm_in, array_at, base_in, digits_in, number_in, text_in, truth_in, whole_in, word_in, words_in}
 use Rattle.rim_manifest.specs.inside.NumberRanges.{base_aligned, base_low, number_from, number_to, number_within, region_if}
 
@@ -85,7 +85,7 @@ launch_of files number d = record {
     ram = ram_of d;
     items = items_of files d;
     recs = recs_of d;
-    steps = default_steps (length (ram_of d)) (items_of files d) (length (recs_of d));
+    steps = steps_in (length (ram_of d)) (array_at (codes "item") d) (items_of files d) (length (recs_of d)) (get (codes "steps") d);
   };
 }
 

@@ -7,6 +7,7 @@ pub mod Values
 pub mod Names
 pub mod inside
 pub mod Items
+pub mod StepTexts
 pub mod Launches
 pub mod Manifest
 pub mod Given

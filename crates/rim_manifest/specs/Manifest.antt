@@ -14,6 +14,7 @@ use Rattle.rim_manifest.specs.Faults.{fault_if, lowest}
 use Rattle.rim_manifest.specs.Forms.{items_in}
 use Rattle.rim_manifest.specs.Names.{has_asked, lacks_file, repeats, role_at, share_names}
 use Rattle.rim_manifest.specs.Rules.{Rule, dtb_rules, file_rules, item_rules, launch_rules, rec_rules, top_rules}
+use Rattle.rim_manifest.specs.StepTexts.{has_bad_steps}
 use Rattle.rim_manifest.specs.Values.{array_at, text_in}
 use Rattle.rim_manifest.specs.Checks.{ruled_faults, table_faults}
 use Rattle.rim_manifest.specs.Launches.{NamedData, ReleaseData, launches_from}
@@ -72,7 +73,7 @@ manifest_faults ms =
     ++ (flat_map (ruled_faults file_rules) (files_at ms)
     ++ flat_map launch_faults (launches_at ms)))
 
--- ---- the faults of names, where no table has a fault
+-- ---- the faults of names and of steps, where no table has a fault
 
 -- two files, two launches, or two items of a launch share a name; or two items a kind other than raw
 abbrev pub has_two_names : Members → Bool
@@ -83,7 +84,7 @@ abbrev pub has_no_file : Members → Bool
 has_no_file ms = list_any (lacks_file (files_at ms)) (launches_at ms)
 
 unfoldable pub name_faults : Members → List ManifestFault
-name_faults ms = fault_if (has_two_names ms) TwoNames ++ fault_if (has_no_file ms) NoSuchFile
+name_faults ms = fault_if (has_two_names ms) TwoNames ++ (fault_if (has_no_file ms) NoSuchFile ++ fault_if (has_bad_steps (launches_at ms)) BadStep)
 
 -- all faults that hold anywhere in a document
 abbrev pub all_faults : Members → List ManifestFault

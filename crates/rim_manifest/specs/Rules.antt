@@ -52,7 +52,7 @@ launch_rules =
     ∷ rule (codes "ram") (form.Regions 64) Optional
     ∷ rule (codes "item") (form.Tables 64) Optional
     ∷ rule (codes "rec") (form.Tables 1024) Optional
-    ∷ rule (codes "steps") form.Later Optional ∷ []
+    ∷ rule (codes "steps") form.Texts Optional ∷ []
 
 -- the keys of an item that is no devicetree
 abbrev pub item_rules : List Rule

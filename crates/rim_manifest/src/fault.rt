@@ -26,7 +26,7 @@ pub enum ManifestFault {
     /// A required key is not given, or a devicetree asks for an initrd or for RAM that the launch has not.
     #[error("missing-key")]
     MissingKey,
-    /// A list is longer than its limit, or a key is not read yet.
+    /// A list is longer than its limit.
     #[error("limit")]
     Limit,
     /// A value is outside its range or form.
@@ -38,7 +38,7 @@ pub enum ManifestFault {
     /// An item's `file` names no file.
     #[error("no-such-file")]
     NoSuchFile,
-    /// A text of `steps` is no step, or the steps do not name each thing once. Not answered yet.
+    /// A text of `steps` is no step, or the steps do not name each thing once.
     #[error("bad-step")]
     BadStep,
     /// The allocator refused a growth.

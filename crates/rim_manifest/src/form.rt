@@ -5,7 +5,7 @@ ghost use Rattle.hex.specs.Hex.{is_hex_digit};
 ghost use Rattle.toml.specs.View.{view};
 ghost use Rattle.rim_launch.specs.Texts.{has_no_zero};
 ghost use Rattle.rim_manifest.specs.Words.{is_word};
-ghost use Rattle.rim_manifest.specs.Forms.{has_kind, is_base, is_integer, is_item_kind, is_name, is_name_byte, is_over, is_pair, is_range, is_range_pair, is_required, is_table, is_within, is_word_kind};
+ghost use Rattle.rim_manifest.specs.Forms.{has_kind, is_base, is_integer, is_item_kind, is_name, is_name_byte, is_over, is_pair, is_range, is_range_pair, is_required, is_table, is_text, is_within, is_word_kind};
 
 use crate::word::is_word;
 use toml::Value;
@@ -46,9 +46,8 @@ pub enum Form {
     ItemKind,
     /// A command line: a text without a zero character.
     Bootargs,
-    /// A key that is not read yet: its presence is the fault `Limit`, and what it holds is not
-    /// looked at.
-    Later,
+    /// An array of texts.
+    Texts,
 }
 
 /// Whether a key has to be given.
@@ -93,7 +92,10 @@ pub fn has_kind(form: Form, value: &Value) -> bool
             Value::Array(items) => are_word_kinds(items.as_slice()),
             _ => false,
         },
-        Form::Later => true,
+        Form::Texts => match value {
+            Value::Array(items) => are_texts(items.as_slice()),
+            _ => false,
+        },
     }
 }
 
@@ -105,7 +107,6 @@ pub fn is_over(form: Form, value: &Value) -> bool
         (Form::Tables { most }, Value::Array(items)) => most < items.as_slice().len(),
         (Form::Regions { most }, Value::Array(items)) => most < items.as_slice().len(),
         (Form::Words { most }, Value::Array(items)) => most < items.as_slice().len(),
-        (Form::Later, _) => true,
         _ => false,
     }
 }
@@ -194,6 +195,12 @@ fn are_word_kinds(items: &[Value]) -> bool
     ensures { result ≡ list_all (λ v. is_word_kind (view v)) items.now }
 {
     items.iter().all(|item| is_word_kind(item))
+}
+
+fn are_texts(items: &[Value]) -> bool
+    ensures { result ≡ list_all (λ v. is_text (view v)) items.now }
+{
+    items.iter().all(|item| item.is_str())
 }
 
 fn are_words(items: &[Value]) -> bool

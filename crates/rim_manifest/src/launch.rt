@@ -1,6 +1,5 @@
 //! Reading the launches of a release.
-ghost use Rattle.std.specs.Prelude.{◌≡◌, IfOk, length, map, string_bytes};
-ghost use Rattle.rim_launch.specs.Steps.{default_steps};
+ghost use Rattle.std.specs.Prelude.{◌≡◌, map, string_bytes};
 ghost use Rattle.refusal.specs.Answer.{Answers};
 ghost use Rattle.toml.specs.View.{view};
 ghost use Rattle.rim_manifest.specs.Launches.{NamedData, config_of, launch_of};
@@ -10,9 +9,9 @@ use crate::fault::ManifestFault;
 use crate::item::read_items;
 use crate::rec::read_recs;
 use crate::region::read_regions;
+use crate::step::read_steps;
 use crate::value::{algorithm, array, byte, digits, number, pool_base, text, truth};
-use refusal::NoMemory;
-use rim_launch::{Config, Item, Launch, Rec, Region, Step, default_steps};
+use rim_launch::{Config, Launch};
 use std::alloc::Global;
 use std::marker::Model;
 use toml::Value;
@@ -49,8 +48,8 @@ impl NamedLaunch {
     }
 }
 
-/// Reads the launch of this number from a table without faults, where the files are these. A launch that its type does not have is
-/// `BadStep`.
+/// Reads the launch of this number from a table without faults, where the files are these. A launch that its
+/// type does not have is `BadStep`.
 pub fn read_launch(
     alloc: Global,
     files: &[Value],
@@ -64,23 +63,11 @@ pub fn read_launch(
     let ram = read_regions(alloc, array(table, "ram"))?;
     let items = read_items(alloc, files, array(table, "item"))?;
     let recs = read_recs(alloc, array(table, "rec"))?;
-    let steps = read_steps(alloc, &ram, &items, &recs)?;
+    let steps = read_steps(alloc, table, &ram, &items, &recs)?;
     match Launch::new(number, config, ram, items, recs, steps) {
         Some(launch) => Ok(NamedLaunch { name, launch }),
         None => Err(ManifestFault::BadStep),
     }
-}
-
-/// The steps of a launch that has these regions, items and RECs.
-fn read_steps(
-    alloc: Global,
-    ram: &[Region],
-    items: &[Item],
-    recs: &[Rec],
-) -> Result<Vec<Step>, NoMemory>
-    ensures { IfOk result (λ v. v.items ≡ default_steps (length ram.now) items.now (length recs.now)) }
-{
-    default_steps(alloc, ram.len(), items, recs.len())
 }
 
 #[tactic(auto, unfolding(crate::specs::Launches::config_of))]

@@ -1,7 +1,5 @@
 //! The manifest of a release: a TOML text that describes launches, read into typed values or refused
 //! by the lowest fault that holds anywhere in it.
-//!
-//! Today the launches name no steps: the key that speaks of them is the fault `Limit`.
 #![tactic(auto)]
 
 pub mod check;
@@ -16,6 +14,7 @@ pub mod names;
 pub mod rec;
 pub mod region;
 pub mod rules;
+pub mod step;
 pub mod value;
 pub mod word;
 

@@ -8,6 +8,7 @@ ghost use Rattle.rim_manifest.specs.Faults.{lowest, noted};
 ghost use Rattle.rim_manifest.specs.Launches.{AreNumbered, ReleaseData, launches_from};
 ghost use Rattle.rim_manifest.specs.Forms.{items_in};
 ghost use Rattle.rim_manifest.specs.Manifest.{all_made, has_version, item_faults, launch_faults, manifest_faults, manifest_of, name_in, named_of};
+ghost use Rattle.rim_manifest.specs.StepTexts.{is_miscounted};
 ghost use Rattle.rim_manifest.specs.Names.{lacks_file, repeats, share_names};
 
 use crate::check::{cell, check_ruled, check_table, check_tables};
@@ -16,6 +17,7 @@ use crate::file::read_paths;
 use crate::launch::{NamedLaunch, read_launch};
 use crate::names::{has_asked, lacks_file, repeats, role, share_names};
 use crate::rules::{DTB_RULES, FILE_RULES, ITEM_RULES, LAUNCH_RULES, REC_RULES, TOP_RULES};
+use crate::step::is_miscounted;
 use crate::value::{array, items};
 use rim_launch::Role;
 use std::alloc::{AllocError, Global};
@@ -184,6 +186,9 @@ fn read_release(alloc: Global, table: &Table) -> Result<Release, ManifestFault>
     if has_no_file(files, launches) {
         return Err(ManifestFault::NoSuchFile);
     }
+    if any_miscounted(launches) {
+        return Err(ManifestFault::BadStep);
+    }
     let paths = read_paths(alloc, files)?;
     let launches = read_launches(alloc, files, launches)?;
     Ok(Release { paths, launches })
@@ -207,6 +212,13 @@ fn has_no_file(files: &[Value], launches: &[Value]) -> bool
     ensures { result ≡ list_any (λ l. lacks_file (map view files.now) (view l)) launches.now }
 {
     launches.iter().any(|launch| lacks_file(files, launch))
+}
+
+/// Whether a launch names other than as many steps as it has regions, items and RECs.
+fn any_miscounted(launches: &[Value]) -> bool
+    ensures { result ≡ list_any (λ l. is_miscounted (view l)) launches.now }
+{
+    launches.iter().any(|launch| is_miscounted(launch))
 }
 
 fn read_launches(

@@ -127,12 +127,14 @@ fn any_without(files: &[Value], items: &[Value]) -> bool
 pub fn file_number(files: &[Value], item: &Value) -> usize
     ensures { result ≡ file_at (map view files.now) (view item.now) }
 {
-    position_of(files, text(item, "file")).unwrap_or(0)
+    position_of(files, text(item, "file").as_bytes()).unwrap_or(0)
 }
 
 /// The place of the first table of this name.
-pub fn position_of(tables: &[Value], wanted: &str) -> Option<usize>
+pub fn position_of(tables: &[Value], wanted: &[u8]) -> Option<usize>
     ensures { result ≡ position (λ t. is_named wanted.now (view t)) tables.now }
 {
-    tables.iter().position(|table| name(table) == wanted)
+    tables
+        .iter()
+        .position(|table| name(table).as_bytes() == wanted)
 }

@@ -42,7 +42,7 @@ pub const LAUNCH_RULES: [Rule; 18] = [
     ("ram", Form::Regions { most: 64 }, Optional),
     ("item", Form::Tables { most: 64 }, Optional),
     ("rec", Form::Tables { most: 1024 }, Optional),
-    ("steps", Form::Later, Optional),
+    ("steps", Form::Texts, Optional),
 ];
 
 /// A number: 0 to 2^63-1.

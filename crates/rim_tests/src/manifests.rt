@@ -33,6 +33,8 @@ const RANGE: Option<ManifestFault> = Some(ManifestFault::Range);
 
 const TWO_NAMES: Option<ManifestFault> = Some(ManifestFault::TwoNames);
 
+const BAD_STEP: Option<ManifestFault> = Some(ManifestFault::BadStep);
+
 const NO_SUCH_FILE: Option<ManifestFault> = Some(ManifestFault::NoSuchFile);
 
 /// A text and its fault. The tables are constants: each row of an array in a body is proved too.
@@ -121,16 +123,15 @@ fn kinds_at_the_top(rt: HostRuntime) {
     check_texts(&rt, &TOPS);
 }
 
-const LATER_KEYS: [Row; 4] = [
-    ("steps = \"a\"", LIMIT),
+const UNKNOWN_KEYS: [Row; 3] = [
     ("file = 3", UNKNOWN_KEY),
     ("rec_rule = \"all\"", UNKNOWN_KEY),
     ("Name = 1", UNKNOWN_KEY),
 ];
 
 #[test]
-fn later_keys(rt: HostRuntime) -> Result<(), Fail> {
-    check_lines(&rt, &LATER_KEYS)
+fn unknown_keys(rt: HostRuntime) -> Result<(), Fail> {
+    check_lines(&rt, &UNKNOWN_KEYS)
 }
 
 const WRONG_KINDS: [Row; 9] = [
@@ -400,6 +401,87 @@ fn items(rt: HostRuntime) -> Result<(), Fail> {
     Ok(())
 }
 
+/// Steps of a launch of a region, an item `a.1` and two RECs.
+const STEPS: [Row; 22] = [
+    ("[\"ram 0\", \"item a.1\", \"rec 0\", \"rec 1\"]", None),
+    ("[\"rec 1\", \"rec 0\", \"item a.1\", \"ram 0\"]", None),
+    ("1", WRONG_KIND),
+    ("[\"ram 0\", 1, \"rec 0\", \"rec 1\"]", WRONG_KIND),
+    ("[]", BAD_STEP),
+    ("[\"ram 0\", \"item a.1\", \"rec 0\"]", BAD_STEP),
+    ("[\"ram 0\", \"item a.1\", \"rec 0\", \"rec 0\"]", BAD_STEP),
+    (
+        "[\"ram 0\", \"item a.1\", \"rec 0\", \"rec 1\", \"rec 1\"]",
+        BAD_STEP,
+    ),
+    ("[\"ram 0\", \"item a.1\", \"rec 0\", \"rec 2\"]", BAD_STEP),
+    ("[\"ram 1\", \"item a.1\", \"rec 0\", \"rec 1\"]", BAD_STEP),
+    ("[\"ram 64\", \"item a.1\", \"rec 0\", \"rec 1\"]", BAD_STEP),
+    ("[\"ram 0\", \"item a.2\", \"rec 0\", \"rec 1\"]", BAD_STEP),
+    ("[\"ram 0\", \"item a.1\", \"rec 00\", \"rec 1\"]", BAD_STEP),
+    ("[\"ram 0\", \"item a.1\", \"rec 0\", \"rec 01\"]", BAD_STEP),
+    ("[\"ram  0\", \"item a.1\", \"rec 0\", \"rec 1\"]", BAD_STEP),
+    ("[\"ram 0 \", \"item a.1\", \"rec 0\", \"rec 1\"]", BAD_STEP),
+    ("[\"ram\", \"item a.1\", \"rec 0\", \"rec 1\"]", BAD_STEP),
+    ("[\"ram \", \"item a.1\", \"rec 0\", \"rec 1\"]", BAD_STEP),
+    ("[\"RAM 0\", \"item a.1\", \"rec 0\", \"rec 1\"]", BAD_STEP),
+    ("[\"ram +0\", \"item a.1\", \"rec 0\", \"rec 1\"]", BAD_STEP),
+    (
+        "[\"ram 0\", \"item a.1\", \"rec 0\", \"rec 18446744073709551617\"]",
+        BAD_STEP,
+    ),
+    (
+        "[\"ram 0\\n\", \"item a.1\", \"rec 0\", \"rec 1\"]",
+        BAD_STEP,
+    ),
+];
+
+#[test]
+fn steps(rt: HostRuntime) -> Result<(), Fail> {
+    for (steps, fault) in &STEPS {
+        let lines = format!(in rt.alloc();
+            "ram = [[0, 1]]\nitem = [{{name = \"a.1\", kind = \"raw\", file = \"f\", at = 0}}]\nrec = [{{}}, {{}}]\nsteps = {steps}"
+        )?;
+        assert_eq!(rt;
+            fault_of_items(rt.alloc(), lines.as_str())?,
+            *fault,
+            "{steps}"
+        );
+    }
+    Ok(())
+}
+
+#[test]
+fn no_steps_of_nothing(rt: HostRuntime) -> Result<(), Fail> {
+    assert_eq!(rt; fault_with(rt.alloc(), "steps = []")?, None);
+    assert_eq!(rt; fault_with(rt.alloc(), "steps = [\"ram 0\"]")?, BAD_STEP);
+    Ok(())
+}
+
+/// Faults of names and steps, each with a later one, in a manifest whose file is `f`.
+const LATE_PAIRS: [Row; 3] = [
+    (
+        "item = [{name = \"a\", kind = \"raw\", file = \"g\", at = 0}, {name = \"a\", kind = \"raw\", file = \"f\", at = 0}]\nsteps = []",
+        TWO_NAMES,
+    ),
+    (
+        "item = [{name = \"a\", kind = \"raw\", file = \"g\", at = 0}]\nsteps = []",
+        NO_SUCH_FILE,
+    ),
+    (
+        "steps = [\"\"]\nitem = [{name = \"a\", kind = \"raw\", file = \"f\", at = 0}]",
+        BAD_STEP,
+    ),
+];
+
+#[test]
+fn faults_of_names_and_steps(rt: HostRuntime) -> Result<(), Fail> {
+    for (lines, fault) in &LATE_PAIRS {
+        assert_eq!(rt; fault_of_items(rt.alloc(), lines)?, *fault, "{lines}");
+    }
+    Ok(())
+}
+
 /// This many tables of a name of their own each, with the same further keys.
 fn tables_of(alloc: Global, key: &str, keys: &str, count: usize) -> Result<String, Fail> {
     let mut line = format!(in alloc; "{key} = [")?;
@@ -624,11 +706,12 @@ fn how_many_launches(rt: HostRuntime) -> Result<(), Fail> {
 }
 
 /// Two lines, and the lower of their faults.
-const PAIRS: [(&str, &str, Option<ManifestFault>); 4] = [
+const PAIRS: [(&str, &str, Option<ManifestFault>); 5] = [
     ("sve = 1", "other = 1", WRONG_KIND),
     ("other = 1", "num_aux = 17", UNKNOWN_KEY),
     ("num_aux = 17", "rec = [{x = [1,2,3,4,5,6,7,8,9]}]", LIMIT),
-    ("steps = 1", "sve = 1", WRONG_KIND),
+    ("steps = [\"a\"]", "ram = [[1, 1]]", RANGE),
+    ("steps = [\"a\"]", "sve = 1", WRONG_KIND),
 ];
 
 /// The fault of these lines, one after the other.

@@ -19,3 +19,7 @@ returns-in-Array-value c =
 pub returns-in-Array-value-2 : goal.returns-in-Array-value-2
 returns-in-Array-value-2 c =
     rw (c.in-Words.is, c.in-Array-value-2.is, view-Array, all_items, ← c.as_slice-in-Array-value-2.ensures.value) c.are_word_kinds.ensures
+
+pub returns-in-Array-value-3 : goal.returns-in-Array-value-3
+returns-in-Array-value-3 c =
+    rw (c.in-Texts.is, c.in-Array-value-3.is, view-Array, all_items, ← c.as_slice-in-Array-value-3.ensures.value) c.are_texts.ensures

@@ -1,6 +1,8 @@
-use Rattle.std.proofs.Common.{◌≡◌, List, length, map, ◌∙◌, inr, string_bytes}
+use Rattle.std.proofs.Common.{◌≡◌, List, Option, length, map, codes, ◌∙◌, inr, string_bytes}
 use Rattle.toml.specs.View.{view}
-use Rattle.rim_launch.specs.Steps.{default_steps}
+use Rattle.toml.specs.Data.{Data, get}
+use Rattle.rim_manifest.specs.StepTexts.{steps_in}
+use Rattle.rim_manifest.specs.Values.{array_at}
 use Rattle.rim_launch.specs.declared.item.Item.{Item}
 use Rattle.rim_launch.specs.declared.item.Region.{Region}
 use Rattle.rim_launch.specs.declared.rec.Rec.{Rec}
@@ -11,8 +13,8 @@ use Rattle.rim_manifest.proofs.Trees.{map_of_views}
 use Rattle.rim_manifest.proofs.launch.read_launch.Goals as goal
 
 steps_of : {ram ram' : List Region} {items items' : List Item} {recs recs' : List Rec} → ram ≡ ram' → items ≡ items' → recs ≡ recs'
-    → default_steps (length ram) items (length recs) ≡ default_steps (length ram') items' (length recs')
-steps_of ram items recs = λ i. default_steps (length (ram i)) (items i) (length (recs i))
+    → (tables : List Data) (o : Option Data) → steps_in (length ram) tables items (length recs) o ≡ steps_in (length ram') tables items' (length recs') o
+steps_of ram items recs tables o = λ i. steps_in (length (ram i)) tables (items i) (length (recs i)) o
 
 pub returns-in-Some : goal.returns-in-Some
 returns-in-Some c =
@@ -20,7 +22,7 @@ returns-in-Some c =
     (parts_read (map view c.args.files.now) c.args.number (view c.args.table.now) _ _ _ _ _ c.new.result c.read_config-config.ensures
     (c.in_ok-ram.ensures ∙ map_of_views region_in c.array.result.now _ c.array.ensures) (c.in_ok-items.ensures ∙ map_of_views (item_of (map view c.args.files.now)) c.array-2.result.now _ c.array-2.ensures)
     (c.in_ok-recs.ensures ∙ map_of_views rec_of c.array-3.result.now _ c.array-3.ensures)
-    (c.in_ok-steps.ensures ∙ steps_of c.deref.ensures.value c.deref-2.ensures.value c.deref-3.ensures.value) c.new.ensures)
+    (c.in_ok-steps.ensures ∙ steps_of c.deref.ensures.value c.deref-2.ensures.value c.deref-3.ensures.value (array_at (codes "item") (view c.args.table.now)) (get (codes "steps") (view c.args.table.now))) c.new.ensures)
     c.in-Some.is
 
 pub returns-in-None : goal.returns-in-None
@@ -29,5 +31,5 @@ returns-in-None c =
     (parts_read (map view c.args.files.now) c.args.number (view c.args.table.now) _ _ _ _ _ c.new.result c.read_config-config.ensures
     (c.in_ok-ram.ensures ∙ map_of_views region_in c.array.result.now _ c.array.ensures) (c.in_ok-items.ensures ∙ map_of_views (item_of (map view c.args.files.now)) c.array-2.result.now _ c.array-2.ensures)
     (c.in_ok-recs.ensures ∙ map_of_views rec_of c.array-3.result.now _ c.array-3.ensures)
-    (c.in_ok-steps.ensures ∙ steps_of c.deref.ensures.value c.deref-2.ensures.value c.deref-3.ensures.value) c.new.ensures)
+    (c.in_ok-steps.ensures ∙ steps_of c.deref.ensures.value c.deref-2.ensures.value c.deref-3.ensures.value (array_at (codes "item") (view c.args.table.now)) (get (codes "steps") (view c.args.table.now))) c.new.ensures)
     c.in-None.is)

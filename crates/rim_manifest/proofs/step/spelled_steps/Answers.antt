@@ -1,0 +1,11 @@
+use Rattle.std.proofs.Common.{map, refl, rules}
+use Rattle.std.proofs.lemmas.Iterator.{items_from_collect, YieldsList-from_map, YieldsList-from_slice}
+use Rattle.toml.specs.View.{view}
+use Rattle.toml.specs.declared.value.Value.{Value}
+use Rattle.rim_manifest.specs.StepTexts.{step_in}
+use Rattle.rim_manifest.proofs.step.spelled_steps.Goals as goal
+
+pub returns : goal.returns
+returns c =
+    items_from_collect {s = c.map.result} c.collect.result c.collect.ensures.ran
+    (YieldsList-from_map {s = c.map.result} _ (λ (v : Value). step_in (map view c.args.tables.now) (view v)) {f = c.map.result.f} (YieldsList-from_slice c.args.texts.now cc) refl (λ x r q k. search rules))

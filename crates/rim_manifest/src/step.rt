@@ -1,0 +1,114 @@
+//! Reading steps.
+ghost use Rattle.std.specs.Prelude.{◌≡◌, ◌==◌, ◌||◌, not, codes, length, map, option_map, slice_index, IfOk};
+ghost use Rattle.toml.specs.Data.{get};
+ghost use Rattle.toml.specs.View.{view};
+ghost use Rattle.rim_manifest.specs.Names.{is_named};
+ghost use Rattle.rim_manifest.specs.StepTexts.{decimal_number, part_count, is_decimal, is_miscounted, item_number, step_in, step_of, steps_in};
+ghost use Rattle.rim_manifest.specs.Values.{array_at};
+ghost use Rattle.rim_manifest.specs.Words.{after};
+
+use crate::names::position_of;
+use crate::value::{array, field, items};
+use crate::word::{after, are_digits, spelled};
+use refusal::NoMemory;
+use rim_launch::{Item, Rec, Region, Step, default_steps};
+use std::alloc::{AllocError, Global};
+use toml::Value;
+
+/// The most digits of a number in a step: no launch has 10,000 regions or RECs.
+const MOST_DIGITS: usize = 4;
+
+/// A region that no launch has.
+const NO_REGION: usize = 64;
+
+/// Reads the steps of a launch that has these regions, items and RECs. A text that spells no step reads as the
+/// step of a region that no launch has.
+pub fn read_steps(
+    alloc: Global,
+    launch: &Value,
+    ram: &[Region],
+    things: &[Item],
+    recs: &[Rec],
+) -> Result<Vec<Step>, NoMemory>
+    ensures { IfOk result (λ v. v.items ≡ steps_in (length ram.now) (array_at (codes "item") (view launch.now)) things.now (length recs.now) (get (codes "steps") (view launch.now))) }
+{
+    match field(launch, "steps") {
+        Some(texts) => Ok(spelled_steps(alloc, array(launch, "item"), items(texts))?),
+        None => default_steps(alloc, ram.len(), things, recs.len()),
+    }
+}
+
+fn spelled_steps(alloc: Global, tables: &[Value], texts: &[Value]) -> Result<Vec<Step>, AllocError>
+    ensures { IfOk result (λ v. v.items ≡ map (λ t. step_in (map view tables.now) (view t)) texts.now) }
+{
+    texts.iter().map(|text| step(tables, text)).collect(alloc)
+}
+
+fn step(tables: &[Value], text: &Value) -> Step
+    ensures { result ≡ step_in (map view tables.now) (view text.now) }
+{
+    match text {
+        Value::String(text) => spelled_step(tables, text.as_bytes()).unwrap_or(Step::Ram(
+            NO_REGION,
+        )),
+        _ => Step::Ram(NO_REGION),
+    }
+}
+
+/// The step that a text spells.
+fn spelled_step(tables: &[Value], text: &[u8]) -> Option<Step>
+    ensures { result ≡ step_of (map view tables.now) text.now }
+{
+    if let Some(number) = decimal(after(b"ram ", text)) {
+        return Some(Step::Ram(number));
+    }
+    if let Some(number) = item_number(tables, after(b"item ", text)) {
+        return Some(Step::Item(number));
+    }
+    match decimal(after(b"rec ", text)) {
+        Some(number) => Some(Step::Rec(number)),
+        None => None,
+    }
+}
+
+/// The place of the item of a name.
+fn item_number(tables: &[Value], name: Option<&[u8]>) -> Option<usize>
+    ensures { result ≡ item_number (map view tables.now) (option_map (λ t. t.now) name.entry) }
+{
+    match name {
+        Some(name) => position_of(tables, name),
+        None => None,
+    }
+}
+
+/// The number of decimal digits without a leading zero.
+fn decimal(digits: Option<&[u8]>) -> Option<usize>
+    ensures { result ≡ decimal_number (option_map (λ t. t.now) digits.entry) }
+{
+    match digits {
+        Some(digits) if is_decimal(digits) => Some(spelled(10, digits) as usize),
+        _ => None,
+    }
+}
+
+fn is_decimal(digits: &[u8]) -> bool
+    ensures { result ≡ is_decimal digits.now }
+{
+    are_digits(10, MOST_DIGITS, digits) && (digits.len() == 1 || digits[0] != b'0')
+}
+
+/// Whether a launch names other than as many steps as it has regions, items and RECs.
+pub fn is_miscounted(launch: &Value) -> bool
+    ensures { result ≡ is_miscounted (view launch.now) }
+{
+    match field(launch, "steps") {
+        Some(texts) => items(texts).len() != part_count(launch),
+        None => false,
+    }
+}
+
+fn part_count(launch: &Value) -> usize
+    ensures { result ≡ part_count (view launch.now) }
+{
+    array(launch, "ram").len() + array(launch, "item").len() + array(launch, "rec").len()
+}
