@@ -8,3 +8,4 @@ pub mod Ready
 pub mod Stuck
 pub mod Valued
 pub mod Kept
+pub mod Marked

@@ -1,6 +1,6 @@
 -- Jobs and workers. This project's choice: each page to be hashed and each launch to be chained is a job. A
 -- job is free, held by one worker, or done. A launch needs some pages.
-use Rattle.std.specs.Prelude.{ℕ, ◌+◌, ◌<◌, Bool, true, false, ◌==◌, ◌&&◌, if◌then◌else◌, List, [], length, map, replicate, Option, unwrap_or, count_by, slice_get, slice_set, slice_index_or}
+use Rattle.std.specs.Prelude.{◌≡◌, ℕ, ◌+◌, ◌<◌, ◌≤◌, Bool, true, false, ◌==◌, ◌&&◌, if◌then◌else◌, List, [], length, map, replicate, Option, unwrap_or, count_by, slice_get, slice_set, slice_index_or}
 use Rattle.std.specs.List.{All, list_all}
 use Rattle.job_board.specs.declared.job.JobId.{JobId}
 use Rattle.job_board.specs.declared.job.JobId.TheVariants.{Page, Launch}
@@ -93,3 +93,10 @@ without_worker s w =
 -- all needs are numbers of pages
 abbrev pub NeedsWithin : List (List ℕ) → ℕ → Type 0
 NeedsWithin needs pages = All (All (λ p. p < pages)) needs
+
+-- what every core keeps: worker 0 is not retired, there are 1 to 64 workers, and all needs are numbers of pages
+pub record IsCore (s : CoreState) : Type 0 where
+  pub first : is_out s 0 ≡ false
+  pub workers : length s.retired ≤ 64
+  pub launches : length s.launches ≡ length s.needs
+  pub needs : NeedsWithin s.needs (length s.pages)

@@ -1,1 +1,3 @@
+-- What the fields of this crate keep.
 pub mod Notes
+pub mod Marks

@@ -2,6 +2,7 @@
 #![tactic(auto)]
 
 pub mod job;
+mod jobs;
 pub mod laws;
 pub mod machine;
 

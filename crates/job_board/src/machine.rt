@@ -1,37 +1,39 @@
-//! The core: how each job is, and what each event makes of it.
-ghost use Rattle.std.specs.Prelude.{◌≡◌, ◌≤◌, false, length, map, IfOk, IfSome, OnErr, Some};
-ghost use Rattle.std.specs.List.{list_all};
+//! The core: how each job is, with marks that make it quick to find a free one.
+ghost use Rattle.std.specs.Prelude.{◌≡◌, ◌≢◌, ◌<◌, ◌≤◌, [], ℕ, false, length, map, true, IfNone, IfOk, IfSome, OnErr, Some, slice_get, slice_index_or};
 ghost use Rattle.refusal.specs.Answer.{Matches};
-ghost use Rattle.job_board.specs.Jobs.{NeedsWithin, held_count, is_out, is_page_done, is_ready, opening, state_of, with_job, with_launch, with_page};
+ghost use Rattle.job_board.specs.Jobs.{IsCore, NeedsWithin, held_count, is_out, is_over, is_page_done, is_ready, opening, state_of};
 ghost use Rattle.job_board.specs.Step.{core_step};
-ghost use Rattle.job_board.specs.inside.Notes.{IsJob, Moves, held_of, released};
+ghost use Rattle.job_board.specs.inside.Marks.{lowered};
 
 use crate::job::{CoreFault, Event, JobId, JobState};
+use crate::jobs::Jobs;
 use refusal::NoMemory;
 use std::alloc::Global;
 use std::marker::Model;
 
-/// The workers and the jobs of a run, and which pages each launch needs. Contracts see their state alone.
+/// The workers and the jobs of a run, and which pages each launch needs. Worker 0 never retires.
 #[derive(Drop)]
 pub struct Core {
-    retired: Vec<bool>,
-    pages: Vec<JobState>,
-    launches: Vec<JobState>,
-    needs: Vec<Vec<usize>>,
-    /// What each worker holds.
-    holding: Vec<Option<JobId>>,
+    jobs: Jobs,
+    /// No page below this one is free.
+    free_from: usize,
+    /// How many pages are not done.
+    pages_left: usize,
+    /// How many launches are not done.
+    launches_left: usize,
+    /// Of each launch, how many of its needs, from the first on, were seen to be done.
+    seen: Vec<usize>,
 }
 
 impl Model for Core {
-    ghost use Rattle.std.specs.Prelude.{map};
-    ghost use Rattle.job_board.specs.Jobs.{CoreState};
-    ghost use Rattle.job_board.specs.inside.Notes.{Notes};
+    ghost use Rattle.job_board.specs.Jobs.{CoreState, IsCore};
+    ghost use Rattle.job_board.specs.inside.Marks.{Marks};
 
     ghost Value = { CoreState };
 
-    ghost view = { λ c. record { retired = c.retired.items; pages = c.pages.items; launches = c.launches.items; needs = map (λ v. v.items) c.needs.items } };
+    ghost view = { λ c. c.jobs };
 
-    ghost invariant = { λ c. Notes c.holding.items (record { retired = c.retired.items; pages = c.pages.items; launches = c.launches.items; needs = map (λ v. v.items) c.needs.items }) };
+    ghost invariant = { λ c. IsCore c.jobs × Marks c.free_from c.pages_left c.launches_left c.seen.items c.jobs };
 }
 
 impl Core {
@@ -47,16 +49,15 @@ impl Core {
         requires needs { NeedsWithin (map (λ v. v.items) needs.items) pages }
         ensures { IfOk result (λ c. c ≡ opening workers pages (map (λ v. v.items) needs.items)) }
     {
-        let retired = vec![in alloc; false; workers]?;
-        let pages = vec![in alloc; JobState::Free; pages]?;
-        let launches = vec![in alloc; JobState::Free; needs.len()]?;
-        let holding = vec![in alloc; None; workers]?;
+        let launches = needs.len();
+        let seen = vec![in alloc; 0; launches]?;
+        let jobs = Jobs::new(alloc, workers, pages, needs)?;
         Ok(Core {
-            retired,
-            pages,
-            launches,
-            needs,
-            holding,
+            jobs,
+            free_from: 0,
+            pages_left: pages,
+            launches_left: launches,
+            seen,
         })
     }
 
@@ -66,149 +67,175 @@ impl Core {
         ensures same { OnErr result (self.new ≡ self.old) }
     {
         match *event {
-            Event::Take { worker, job } => self.take(worker, job),
+            Event::Take { worker, job } => self.jobs.take(worker, job),
             Event::Put { worker, job } => self.put(worker, job),
             Event::Retire { worker } => self.retire(worker),
         }
-    }
-
-    fn take(&mut self, worker: usize, job: JobId) -> Result<(), CoreFault>
-        ensures step { Matches (λ u. self.new) result (core_step self.old (Event.Take worker job)) }
-        ensures same { OnErr result (self.new ≡ self.old) }
-    {
-        if self.is_out(worker) {
-            return Err(CoreFault::Retired);
-        }
-        let Some(state) = self.state(job) else {
-            return Err(CoreFault::NoSuchJob);
-        };
-        if self.held(worker).is_some() {
-            return Err(CoreFault::Busy);
-        }
-        if !matches!(state, JobState::Free) {
-            return Err(CoreFault::Taken);
-        }
-        if !self.is_ready(job) {
-            return Err(CoreFault::Early);
-        }
-        self.write(worker, job, JobState::Held(worker), Some(job));
-        Ok(())
     }
 
     fn put(&mut self, worker: usize, job: JobId) -> Result<(), CoreFault>
         ensures step { Matches (λ u. self.new) result (core_step self.old (Event.Put worker job)) }
         ensures same { OnErr result (self.new ≡ self.old) }
     {
-        if self.is_out(worker) {
-            return Err(CoreFault::Retired);
+        if let Err(fault) = self.jobs.put(worker, job) {
+            return Err(fault);
         }
-        match self.state(job) {
-            None => Err(CoreFault::NoSuchJob),
-            Some(JobState::Held(holder)) if holder == worker => {
-                self.write(worker, job, JobState::Done, None);
-                Ok(())
-            }
-            Some(_) => Err(CoreFault::Stranger),
+        match job {
+            JobId::Page(_) => self.pages_left -= 1,
+            JobId::Launch(_) => self.launches_left -= 1,
         }
+        Ok(())
     }
 
     fn retire(&mut self, worker: usize) -> Result<(), CoreFault>
         ensures step { Matches (λ u. self.new) result (core_step self.old (Event.Retire worker)) }
         ensures same { OnErr result (self.new ≡ self.old) }
     {
-        if worker == 0 || self.is_out(worker) {
-            return Err(CoreFault::Retired);
+        let held = self.jobs.held(worker);
+        if let Err(fault) = self.jobs.retire(worker) {
+            return Err(fault);
         }
-        self.release(worker);
-        self.retired[worker] = true;
+        self.free_from = lowered(self.free_from, held);
         Ok(())
-    }
-
-    /// Frees what a worker holds.
-    fn release(&mut self, worker: usize)
-        requires { is_out self.old worker ≡ false }
-        ensures { self.new ≡ released self.old worker }
-    {
-        match self.held(worker) {
-            None => {}
-            Some(job) => self.write(worker, job, JobState::Free, None),
-        }
-    }
-
-    /// Writes how a job is, and what a worker then holds.
-    fn write(&mut self, worker: usize, job: JobId, state: JobState, held: Option<JobId>)
-        requires known { is_out self.old worker ≡ false }
-        requires moves { Moves self.old worker job state held }
-        ensures { self.new ≡ with_job self.old job state }
-    {
-        let Core {
-            pages,
-            launches,
-            holding,
-            ..
-        } = self;
-        set_job(pages, launches, job, state);
-        holding[worker] = held;
     }
 }
 
 impl Core {
-    /// How a job is, or `None` where no job has this number.
-    pub fn state(&self, job: JobId) -> Option<JobState>
-        ensures { result ≡ state_of self.now job }
+    /// How many workers it has: 1 to 64.
+    pub fn workers(&self) -> usize
+        ensures count { result ≡ length self.now.retired }
+        ensures core { IsCore self.now }
     {
-        match job {
-            JobId::Page(page) => self.pages.get(page).copied(),
-            JobId::Launch(launch) => self.launches.get(launch).copied(),
-        }
+        self.jobs.worker_count()
+    }
+
+    /// How many pages it has.
+    pub fn pages(&self) -> usize
+        ensures { result ≡ length self.now.pages }
+    {
+        self.jobs.pages().len()
+    }
+
+    /// How many launches it has.
+    pub fn launches(&self) -> usize
+        ensures { result ≡ length self.now.launches }
+    {
+        self.jobs.launches().len()
     }
 
     /// Whether a worker is retired or its number is unknown.
     pub fn is_out(&self, worker: usize) -> bool
         ensures { result ≡ is_out self.now worker }
     {
-        self.retired.get(worker).copied().unwrap_or(true)
+        self.jobs.is_out(worker)
     }
 
-    /// The job that a worker holds, if it holds one.
+    /// How a job is, or `None` where no job has this number.
+    pub fn state(&self, job: JobId) -> Option<JobState>
+        ensures { result ≡ state_of self.now job }
+    {
+        self.jobs.state(job)
+    }
+
+    /// The job that a worker holds, or `None` where it holds none.
     pub fn held(&self, worker: usize) -> Option<JobId>
         ensures held { IfSome result (λ job. state_of self.now job ≡ Some (JobState.Held worker)) }
-        ensures count { held_count self.now worker ≡ held_of result }
+        ensures one { IfSome result (λ job. held_count self.now worker ≡ 1) }
+        ensures none { IfNone result (held_count self.now worker ≡ 0) }
     {
-        self.holding.get(worker).copied().flatten()
+        self.jobs.held(worker)
     }
 
-    /// Whether all pages that a job needs are done.
-    fn is_ready(&self, job: JobId) -> bool
-        ensures { result ≡ is_ready self.now job }
+    /// Whether all jobs are done.
+    pub fn is_finished(&self) -> bool
+        ensures { result ≡ is_over self.now }
     {
-        match job {
-            JobId::Page(_) => true,
-            JobId::Launch(launch) => match self.needs.get(launch) {
-                Some(needed) => all_done(&self.pages, needed),
-                None => true,
-            },
+        self.pages_left == 0 && self.launches_left == 0
+    }
+
+    /// A page that is free, or `None` where none is. Pages that were passed over are not looked at again, unless a
+    /// retirement frees one.
+    pub fn free_page(&mut self) -> Option<usize>
+        ensures same { self.new ≡ self.old }
+        ensures some { IfSome result (λ page. slice_get self.old.pages page ≡ Some JobState.Free) }
+        ensures none { IfNone result ((page : ℕ) → slice_get self.old.pages page ≢ Some JobState.Free) }
+    {
+        let pages = self.jobs.pages();
+        let page = free_at(pages, self.free_from);
+        self.free_from = page.unwrap_or(pages.len());
+        page
+    }
+
+    /// A launch that is free and of which all pages are done, or `None` where none is. A need that was seen to be done
+    /// is not looked at again.
+    pub fn ready_launch(&mut self) -> Option<usize>
+        ensures same { self.new ≡ self.old }
+        ensures some { IfSome result (λ launch. (slice_get self.old.launches launch ≡ Some JobState.Free) × (is_ready self.old (JobId.Launch launch) ≡ true)) }
+        ensures none { IfNone result ((launch : ℕ) → slice_get self.old.launches launch ≡ Some JobState.Free → is_ready self.old (JobId.Launch launch) ≡ false) }
+    {
+        for launch in 0..self.launches() {
+            if self.jobs.is_free(JobId::Launch(launch)) && self.is_ready(launch) {
+                return Some(launch);
+            }
+        }
+        None
+    }
+
+    /// Whether all pages that a launch needs are done.
+    fn is_ready(&mut self, launch: usize) -> bool
+        requires { launch < length self.old.launches }
+        ensures same { self.new ≡ self.old }
+        ensures ready { result ≡ is_ready self.old (JobId.Launch launch) }
+    {
+        let needed = self.jobs.needs(launch);
+        let done = done_from(self.jobs.pages(), needed, self.seen[launch]);
+        let is_ready = done == needed.len();
+        self.seen[launch] = done;
+        is_ready
+    }
+}
+
+/// The first page that may be free, where what a worker held is free again.
+fn lowered(free_from: usize, held: Option<JobId>) -> usize
+    ensures { result ≡ lowered free_from held }
+{
+    match held {
+        Some(JobId::Page(page)) => free_from.min(page),
+        _ => free_from,
+    }
+}
+
+/// The first free job of a list, from a place on.
+fn free_at(states: &[JobState], from: usize) -> Option<usize>
+    ensures some { IfSome result (λ j. slice_get states.now j ≡ Some JobState.Free) }
+    ensures first { IfSome result (λ j. (k : ℕ) → from ≤ k → k < j → slice_get states.now k ≢ Some JobState.Free) }
+    ensures none { IfNone result ((k : ℕ) → from ≤ k → slice_get states.now k ≢ Some JobState.Free) }
+{
+    for j in from..states.len() {
+        if matches!(states[j], JobState::Free) {
+            return Some(j);
         }
     }
+    None
 }
 
-/// Writes how a job is.
-fn set_job(pages: &mut Vec<JobState>, launches: &mut Vec<JobState>, job: JobId, state: JobState)
-    requires { IsJob job (length pages.old.items) (length launches.old.items) }
-    ensures pages { pages.new.items ≡ with_page job state pages.old.items }
-    ensures launches { launches.new.items ≡ with_launch job state launches.old.items }
+/// How many needs are done, from the first on, where as many as are given were done before.
+fn done_from(states: &[JobState], needed: &[usize], from: usize) -> usize
+    requires { from ≤ length needed.now }
+    ensures within { (from ≤ result) × (result ≤ length needed.now) }
+    ensures done { (k : ℕ) → from ≤ k → k < result → is_page_done states.now (slice_index_or needed.now k 0) ≡ true }
+    ensures stops { result < length needed.now → is_page_done states.now (slice_index_or needed.now result 0) ≡ false }
 {
-    match job {
-        JobId::Page(page) => pages[page] = state,
-        JobId::Launch(launch) => launches[launch] = state,
+    for k in from..needed.len() {
+        if !is_done_in(states, needed[k]) {
+            return k;
+        }
     }
+    needed.len()
 }
 
-/// Whether some pages are all done.
-fn all_done(states: &[JobState], pages: &[usize]) -> bool
-    ensures { result ≡ list_all (is_page_done states.now) pages.now }
+fn is_done_in(states: &[JobState], page: usize) -> bool
+    ensures { result ≡ is_page_done states.now page }
 {
-    pages
-        .iter()
-        .all(|page| matches!(states.get(*page), Some(JobState::Done)))
+    matches!(states.get(page), Some(JobState::Done))
 }

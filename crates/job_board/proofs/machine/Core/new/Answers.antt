@@ -1,12 +1,12 @@
-use Rattle.std.proofs.Common.{◌≡◌, replicate, false, None, map, rules}
-use Rattle.job_board.specs.declared.job.JobState.TheVariants.{Free}
-use Rattle.job_board.proofs.Noted.{notes_fresh}
+use Rattle.std.proofs.Common.{◌≡◌, ◌∙◌, length, map, replicate, rules, sym}
+use Rattle.std.proofs.lemmas.List.{length-map}
+use Rattle.job_board.proofs.Marked.{core_fresh, marks_fresh}
 use Rattle.job_board.proofs.machine.Core.new.Goals as goal
 
 pub invariant_of-result : goal.invariant_of-result
 invariant_of-result c =
-    let r : c.in_ok-retired.retired.items ≡ replicate c.args.workers false = search rules in
-    let p : c.in_ok-pages.pages.items ≡ replicate c.args.pages Free = search rules in
-    let l : c.in_ok-launches.launches.items ≡ replicate c.len.result Free = search rules in
-    let h : c.in_ok-holding.holding.items ≡ replicate c.args.workers None = search rules in
-    rw (r, p, l, h) (notes_fresh c.args.workers c.args.pages c.len.result (map (λ v. v.items) c.args.needs.items))
+    let ns = map (λ v. v.items) c.args.needs.items in
+    let n : c.len-launches.result ≡ length c.args.needs.items = search rules in
+    let count : c.len-launches.result ≡ length ns = n ∙ sym (length-map c.args.needs.items (λ v. v.items)) in
+    let seen : c.in_ok-seen.seen.items ≡ replicate c.len-launches.result 0 = search rules in
+    rw (c.in_ok-jobs.ensures, seen, count) (core_fresh c.args.workers c.args.pages ns c.requires.workers.0 c.requires.workers.1 c.requires.needs, marks_fresh c.args.workers c.args.pages ns)

@@ -2,7 +2,7 @@ use Rattle.std.proofs.Common.{◌≡◌, map, false, sym, subst}
 use Rattle.job_board.specs.Jobs.{CoreState, is_out}
 use Rattle.job_board.specs.inside.Notes.{Moves}
 use Rattle.job_board.proofs.Noted.{notes_write}
-use Rattle.job_board.proofs.machine.Core.write.Goals as goal
+use Rattle.job_board.proofs.jobs.Jobs.write.Goals as goal
 
 pub invariant_of-self : goal.invariant_of-self
 invariant_of-self c =

@@ -1,7 +1,7 @@
 use Rattle.std.proofs.Common.{◌≤◌, arith, ◌∙◌}
 use Rattle.job_board.specs.Jobs.{held_count}
 use Rattle.job_board.proofs.Noted.{released_none, released_one}
-use Rattle.job_board.proofs.machine.Core.release.Goals as goal
+use Rattle.job_board.proofs.jobs.Jobs.release.Goals as goal
 
 pub returns-in-None : goal.returns-in-None
 returns-in-None c = released_none c.args.self.now c.args.worker c.in-None.ensures.count
