@@ -1,5 +1,5 @@
 -- What a core counts and marks is right after each step.
-use Rattle.std.proofs.Common.{◌≡◌, ◌≢◌, ℕ, zero, suc, ◌+◌, ◌-◌, ◌<◌, ◌≤◌, Bool, true, false, cond, eqb, ◌&&◌, List, [], ◌∷◌, length, get_or, set, map, replicate, Option, Some, None, Result, Ok, Err, refl, sym, ap, ◌∙◌, subst, arith, inl, inr}
+use Rattle.std.proofs.Common.{min, ◌≡◌, ℕ, zero, suc, ◌+◌, ◌-◌, ◌<◌, ◌≤◌, Bool, true, false, cond, eqb, ◌&&◌, List, [], ◌∷◌, length, get_or, set, map, replicate, Option, Some, None, Result, Ok, Err, refl, sym, ap, ◌∙◌, subst, arith, inl, inr}
 use Rattle.std.specs.Prelude.{◌==◌, ◌⊎◌, IfSome, OnErr}
 use Rattle.refusal.specs.Answer.{Matches}
 use Rattle.job_board.specs.declared.job.CoreFault.{CoreFault}
@@ -18,7 +18,7 @@ use Rattle.job_board.specs.declared.job.Event.TheVariants.{Take, Put, Retire}
 use Rattle.job_board.specs.Jobs.{CoreState, IsCore, NeedsWithin, freed, held_count, is_done, is_free, is_over, is_page_done, is_ready, opening, state_of, with_job, with_page, with_launch, without_worker}
 use Rattle.job_board.specs.Step.{core_step}
 use Rattle.job_board.specs.inside.Notes.{held_of}
-use Rattle.job_board.specs.inside.Marks.{Marks, lowered}
+use Rattle.job_board.specs.inside.Marks.{Marks, Passed, lowered_launch, lowered_page}
 use Rattle.job_board.proofs.Counting.{bit, sum_by-slice_set, sum_by-replicate_zero, sum-freed_done}
 use Rattle.job_board.proofs.OneJob.{slice_get-set_other, slice_get-set_same}
 use Rattle.job_board.proofs.Steps.{accepted_put, accepted_retire, accepted_take}
@@ -58,9 +58,36 @@ not_free_at xs j k x y true is at taken free =
     cc
 not_free_at xs j k x y false is at taken free = sym (slice_get-set_other xs j k y is) ∙ free
 
-not_free : (s : CoreState) (job : JobId) (x y : JobState) (k : ℕ) → state_of s job ≡ Some x → is_free y ≡ false → slice_get (with_page job y s.pages) k ≡ Some Free → slice_get s.pages k ≡ Some Free
-not_free s (Page j) x y k at taken free = not_free_at s.pages j k x y (eqb k j) refl at taken free
-not_free s (Launch l) x y k at taken free = free
+passed_set : (n : ℕ) (xs : List JobState) (j : ℕ) (x y : JobState) → slice_get xs j ≡ Some x → is_free y ≡ false → Passed n xs → Passed n (set xs j y)
+passed_set n xs j x y at taken before = λ k lt free. before k lt (not_free_at xs j k x y (eqb k j) refl at taken free)
+
+-- a job that is made so, and not free
+passed_job : (f g : ℕ) (s : CoreState) (job : JobId) (x y : JobState) → state_of s job ≡ Some x → is_free y ≡ false
+    → Passed f s.pages × Passed g s.launches → Passed f (with_page job y s.pages) × Passed g (with_launch job y s.launches)
+passed_job f g s (Page j) x y at taken before = (passed_set f s.pages j x y at taken before.0, before.1)
+passed_job f g s (Launch l) x y at taken before = (before.0, passed_set g s.launches l x y at taken before.1)
+
+-- a job that is free again
+passed_freed : (n : ℕ) (xs : List JobState) (j : ℕ) → Passed n xs → Passed (min n j) (set xs j Free)
+passed_freed n xs j before = λ k lt free.
+    let other : eqb k j ≡ false = grind (arith, nat_tests, lt) in
+    let below : k < n = omega (arith, lt) in
+    before k below (sym (slice_get-set_other xs j k Free other) ∙ free)
+
+-- the job that a worker holds
+abbrev pub HeldIs : CoreState → ℕ → Option JobId → Type 0
+HeldIs s w None = held_count s w ≡ 0
+HeldIs s w (Some job) = (state_of s job ≡ Some (Held w)) × (held_count s w ≡ 1)
+
+passed_released : (f g : ℕ) (s : CoreState) (w : ℕ) (held : Option JobId) → HeldIs s w held
+    → Passed f s.pages × Passed g s.launches → Passed (lowered_page f held) (map (freed w) s.pages) × Passed (lowered_launch g held) (map (freed w) s.launches)
+passed_released f g s w None h before = subst (λ (v : CoreState). Passed f v.pages × Passed g v.launches) (released_none s w h) before
+passed_released f g s w (Some (Page j)) h before =
+    let one : held_count s w ≤ 1 = omega (arith, h.1) in
+    subst (λ (v : CoreState). Passed (min f j) v.pages × Passed g v.launches) (released_one s w (Page j) h.0 one) (passed_freed f s.pages j before.0, before.1)
+passed_released f g s w (Some (Launch l)) h before =
+    let one : held_count s w ≤ 1 = omega (arith, h.1) in
+    subst (λ (v : CoreState). Passed f v.pages × Passed (min g l) v.launches) (released_one s w (Launch l) h.0 one) (before.0, passed_freed g s.launches l before.1)
 
 -- ---- jobs done
 
@@ -110,13 +137,13 @@ none_left xs left is =
 -- ---- the marks
 
 -- what was seen to be done stays done
-marks_next : (free_from free_next pages_left pages_next launches_left launches_next : ℕ) (seen : List ℕ) (s t : CoreState) (e : Event) → core_step s e ≡ Ok t
-    → Marks free_from pages_left launches_left seen s
-    → ((j : ℕ) → j < free_next → slice_get t.pages j ≢ Some Free)
-    → pages_next + count_by is_done t.pages ≡ length t.pages
-    → launches_next + count_by is_done t.launches ≡ length t.launches
-    → Marks free_next pages_next launches_next seen t
-marks_next f g p r q u seen s t e is m free pages launches = record {
+marks_next : (f g p q f' g' p' q' : ℕ) (seen : List ℕ) (s t : CoreState) (e : Event) → core_step s e ≡ Ok t
+    → Marks f g p q seen s
+    → Passed f' t.pages × Passed g' t.launches
+    → p' + count_by is_done t.pages ≡ length t.pages
+    → q' + count_by is_done t.launches ≡ length t.launches
+    → Marks f' g' p' q' seen t
+marks_next f g p q f' g' p' q' seen s t e is m free pages launches = record {
   free = free;
   pages = pages;
   launches = launches;
@@ -128,20 +155,20 @@ marks_next f g p r q u seen s t e is m free pages launches = record {
       subst (λ (ns : List (List ℕ)). is_page_done t.pages (get_or (get_or ns l []) k 0) ≡ true) (sym (kept.needs s t e is)) here;
 }
 
-pub marks_take : (f p q : ℕ) (seen : List ℕ) (s t : CoreState) (w : ℕ) (job : JobId) → core_step s (Take w job) ≡ Ok t → Marks f p q seen s → Marks f p q seen t
-marks_take f p q seen s t w job is m =
+pub marks_take : (f g p q : ℕ) (seen : List ℕ) (s t : CoreState) (w : ℕ) (job : JobId) → core_step s (Take w job) ≡ Ok t → Marks f g p q seen s → Marks f g p q seen t
+marks_take f g p q seen s t w job is m =
     let gives = take_gives s t w job is in
     let pages = ap (λ (v : CoreState). count_by is_done v.pages) gives.1 ∙ pages_same s job Free (Held w) gives.0 refl in
     let launches = ap (λ (v : CoreState). count_by is_done v.launches) gives.1 ∙ launches_same s job Free (Held w) gives.0 refl in
-    marks_next f f p p q q seen s t (Take w job) is m
-    (λ j lt free. m.free j lt (not_free s job Free (Held w) j gives.0 refl (sym (ap (λ (v : CoreState). slice_get v.pages j) gives.1) ∙ free)))
+    marks_next f g p q f g p q seen s t (Take w job) is m
+    (subst (λ (v : CoreState). Passed f v.pages × Passed g v.launches) (sym gives.1) (passed_job f g s job Free (Held w) gives.0 refl m.free))
     (omega (arith, pages, m.pages, kept.pages s t (Take w job) is))
     (omega (arith, launches, m.launches, kept.launches s t (Take w job) is))
 
-free_put : (f p q : ℕ) (seen : List ℕ) (s t : CoreState) (w : ℕ) (job : JobId) → core_step s (Put w job) ≡ Ok t → Marks f p q seen s → (j : ℕ) → j < f → slice_get t.pages j ≢ Some Free
-free_put f p q seen s t w job is m j lt free =
+passed_put : (f g : ℕ) (s t : CoreState) (w : ℕ) (job : JobId) → core_step s (Put w job) ≡ Ok t → Passed f s.pages × Passed g s.launches → Passed f t.pages × Passed g t.launches
+passed_put f g s t w job is before =
     let gives = put_gives s t w job is in
-    m.free j lt (not_free s job (Held w) Done j gives.0 refl (sym (ap (λ (v : CoreState). slice_get v.pages j) gives.1) ∙ free))
+    subst (λ (v : CoreState). Passed f v.pages × Passed g v.launches) (sym gives.1) (passed_job f g s job (Held w) Done gives.0 refl before)
 
 -- a page is put, and one page fewer is left
 put_page_left : (p : ℕ) (s t : CoreState) (w j : ℕ) → core_step s (Put w (Page j)) ≡ Ok t → p + count_by is_done s.pages ≡ length s.pages
@@ -152,13 +179,13 @@ put_page_left p s t w j is left =
     ap (λ (v : CoreState). count_by is_done v.pages) gives.1 ∙ omega (arith, sum_by-slice_set (λ z. cond (is_done z) 1 0) s.pages j (Held w) Done gives.0) in
     (more, omega (arith, more, left, done-le t.pages, kept.pages s t (Put w (Page j)) is))
 
-pub marks_put_page : (f p q : ℕ) (seen : List ℕ) (s t : CoreState) (w j : ℕ) → core_step s (Put w (Page j)) ≡ Ok t → Marks f p q seen s → (1 ≤ p) × Marks f (p - 1) q seen t
-marks_put_page f p q seen s t w j is m =
+pub marks_put_page : (f g p q : ℕ) (seen : List ℕ) (s t : CoreState) (w j : ℕ) → core_step s (Put w (Page j)) ≡ Ok t → Marks f g p q seen s → (1 ≤ p) × Marks f g (p - 1) q seen t
+marks_put_page f g p q seen s t w j is m =
     let gives = put_gives s t w (Page j) is in
     let left = put_page_left p s t w j is m.pages in
     let launches = ap (λ (v : CoreState). count_by is_done v.launches) gives.1 in (
       left.1,
-      marks_next f f p (p - 1) q q seen s t (Put w (Page j)) is m (free_put f p q seen s t w (Page j) is m)
+      marks_next f g p q f g (p - 1) q seen s t (Put w (Page j)) is m (passed_put f g s t w (Page j) is m.free)
           (omega (arith, left.0, left.1, m.pages, kept.pages s t (Put w (Page j)) is))
           (omega (arith, launches, m.launches, kept.launches s t (Put w (Page j)) is)),
     )
@@ -171,56 +198,36 @@ put_launch_left q s t w l is left =
     ap (λ (v : CoreState). count_by is_done v.launches) gives.1 ∙ omega (arith, sum_by-slice_set (λ z. cond (is_done z) 1 0) s.launches l (Held w) Done gives.0) in
     (more, omega (arith, more, left, done-le t.launches, kept.launches s t (Put w (Launch l)) is))
 
-pub marks_put_launch : (f p q : ℕ) (seen : List ℕ) (s t : CoreState) (w l : ℕ) → core_step s (Put w (Launch l)) ≡ Ok t → Marks f p q seen s → (1 ≤ q) × Marks f p (q - 1) seen t
-marks_put_launch f p q seen s t w l is m =
+pub marks_put_launch : (f g p q : ℕ) (seen : List ℕ) (s t : CoreState) (w l : ℕ) → core_step s (Put w (Launch l)) ≡ Ok t → Marks f g p q seen s → (1 ≤ q) × Marks f g p (q - 1) seen t
+marks_put_launch f g p q seen s t w l is m =
     let gives = put_gives s t w (Launch l) is in
     let left = put_launch_left q s t w l is m.launches in
     let pages = ap (λ (v : CoreState). count_by is_done v.pages) gives.1 in (
       left.1,
-      marks_next f f p p q (q - 1) seen s t (Put w (Launch l)) is m (free_put f p q seen s t w (Launch l) is m)
+      marks_next f g p q f g p (q - 1) seen s t (Put w (Launch l)) is m (passed_put f g s t w (Launch l) is m.free)
           (omega (arith, pages, m.pages, kept.pages s t (Put w (Launch l)) is))
           (omega (arith, left.0, left.1, m.launches, kept.launches s t (Put w (Launch l)) is)),
     )
 
 -- all is done where nothing is left
-pub finished_then : (f p q : ℕ) (seen : List ℕ) (s : CoreState) → Marks f p q seen s → (p == 0) ≡ true → (q == 0) ≡ is_over s
-finished_then f p q seen s m none =
+pub finished_then : (f g p q : ℕ) (seen : List ℕ) (s : CoreState) → Marks f g p q seen s → (p == 0) ≡ true → (q == 0) ≡ is_over s
+finished_then f g p q seen s m none =
     let pages : list_all is_done s.pages ≡ true = sym (none_left s.pages p m.pages) ∙ none in
     none_left s.launches q m.launches ∙ ap (λ (b : Bool). b && list_all is_done s.launches) (sym pages)
 
-pub finished_else : (f p q : ℕ) (seen : List ℕ) (s : CoreState) → Marks f p q seen s → (p == 0) ≡ false → false ≡ is_over s
-finished_else f p q seen s m some =
+pub finished_else : (f g p q : ℕ) (seen : List ℕ) (s : CoreState) → Marks f g p q seen s → (p == 0) ≡ false → false ≡ is_over s
+finished_else f g p q seen s m some =
     let pages : list_all is_done s.pages ≡ false = sym (none_left s.pages p m.pages) ∙ some in
     ap (λ (b : Bool). b && list_all is_done s.launches) (sym pages)
 
--- ---- a retirement
-
--- the job that a worker holds
-abbrev pub HeldIs : CoreState → ℕ → Option JobId → Type 0
-HeldIs s w None = held_count s w ≡ 0
-HeldIs s w (Some job) = (state_of s job ≡ Some (Held w)) × (held_count s w ≡ 1)
-
-freed_free : (s : CoreState) (w : ℕ) (held : Option JobId) (f j : ℕ) → HeldIs s w held → ((k : ℕ) → k < f → slice_get s.pages k ≢ Some Free)
-    → j < lowered f held → slice_get (map (freed w) s.pages) j ≢ Some Free
-freed_free s w None f j h before lt free =
-    before j lt (ap (λ (v : CoreState). slice_get v.pages j) (released_none s w h) ∙ free)
-freed_free s w (Some (Page i)) f j h before lt free =
-    let one : held_count s w ≤ 1 = omega (arith, h.1) in
-    let now : slice_get (set s.pages i Free) j ≡ Some Free = ap (λ (v : CoreState). slice_get v.pages j) (released_one s w (Page i) h.0 one) ∙ free in
-    let other : eqb j i ≡ false = grind (arith, nat_tests, lt) in
-    let below : j < f = omega (arith, lt) in
-    before j below (sym (slice_get-set_other s.pages i j Free other) ∙ now)
-freed_free s w (Some (Launch l)) f j h before lt free =
-    let one : held_count s w ≤ 1 = omega (arith, h.1) in
-    before j lt (ap (λ (v : CoreState). slice_get v.pages j) (released_one s w (Launch l) h.0 one) ∙ free)
-
-pub marks_retire : (f p q : ℕ) (seen : List ℕ) (s t : CoreState) (w : ℕ) (held : Option JobId) → core_step s (Retire w) ≡ Ok t → HeldIs s w held → Marks f p q seen s → Marks (lowered f held) p q seen t
-marks_retire f p q seen s t w held is h m =
+pub marks_retire : (f g p q : ℕ) (seen : List ℕ) (s t : CoreState) (w : ℕ) (held : Option JobId) → core_step s (Retire w) ≡ Ok t → HeldIs s w held
+    → Marks f g p q seen s → Marks (lowered_page f held) (lowered_launch g held) p q seen t
+marks_retire f g p q seen s t w held is h m =
     let gives = retire_gives s t w is in
     let pages = ap (λ (v : CoreState). count_by is_done v.pages) gives ∙ sum-freed_done w s.pages in
     let launches = ap (λ (v : CoreState). count_by is_done v.launches) gives ∙ sum-freed_done w s.launches in
-    marks_next f (lowered f held) p p q q seen s t (Retire w) is m
-    (λ j lt free. freed_free s w held f j h m.free lt (sym (ap (λ (v : CoreState). slice_get v.pages j) gives) ∙ free))
+    marks_next f g p q (lowered_page f held) (lowered_launch g held) p q seen s t (Retire w) is m
+    (subst (λ (v : CoreState). Passed (lowered_page f held) v.pages × Passed (lowered_launch g held) v.launches) (sym gives) (passed_released f g s w held h m.free))
     (omega (arith, pages, m.pages, kept.pages s t (Retire w) is))
     (omega (arith, launches, m.launches, kept.launches s t (Retire w) is))
 
@@ -234,9 +241,9 @@ zeros zero l = refl
 zeros (suc n) zero = refl
 zeros (suc n) (suc l) = zeros n l
 
-pub marks_fresh : (workers pages : ℕ) (needs : List (List ℕ)) → Marks 0 pages (length needs) (replicate (length needs) 0) (opening workers pages needs)
+pub marks_fresh : (workers pages : ℕ) (needs : List (List ℕ)) → Marks 0 0 pages (length needs) (replicate (length needs) 0) (opening workers pages needs)
 marks_fresh workers pages needs = record {
-  free = λ j lt. absurd (omega (arith, lt));
+  free = (λ j lt. absurd (omega (arith, lt)), λ j lt. absurd (omega (arith, lt)));
   pages = none_done pages;
   launches = none_done (length needs);
   size = length-replicate (length needs) 0 ∙ sym (length-replicate (length needs) Free);
@@ -255,10 +262,10 @@ core_fresh (suc n) pages needs some few within = record {
 
 -- ---- a take
 
-pub taken_kept : {U : Type 0} (f p q : ℕ) (seen : List ℕ) (s t : CoreState) (w : ℕ) (job : JobId) (r : Result U CoreFault) → Matches (λ u. t) r (core_step s (Take w job)) → OnErr r (t ≡ s)
-    → IsCore s × Marks f p q seen s → IsCore t × Marks f p q seen t
-taken_kept f p q seen s t w job (Ok u) is same m = (core_next s t (Take w job) is m.0, marks_take f p q seen s t w job is m.1)
-taken_kept f p q seen s t w job (Err e) is same m = subst (λ (u : CoreState). IsCore u × Marks f p q seen u) (sym same) m
+pub taken_kept : {U : Type 0} (f g p q : ℕ) (seen : List ℕ) (s t : CoreState) (w : ℕ) (job : JobId) (r : Result U CoreFault) → Matches (λ u. t) r (core_step s (Take w job)) → OnErr r (t ≡ s)
+    → IsCore s × Marks f g p q seen s → IsCore t × Marks f g p q seen t
+taken_kept f g p q seen s t w job (Ok u) is same m = (core_next s t (Take w job) is m.0, marks_take f g p q seen s t w job is m.1)
+taken_kept f g p q seen s t w job (Err e) is same m = subst (λ (u : CoreState). IsCore u × Marks f g p q seen u) (sym same) m
 
 pub held_is_job : (s : CoreState) (w : ℕ) (held : Option JobId) → IfSome held (λ job. state_of s job ≡ Some (Held w)) → held_count s w ≡ held_of held → HeldIs s w held
 held_is_job s w None at count = count
@@ -282,13 +289,13 @@ ready_at f (p ∷ ps) (suc n) le done stops =
     same ∙ (rest ∙ ap (λ (b : Bool). b && list_all f ps) (sym here))
 
 -- a launch whose needs are done as far as was seen, and from there to a place
-pub ready_here : (f p q : ℕ) (seen : List ℕ) (s : CoreState) (l : ℕ) (needed : List ℕ) (states : List JobState) (from end : ℕ) → Marks f p q seen s → l < length s.launches
+pub ready_here : (f g p q : ℕ) (seen : List ℕ) (s : CoreState) (l : ℕ) (needed : List ℕ) (states : List JobState) (from end : ℕ) → Marks f g p q seen s → l < length s.launches
     → needed ≡ get_or s.needs l [] → states ≡ s.pages → from ≡ get_or seen l from
     → (from ≤ end) × (end ≤ length needed)
     → ((k : ℕ) → from ≤ k → k < end → is_page_done states (get_or needed k 0) ≡ true)
     → (end < length needed → is_page_done states (get_or needed end 0) ≡ false)
     → (end == length needed) ≡ is_ready s (Launch l)
-ready_here f p q seen s l needed states from end m lt needs pages start within done stops =
+ready_here f g p q seen s l needed states from end m lt needs pages start within done stops =
     ready_at (is_page_done states) needed end within.1 before stops ∙ (ap (λ (ns : List ℕ). list_all (is_page_done states) ns) needs ∙ ap (λ (xs : List JobState). list_all (is_page_done xs) (get_or s.needs l [])) pages)
   where
     seen_here : from ≡ get_or seen l 0

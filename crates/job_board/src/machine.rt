@@ -3,7 +3,7 @@ ghost use Rattle.std.specs.Prelude.{◌≡◌, ◌≢◌, ◌<◌, ◌≤◌, []
 ghost use Rattle.refusal.specs.Answer.{Matches};
 ghost use Rattle.job_board.specs.Jobs.{IsCore, NeedsWithin, held_count, is_out, is_over, is_page_done, is_ready, opening, state_of};
 ghost use Rattle.job_board.specs.Step.{core_step};
-ghost use Rattle.job_board.specs.inside.Marks.{lowered};
+ghost use Rattle.job_board.specs.inside.Marks.{lowered_launch, lowered_page};
 
 use crate::job::{CoreFault, Event, JobId, JobState};
 use crate::jobs::Jobs;
@@ -16,7 +16,9 @@ use std::marker::Model;
 pub struct Core {
     jobs: Jobs,
     /// No page below this one is free.
-    free_from: usize,
+    pages_from: usize,
+    /// No launch below this one is free.
+    launches_from: usize,
     /// How many pages are not done.
     pages_left: usize,
     /// How many launches are not done.
@@ -33,7 +35,7 @@ impl Model for Core {
 
     ghost view = { λ c. c.jobs };
 
-    ghost invariant = { λ c. IsCore c.jobs × Marks c.free_from c.pages_left c.launches_left c.seen.items c.jobs };
+    ghost invariant = { λ c. IsCore c.jobs × Marks c.pages_from c.launches_from c.pages_left c.launches_left c.seen.items c.jobs };
 }
 
 impl Core {
@@ -54,7 +56,8 @@ impl Core {
         let jobs = Jobs::new(alloc, workers, pages, needs)?;
         Ok(Core {
             jobs,
-            free_from: 0,
+            pages_from: 0,
+            launches_from: 0,
             pages_left: pages,
             launches_left: launches,
             seen,
@@ -95,7 +98,8 @@ impl Core {
         if let Err(fault) = self.jobs.retire(worker) {
             return Err(fault);
         }
-        self.free_from = lowered(self.free_from, held);
+        self.pages_from = lowered_page(self.pages_from, held);
+        self.launches_from = lowered_launch(self.launches_from, held);
         Ok(())
     }
 }
@@ -161,24 +165,36 @@ impl Core {
         ensures none { IfNone result ((page : ℕ) → slice_get self.old.pages page ≢ Some JobState.Free) }
     {
         let pages = self.jobs.pages();
-        let page = free_at(pages, self.free_from);
-        self.free_from = page.unwrap_or(pages.len());
+        let page = free_at(pages, self.pages_from);
+        self.pages_from = page.unwrap_or(pages.len());
         page
     }
 
     /// A launch that is free and of which all pages are done, or `None` where none is. A need that was seen to be done
-    /// is not looked at again.
+    /// is not looked at again, and neither are launches before the first free one, unless a retirement frees one.
     pub fn ready_launch(&mut self) -> Option<usize>
         ensures same { self.new ≡ self.old }
         ensures some { IfSome result (λ launch. (slice_get self.old.launches launch ≡ Some JobState.Free) × (is_ready self.old (JobId.Launch launch) ≡ true)) }
         ensures none { IfNone result ((launch : ℕ) → slice_get self.old.launches launch ≡ Some JobState.Free → is_ready self.old (JobId.Launch launch) ≡ false) }
     {
-        for launch in 0..self.launches() {
+        let from = self.free_launch_from();
+        for launch in from..self.launches() {
             if self.jobs.is_free(JobId::Launch(launch)) && self.is_ready(launch) {
                 return Some(launch);
             }
         }
         None
+    }
+
+    /// A launch below which none is free.
+    fn free_launch_from(&mut self) -> usize
+        ensures same { self.new ≡ self.old }
+        ensures passed { (launch : ℕ) → launch < result → slice_get self.old.launches launch ≢ Some JobState.Free }
+    {
+        let launches = self.jobs.launches();
+        let from = free_at(launches, self.launches_from).unwrap_or(launches.len());
+        self.launches_from = from;
+        from
     }
 
     /// Whether all pages that a launch needs are done.
@@ -195,13 +211,23 @@ impl Core {
     }
 }
 
-/// The first page that may be free, where what a worker held is free again.
-fn lowered(free_from: usize, held: Option<JobId>) -> usize
-    ensures { result ≡ lowered free_from held }
+/// How many pages are passed over, where what a worker held is free again.
+fn lowered_page(from: usize, held: Option<JobId>) -> usize
+    ensures { result ≡ lowered_page from held }
 {
     match held {
-        Some(JobId::Page(page)) => free_from.min(page),
-        _ => free_from,
+        Some(JobId::Page(page)) => from.min(page),
+        _ => from,
+    }
+}
+
+/// How many launches are passed over, where what a worker held is free again.
+fn lowered_launch(from: usize, held: Option<JobId>) -> usize
+    ensures { result ≡ lowered_launch from held }
+{
+    match held {
+        Some(JobId::Launch(launch)) => from.min(launch),
+        _ => from,
     }
 }
 
