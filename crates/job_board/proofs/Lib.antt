@@ -9,3 +9,7 @@ pub mod Stuck
 pub mod Valued
 pub mod Kept
 pub mod Marked
+pub mod Histories
+pub mod Boards
+pub mod BoardRows
+pub mod Fresh
