@@ -1,4 +1,5 @@
 //! What tests ask of a core. Each question is compared at one place, since each comparison is proved.
+mod boards;
 mod faults;
 mod runs;
 mod searches;
