@@ -1,11 +1,9 @@
 -- Who holds a job is the same by the events and by the state.
-use Rattle.std.proofs.Common.{◌≡◌, ℕ, Bool, true, false, not, ◌&&◌, ◌||◌, List, [], ◌∷◌, length, replicate, zero, suc, Option, Some, None, refl, sym, ap, ◌∙◌, arith}
+use Rattle.std.proofs.Common.{◌≡◌, ℕ, Bool, true, false, not, ◌&&◌, ◌||◌, List, [], ◌∷◌, Option, Some, None, refl, sym, ap, ◌∙◌, arith}
 use Rattle.std.specs.Prelude.{◌==◌}
-use Rattle.std.specs.List.{slice_get}
 use Rattle.std.specs.Option.{option_map}
 use Rattle.std.proofs.lemmas.Bool.Decides.{nat_tests}
 use Rattle.job_board.specs.declared.job.JobId.{JobId}
-use Rattle.job_board.specs.declared.job.JobId.TheVariants.{Page, Launch}
 use Rattle.job_board.specs.declared.job.JobState.{JobState}
 use Rattle.job_board.specs.declared.job.JobState.TheVariants.{Free, Held, Done}
 use Rattle.job_board.specs.declared.job.Event.{Event}
@@ -13,7 +11,7 @@ use Rattle.job_board.specs.declared.job.Event.TheVariants.{Take, Put, Retire}
 use Rattle.job_board.specs.Jobs.{CoreState, freed, is_held_by, opening, state_of, with_job}
 use Rattle.job_board.specs.Step.{job_is}
 use Rattle.job_board.specs.Events.{holds, holds_from, holds_next, is_accepted, is_legal, next_state, replay, same_job}
-use Rattle.job_board.proofs.OneJob.{same_job-is, state_of-other, state_of-same}
+use Rattle.job_board.proofs.OneJob.{fresh_job, same_job-is, state_of-other, state_of-same}
 use Rattle.job_board.proofs.Steps.{accepted_take, accepted_put, accepted_retire, held_at}
 use Rattle.job_board.proofs.Runs.{legal_parts, state_of-retire}
 
@@ -85,18 +83,9 @@ run_holds s (e ∷ es) w job before h is =
     let p = legal_parts s e es h in
     run_holds (next_state s e) es w job (holds_next w job e before) p.1 (ap (holds_next w job e) is ∙ next_holds s e w job p.0)
 
-none_held : (n l w : ℕ) → job_is (is_held_by w) (slice_get (replicate n Free) l) ≡ false
-none_held zero l w = refl
-none_held (suc n) zero w = refl
-none_held (suc n) (suc l) w = none_held n l w
-
-none_holds : (workers pages : ℕ) (needs : List (List ℕ)) (w : ℕ) (job : JobId) → holds_in (opening workers pages needs) w job ≡ false
-none_holds workers pages needs w (Page j) = none_held pages j w
-none_holds workers pages needs w (Launch l) = none_held (length needs) l w
-
 pub held_in_state : (workers pages : ℕ) (needs : List (List ℕ)) (es : List Event) → is_legal (opening workers pages needs) es ≡ true
     → (w : ℕ) (job : JobId) → holds es w job ≡ holds_in (replay (opening workers pages needs) es) w job
-held_in_state workers pages needs es h w job = run_holds (opening workers pages needs) es w job false h (sym (none_holds workers pages needs w job))
+held_in_state workers pages needs es h w job = run_holds (opening workers pages needs) es w job false h (sym (fresh_job (job_is (is_held_by w)) false refl refl workers pages needs job))
 
 pub one_holder : (workers pages : ℕ) (needs : List (List ℕ)) (es : List Event) → is_legal (opening workers pages needs) es ≡ true
     → (v w : ℕ) (job : JobId) → holds es v job ≡ true → holds es w job ≡ true → v ≡ w

@@ -15,27 +15,15 @@ use Rattle.job_board.specs.declared.job.JobState.{JobState}
 use Rattle.job_board.specs.declared.job.JobState.TheVariants.{Free, Held, Done}
 use Rattle.job_board.specs.declared.job.Event.{Event}
 use Rattle.job_board.specs.declared.job.Event.TheVariants.{Take, Put, Retire}
-use Rattle.job_board.specs.Jobs.{CoreState, IsCore, NeedsWithin, freed, held_count, is_done, is_free, is_over, is_page_done, is_ready, opening, state_of, with_job, with_page, with_launch, without_worker}
+use Rattle.job_board.specs.Jobs.{CoreState, IsCore, NeedsWithin, freed, held_count, is_done, is_free, is_over, is_page_done, is_ready, opening, state_of, with_page, with_launch}
 use Rattle.job_board.specs.Step.{core_step}
 use Rattle.job_board.specs.inside.Notes.{held_of}
 use Rattle.job_board.specs.inside.Marks.{Marks, Passed, lowered_launch, lowered_page}
 use Rattle.job_board.proofs.Counting.{bit, sum_by-slice_set, sum_by-replicate_zero, sum-freed_done}
 use Rattle.job_board.proofs.OneJob.{slice_get-set_other, slice_get-set_same}
-use Rattle.job_board.proofs.Steps.{accepted_put, accepted_retire, accepted_take}
 use Rattle.job_board.proofs.Noted.{released_none, released_one}
 use Rattle.job_board.proofs.Ready.{stays_done}
 use Rattle.job_board.proofs.Kept as kept
-
--- ---- what a step makes of the state
-
-take_gives : (s t : CoreState) (w : ℕ) (job : JobId) → core_step s (Take w job) ≡ Ok t → (state_of s job ≡ Some Free) × (t ≡ with_job s job (Held w))
-take_gives s t w job is = let p = accepted_take s w job (kept.accepted s t (Take w job) is) in (p.free, sym (kept.next_is s t (Take w job) is) ∙ p.next)
-
-put_gives : (s t : CoreState) (w : ℕ) (job : JobId) → core_step s (Put w job) ≡ Ok t → (state_of s job ≡ Some (Held w)) × (t ≡ with_job s job Done)
-put_gives s t w job is = let p = accepted_put s w job (kept.accepted s t (Put w job) is) in (p.held, sym (kept.next_is s t (Put w job) is) ∙ p.next)
-
-retire_gives : (s t : CoreState) (w : ℕ) → core_step s (Retire w) ≡ Ok t → t ≡ without_worker s w
-retire_gives s t w is = let p = accepted_retire s w (kept.accepted s t (Retire w) is) in sym (kept.next_is s t (Retire w) is) ∙ p.next
 
 -- what every core keeps stays so
 pub core_next : (s t : CoreState) (e : Event) → core_step s e ≡ Ok t → IsCore s → IsCore t
@@ -157,33 +145,33 @@ marks_next f g p q f' g' p' q' seen s t e is m free pages launches = record {
 
 pub marks_take : (f g p q : ℕ) (seen : List ℕ) (s t : CoreState) (w : ℕ) (job : JobId) → core_step s (Take w job) ≡ Ok t → Marks f g p q seen s → Marks f g p q seen t
 marks_take f g p q seen s t w job is m =
-    let gives = take_gives s t w job is in
-    let pages = ap (λ (v : CoreState). count_by is_done v.pages) gives.1 ∙ pages_same s job Free (Held w) gives.0 refl in
-    let launches = ap (λ (v : CoreState). count_by is_done v.launches) gives.1 ∙ launches_same s job Free (Held w) gives.0 refl in
+    let gives = kept.take_says s t w job is in
+    let pages = ap (λ (v : CoreState). count_by is_done v.pages) gives.2 ∙ pages_same s job Free (Held w) gives.0 refl in
+    let launches = ap (λ (v : CoreState). count_by is_done v.launches) gives.2 ∙ launches_same s job Free (Held w) gives.0 refl in
     marks_next f g p q f g p q seen s t (Take w job) is m
-    (subst (λ (v : CoreState). Passed f v.pages × Passed g v.launches) (sym gives.1) (passed_job f g s job Free (Held w) gives.0 refl m.free))
+    (subst (λ (v : CoreState). Passed f v.pages × Passed g v.launches) (sym gives.2) (passed_job f g s job Free (Held w) gives.0 refl m.free))
     (omega (arith, pages, m.pages, kept.pages s t (Take w job) is))
     (omega (arith, launches, m.launches, kept.launches s t (Take w job) is))
 
 passed_put : (f g : ℕ) (s t : CoreState) (w : ℕ) (job : JobId) → core_step s (Put w job) ≡ Ok t → Passed f s.pages × Passed g s.launches → Passed f t.pages × Passed g t.launches
 passed_put f g s t w job is before =
-    let gives = put_gives s t w job is in
-    subst (λ (v : CoreState). Passed f v.pages × Passed g v.launches) (sym gives.1) (passed_job f g s job (Held w) Done gives.0 refl before)
+    let gives = kept.put_says s t w job is in
+    subst (λ (v : CoreState). Passed f v.pages × Passed g v.launches) (sym gives.2) (passed_job f g s job (Held w) Done gives.1 refl before)
 
 -- a page is put, and one page fewer is left
 put_page_left : (p : ℕ) (s t : CoreState) (w j : ℕ) → core_step s (Put w (Page j)) ≡ Ok t → p + count_by is_done s.pages ≡ length s.pages
     → (count_by is_done t.pages ≡ count_by is_done s.pages + 1) × (1 ≤ p)
 put_page_left p s t w j is left =
-    let gives = put_gives s t w (Page j) is in
+    let gives = kept.put_says s t w (Page j) is in
     let more : count_by is_done t.pages ≡ count_by is_done s.pages + 1 =
-    ap (λ (v : CoreState). count_by is_done v.pages) gives.1 ∙ omega (arith, sum_by-slice_set (λ z. cond (is_done z) 1 0) s.pages j (Held w) Done gives.0) in
+    ap (λ (v : CoreState). count_by is_done v.pages) gives.2 ∙ omega (arith, sum_by-slice_set (λ z. cond (is_done z) 1 0) s.pages j (Held w) Done gives.1) in
     (more, omega (arith, more, left, done-le t.pages, kept.pages s t (Put w (Page j)) is))
 
 pub marks_put_page : (f g p q : ℕ) (seen : List ℕ) (s t : CoreState) (w j : ℕ) → core_step s (Put w (Page j)) ≡ Ok t → Marks f g p q seen s → (1 ≤ p) × Marks f g (p - 1) q seen t
 marks_put_page f g p q seen s t w j is m =
-    let gives = put_gives s t w (Page j) is in
+    let gives = kept.put_says s t w (Page j) is in
     let left = put_page_left p s t w j is m.pages in
-    let launches = ap (λ (v : CoreState). count_by is_done v.launches) gives.1 in (
+    let launches = ap (λ (v : CoreState). count_by is_done v.launches) gives.2 in (
       left.1,
       marks_next f g p q f g (p - 1) q seen s t (Put w (Page j)) is m (passed_put f g s t w (Page j) is m.free)
           (omega (arith, left.0, left.1, m.pages, kept.pages s t (Put w (Page j)) is))
@@ -193,16 +181,16 @@ marks_put_page f g p q seen s t w j is m =
 put_launch_left : (q : ℕ) (s t : CoreState) (w l : ℕ) → core_step s (Put w (Launch l)) ≡ Ok t → q + count_by is_done s.launches ≡ length s.launches
     → (count_by is_done t.launches ≡ count_by is_done s.launches + 1) × (1 ≤ q)
 put_launch_left q s t w l is left =
-    let gives = put_gives s t w (Launch l) is in
+    let gives = kept.put_says s t w (Launch l) is in
     let more : count_by is_done t.launches ≡ count_by is_done s.launches + 1 =
-    ap (λ (v : CoreState). count_by is_done v.launches) gives.1 ∙ omega (arith, sum_by-slice_set (λ z. cond (is_done z) 1 0) s.launches l (Held w) Done gives.0) in
+    ap (λ (v : CoreState). count_by is_done v.launches) gives.2 ∙ omega (arith, sum_by-slice_set (λ z. cond (is_done z) 1 0) s.launches l (Held w) Done gives.1) in
     (more, omega (arith, more, left, done-le t.launches, kept.launches s t (Put w (Launch l)) is))
 
 pub marks_put_launch : (f g p q : ℕ) (seen : List ℕ) (s t : CoreState) (w l : ℕ) → core_step s (Put w (Launch l)) ≡ Ok t → Marks f g p q seen s → (1 ≤ q) × Marks f g p (q - 1) seen t
 marks_put_launch f g p q seen s t w l is m =
-    let gives = put_gives s t w (Launch l) is in
+    let gives = kept.put_says s t w (Launch l) is in
     let left = put_launch_left q s t w l is m.launches in
-    let pages = ap (λ (v : CoreState). count_by is_done v.pages) gives.1 in (
+    let pages = ap (λ (v : CoreState). count_by is_done v.pages) gives.2 in (
       left.1,
       marks_next f g p q f g p (q - 1) seen s t (Put w (Launch l)) is m (passed_put f g s t w (Launch l) is m.free)
           (omega (arith, pages, m.pages, kept.pages s t (Put w (Launch l)) is))
@@ -223,7 +211,7 @@ finished_else f g p q seen s m some =
 pub marks_retire : (f g p q : ℕ) (seen : List ℕ) (s t : CoreState) (w : ℕ) (held : Option JobId) → core_step s (Retire w) ≡ Ok t → HeldIs s w held
     → Marks f g p q seen s → Marks (lowered_page f held) (lowered_launch g held) p q seen t
 marks_retire f g p q seen s t w held is h m =
-    let gives = retire_gives s t w is in
+    let gives = (kept.retire_says s t w is).1 in
     let pages = ap (λ (v : CoreState). count_by is_done v.pages) gives ∙ sum-freed_done w s.pages in
     let launches = ap (λ (v : CoreState). count_by is_done v.launches) gives ∙ sum-freed_done w s.launches in
     marks_next f g p q (lowered_page f held) (lowered_launch g held) p q seen s t (Retire w) is m

@@ -1,5 +1,5 @@
 -- One job is changed.
-use Rattle.std.proofs.Common.{◌≡◌, ℕ, zero, suc, Bool, true, false, eqb, List, [], ◌∷◌, set, Option, Some, None, ap, refl, arith}
+use Rattle.std.proofs.Common.{◌≡◌, ℕ, zero, suc, Bool, true, false, eqb, List, [], ◌∷◌, length, replicate, set, Option, Some, None, ap, refl, arith}
 use Rattle.std.specs.Prelude.{unwrap_or}
 use Rattle.std.specs.List.{slice_get}
 use Rattle.std.proofs.lemmas.Bool.{false≢true}
@@ -8,7 +8,7 @@ use Rattle.job_board.specs.declared.job.JobId.{JobId}
 use Rattle.job_board.specs.declared.job.JobId.TheVariants.{Page, Launch}
 use Rattle.job_board.specs.declared.job.JobState.{JobState}
 use Rattle.job_board.specs.declared.job.JobState.TheVariants.{Free, Held, Done}
-use Rattle.job_board.specs.Jobs.{CoreState, is_held_by, is_out, state_of, with_job}
+use Rattle.job_board.specs.Jobs.{CoreState, is_held_by, is_out, opening, state_of, with_job}
 use Rattle.job_board.specs.Events.{same_job}
 
 pub slice_get-set_same : {X : Type 0} (xs : List X) (i : ℕ) (x y : X) → slice_get xs i ≡ Some x → slice_get (set xs i y) i ≡ Some y
@@ -52,3 +52,14 @@ not_out s w h = not_out_at (slice_get s.retired w) h
     not_out_at : (o : Option Bool) → unwrap_or o true ≡ false → o ≡ Some false
     not_out_at None e = cc
     not_out_at (Some b) e = ap Some e
+
+-- each job of an opening state is free, or is not there
+pub fresh : {A : Type 0} (f : Option JobState → A) (a : A) → f None ≡ a → f (Some Free) ≡ a → (n l : ℕ) → f (slice_get (replicate n Free) l) ≡ a
+fresh f a past free zero l = past
+fresh f a past free (suc n) zero = free
+fresh f a past free (suc n) (suc l) = fresh f a past free n l
+
+pub fresh_job : {A : Type 0} (f : Option JobState → A) (a : A) → f None ≡ a → f (Some Free) ≡ a
+    → (workers pages : ℕ) (needs : List (List ℕ)) (job : JobId) → f (state_of (opening workers pages needs) job) ≡ a
+fresh_job f a past free workers pages needs (Page j) = fresh f a past free pages j
+fresh_job f a past free workers pages needs (Launch l) = fresh f a past free (length needs) l

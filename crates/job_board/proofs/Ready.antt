@@ -1,5 +1,5 @@
 -- Pages done stay done, so a launch that was given is ready from then on.
-use Rattle.std.proofs.Common.{◌≡◌, ℕ, zero, suc, ◌+◌, Bool, true, false, not, eqb, List, [], ◌∷◌, ◌++◌, length, get_or, set, map, replicate, Option, Some, None, refl, sym, ap, ◌∙◌, subst, arith, inl, inr}
+use Rattle.std.proofs.Common.{◌≡◌, ℕ, ◌+◌, Bool, true, false, not, eqb, List, [], ◌∷◌, ◌++◌, length, get_or, set, map, Option, Some, None, refl, sym, ap, ◌∙◌, subst, arith, inl, inr}
 use Rattle.std.specs.Prelude.{◌⊎◌, unwrap_or}
 use Rattle.std.specs.List.{slice_get, list_all}
 use Rattle.std.specs.Option.{option_map}
@@ -16,7 +16,7 @@ use Rattle.job_board.specs.Jobs.{CoreState, is_free, is_done, state_of, with_job
 use Rattle.job_board.specs.Events.{next_state, is_accepted, replay, is_legal}
 use Rattle.job_board.proofs.Counting.{bit}
 use Rattle.job_board.proofs.Steps.{accepted_take, accepted_put, accepted_retire}
-use Rattle.job_board.proofs.OneJob.{slice_get-set_other}
+use Rattle.job_board.proofs.OneJob.{fresh, slice_get-set_other}
 use Rattle.job_board.proofs.Runs.{done_at, is_put_of, legal_parts, needs_next, needs_run, put_next}
 
 -- whether a launch is there and is held or done
@@ -112,13 +112,8 @@ given_run s (e ∷ es) h before =
     let p = legal_parts s e es h in
     given_run (next_state s e) es p.1 (given_next s e p.0 before)
 
-none_given : (n l : ℕ) → is_given (slice_get (replicate n Free) l) ≡ false
-none_given zero l = refl
-none_given (suc n) zero = refl
-none_given (suc n) (suc l) = none_given n l
-
 pub opening_given : (workers pages : ℕ) (needs : List (List ℕ)) → GivenAreReady (opening workers pages needs)
-opening_given workers pages needs = λ l g. let none = none_given (length needs) l in let e : true ≡ false = sym g ∙ none in cc
+opening_given workers pages needs = λ l g. let none = fresh is_given false refl refl (length needs) l in let e : true ≡ false = sym g ∙ none in cc
 
 pub stay_ready : (workers pages : ℕ) (needs : List (List ℕ)) (es : List Event) → is_legal (opening workers pages needs) es ≡ true → GivenAreReady (replay (opening workers pages needs) es)
 stay_ready workers pages needs es h = given_run (opening workers pages needs) es h (opening_given workers pages needs)

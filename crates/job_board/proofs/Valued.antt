@@ -1,5 +1,5 @@
 -- Each put has its job's own value.
-use Rattle.std.proofs.Common.{◌≡◌, ℕ, zero, suc, ◌+◌, ◌<◌, ◌≤◌, Bool, true, false, cond, eqb, ◌||◌, List, [], ◌∷◌, length, get_or, set, map, replicate, Option, Some, None, refl, sym, ap, ◌∙◌, subst, arith}
+use Rattle.std.proofs.Common.{◌≡◌, ℕ, ◌+◌, ◌<◌, ◌≤◌, Bool, true, false, cond, eqb, ◌||◌, List, [], ◌∷◌, length, get_or, set, map, replicate, Option, Some, None, refl, sym, ap, ◌∙◌, subst, arith}
 use Rattle.std.specs.Prelude.{◌↔◌}
 use Rattle.std.specs.List.{All, Contains, count_by, slice_get, list_all, list_any, filter_map}
 use Rattle.std.specs.Option.{option_map}
@@ -21,9 +21,9 @@ use Rattle.job_board.specs.Events.{jobs_put, next_state, is_accepted, replay, is
 use Rattle.job_board.specs.Values.{Makes, Seen, nothing_seen, seen_after, values_from, values, own_value, NeedsHold}
 use Rattle.job_board.proofs.Counting.{bit}
 use Rattle.job_board.proofs.Steps.{accepted_take, accepted_put, accepted_retire, Takes}
-use Rattle.job_board.proofs.OneJob.{same_job-is, slice_get-set_same, slice_get-set_other}
+use Rattle.job_board.proofs.OneJob.{fresh, fresh_job, same_job-is, slice_get-set_same, slice_get-set_other}
 use Rattle.job_board.proofs.Runs.{done_at, done_at-le, is_put_of, legal_parts, needs_next, put_run, puts_are, size_next}
-use Rattle.job_board.proofs.Ready.{page_done_next}
+use Rattle.job_board.proofs.Ready.{done_is, is_given, page_done_next}
 
 -- what was put and gathered so far is right: each done page's value is its own, and each held launch's row is of its own pages
 pub record Right (m : Makes) (s : CoreState) (n : Seen) : Type 0 where
@@ -155,24 +155,14 @@ values_are m s n (Retire w ∷ es) h g =
     let p = legal_parts s (Retire w) es h in
     values_are m (next_state s (Retire w)) n es p.1 (going_next m s n (Retire w) p.0 g)
 
-none_done : (k p : ℕ) → is_page_done (replicate k Free) p ≡ false
-none_done zero p = refl
-none_done (suc k) zero = refl
-none_done (suc k) (suc p) = none_done k p
-
-none_held : (k l v : ℕ) → slice_get (replicate k Free) l ≡ Some (Held v) → ⊥
-none_held zero l v at = cc
-none_held (suc k) zero v at = cc
-none_held (suc k) (suc l) v at = none_held k l v at
-
 pub own_values : (m : Makes) (workers pages : ℕ) (needs : List (List ℕ)) (es : List Event) → NeedsHold m needs → is_legal (opening workers pages needs) es ≡ true → values m es ≡ map (λ job. (job, own_value m job)) (jobs_put es)
 own_values m workers pages needs es hold h =
     values_are m (opening workers pages needs) nothing_seen es h (record {
       hold = hold;
       size = length-replicate (length needs) Free;
       right = record {
-        put = λ p is. let e : true ≡ false = sym is ∙ none_done pages p in cc;
-        rows = λ l v at. absurd (none_held (length needs) l v at);
+        put = λ p is. let one : bit (is_page_done (replicate pages Free) p) ≡ 1 = ap bit is in absurd (omega (arith, one, done_is (replicate pages Free) p, fresh done_at 0 refl refl pages p));
+        rows = λ l v at. let e : true ≡ false = sym (ap is_given at) ∙ fresh is_given false refl refl (length needs) l in cc;
       };
     })
 
@@ -202,20 +192,6 @@ done_one (Some Free) e = absurd (omega (arith, e))
 done_one (Some (Held w)) e = absurd (omega (arith, e))
 done_one (Some Done) e = refl
 
-not_done_yet : (workers pages : ℕ) (needs : List (List ℕ)) (job : JobId) → done_at (state_of (opening workers pages needs) job) ≡ 0
-not_done_yet workers pages needs (Page j) = free_at_most pages j
-  where
-    free_at_most : (k i : ℕ) → done_at (slice_get (replicate k Free) i) ≡ 0
-    free_at_most zero i = refl
-    free_at_most (suc k) zero = refl
-    free_at_most (suc k) (suc i) = free_at_most k i
-not_done_yet workers pages needs (Launch l) = free_at_most (length needs) l
-  where
-    free_at_most : (k i : ℕ) → done_at (slice_get (replicate k Free) i) ≡ 0
-    free_at_most zero i = refl
-    free_at_most (suc k) zero = refl
-    free_at_most (suc k) (suc i) = free_at_most k i
-
 pub done_are_put : (workers pages : ℕ) (needs : List (List ℕ)) (es : List Event) → is_legal (opening workers pages needs) es ≡ true
     → (job : JobId) → (state_of (replay (opening workers pages needs) es) job ≡ Some Done) ↔ Contains (jobs_put es) job
 done_are_put workers pages needs es h job = (
@@ -234,4 +210,4 @@ done_are_put workers pages needs es h job = (
     count = omega (arith, put_run s es job h, puts_are es job)
 
     none : done_at (state_of s job) ≡ 0
-    none = not_done_yet workers pages needs job
+    none = fresh_job done_at 0 refl refl workers pages needs job
