@@ -19,7 +19,8 @@ use Rattle.job_board.proofs.Counting.{sum_by-slice_set}
 use Rattle.job_board.proofs.OneJob.{not_out, slice_get-set_other, slice_get-set_same}
 use Rattle.job_board.proofs.Noted.{released_none, released_one}
 use Rattle.job_board.proofs.Marked.{HeldIs}
-use Rattle.job_board.proofs.Boards.{put_says, retire_says, set_is, take_says}
+use Rattle.job_board.proofs.Boards.{set_is}
+use Rattle.job_board.proofs.Kept.{put_says, retire_says, take_says}
 
 -- what a launch that is freed leaves
 abbrev pub launches_after : Option JobId → List JobState → List JobState

@@ -19,29 +19,17 @@ use Rattle.job_board.specs.declared.job.JobState.{JobState}
 use Rattle.job_board.specs.declared.job.JobState.TheVariants.{Free, Held, Done}
 use Rattle.job_board.specs.declared.job.Event.{Event}
 use Rattle.job_board.specs.declared.job.Event.TheVariants.{Take, Put, Retire}
-use Rattle.job_board.specs.Jobs.{CoreState, freed, is_done, is_out, is_page_done, is_ready, pages_done, state_of, with_job, without_worker}
+use Rattle.job_board.specs.Jobs.{CoreState, freed, is_done, is_page_done, is_ready, pages_done, state_of, with_job}
 use Rattle.job_board.specs.Step.{core_step}
 use Rattle.job_board.specs.Board.{BoardView, IsBoard, IsNeeded, value_in}
 use Rattle.job_board.proofs.Counting.{bit}
 use Rattle.job_board.proofs.OneJob.{slice_get-set_other}
-use Rattle.job_board.proofs.Steps.{accepted_put, accepted_retire, accepted_take}
 use Rattle.job_board.proofs.Runs.{done_next, is_page_put}
 use Rattle.job_board.proofs.Ready.{GivenAreReady, is_given, stay_ready}
 use Rattle.job_board.proofs.Marked.{core_next}
 use Rattle.job_board.proofs.Histories.{history_push}
 use Rattle.job_board.specs.History.{IsHistory}
 use Rattle.job_board.proofs.Kept as kept
-
--- ---- what a step says
-
-pub take_says : (s t : CoreState) (w : ℕ) (job : JobId) → core_step s (Take w job) ≡ Ok t → (state_of s job ≡ Some Free) × (is_ready s job ≡ true) × (t ≡ with_job s job (Held w))
-take_says s t w job is = let p = accepted_take s w job (kept.accepted s t (Take w job) is) in (p.free, p.ready, sym (kept.next_is s t (Take w job) is) ∙ p.next)
-
-pub put_says : (s t : CoreState) (w : ℕ) (job : JobId) → core_step s (Put w job) ≡ Ok t → (is_out s w ≡ false) × (state_of s job ≡ Some (Held w)) × (t ≡ with_job s job Done)
-put_says s t w job is = let p = accepted_put s w job (kept.accepted s t (Put w job) is) in (p.known, p.held, sym (kept.next_is s t (Put w job) is) ∙ p.next)
-
-pub retire_says : (s t : CoreState) (w : ℕ) → core_step s (Retire w) ≡ Ok t → (is_out s w ≡ false) × (t ≡ without_worker s w)
-retire_says s t w is = let p = accepted_retire s w (kept.accepted s t (Retire w) is) in (p.known, sym (kept.next_is s t (Retire w) is) ∙ p.next)
 
 history_ready : (s : CoreState) (es : List Event) → IsHistory s es → GivenAreReady s
 history_ready s es h = subst GivenAreReady (sym h.replayed) (stay_ready (length s.retired) (length s.pages) s.needs es h.legal)
@@ -130,7 +118,7 @@ value_stays b l p w j d k plan ready held =
 pub board_put_page : (b : BoardView) (t : CoreState) (w j : ℕ) (d : Measurement) → IsBoard b → core_step b.core (Put w (Page j)) ≡ Ok t
     → IsBoard (record { core = t; history = b.history ++ Put w (Page j) ∷ []; table = with_digest b.table j d; plans = b.plans; results = b.results; book = b.book + 1 })
 board_put_page b t w j d k is =
-    let p = put_says b.core t w (Page j) is in
+    let p = kept.put_says b.core t w (Page j) is in
     let n = done_next b.core (Put w (Page j)) (kept.accepted b.core t (Put w (Page j)) is) in
     let same = ap pages_done (kept.next_is b.core t (Put w (Page j)) is) in
     let pages : map is_done t.pages ≡ set (map is_done b.core.pages) j true = ap (λ (u : CoreState). map is_done u.pages) p.2 ∙ map-set is_done b.core.pages j Done in
@@ -157,7 +145,7 @@ pub board_put_launch : (b : BoardView) (t : CoreState) (w l : ℕ) (p : PlanView
     → slice_get b.plans l ≡ Some p → m.bytes ≡ value_in b.table p
     → IsBoard (record { core = t; history = b.history ++ Put w (Launch l) ∷ []; table = b.table; plans = b.plans; results = set b.results l (Some m); book = b.book })
 board_put_launch b t w l p m k is plan value =
-    let q = put_says b.core t w (Launch l) is in
+    let q = kept.put_says b.core t w (Launch l) is in
     let n = done_next b.core (Put w (Launch l)) (kept.accepted b.core t (Put w (Launch l)) is) in
     let same = ap pages_done (kept.next_is b.core t (Put w (Launch l)) is) in
     let launches : map is_done t.launches ≡ set (map is_done b.core.launches) l true = ap (λ (u : CoreState). map is_done u.launches) q.2 ∙ map-set is_done b.core.launches l Done in
@@ -218,12 +206,12 @@ take_done s w (Launch l) free = (refl, held_done s.launches l w free)
 -- an event that is no put leaves what is done as it was
 done_stays : (s t : CoreState) (e : Event) → is_put e ≡ false → core_step s e ≡ Ok t → (map is_done t.pages ≡ map is_done s.pages) × (map is_done t.launches ≡ map is_done s.launches)
 done_stays s t (Take w job) other is =
-    let p = take_says s t w job is in
+    let p = kept.take_says s t w job is in
     let d = take_done s w job p.0 in
     (ap (λ (u : CoreState). map is_done u.pages) p.2 ∙ d.0, ap (λ (u : CoreState). map is_done u.launches) p.2 ∙ d.1)
 done_stays s t (Put w job) other is = cc
 done_stays s t (Retire w) other is =
-    let p = retire_says s t w is in
+    let p = kept.retire_says s t w is in
     (ap (λ (u : CoreState). map is_done u.pages) p.1 ∙ map-freed_done w s.pages, ap (λ (u : CoreState). map is_done u.launches) p.1 ∙ map-freed_done w s.launches)
 
 no_page_put : (e : Event) → is_put e ≡ false → is_page_put e ≡ false

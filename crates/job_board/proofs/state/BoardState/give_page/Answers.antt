@@ -8,7 +8,8 @@ use Rattle.job_board.specs.declared.job.JobState.TheVariants.{Free}
 use Rattle.job_board.specs.Board.{BoardView}
 use Rattle.job_board.specs.Step.{core_step}
 use Rattle.job_board.proofs.Histories.{history_room, same_most}
-use Rattle.job_board.proofs.Boards.{board_other, take_says}
+use Rattle.job_board.proofs.Boards.{board_other}
+use Rattle.job_board.proofs.Kept.{take_says}
 use Rattle.job_board.proofs.BoardRows.{rows_take_page}
 use Rattle.job_board.proofs.state.BoardState.give_page.Goals as goal
 

@@ -12,7 +12,8 @@ use Rattle.job_board.specs.Board.{value_in}
 use Rattle.job_board.specs.Board.{BoardView}
 use Rattle.job_board.specs.Step.{core_step}
 use Rattle.job_board.proofs.Histories.{history_room, same_most}
-use Rattle.job_board.proofs.Boards.{board_put_launch, put_says, results_are, value_is}
+use Rattle.job_board.proofs.Boards.{board_put_launch, results_are, value_is}
+use Rattle.job_board.proofs.Kept.{put_says}
 use Rattle.job_board.proofs.BoardRows.{rows_put_launch}
 use Rattle.job_board.proofs.state.BoardState.put_launch.Goals as goal
 

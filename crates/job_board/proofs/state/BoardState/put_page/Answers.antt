@@ -7,7 +7,8 @@ use Rattle.job_board.specs.declared.job.JobId.TheVariants.{Page}
 use Rattle.job_board.specs.Board.{BoardView}
 use Rattle.job_board.specs.Step.{core_step}
 use Rattle.job_board.proofs.Histories.{history_room, same_most}
-use Rattle.job_board.proofs.Boards.{board_put_page, put_says, slot_empty}
+use Rattle.job_board.proofs.Boards.{board_put_page, slot_empty}
+use Rattle.job_board.proofs.Kept.{put_says}
 use Rattle.job_board.proofs.BoardRows.{rows_put_page}
 use Rattle.job_board.proofs.state.BoardState.put_page.Goals as goal
 

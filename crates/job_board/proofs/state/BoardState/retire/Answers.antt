@@ -3,7 +3,8 @@ use Rattle.job_board.specs.declared.job.Event.TheVariants.{Retire}
 use Rattle.job_board.specs.Board.{BoardView}
 use Rattle.job_board.specs.Step.{core_step}
 use Rattle.job_board.proofs.Histories.{history_room, same_most}
-use Rattle.job_board.proofs.Boards.{board_other, retire_says}
+use Rattle.job_board.proofs.Boards.{board_other}
+use Rattle.job_board.proofs.Kept.{retire_says}
 use Rattle.job_board.proofs.BoardRows.{fits_rows, held_by, rows_after, some_spare}
 use Rattle.job_board.proofs.state.BoardState.retire.Goals as goal
 
