@@ -1,0 +1,15 @@
+pub mod Counting
+pub mod OneJob
+pub mod Noted
+pub mod Steps
+pub mod Runs
+pub mod Holders
+pub mod Ready
+pub mod Stuck
+pub mod Valued
+pub mod Kept
+pub mod Marked
+pub mod Histories
+pub mod Boards
+pub mod BoardRows
+pub mod Fresh

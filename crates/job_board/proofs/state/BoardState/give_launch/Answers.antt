@@ -1,0 +1,53 @@
+use Rattle.std.proofs.Common.{◌≡◌, ◌∙◌, Ok, arith, false, refl, sym, true}
+use Rattle.std.proofs.lemmas.Option.{slice_get_within}
+use Rattle.job_board.specs.declared.job.Event.TheVariants.{Take}
+use Rattle.job_board.specs.declared.job.JobId.TheVariants.{Launch}
+use Rattle.job_board.specs.declared.job.JobState.TheVariants.{Free}
+use Rattle.job_board.specs.Board.{BoardView}
+use Rattle.job_board.specs.Step.{core_step}
+use Rattle.job_board.proofs.Histories.{history_room, same_most}
+use Rattle.job_board.proofs.Boards.{board_other, ready_filled}
+use Rattle.job_board.proofs.Kept.{take_says}
+use Rattle.job_board.proofs.BoardRows.{rows_take_launch}
+use Rattle.job_board.proofs.state.BoardState.give_launch.Goals as goal
+
+pub push_reserved-requires : goal.push_reserved-requires
+push_reserved-requires g c =
+    let i = c.self.inside in
+    let step : core_step i.core (Take c.args.worker (Launch c.args.number)) ≡ Ok c.step.new.self = c.in-Ok.ensures.step in
+    let room = history_room i.core c.step.new.self i.history.items (Take c.args.worker (Launch c.args.number)) c.self.invariant.0.history step in
+    omega (arith, room, c.self.invariant.1)
+
+pub plan_at-plan-requires : goal.plan_at-plan-requires
+plan_at-plan-requires g c =
+    let i = c.self.inside in
+    let step : core_step i.core (Take c.args.worker (Launch c.args.number)) ≡ Ok c.step.new.self = c.in-Ok.ensures.step in
+    let within = slice_get_within i.core.launches c.args.number Free (take_says i.core c.step.new.self c.args.worker (Launch c.args.number) step).0 in
+    omega (arith, within, c.self.invariant.0.plans)
+
+pub take_row-requires : goal.take_row-requires
+take_row-requires g c =
+    let i = c.self.inside in
+    let step : core_step i.core (Take c.args.worker (Launch c.args.number)) ≡ Ok c.step.new.self = c.in-Ok.ensures.step in
+    let within = slice_get_within i.core.launches c.args.number Free (take_says i.core c.step.new.self c.args.worker (Launch c.args.number) step).0 in
+    omega (arith, within, c.self.invariant.2.size)
+
+pub unreachable-requires-then-not-fill_row : goal.unreachable-requires-then-not-fill_row
+unreachable-requires-then-not-fill_row g c =
+    let i = c.self.inside in
+    let b : BoardView = record { core = i.core; history = i.history.items; table = i.table; plans = i.plans.now; results = i.results.items; book = i.book.total } in
+    let step : core_step i.core (Take c.args.worker (Launch c.args.number)) ≡ Ok c.step.new.self = c.in-Ok.ensures.step in
+    let filled = ready_filled b c.args.number c.plan_at-plan.result.now c.self.invariant.0 c.plan_at-plan.ensures (take_says i.core c.step.new.self c.args.worker (Launch c.args.number) step).1 in
+    let e : true ≡ false = sym filled ∙ c.fill_row.ensures.missing c.if-not-fill_row.true in
+    cc
+
+pub invariant_of-self : goal.invariant_of-self
+invariant_of-self g c =
+    let i = c.self.inside in
+    let b : BoardView = record { core = i.core; history = i.history.items; table = i.table; plans = i.plans.now; results = i.results.items; book = i.book.total } in
+    let step : core_step i.core (Take c.args.worker (Launch c.args.number)) ≡ Ok c.step.new.self = c.in-Ok.ensures.step in
+    let most = same_most i.core c.step.new.self (Take c.args.worker (Launch c.args.number)) step in (
+      rw c.push_reserved.ensures.items (board_other b c.step.new.self (Take c.args.worker (Launch c.args.number)) refl c.self.invariant.0 step),
+      omega (arith, most, c.self.invariant.1, c.push_reserved.ensures.capacity),
+      rw c.take_row.ensures.rest (rows_take_launch i.core c.step.new.self i.plans.now i.rows.items i.spare.items c.args.worker c.args.number c.self.invariant.2 step),
+    )

@@ -1,0 +1,4 @@
+-- What the fields of this crate keep.
+pub mod Notes
+pub mod Marks
+pub mod Rows

@@ -1,0 +1,16 @@
+//! The jobs of a run: which are free, which worker holds which, and which are done; and the board's state.
+#![tactic(auto)]
+
+pub mod job;
+mod jobs;
+pub mod laws;
+pub mod machine;
+pub mod share;
+pub mod state;
+pub mod work;
+
+pub use job::{CoreFault, Event, JobId, JobState};
+pub use machine::Core;
+pub use share::Share;
+pub use state::BoardState;
+pub use work::Work;

@@ -1,0 +1,432 @@
+//! A board's state: what each call makes of it.
+ghost use Rattle.std.specs.Prelude.{◌≡◌, ◌<◌, ◌≤◌, ◌+◌, ◌⊎◌, ◌↔◌, [], ℕ, false, true, length, map, replicate, IfErr, IfOk, IsTrue, None, OnOk, Some, slice_get, slice_set, vec_capacity};
+ghost use Rattle.std.specs.List.{All, Contains, range_with_len};
+ghost use Rattle.job_board.specs.declared.job.Event.{Event};
+ghost use Rattle.job_board.specs.declared.job.JobId.{JobId};
+ghost use Rattle.job_board.specs.declared.job.JobState.{JobState};
+ghost use Rattle.job_board.specs.Board.{Adds, CanPutLaunch, CanPutPage, IsBoard, SameRest, value_in};
+ghost use Rattle.job_board.specs.Gives.{Gives};
+ghost use Rattle.job_board.specs.Jobs.{held_count, is_out, is_over, is_ready, opening, state_of};
+ghost use Rattle.job_board.specs.inside.Rows.{FitsRows, FreesRow, HasRoom};
+ghost use Rattle.page_jobs.specs.Page.{page_view};
+ghost use Rattle.page_jobs.specs.Row.{RowView};
+ghost use Rattle.page_jobs.specs.Table.{keys_of as page_keys, with_digest};
+ghost use Rattle.rim_chain.specs.Links.{PlanView, keys_of};
+ghost use Rattle.rim_chain.specs.Rows.{IsRowOf};
+
+use crate::job::{Event, JobId};
+use crate::machine::Core;
+use crate::share::{Share, cut};
+use crate::work::Work;
+use page_jobs::{DigestRow, Hashed, Page, PageJob, Table};
+use refusal::NoMemory;
+use rim_chain::{LaunchJob, LaunchPlan, LaunchRim};
+use rim_desc::Measurement;
+use std::alloc::Global;
+use std::marker::Model;
+use std::sync::ledger::{Blank, Book, Ledger};
+
+/// The core and its history, the table, the plans, the rows, the values of launches and the ledger's book. Its type
+/// says that the core is what its history leaves, that each filled slot and each value is its own job's, and that as
+/// many pages are done as the book says.
+#[derive(Drop)]
+pub struct BoardState<'a, L: Ledger> {
+    core: Core,
+    history: Vec<Event>,
+    table: Table<'a>,
+    plans: &'a [LaunchPlan],
+    rows: Vec<Option<DigestRow>>,
+    spare: Vec<DigestRow>,
+    results: Vec<Option<Measurement>>,
+    book: Book<L>,
+}
+
+impl<'a, L: Ledger> Model for BoardState<'a, L> {
+    ghost use Rattle.std.specs.Prelude.{◌≤◌, vec_capacity};
+    ghost use Rattle.job_board.specs.Board.{BoardView, IsBoard};
+    ghost use Rattle.job_board.specs.History.{most_events};
+    ghost use Rattle.job_board.specs.inside.Rows.{HasRows};
+
+    ghost Value = { BoardView };
+
+    ghost view = { λ b. record { core = b.core; history = b.history.items; table = b.table; plans = b.plans.now; results = b.results.items; book = b.book.total } };
+
+    ghost invariant = { λ b. IsBoard (record { core = b.core; history = b.history.items; table = b.table; plans = b.plans.now; results = b.results.items; book = b.book.total }) × (most_events b.core ≤ vec_capacity b.history) × HasRows b.core b.plans.now b.rows.items b.spare.items };
+}
+
+impl<'a, L: Ledger> BoardState<'a, L> {
+    /// Puts a page that a worker holds, and counts it in the worker's share. The page is handed back, and nothing is
+    /// changed, where the worker does not hold that job or the page is not that job's.
+    pub fn put_page(
+        &mut self,
+        worker: usize,
+        page: usize,
+        hashed: Hashed<'a>,
+        share: &mut Share<L>,
+    ) -> Result<(), Hashed<'a>>
+        ensures board { IsBoard self.old }
+        ensures fresh { share.old ≤ self.old.book }
+        ensures can { OnOk result (CanPutPage self.old worker page (page_view hashed.entry.page)) }
+        ensures event { OnOk result (Adds self.old (Event.Put worker (JobId.Page page)) self.new) }
+        ensures table { OnOk result (self.new.table ≡ with_digest self.old.table page hashed.entry.digest) }
+        ensures same { OnOk result ((self.new.plans ≡ self.old.plans) × (self.new.results ≡ self.old.results)) }
+        ensures book { OnOk result (self.new.book ≡ self.old.book + 1) }
+        ensures share { OnOk result (share.new ≡ share.old + 1) }
+        ensures err { IfErr result (λ h. (h ≡ hashed.entry) × (self.new ≡ self.old) × (share.new ≡ share.old)) }
+        ensures refused { IfErr result (λ h. ¬ CanPutPage self.old worker page (page_view hashed.entry.page)) }
+    {
+        let BoardState {
+            core,
+            history,
+            table,
+            book,
+            ..
+        } = self;
+        let Share { count, part } = share;
+        book.audit(part);
+        let event = Event::Put {
+            worker,
+            job: JobId::Page(page),
+        };
+        if !table.is_page(page, &hashed.page) {
+            return Err(hashed);
+        }
+        let Ok(()) = core.step(&event) else {
+            return Err(hashed);
+        };
+        let Ok(()) = table.fill(page, hashed) else {
+            unreachable!()
+        };
+        history.push_reserved(event);
+        book.add(part, 1);
+        *count += 1;
+        Ok(())
+    }
+
+    /// Puts a launch that a worker holds, with its value. It is handed back, and nothing is changed, where the worker
+    /// does not hold that job, or its number, plan or row are not that job's.
+    pub fn put_launch(&mut self, worker: usize, rim: LaunchRim<'a>) -> Result<(), LaunchRim<'a>>
+        ensures board { IsBoard self.old }
+        ensures can { OnOk result (CanPutLaunch self.old worker rim.entry.job.number rim.entry.job.plan rim.entry.job.row.digests) }
+        ensures event { OnOk result (Adds self.old (Event.Put worker (JobId.Launch rim.entry.job.number)) self.new) }
+        ensures results { OnOk result (self.new.results ≡ slice_set self.old.results rim.entry.job.number (Some rim.entry.value)) }
+        ensures own { OnOk result (rim.entry.value.bytes ≡ value_in self.old.table rim.entry.job.plan) }
+        ensures same { OnOk result ((self.new.table ≡ self.old.table) × (self.new.plans ≡ self.old.plans) × (self.new.book ≡ self.old.book)) }
+        ensures err { IfErr result (λ r. (r ≡ rim.entry) × (self.new ≡ self.old)) }
+        ensures refused { IfErr result (λ r. ¬ CanPutLaunch self.old worker rim.entry.job.number rim.entry.job.plan rim.entry.job.row.digests) }
+    {
+        let BoardState {
+            core,
+            history,
+            table,
+            plans,
+            results,
+            ..
+        } = self;
+        let number = rim.number();
+        if !is_plan(plans, number, rim.plan()) || !rim.plan().is_row(table, rim.row()) {
+            return Err(rim);
+        }
+        let event = Event::Put {
+            worker,
+            job: JobId::Launch(number),
+        };
+        let Ok(()) = core.step(&event) else {
+            return Err(rim);
+        };
+        history.push_reserved(event);
+        results[number] = Some(rim.value());
+        Ok(())
+    }
+
+    /// Retires a worker, whose job is then free. False, and nothing is changed, for worker 0 and for workers that are
+    /// retired or unknown.
+    pub fn retire(&mut self, worker: usize) -> bool
+        ensures board { IsBoard self.old }
+        ensures yes { result ≡ true → Adds self.old (Event.Retire worker) self.new × SameRest self.old self.new }
+        ensures no { result ≡ false → (self.new ≡ self.old) × ((worker ≡ 0) ⊎ (is_out self.old.core worker ≡ true)) }
+    {
+        let BoardState {
+            core,
+            history,
+            rows,
+            spare,
+            ..
+        } = self;
+        let held = core.held(worker);
+        let event = Event::Retire { worker };
+        let Ok(()) = core.step(&event) else {
+            return false;
+        };
+        history.push_reserved(event);
+        free_row(rows, spare, held);
+        true
+    }
+}
+
+impl<'a, L: Ledger> BoardState<'a, L> {
+    /// A free job that is ready, or why none is given. Its event is added, and the row of a launch is filled.
+    pub fn take(&mut self, worker: usize) -> Work<'a>
+        ensures board { IsBoard self.old }
+        ensures gives { Gives self.old worker result self.new }
+    {
+        if self.core.is_out(worker) || self.core.is_finished() {
+            return Work::Done;
+        }
+        if self.core.held(worker).is_some() {
+            return Work::Busy;
+        }
+        if let Some(page) = self.core.free_page() {
+            return Work::Page(page, self.give_page(worker, page));
+        }
+        if let Some(number) = self.core.ready_launch() {
+            return Work::Launch(self.give_launch(worker, number));
+        }
+        Work::Later
+    }
+
+    /// Gives a free page to a worker that holds no job.
+    fn give_page(&mut self, worker: usize, page: usize) -> PageJob<'a>
+        requires known { is_out self.old.core worker ≡ false }
+        requires idle { held_count self.old.core worker ≡ 0 }
+        requires free { state_of self.old.core (JobId.Page page) ≡ Some JobState.Free }
+        ensures event { Adds self.old (Event.Take worker (JobId.Page page)) self.new }
+        ensures rest { SameRest self.old self.new }
+        ensures page { slice_get self.old.table.pages page ≡ Some (page_view result.page) }
+    {
+        let BoardState {
+            core,
+            history,
+            table,
+            ..
+        } = self;
+        let event = Event::Take {
+            worker,
+            job: JobId::Page(page),
+        };
+        let Ok(()) = core.step(&event) else {
+            unreachable!()
+        };
+        history.push_reserved(event);
+        PageJob::new(page_at(table.pages(), page))
+    }
+
+    /// Gives a free launch that is ready to a worker that holds no job.
+    fn give_launch(&mut self, worker: usize, number: usize) -> LaunchJob<'a>
+        requires known { is_out self.old.core worker ≡ false }
+        requires idle { held_count self.old.core worker ≡ 0 }
+        requires free { state_of self.old.core (JobId.Launch number) ≡ Some JobState.Free }
+        requires ready { is_ready self.old.core (JobId.Launch number) ≡ true }
+        ensures event { Adds self.old (Event.Take worker (JobId.Launch number)) self.new }
+        ensures rest { SameRest self.old self.new }
+        ensures number { result.number ≡ number }
+        ensures plan { slice_get self.old.plans number ≡ Some result.plan }
+        ensures row { IsRowOf self.old.table (keys_of result.plan.links) result.row.digests }
+    {
+        let BoardState {
+            core,
+            history,
+            table,
+            plans,
+            rows,
+            ..
+        } = self;
+        let event = Event::Take {
+            worker,
+            job: JobId::Launch(number),
+        };
+        let Ok(()) = core.step(&event) else {
+            unreachable!()
+        };
+        history.push_reserved(event);
+        let plan = plan_at(plans, number);
+        let Some(mut row) = take_row(rows, number) else {
+            unreachable!()
+        };
+        if !plan.fill_row(table, &mut row) {
+            unreachable!()
+        }
+        LaunchJob::new(number, plan, row)
+    }
+}
+
+impl<'a, L: Ledger> BoardState<'a, L> {
+    /// A board of 1 to 64 workers, all of whose jobs are to be done, and a share for each worker. Each launch needs all
+    /// pages. It takes all memory that the board's calls need; the table is dropped where that is refused.
+    pub fn new(
+        alloc: Global,
+        blank: Blank,
+        workers: usize,
+        table: Table<'a>,
+        plans: &'a [LaunchPlan],
+    ) -> Result<(BoardState<'a, L>, Vec<Share<L>>), NoMemory>
+        requires name { blank.name ≡ L.name }
+        requires parts { (blank.parts ≡ L.parts) × (blank.parts ≡ workers) }
+        requires workers { (1 ≤ workers) × (workers ≤ 64) }
+        requires empty { table.digests ≡ replicate (length table.pages) None }
+        requires keys { All (λ p. All (Contains (page_keys table.pages)) (keys_of p.links)) plans.now }
+        ensures core { IfOk result (λ r. r.0.core ≡ opening workers (length table.entry.pages) (replicate (length plans.now) (range_with_len 0 (length table.entry.pages)))) }
+        ensures rest { IfOk result (λ r. (r.0.history ≡ []) × (r.0.table ≡ table.entry) × (r.0.plans ≡ plans.now) × (r.0.results ≡ replicate (length plans.now) None) × (r.0.book ≡ 0)) }
+        ensures shares { IfOk result (λ r. r.1.items ≡ replicate workers 0) }
+    {
+        let (book, part) = blank.open::<L>();
+        let shares = cut(alloc, part, workers)?;
+        let pages = table.pages().len();
+        let core = Core::new(alloc, workers, pages, all_pages(alloc, pages, plans.len())?)?;
+        let history = room_for(alloc, 2 * (pages + plans.len()) + 2 * workers)?;
+        let rows = rows_of(alloc, plans)?;
+        let spare = spare_rows(alloc, plans, workers)?;
+        let results = vec![in alloc; None; plans.len()]?;
+        Ok((
+            BoardState {
+                core,
+                history,
+                table,
+                plans,
+                rows,
+                spare,
+                results,
+                book,
+            },
+            shares,
+        ))
+    }
+}
+
+impl<'a, L: Ledger> BoardState<'a, L> {
+    /// The pages of its table.
+    pub fn pages(&self) -> &'a [Page<'a>]
+        ensures pages { map page_view result.now ≡ self.now.table.pages }
+        ensures board { IsBoard self.now }
+    {
+        self.table.pages()
+    }
+
+    /// Its plans.
+    pub fn plans(&self) -> &'a [LaunchPlan]
+        ensures plans { result.now ≡ self.now.plans }
+        ensures board { IsBoard self.now }
+    {
+        self.plans
+    }
+
+    /// Whether all jobs are done.
+    pub fn is_finished(&self) -> bool
+        ensures { result ≡ is_over self.now.core }
+    {
+        self.core.is_finished()
+    }
+}
+
+/// A list with room for this many events.
+fn room_for(alloc: Global, count: usize) -> Result<Vec<Event>, NoMemory>
+    ensures empty { IfOk result (λ events. events.items ≡ []) }
+    ensures room { IfOk result (λ events. count ≤ vec_capacity events) }
+{
+    Ok(Vec::with_capacity(alloc, count)?)
+}
+
+/// The numbers of this many pages.
+fn page_numbers(alloc: Global, pages: usize) -> Result<Vec<usize>, NoMemory>
+    ensures { IfOk result (λ numbers. numbers.items ≡ range_with_len 0 pages) }
+{
+    let mut numbers = Vec::with_capacity(alloc, pages)?;
+    for page in 0..pages {
+        numbers.push(page)?;
+    }
+    Ok(numbers)
+}
+
+/// The needs of this many launches, each of which needs all pages.
+fn all_pages(alloc: Global, pages: usize, launches: usize) -> Result<Vec<Vec<usize>>, NoMemory>
+    ensures { IfOk result (λ needs. map (λ v. v.items) needs.items ≡ replicate launches (range_with_len 0 pages)) }
+{
+    let mut needs = Vec::with_capacity(alloc, launches)?;
+    for _launch in 0..launches {
+        needs.push(page_numbers(alloc, pages)?)?;
+    }
+    Ok(needs)
+}
+
+/// An empty row for each launch.
+fn rows_of(alloc: Global, plans: &[LaunchPlan]) -> Result<Vec<Option<DigestRow>>, NoMemory>
+    ensures size { IfOk result (λ rows. length rows.items ≡ length plans.now) }
+    ensures there { IfOk result (λ rows. (l : ℕ) (p : PlanView) → slice_get plans.now l ≡ Some p → (r : RowView) × (slice_get rows.items l ≡ Some (Some r)) × HasRoom r p) }
+{
+    let mut rows = Vec::with_capacity(alloc, plans.len())?;
+    for number in 0..plans.len() {
+        let room = plan_at(plans, number).pages();
+        rows.push(Some(DigestRow::reserve(alloc, room)?))?;
+    }
+    Ok(rows)
+}
+
+/// The most pages that a plan has.
+fn most_pages(plans: &[LaunchPlan]) -> usize
+    ensures { (l : ℕ) (p : PlanView) → slice_get plans.now l ≡ Some p → length (keys_of p.links) ≤ result }
+{
+    let mut most = 0;
+    for number in 0..plans.len() {
+        most = plan_at(plans, number).pages().max(most);
+    }
+    most
+}
+
+/// This many empty rows, each with room for any launch.
+fn spare_rows(alloc: Global, plans: &[LaunchPlan], count: usize) -> Result<Vec<DigestRow>, NoMemory>
+    ensures size { IfOk result (λ rows. length rows.items ≡ count) }
+    ensures roomy { IfOk result (λ rows. (i l : ℕ) (r : RowView) (p : PlanView) → slice_get rows.items i ≡ Some r → slice_get plans.now l ≡ Some p → HasRoom r p) }
+{
+    let room = most_pages(plans);
+    let mut rows = Vec::with_capacity(alloc, count)?;
+    for _i in 0..count {
+        rows.push(DigestRow::reserve(alloc, room)?)?;
+    }
+    Ok(rows)
+}
+
+/// Whether this is the plan of a number.
+fn is_plan(plans: &[LaunchPlan], number: usize, plan: &LaunchPlan) -> bool
+    ensures { IsTrue result ↔ (slice_get plans.now number ≡ Some plan.now) }
+{
+    number < plans.len() && plans[number].is_same(plan)
+}
+
+/// The plan of a number.
+fn plan_at<'a>(plans: &'a [LaunchPlan], number: usize) -> &'a LaunchPlan
+    requires { number < length plans.now }
+    ensures { slice_get plans.now number ≡ Some result.now }
+{
+    &plans[number]
+}
+
+/// The page of a number.
+fn page_at<'a>(pages: &[Page<'a>], number: usize) -> Page<'a>
+    requires { number < length pages.now }
+    ensures { slice_get (map page_view pages.now) number ≡ Some (page_view result) }
+{
+    pages[number]
+}
+
+/// Takes the row of a number.
+fn take_row(rows: &mut Vec<Option<DigestRow>>, number: usize) -> Option<DigestRow>
+    requires { number < length rows.old.items }
+    ensures row { slice_get rows.old.items number ≡ Some result }
+    ensures rest { rows.new.items ≡ slice_set rows.old.items number None }
+{
+    rows[number].take()
+}
+
+/// Gives a launch that is free again a spare row.
+fn free_row(rows: &mut Vec<Option<DigestRow>>, spare: &mut Vec<DigestRow>, held: Option<JobId>)
+    requires some { 0 < length spare.old.items }
+    requires within { FitsRows held (length rows.old.items) }
+    ensures { FreesRow held rows.old.items spare.old.items rows.new.items spare.new.items }
+{
+    if let Some(JobId::Launch(launch)) = held {
+        let Some(row) = spare.pop() else {
+            unreachable!()
+        };
+        rows[launch] = Some(row);
+    }
+}

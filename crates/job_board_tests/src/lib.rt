@@ -1,0 +1,5 @@
+//! Tests of jobs, events and faults.
+#![tactic(auto)]
+
+#[cfg(test)]
+mod tests;

@@ -1,0 +1,60 @@
+//! Each fault at its edge, and the first of two that hold.
+use super::Act::{Put, Retire, Take};
+use super::{Act, core_of, play};
+use job_board::{CoreFault, JobId, JobState};
+use std::test::Fail;
+
+const PAGE: JobId = JobId::Page(0);
+
+const OTHER: JobId = JobId::Page(1);
+
+const LAUNCH: JobId = JobId::Launch(0);
+
+/// Beside worker 0 there are worker 1, who holds a page, and worker 2, who is retired. The launch needs both pages.
+const BEFORE: [(Act, Result<(), CoreFault>); 2] = [(Take(1, PAGE), Ok(())), (Retire(2), Ok(()))];
+
+const REFUSED: [(Act, Result<(), CoreFault>); 21] = [
+    (Retire(0), Err(CoreFault::Retired)),
+    (Retire(2), Err(CoreFault::Retired)),
+    (Retire(3), Err(CoreFault::Retired)),
+    (Take(2, OTHER), Err(CoreFault::Retired)),
+    (Take(3, OTHER), Err(CoreFault::Retired)),
+    (Take(usize::MAX, OTHER), Err(CoreFault::Retired)),
+    // No such job either.
+    (Take(2, JobId::Page(2)), Err(CoreFault::Retired)),
+    (Put(3, JobId::Launch(1)), Err(CoreFault::Retired)),
+    (Put(2, PAGE), Err(CoreFault::Retired)),
+    (Take(0, JobId::Page(2)), Err(CoreFault::NoSuchJob)),
+    (Take(0, JobId::Launch(1)), Err(CoreFault::NoSuchJob)),
+    // Busy too.
+    (Take(1, JobId::Page(2)), Err(CoreFault::NoSuchJob)),
+    (Put(1, JobId::Page(usize::MAX)), Err(CoreFault::NoSuchJob)),
+    (Put(0, OTHER), Err(CoreFault::Stranger)),
+    (Put(0, PAGE), Err(CoreFault::Stranger)),
+    (Put(1, OTHER), Err(CoreFault::Stranger)),
+    (Take(1, OTHER), Err(CoreFault::Busy)),
+    // Held already, and early.
+    (Take(1, PAGE), Err(CoreFault::Busy)),
+    (Take(1, LAUNCH), Err(CoreFault::Busy)),
+    (Take(0, PAGE), Err(CoreFault::Taken)),
+    (Take(0, LAUNCH), Err(CoreFault::Early)),
+];
+
+const DONE: [(Act, Result<(), CoreFault>); 5] = [
+    (Put(1, PAGE), Ok(())),
+    (Put(1, PAGE), Err(CoreFault::Stranger)),
+    (Take(0, PAGE), Err(CoreFault::Taken)),
+    (Take(0, LAUNCH), Err(CoreFault::Early)),
+    (Take(1, OTHER), Ok(())),
+];
+
+#[test]
+fn the_first_fault_is_answered(rt: HostRuntime) -> Result<(), Fail> {
+    let mut core = core_of(rt.alloc(), 3, 2, &[&[0, 1]])?;
+    play(&rt, &mut core, &BEFORE);
+    play(&rt, &mut core, &REFUSED);
+    assert_eq!(rt; core.held(1), Some(PAGE));
+    play(&rt, &mut core, &DONE);
+    assert_eq!(rt; core.state(PAGE), Some(JobState::Done));
+    Ok(())
+}
