@@ -30,7 +30,7 @@ use Rattle.rim_manifest.specs.Manifest.{fault_or_named, fault_or_release, files_
 use Rattle.rim_manifest.specs.Checks.{cell_faults, rule_faults, ruled_faults, table_faults}
 use Rattle.rim_launch.specs.Kinds.{file_of}
 use Rattle.rim_launch.specs.Steps.{each_once, names_something, steps_complete}
-use Rattle.rim_launch.specs.declared.conditions.Part.TheVariants as part
+use Rattle.rim_launch.specs.declared.conditions.StepTarget.TheVariants as part
 use Rattle.rim_manifest.specs.StepTexts.{has_bad_steps, is_miscounted, is_misnamed, misnames, step_in, steps_in}
 use Rattle.rim_manifest.proofs.Steps.{texts_given}
 use Rattle.rim_launch.specs.Texts.{has_no_zero}

@@ -17,8 +17,8 @@ use Rattle.rim_manifest.specs.Names.{name_of}
 use Rattle.rim_manifest.specs.StepTexts.{is_decimal}
 use Rattle.rim_launch.specs.declared.item.Edits.{Edits}
 use Rattle.rim_launch.specs.declared.item.Item.{Item}
-use Rattle.rim_launch.specs.declared.item.Kind.{Kind}
-use Rattle.rim_launch.specs.declared.item.Kind.TheVariants as kind
+use Rattle.rim_launch.specs.declared.item.ItemKind.{ItemKind}
+use Rattle.rim_launch.specs.declared.item.ItemKind.TheVariants as kind
 use Rattle.rim_launch.specs.declared.item.Region.{Region}
 use Rattle.rim_launch.specs.declared.item.Role.{Role}
 use Rattle.rim_launch.specs.declared.item.Role.TheVariants.{Kernel, Initrd, Dtb, Raw}
@@ -124,7 +124,7 @@ pub record GivesEdits (d : Data) (e : Edits) : Type 0 where
   pub memory : GivesTruth false (get (codes "memory") d) e.memory
 
 -- a devicetree has the edits that are given
-abbrev pub GivesKind : Data → Kind → Type 0
+abbrev pub GivesKind : Data → ItemKind → Type 0
 GivesKind d (kind.Dtb file edits) = GivesEdits d edits
 GivesKind d _ = Unit {0}
 

@@ -5,8 +5,8 @@ use Rattle.toml.specs.Data.{Data, string, get}
 use Rattle.rim_launch.specs.Texts.{has_no_zero}
 use Rattle.rim_launch.specs.declared.item.Edits.{Edits}
 use Rattle.rim_launch.specs.declared.item.Item.{Item}
-use Rattle.rim_launch.specs.declared.item.Kind.{Kind}
-use Rattle.rim_launch.specs.declared.item.Kind.TheVariants as kind
+use Rattle.rim_launch.specs.declared.item.ItemKind.{ItemKind}
+use Rattle.rim_launch.specs.declared.item.ItemKind.TheVariants as kind
 use Rattle.rim_launch.specs.declared.item.Role.{Role}
 use Rattle.rim_launch.specs.declared.item.Role.TheVariants.{Kernel, Initrd, Dtb, Raw}
 use Rattle.rim_manifest.specs.Names.{file_at, role_at}
@@ -26,7 +26,7 @@ edits_of d = record {
 }
 
 -- what an item is for, of this file
-abbrev pub kind_of : Role → ℕ → Data → Kind
+abbrev pub kind_of : Role → ℕ → Data → ItemKind
 kind_of Kernel file d = kind.Kernel file
 kind_of Initrd file d = kind.Initrd file
 kind_of Dtb file d = kind.Dtb file (edits_of d)

@@ -7,7 +7,7 @@ ghost use Rattle.rim_manifest.specs.Names.{file_at, role_at};
 
 use crate::names::{file_number, role};
 use crate::value::{field, number, truth};
-use rim_launch::{Bootargs, Edits, Item, Kind, Role};
+use rim_launch::{Bootargs, Edits, Item, ItemKind, Role};
 use std::alloc::{AllocError, Global};
 use toml::Value;
 
@@ -38,17 +38,17 @@ fn read_item(alloc: Global, files: &[Value], table: &Value) -> Result<Item, Allo
     })
 }
 
-fn read_kind(alloc: Global, file: usize, table: &Value) -> Result<Kind, AllocError>
+fn read_kind(alloc: Global, file: usize, table: &Value) -> Result<ItemKind, AllocError>
     ensures { IfOk result (λ k. k ≡ kind_of (role_at (view table.now)) file (view table.now)) }
 {
     Ok(match role(table) {
-        Role::Kernel => Kind::Kernel { file },
-        Role::Initrd => Kind::Initrd { file },
-        Role::Dtb => Kind::Dtb {
+        Role::Kernel => ItemKind::Kernel { file },
+        Role::Initrd => ItemKind::Initrd { file },
+        Role::Dtb => ItemKind::Dtb {
             file,
             edits: read_edits(alloc, table)?,
         },
-        Role::Raw => Kind::Raw { file },
+        Role::Raw => ItemKind::Raw { file },
     })
 }
 
