@@ -5,3 +5,4 @@ pub mod Rising
 pub mod Once
 pub mod Neighbours
 pub mod Slots
+pub mod Fresh

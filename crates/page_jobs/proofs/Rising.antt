@@ -15,11 +15,11 @@ use Rattle.page_jobs.proofs.Order.{key-equal, key_total}
 
 -- ---- the elements of a list, one by one
 
-abbrev Has : List PageKey → PageKey → Type 0
+abbrev pub Has : List PageKey → PageKey → Type 0
 Has [] key = ⊥
 Has (first ∷ others) key = (key ≡ first) ⊎ Has others key
 
-has-contains : (keys : List PageKey) (key : PageKey) → Contains keys key → Has keys key
+pub has-contains : (keys : List PageKey) (key : PageKey) → Contains keys key → Has keys key
 has-contains keys key there = at keys there.0 there.1 there.2
   where
     at : (keys : List PageKey) (i : ℕ) → i < length keys → get_or keys i key ≡ key → Has keys key
@@ -27,7 +27,7 @@ has-contains keys key there = at keys there.0 there.1 there.2
     at (first ∷ others) zero low same = inl (sym same)
     at (first ∷ others) (suc i) low same = inr (at others i (omega arith) same)
 
-contains-has : (keys : List PageKey) (key : PageKey) → Has keys key → Contains keys key
+pub contains-has : (keys : List PageKey) (key : PageKey) → Has keys key → Contains keys key
 contains-has [] key there = absurd there
 contains-has (first ∷ others) key (inl same) = (0, omega arith, sym same)
 contains-has (first ∷ others) key (inr there) =
@@ -36,7 +36,7 @@ contains-has (first ∷ others) key (inr there) =
 
 -- ---- keys that rise
 
-abbrev AreAbove : PageKey → List PageKey → Type 0
+abbrev pub AreAbove : PageKey → List PageKey → Type 0
 AreAbove low keys = AllByRecursion (λ key. key_cmp low key ≡ Less) keys
 
 above-has : (keys : List PageKey) (low key : PageKey) → AreAbove low keys → Has keys key → key_cmp low key ≡ Less
@@ -44,14 +44,14 @@ above-has [] low key above there = absurd there
 above-has (first ∷ others) low key above (inl same) = ap (key_cmp low) same ∙ above.0
 above-has (first ∷ others) low key above (inr there) = above-has others low key above.1 there
 
-above-lower : (keys : List PageKey) (low key : PageKey) → key_cmp low key ≡ Less → AreAbove key keys → AreAbove low keys
+pub above-lower : (keys : List PageKey) (low key : PageKey) → key_cmp low key ≡ Less → AreAbove key keys → AreAbove low keys
 above-lower [] low key lower above = tt
 above-lower (first ∷ others) low key lower above = (key_total.trans low key first lower above.0, above-lower others low key lower above.1)
 
 not-itself : (key : PageKey) → key_cmp key key ≡ Less → ⊥
 not-itself key less = let same : key_cmp key key ≡ Equal = tied_itself key_total key in cc
 
-abbrev AreInOrder : List PageKey → Type 0
+abbrev pub AreInOrder : List PageKey → Type 0
 AreInOrder keys = IsStrictlySortedBy key_cmp keys
 
 pub rising-in_order : (keys : List PageKey) → AreInOrder keys → IsRising keys

@@ -3,3 +3,5 @@ pub mod Key
 pub mod Page
 pub mod Table
 pub mod Row
+pub mod Ranges
+pub mod inside

@@ -5,11 +5,13 @@ pub mod distinct;
 pub mod hashed;
 pub mod laws;
 pub mod page;
+pub mod range;
 pub mod row;
 pub mod table;
 
 pub use distinct::distinct_pages;
 pub use hashed::{Hashed, PageJob};
 pub use page::{Blob, Page, PageKey};
+pub use range::{KeyRange, distinct_ranges};
 pub use row::DigestRow;
 pub use table::Table;

@@ -1,0 +1,2 @@
+-- What the loops of this crate keep.
+pub mod Fresh
