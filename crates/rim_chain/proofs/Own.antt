@@ -31,7 +31,7 @@ use Rattle.rim_chain.specs.Rows.{IsRowOf}
 
 -- ---- the contents of a placed launch go by their keys
 
-lead-low : (l : LaunchData) (files : List (List ℕ)) (p : PlacedData) (number : ℕ) (item : PlacedItem) → IsPlaced l files p
+pub lead-low : (l : LaunchData) (files : List (List ℕ)) (p : PlacedData) (number : ℕ) (item : PlacedItem) → IsPlaced l files p
     → slice_get p.items number ≡ Some item → item.lead < 4096
 lead-low l files p number item is_placed at =
     let inside : number < length p.items = slice_get_within p.items number item at in

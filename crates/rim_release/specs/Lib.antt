@@ -1,6 +1,9 @@
 pub mod Faults
-pub mod Measured
+pub mod AuditFaults
+pub mod Accepted
+pub mod Pages
 pub mod Report
 pub mod ShowFaults
 pub mod ShownImage
 pub mod ShownDevicetree
+pub mod inside

@@ -1,12 +1,17 @@
 -- The report of a release. This project's choice.
-use Rattle.std.specs.Prelude.{ℕ, List, ◌++◌, take, codes}
-use Rattle.std.specs.List.{flat_map}
+use Rattle.std.specs.Prelude.{ℕ, Bool, is_err, List, ◌++◌, length, nat_lt, take, codes, Result, Ok, Err, if◌then◌else◌}
+use Rattle.std.specs.Fmt.{decimal}
+use Rattle.std.specs.List.{flat_map, list_any}
 use Rattle.hex.specs.Hex.{encode_lower}
-use Rattle.rim_desc.specs.Part.{rim_of}
 use Rattle.rim_desc.specs.declared.measurement.Algo.{Algo}
 use Rattle.rim_desc.specs.declared.measurement.Algo.TheVariants.{Sha256, Sha512}
 use Rattle.rim_manifest.specs.Launches.{NamedData}
-use Rattle.rim_release.specs.Measured.{measured_parts}
+use Rattle.rim_release.specs.Accepted.{accepted_of, rim_for}
+use Rattle.rim_release.specs.AuditFaults.{audit_kind_of}
+use Rattle.rim_release.specs.Pages.{page_keys, page_limit}
+use Rattle.rim_release.specs.declared.audit_fault.AuditFault.{AuditFault}
+use Rattle.rim_release.specs.declared.fault.StartFault.{StartFault}
+use Rattle.rim_release.specs.declared.fault.StartFault.TheVariants.{TooManyPages}
 
 -- the word of an algorithm, between spaces
 abbrev pub algo_word : Algo → List ℕ
@@ -18,16 +23,38 @@ abbrev pub digest_bytes : Algo → List ℕ → List ℕ
 digest_bytes Sha256 rim = take 32 rim
 digest_bytes Sha512 rim = rim
 
--- the digest of a measurement, two lower case hexadecimal digits a byte
-abbrev pub digest_text : Algo → List ℕ → List ℕ
-digest_text algo rim = encode_lower (digest_bytes algo rim)
+-- a measurement: its algorithm, and two lower case hexadecimal digits for each byte of the digest
+abbrev pub rim_text : Algo → List ℕ → List ℕ
+rim_text algo rim = algo_word algo ++ encode_lower (digest_bytes algo rim)
 
--- a launch's line: its name, its algorithm and its Realm Initial Measurement
-unfoldable pub line_of : NamedData → List ℕ
-line_of l =
-    let config = l.launch.config in
-    ((l.name ++ algo_word config.algo) ++ digest_text config.algo (rim_of config.algo (measured_parts config))) ++ codes "\n"
+-- what is printed of a launch after its name: its Realm Initial Measurement, or why it is refused
+abbrev pub outcome_text : Algo → Result (List ℕ) AuditFault → List ℕ
+outcome_text algo (Ok rim) = rim_text algo rim
+outcome_text algo (Err fault) = codes " refused " ++ audit_kind_of fault
+
+-- the line of a launch of which this came
+unfoldable pub line_with : NamedData → Result (List ℕ) AuditFault → List ℕ
+line_with l outcome = (l.name ++ outcome_text l.launch.config.algo outcome) ++ codes "\n"
+
+-- the line of a launch, where a release has these files
+abbrev pub line_of : List (List ℕ) → NamedData → List ℕ
+line_of files l = line_with l (rim_for l.launch files)
+
+abbrev pub lines_of : List (List ℕ) → List NamedData → List ℕ
+lines_of files ls = flat_map (line_of files) ls
+
+-- a report of these lines, for a release with this many different measured pages
+abbrev pub report_with : List ℕ → ℕ → List ℕ
+report_with lines count = ((codes "rim-report 1\n" ++ lines) ++ codes "pages ") ++ (decimal count ++ codes "\n")
 
 -- the whole report
-abbrev pub report_of : List NamedData → List ℕ
-report_of ls = (codes "rim-report 1\n" ++ flat_map line_of ls) ++ codes "pages 0\n"
+abbrev pub report_of : List (List ℕ) → List NamedData → List ℕ
+report_of files ls = report_with (lines_of files ls) (length (page_keys files ls))
+
+-- the report, unless the launches have too many different measured pages
+abbrev pub measured_of : List (List ℕ) → List NamedData → Result (List ℕ) StartFault
+measured_of files ls = if nat_lt page_limit (length (page_keys files ls)) then Err TooManyPages else Ok (report_of files ls)
+
+-- whether some launch in the report is refused
+abbrev pub has_refused : List (List ℕ) → List NamedData → Bool
+has_refused files ls = list_any (λ l. is_err (accepted_of l.launch files)) ls

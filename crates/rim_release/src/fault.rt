@@ -4,6 +4,7 @@ ghost use Rattle.rim_release.specs.Faults.{start_kind_of};
 ghost use Rattle.rim_release.specs.declared.fault.StartFault.TheVariants as start;
 
 use refusal::NoMemory;
+use std::alloc::AllocError;
 use thiserror::Error;
 
 /// Why the measuring of a release does not start.
@@ -12,7 +13,7 @@ pub enum StartFault {
     /// The number of workers is not 1 to 64. Not answered yet.
     #[error("workers")]
     Workers,
-    /// The launches have more distinct measured pages than the limit. Not answered yet.
+    /// The launches that are accepted have more than 1,048,576 different measured pages.
     #[error("too-many-pages")]
     TooManyPages,
     /// The allocator refused a growth.
@@ -24,6 +25,14 @@ impl From<NoMemory> for StartFault {
     ghost from_gives = { λ _ e. e ≡ start.NoMemory };
 
     fn from(_error: NoMemory) -> StartFault {
+        StartFault::NoMemory
+    }
+}
+
+impl From<AllocError> for StartFault {
+    ghost from_gives = { λ _ e. e ≡ start.NoMemory };
+
+    fn from(_error: AllocError) -> StartFault {
         StartFault::NoMemory
     }
 }

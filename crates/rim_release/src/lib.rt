@@ -1,13 +1,18 @@
 //! A release: its manifest, and the report of the Realm Initial Measurements of its launches.
 #![tactic(auto)]
 
+pub mod audit_fault;
+pub mod chains;
 pub mod fault;
-pub mod measured;
+pub mod measure;
+pub mod pages;
+pub mod prepare;
 pub mod report;
 pub mod show;
 
+pub use audit_fault::AuditFault;
 pub use fault::StartFault;
-pub use report::{Files, measure_alone};
+pub use measure::{Files, Report, measure_alone, report_alone};
 pub use rim_launch::{Config, Launch};
 pub use rim_manifest::{ManifestFault, NamedLaunch, Release, read_manifest};
 pub use show::devicetree::show_fdt;

@@ -1,62 +1,94 @@
-//! The report of a release.
-ghost use Rattle.std.specs.Prelude.{◌≡◌, ◌++◌, IfOk, Ok, OnOk, length, vec_len};
-ghost use Rattle.std.specs.List.{flat_map};
-ghost use Rattle.refusal.specs.Answer.{Answers};
-ghost use Rattle.rim_release.specs.Report.{algo_word, digest_bytes, digest_text, line_of, report_of};
-ghost use Rattle.rim_desc.specs.Part.{rim_of};
-ghost use Rattle.rim_launch.specs.declared.config.Config.{Config};
-ghost use Rattle.rim_release.specs.Measured.{measured_parts};
+//! The report of what came of each launch of a release.
+ghost use Rattle.std.specs.Prelude.{◌≡◌, ◌++◌, IfOk, OnOk};
+ghost use Rattle.rim_release.specs.Report.{algo_word, digest_bytes, outcome_text, report_with, rim_text};
+ghost use Rattle.rim_release.specs.inside.Lines.{line_with_outcome, lines_with, seen};
 
-use crate::fault::StartFault;
-use crate::measured::rim;
+use crate::audit_fault::AuditFault;
+use itoa::Buffer;
 use refusal::NoMemory;
 use rim_desc::{Algo, Measurement};
-use rim_launch::Launch;
-use rim_manifest::{NamedLaunch, Release};
+use rim_manifest::NamedLaunch;
 use std::alloc::Global;
 
-/// The bytes of a release's files, in the manifest's order.
-pub type Files = Vec<Vec<u8>>;
-
-/// The report of a release, made on the calling thread without waiting: a line `rim-report 1`, a line
-/// `NAME ALGO HEX` for each launch in the manifest's order, and a line `pages N`.
-pub fn measure_alone(alloc: Global, release: &Release, files: &Files) -> Result<Vec<u8>, StartFault>
-    requires { vec_len files.now ≡ length release.now.paths }
-    ensures { Answers StartFault.NoMemory (λ text. text.items) result (Ok (report_of release.now.launches)) }
-{
-    let _ = files;
-    let text = report(alloc, release.all_launches())?;
-    Ok(text)
-}
-
-fn report(alloc: Global, launches: &[NamedLaunch]) -> Result<Vec<u8>, NoMemory>
-    ensures { IfOk result (λ text. text.items ≡ report_of launches.now) }
+/// The report of launches of which this came, and which have this many different measured pages.
+pub fn report(
+    alloc: Global,
+    launches: &[NamedLaunch],
+    outcomes: &[Result<Measurement, AuditFault>],
+    count: usize,
+) -> Result<Vec<u8>, NoMemory>
+    ensures { IfOk result (λ text. text.items ≡ report_with (lines_with launches.now outcomes.now) count) }
 {
     let mut text = Vec::new(alloc);
     text.extend_from_slice(b"rim-report 1\n")?;
-    push_lines(alloc, &mut text, launches)?;
-    text.extend_from_slice(b"pages 0\n")?;
+    push_lines(alloc, &mut text, launches, outcomes)?;
+    text.extend_from_slice(b"pages ")?;
+    text.extend_from_slice(Buffer::new().format(count).as_bytes())?;
+    text.extend_from_slice(b"\n")?;
     Ok(text)
 }
 
-fn push_lines(alloc: Global, text: &mut Vec<u8>, launches: &[NamedLaunch]) -> Result<(), NoMemory>
-    ensures { OnOk result (text.new.items ≡ text.old.items ++ flat_map line_of launches.now) }
+/// Adds the line of each launch.
+pub fn push_lines(
+    alloc: Global,
+    text: &mut Vec<u8>,
+    launches: &[NamedLaunch],
+    outcomes: &[Result<Measurement, AuditFault>],
+) -> Result<(), NoMemory>
+    ensures { OnOk result (text.new.items ≡ text.old.items ++ lines_with launches.now outcomes.now) }
 {
-    for launch in launches {
-        push_line(alloc, text, launch)?;
+    for (launch, outcome) in launches.iter().zip(outcomes.iter()) {
+        push_line(alloc, text, launch, outcome)?;
     }
     Ok(())
 }
 
-#[tactic(auto, unfolding(crate::specs::Report::line_of))]
-fn push_line(alloc: Global, text: &mut Vec<u8>, launch: &NamedLaunch) -> Result<(), NoMemory>
-    ensures { OnOk result (text.new.items ≡ text.old.items ++ line_of launch.now) }
+#[tactic(auto, unfolding(crate::specs::Report::line_with))]
+fn push_line(
+    alloc: Global,
+    text: &mut Vec<u8>,
+    launch: &NamedLaunch,
+    outcome: &Result<Measurement, AuditFault>,
+) -> Result<(), NoMemory>
+    ensures { OnOk result (text.new.items ≡ text.old.items ++ line_with_outcome launch.now outcome.now) }
 {
-    let algo = launch.launch().config().algo;
     text.extend_from_slice(launch.name().as_bytes())?;
-    text.extend_from_slice(algo_word(algo))?;
-    push_digest(alloc, text, launch.launch())?;
+    push_outcome(alloc, text, launch.launch().config().algo, outcome)?;
     text.extend_from_slice(b"\n")?;
+    Ok(())
+}
+
+/// Adds what came of a launch.
+fn push_outcome(
+    alloc: Global,
+    text: &mut Vec<u8>,
+    algo: Algo,
+    outcome: &Result<Measurement, AuditFault>,
+) -> Result<(), NoMemory>
+    ensures { OnOk result (text.new.items ≡ text.old.items ++ outcome_text algo (seen outcome.now)) }
+{
+    match outcome {
+        Ok(rim) => push_rim(alloc, text, algo, rim),
+        Err(fault) => {
+            text.extend_from_slice(b" refused ")?;
+            text.extend_from_slice(fault.kind().as_bytes())?;
+            Ok(())
+        }
+    }
+}
+
+/// Adds the word of an algorithm, and a measurement as its hexadecimal digits.
+pub fn push_rim(
+    alloc: Global,
+    text: &mut Vec<u8>,
+    algo: Algo,
+    rim: &Measurement,
+) -> Result<(), NoMemory>
+    ensures { OnOk result (text.new.items ≡ text.old.items ++ rim_text algo rim.now.bytes) }
+{
+    let digits = hex::encode(alloc, digest(algo, rim))?;
+    text.extend_from_slice(algo_word(algo))?;
+    text.extend_from_slice(digits.as_bytes())?;
     Ok(())
 }
 
@@ -68,16 +100,6 @@ fn algo_word(algo: Algo) -> &'static [u8]
         Algo::Sha256 => b" sha256 ",
         Algo::Sha512 => b" sha512 ",
     }
-}
-
-fn push_digest(alloc: Global, text: &mut Vec<u8>, launch: &Launch) -> Result<(), NoMemory>
-    ensures { let c : Config = launch.now.config in
-        OnOk result (text.new.items ≡ text.old.items ++ digest_text c.algo (rim_of c.algo (measured_parts c))) }
-{
-    let rim = rim(launch);
-    let digest = hex::encode(alloc, digest(launch.config().algo, &rim))?;
-    text.extend_from_slice(digest.as_bytes())?;
-    Ok(())
 }
 
 /// The bytes of a measurement that are a digest of its algorithm.

@@ -63,7 +63,7 @@ impl ShowFault {
 }
 
 /// The word of a fault of an Image.
-fn image_kind(fault: ImageFault) -> &'static str
+pub(crate) fn image_kind(fault: ImageFault) -> &'static str
     ensures { result.now ≡ image_kind_of fault }
 {
     match fault {
@@ -73,7 +73,7 @@ fn image_kind(fault: ImageFault) -> &'static str
 }
 
 /// The word of a fault of a devicetree.
-fn devicetree_kind(fault: FdtFault) -> &'static str
+pub(crate) fn devicetree_kind(fault: FdtFault) -> &'static str
     ensures { result.now ≡ devicetree_kind_of fault }
 {
     match fault {

@@ -1,7 +1,7 @@
-use Rattle.std.proofs.Common.{◌≡◌, ◌++◌, take}
-use Rattle.std.specs.List.{flat_map}
-use Rattle.rim_release.specs.Report.{line_of}
+use Rattle.std.proofs.Common.{◌≡◌, ◌++◌}
+use Rattle.rim_release.specs.inside.Lines.{lines_with}
 use Rattle.rim_release.proofs.report.push_lines.Given as goal
 
 abbrev pub invariant-loop-launch : goal.invariant-loop-launch
-invariant-loop-launch l = l.text.items ≡ l.initial.text.items ++ flat_map line_of (take l.launch-index l.launches)
+invariant-loop-launch l =
+    l.text.items ++ lines_with l.launch-iterator.a.rest.now l.launch-iterator.b.rest.now ≡ l.initial.text.items ++ lines_with l.launches l.outcomes

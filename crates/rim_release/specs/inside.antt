@@ -1,0 +1,6 @@
+-- What the fields and loops of this crate keep.
+pub mod Preparing
+pub mod Ends
+pub mod Sources
+pub mod Chains
+pub mod Lines

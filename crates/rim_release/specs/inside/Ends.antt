@@ -1,0 +1,33 @@
+-- The measured items of launches, each by the key after its last page. This project's choice.
+use Rattle.std.specs.Prelude.{List, [], ◌∷◌, ◌++◌, Option, Some, None, Result, Ok, Err, if◌then◌else◌}
+use Rattle.std.specs.List.{flat_map, slice_get}
+use Rattle.page_jobs.specs.declared.page.PageKey.{PageKey}
+use Rattle.rim_desc.specs.declared.measurement.Algo.{Algo}
+use Rattle.rim_launch.specs.LaunchData.{LaunchData}
+use Rattle.rim_launch.specs.declared.step.Step.{Step}
+use Rattle.rim_launch.specs.declared.step.Step.TheVariants as step
+use Rattle.ipa_layout.specs.Layout.{PlacedData}
+use Rattle.ipa_layout.specs.declared.placed.PlacedItem.{PlacedItem}
+use Rattle.rim_manifest.specs.Launches.{NamedData}
+use Rattle.rim_chain.specs.Reading.{key_at}
+use Rattle.rim_release.specs.declared.audit_fault.AuditFault.{AuditFault}
+
+abbrev pub item_ends : Algo → Option PlacedItem → List PageKey
+item_ends algo None = []
+item_ends algo (Some item) = if item.measured then key_at algo item item.pages ∷ [] else []
+
+abbrev pub step_ends : LaunchData → PlacedData → Step → List PageKey
+step_ends l p (step.Ram n) = []
+step_ends l p (step.Item n) = item_ends l.config.algo (slice_get p.items n)
+step_ends l p (step.Rec n) = []
+
+-- a launch that is refused has no measured items
+abbrev pub launch_ends : LaunchData → Result PlacedData AuditFault → List PageKey
+launch_ends l (Ok p) = flat_map (step_ends l p) l.steps
+launch_ends l (Err fault) = []
+
+-- of all launches
+abbrev pub ends_of : List NamedData → List (Result PlacedData AuditFault) → List PageKey
+ends_of [] places = []
+ends_of (l ∷ ls) [] = []
+ends_of (l ∷ ls) (place ∷ places) = launch_ends l.launch place ++ ends_of ls places

@@ -1,0 +1,99 @@
+//! The measurements of the launches of a release, on one thread.
+ghost use Rattle.std.specs.Prelude.{◌≡◌, ◌≤◌, ◌<◌, IfOk, length, map, true};
+ghost use Rattle.std.specs.List.{All};
+ghost use Rattle.page_jobs.specs.Key.{IsRising};
+ghost use Rattle.page_jobs.specs.Page.{page_view};
+ghost use Rattle.page_jobs.specs.Table.{keys_of as page_keys};
+ghost use Rattle.rim_chain.specs.Links.{keys_of};
+ghost use Rattle.rim_chain.specs.Rows.{has_all};
+ghost use Rattle.rim_release.specs.inside.Chains.{IsFull, outcomes_of, value_in};
+
+use crate::audit_fault::AuditFault;
+use ipa_layout::Placed;
+use page_jobs::{DigestRow, Page, PageJob, Table};
+use refusal::NoMemory;
+use rim_chain::{LaunchPlan, chain};
+use rim_desc::Measurement;
+use std::alloc::{AllocError, Global};
+
+/// A table with the digests of these pages, hashed one after another.
+pub fn hashed<'a>(alloc: Global, pages: &'a [Page<'a>]) -> Result<Table<'a>, NoMemory>
+    requires { IsRising (page_keys (map page_view pages.now)) }
+    ensures pages { IfOk result (λ t. t.pages ≡ map page_view pages.entry.now) }
+    ensures full { IfOk result IsFull }
+{
+    let mut table = Table::reserve(alloc, pages)?;
+    for slot in 0..pages.len() {
+        let Ok(()) = table.fill(slot, PageJob::new(pages[slot]).run()) else {
+            unreachable!()
+        };
+    }
+    Ok(table)
+}
+
+/// The Realm Initial Measurements of launches by their plans, where a table has the digests of all their pages.
+pub fn chains(
+    alloc: Global,
+    table: &Table,
+    plans: &[LaunchPlan],
+) -> Result<Vec<Measurement>, NoMemory>
+    requires { All (λ v. has_all table.now (keys_of v.links) ≡ true) plans.now }
+    ensures { IfOk result (λ rims. map (λ m. m.bytes) rims.items ≡ map (value_in table.now) plans.now) }
+{
+    let mut row = DigestRow::reserve(alloc, most_pages(plans))?;
+    let mut rims = Vec::with_capacity(alloc, plans.len())?;
+    for plan in plans {
+        rims.push(chained(table, plan, &mut row))?;
+    }
+    Ok(rims)
+}
+
+/// The most measured pages of a plan.
+fn most_pages(plans: &[LaunchPlan]) -> usize
+    ensures { All (λ v. length (keys_of v.links) ≤ result) plans.now }
+{
+    let mut most = 0;
+    for plan in plans {
+        most = most.max(plan.pages());
+    }
+    most
+}
+
+/// The Realm Initial Measurement of a launch, whose digests are put into a row in the place of others.
+fn chained(table: &Table, plan: &LaunchPlan, row: &mut DigestRow) -> Measurement
+    requires room { length (keys_of plan.now.links) ≤ row.old.room }
+    requires all { has_all table.now (keys_of plan.now.links) ≡ true }
+    ensures value { result.bytes ≡ value_in table.now plan.now }
+    ensures room { row.new.room ≡ row.old.room }
+{
+    row.truncate(0);
+    if !plan.fill_row(table, row) {
+        unreachable!()
+    }
+    chain(plan, row)
+}
+
+/// What came of each launch, where those that are accepted have these measurements, in their order.
+pub fn outcomes(
+    alloc: Global,
+    places: &[Result<Placed, AuditFault>],
+    rims: &[Measurement],
+) -> Result<Vec<Result<Measurement, AuditFault>>, NoMemory>
+    ensures { IfOk result (λ found. found.items ≡ outcomes_of places.now rims.now) }
+{
+    let mut found = Vec::with_capacity(alloc, places.len())?;
+    let mut rest = rims;
+    for place in places {
+        match place {
+            Ok(_) => {
+                let Some((rim, others)) = rest.split_first() else {
+                    return Ok(found);
+                };
+                found.push(Ok(*rim))?;
+                rest = others;
+            }
+            Err(fault) => found.push(Err(*fault))?,
+        }
+    }
+    Ok(found)
+}

@@ -1,0 +1,212 @@
+//! The different measured pages of a release.
+ghost use Rattle.std.specs.Prelude.{◌≡◌, ◌++◌, ◌≤◌, None, Some, IfOk, OnOk, Ok, Err, Result, length, map, nat_lt, option_map, sum_by, if◌then◌else◌};
+ghost use Rattle.std.specs.List.{All, filter_map, flat_map, range_with_len, slice_get};
+ghost use Rattle.refusal.specs.Answer.{Answers};
+ghost use Rattle.ipa_layout.specs.inside.LayoutViews.{contents};
+ghost use Rattle.page_jobs.specs.Page.{page_named, page_view};
+ghost use Rattle.page_jobs.specs.Ranges.{keys_before, range_keys};
+ghost use Rattle.rim_release.specs.inside.Ends.{ends_of, item_ends, launch_ends, step_ends};
+ghost use Rattle.rim_chain.specs.Reading.{key_at};
+ghost use Rattle.rim_release.specs.inside.Preparing.{places_of};
+ghost use Rattle.rim_release.specs.inside.Sources.{IsUsable, edited_at, pages_of, source_bytes};
+
+use crate::audit_fault::AuditFault;
+use crate::fault::StartFault;
+use ipa_layout::{Placed, PlacedItem};
+use page_jobs::{Blob, KeyRange, Page, PageKey, distinct_ranges};
+use refusal::NoMemory;
+use rim_desc::{Algo, Source};
+use rim_launch::{Launch, Step};
+use rim_manifest::{NamedLaunch, Release};
+use std::alloc::{AllocError, Global};
+
+/// The most different measured pages of a release.
+const MOST_PAGES: u64 = 1_048_576;
+
+/// The different measured pages of the launches that are accepted, in the order of their keys. No byte is copied, and no
+/// page is looked at twice, however many launches measure it.
+pub fn pages<'a>(
+    alloc: Global,
+    release: &Release,
+    places: &'a [Result<Placed, AuditFault>],
+    files: &'a [Vec<u8>],
+) -> Result<Vec<Page<'a>>, StartFault>
+    requires files { length files.now ≡ length release.now.paths }
+    requires places { places.now ≡ places_of (contents files.now) release.now.launches }
+    ensures { Answers StartFault.NoMemory (λ pages. map page_view pages.items) result (pages_of (contents files.entry.now) release.now.launches) }
+{
+    let ends = ends(alloc, release.all_launches(), places)?;
+    let ranges = distinct_ranges(alloc, ends)?;
+    match page_count(&ranges) {
+        Some(count) => {
+            let pages = pages_in(alloc, count, &ranges, places, files)?;
+            Ok(pages)
+        }
+        None => Err(StartFault::TooManyPages),
+    }
+}
+
+/// The measured items of the launches that are accepted, each by the key after its last page.
+fn ends(
+    alloc: Global,
+    launches: &[NamedLaunch],
+    places: &[Result<Placed, AuditFault>],
+) -> Result<Vec<PageKey>, AllocError>
+    ensures { IfOk result (λ ends. ends.items ≡ ends_of launches.now places.now) }
+{
+    let mut ends = Vec::new(alloc);
+    for (launch, place) in launches.iter().zip(places.iter()) {
+        push_launch(&mut ends, launch.launch(), place)?;
+    }
+    Ok(ends)
+}
+
+/// Adds the measured items of a launch, if it is accepted.
+fn push_launch(
+    ends: &mut Vec<PageKey>,
+    launch: &Launch,
+    place: &Result<Placed, AuditFault>,
+) -> Result<(), AllocError>
+    ensures { OnOk result (ends.new.items ≡ ends.old.items ++ launch_ends launch.now place.now) }
+{
+    match place {
+        Ok(placed) => push_steps(ends, launch, placed),
+        Err(_) => Ok(()),
+    }
+}
+
+fn push_steps(ends: &mut Vec<PageKey>, launch: &Launch, placed: &Placed) -> Result<(), AllocError>
+    ensures { OnOk result (ends.new.items ≡ ends.old.items ++ flat_map (step_ends launch.now placed.now) launch.now.steps) }
+{
+    for step in launch.steps() {
+        push_step(ends, launch, placed, *step)?;
+    }
+    Ok(())
+}
+
+/// Adds the item of a step, where the step has one that is measured.
+fn push_step(
+    ends: &mut Vec<PageKey>,
+    launch: &Launch,
+    placed: &Placed,
+    step: Step,
+) -> Result<(), AllocError>
+    ensures { OnOk result (ends.new.items ≡ ends.old.items ++ step_ends launch.now placed.now step) }
+{
+    let Step::Item(number) = step else {
+        return Ok(());
+    };
+    match item_at(placed, number) {
+        Some(item) => push_item(ends, launch.config().algo, &item),
+        None => Ok(()),
+    }
+}
+
+/// The item of this number, if the launch has one.
+fn item_at(placed: &Placed, number: usize) -> Option<PlacedItem>
+    ensures { result ≡ slice_get placed.now.items number }
+{
+    placed.items().get(number).copied()
+}
+
+/// Adds an item, if it is measured.
+fn push_item(ends: &mut Vec<PageKey>, algo: Algo, item: &PlacedItem) -> Result<(), AllocError>
+    ensures { OnOk result (ends.new.items ≡ ends.old.items ++ item_ends algo (Some item.now)) }
+{
+    if item.measured {
+        ends.push(item_end(algo, item))?;
+    }
+    Ok(())
+}
+
+/// The key after the last page of an item.
+fn item_end(algo: Algo, item: &PlacedItem) -> PageKey
+    ensures { result ≡ key_at algo item.now item.now.pages }
+{
+    PageKey {
+        algo,
+        source: item.source,
+        lead: item.lead,
+        number: item.pages,
+    }
+}
+
+/// How many pages some ranges have, unless these are too many.
+fn page_count(ranges: &[KeyRange]) -> Option<usize>
+    ensures { let count = sum_by (λ r. r.count) ranges.now in result ≡ (if nat_lt 1048576 count then None else Some count) }
+{
+    let mut count = 0;
+    for range in ranges {
+        if MOST_PAGES - count < range.count {
+            return None;
+        }
+        count += range.count;
+    }
+    Some(count as usize)
+}
+
+/// The pages of some ranges, this many in all.
+fn pages_in<'a>(
+    alloc: Global,
+    count: usize,
+    ranges: &[KeyRange],
+    places: &'a [Result<Placed, AuditFault>],
+    files: &'a [Vec<u8>],
+) -> Result<Vec<Page<'a>>, NoMemory>
+    requires { All IsUsable ranges.now }
+    ensures { IfOk result (λ pages. map page_view pages.items ≡ map (page_named (source_bytes (contents files.entry.now) places.entry.now)) (flat_map range_keys ranges.now)) }
+{
+    let mut pages = Vec::with_capacity(alloc, count)?;
+    for range in ranges {
+        let bytes = source_bytes(files, places, range.first.source);
+        push_range(&mut pages, range, bytes)?;
+    }
+    Ok(pages)
+}
+
+/// Adds neighbouring pages of the item that has these bytes.
+fn push_range<'a>(
+    pages: &mut Vec<Page<'a>>,
+    range: &KeyRange,
+    bytes: &'a [u8],
+) -> Result<(), NoMemory>
+    requires { IsUsable range.now }
+    ensures { OnOk result (map page_view pages.new.items ≡ map page_view pages.old.items ++ map (page_named (λ source. bytes.entry.now)) (range_keys range.now)) }
+{
+    if range.count == 0 {
+        return Ok(());
+    }
+    let first = range.first;
+    let blob = Blob::new(first.source, first.lead, bytes);
+    for index in 0..range.count {
+        pages.push(blob.page(first.algo, first.number + index))?;
+    }
+    Ok(())
+}
+
+/// The bytes of a source of the release: a file, or the devicetree that a launch edited.
+fn source_bytes<'a>(
+    files: &'a [Vec<u8>],
+    places: &'a [Result<Placed, AuditFault>],
+    source: Source,
+) -> &'a [u8]
+    ensures { result.now ≡ source_bytes (contents files.entry.now) places.entry.now source }
+{
+    match source {
+        Source::File(number) => match files.get(number) {
+            Some(bytes) => bytes.as_slice(),
+            None => &[],
+        },
+        Source::Edited(launch) => edited_at(places.get(launch)),
+    }
+}
+
+/// The devicetree that a launch edited, if it is accepted and has one.
+fn edited_at<'a>(place: Option<&'a Result<Placed, AuditFault>>) -> &'a [u8]
+    ensures { result.now ≡ edited_at (option_map (λ p. p.now) place.entry) }
+{
+    match place {
+        Some(Ok(placed)) => placed.edited().unwrap_or(&[]),
+        _ => &[],
+    }
+}
