@@ -18,15 +18,18 @@ A manifest is a TOML file that describes launches of realms. The smallest one:
     algo = \"sha256\"
     s2sz = 33
 
+Launches also have memory (`ram`), contents (`item`, from `file` tables) and
+processors (`rec`). docs/FORMATS.md lists all keys.
+
 `rim measure MANIFEST` prints the report: the line `rim-report 1`, a line
-`NAME ALGORITHM MEASUREMENT` for each launch, and the line `pages N`, the number
-of different pages that were hashed. Launches have no memory, files or processors
-yet: a manifest that gives them some is refused as `limit`.
+`NAME ALGORITHM MEASUREMENT` or `NAME refused KIND` for each launch, and the line
+`pages N`, the number of different pages that were hashed.
 
 A fault is one line on standard error, `rim: ` and its name.
 
 Exit status:
   0  done
+  1  done, and some launch is refused
   2  the command line is wrong
   3  the manifest, a file or the output is at fault
   4  out of memory";

@@ -4,21 +4,28 @@ ghost use Rattle.std.specs.Io.KnownBytes.{Appends};
 ghost use Rattle.clap.specs.Words.{kind_of, takes};
 ghost use Rattle.rim_manifest.specs.Manifest.{manifest_of};
 ghost use Rattle.rim_release.specs.ShownDevicetree.{ShowsDevicetree};
-ghost use Rattle.rim_release.specs.Report.{report_of};
 ghost use Rattle.rim_release.specs.ShownImage.{image_answer_of};
 ghost use Rattle.rim_cli.specs.Command.{AsksForHelp, IsMistaken, is_asked, rim};
-ghost use Rattle.rim_cli.specs.Done.{IsAnswer, IsDone, Refuses, RefusesFdt, RefusesImage, RefusesManifest, path_of};
+ghost use Rattle.rim_cli.specs.Done.{IsAnswer, IsDone, IsReport, Refuses, RefusesFdt, RefusesImage, RefusesManifest, path_of};
 ghost use Rattle.std.specs.IoError.{error_kind};
 ghost use Rattle.rim_cli.specs.Status.{status_of, unreadable_status};
 
 use crate::fault::Fault;
 use crate::file::{Opener, read_file, read_files};
 use crate::words::{CommandFault, Request, command};
-use rim_release::{measure_alone, read_manifest, show_fdt, show_image};
+use rim_release::{read_manifest, report_alone, show_fdt, show_image};
 use std::alloc::Global;
 use std::convert::AsStr;
 use std::io;
 use std::io::{ErrorKind, Write};
+
+/// The text that a request asks for, and the exit status that it ends with: 0, or 1 where some launch of a report is
+/// refused.
+#[derive(Drop)]
+struct Answer {
+    text: Vec<u8>,
+    status: u8,
+}
 
 /// Runs the program on the words of a command line, of which the first is the program's name.
 ///
@@ -26,8 +33,8 @@ use std::io::{ErrorKind, Write};
 /// `err`. The answer is the exit status: 0 done, 1 some launch is refused, 2 usage, 3 a fault of the
 /// manifest, a file or the output, 4 want of memory. Output is made whole before any of it is written.
 ///
-/// Where `clap` takes the words, 0 says that the text that they ask for was added to `out`, and 2 is
-/// not answered. After 2 and 4 `out` is as it was. No clause says what is on `err`, since writing
+/// Where `clap` takes the words, 0 and 1 say that the text that they ask for was added to `out`, and 2 is
+/// not answered. 1 is answered exactly with a report in which some launch is refused. After 2 and 4 `out` is as it was. No clause says what is on `err`, since writing
 /// there may fail and changes no status.
 pub fn run<R, S: AsStr, O: Opener, W: Write, E: Write>(
     _rt: &R,
@@ -37,8 +44,8 @@ pub fn run<R, S: AsStr, O: Opener, W: Write, E: Write>(
     out: &mut W,
     err: &mut E,
 ) -> u8
-    ensures known { (result ≤ 4) × (result ≢ 1) }
-    ensures done { takes rim (map S.text words.now) ≡ true → result ≡ 0 → IsDone (map S.text words.now) (O.held opener.old) (W.contents out.old) (W.contents out.new) }
+    ensures known { result ≤ 4 }
+    ensures done { takes rim (map S.text words.now) ≡ true → result ≤ 1 → IsDone (map S.text words.now) (O.held opener.old) (W.contents out.old) (W.contents out.new) result }
     ensures usage { takes rim (map S.text words.now) ≡ true → result ≢ 2 }
     ensures mistaken { IsMistaken (map S.text words.now) → (result ≡ 2) ⊎ (result ≡ 4) }
     ensures helps { AsksForHelp (map S.text words.now) → result ≢ 2 }
@@ -50,15 +57,16 @@ pub fn run<R, S: AsStr, O: Opener, W: Write, E: Write>(
         Err(CommandFault::Usage(answer)) => return show_usage(alloc, &answer, out, err),
     };
     match answer_to(alloc, request, opener) {
-        Ok(text) => finish(text.as_slice(), out, err),
+        Ok(answer) => finish(answer.text.as_slice(), answer.status, out, err),
         Err(fault) => report_fault(fault, err),
     }
 }
 
-/// The text that a request asks for.
-fn answer_to<O: Opener>(alloc: Global, request: Request, opener: &mut O) -> Result<Vec<u8>, Fault>
-    ensures answered { IfOk result (λ text. IfSome (O.held opener.old (path_of request.entry)) (λ bytes. IsAnswer request.entry bytes text.items)) }
-    ensures refused { IfErr result (Refuses request.entry (O.held opener.old (path_of request.entry))) }
+/// The answer to a request.
+fn answer_to<O: Opener>(alloc: Global, request: Request, opener: &mut O) -> Result<Answer, Fault>
+    ensures answered { IfOk result (λ a. IfSome (O.held opener.old (path_of request.entry)) (λ bytes. IsAnswer (O.held opener.old) request.entry bytes a.text.items a.status)) }
+    ensures refused { IfErr result (Refuses (O.held opener.old) request.entry) }
+    ensures status { IfOk result (λ a. a.status ≤ 1) }
 {
     match request {
         Request::Measure { manifest, .. } => measure(alloc, opener, manifest),
@@ -68,32 +76,41 @@ fn answer_to<O: Opener>(alloc: Global, request: Request, opener: &mut O) -> Resu
 }
 
 /// The report of a manifest's launches.
-fn measure<O: Opener>(alloc: Global, opener: &mut O, path: &str) -> Result<Vec<u8>, Fault>
-    ensures answered { IfOk result (λ text. IfSome (O.held opener.old path.now) (λ bytes. IsOkAnd (manifest_of bytes) (λ r. text.items ≡ report_of r.launches))) }
-    ensures refused { IfErr result (RefusesManifest (O.held opener.old path.now)) }
+fn measure<O: Opener>(alloc: Global, opener: &mut O, path: &str) -> Result<Answer, Fault>
+    ensures answered { IfOk result (λ a. IfSome (O.held opener.old path.now) (λ bytes. IsOkAnd (manifest_of bytes) (λ r. IsReport (O.held opener.old) r a.text.items a.status))) }
+    ensures refused { IfErr result (RefusesManifest (O.held opener.old) path.now) }
+    ensures status { IfOk result (λ a. a.status ≤ 1) }
 {
     let text = read_file(alloc, opener, path)?;
     let release = read_manifest(alloc, text.as_slice()).map_err(Fault::Manifest)?;
     let files = read_files(alloc, opener, &release)?;
-    measure_alone(alloc, &release, &files).map_err(Fault::Start)
+    let report = report_alone(alloc, &release, &files).map_err(Fault::Start)?;
+    Ok(Answer {
+        text: report.text,
+        status: if report.has_refused { 1 } else { 0 },
+    })
 }
 
 /// The header of the Image at a path.
-fn image<O: Opener>(alloc: Global, opener: &mut O, path: &str) -> Result<Vec<u8>, Fault>
-    ensures answered { IfOk result (λ text. IfSome (O.held opener.old path.now) (λ bytes. image_answer_of bytes ≡ Ok text.items)) }
+fn image<O: Opener>(alloc: Global, opener: &mut O, path: &str) -> Result<Answer, Fault>
+    ensures answered { IfOk result (λ a. IfSome (O.held opener.old path.now) (λ bytes. (image_answer_of bytes ≡ Ok a.text.items) × (a.status ≡ 0))) }
     ensures refused { IfErr result (RefusesImage (O.held opener.old path.now)) }
+    ensures status { IfOk result (λ a. a.status ≤ 1) }
 {
     let bytes = read_file(alloc, opener, path)?;
-    show_image(alloc, bytes.as_slice()).map_err(Fault::Show)
+    let text = show_image(alloc, bytes.as_slice()).map_err(Fault::Show)?;
+    Ok(Answer { text, status: 0 })
 }
 
 /// The devicetree in the file at a path.
-fn fdt<O: Opener>(alloc: Global, opener: &mut O, path: &str) -> Result<Vec<u8>, Fault>
-    ensures answered { IfOk result (λ text. IfSome (O.held opener.old path.now) (λ bytes. ShowsDevicetree bytes text.items)) }
+fn fdt<O: Opener>(alloc: Global, opener: &mut O, path: &str) -> Result<Answer, Fault>
+    ensures answered { IfOk result (λ a. IfSome (O.held opener.old path.now) (λ bytes. ShowsDevicetree bytes a.text.items × (a.status ≡ 0))) }
     ensures refused { IfErr result (RefusesFdt (O.held opener.old path.now)) }
+    ensures status { IfOk result (λ a. a.status ≤ 1) }
 {
     let bytes = read_file(alloc, opener, path)?;
-    show_fdt(alloc, bytes.as_slice()).map_err(Fault::Show)
+    let text = show_fdt(alloc, bytes.as_slice()).map_err(Fault::Show)?;
+    Ok(Answer { text, status: 0 })
 }
 
 /// Shows a usage text on standard error, status 2, or the help or version that was asked for on
@@ -116,16 +133,18 @@ fn show_usage<W: Write, E: Write>(
         let _ = write_text(text.as_bytes(), err);
         return 2;
     }
-    finish(text.as_bytes(), out, err)
+    finish(text.as_bytes(), 0, out, err)
 }
 
-/// Writes the text that a request asked for, and answers the exit status.
-fn finish<W: Write, E: Write>(text: &[u8], out: &mut W, err: &mut E) -> u8
-    ensures known { (result ≡ 0) ⊎ (result ≡ 3) }
-    ensures done { result ≡ 0 → Appends (W.contents out.old) (W.contents out.new) text.now }
+/// Writes the text that a request asked for, and answers the exit status: this one, or that of the fault.
+fn finish<W: Write, E: Write>(text: &[u8], status: u8, out: &mut W, err: &mut E) -> u8
+    requires { status ≤ 1 }
+    ensures known { (result ≡ status) ⊎ (result ≡ 3) }
+    ensures own { result ≤ 1 → result ≡ status }
+    ensures done { result ≤ 1 → Appends (W.contents out.old) (W.contents out.new) text.now }
 {
     match write_text(text, out) {
-        Ok(()) => 0,
+        Ok(()) => status,
         Err(fault) => report_fault(fault, err),
     }
 }

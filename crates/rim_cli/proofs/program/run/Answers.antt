@@ -14,9 +14,9 @@ pub returns-in-Ok-answer_to-clause-done : goal.returns-in-Ok-answer_to-clause-do
 returns-in-Ok-answer_to-clause-done g c taken done = record {
   written = rw (← c.as_slice.ensures.value) (c.finish.ensures.done done);
   request = c.in-Ok.request;
-  text = c.in-Ok-answer_to.text.items;
+  text = c.in-Ok-answer_to.answer.text.items;
   asked = c.in-Ok.ensures.reads;
-  answer = c.in-Ok-answer_to.ensures.answered;
+  answer = rw (c.finish.ensures.own done) c.in-Ok-answer_to.ensures.answered;
 }
 
 pub returns-in-Err-NoMemory-clause-usage : goal.returns-in-Err-NoMemory-clause-usage

@@ -1,0 +1,171 @@
+#!/usr/bin/env python3
+"""A second opinion: the report of a manifest by the plainest program that can be written from docs/FORMATS.md.
+
+It shares no code with rim, is slow, and reads neither edited devicetrees nor faults: it is for manifests whose
+launches are accepted, or refused by `size`, `overlap` or `outside-ram`. Tests take their expected values from it.
+
+usage: reference.py MANIFEST
+"""
+import hashlib
+import struct
+import sys
+import tomllib
+
+PAGE = 4096
+
+
+def page_size(level):
+    return PAGE << (9 * (3 - level))
+
+
+class Refused(Exception):
+    pass
+
+
+class Measurement:
+    def __init__(self, algo, page):
+        self.algo = algo
+        self.value = self.hash(page)
+
+    def hash(self, data):
+        return hashlib.new(self.algo, data).digest().ljust(64, b"\0")
+
+    def extend(self, kind, fields):
+        descriptor = bytearray(256)
+        descriptor[0] = kind
+        descriptor[8:16] = struct.pack("<Q", 256)
+        descriptor[16:80] = self.value
+        for offset, data in fields:
+            descriptor[offset : offset + len(data)] = data
+        self.value = self.hash(bytes(descriptor))
+
+    def ripas(self, base, top):
+        self.extend(2, [(0x50, struct.pack("<QQ", base, top))])
+
+    def data(self, ipa, content):
+        flags = 0 if content is None else 1
+        self.extend(0, [(0x50, struct.pack("<QQ", ipa, flags)), (0x60, content or bytes(64))])
+
+    def rec(self, content):
+        self.extend(1, [(0x50, content)])
+
+
+def realm_page(launch):
+    page = bytearray(PAGE)
+    page[0] = (2 if launch.get("sve") else 0) | (4 if launch.get("pmu") else 0)
+    for offset, key in ((8, "s2sz"), (0x10, "sve_vl"), (0x18, "num_bps"), (0x20, "num_wps"), (0x28, "pmu_num_ctrs")):
+        page[offset] = launch.get(key, 0)
+    page[0x30] = 1 if launch["algo"] == "sha512" else 0
+    return bytes(page)
+
+
+def word(value):
+    return int(value, 16) if isinstance(value, str) else value
+
+
+def rec_page(rec, number, kernel, dtb):
+    page = bytearray(PAGE)
+    page[0] = 1
+    default_pc, default_x0 = (kernel, dtb) if number == 0 else (0, 0)
+    registers = [word(x) for x in rec["x"]] if "x" in rec else [default_x0]
+    page[0x200:0x208] = struct.pack("<Q", word(rec.get("pc", default_pc)))
+    page[0x300:0x340] = struct.pack("<8Q", *(registers + [0] * 8)[:8])
+    return bytes(page)
+
+
+def blocks(base, end, least_level):
+    """The largest blocks of a region, from its first address on."""
+    at = base
+    while at < end:
+        level = next(l for l in range(least_level, 4) if at % page_size(l) == 0 and at + page_size(l) <= end)
+        yield at, at + page_size(level)
+        at += page_size(level)
+
+
+def place(launch, files):
+    placed, extents = [], []
+    for item in launch.get("item", []):
+        data = files[item["file"]]
+        at, length = item["at"], len(data)
+        if item["kind"] == "kernel":
+            offset, image = struct.unpack_from("<QQ", data, 8)
+            at += offset if image else 0x80000
+            length = max(length, image)
+        size = item.get("size", len(data))
+        if size < len(data):
+            raise Refused("size")
+        end = at + max(size, length if item["kind"] == "kernel" else 0)
+        low, high = at // PAGE * PAGE, -(-end // PAGE) * PAGE
+        if end > at:
+            if not any(base <= low and high <= top for base, top in launch.get("ram", [])):
+                raise Refused("outside-ram")
+            extents.append((low, high))
+        pages = (-(-(at + size) // PAGE) - at // PAGE) if size else 0
+        placed.append((item, at, pages, data))
+    extents.sort()
+    if any(first[1] > second[0] for first, second in zip(extents, extents[1:])):
+        raise Refused("overlap")
+    return placed
+
+
+def measure(launch, files, seen):
+    placed = place(launch, files)
+    start = 2 if launch["s2sz"] <= 34 else 1 if launch["s2sz"] <= 43 else 0
+    least_level = max(start, launch.get("block_level", 2))
+    rim = Measurement(launch["algo"], realm_page(launch))
+    kernel = next((at for item, at, _, _ in placed if item["kind"] == "kernel"), 0)
+    dtb = next((at for item, at, _, _ in placed if item["kind"] == "dtb"), 0)
+
+    def ram(number):
+        for base, top in blocks(*launch["ram"][number], least_level):
+            rim.ripas(base, top)
+
+    def item(number):
+        asked, at, pages, data = placed[number]
+        lead = at % PAGE
+        for page in range(pages):
+            content = None
+            if asked.get("measured", True):
+                first = PAGE * page - lead
+                part = data[max(first, 0) : max(first + PAGE, 0)]
+                part = (bytes(-first) if first < 0 else b"") + part
+                content = rim.hash(part.ljust(PAGE, b"\0"))
+                seen.add((launch["algo"], asked["file"], lead, page))
+            rim.data(at - lead + PAGE * page, content)
+
+    def rec(number):
+        rim.rec(rim.hash(rec_page(launch["rec"][number], number, kernel, dtb)))
+
+    names = [asked["name"] for asked, _, _, _ in placed]
+    kinds = [asked["kind"] for asked, _, _, _ in placed]
+    steps = launch.get("steps")
+    if steps is None:
+        steps = [f"ram {n}" for n in range(len(launch.get("ram", [])))]
+        steps += [f"item {name}" for kind in ("kernel", "initrd", "dtb", "raw") for name, k in zip(names, kinds) if k == kind]
+        steps += [f"rec {n}" for n in range(len(launch.get("rec", [])))]
+    for step in steps:
+        verb, what = step.split(" ")
+        {"ram": lambda: ram(int(what)), "item": lambda: item(names.index(what)), "rec": lambda: rec(int(what))}[verb]()
+    return rim.value[: 64 if launch["algo"] == "sha512" else 32].hex()
+
+
+def main():
+    with open(sys.argv[1], "rb") as file:
+        manifest = tomllib.load(file)
+    files = {}
+    for entry in manifest.get("file", []):
+        with open(entry["path"], "rb") as file:
+            files[entry["name"]] = file.read()
+    pages = set()
+    print("rim-report 1")
+    for launch in manifest.get("launch", []):
+        seen = set()
+        try:
+            print(launch["name"], launch["algo"], measure(launch, files, seen))
+            pages |= seen
+        except Refused as refused:
+            print(launch["name"], "refused", refused)
+    print("pages", len(pages))
+
+
+main()
