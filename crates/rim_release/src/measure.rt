@@ -27,11 +27,7 @@ pub struct Report {
 
 /// The report of a release, made on the calling thread without waiting: a line `rim-report 1`; a line `NAME ALGO HEX`
 /// for each launch in the manifest's order, or `NAME refused KIND`; and a line `pages N`.
-pub fn measure_alone(
-    alloc: Global,
-    release: &Release,
-    files: &Files,
-) -> Result<Vec<u8>, StartFault>
+pub fn measure_alone(alloc: Global, release: &Release, files: &Files) -> Result<Vec<u8>, StartFault>
     requires { vec_len files.now ≡ length release.now.paths }
     ensures { Answers StartFault.NoMemory (λ text. text.items) result (measured_of (contents files.now.items) release.now.launches) }
 {
@@ -40,11 +36,7 @@ pub fn measure_alone(
 }
 
 /// The same report, and whether some launch in it is refused.
-pub fn report_alone(
-    alloc: Global,
-    release: &Release,
-    files: &Files,
-) -> Result<Report, StartFault>
+pub fn report_alone(alloc: Global, release: &Release, files: &Files) -> Result<Report, StartFault>
     requires { vec_len files.now ≡ length release.now.paths }
     ensures text { Answers StartFault.NoMemory (λ r. r.text.items) result (measured_of (contents files.now.items) release.now.launches) }
     ensures refused { IfOk result (λ r. r.has_refused ≡ has_refused (contents files.now.items) release.now.launches) }

@@ -16,6 +16,8 @@ mod kinds;
 #[cfg(test)]
 mod manifests;
 #[cfg(test)]
+mod releases;
+#[cfg(test)]
 mod reports;
 #[cfg(test)]
 mod words;

@@ -71,5 +71,5 @@ returns-clause-text c =
 pub returns-clause-refused : goal.returns-clause-refused
 returns-clause-refused c =
     let prepared = subst (λ (fs : List (Vec ℕ Global)). ArePrepared (contents fs) c.args.release.now.launches c.in_ok-prepared.prepared.places.items c.in_ok-prepared.prepared.plans.items)
-        c.deref.ensures.value c.in_ok-prepared.ensures in
+    c.deref.ensures.value c.in_ok-prepared.ensures in
     c.has_refused.ensures ∙ ap (list_any is_err) (c.deref-9.ensures.value ∙ prepared.0) ∙ list_any_map is_err (λ (l : NamedData). accepted_of l.launch (contents c.args.files.now.items)) c.args.release.now.launches
