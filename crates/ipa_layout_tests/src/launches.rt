@@ -1,5 +1,7 @@
 //! Which parts make a launch.
-use ipa_layout::{Bootargs, Config, Edits, Item, ItemKind, Launch, Rec, Region, Step, default_steps};
+use ipa_layout::{
+    Bootargs, Config, Edits, Item, ItemKind, Launch, Rec, Region, Step, default_steps,
+};
 use rim_desc::Algo;
 use std::alloc::{AllocError, Global};
 use std::test::Fail;

@@ -2,8 +2,8 @@
 use arm64_image::ImageFault;
 use fdt_tree::FdtFault;
 use ipa_layout::{
-    Bootargs, Config, Edits, Item, ItemKind, Launch, LayoutFault, Placed, PlacedItem, PlacedRec, Rec,
-    Region, Source, Step, place,
+    Bootargs, Config, Edits, Item, ItemKind, Launch, LayoutFault, Placed, PlacedItem, PlacedRec,
+    Rec, Region, Source, Step, place,
 };
 use rim_desc::Algo;
 use std::alloc::{AllocError, Global};
