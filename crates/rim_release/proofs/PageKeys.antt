@@ -141,8 +141,7 @@ ends-over (l ∷ ls) (place ∷ places) now all (inr none) so_far = absurd (omeg
 
 -- ---- what a page's key may be
 
--- each key of a launch's measured pages is that of a page of one of its items
-each-append : (P : PageKey → Type 0) (xs ys : List PageKey) → AllByRecursion P xs → AllByRecursion P ys → AllByRecursion P (xs ++ ys)
+pub each-append : {X : Type 0} (P : X → Type 0) (xs ys : List X) → AllByRecursion P xs → AllByRecursion P ys → AllByRecursion P (xs ++ ys)
 each-append P [] ys first second = second
 each-append P (x ∷ xs) ys first second = (first.0, each-append P xs ys first.1 second)
 
@@ -154,6 +153,7 @@ each-range : (P : PageKey → Type 0) (f : ℕ → PageKey) (a n : ℕ) → ((k 
 each-range P f a zero each = tt
 each-range P f a (suc n) each = (each a (omega arith), each-range P f (a + 1) n (λ k low. each k (omega (arith, low))))
 
+-- each key of a launch's measured pages is that of a page of one of its items
 pub each-measured : (P : PageKey → Type 0) (l : LaunchData) (p : PlacedData)
     → ((number k : ℕ) (item : PlacedItem) → slice_get p.items number ≡ Some item → k < item.pages → P (key_at l.config.algo item k))
     → AllByRecursion P (measured_keys l p)
@@ -183,7 +183,7 @@ each-launch P files (l ∷ ls) each =
 abbrev pub IsUsableKey : PageKey → Type 0
 IsUsableKey key = (key.lead < 4096) × (key.number < 2 ^ 52)
 
-item-pages : (items : List PlacedItem) (number : ℕ) (item : PlacedItem) → slice_get items number ≡ Some item → item.pages ≤ sum_by (λ i. i.pages) items
+pub item-pages : (items : List PlacedItem) (number : ℕ) (item : PlacedItem) → slice_get items number ≡ Some item → item.pages ≤ sum_by (λ i. i.pages) items
 item-pages items number item at =
     let inside : number < length items = slice_get_within items number item at in
     let same : (get_or items number item).pages ≡ item.pages = ap (λ (x : PlacedItem). x.pages) (get_or_from_slice_get items number item item at) in

@@ -3,6 +3,7 @@ pub mod AuditFaults
 pub mod Accepted
 pub mod Pages
 pub mod Report
+pub mod Listing
 pub mod ShowFaults
 pub mod ShownImage
 pub mod ShownDevicetree

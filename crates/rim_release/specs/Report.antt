@@ -1,4 +1,4 @@
--- The report of a release. This project's choice.
+-- The report of a release, and that of its audit. This project's choice.
 use Rattle.std.specs.Prelude.{ℕ, Bool, is_err, List, ◌++◌, length, nat_lt, take, codes, Result, Ok, Err, if◌then◌else◌}
 use Rattle.std.specs.Fmt.{decimal}
 use Rattle.std.specs.List.{flat_map, list_any}
@@ -54,6 +54,10 @@ report_of files ls = report_with (lines_of files ls) (length (page_keys files ls
 -- the report, unless the launches have too many different measured pages
 abbrev pub measured_of : List (List ℕ) → List NamedData → Result (List ℕ) StartFault
 measured_of files ls = if nat_lt page_limit (length (page_keys files ls)) then Err TooManyPages else Ok (report_of files ls)
+
+-- the report of an audit
+abbrev pub audit_text_of : List (List ℕ) → List NamedData → List ℕ
+audit_text_of files ls = codes "rim-audit 1\n" ++ lines_of files ls
 
 -- whether some launch in the report is refused
 abbrev pub has_refused : List (List ℕ) → List NamedData → Bool

@@ -4,3 +4,4 @@ pub mod Ends
 pub mod Sources
 pub mod Chains
 pub mod Lines
+pub mod Commands

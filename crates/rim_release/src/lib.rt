@@ -2,8 +2,11 @@
 #![tactic(auto)]
 
 pub mod audit_fault;
+pub mod audits;
 pub mod chains;
+pub mod commands;
 pub mod fault;
+pub mod listings;
 pub mod measure;
 pub mod pages;
 pub mod prepare;
@@ -11,7 +14,9 @@ pub mod report;
 pub mod show;
 
 pub use audit_fault::AuditFault;
+pub use audits::{audit, audit_report};
 pub use fault::StartFault;
+pub use listings::listing;
 pub use measure::{Files, Report, measure_alone, report_alone};
 pub use rim_launch::{Config, Launch};
 pub use rim_manifest::{ManifestFault, NamedLaunch, Release, read_manifest};

@@ -1,6 +1,6 @@
 -- The measurements of launches from a table with the digests of all pages. This project's choice.
-use Rattle.std.specs.Prelude.{◌≡◌, ℕ, ◌<◌, ◌≤◌, true, List, [], ◌∷◌, length, Some, None, Result, Ok, Err, is_some}
-use Rattle.std.specs.List.{filter_map, slice_get}
+use Rattle.std.specs.Prelude.{◌≡◌, ℕ, ◌<◌, true, List, [], ◌∷◌, length, Result, Ok, Err, is_some}
+use Rattle.std.specs.List.{filter_map}
 use Rattle.page_jobs.specs.Table.{TableView, digest_at, digest_in}
 use Rattle.ipa_layout.specs.Layout.{PlacedData}
 use Rattle.rim_chain.specs.Links.{PlanView, chain_of, keys_of}

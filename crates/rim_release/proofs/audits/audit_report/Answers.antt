@@ -1,0 +1,21 @@
+use Rattle.std.proofs.Common.{◌≡◌, ◌∙◌, ◌++◌, ℕ, List, Vec, Global, ap, codes, map}
+use Rattle.ipa_layout.specs.inside.LayoutViews.{contents}
+use Rattle.rim_manifest.specs.Launches.{NamedData}
+use Rattle.rim_release.specs.Accepted.{rim_for}
+use Rattle.rim_release.specs.Report.{lines_of}
+use Rattle.rim_release.specs.inside.Lines.{lines_with, seen}
+use Rattle.rim_release.proofs.Lines.{own-lines}
+use Rattle.rim_release.proofs.audits.audit_report.Goals as goal
+
+pub returns : goal.returns
+returns c =
+    let files : List (List ℕ) = contents c.args.files.now.items in
+    let launches : List NamedData = c.args.release.now.launches in
+    let came = ap (map seen) c.deref-2.ensures.value ∙ c.in_ok-outcomes.ensures
+    ∙ ap (λ (fs : List (Vec ℕ Global)). map (λ (l : NamedData). rim_for l.launch (contents fs)) launches) c.deref.ensures.value in
+    let lines : lines_with c.all_launches.result.now c.deref-2.result.now ≡ lines_of files launches
+    = ap (λ (ls : List NamedData). lines_with ls c.deref-2.result.now) c.all_launches.ensures.value ∙ own-lines files launches c.deref-2.result.now came in
+    c.in_ok-push_lines.ensures
+    ∙ ap (λ (text : List ℕ). text ++ lines_with c.all_launches.result.now c.deref-2.result.now)
+    (c.in_ok-extend_from_slice.ensures.items ∙ ap (λ (text : List ℕ). text ++ codes "rim-audit 1\n") c.new-text.ensures.items)
+    ∙ ap (λ (text : List ℕ). codes "rim-audit 1\n" ++ text) lines

@@ -1,0 +1,7 @@
+use Rattle.std.proofs.Common.{◌≡◌}
+use Rattle.rim_release.specs.inside.Commands.{state_after}
+use Rattle.rim_release.proofs.audits.followed.Given as goal
+
+-- the monitor was given the commands before this one
+abbrev pub invariant-loop-index : goal.invariant-loop-index
+invariant-loop-index l = l.monitor ≡ state_after l.commands l.index

@@ -1,0 +1,29 @@
+use Rattle.std.proofs.Common.{◌≡◌, ◌∙◌, ℕ, Some, ap, sym}
+use Rattle.std.proofs.lemmas.Option.{same_Some}
+use Rattle.ipa_layout.specs.inside.LayoutViews.{contents}
+use Rattle.rmi_list.specs.Measured.{contents as page_contents}
+use Rattle.rim_release.proofs.ListedPages.{command-is, page-there}
+use Rattle.rim_release.proofs.commands.LaunchCommands.command_at.Goals as goal
+
+pub content_of-requires : goal.content_of-requires
+content_of-requires c =
+    let s = c.args.self.now in
+    page-there s.launch.now s.placed.now s.plan.now c.args.index c.in-Some.item c.in-Some.page s.is_listed (sym c.page_of.ensures ∙ c.in-Some.is)
+
+pub returns-in-Some : goal.returns-in-Some
+returns-in-Some c =
+    let s = c.args.self.now in
+    let pages = page_contents s.launch.now (contents s.files.now) s.placed.now in
+    command-is pages c.content_of.result s.plan.now c.args.index c.command.result
+    (λ number k at.
+    let same = same_Some (c.in-Some.item, c.in-Some.page) (number, k) (sym c.in-Some.is ∙ c.page_of.ensures ∙ at) in
+    c.content_of.ensures ∙ ap (λ (x : ℕ × ℕ). pages x.0 x.1) same)
+    c.command.ensures
+
+pub returns-in-None : goal.returns-in-None
+returns-in-None c =
+    let s = c.args.self.now in
+    let pages = page_contents s.launch.now (contents s.files.now) s.placed.now in
+    command-is pages _ s.plan.now c.args.index c.command-in-None.result
+    (λ number k at. absurd (let none : c.page_of.result ≡ Some (number, k) = c.page_of.ensures ∙ at in cc))
+    c.command-in-None.ensures

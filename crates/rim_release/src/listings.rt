@@ -1,0 +1,118 @@
+//! The listing of a launch: the commands that build its realm, as a monitor takes them.
+ghost use Rattle.std.specs.Prelude.{◌≡◌, ◌++◌, ◌<◌, length, vec_len, true, IfOk, IfSome, OnOk};
+ghost use Rattle.std.specs.List.{flat_map, slice_get};
+ghost use Rattle.refusal.specs.Answer.{Answers};
+ghost use Rattle.rim_launch.specs.LaunchData.{has_files};
+ghost use Rattle.ipa_layout.specs.inside.LayoutViews.{contents};
+ghost use Rattle.rim_release.specs.Accepted.{rim_after};
+ghost use Rattle.rim_release.specs.Listing.{command_line, first_line, last_line, listing_of, listing_with};
+ghost use Rattle.rim_release.specs.inside.Commands.{commands_in};
+
+use crate::audit_fault::AuditFault;
+use crate::commands::{LaunchCommands, lay_out};
+use crate::measure::Files;
+use crate::report::push_rim;
+use itoa::Buffer;
+use refusal::NoMemory;
+use rim_desc::{Algo, Command, Measurement};
+use rim_launch::Launch;
+use rim_manifest::Release;
+use rmi_line::print_line;
+use std::alloc::Global;
+
+/// The listing of the launch of this number, or why the launch is refused: a line `rim-list 1 aux N`, where a REC has N
+/// auxiliary granules; a line for each command that builds the realm; and a line `rim ALGO HEX` with the Realm Initial
+/// Measurement that a monitor holds then. A monitor is given each command before the command is printed.
+pub fn listing(
+    alloc: Global,
+    release: &Release,
+    files: &Files,
+    i: usize,
+) -> Result<Vec<u8>, AuditFault>
+    requires files { vec_len files.now ≡ length release.now.paths }
+    requires launch { i < length release.now.launches }
+    ensures { IfSome (slice_get release.now.launches i) (λ l. Answers AuditFault.NoMemory (λ text. text.items) result (listing_of l.launch (contents files.now.items))) }
+{
+    list_launch(alloc, release.all_launches()[i].launch(), files)
+}
+
+/// The listing of a launch, or why it is refused.
+#[tactic(auto, unfolding(crate::specs::Listing::listing_of))]
+fn list_launch(alloc: Global, launch: &Launch, files: &[Vec<u8>]) -> Result<Vec<u8>, AuditFault>
+    requires { has_files launch.now (length files.now) ≡ true }
+    ensures { Answers AuditFault.NoMemory (λ text. text.items) result (listing_of launch.now (contents files.now)) }
+{
+    let (placed, plan) = lay_out(alloc, launch, files)?;
+    let commands = LaunchCommands {
+        launch,
+        files,
+        placed: &placed,
+        plan: &plan,
+    };
+    let text = print(alloc, &commands)?;
+    Ok(text)
+}
+
+/// The lines of a launch that is accepted.
+fn print(alloc: Global, commands: &LaunchCommands) -> Result<Vec<u8>, NoMemory>
+    ensures { IfOk result (λ text. text.items ≡ listing_with commands.now.launch.now (commands_in commands.now)) }
+{
+    let config = commands.launch.config();
+    let mut text = Vec::new(alloc);
+    push_first(&mut text, config.num_aux)?;
+    let rim = push_commands(alloc, &mut text, commands)?;
+    push_last(alloc, &mut text, config.algo, &rim)?;
+    Ok(text)
+}
+
+/// Adds the first line.
+fn push_first(text: &mut Vec<u8>, num_aux: u8) -> Result<(), NoMemory>
+    ensures { OnOk result (text.new.items ≡ text.old.items ++ first_line num_aux) }
+{
+    text.extend_from_slice(b"rim-list 1 aux ")?;
+    text.extend_from_slice(Buffer::new().format(num_aux).as_bytes())?;
+    text.extend_from_slice(b"\n")?;
+    Ok(())
+}
+
+/// Adds the line of each command, which a monitor takes before. It answers the measurement that the monitor holds then.
+fn push_commands(
+    alloc: Global,
+    text: &mut Vec<u8>,
+    commands: &LaunchCommands,
+) -> Result<Measurement, NoMemory>
+    ensures text { OnOk result (text.new.items ≡ text.old.items ++ flat_map command_line (commands_in commands.now)) }
+    ensures rim { IfOk result (λ m. m.bytes ≡ rim_after commands.now.launch.now (commands_in commands.now)) }
+{
+    let mut monitor = commands.monitor(alloc);
+    for index in 0..commands.len() {
+        let command = commands.give(&mut monitor, index)?;
+        push_command(alloc, text, &command)?;
+    }
+    Ok(commands.rim(&monitor))
+}
+
+/// Adds the line of a command.
+fn push_command(alloc: Global, text: &mut Vec<u8>, command: &Command) -> Result<(), NoMemory>
+    ensures { OnOk result (text.new.items ≡ text.old.items ++ command_line command.now) }
+{
+    let line = print_line(alloc, command)?;
+    text.extend_from_slice(&line)?;
+    text.extend_from_slice(b"\n")?;
+    Ok(())
+}
+
+/// Adds the last line.
+fn push_last(
+    alloc: Global,
+    text: &mut Vec<u8>,
+    algo: Algo,
+    rim: &Measurement,
+) -> Result<(), NoMemory>
+    ensures { OnOk result (text.new.items ≡ text.old.items ++ last_line algo rim.now.bytes) }
+{
+    text.extend_from_slice(b"rim")?;
+    push_rim(alloc, text, algo, rim)?;
+    text.extend_from_slice(b"\n")?;
+    Ok(())
+}
