@@ -1,8 +1,8 @@
 #!/usr/bin/env python3
 """A second opinion: the report of a manifest by the plainest program that can be written from docs/FORMATS.md.
 
-It shares no code with rim, is slow, and reads neither edited devicetrees nor faults: it is for manifests whose
-launches are accepted, or refused by `size`, `overlap` or `outside-ram`. Tests take their expected values from it.
+It shares no code with rim, is slow, and finds hardly any faults: it is for manifests whose launches are accepted, or
+refused by `size`, `overlap` or `outside-ram`. Tests take their expected values from it.
 
 usage: reference.py MANIFEST
 """
@@ -82,10 +82,108 @@ def blocks(base, end, least_level):
         at += page_size(level)
 
 
+class Node:
+    def __init__(self, name):
+        self.name, self.properties, self.children = name, [], []
+
+    def set(self, name, value):
+        for entry in self.properties:
+            if entry[0] == name:
+                entry[1] = value
+                return
+        self.properties.append([name, value])
+
+    def child(self, name):
+        for node in self.children:
+            if node.name == name:
+                return node
+        self.children.append(Node(name))
+        return self.children[-1]
+
+
+def read_devicetree(data):
+    """The root of a flattened devicetree, its boot processor and its reservations."""
+    _, _, at, strings, reserve, _, _, boot, _, _ = struct.unpack_from(">10I", data)
+    reservations = []
+    while any(pair := struct.unpack_from(">QQ", data, reserve)):
+        reservations.append(pair)
+        reserve += 16
+    text = lambda start: data[start : data.index(b"\0", start)]
+    stack = [Node(None)]
+    while True:
+        (token,) = struct.unpack_from(">I", data, at)
+        at += 4
+        if token == 1:
+            name = text(at)
+            at += (len(name) + 4) // 4 * 4
+            stack[-1].children.append(Node(name))
+            stack.append(stack[-1].children[-1])
+        elif token == 2:
+            stack.pop()
+        elif token == 3:
+            length, name = struct.unpack_from(">II", data, at)
+            stack[-1].properties.append([text(strings + name), data[at + 8 : at + 8 + length]])
+            at += 8 + (length + 3) // 4 * 4
+        elif token == 9:
+            return stack[0].children[0], boot, reservations
+
+
+def write_devicetree(root, boot, reservations):
+    names, offsets, structure = bytearray(), {}, bytearray()
+
+    def pad():
+        structure.extend(bytes(-len(structure) % 4))
+
+    def write(node):
+        structure.extend(struct.pack(">I", 1) + node.name + b"\0")
+        pad()
+        for name, value in node.properties:
+            if name not in offsets:
+                offsets[name] = len(names)
+                names.extend(name + b"\0")
+            structure.extend(struct.pack(">III", 3, len(value), offsets[name]) + value)
+            pad()
+        for child in node.children:
+            write(child)
+        structure.extend(struct.pack(">I", 2))
+
+    write(root)
+    structure.extend(struct.pack(">I", 9))
+    reserve = b"".join(struct.pack(">QQ", *pair) for pair in reservations) + bytes(16)
+    start = 40 + len(reserve)
+    total = start + len(structure) + len(names)
+    header = struct.pack(">10I", 0xD00DFEED, total, start, start + len(structure), 40, 17, 16, boot, len(names), len(structure))
+    return header + reserve + bytes(structure) + bytes(names)
+
+
+def edited(item, launch, files):
+    """The devicetree of an item, with the edits that the item asks for."""
+    data = files[item["file"]]
+    if not ("bootargs" in item or item.get("initrd") or item.get("memory")):
+        return data
+    root, boot, reservations = read_devicetree(data)
+    if "bootargs" in item:
+        root.child(b"chosen").set(b"bootargs", item["bootargs"].encode() + b"\0")
+    if item.get("initrd"):
+        initrd = next(other for other in launch["item"] if other["kind"] == "initrd")
+        for name, place in ((b"linux,initrd-start", initrd["at"]), (b"linux,initrd-end", initrd["at"] + len(files[initrd["file"]]))):
+            root.child(b"chosen").set(name, struct.pack(">Q", place))
+    if item.get("memory"):
+        base, end = launch["ram"][0]
+        cells = dict((name, struct.unpack(">I", value)[0]) for name, value in root.properties if name.endswith(b"-cells"))
+        value = base.to_bytes(4 * cells.get(b"#address-cells", 2), "big") + (end - base).to_bytes(4 * cells.get(b"#size-cells", 1), "big")
+        node = next((n for n in root.children if n.name == b"memory" or n.name.startswith(b"memory@")), None)
+        if node is None:
+            node = root.child(b"memory@%x" % base)
+            node.set(b"device_type", b"memory\0")
+        node.set(b"reg", value)
+    return write_devicetree(root, boot, reservations)
+
+
 def place(launch, files):
     placed, extents = [], []
     for item in launch.get("item", []):
-        data = files[item["file"]]
+        data = edited(item, launch, files)
         at, length = item["at"], len(data)
         if item["kind"] == "kernel":
             offset, image = struct.unpack_from("<QQ", data, 8)
@@ -130,7 +228,8 @@ def measure(launch, files, seen):
                 part = data[max(first, 0) : max(first + PAGE, 0)]
                 part = (bytes(-first) if first < 0 else b"") + part
                 content = rim.hash(part.ljust(PAGE, b"\0"))
-                seen.add((launch["algo"], asked["file"], lead, page))
+                source = asked["file"] if data is files[asked["file"]] else (launch["name"], "edited")
+                seen.add((launch["algo"], source, lead, page))
             rim.data(at - lead + PAGE * page, content)
 
     def rec(number):
