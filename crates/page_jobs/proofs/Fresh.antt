@@ -1,4 +1,4 @@
--- Items that are gone through in the order of their ends: each page of an item comes once, and in the order of keys.
+-- Items in the order of their ends: each page of an item comes once, and in the order of keys.
 use Rattle.std.proofs.Common.{◌≡◌, ℕ, ◌+◌, ◌-◌, ◌<◌, ◌≤◌, ◌⊎◌, Bool, true, false, List, [], ◌∷◌, ◌++◌, length, map, get_or, zero, suc, refl, ap, sym, ◌∙◌, subst, arith, inl, inr, Option, Some, None}
 use Rattle.std.specs.Prelude.{slice_index_or, if◌then◌else◌}
 use Rattle.std.proofs.Common.{append_assoc}

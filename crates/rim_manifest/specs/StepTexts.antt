@@ -55,7 +55,7 @@ abbrev pub miscounts : Data → Option Data → Bool
 miscounts d None = false
 miscounts d (Some s) = not (length (items_of s) == part_count d)
 
--- a step names nothing that is there, or something is not named by exactly one
+-- a step names what the launch does not have, or something of the launch is not named by exactly one step
 abbrev pub misnames : Data → Option Data → Bool
 misnames d None = false
 misnames d (Some s) = let items = array_at (codes "item") d in

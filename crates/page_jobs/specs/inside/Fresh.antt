@@ -1,4 +1,4 @@
--- The pages of items that are gone through in the order of their ends. This project's choice.
+-- The pages of items, taken in the order of their ends, that no item before has. This project's choice.
 use Rattle.std.specs.Prelude.{ℕ, ◌-◌, Bool, Option, Some, None, if◌then◌else◌}
 use Rattle.std.specs.Ordering.{is_eq}
 use Rattle.page_jobs.specs.Key.{key_cmp}
