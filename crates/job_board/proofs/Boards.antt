@@ -12,7 +12,7 @@ use Rattle.rim_desc.specs.declared.measurement.Measurement.{Measurement}
 use Rattle.page_jobs.specs.Table.{TableView, digest_at, digest_in, with_digest}
 use Rattle.page_jobs.specs.declared.page.PageKey.{PageKey}
 use Rattle.rim_chain.specs.Links.{PlanView, chain_of, keys_of}
-use Rattle.rim_chain.specs.Rows.{IsRowOf, has_all}
+use Rattle.rim_chain.specs.Rows.{IsRowOf, has_all, value_in}
 use Rattle.job_board.specs.declared.job.JobId.{JobId}
 use Rattle.job_board.specs.declared.job.JobId.TheVariants.{Page, Launch}
 use Rattle.job_board.specs.declared.job.JobState.{JobState}
@@ -21,7 +21,7 @@ use Rattle.job_board.specs.declared.job.Event.{Event}
 use Rattle.job_board.specs.declared.job.Event.TheVariants.{Take, Put, Retire}
 use Rattle.job_board.specs.Jobs.{CoreState, freed, is_done, is_page_done, is_ready, pages_done, state_of, with_job}
 use Rattle.job_board.specs.Step.{core_step}
-use Rattle.job_board.specs.Board.{BoardView, IsBoard, IsNeeded, value_in}
+use Rattle.job_board.specs.Board.{BoardView, IsBoard, IsNeeded}
 use Rattle.job_board.proofs.Counting.{bit}
 use Rattle.job_board.proofs.OneJob.{slice_get-set_other}
 use Rattle.job_board.proofs.Runs.{done_next, is_page_put}
@@ -47,7 +47,7 @@ slot_empty ds ps w j filled held =
     empty_at (slice_get ds j) (sym (slice_get-map is_some ds j) ∙ (ap (λ (bs : List Bool). slice_get bs j) filled ∙ (slice_get-map is_done ps j ∙ ap (option_map is_done) held)))
 
 -- the slot of a page that is done is filled
-slot_filled : (t : TableView) (ps : List JobState) (j : ℕ) → map is_some t.digests ≡ map is_done ps → is_page_done ps j ≡ true → is_some (digest_in t j) ≡ true
+pub slot_filled : (t : TableView) (ps : List JobState) (j : ℕ) → map is_some t.digests ≡ map is_done ps → is_page_done ps j ≡ true → is_some (digest_in t j) ≡ true
 slot_filled t ps j filled is = filled_or (slice_get t.digests j) (slice_get ps j) both (ap is_done (unwrap_or-slice_get ps j Free) ∙ is)
   where
     both : option_map is_some (slice_get t.digests j) ≡ option_map is_done (slice_get ps j)

@@ -13,3 +13,4 @@ pub mod Histories
 pub mod Boards
 pub mod BoardRows
 pub mod Fresh
+pub mod Ends

@@ -1,12 +1,12 @@
 -- What contracts see of a board, and what each call makes of it. This project's choice.
 use Rattle.std.specs.Prelude.{◌≡◌, ℕ, false, List, [], ◌∷◌, ◌++◌, length, map, Option, Some, is_some, Ok, slice_get, slice_index_or}
-use Rattle.std.specs.List.{All, Contains, filter_map}
+use Rattle.std.specs.List.{All, Contains}
 use Rattle.rim_desc.specs.declared.measurement.Measurement.{Measurement}
 use Rattle.page_jobs.specs.Page.{PageView}
-use Rattle.page_jobs.specs.Table.{TableView, digest_at, slot_of}
+use Rattle.page_jobs.specs.Table.{IsTable, TableView, slot_of}
 use Rattle.page_jobs.specs.declared.page.PageKey.{PageKey}
-use Rattle.rim_chain.specs.Links.{PlanView, chain_of, keys_of}
-use Rattle.rim_chain.specs.Rows.{IsRowOf}
+use Rattle.rim_chain.specs.Links.{PlanView, keys_of}
+use Rattle.rim_chain.specs.Rows.{IsFull, IsRowOf, value_in}
 use Rattle.job_board.specs.declared.job.JobId.TheVariants.{Page, Launch}
 use Rattle.job_board.specs.declared.job.JobState.TheVariants.{Held}
 use Rattle.job_board.specs.declared.job.Event.{Event}
@@ -27,10 +27,6 @@ pub record BoardView : Type 0 where
 abbrev pub IsNeeded : TableView → List ℕ → PageKey → Type 0
 IsNeeded t needed key = (j : ℕ) × (slot_of t.pages key ≡ Some j) × Contains needed j
 
--- what a plan chains to, with the digests that a table has for its pages
-abbrev pub value_in : TableView → PlanView → List ℕ
-value_in t p = chain_of p (filter_map (digest_at t) (keys_of p.links))
-
 -- The core is what its history leaves; just the slots of pages that are done are filled, and as many are done as the
 -- book says; each launch needs all pages of its plan; and just the launches that are done have a value, which is what
 -- their own plan chains to.
@@ -44,6 +40,14 @@ pub record IsBoard (b : BoardView) : Type 0 where
   pub needs : (l : ℕ) (p : PlanView) → slice_get b.plans l ≡ Some p → All (IsNeeded b.table (slice_index_or b.core.needs l [])) (keys_of p.links)
   pub given : map is_some b.results ≡ map is_done b.core.launches
   pub own : (l : ℕ) (p : PlanView) (m : Measurement) → slice_get b.plans l ≡ Some p → slice_get b.results l ≡ Some (Some m) → m.bytes ≡ value_in b.table p
+
+-- the values are what the plans chain to, with the digests of all these pages
+pub record AreValuesOf (pages : List PageView) (plans : List PlanView) (values : List Measurement) : Type 0 where
+  pub table : TableView
+  pub own : IsTable table
+  pub same : table.pages ≡ pages
+  pub full : IsFull table
+  pub each : map (λ m. m.bytes) values ≡ map (value_in table) plans
 
 -- one event more
 pub record Adds (old : BoardView) (e : Event) (new : BoardView) : Type 0 where

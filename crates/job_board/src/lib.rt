@@ -1,10 +1,13 @@
 //! The jobs of a run: which are free, which worker holds which, and which are done; and the board's state.
 #![tactic(auto)]
 
+mod closing;
 pub mod job;
 mod jobs;
 pub mod laws;
 pub mod machine;
+mod needs;
+mod rows;
 pub mod share;
 pub mod state;
 pub mod work;

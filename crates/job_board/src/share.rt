@@ -11,6 +11,7 @@ use std::sync::ledger::{Ledger, Share as Part};
 pub struct Share<L: Ledger> {
     pub(crate) count: u64,
     pub(crate) part: Part<L>,
+    is_started: bool,
 }
 
 impl<L: Ledger> Model for Share<L> {
@@ -31,12 +32,35 @@ impl<L: Ledger> Share<L> {
         self.count
     }
 
+    /// Notes that its worker was started.
+    pub fn note_start(&mut self)
+        ensures { self.new ≡ self.old }
+    {
+        self.is_started = true;
+    }
+
+    /// Whether its worker was started. No clause says so: tests show it.
+    pub fn is_started(&self) -> bool {
+        self.is_started
+    }
+
+    /// Its part of the ledger, whose amount is the number.
+    pub(crate) fn into_part(self) -> Part<L>
+        ensures { (result.parts ≡ 1) × (result.amount ≡ self) }
+    {
+        self.part
+    }
+
     /// A share of one part, with nothing counted.
     fn of(part: Part<L>) -> Share<L>
         requires { (part.parts ≡ 1) × (part.amount ≡ 0) }
         ensures { result ≡ 0 }
     {
-        Share { count: 0, part }
+        Share {
+            count: 0,
+            part,
+            is_started: false,
+        }
     }
 }
 

@@ -1,21 +1,22 @@
 //! A board's state: what each call makes of it.
-ghost use Rattle.std.specs.Prelude.{◌≡◌, ◌<◌, ◌≤◌, ◌+◌, ◌⊎◌, ◌↔◌, [], ℕ, false, true, length, map, replicate, IfErr, IfOk, IsTrue, None, OnOk, Some, slice_get, slice_set, vec_capacity};
+ghost use Rattle.std.specs.Prelude.{◌≡◌, ◌<◌, ◌≤◌, ◌+◌, ◌⊎◌, ◌↔◌, [], false, true, length, map, replicate, sum, vec_len, IfErr, IfOk, IsTrue, None, OnOk, Some, slice_get, slice_set, vec_capacity};
 ghost use Rattle.std.specs.List.{All, Contains, range_with_len};
 ghost use Rattle.job_board.specs.declared.job.Event.{Event};
 ghost use Rattle.job_board.specs.declared.job.JobId.{JobId};
 ghost use Rattle.job_board.specs.declared.job.JobState.{JobState};
-ghost use Rattle.job_board.specs.Board.{Adds, CanPutLaunch, CanPutPage, IsBoard, SameRest, value_in};
+ghost use Rattle.job_board.specs.Board.{Adds, AreValuesOf, CanPutLaunch, CanPutPage, IsBoard, SameRest};
 ghost use Rattle.job_board.specs.Gives.{Gives};
 ghost use Rattle.job_board.specs.Jobs.{held_count, is_out, is_over, is_ready, opening, state_of};
-ghost use Rattle.job_board.specs.inside.Rows.{FitsRows, FreesRow, HasRoom};
 ghost use Rattle.page_jobs.specs.Page.{page_view};
-ghost use Rattle.page_jobs.specs.Row.{RowView};
 ghost use Rattle.page_jobs.specs.Table.{keys_of as page_keys, with_digest};
-ghost use Rattle.rim_chain.specs.Links.{PlanView, keys_of};
-ghost use Rattle.rim_chain.specs.Rows.{IsRowOf};
+ghost use Rattle.rim_chain.specs.Links.{keys_of};
+ghost use Rattle.rim_chain.specs.Rows.{IsRowOf, value_in};
 
+use crate::closing::{add_up, copy_values, write_counts};
 use crate::job::{Event, JobId};
 use crate::machine::Core;
+use crate::needs::all_pages;
+use crate::rows::{free_row, plan_at, rows_of, spare_rows, take_row};
 use crate::share::{Share, cut};
 use crate::work::Work;
 use page_jobs::{DigestRow, Hashed, Page, PageJob, Table};
@@ -82,7 +83,7 @@ impl<'a, L: Ledger> BoardState<'a, L> {
             book,
             ..
         } = self;
-        let Share { count, part } = share;
+        let Share { count, part, .. } = share;
         book.audit(part);
         let event = Event::Put {
             worker,
@@ -294,6 +295,39 @@ impl<'a, L: Ledger> BoardState<'a, L> {
 }
 
 impl<'a, L: Ledger> BoardState<'a, L> {
+    /// Ends a run, all of whose jobs are done: writes how many pages each worker has put, and the value of each launch in
+    /// the order of the plans. The answer is the number of pages, to which the workers' numbers add up.
+    pub fn close(
+        &mut self,
+        shares: Vec<Share<L>>,
+        counts: &mut [u64],
+        values: &mut [Measurement],
+    ) -> u64
+        requires whole { vec_len shares ≡ L.parts }
+        requires some { 0 < vec_len shares }
+        requires counts { length counts.old ≡ vec_len shares }
+        requires values { length values.old ≡ length self.old.plans }
+        requires over { is_over self.old.core ≡ true }
+        ensures same { self.new ≡ self.old }
+        ensures counts { counts.new ≡ shares.items }
+        ensures pages { result ≡ length self.old.table.pages }
+        ensures sum { sum counts.new ≡ result }
+        ensures values { AreValuesOf self.old.table.pages self.old.plans values.new }
+    {
+        write_counts(&shares, counts);
+        let BoardState {
+            table,
+            results,
+            book,
+            ..
+        } = self;
+        add_up(book, shares);
+        copy_values(results, values);
+        table.pages().len() as u64
+    }
+}
+
+impl<'a, L: Ledger> BoardState<'a, L> {
     /// The pages of its table.
     pub fn pages(&self) -> &'a [Page<'a>]
         ensures pages { map page_view result.now ≡ self.now.table.pages }
@@ -326,78 +360,11 @@ fn room_for(alloc: Global, count: usize) -> Result<Vec<Event>, NoMemory>
     Ok(Vec::with_capacity(alloc, count)?)
 }
 
-/// The numbers of this many pages.
-fn page_numbers(alloc: Global, pages: usize) -> Result<Vec<usize>, NoMemory>
-    ensures { IfOk result (λ numbers. numbers.items ≡ range_with_len 0 pages) }
-{
-    let mut numbers = Vec::with_capacity(alloc, pages)?;
-    for page in 0..pages {
-        numbers.push(page)?;
-    }
-    Ok(numbers)
-}
-
-/// The needs of this many launches, each of which needs all pages.
-fn all_pages(alloc: Global, pages: usize, launches: usize) -> Result<Vec<Vec<usize>>, NoMemory>
-    ensures { IfOk result (λ needs. map (λ v. v.items) needs.items ≡ replicate launches (range_with_len 0 pages)) }
-{
-    let mut needs = Vec::with_capacity(alloc, launches)?;
-    for _launch in 0..launches {
-        needs.push(page_numbers(alloc, pages)?)?;
-    }
-    Ok(needs)
-}
-
-/// An empty row for each launch.
-fn rows_of(alloc: Global, plans: &[LaunchPlan]) -> Result<Vec<Option<DigestRow>>, NoMemory>
-    ensures size { IfOk result (λ rows. length rows.items ≡ length plans.now) }
-    ensures there { IfOk result (λ rows. (l : ℕ) (p : PlanView) → slice_get plans.now l ≡ Some p → (r : RowView) × (slice_get rows.items l ≡ Some (Some r)) × HasRoom r p) }
-{
-    let mut rows = Vec::with_capacity(alloc, plans.len())?;
-    for number in 0..plans.len() {
-        let room = plan_at(plans, number).pages();
-        rows.push(Some(DigestRow::reserve(alloc, room)?))?;
-    }
-    Ok(rows)
-}
-
-/// The most pages that a plan has.
-fn most_pages(plans: &[LaunchPlan]) -> usize
-    ensures { (l : ℕ) (p : PlanView) → slice_get plans.now l ≡ Some p → length (keys_of p.links) ≤ result }
-{
-    let mut most = 0;
-    for number in 0..plans.len() {
-        most = plan_at(plans, number).pages().max(most);
-    }
-    most
-}
-
-/// This many empty rows, each with room for any launch.
-fn spare_rows(alloc: Global, plans: &[LaunchPlan], count: usize) -> Result<Vec<DigestRow>, NoMemory>
-    ensures size { IfOk result (λ rows. length rows.items ≡ count) }
-    ensures roomy { IfOk result (λ rows. (i l : ℕ) (r : RowView) (p : PlanView) → slice_get rows.items i ≡ Some r → slice_get plans.now l ≡ Some p → HasRoom r p) }
-{
-    let room = most_pages(plans);
-    let mut rows = Vec::with_capacity(alloc, count)?;
-    for _i in 0..count {
-        rows.push(DigestRow::reserve(alloc, room)?)?;
-    }
-    Ok(rows)
-}
-
 /// Whether this is the plan of a number.
 fn is_plan(plans: &[LaunchPlan], number: usize, plan: &LaunchPlan) -> bool
     ensures { IsTrue result ↔ (slice_get plans.now number ≡ Some plan.now) }
 {
     number < plans.len() && plans[number].is_same(plan)
-}
-
-/// The plan of a number.
-fn plan_at<'a>(plans: &'a [LaunchPlan], number: usize) -> &'a LaunchPlan
-    requires { number < length plans.now }
-    ensures { slice_get plans.now number ≡ Some result.now }
-{
-    &plans[number]
 }
 
 /// The page of a number.
@@ -406,27 +373,4 @@ fn page_at<'a>(pages: &[Page<'a>], number: usize) -> Page<'a>
     ensures { slice_get (map page_view pages.now) number ≡ Some (page_view result) }
 {
     pages[number]
-}
-
-/// Takes the row of a number.
-fn take_row(rows: &mut Vec<Option<DigestRow>>, number: usize) -> Option<DigestRow>
-    requires { number < length rows.old.items }
-    ensures row { slice_get rows.old.items number ≡ Some result }
-    ensures rest { rows.new.items ≡ slice_set rows.old.items number None }
-{
-    rows[number].take()
-}
-
-/// Gives a launch that is free again a spare row.
-fn free_row(rows: &mut Vec<Option<DigestRow>>, spare: &mut Vec<DigestRow>, held: Option<JobId>)
-    requires some { 0 < length spare.old.items }
-    requires within { FitsRows held (length rows.old.items) }
-    ensures { FreesRow held rows.old.items spare.old.items rows.new.items spare.new.items }
-{
-    if let Some(JobId::Launch(launch)) = held {
-        let Some(row) = spare.pop() else {
-            unreachable!()
-        };
-        rows[launch] = Some(row);
-    }
 }

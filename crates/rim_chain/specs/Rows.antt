@@ -1,10 +1,10 @@
 -- Rows of digests that belong to a plan. This project's choice.
-use Rattle.std.specs.Prelude.{◌≡◌, Bool, List, map, length, Some, is_some}
-use Rattle.std.specs.List.{list_all}
+use Rattle.std.specs.Prelude.{◌≡◌, ℕ, ◌<◌, Bool, true, List, map, length, Some, is_some}
+use Rattle.std.specs.List.{filter_map, list_all}
 use Rattle.rim_desc.specs.declared.measurement.Measurement.{Measurement}
-use Rattle.page_jobs.specs.Table.{TableView, digest_at}
+use Rattle.page_jobs.specs.Table.{TableView, digest_at, digest_in}
 use Rattle.page_jobs.specs.declared.page.PageKey.{PageKey}
-use Rattle.rim_chain.specs.Links.{PlanView, keys_of}
+use Rattle.rim_chain.specs.Links.{PlanView, chain_of, keys_of}
 
 -- the digests are those that a table has for the keys, in order
 abbrev pub IsRowOf : TableView → List PageKey → List Measurement → Type 0
@@ -17,3 +17,11 @@ has_all t keys = list_all (λ key. is_some (digest_at t key)) keys
 -- as many digests as a plan has measured pages
 abbrev pub IsFilled : PlanView → List Measurement → Type 0
 IsFilled p digests = length digests ≡ length (keys_of p.links)
+
+-- all slots of a table are filled
+abbrev pub IsFull : TableView → Type 0
+IsFull t = (j : ℕ) → j < length t.pages → is_some (digest_in t j) ≡ true
+
+-- what a plan chains to, with the digests that a table has for its pages
+abbrev pub value_in : TableView → PlanView → List ℕ
+value_in t p = chain_of p (filter_map (digest_at t) (keys_of p.links))

@@ -4,11 +4,10 @@ use Rattle.std.specs.List.{slice_get}
 use Rattle.std.proofs.lemmas.Option.{slice_get_within}
 use Rattle.page_jobs.specs.Row.{RowView}
 use Rattle.rim_chain.specs.Links.{PlanView, keys_of}
-use Rattle.rim_chain.specs.Rows.{IsRowOf}
+use Rattle.rim_chain.specs.Rows.{IsRowOf, value_in}
 use Rattle.job_board.specs.declared.job.Event.TheVariants.{Put}
 use Rattle.job_board.specs.declared.job.JobId.TheVariants.{Launch}
 use Rattle.job_board.specs.declared.job.JobState.TheVariants.{Held}
-use Rattle.job_board.specs.Board.{value_in}
 use Rattle.job_board.specs.Board.{BoardView}
 use Rattle.job_board.specs.Step.{core_step}
 use Rattle.job_board.proofs.Histories.{history_room, same_most}
