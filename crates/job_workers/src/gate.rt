@@ -1,0 +1,19 @@
+//! What is called around each job.
+use job_board::JobId;
+
+/// Is called by a worker that holds no lock: before a job is run, and after it was put.
+pub trait Gate {
+    fn before(&self, worker: usize, job: JobId);
+
+    fn after(&self, worker: usize, job: JobId);
+}
+
+/// A gate that does nothing.
+#[derive(Clone, Copy, Debug)]
+pub struct FreeGate;
+
+impl Gate for FreeGate {
+    fn before(&self, _worker: usize, _job: JobId) {}
+
+    fn after(&self, _worker: usize, _job: JobId) {}
+}

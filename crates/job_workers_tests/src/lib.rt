@@ -1,0 +1,4 @@
+//! Tests of `job_workers`, with values from outside.
+#![tactic(auto)]
+
+mod tests;

@@ -1,0 +1,178 @@
+//! Runs of workers over pages: what is counted, who is started, and what is called around each job.
+ghost use Rattle.std.specs.Prelude.{◌≡◌, [], length, replicate, None};
+
+use job_board::{BoardState, JobId, Share, Work};
+use job_workers::{Board, Gate, Run, run_workers_on};
+use page_jobs::{Blob, Page, PageJob, Table, distinct_pages};
+use refusal::NoMemory;
+use rim_desc::{Algo, Source};
+use std::alloc::Global;
+use std::marker::Brand;
+use std::process::Abort;
+use std::sync::Wait;
+use std::sync::atomic::{AtomicU64, Ordering};
+use std::sync::ledger::Blank;
+use std::test::Fail;
+use std::thread;
+use std::thread::Threads;
+
+/// Six pages of the same byte, and one that ends early.
+const BYTES: [u8; 25_000] = [7; 25_000];
+
+/// The workers' stacks where they are to be started.
+const STACK: usize = 1 << 20;
+
+/// Holds the first page of worker 0 until another worker's page was put, for a number of turns; and counts the pages that
+/// worker 0 and the others put.
+#[derive(Drop)]
+struct Hold {
+    first: AtomicU64,
+    others: AtomicU64,
+    turns: u64,
+}
+
+impl Gate for Hold {
+    fn before(&self, worker: usize, _job: JobId) {
+        if worker > 0 {
+            return;
+        }
+        for _turn in 0..self.turns {
+            if self.others.load(Ordering::SeqCst) > 0 {
+                return;
+            }
+            thread::yield_now();
+        }
+    }
+
+    fn after(&self, worker: usize, _job: JobId) {
+        let count = if worker == 0 {
+            &self.first
+        } else {
+            &self.others
+        };
+        count.fetch_add(1, Ordering::SeqCst);
+    }
+}
+
+fn hold(turns: u64) -> Hold {
+    Hold {
+        first: AtomicU64::new(0),
+        others: AtomicU64::new(0),
+        turns,
+    }
+}
+
+/// Pages 0 to 6 of these bytes.
+fn pages(alloc: Global) -> Result<Vec<Page<'static>>, NoMemory> {
+    let mut pages = Vec::new(alloc);
+    for number in 0..7 {
+        pages.push(Blob::new(Source::File(0), 0, &BYTES).page(Algo::Sha256, number))?;
+    }
+    distinct_pages(&mut pages);
+    Ok(pages)
+}
+
+/// Runs workers over the pages of a table. They are to be this many, and to put what the gate counted.
+fn run<L: Run + Send + Sync, R: Threads + Wait + Abort + Sync>(
+    rt: &R,
+    alloc: Global,
+    blank: Blank,
+    table: Table,
+    gate: &Hold,
+    stack_size: usize,
+    started: usize,
+) -> Result<(), NoMemory>
+    requires name { blank.name ≡ L.name }
+    requires parts { (blank.parts ≡ L.parts) × (blank.parts ≡ 2) }
+    requires pages { table.pages ≡ L.pages }
+    requires plans { [] ≡ L.plans }
+    requires empty { table.digests ≡ replicate (length table.pages) None }
+{
+    let (state, shares) = BoardState::<L>::new(alloc, blank, 2, table, &[])?;
+    let board = Board::new(state);
+    let mut counts = [0; 2];
+    let tally = run_workers_on(rt, gate, &board, shares, &mut counts, &mut [], stack_size);
+    assert_eq!(rt; tally.pages, 7);
+    assert_eq!(rt; tally.started, started);
+    assert_eq!(rt; counts[0], gate.first.load(Ordering::SeqCst));
+    assert_eq!(rt; counts[1], gate.others.load(Ordering::SeqCst));
+    Ok(())
+}
+
+#[test]
+fn two_workers_at_a_time(rt: HostRuntime) -> Result<(), Fail> {
+    let pages = pages(rt.alloc())?;
+    let table = Table::reserve(rt.alloc(), &pages)?;
+    let gate = hold(100_000_000);
+    run::<Brand, HostRuntime>(&rt, rt.alloc(), Blank::new(2), table, &gate, STACK, 2)?;
+    assert!(rt; gate.others.load(Ordering::SeqCst) > 0);
+    Ok(())
+}
+
+#[test]
+fn no_worker_can_be_started(rt: HostRuntime) -> Result<(), Fail> {
+    let pages = pages(rt.alloc())?;
+    let table = Table::reserve(rt.alloc(), &pages)?;
+    let gate = hold(0);
+    run::<Brand, HostRuntime>(&rt, rt.alloc(), Blank::new(2), table, &gate, usize::MAX, 1)?;
+    assert_eq!(rt; gate.first.load(Ordering::SeqCst), 7);
+    Ok(())
+}
+
+/// A page is offered under the lock; it is to be taken or handed back so, and then the share is to be this.
+fn offer<'a, L: Run>(
+    rt: &(impl Wait + Abort),
+    board: &Board<'a, L>,
+    worker: usize,
+    page: Page<'a>,
+    share: &mut Share<L>,
+    is_taken: bool,
+    count: u64,
+) {
+    let hashed = PageJob::new(page).run();
+    assert_eq!(rt;
+        board.put_page(rt, worker, 0, hashed, share).is_ok(),
+        is_taken
+    );
+    assert_eq!(rt; share.count(), count);
+}
+
+fn put_once<L: Run>(
+    rt: &(impl Wait + Abort),
+    alloc: Global,
+    blank: Blank,
+    table: Table,
+) -> Result<(), NoMemory>
+    requires name { blank.name ≡ L.name }
+    requires parts { (blank.parts ≡ L.parts) × (blank.parts ≡ 2) }
+    requires pages { table.pages ≡ L.pages }
+    requires plans { [] ≡ L.plans }
+    requires empty { table.digests ≡ replicate (length table.pages) None }
+{
+    let (state, mut shares) = BoardState::<L>::new(alloc, blank, 2, table, &[])?;
+    let (Some(mut second), Some(mut first)) = (shares.pop(), shares.pop()) else {
+        panic!(rt; "there are two shares");
+    };
+    let board = Board::new(state);
+    let Work::Page(0, job) = board.take(rt, 0) else {
+        panic!(rt; "the page is free");
+    };
+    let page = job.page;
+    assert!(rt; matches!(board.take(rt, 0), Work::Busy));
+    assert!(rt; matches!(board.take(rt, 1), Work::Later));
+    offer(rt, &board, 1, page, &mut second, false, 0);
+    offer(rt, &board, 0, page, &mut first, true, 1);
+    offer(rt, &board, 0, page, &mut first, false, 1);
+    assert!(rt; matches!(board.take(rt, 0), Work::Done));
+    Ok(())
+}
+
+#[test]
+fn a_page_is_put_once_by_its_holder(rt: HostRuntime) -> Result<(), Fail> {
+    let mut pages = Vec::new(rt.alloc());
+    pages.push(Blob::new(Source::File(0), 0, &[1, 2, 3]).page(Algo::Sha256, 0))?;
+    distinct_pages(&mut pages);
+    let table = Table::reserve(rt.alloc(), &pages)?;
+    put_once::<Brand>(&rt, rt.alloc(), Blank::new(2), table)?;
+    Ok(())
+}
