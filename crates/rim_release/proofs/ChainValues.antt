@@ -1,6 +1,7 @@
 -- The measurements of launches from a table with the digests of all pages.
-use Rattle.std.proofs.Common.{◌≡◌, ℕ, ◌+◌, ◌<◌, ◌≤◌, ◌∙◌, inl, inr, true, List, [], ◌∷◌, length, map, refl, ap, sym, subst, arith}
-use Rattle.std.specs.Prelude.{Option, Some, None, is_some, slice_set}
+use Rattle.std.proofs.Common.{◌≡◌, ℕ, ◌+◌, ◌<◌, ◌≤◌, ◌∙◌, inl, inr, true, List, [], ◌∷◌, ◌++◌, length, map, take, refl, ap, sym, subst, arith}
+use Rattle.std.proofs.Math.ListN.{drop}
+use Rattle.std.specs.Prelude.{Option, Some, None, Result, Ok, Err, is_some, slice_set}
 use Rattle.std.specs.List.{filter_map, slice_get}
 use Rattle.std.specs.Option.{option_and_then}
 use Rattle.std.proofs.Common.{zero, suc}
@@ -11,6 +12,9 @@ use Rattle.page_jobs.specs.Page.{PageView}
 use Rattle.page_jobs.specs.Table.{CanFill, TableView, digest_at, digest_in, with_digest}
 use Rattle.page_jobs.specs.declared.page.PageKey.{PageKey}
 use Rattle.rim_chain.specs.Rows.{IsRowOf}
+use Rattle.ipa_layout.specs.Layout.{PlacedData}
+use Rattle.rim_release.specs.inside.Chains.{outcomes_of, with_rims}
+use Rattle.rim_release.specs.declared.audit_fault.AuditFault.{AuditFault}
 
 -- a row of a table's digests has just these
 pub row-values : (t : TableView) (keys : List PageKey) (digests : List Measurement) → IsRowOf t keys digests → filter_map (digest_at t) keys ≡ digests
@@ -55,3 +59,41 @@ filled-next old new slot p m so_far can is = subst (λ (t : TableView). IsFilled
   ];
   empty = λ j low high. set-there old.digests slot j (Some m) (λ same. absurd (omega (arith, same, low))) ∙ so_far.empty j (omega (arith, low)) high;
 })
+
+-- ---- other measurements in the place of those
+
+-- a measurement is replaced
+pub rim-set : {M F : Type 0} (outcomes : List (Result M F)) (i : ℕ) (m rim : M) (rims : List M) → slice_get outcomes i ≡ Some (Ok m)
+    → take (suc i) (slice_set outcomes i (Ok rim)) ++ with_rims (drop (suc i) (slice_set outcomes i (Ok rim))) rims ≡ take i outcomes ++ with_rims (drop i outcomes) (rim ∷ rims)
+rim-set [] i m rim rims at = absurd (cc)
+rim-set (outcome ∷ outcomes) zero m rim rims at = let same : outcome ≡ Ok m = cc in rw same refl
+rim-set (outcome ∷ outcomes) (suc i) m rim rims at = ap (λ (os : List (Result _ _)). outcome ∷ os) (rim-set outcomes i m rim rims at)
+
+-- a refusal stays
+pub refusal-kept : {M F : Type 0} (outcomes : List (Result M F)) (i : ℕ) (fault : F) (rims : List M) → slice_get outcomes i ≡ Some (Err fault)
+    → take (suc i) outcomes ++ with_rims (drop (suc i) outcomes) rims ≡ take i outcomes ++ with_rims (drop i outcomes) rims
+refusal-kept [] i fault rims at = absurd (cc)
+refusal-kept (outcome ∷ outcomes) zero fault rims at = let same : outcome ≡ Err fault = cc in rw same refl
+refusal-kept (outcome ∷ outcomes) (suc i) fault rims at = ap (λ (os : List (Result _ _)). outcome ∷ os) (refusal-kept outcomes i fault rims at)
+
+-- where no measurement is left the rest stays
+pub none-left : {M F : Type 0} (outcomes : List (Result M F)) (i : ℕ) (m : M) → slice_get outcomes i ≡ Some (Ok m) → take i outcomes ++ with_rims (drop i outcomes) [] ≡ outcomes
+none-left [] i m at = absurd (cc)
+none-left (outcome ∷ outcomes) zero m at = let same : outcome ≡ Ok m = cc in rw same refl
+none-left (outcome ∷ outcomes) (suc i) m at = ap (λ (os : List (Result _ _)). outcome ∷ os) (none-left outcomes i m at)
+
+pub rims-over : {M F : Type 0} (outcomes : List (Result M F)) (rims : List M) (i : ℕ) → length outcomes ≤ i → take i outcomes ++ with_rims (drop i outcomes) rims ≡ outcomes
+rims-over [] rims zero over = refl
+rims-over [] rims (suc i) over = refl
+rims-over (outcome ∷ outcomes) rims zero over = absurd (omega (arith, over))
+rims-over (outcome ∷ outcomes) rims (suc i) over = ap (λ (os : List (Result _ _)). outcome ∷ os) (rims-over outcomes rims i (omega (arith, over)))
+
+-- what came of the launches, as if with these measurements from the beginning
+pub rims-placed : {M : Type 0} (places : List (Result PlacedData AuditFault)) (some rims : List M) → length some ≡ length rims
+    → with_rims (outcomes_of places some) rims ≡ outcomes_of places rims
+rims-placed [] some rims same = refl
+rims-placed (Err fault ∷ places) some rims same = ap (λ (os : List (Result _ AuditFault)). Err fault ∷ os) (rims-placed places some rims same)
+rims-placed (Ok p ∷ places) [] [] same = refl
+rims-placed (Ok p ∷ places) [] (rim ∷ rims) same = absurd (omega (arith, same))
+rims-placed (Ok p ∷ places) (m ∷ some) [] same = absurd (omega (arith, same))
+rims-placed (Ok p ∷ places) (m ∷ some) (rim ∷ rims) same = ap (λ (os : List (Result _ AuditFault)). Ok rim ∷ os) (rims-placed places some rims (omega (arith, same)))

@@ -6,6 +6,7 @@ use Rattle.std.specs.Option.{option_and_then}
 use Rattle.std.specs.Result.{result_map_both}
 use Rattle.std.specs.Ordering.{is_eq}
 use Rattle.std.proofs.lemmas.Bool.{and_parts}
+use Rattle.std.proofs.lemmas.List.{length-map}
 use Rattle.std.proofs.lemmas.Bool.Decides.{nat_tests}
 use Rattle.std.proofs.lemmas.List.Quantifiers.{position-Some}
 use Rattle.std.proofs.lemmas.List.Elements.{All-contains_itself, All-from_recursion, recursion_from_All}
@@ -40,12 +41,12 @@ use Rattle.rmi_list.specs.Measured.{contents}
 use Rattle.rim_chain.specs.Links.{PlanView, chain_of, keys_of}
 use Rattle.rim_chain.specs.OwnDigests.{HasOwnPage, own_digest}
 use Rattle.rim_chain.specs.Reading.{IsReadOf, measured_keys}
-use Rattle.rim_chain.specs.Rows.{IsRowOf, has_all}
+use Rattle.rim_chain.specs.Rows.{IsFull, IsRowOf, has_all, value_in}
 use Rattle.rim_chain.proofs.Own.{chain-held, row-own}
 use Rattle.rim_release.specs.Accepted.{accepted_of, commands_for, layout_fault, list_fault, rim_after, rim_for}
 use Rattle.rim_release.specs.Pages.{keys_at, launch_keys, page_keys}
-use Rattle.rim_release.specs.Report.{line_of, line_with, lines_of, measured_of, report_of}
-use Rattle.rim_release.specs.inside.Chains.{IsFull, outcomes_of, value_in}
+use Rattle.rim_release.specs.Report.{line_of, line_with, lines_of, measured_of, report_of, report_with}
+use Rattle.rim_release.specs.inside.Chains.{outcomes_of}
 use Rattle.rim_release.specs.inside.Lines.{lines_with}
 use Rattle.rim_release.specs.inside.Preparing.{ArePlans, BeginsWith, places_of}
 use Rattle.rim_release.specs.inside.Sources.{pages_of, release_pages, source_bytes}
@@ -89,7 +90,7 @@ place-at files (first ∷ ls) zero l at = let same : first ≡ l = cc in ap (λ 
 place-at files (first ∷ ls) (suc i) l at = place-at files ls i l at
 
 -- a launch that is refused has no measurement, and the same refusal
-refused-rim : (l : LaunchData) (files : List (List ℕ)) (fault : AuditFault) → accepted_of l files ≡ Err fault → rim_for l files ≡ Err fault
+pub refused-rim : (l : LaunchData) (files : List (List ℕ)) (fault : AuditFault) → accepted_of l files ≡ Err fault → rim_for l files ≡ Err fault
 unfolding accepted_of commands_for rim_for
 refused-rim l files fault refused = by_place (places l files) refused
   where
@@ -121,6 +122,54 @@ nat-same n = grind (arith, nat_tests)
 -- a slot that was found is one of the table's
 slot-low : (pages : List PageView) (key : PageKey) (j : ℕ) (d : PageView) → slot_of pages key ≡ Some j → j < length pages
 slot-low pages key j d at = (position-Some (λ q. is_eq (key_cmp q.key key)) pages j d at).0
+
+-- ---- the plans of a release
+
+-- launches are among others
+Later : List NamedData → List NamedData → Type 0
+Later all ls = (i : ℕ) (l : NamedData) → slice_get ls i ≡ Some l → (k : ℕ) × (slice_get all k ≡ Some l)
+
+later-next : (all : List NamedData) (l : NamedData) (ls : List NamedData) → Later all (l ∷ ls) → Later all ls
+unfolding Later
+later-next all l ls later = λ i m at. later (suc i) m at
+
+-- what holds of the plan of each launch that is accepted
+OfEach : List (List ℕ) → List NamedData → (PlanView → Type 0) → Type 0
+OfEach files all P = (i : ℕ) (l : NamedData) (p : PlacedData) (v : PlanView) → slice_get all i ≡ Some l → accepted_of l.launch files ≡ Ok p → IsReadOf l.launch p v → P v
+
+each-plan : (files : List (List ℕ)) (all : List NamedData) (P : PlanView → Type 0) → OfEach files all P
+    → (ls : List NamedData) (plans : List PlanView) → Later all ls → ArePlans files ls plans → AllByRecursion P plans
+unfolding Later OfEach
+each-plan files all P each [] plans later are = subst (AllByRecursion P) (sym are) tt
+each-plan files all P each (l ∷ ls) plans later are = by_place (accepted_of l.launch files) refl plans are (λ vs others. each-plan files all P each ls vs (later-next all l ls later) others)
+  where
+    by_place : (place : Result PlacedData AuditFault) → accepted_of l.launch files ≡ place → (vs : List PlanView) → BeginsWith l.launch place (ArePlans files ls) vs
+        → ((us : List PlanView) → ArePlans files ls us → AllByRecursion P us) → AllByRecursion P vs
+    by_place (Err fault) is vs begins rest = rest vs begins
+    by_place (Ok p) is [] begins rest = absurd begins
+    by_place (Ok p) is (v ∷ vs) begins rest = (let found = later 0 l refl in each found.0 l p v found.1 is begins.0, rest vs begins.1)
+
+all-plans : (files : List (List ℕ)) (all : List NamedData) (P : PlanView → Type 0) → OfEach files all P → (plans : List PlanView) → ArePlans files all plans → All P plans
+unfolding Later
+all-plans files all P each plans are = All-from_recursion P plans (each-plan files all P each all plans (λ i l at. (i, at)) are)
+
+-- a key of a launch is one of the release
+key-there : (files : List (List ℕ)) (r : ReleaseData) (i : ℕ) (l : NamedData) (p : PlacedData) (key : PageKey) → slice_get r.launches i ≡ Some l → accepted_of l.launch files ≡ Ok p
+    → Contains (measured_keys l.launch p) key → Contains (page_keys files r.launches) key
+unfolding page_keys
+key-there files r i l p key at accepted there =
+    let all : List PageKey = flat_map (launch_keys files) r.launches in
+    let in_launch : Has (launch_keys files l) key = subst (λ (place : Result PlacedData AuditFault). Has (keys_at l.launch place) key) (sym accepted) (has-contains (measured_keys l.launch p) key there) in
+    (rising_keys-same all key).1 (contains-has all key (launch-has files r.launches i l key at in_launch))
+
+-- the keys of all plans are keys of the release
+pub all-known : (files : List (List ℕ)) (r : ReleaseData) (plans : List PlanView) → ArePlans files r.launches plans
+    → All (λ v. All (Contains (page_keys files r.launches)) (keys_of v.links)) plans
+unfolding OfEach
+all-known files r plans are = all-plans files r.launches (λ v. All (Contains (page_keys files r.launches)) (keys_of v.links))
+    (λ i l p v at accepted read_of. subst (All (Contains (page_keys files r.launches))) (sym read_of.keys)
+    (λ k d low. key-there files r i l p (get_or (measured_keys l.launch p) k d) at accepted (All-contains_itself (measured_keys l.launch p) k d low)))
+    plans are
 
 -- ---- a table that has all pages of a release, and their digests
 
@@ -175,15 +224,6 @@ module _ (files : List (List ℕ)) (r : ReleaseData) (t : TableView)
           = named-at items (page_keys files r.launches) j (get_or t.pages j d) (ap (λ (ps : List PageView). slice_get ps j) (sym has_pages) ∙ here) in
           (j, (is, low, here ∙ ap (λ (q : PageView). Some q) (named ∙ ap (page_named items) same)))
 
-  -- a key of a launch is one of the release
-  key-there : (i : ℕ) (l : NamedData) (p : PlacedData) (key : PageKey) → slice_get r.launches i ≡ Some l → accepted_of l.launch files ≡ Ok p
-      → Contains (measured_keys l.launch p) key → Contains (page_keys files r.launches) key
-  unfolding page_keys
-  key-there i l p key at accepted there =
-      let all : List PageKey = flat_map (launch_keys files) r.launches in
-      let in_launch : Has (launch_keys files l) key = subst (λ (place : Result PlacedData AuditFault). Has (keys_at l.launch place) key) (sym accepted) (has-contains (measured_keys l.launch p) key there) in
-      (rising_keys-same all key).1 (contains-has all key (launch-has files r.launches i l key at in_launch))
-
   -- the table's page of a launch's key is the launch's own, and has a digest
   HasOwn : PlacedData → PageKey → Type 0
   HasOwn p key = HasOwnPage t files p key × (is_some (digest_at t key) ≡ true)
@@ -204,7 +244,7 @@ module _ (files : List (List ℕ)) (r : ReleaseData) (t : TableView)
       let keys : List PageKey = measured_keys l.launch p in
       let sources : All (λ key. items key.source ≡ contents_of files p key.source) keys = All-from_recursion (λ key. items key.source ≡ contents_of files p key.source) keys
       (each-measured (λ key. items key.source ≡ contents_of files p key.source) l.launch p (λ number n item here below. own-source i l p at accepted number item here)) in
-      own-page p (get_or keys k d) (key-there i l p (get_or keys k d) at accepted (All-contains_itself keys k d low)) (sources k d low)
+      own-page p (get_or keys k d) (key-there files r i l p (get_or keys k d) at accepted (All-contains_itself keys k d low)) (sources k d low)
 
   -- the digests of all keys
   all-some : (keys : List PageKey) → AllByRecursion (λ key. is_some (digest_at t key) ≡ true) keys → has_all t keys ≡ true
@@ -231,35 +271,16 @@ module _ (files : List (List ℕ)) (r : ReleaseData) (t : TableView)
 
   -- ---- all launches
 
-  Later : List NamedData → Type 0
-  Later ls = (i : ℕ) (l : NamedData) → slice_get ls i ≡ Some l → (k : ℕ) × (slice_get r.launches k ≡ Some l)
-
-  later-next : (l : NamedData) (ls : List NamedData) → Later (l ∷ ls) → Later ls
-  unfolding Later
-  later-next l ls later = λ i m at. later (suc i) m at
-
-  plans-have : (ls : List NamedData) (plans : List PlanView) → Later ls → ArePlans files ls plans → AllByRecursion (λ v. has_all t (keys_of v.links) ≡ true) plans
-  unfolding Later
-  plans-have [] plans later are = subst (AllByRecursion (λ v. has_all t (keys_of v.links) ≡ true)) (sym are) tt
-  plans-have (l ∷ ls) plans later are = by_place (accepted_of l.launch files) refl plans are (λ vs others. plans-have ls vs (later-next l ls later) others)
-    where
-      by_place : (place : Result PlacedData AuditFault) → accepted_of l.launch files ≡ place → (vs : List PlanView) → BeginsWith l.launch place (ArePlans files ls) vs
-          → ((us : List PlanView) → ArePlans files ls us → AllByRecursion (λ v. has_all t (keys_of v.links) ≡ true) us)
-          → AllByRecursion (λ v. has_all t (keys_of v.links) ≡ true) vs
-      by_place (Err fault) is vs begins rest = rest vs begins
-      by_place (Ok p) is [] begins rest = absurd begins
-      by_place (Ok p) is (v ∷ vs) begins rest = (let found = later 0 l refl in plan-has found.0 l p v found.1 is begins.0, rest vs begins.1)
-
   pub all-have : (plans : List PlanView) → ArePlans files r.launches plans → All (λ v. has_all t (keys_of v.links) ≡ true) plans
-  unfolding Later
-  all-have plans are = All-from_recursion (λ v. has_all t (keys_of v.links) ≡ true) plans (plans-have r.launches plans (λ i l at. (i, at)) are)
+  unfolding OfEach
+  all-have = all-plans files r.launches (λ v. has_all t (keys_of v.links) ≡ true) plan-has
 
-  lines-are : (ls : List NamedData) (plans : List PlanView) (rims : List Measurement) → Later ls → ArePlans files ls plans → map (λ m. m.bytes) rims ≡ map (value_in t) plans
+  lines-are : (ls : List NamedData) (plans : List PlanView) (rims : List Measurement) → Later r.launches ls → ArePlans files ls plans → map (λ m. m.bytes) rims ≡ map (value_in t) plans
       → lines_with ls (outcomes_of (places_of files ls) rims) ≡ lines_of files ls
   unfolding Later
   lines-are [] plans rims later are values = refl
   lines-are (l ∷ ls) plans rims later are values =
-      by_place (accepted_of l.launch files) refl plans are rims values (λ vs ms others same. lines-are ls vs ms (later-next l ls later) others same)
+      by_place (accepted_of l.launch files) refl plans are rims values (λ vs ms others same. lines-are ls vs ms (later-next r.launches l ls later) others same)
     where
       by_place : (place : Result PlacedData AuditFault) → accepted_of l.launch files ≡ place → (vs : List PlanView) → BeginsWith l.launch place (ArePlans files ls) vs
           → (ms : List Measurement) → map (λ m. m.bytes) ms ≡ map (value_in t) vs
@@ -300,3 +321,17 @@ unfolding page_keys
 rising-pages files ls pages found =
     let is : pages ≡ release_pages files ls = (found-pages files ls pages found).0 in
     subst IsRising (sym (ap table.keys_of is ∙ named-keys (source_bytes files (places_of files ls)) (page_keys files ls))) (rising_keys-rise (flat_map (launch_keys files) ls))
+
+-- the keys of pages that were found are those of the release
+pub found-keys : (files : List (List ℕ)) (ls : List NamedData) (pages : List PageView) → pages_of files ls ≡ Ok pages → table.keys_of pages ≡ page_keys files ls
+found-keys files ls pages found = ap table.keys_of (found-pages files ls pages found).0 ∙ named-keys (source_bytes files (places_of files ls)) (page_keys files ls)
+
+-- the report of a release, from the values of its plans with a table of its pages
+pub report-is : (files : List (List ℕ)) (r : ReleaseData) (t : TableView) (pages : List PageView) (plans : List PlanView) (rims : List Measurement) → AreNumbered r → length files ≡ length r.paths
+    → pages_of files r.launches ≡ Ok pages → ArePlans files r.launches plans → IsTable t → t.pages ≡ pages → IsFull t → map (λ m. m.bytes) rims ≡ map (value_in t) plans
+    → measured_of files r.launches ≡ Ok (report_with (lines_with r.launches (outcomes_of (places_of files r.launches) rims)) (length pages))
+report-is files r t pages plans rims numbered size found are own same full values =
+    let is = found-pages files r.launches pages found in
+    let lines = all-lines files r t numbered size own (same ∙ is.0) full plans rims are values in
+    let count : length pages ≡ length (page_keys files r.launches) = sym (length-map pages (λ p. p.key)) ∙ ap length (found-keys files r.launches pages found) in
+    is.1 ∙ ap (λ (text : List ℕ). Ok text) (sym (ap (λ (text : List ℕ). report_with text (length pages)) lines ∙ ap (report_with (lines_of files r.launches)) count))

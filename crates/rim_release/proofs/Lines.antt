@@ -1,9 +1,9 @@
 -- The lines of launches.
-use Rattle.std.proofs.Common.{◌≡◌, ℕ, ◌+◌, ◌⊎◌, ◌∙◌, inl, inr, suc, List, [], ◌∷◌, ◌++◌, length, map, take, refl, ap, sym, arith, append_assoc}
+use Rattle.std.proofs.Common.{◌≡◌, ℕ, ◌+◌, ◌<◌, ◌≤◌, ◌⊎◌, ◌∙◌, inl, inr, suc, List, [], ◌∷◌, ◌++◌, length, map, take, refl, ap, sym, arith, append_assoc}
 use Rattle.std.specs.Prelude.{Result, Some}
 use Rattle.std.specs.List.{flat_map, slice_get}
 use Rattle.std.proofs.lemmas.Grind.{flat_map-append}
-use Rattle.std.proofs.lemmas.List.{append-nil}
+use Rattle.std.proofs.lemmas.List.{append-nil, length-append}
 use Rattle.std.proofs.lemmas.Option.{get_or_from_slice_get, slice_get_within}
 use Rattle.std.proofs.Math.Seq.{take-suc}
 use Rattle.rim_desc.specs.declared.measurement.Measurement.{Measurement}
@@ -45,3 +45,16 @@ line-next line old now new xs i x at so_far added =
     ∙ ap (λ (text : List ℕ). old ++ (flat_map line (take i xs) ++ text)) (sym (append-nil (line x)))
     ∙ ap (λ (text : List ℕ). old ++ text) (sym (flat_map-append line (take i xs) (x ∷ [])))
     ∙ ap (λ (ys : List _). old ++ flat_map line ys) one_more
+
+-- what a report is added as
+pub report-joined : (old head lines pages number end : List ℕ) → ((((old ++ head) ++ lines) ++ pages) ++ number) ++ end ≡ old ++ (((head ++ lines) ++ pages) ++ (number ++ end))
+report-joined old head lines pages number end =
+    append_assoc (((old ++ head) ++ lines) ++ pages) number end
+    ∙ ap (λ (front : List ℕ). (front ++ pages) ++ (number ++ end)) (append_assoc old head lines)
+    ∙ ap (λ (front : List ℕ). front ++ (number ++ end)) (append_assoc old (head ++ lines) pages)
+    ∙ append_assoc old ((head ++ lines) ++ pages) (number ++ end)
+
+-- a text with no room for a line has none for all lines
+pub no-room : (old now line rest all : List ℕ) (room before : ℕ) → now ++ (line ++ rest) ≡ old ++ all → before ≤ room → room < length now + length line → before < length old + length all
+no-room old now line rest all room before same kept full =
+    omega (arith, kept, full, ap length same, length-append now (line ++ rest), length-append line rest, length-append old all)

@@ -4,6 +4,7 @@ pub mod Accepted
 pub mod Pages
 pub mod Report
 pub mod Listing
+pub mod Headline
 pub mod ShowFaults
 pub mod ShownImage
 pub mod ShownDevicetree

@@ -1,5 +1,5 @@
 -- The report of a release, and that of its audit. This project's choice.
-use Rattle.std.specs.Prelude.{ℕ, Bool, is_err, List, ◌++◌, length, nat_lt, take, codes, Result, Ok, Err, if◌then◌else◌}
+use Rattle.std.specs.Prelude.{ℕ, Bool, ◌&&◌, is_err, List, ◌++◌, length, nat_le, nat_lt, take, codes, Result, Ok, Err, if◌then◌else◌}
 use Rattle.std.specs.Fmt.{decimal}
 use Rattle.std.specs.List.{flat_map, list_any}
 use Rattle.hex.specs.Hex.{encode_lower}
@@ -11,7 +11,7 @@ use Rattle.rim_release.specs.AuditFaults.{audit_kind_of}
 use Rattle.rim_release.specs.Pages.{page_keys, page_limit}
 use Rattle.rim_release.specs.declared.audit_fault.AuditFault.{AuditFault}
 use Rattle.rim_release.specs.declared.fault.StartFault.{StartFault}
-use Rattle.rim_release.specs.declared.fault.StartFault.TheVariants.{TooManyPages}
+use Rattle.rim_release.specs.declared.fault.StartFault.TheVariants.{TooManyPages, Workers}
 
 -- the word of an algorithm, between spaces
 abbrev pub algo_word : Algo → List ℕ
@@ -54,6 +54,14 @@ report_of files ls = report_with (lines_of files ls) (length (page_keys files ls
 -- the report, unless the launches have too many different measured pages
 abbrev pub measured_of : List (List ℕ) → List NamedData → Result (List ℕ) StartFault
 measured_of files ls = if nat_lt page_limit (length (page_keys files ls)) then Err TooManyPages else Ok (report_of files ls)
+
+-- whether a run may have this many workers
+abbrev pub is_crew : ℕ → Bool
+is_crew workers = nat_le 1 workers && nat_le workers 64
+
+-- the report that a run of this many workers makes
+abbrev pub started_of : ℕ → List (List ℕ) → List NamedData → Result (List ℕ) StartFault
+started_of workers files ls = if is_crew workers then measured_of files ls else Err Workers
 
 -- the report of an audit
 abbrev pub audit_text_of : List (List ℕ) → List NamedData → List ℕ

@@ -43,7 +43,7 @@ pub fn audit_report(alloc: Global, release: &Release, files: &Files) -> Result<V
     let outcomes = outcomes(alloc, release, files)?;
     let mut text = Vec::new(alloc);
     text.extend_from_slice(b"rim-audit 1\n")?;
-    push_lines(alloc, &mut text, release.all_launches(), &outcomes)?;
+    push_lines(&mut text, release.all_launches(), &outcomes)?;
     Ok(text)
 }
 

@@ -5,8 +5,8 @@ ghost use Rattle.page_jobs.specs.Key.{IsRising};
 ghost use Rattle.page_jobs.specs.Page.{page_view};
 ghost use Rattle.page_jobs.specs.Table.{keys_of as page_keys};
 ghost use Rattle.rim_chain.specs.Links.{keys_of};
-ghost use Rattle.rim_chain.specs.Rows.{has_all};
-ghost use Rattle.rim_release.specs.inside.Chains.{IsFull, outcomes_of, value_in};
+ghost use Rattle.rim_chain.specs.Rows.{IsFull, has_all, value_in};
+ghost use Rattle.rim_release.specs.inside.Chains.{outcomes_of, with_rims};
 
 use crate::audit_fault::AuditFault;
 use ipa_layout::Placed;
@@ -96,4 +96,20 @@ pub fn outcomes(
         }
     }
     Ok(found)
+}
+
+/// Puts measurements in the place of others: those of the launches that are accepted, in their order.
+pub fn set_rims(outcomes: &mut Vec<Result<Measurement, AuditFault>>, rims: &[Measurement])
+    ensures { outcomes.new.items ≡ with_rims outcomes.old.items rims.now }
+{
+    let mut rest = rims;
+    for i in 0..outcomes.len() {
+        if outcomes[i].is_ok() {
+            let Some((rim, others)) = rest.split_first() else {
+                return;
+            };
+            outcomes[i] = Ok(*rim);
+            rest = others;
+        }
+    }
 }

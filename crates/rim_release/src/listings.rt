@@ -61,7 +61,7 @@ fn print(alloc: Global, commands: &LaunchCommands) -> Result<Vec<u8>, NoMemory>
     let mut text = Vec::new(alloc);
     push_first(&mut text, config.num_aux)?;
     let rim = push_commands(alloc, &mut text, commands)?;
-    push_last(alloc, &mut text, config.algo, &rim)?;
+    push_last(&mut text, config.algo, &rim)?;
     Ok(text)
 }
 
@@ -103,16 +103,11 @@ fn push_command(alloc: Global, text: &mut Vec<u8>, command: &Command) -> Result<
 }
 
 /// Adds the last line.
-fn push_last(
-    alloc: Global,
-    text: &mut Vec<u8>,
-    algo: Algo,
-    rim: &Measurement,
-) -> Result<(), NoMemory>
+fn push_last(text: &mut Vec<u8>, algo: Algo, rim: &Measurement) -> Result<(), NoMemory>
     ensures { OnOk result (text.new.items ≡ text.old.items ++ last_line algo rim.now.bytes) }
 {
     text.extend_from_slice(b"rim")?;
-    push_rim(alloc, text, algo, rim)?;
+    push_rim(text, algo, rim)?;
     text.extend_from_slice(b"\n")?;
     Ok(())
 }

@@ -55,7 +55,7 @@ pub fn report_alone(alloc: Global, release: &Release, files: &Files) -> Result<R
 }
 
 /// Whether some launch is refused.
-fn has_refused(places: &[Result<Placed, AuditFault>]) -> bool
+pub(crate) fn has_refused(places: &[Result<Placed, AuditFault>]) -> bool
     ensures { result ≡ list_any is_err places.now }
 {
     places.iter().any(|place| place.is_err())

@@ -1,7 +1,7 @@
 //! The report of what came of each launch of a release.
-ghost use Rattle.std.specs.Prelude.{◌≡◌, ◌++◌, IfOk, OnOk};
+ghost use Rattle.std.specs.Prelude.{◌≡◌, ◌≤◌, ◌++◌, IfOk, OnErr, OnOk, length, vec_capacity};
 ghost use Rattle.rim_release.specs.Report.{algo_word, digest_bytes, outcome_text, report_with, rim_text};
-ghost use Rattle.rim_release.specs.inside.Lines.{line_with_outcome, lines_with, seen};
+ghost use Rattle.rim_release.specs.inside.Lines.{HasNoRoom, line_with_outcome, lines_with, seen};
 
 use crate::audit_fault::AuditFault;
 use itoa::Buffer;
@@ -20,55 +20,73 @@ pub fn report(
     ensures { IfOk result (λ text. text.items ≡ report_with (lines_with launches.now outcomes.now) count) }
 {
     let mut text = Vec::new(alloc);
+    push_report(&mut text, launches, outcomes, count)?;
+    Ok(text)
+}
+
+/// Adds the report to a text. Like all that adds to a text here, it fails only where the text has no room for it.
+pub fn push_report(
+    text: &mut Vec<u8>,
+    launches: &[NamedLaunch],
+    outcomes: &[Result<Measurement, AuditFault>],
+    count: usize,
+) -> Result<(), NoMemory>
+    ensures text { OnOk result (text.new.items ≡ text.old.items ++ report_with (lines_with launches.now outcomes.now) count) }
+    ensures keeps { vec_capacity text.old ≤ vec_capacity text.new }
+    ensures full { OnErr result (HasNoRoom text.old (report_with (lines_with launches.now outcomes.now) count)) }
+{
     text.extend_from_slice(b"rim-report 1\n")?;
-    push_lines(alloc, &mut text, launches, outcomes)?;
+    push_lines(text, launches, outcomes)?;
     text.extend_from_slice(b"pages ")?;
     text.extend_from_slice(Buffer::new().format(count).as_bytes())?;
     text.extend_from_slice(b"\n")?;
-    Ok(text)
+    Ok(())
 }
 
 /// Adds the line of each launch.
 pub fn push_lines(
-    alloc: Global,
     text: &mut Vec<u8>,
     launches: &[NamedLaunch],
     outcomes: &[Result<Measurement, AuditFault>],
 ) -> Result<(), NoMemory>
-    ensures { OnOk result (text.new.items ≡ text.old.items ++ lines_with launches.now outcomes.now) }
+    ensures text { OnOk result (text.new.items ≡ text.old.items ++ lines_with launches.now outcomes.now) }
+    ensures keeps { vec_capacity text.old ≤ vec_capacity text.new }
+    ensures full { OnErr result (HasNoRoom text.old (lines_with launches.now outcomes.now)) }
 {
     for (launch, outcome) in launches.iter().zip(outcomes.iter()) {
-        push_line(alloc, text, launch, outcome)?;
+        push_line(text, launch, outcome)?;
     }
     Ok(())
 }
 
 #[tactic(auto, unfolding(crate::specs::Report::line_with))]
 fn push_line(
-    alloc: Global,
     text: &mut Vec<u8>,
     launch: &NamedLaunch,
     outcome: &Result<Measurement, AuditFault>,
 ) -> Result<(), NoMemory>
-    ensures { OnOk result (text.new.items ≡ text.old.items ++ line_with_outcome launch.now outcome.now) }
+    ensures text { OnOk result (text.new.items ≡ text.old.items ++ line_with_outcome launch.now outcome.now) }
+    ensures keeps { vec_capacity text.old ≤ vec_capacity text.new }
+    ensures full { OnErr result (HasNoRoom text.old (line_with_outcome launch.now outcome.now)) }
 {
     text.extend_from_slice(launch.name().as_bytes())?;
-    push_outcome(alloc, text, launch.launch().config().algo, outcome)?;
+    push_outcome(text, launch.launch().config().algo, outcome)?;
     text.extend_from_slice(b"\n")?;
     Ok(())
 }
 
 /// Adds what came of a launch.
 fn push_outcome(
-    alloc: Global,
     text: &mut Vec<u8>,
     algo: Algo,
     outcome: &Result<Measurement, AuditFault>,
 ) -> Result<(), NoMemory>
-    ensures { OnOk result (text.new.items ≡ text.old.items ++ outcome_text algo (seen outcome.now)) }
+    ensures text { OnOk result (text.new.items ≡ text.old.items ++ outcome_text algo (seen outcome.now)) }
+    ensures keeps { vec_capacity text.old ≤ vec_capacity text.new }
+    ensures full { OnErr result (HasNoRoom text.old (outcome_text algo (seen outcome.now))) }
 {
     match outcome {
-        Ok(rim) => push_rim(alloc, text, algo, rim),
+        Ok(rim) => push_rim(text, algo, rim),
         Err(fault) => {
             text.extend_from_slice(b" refused ")?;
             text.extend_from_slice(fault.kind().as_bytes())?;
@@ -78,17 +96,19 @@ fn push_outcome(
 }
 
 /// Adds the word of an algorithm, and a measurement as its hexadecimal digits.
-pub fn push_rim(
-    alloc: Global,
-    text: &mut Vec<u8>,
-    algo: Algo,
-    rim: &Measurement,
-) -> Result<(), NoMemory>
-    ensures { OnOk result (text.new.items ≡ text.old.items ++ rim_text algo rim.now.bytes) }
+pub fn push_rim(text: &mut Vec<u8>, algo: Algo, rim: &Measurement) -> Result<(), NoMemory>
+    ensures text { OnOk result (text.new.items ≡ text.old.items ++ rim_text algo rim.now.bytes) }
+    ensures keeps { vec_capacity text.old ≤ vec_capacity text.new }
+    ensures full { OnErr result (HasNoRoom text.old (rim_text algo rim.now.bytes)) }
 {
-    let digits = hex::encode(alloc, digest(algo, rim))?;
+    let digest = digest(algo, rim);
+    let size = 2 * digest.len();
+    let mut digits = [0; 128];
+    let Ok(()) = hex::encode_to_slice(digest, &mut digits[..size]) else {
+        unreachable!()
+    };
     text.extend_from_slice(algo_word(algo))?;
-    text.extend_from_slice(digits.as_bytes())?;
+    text.extend_from_slice(&digits[..size])?;
     Ok(())
 }
 
@@ -104,7 +124,8 @@ fn algo_word(algo: Algo) -> &'static [u8]
 
 /// The bytes of a measurement that are a digest of its algorithm.
 fn digest(algo: Algo, rim: &Measurement) -> &[u8]
-    ensures { result.now ≡ digest_bytes algo rim.now.bytes }
+    ensures value { result.now ≡ digest_bytes algo rim.now.bytes }
+    ensures size { length result.now ≤ 64 }
 {
     match algo {
         Algo::Sha256 => &rim.bytes[..32],

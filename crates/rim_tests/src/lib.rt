@@ -23,3 +23,5 @@ mod releases;
 mod reports;
 #[cfg(test)]
 mod words;
+#[cfg(test)]
+mod workers;

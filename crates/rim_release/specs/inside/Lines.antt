@@ -1,5 +1,6 @@
 -- The lines of launches, of which this came. This project's choice.
-use Rattle.std.specs.Prelude.{ℕ, List, [], ◌∷◌, ◌++◌, Result}
+use Rattle.std.specs.Prelude.{ℕ, ◌+◌, ◌<◌, List, [], ◌∷◌, ◌++◌, Result, length, vec_capacity, vec_len}
+use Rattle.std.specs.Global.{Vec}
 use Rattle.std.specs.Result.{result_map_both}
 use Rattle.rim_desc.specs.declared.measurement.Measurement.{Measurement}
 use Rattle.rim_manifest.specs.Launches.{NamedData}
@@ -17,3 +18,7 @@ abbrev pub lines_with : List NamedData → List (Result Measurement AuditFault) 
 lines_with [] outcomes = []
 lines_with (l ∷ ls) [] = []
 lines_with (l ∷ ls) (outcome ∷ outcomes) = line_with_outcome l outcome ++ lines_with ls outcomes
+
+-- a text has no room for these bytes after its own
+abbrev pub HasNoRoom : Vec ℕ → List ℕ → Type 0
+HasNoRoom text more = vec_capacity text < vec_len text + length more

@@ -15,7 +15,7 @@ returns c =
     ∙ ap (λ (fs : List (Vec ℕ Global)). map (λ (l : NamedData). rim_for l.launch (contents fs)) launches) c.deref.ensures.value in
     let lines : lines_with c.all_launches.result.now c.deref-2.result.now ≡ lines_of files launches
     = ap (λ (ls : List NamedData). lines_with ls c.deref-2.result.now) c.all_launches.ensures.value ∙ own-lines files launches c.deref-2.result.now came in
-    c.in_ok-push_lines.ensures
+    c.in_ok-push_lines.ensures.text
     ∙ ap (λ (text : List ℕ). text ++ lines_with c.all_launches.result.now c.deref-2.result.now)
     (c.in_ok-extend_from_slice.ensures.items ∙ ap (λ (text : List ℕ). text ++ codes "rim-audit 1\n") c.new-text.ensures.items)
     ∙ ap (λ (text : List ℕ). codes "rim-audit 1\n" ++ text) lines

@@ -1,5 +1,5 @@
 use Rattle.std.proofs.Common.{◌≡◌, map, take}
-use Rattle.rim_release.specs.inside.Chains.{value_in}
+use Rattle.rim_chain.specs.Rows.{value_in}
 use Rattle.rim_release.proofs.chains.chains.Given as goal
 
 abbrev pub invariant-loop-plan : goal.invariant-loop-plan

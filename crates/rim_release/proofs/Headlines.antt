@@ -1,0 +1,38 @@
+-- What the line of a launch says, in the monitor's words.
+use Rattle.std.proofs.Common.{◌≡◌, ◌∙◌, ℕ, List, ◌++◌, ap}
+use Rattle.std.specs.Prelude.{Option, Result, Ok, codes, unwrap_or}
+use Rattle.refusal.specs.Answer.{◌>>=◌}
+use Rattle.rim_desc.specs.Part.{rim_of}
+use Rattle.rmm_model.specs.Run.{run}
+use Rattle.rmm_model.specs.State.{empty_state}
+use Rattle.list_model.specs.Entries.{commands_of}
+use Rattle.rmi_list.specs.Following.{IsFollowed}
+use Rattle.rmi_list.specs.Measured.{contents, measured}
+use Rattle.rmi_list.proofs.Contents.{contents-are-good}
+use Rattle.rmi_list.proofs.Follows.{list-is-followed}
+use Rattle.rim_release.specs.Accepted.{commands_for, rim_after, rim_for}
+use Rattle.rim_release.specs.Headline.{AcceptedAreMeasured, IsMeasured, RefusedAreNamed}
+use Rattle.rim_release.specs.Report.{line_of, line_with}
+use Rattle.rim_release.specs.declared.audit_fault.AuditFault.{AuditFault}
+use Rattle.rim_release.proofs.Accepting.{accepted-is}
+use Rattle.rim_release.proofs.Held.{refused-rim}
+
+pub accepted-are-measured : AcceptedAreMeasured
+unfolding commands_for rim_for line_with
+accepted-are-measured files l p accepted =
+    let is = accepted-is l.launch files p accepted in
+    let own = contents l.launch files p in
+    let commands = commands_of own is.entries in
+    let followed : IsFollowed l.launch.config.algo l.launch.config.num_aux commands (measured l.launch p own)
+    = list-is-followed l.launch p own is.entries (contents-are-good l.launch files p) is.listed in
+    let rim : rim_after l.launch commands ≡ rim_of l.launch.config.algo (measured l.launch p own) = ap (λ (o : Option (List ℕ)). unwrap_or o []) followed.rim in
+    record {
+      commands = commands;
+      listed = rw (is.placed, is.listed) refl;
+      followed = followed;
+      line = rw (is.placed, is.listed, rim) refl;
+    }
+
+pub refused-are-named : RefusedAreNamed
+unfolding line_with
+refused-are-named files l fault refused = ap (λ (o : Result (List ℕ) AuditFault). line_with l o) (refused-rim l.launch files fault refused)
