@@ -14,9 +14,9 @@ pub mod report;
 pub mod show;
 
 pub use audit_fault::AuditFault;
-pub use audits::{audit, audit_report};
+pub use audits::{audit, audit_launches, audit_report};
 pub use fault::StartFault;
-pub use listings::listing;
+pub use listings::{listing, listing_or_refusal};
 pub use measure::{Files, Report, measure_alone, report_alone};
 pub use rim_launch::{Config, Launch};
 pub use rim_manifest::{ManifestFault, NamedLaunch, Release, read_manifest};

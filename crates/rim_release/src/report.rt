@@ -43,8 +43,9 @@ pub fn push_lines(
     Ok(())
 }
 
+/// Adds the line of a launch of which this came.
 #[tactic(auto, unfolding(crate::specs::Report::line_with))]
-fn push_line(
+pub fn push_line(
     alloc: Global,
     text: &mut Vec<u8>,
     launch: &NamedLaunch,
