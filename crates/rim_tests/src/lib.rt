@@ -22,4 +22,6 @@ mod releases;
 #[cfg(test)]
 mod reports;
 #[cfg(test)]
+mod subcommands;
+#[cfg(test)]
 mod words;
