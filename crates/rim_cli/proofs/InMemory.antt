@@ -1,8 +1,7 @@
 -- A run of `rim measure manifest.toml` over a manifest in memory.
-use Rattle.std.proofs.Common.{◌≡◌, ◌⊎◌, ℕ, zero, suc, ◌≤◌, Bool, true, false, List, [], ◌∷◌, ◌++◌, Option, Some, None, inl, inr, refl, ap, ◌∙◌, subst, sym, arith}
+use Rattle.std.proofs.Common.{◌≡◌, ℕ, zero, suc, ◌≤◌, Bool, true, false, List, [], ◌∷◌, Some, None, refl, ap, ◌∙◌, subst, sym, arith}
 use Rattle.std.specs.Prelude.{Result, Ok, Err, IsOkAnd, codes, if◌then◌else◌}
 use Rattle.std.specs.Str.{bytes_eq}
-use Rattle.std.specs.Io.KnownBytes.{Appends}
 use Rattle.std.proofs.lemmas.Option.{same_Some}
 use Rattle.std.proofs.lemmas.Slice.Eq.{bytes_eq-Decides}
 use Rattle.clap.proofs.OnLiterals.{clap_on_literals}
@@ -11,9 +10,8 @@ use Rattle.rim_manifest.specs.Launches.{ReleaseData}
 use Rattle.rim_manifest.specs.Manifest.{manifest_of}
 use Rattle.rim_manifest.specs.declared.fault.ManifestFault.{ManifestFault}
 use Rattle.rim_release.specs.Report.{has_refused, measured_of}
-use Rattle.rim_release.specs.declared.fault.StartFault.{StartFault}
 use Rattle.rim_cli.specs.Command.{ReadsRequest, rim}
-use Rattle.rim_cli.specs.Done.{IsAnswer, IsDone, IsMade, IsReport, path_of}
+use Rattle.rim_cli.specs.Done.{IsAnswer, IsMade, IsReport, path_of}
 use Rattle.rim_cli.specs.Examples.{plain}
 use Rattle.rim_cli.specs.Files.{AreRead, IfFile, Known}
 use Rattle.rim_cli.specs.declared.words.Request.{Request}

@@ -1,5 +1,5 @@
 -- The release that a manifest describes, and the listing of one of its launches.
-use Rattle.std.proofs.Common.{◌≡◌, ℕ, Bool, ◌<◌, ◌≤◌, arith, inl, inr, List, Option, Some, None, length, map, slice_get, refl, ap, ◌∙◌, subst, sym}
+use Rattle.std.proofs.Common.{◌≡◌, ℕ, Bool, ◌<◌, arith, inl, inr, List, Option, Some, None, length, slice_get, refl, ap, ◌∙◌, subst, sym}
 use Rattle.std.specs.Prelude.{Result, Ok, IfSome, IsOkAnd, is_err, option_and_then, position, if◌then◌else◌}
 use Rattle.std.proofs.lemmas.Option.{slice_get_cases}
 use Rattle.rim_manifest.specs.Manifest.{manifest_of, name_in}

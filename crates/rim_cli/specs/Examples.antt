@@ -1,6 +1,7 @@
 -- Examples of command lines, read by the definition of `clap`.
-use Rattle.std.specs.Prelude.{◌≡◌, ℕ, true, false, List, [], ◌∷◌, Option, Some, None, codes, option_map}
+use Rattle.std.specs.Prelude.{◌≡◌, ℕ, true, false, List, [], ◌∷◌, Option, Some, None, codes, length, map, option_map}
 use Rattle.clap.specs.Words.{Text, first_of, subcommand_of, takes}
+use Rattle.rim_manifest.specs.Launches.{ReleaseData}
 use Rattle.rim_cli.specs.Command.{AsksForHelp, CountsWorkers, IsMistaken, rim}
 
 abbrev pub plain : List Text
@@ -51,3 +52,11 @@ ReadsExamples = (read_in plain ≡ Some (Some (codes "manifest.toml"), None))
 abbrev pub RefusesExamples : Type 0
 RefusesExamples = AsksForHelp (codes "rim" ∷ codes "--help" ∷ []) × AsksForHelp (codes "rim" ∷ codes "measure" ∷ codes "--help" ∷ [])
     × AsksForHelp (codes "rim" ∷ codes "--version" ∷ []) × IsMistaken too_many × IsMistaken too_few × IsMistaken (codes "rim" ∷ codes "print" ∷ []) × IsMistaken (codes "rim" ∷ [])
+
+-- the smallest manifest: a launch without memory and files
+abbrev pub smallest : List ℕ
+smallest = codes "rim_manifest = 1\n[[launch]]\nname = \"small\"\nalgo = \"sha256\"\ns2sz = 33\n"
+
+abbrev pub IsSmallest : ReleaseData → Type 0
+IsSmallest r = (r.paths ≡ []) × (map (λ l. l.name) r.launches ≡ codes "small" ∷ [])
+    × (map (λ l. l.launch.config.s2sz) r.launches ≡ 33 ∷ []) × (map (λ l. length l.launch.ram) r.launches ≡ 0 ∷ [])

@@ -24,4 +24,6 @@ mod reports;
 #[cfg(test)]
 mod subcommands;
 #[cfg(test)]
+mod virtual_machine;
+#[cfg(test)]
 mod words;

@@ -1,6 +1,4 @@
-use Rattle.std.proofs.Common.{◌≡◌, ◌<◌, ℕ, List, length, map, rules, subst, sym}
-use Rattle.std.specs.Prelude.{IfSome, slice_get}
-use Rattle.rim_release.specs.Listing.{shown_of}
+use Rattle.std.proofs.Common.{◌<◌, ℕ, List, length, map, rules, subst, sym}
 use Rattle.rim_cli.specs.Done.{IsListing}
 use Rattle.rim_cli.specs.Files.{AreRead, Known}
 use Rattle.rim_cli.proofs.Releases.{listing_is, of_release}

@@ -1,5 +1,5 @@
-use Rattle.std.proofs.Common.{◌≡◌, ◌≤◌, ℕ, ◌++◌, List, Option, Some, ap, arith, inl, inr, sym, subst}
-use Rattle.std.specs.Prelude.{Result, Ok, IsOkAnd}
+use Rattle.std.proofs.Common.{◌≡◌, ℕ, ◌++◌, List, ap, inl, inr, sym, subst}
+use Rattle.std.specs.Prelude.{Result, IsOkAnd}
 use Rattle.rim_release.specs.declared.fault.StartFault.{StartFault}
 use Rattle.rim_cli.proofs.InMemory.{ends_above, none_made, own_status, own_text, plain_taken}
 use Rattle.rim_cli.proofs.in_memory.measure_in_memory.Goals as goal
@@ -21,6 +21,7 @@ returns-clause-refused g c f refuses =
     (λ low. let done = c.run.ensures.done plain_taken low in none_made c.args.manifest.now f done.text c.run.result refuses done.made)
     (c.run.ensures.usage plain_taken)
     (λ three. elim (c.run.ensures.refused plain_taken three) [
-      inl refused ↦ ap (λ out. out.items) refused.1 |
-      inr unwritten ↦ absurd (none_made c.args.manifest.now f unwritten.text unwritten.status refuses unwritten.made) ])
+      | inl refused ↦ ap (λ out. out.items) refused.1
+      | inr unwritten ↦ absurd (none_made c.args.manifest.now f unwritten.text unwritten.status refuses unwritten.made)
+    ])
     (λ four. ap (λ out. out.items) (c.run.ensures.kept (inr four)))
