@@ -1,10 +1,11 @@
 #!/usr/bin/env python3
-"""A second opinion: the report of a manifest by the plainest program that can be written from docs/FORMATS.md.
+"""A second opinion: the report of a manifest, or the listing of a launch, by the plainest program that can be written
+from docs/FORMATS.md.
 
 It shares no code with rim, is slow, and finds hardly any faults: it is for manifests whose launches are accepted, or
 refused by `size`, `overlap` or `outside-ram`. Tests take their expected values from it.
 
-usage: reference.py MANIFEST
+usage: reference.py MANIFEST [LAUNCH]
 """
 import hashlib
 import struct
@@ -80,6 +81,69 @@ def blocks(base, end, least_level):
         level = next(l for l in range(least_level, 4) if at % page_size(l) == 0 and at + page_size(l) <= end)
         yield at, at + page_size(level)
         at += page_size(level)
+
+
+def address(number):
+    return f"{number:016x}"
+
+
+class Listing:
+    """The commands that build a realm, as lines. Granules are taken from the pool in rising order."""
+
+    def __init__(self, launch, start):
+        self.next, self.start, self.tables = launch.get("pool_base", 0x800000000), start, set()
+        self.aux = launch.get("num_aux", 0)
+        self.lines = [f"rim-list 1 aux {self.aux}"]
+        count = 1 << max(0, launch["s2sz"] - (12 + 9 * (4 - start)))
+        base = [self.granule() for _ in range(count)][0]
+        rd, flags = self.granule(), realm_page(launch)[0]
+        numbers = [str(launch.get(key, 0)) for key in ("sve_vl", "num_bps", "num_wps", "pmu_num_ctrs")]
+        self.line("realm_create", rd, base, str(start), str(count), str(launch["s2sz"]), launch["algo"], flags, *numbers)
+        self.lines[-1] += " " + launch.get("rpv", "0" * 128).lower()
+
+    def line(self, name, *words):
+        self.lines.append(" ".join([name] + [word if isinstance(word, str) else address(word) for word in words]))
+
+    def granule(self):
+        self.line("delegate", self.next)
+        self.next += PAGE
+        return self.next - PAGE
+
+    def walk(self, ipa, level):
+        """The tables that an entry of this level needs, from the level below the start on."""
+        for below in range(self.start + 1, level + 1):
+            base = ipa // page_size(below - 1) * page_size(below - 1)
+            if (below, base) not in self.tables:
+                self.tables.add((below, base))
+                self.line("rtt_create", self.granule(), base, str(below))
+
+    def run(self, base, top, level):
+        self.walk(base, level)
+        self.line("init_ripas", base, top)
+
+    def page(self, ipa, content):
+        self.walk(ipa, 3)
+        words = ["unmeasured"] if content is None else ["measured", content.hex()]
+        self.line("data_create", self.granule(), ipa, *words)
+
+    def rec(self, number, page):
+        rec, *aux = [self.granule() for _ in range(1 + self.aux)]
+        numbers = struct.unpack_from("<9Q", page, 0x2F8)[1:]
+        (pc,) = struct.unpack_from("<Q", page, 0x200)
+        self.line("rec_create", rec, 1, number % 16 + 256 * (number // 16), pc, *numbers, str(self.aux), *aux)
+
+
+def runs(base, end, least_level):
+    """The longest groups of neighbouring blocks of one level in one table."""
+    found = []
+    for low, high in blocks(base, end, least_level):
+        level = next(l for l in range(4) if page_size(l) == high - low)
+        table = low // (512 * page_size(level))
+        if found and found[-1][2:] == [level, table]:
+            found[-1][1] = high
+        else:
+            found.append([low, high, level, table])
+    return [(low, high, level) for low, high, level, _ in found]
 
 
 class Node:
@@ -211,12 +275,15 @@ def measure(launch, files, seen):
     start = 2 if launch["s2sz"] <= 34 else 1 if launch["s2sz"] <= 43 else 0
     least_level = max(start, launch.get("block_level", 2))
     rim = Measurement(launch["algo"], realm_page(launch))
+    listing = Listing(launch, start)
     kernel = next((at for item, at, _, _ in placed if item["kind"] == "kernel"), 0)
     dtb = next((at for item, at, _, _ in placed if item["kind"] == "dtb"), 0)
 
     def ram(number):
         for base, top in blocks(*launch["ram"][number], least_level):
             rim.ripas(base, top)
+        for run in runs(*launch["ram"][number], least_level):
+            listing.run(*run)
 
     def item(number):
         asked, at, pages, data = placed[number]
@@ -231,9 +298,12 @@ def measure(launch, files, seen):
                 source = asked["file"] if data is files[asked["file"]] else (launch["name"], "edited")
                 seen.add((launch["algo"], source, lead, page))
             rim.data(at - lead + PAGE * page, content)
+            listing.page(at - lead + PAGE * page, content)
 
     def rec(number):
-        rim.rec(rim.hash(rec_page(launch["rec"][number], number, kernel, dtb)))
+        page = rec_page(launch["rec"][number], number, kernel, dtb)
+        rim.rec(rim.hash(page))
+        listing.rec(number, page)
 
     names = [asked["name"] for asked, _, _, _ in placed]
     kinds = [asked["kind"] for asked, _, _, _ in placed]
@@ -245,7 +315,10 @@ def measure(launch, files, seen):
     for step in steps:
         verb, what = step.split(" ")
         {"ram": lambda: ram(int(what)), "item": lambda: item(names.index(what)), "rec": lambda: rec(int(what))}[verb]()
-    return rim.value[: 64 if launch["algo"] == "sha512" else 32].hex()
+    listing.line("activate")
+    digits = rim.value[: 64 if launch["algo"] == "sha512" else 32].hex()
+    listing.line("rim", launch["algo"], digits)
+    return digits, listing.lines
 
 
 def main():
@@ -255,12 +328,19 @@ def main():
     for entry in manifest.get("file", []):
         with open(entry["path"], "rb") as file:
             files[entry["name"]] = file.read()
+    if len(sys.argv) > 2:
+        launch = next(launch for launch in manifest["launch"] if launch["name"] == sys.argv[2])
+        try:
+            print("\n".join(measure(launch, files, set())[1]))
+        except Refused as refused:
+            print(launch["name"], "refused", refused)
+        return
     pages = set()
     print("rim-report 1")
     for launch in manifest.get("launch", []):
         seen = set()
         try:
-            print(launch["name"], launch["algo"], measure(launch, files, seen))
+            print(launch["name"], launch["algo"], measure(launch, files, seen)[0])
             pages |= seen
         except Refused as refused:
             print(launch["name"], "refused", refused)

@@ -1,22 +1,23 @@
 -- The subcommand that a parse entered, and what its matches hold.
-use Rattle.std.proofs.Common.{◌≡◌, Bool, true, false, cond, not, List, [], ◌∷◌, Option, Some, None, option_map, Box, refl, ap, ◌∙◌, inl, inr, ◌||◌, codes, subst}
+use Rattle.std.proofs.Common.{◌≡◌, Bool, true, false, cond, not, List, [], ◌∷◌, drop, Option, Some, None, option_map, Box, refl, ap, ◌∙◌, inl, inr, ◌||◌, codes, subst}
 use Rattle.std.specs.Prelude.{IfSome, find, fold, pos}
 use Rattle.std.specs.List.{list_all}
 use Rattle.std.specs.Option.{option_map_or}
 use Rattle.std.specs.Box.{box_value}
 use Rattle.std.proofs.lemmas.Option.{same_Some}
+use Rattle.std.proofs.lemmas.Slice.Eq.{bytes_eq-Decides}
 use Rattle.clap.specs.Words.{Row, Rule, Shape, Text, built, fault_of, first_of, subcommand_of, subcommand_rows}
 use Rattle.clap.specs.Simple.{argument_words, built_leaf, entered, filled, inherited, label_of, marked_built, names_of, rows_at, with_index, with_leaf_noted}
 use Rattle.clap.specs.Kinds.{check_kinds, or_else}
 use Rattle.clap.specs.Faults.{check_fault, defaults_fault, entered_fault, level_fault, settle_fault, walk_fault}
 use Rattle.clap.specs.Takes.{is_given}
 use Rattle.clap.specs.Values.{IsSignedIn}
-use Rattle.clap.specs.Walk.{Held, answers_to, default_rows, has_row, nothing_held, reading_by, rows_after, settled, stop_after, walk, walk_from, with_default}
+use Rattle.clap.specs.Walk.{Held, answers_to, arg_by_id, default_rows, has_row, nothing_held, reading_by, rows_after, settled, stop_after, walk, walk_from, with_default}
 use Rattle.clap.specs.declared.parser.matches.SubCommand.{SubCommand}
 use Rattle.clap.specs.declared.parser.matches.ArgMatches.TheViews.{out-SubCommand}
 use Rattle.clap.proofs.ValueTestLemmas.{accepts-Accepts}
 use Rattle.clap.specs.declared.builder.value_parser.ValueParser.TheVariants as parser
-use Rattle.rim_cli.specs.Command.{IsEntered, IsMeasure, IsShowing, measure, operand_rule, rim, showing, workers_rule}
+use Rattle.rim_cli.specs.Command.{IsEntered, IsList, IsMeasure, IsOne, list, measure, operand_rule, rim, with_operand, workers_rule}
 use Rattle.rim_cli.proofs.Fitting.{none_of, settled_fits, walk_fits}
 use Rattle.rim_cli.proofs.Values.{IsSound, fits, first_given, first_passes, keeps}
 
@@ -106,32 +107,63 @@ measure_entered words passes = (refl, first_given measure_shape.rules manifest_b
     workers (Some text) is =
         accepts-Accepts false (parser.Signed (pos 1) (pos 64)) text (first_passes measure_shape.rules workers_built refl rows all text is)
 
--- a subcommand that shows a file, as it is built below `rim`
-abbrev showing_shape : Text → Shape
-showing_shape verb = built_leaf (inherited (with_leaf_noted (marked_built rim.top)) (showing verb).top)
+-- `list` as it is built below `rim`
+abbrev list_shape : Shape
+list_shape = built_leaf (inherited (with_leaf_noted (marked_built rim.top)) list.top)
 
-abbrev file_built : Rule
-file_built = with_index 1 (filled (operand_rule (codes "file")))
+abbrev launch_built : Rule
+launch_built = with_index 2 (filled (operand_rule (codes "launch")))
 
-showing_entered : (verb : Text) (words : List Text) → level_fault (showing_shape verb) [] nothing_held words false [] ≡ []
-    → IsShowing verb verb (rows_after (showing_shape verb).rules [] words)
-showing_entered verb words passes = (refl, first_given (showing_shape verb).rules file_built refl rows all given)
+list_entered : (words : List Text) → level_fault list_shape [] nothing_held words false [] ≡ []
+    → IsList (codes "list") (rows_after list_shape.rules [] words)
+list_entered words passes = (refl, first_given list_shape.rules manifest_built refl rows all given.0, first_given list_shape.rules launch_built refl rows all given.1)
   where
-    sound : Each (IsSound (showing_shape verb).rules) (showing_shape verb).rules
-    sound = (inl (record { set = refl; least = refl; own = refl }), (inr refl, tt))
+    sound : Each (IsSound list_shape.rules) list_shape.rules
+    sound = (inl (record { set = refl; least = refl; own = refl }), (inl (record { set = refl; least = refl; own = refl }), (inr refl, tt)))
 
     rows : List Row
-    rows = rows_after (showing_shape verb).rules [] words
+    rows = rows_after list_shape.rules [] words
 
-    all : list_all (fits (showing_shape verb).rules) rows ≡ true
-    all = rows_fit (showing_shape verb) words sound (refl, (refl, tt)) passes
+    all : list_all (fits list_shape.rules) rows ≡ true
+    all = rows_fit list_shape words sound (refl, (refl, (refl, tt))) passes
+
+    go : (manifest launch : Bool) → check_kinds false false (not manifest || (not launch || false)) ≡ [] → (manifest ≡ true) × (launch ≡ true)
+    go true true e = (refl, refl)
+    go true false e = cc
+    go false launch e = cc
+
+    given : (is_given (codes "manifest") rows ≡ true) × (is_given (codes "launch") rows ≡ true)
+    given = go (is_given (codes "manifest") rows) (is_given (codes "launch") rows) (checks_pass list_shape words sound (refl, (refl, (refl, tt))) passes)
+
+-- a subcommand with one operand, as it is built below `rim`
+abbrev one_shape : Text → Text → Shape
+one_shape verb id = built_leaf (inherited (with_leaf_noted (marked_built rim.top)) (with_operand verb id).top)
+
+abbrev one_built : Text → Rule
+one_built id = with_index 1 (filled (operand_rule id))
+
+one_entered : (verb id : Text) (words : List Text) → level_fault (one_shape verb id) [] nothing_held words false [] ≡ []
+    → IsOne verb id verb (rows_after (one_shape verb id).rules [] words)
+one_entered verb id words passes = (refl, first_given (one_shape verb id).rules (one_built id) own rows all given)
+  where
+    own : arg_by_id (one_shape verb id).rules id ≡ Some (one_built id)
+    own = ap (λ b. cond b (Some (one_built id)) (arg_by_id (drop 1 (one_shape verb id).rules) id)) ((bytes_eq-Decides id id).1 refl)
+
+    sound : Each (IsSound (one_shape verb id).rules) (one_shape verb id).rules
+    sound = (inl (record { set = refl; least = refl; own = own }), (inr refl, tt))
+
+    rows : List Row
+    rows = rows_after (one_shape verb id).rules [] words
+
+    all : list_all (fits (one_shape verb id).rules) rows ≡ true
+    all = rows_fit (one_shape verb id) words sound (refl, (refl, tt)) passes
 
     go : (b : Bool) → check_kinds false false (not b || false) ≡ [] → b ≡ true
     go true e = refl
     go false e = cc
 
-    given : is_given (codes "file") rows ≡ true
-    given = go (is_given (codes "file") rows) (checks_pass (showing_shape verb) words sound (refl, (refl, tt)) passes)
+    given : is_given id rows ≡ true
+    given = go (is_given id rows) (checks_pass (one_shape verb id) words sound (refl, (refl, tt)) passes)
 
 -- the matches of each subcommand hold what they are to
 abbrev IsGood : Shape → Type 0
@@ -156,7 +188,22 @@ found_good word words (s ∷ subs) p good is passes = go (answers_to word (label
 
 stopped_good : (stop : Option (Text × List Text)) (p : Text × List Row) → entered (built rim) stop ≡ Some p → entered_fault (built rim) stop ≡ [] → IsEntered p.0 p.1
 stopped_good None p is passes = cc
-stopped_good (Some q) p is passes = found_good q.0 q.1 (built rim).subs p (λ words fits. inl (measure_entered words fits), (λ words fits. inr (inl (showing_entered (codes "image") words fits)), (λ words fits. inr (inr (showing_entered (codes "fdt") words fits)), tt))) is passes
+stopped_good (Some q) p is passes = found_good q.0 q.1 (built rim).subs p each is passes
+  where
+    each : Each IsGood (built rim).subs
+    each = (
+      (λ words fits. inl (measure_entered words fits)),
+      (
+        (λ words fits. inr (inl (list_entered words fits))),
+        (
+          (λ words fits. inr (inr (inl (one_entered (codes "audit") (codes "manifest") words fits)))),
+          (
+            (λ words fits. inr (inr (inr (inl (one_entered (codes "image") (codes "file") words fits))))),
+            ((λ words fits. inr (inr (inr (inr (one_entered (codes "fdt") (codes "file") words fits))))), tt),
+          ),
+        ),
+      ),
+    )
 
 -- where `clap` takes the words, the matches of the subcommand hold what they are to
 pub entered_good : (words : List Text) (p : Text × List Row) → fault_of rim words ≡ [] → subcommand_of rim words ≡ Some p → IsEntered p.0 p.1

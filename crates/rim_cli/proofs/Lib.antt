@@ -3,3 +3,5 @@ pub mod Fitting
 pub mod Values
 pub mod Reading
 pub mod Refusing
+pub mod Releases
+pub mod InMemory

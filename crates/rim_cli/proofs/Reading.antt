@@ -1,9 +1,11 @@
--- Reading up to a limit.
-use Rattle.std.proofs.Common.{◌≡◌, ℕ, zero, suc, ◌+◌, ◌<◌, ◌≤◌, List, [], ◌∷◌, ◌++◌, length, slice_get, take, Option, Some, None, option_map, ap, ◌∙◌, subst, sym, arith}
+-- Reading up to a limit, and file by file.
+use Rattle.std.proofs.Common.{◌≡◌, ℕ, zero, suc, ◌+◌, ◌<◌, ◌≤◌, List, [], ◌∷◌, ◌++◌, length, slice_get, take, Option, Some, None, option_map, ap, ◌∙◌, subst, sym, arith, inl, inr}
 use Rattle.std.specs.Prelude.{IfSome}
 use Rattle.std.proofs.lemmas.List.{length-take, take_all}
 use Rattle.std.proofs.lemmas.Option.{same_Some}
-use Rattle.rim_cli.specs.Files.{AreRead}
+use Rattle.rim_cli.specs.Files.{AreRead, IfFile, IsFileFault, IsFirstFault, IsRead, Known, file_limit}
+use Rattle.rim_cli.specs.declared.fault.Fault.{Fault}
+use Rattle.rim_cli.specs.declared.fault.Fault.TheVariants.{Manifest, NoSuchLaunch, Start, Show, FileUnreadable, FileTooLarge, OutputFailed, NoMemory}
 
 -- fewer bytes than the limit allows are all bytes
 pub all_read : (o : Option (List ℕ)) (n : ℕ) (bytes : List ℕ) → IfSome (option_map (take n) o) (λ xs. bytes ≡ [] ++ xs)
@@ -13,19 +15,57 @@ all_read (Some xs) n bytes read few =
     let short : length xs ≤ n = omega (arith, ap length read, length-take n xs) in
     read ∙ take_all n xs short
 
+-- what is known of a path is known of what was read of the reader that was opened there
+pub read_there : (known : Known) (o : Option (List ℕ)) (bytes : List ℕ) → IfFile known (λ held. o ≡ Some held)
+    → length bytes ≤ file_limit → IfSome o (λ held. bytes ≡ held) → IsRead known bytes
+read_there None o bytes opened limit whole = (limit, tt)
+read_there (Some None) o bytes opened limit whole = absurd opened
+read_there (Some (Some held)) o bytes opened limit whole =
+    (limit, ap (λ (xs : List ℕ). Some xs) (sym (subst (λ (q : Option (List ℕ)). IfSome q (λ h. bytes ≡ h)) opened whole)))
+
+-- and of its fault
+too_large : (known : Known) (o : Option (List ℕ)) → IfFile known (λ held. o ≡ Some held) → IsFileFault (option_map Some o) FileTooLarge → IsFileFault known FileTooLarge
+too_large None o opened is = tt
+too_large (Some None) o opened is = absurd opened
+too_large (Some (Some held)) o opened is = subst (λ (q : Option (List ℕ)). IsFileFault (option_map Some q) FileTooLarge) opened is
+
+pub fault_there : (known : Known) (o : Option (List ℕ)) (fault : Fault) → IfFile known (λ held. o ≡ Some held) → IsFileFault (option_map Some o) fault → IsFileFault known fault
+fault_there known o FileUnreadable opened is = tt
+fault_there known o FileTooLarge opened is = too_large known o opened is
+fault_there known o NoMemory opened is = tt
+fault_there known o (Manifest fault) opened is = absurd is
+fault_there known o NoSuchLaunch opened is = absurd is
+fault_there known o (Start fault) opened is = absurd is
+fault_there known o (Show fault) opened is = absurd is
+fault_there known o OutputFailed opened is = absurd is
+
 -- one more file is read, at the next path
-read_after : (held : List ℕ → Option (List ℕ)) (paths : List (List ℕ)) (i : ℕ) (files : List (List ℕ)) (path file : List ℕ)
-    → AreRead held (take i paths) files → slice_get paths i ≡ Some path → IfSome (held path) (λ bytes. file ≡ bytes)
+read_after : (held : List ℕ → Known) (paths : List (List ℕ)) (i : ℕ) (files : List (List ℕ)) (path file : List ℕ)
+    → AreRead held (take i paths) files → slice_get paths i ≡ Some path → IsRead (held path) file
     → AreRead held (take (suc i) paths) (files ++ file ∷ [])
 read_after held [] i files path file before here now = cc
-read_after held (p ∷ ps) zero [] path file before here now = (subst (λ q. IfSome (held q) (λ bytes. file ≡ bytes)) (sym (same_Some _ _ here)) now, tt)
+read_after held (p ∷ ps) zero [] path file before here now = (subst (λ q. IsRead (held q) file) (sym (same_Some _ _ here)) now, tt)
 read_after held (p ∷ ps) zero (f ∷ fs) path file before here now = absurd before
 read_after held (p ∷ ps) (suc i) [] path file before here now = absurd before
 read_after held (p ∷ ps) (suc i) (f ∷ fs) path file before here now = (before.0, read_after held ps i fs path file before.1 here now)
 
-pub read_next : (held : List ℕ → Option (List ℕ)) (paths : List (List ℕ)) (i : ℕ) (files : List (List ℕ)) (path file : List ℕ)
-    → AreRead held (take i paths) files → slice_get paths i ≡ Some path → IfSome (held path) (λ bytes. file ≡ bytes)
+pub read_next : (held : List ℕ → Known) (paths : List (List ℕ)) (i : ℕ) (files : List (List ℕ)) (path file : List ℕ)
+    → AreRead held (take i paths) files → slice_get paths i ≡ Some path → IsRead (held path) file
     → AreRead held (take (i + 1) paths) (files ++ file ∷ [])
 read_next held paths i files path file before here now =
     let next : suc i ≡ i + 1 = omega arith in
     subst (λ n. AreRead held (take n paths) (files ++ file ∷ [])) next (read_after held paths i files path file before here now)
+
+-- what holds of the bytes that were read holds of the file
+pub of_bytes : (known : Known) (bytes : List ℕ) (Q : List ℕ → Type 0) → IsRead known bytes → Q bytes → IfFile known Q
+of_bytes None bytes Q read q = tt
+of_bytes (Some None) bytes Q read q = let none = read.1 in cc
+of_bytes (Some (Some held)) bytes Q read q = subst Q (sym (same_Some _ _ read.1)) q
+
+-- a fault of the file after those that were read is that of the first file that cannot be read
+pub first_fault : (held : List ℕ → Known) (paths : List (List ℕ)) (i : ℕ) (files : List (List ℕ)) (path : List ℕ) (fault : Fault)
+    → AreRead held (take i paths) files → slice_get paths i ≡ Some path → IsFileFault (held path) fault → IsFirstFault held paths fault
+first_fault held [] i files path fault before here is = cc
+first_fault held (p ∷ ps) zero files path fault before here is = inl (subst (λ q. IsFileFault (held q) fault) (sym (same_Some _ _ here)) is)
+first_fault held (p ∷ ps) (suc i) [] path fault before here is = absurd before
+first_fault held (p ∷ ps) (suc i) (f ∷ fs) path fault before here is = inr (of_bytes (held p) f (λ bytes. length bytes ≤ file_limit) before.0 before.0.0, first_fault held ps i fs path fault before.1 here is)

@@ -12,7 +12,7 @@ use Rattle.clap.specs.declared.error.kind.ErrorKind.TheVariants as kind
 use Rattle.rim_cli.specs.declared.words.CommandFault.{CommandFault}
 use Rattle.rim_cli.specs.declared.words.CommandFault.TheVariants.{Usage, NoMemory}
 use Rattle.rim_cli.specs.declared.words.Request.{Request}
-use Rattle.rim_cli.specs.declared.words.Request.TheVariants.{Measure, Image, Fdt}
+use Rattle.rim_cli.specs.declared.words.Request.TheVariants.{Measure, List as Lists, Audit, Image, Fdt}
 
 -- an operand that has to be given, with a name that usage texts show
 abbrev pub operand_rule : Text → Rule
@@ -30,14 +30,27 @@ workers_rule = record (new_rule (codes "workers")) {
 abbrev pub measure : App
 measure = with_rule (with_rule (new_app (codes "measure")) (operand_rule (codes "manifest"))) workers_rule
 
--- a subcommand that shows the file at a path: `image FILE`, `fdt FILE`
-abbrev pub showing : Text → App
-showing name = with_rule (new_app name) (operand_rule (codes "file"))
+-- a subcommand with one operand: `audit MANIFEST`, `image FILE`, `fdt FILE`
+abbrev pub with_operand : Text → Text → App
+with_operand name id = with_rule (new_app name) (operand_rule id)
+
+abbrev pub audit : App
+audit = with_operand (codes "audit") (codes "manifest")
+
+abbrev pub image : App
+image = with_operand (codes "image") (codes "file")
+
+abbrev pub fdt : App
+fdt = with_operand (codes "fdt") (codes "file")
+
+-- `list MANIFEST LAUNCH`
+abbrev pub list : App
+list = with_rule (with_operand (codes "list") (codes "manifest")) (operand_rule (codes "launch"))
 
 -- the program: one of its subcommands has to be given, and it has a version
 abbrev pub rim : App
 rim = on_top (λ s. record s { has_version = true; subcommand_required = true; disable_help_subcommand = true })
-    (with_subcommand (with_subcommand (with_subcommand (new_app (codes "rim")) measure.top) (showing (codes "image")).top) (showing (codes "fdt")).top)
+    (with_subcommand (with_subcommand (with_subcommand (with_subcommand (with_subcommand (new_app (codes "rim")) measure.top) list.top) audit.top) image.top) fdt.top)
 
 -- the number of workers, 4 where none is given: in words that `clap` takes it is from 1 to 64
 abbrev pub CountsWorkers : Option Text → ℕ → Type 0
@@ -48,6 +61,9 @@ CountsWorkers (Some text) n = (n ≡ digits_value 10 (without_leading_plus text)
 abbrev pub ReadsRow : Text → List Row → Request → Type 0
 ReadsRow name rows (Measure manifest workers) = (name ≡ codes "measure")
     × (first_of (codes "manifest") rows ≡ Some manifest.now) × CountsWorkers (first_of (codes "workers") rows) workers
+ReadsRow name rows (Lists manifest launch) = (name ≡ codes "list")
+    × (first_of (codes "manifest") rows ≡ Some manifest.now) × (first_of (codes "launch") rows ≡ Some launch.now)
+ReadsRow name rows (Audit manifest) = (name ≡ codes "audit") × (first_of (codes "manifest") rows ≡ Some manifest.now)
 ReadsRow name rows (Image file) = (name ≡ codes "image") × (first_of (codes "file") rows ≡ Some file.now)
 ReadsRow name rows (Fdt file) = (name ≡ codes "fdt") × (first_of (codes "file") rows ≡ Some file.now)
 
@@ -55,18 +71,27 @@ abbrev pub ReadsRequest : Option (Text × List Row) → Request → Type 0
 ReadsRequest None request = ⊥
 ReadsRequest (Some p) request = ReadsRow p.0 p.1 request
 
+-- an operand of this name has a text
+abbrev pub HasOperand : Text → List Row → Type 0
+HasOperand id rows = is_some (first_of id rows) ≡ true
+
 -- what holds of the matches of `measure` where `clap` takes the words
 abbrev pub IsMeasure : Text → List Row → Type 0
-IsMeasure name rows = (name ≡ codes "measure") × (is_some (first_of (codes "manifest") rows) ≡ true)
+IsMeasure name rows = (name ≡ codes "measure") × HasOperand (codes "manifest") rows
     × IfSome (first_of (codes "workers") rows) (λ text. IsSignedIn (pos 1) (pos 64) text)
 
--- the same of a subcommand that shows a file
-abbrev pub IsShowing : Text → Text → List Row → Type 0
-IsShowing verb name rows = (name ≡ verb) × (is_some (first_of (codes "file") rows) ≡ true)
+-- the same of `list`
+abbrev pub IsList : Text → List Row → Type 0
+IsList name rows = (name ≡ codes "list") × HasOperand (codes "manifest") rows × HasOperand (codes "launch") rows
+
+-- the same of a subcommand with one operand
+abbrev pub IsOne : Text → Text → Text → List Row → Type 0
+IsOne verb id name rows = (name ≡ verb) × HasOperand id rows
 
 -- and of those of some subcommand: a further one is a further case
 abbrev pub IsEntered : Text → List Row → Type 0
-IsEntered name rows = IsMeasure name rows ⊎ (IsShowing (codes "image") name rows ⊎ IsShowing (codes "fdt") name rows)
+IsEntered name rows = IsMeasure name rows ⊎ (IsList name rows ⊎ (IsOne (codes "audit") (codes "manifest") name rows
+    ⊎ (IsOne (codes "image") (codes "file") name rows ⊎ IsOne (codes "fdt") (codes "file") name rows)))
 
 -- help and the version are asked for; each other kind of error is a mistake in the words
 abbrev pub is_asked : ErrorKind → Bool

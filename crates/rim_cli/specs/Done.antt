@@ -1,73 +1,144 @@
 -- What a run of the program has written when it is done, and why it is refused. This project's choice.
-use Rattle.std.specs.Prelude.{◌≡◌, ◌⊎◌, ℕ, List, Option, None, IfSome, IsOkAnd, Ok, Err, if◌then◌else◌}
+use Rattle.std.specs.Prelude.{◌≡◌, ◌⊎◌, ℕ, List, Option, Some, None, IsOkAnd, Ok, Err, is_err, is_some, true, option_and_then, position, slice_get, if◌then◌else◌}
 use Rattle.std.specs.Io.KnownBytes.{Appends}
 use Rattle.clap.specs.Words.{Text, subcommand_of}
-use Rattle.rim_manifest.specs.Manifest.{manifest_of}
+use Rattle.rim_manifest.specs.Manifest.{manifest_of, name_in}
+use Rattle.rim_manifest.specs.Launches.{NamedData, ReleaseData}
 use Rattle.rim_manifest.specs.declared.fault.ManifestFault.TheVariants as manifest
+use Rattle.rim_release.specs.Listing.{listing_of, shown_of}
 use Rattle.rim_release.specs.ShownDevicetree.{IsDevicetreeFault, ShowsDevicetree}
-use Rattle.rim_release.specs.Report.{has_refused, measured_of}
+use Rattle.rim_release.specs.Report.{audit_text_of, has_refused, measured_of}
 use Rattle.rim_release.specs.ShownImage.{image_answer_of}
 use Rattle.rim_release.specs.declared.show.fault.ShowFault.TheVariants as show
-use Rattle.rim_manifest.specs.Launches.{ReleaseData}
 use Rattle.rim_release.specs.declared.fault.StartFault.{StartFault}
 use Rattle.rim_release.specs.declared.fault.StartFault.TheVariants as start
 use Rattle.rim_cli.specs.declared.words.Request.{Request}
-use Rattle.rim_cli.specs.declared.words.Request.TheVariants.{Measure, Image, Fdt}
+use Rattle.rim_cli.specs.declared.words.Request.TheVariants.{Measure, List as Lists, Audit, Image, Fdt}
 use Rattle.rim_cli.specs.declared.fault.Fault.{Fault}
-use Rattle.rim_cli.specs.declared.fault.Fault.TheVariants.{Manifest, Start, Show}
+use Rattle.rim_cli.specs.declared.fault.Fault.TheVariants.{Manifest, NoSuchLaunch, Start, Show}
 use Rattle.rim_cli.specs.Command.{ReadsRequest, rim}
-use Rattle.rim_cli.specs.Files.{AreRead, IsFileFault}
+use Rattle.rim_cli.specs.Files.{AreRead, IfFile, IsFileFault, IsFirstFault, Known}
+use Rattle.rim_cli.specs.Status.{status_of}
 
 -- the path of the file that a request is about
 abbrev pub path_of : Request → List ℕ
 path_of (Measure path workers) = path.now
+path_of (Lists path launch) = path.now
+path_of (Audit path) = path.now
 path_of (Image file) = file.now
 path_of (Fdt file) = file.now
 
+-- ---- what is answered
+
 -- the report of a release, where the files that it names are read, and the status that it ends with: 1 where some launch in it is refused
-pub record IsReport (held : List ℕ → Option (List ℕ)) (r : ReleaseData) (shown : List ℕ) (answer : ℕ) : Type 0 where
+pub record IsReport (held : List ℕ → Known) (r : ReleaseData) (shown : List ℕ) (answer : ℕ) : Type 0 where
   pub files : List (List ℕ)
   pub read : AreRead held r.paths files
   pub text : measured_of files r.launches ≡ Ok shown
   pub status : answer ≡ (if has_refused files r.launches then 1 else 0)
 
+-- the audit of a release, in the same way
+pub record IsAudit (held : List ℕ → Known) (r : ReleaseData) (shown : List ℕ) (answer : ℕ) : Type 0 where
+  pub files : List (List ℕ)
+  pub read : AreRead held r.paths files
+  pub text : shown ≡ audit_text_of files r.launches
+  pub status : answer ≡ (if has_refused files r.launches then 1 else 0)
+
+-- the launch of a name
+abbrev pub launch_in : ReleaseData → List ℕ → Option NamedData
+launch_in r name = option_and_then (slice_get r.launches) (position (name_in name) r.launches)
+
+-- the listing of the launch of a name, or its line where it is refused, and then 1 is the status
+pub record IsListing (held : List ℕ → Known) (r : ReleaseData) (name shown : List ℕ) (answer : ℕ) : Type 0 where
+  pub files : List (List ℕ)
+  pub read : AreRead held r.paths files
+  pub launch : NamedData
+  pub named : launch_in r name ≡ Some launch
+  pub text : shown ≡ shown_of files launch
+  pub status : answer ≡ (if is_err (listing_of launch.launch files) then 1 else 0)
+
 -- the text that a request asks for and its status, where its file has these bytes
-abbrev pub IsAnswer : (List ℕ → Option (List ℕ)) → Request → List ℕ → List ℕ → ℕ → Type 0
+abbrev pub IsAnswer : (List ℕ → Known) → Request → List ℕ → List ℕ → ℕ → Type 0
 IsAnswer held (Measure path workers) bytes text status = IsOkAnd (manifest_of bytes) (λ r. IsReport held r text status)
+IsAnswer held (Lists path launch) bytes text status = IsOkAnd (manifest_of bytes) (λ r. IsListing held r launch.now text status)
+IsAnswer held (Audit path) bytes text status = IsOkAnd (manifest_of bytes) (λ r. IsAudit held r text status)
 IsAnswer held (Image file) bytes text status = (image_answer_of bytes ≡ Ok text) × (status ≡ 0)
 IsAnswer held (Fdt file) bytes text status = ShowsDevicetree bytes text × (status ≡ 0)
 
+-- ---- why a request is refused
+
 -- a release, where the files that it names are read, is refused for this
-pub record IsNotStarted (held : List ℕ → Option (List ℕ)) (r : ReleaseData) (fault : StartFault) : Type 0 where
+pub record IsNotStarted (held : List ℕ → Known) (r : ReleaseData) (fault : StartFault) : Type 0 where
   pub files : List (List ℕ)
   pub read : AreRead held r.paths files
   pub refused : measured_of files r.launches ≡ Err fault
 
--- why the report of a manifest, an Image or a devicetree is refused, where of its file's bytes this is known
-abbrev pub RefusesManifest : (List ℕ → Option (List ℕ)) → List ℕ → Fault → Type 0
-RefusesManifest held path (Manifest fault) = (fault ≡ manifest.NoMemory) ⊎ IfSome (held path) (λ bytes. manifest_of bytes ≡ Err fault)
-RefusesManifest held path (Start fault) = (fault ≡ start.NoMemory) ⊎ IfSome (held path) (λ bytes. IsOkAnd (manifest_of bytes) (λ r. IsNotStarted held r fault))
--- of the manifest or of a file that it names
-RefusesManifest held path fault = IsFileFault None fault
+-- a fault of the report of a release
+abbrev pub IsStartFault : (List ℕ → Known) → ReleaseData → Fault → Type 0
+IsStartFault held r (Start fault) = (fault ≡ start.NoMemory) ⊎ IsNotStarted held r fault
+IsStartFault held r _ = ⊥
 
-abbrev pub RefusesImage : Option (List ℕ) → Fault → Type 0
-RefusesImage held (Show fault) = (fault ≡ show.NoMemory) ⊎ IfSome held (λ bytes. image_answer_of bytes ≡ Err fault)
-RefusesImage held fault = IsFileFault held fault
+-- why the release that a manifest describes is not measured, listed or audited: the files that it names come first,
+-- but a name that no launch has before them
+abbrev pub RefusesReport : (List ℕ → Known) → ReleaseData → Fault → Type 0
+RefusesReport held r fault = IsFirstFault held r.paths fault ⊎ IsStartFault held r fault
 
-abbrev pub RefusesFdt : Option (List ℕ) → Fault → Type 0
-RefusesFdt held (Show fault) = IfSome held (λ bytes. IsDevicetreeFault bytes fault)
-RefusesFdt held fault = IsFileFault held fault
+abbrev pub RefusesListing : (List ℕ → Known) → List ℕ → ReleaseData → Fault → Type 0
+RefusesListing held name r fault = ((fault ≡ NoSuchLaunch) × (launch_in r name ≡ None))
+    ⊎ ((is_some (launch_in r name) ≡ true) × IsFirstFault held r.paths fault)
 
-abbrev pub Refuses : (List ℕ → Option (List ℕ)) → Request → Fault → Type 0
-Refuses held (Measure path workers) fault = RefusesManifest held path.now fault
+abbrev pub RefusesAudit : (List ℕ → Known) → ReleaseData → Fault → Type 0
+RefusesAudit held r fault = IsFirstFault held r.paths fault
+
+-- a fault of a manifest, where of its file this is known
+abbrev pub IsManifestFault : Known → Fault → Type 0
+IsManifestFault known (Manifest fault) = (fault ≡ manifest.NoMemory) ⊎ IfFile known (λ bytes. manifest_of bytes ≡ Err fault)
+IsManifestFault known fault = IsFileFault known fault
+
+-- a request is refused for its manifest, or else for the release that this describes
+abbrev pub RefusesManifest : (ReleaseData → Fault → Type 0) → Known → Fault → Type 0
+RefusesManifest Refuses known fault = IsManifestFault known fault ⊎ IfFile known (λ bytes. IsOkAnd (manifest_of bytes) (λ r. Refuses r fault))
+
+abbrev pub RefusesImage : Known → Fault → Type 0
+RefusesImage known (Show fault) = (fault ≡ show.NoMemory) ⊎ IfFile known (λ bytes. image_answer_of bytes ≡ Err fault)
+RefusesImage known fault = IsFileFault known fault
+
+abbrev pub RefusesFdt : Known → Fault → Type 0
+RefusesFdt known (Show fault) = IfFile known (λ bytes. IsDevicetreeFault bytes fault)
+RefusesFdt known fault = IsFileFault known fault
+
+-- a request is refused with a fault that holds
+abbrev pub Refuses : (List ℕ → Known) → Request → Fault → Type 0
+Refuses held (Measure path workers) fault = RefusesManifest (RefusesReport held) (held path.now) fault
+Refuses held (Lists path launch) fault = RefusesManifest (RefusesListing held launch.now) (held path.now) fault
+Refuses held (Audit path) fault = RefusesManifest (RefusesAudit held) (held path.now) fault
 Refuses held (Image file) fault = RefusesImage (held file.now) fault
 Refuses held (Fdt file) fault = RefusesFdt (held file.now) fault
 
--- what the words ask for is done: its text, by the bytes of its file where these are known, was added
--- to what the output held, and the status is its own
-pub record IsDone (words : List Text) (held : List ℕ → Option (List ℕ)) (before after : Option (List ℕ)) (status : ℕ) : Type 0 where
+-- ---- how a run ends
+
+-- what the words ask for was made: its text and its status, by what is known of its file
+pub record IsMade (words : List Text) (held : List ℕ → Known) (text : List ℕ) (status : ℕ) : Type 0 where
   pub request : Request
-  pub text : List ℕ
   pub asked : ReadsRequest (subcommand_of rim words) request
-  pub answer : IfSome (held (path_of request)) (λ bytes. IsAnswer held request bytes text status)
+  pub answer : IfFile (held (path_of request)) (λ bytes. IsAnswer held request bytes text status)
+
+-- what the words ask for is done: its text was added to what the output held, and the status is its own
+pub record IsDone (words : List Text) (held : List ℕ → Known) (before after : Option (List ℕ)) (status : ℕ) : Type 0 where
+  pub text : List ℕ
+  pub made : IsMade words held text status
   pub written : Appends before after text
+
+-- what the words ask for is refused with a fault that holds, and the status is that fault's
+pub record IsRefused (words : List Text) (held : List ℕ → Known) (answer : ℕ) : Type 0 where
+  pub request : Request
+  pub fault : Fault
+  pub asked : ReadsRequest (subcommand_of rim words) request
+  pub refused : Refuses held request fault
+  pub status : answer ≡ status_of fault
+
+-- what the words ask for was made, with the status 0 or 1, but could not be written
+pub record IsUnwritten (words : List Text) (held : List ℕ → Known) : Type 0 where
+  pub text : List ℕ
+  pub status : ℕ
+  pub made : IsMade words held text status

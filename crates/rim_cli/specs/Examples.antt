@@ -1,6 +1,7 @@
 -- Examples of command lines, read by the definition of `clap`.
-use Rattle.std.specs.Prelude.{◌≡◌, ℕ, true, false, List, [], ◌∷◌, Option, Some, None, codes, option_map}
+use Rattle.std.specs.Prelude.{◌≡◌, ℕ, true, false, List, [], ◌∷◌, Option, Some, None, codes, length, map, option_map}
 use Rattle.clap.specs.Words.{Text, first_of, subcommand_of, takes}
+use Rattle.rim_manifest.specs.Launches.{ReleaseData}
 use Rattle.rim_cli.specs.Command.{AsksForHelp, CountsWorkers, IsMistaken, rim}
 
 abbrev pub plain : List Text
@@ -15,23 +16,47 @@ an_image = codes "rim" ∷ codes "image" ∷ codes "Image" ∷ []
 abbrev pub a_devicetree : List Text
 a_devicetree = codes "rim" ∷ codes "fdt" ∷ codes "virt.dtb" ∷ []
 
+abbrev pub a_listing : List Text
+a_listing = codes "rim" ∷ codes "list" ∷ codes "manifest.toml" ∷ codes "small" ∷ []
+
+abbrev pub an_audit : List Text
+an_audit = codes "rim" ∷ codes "audit" ∷ codes "manifest.toml" ∷ []
+
+-- a listing of no launch
+abbrev pub too_few : List Text
+too_few = codes "rim" ∷ codes "list" ∷ codes "manifest.toml" ∷ []
+
 abbrev pub too_many : List Text
 too_many = codes "rim" ∷ codes "measure" ∷ codes "manifest.toml" ∷ codes "--workers" ∷ codes "65" ∷ []
 
 abbrev pub TakesExamples : Type 0
-TakesExamples = (takes rim plain ≡ true) × (takes rim with_seven ≡ true) × (takes rim an_image ≡ true) × (takes rim a_devicetree ≡ true) × (takes rim too_many ≡ false)
+TakesExamples = (takes rim plain ≡ true) × (takes rim with_seven ≡ true) × (takes rim a_listing ≡ true) × (takes rim an_audit ≡ true)
+    × (takes rim an_image ≡ true) × (takes rim a_devicetree ≡ true) × (takes rim too_many ≡ false) × (takes rim too_few ≡ false)
     × (takes rim (codes "rim" ∷ codes "help" ∷ []) ≡ false) × (takes rim (codes "rim" ∷ []) ≡ false)
 
 -- the texts of the manifest and of the workers that the words hold
 abbrev pub read_in : List Text → Option (Option Text × Option Text)
 read_in words = option_map (λ p. (first_of (codes "manifest") p.1, first_of (codes "workers") p.1)) (subcommand_of rim words)
 
+-- the texts of the manifest and of the launch that the words hold
+abbrev pub launch_in : List Text → Option (Option Text × Option Text)
+launch_in words = option_map (λ p. (first_of (codes "manifest") p.1, first_of (codes "launch") p.1)) (subcommand_of rim words)
+
 abbrev pub ReadsExamples : Type 0
 ReadsExamples = (read_in plain ≡ Some (Some (codes "manifest.toml"), None))
     × (read_in with_seven ≡ Some (Some (codes "manifest.toml"), Some (codes "7")))
+    × (launch_in a_listing ≡ Some (Some (codes "manifest.toml"), Some (codes "small")))
     × ((n : ℕ) → CountsWorkers None n → n ≡ 4) × ((n : ℕ) → CountsWorkers (Some (codes "7")) n → n ≡ 7)
 
--- help and the version are asked for, and not a mistake; too many workers, another subcommand and none are
+-- help and the version are asked for, and not a mistake; too many workers, a listing of no launch, another subcommand and none are
 abbrev pub RefusesExamples : Type 0
 RefusesExamples = AsksForHelp (codes "rim" ∷ codes "--help" ∷ []) × AsksForHelp (codes "rim" ∷ codes "measure" ∷ codes "--help" ∷ [])
-    × AsksForHelp (codes "rim" ∷ codes "--version" ∷ []) × IsMistaken too_many × IsMistaken (codes "rim" ∷ codes "list" ∷ []) × IsMistaken (codes "rim" ∷ [])
+    × AsksForHelp (codes "rim" ∷ codes "--version" ∷ []) × IsMistaken too_many × IsMistaken too_few × IsMistaken (codes "rim" ∷ codes "print" ∷ []) × IsMistaken (codes "rim" ∷ [])
+
+-- the smallest manifest: a launch without memory and files
+abbrev pub smallest : List ℕ
+smallest = codes "rim_manifest = 1\n[[launch]]\nname = \"small\"\nalgo = \"sha256\"\ns2sz = 33\n"
+
+abbrev pub IsSmallest : ReleaseData → Type 0
+IsSmallest r = (r.paths ≡ []) × (map (λ l. l.name) r.launches ≡ codes "small" ∷ [])
+    × (map (λ l. l.launch.config.s2sz) r.launches ≡ 33 ∷ []) × (map (λ l. length l.launch.ram) r.launches ≡ 0 ∷ [])

@@ -1,5 +1,5 @@
 -- Files as the program reads them. This project's choice.
-use Rattle.std.specs.Prelude.{◌≡◌, ◌<◌, ℕ, List, [], ◌∷◌, Option, IfSome, length}
+use Rattle.std.specs.Prelude.{◌≡◌, ◌⊎◌, ◌<◌, ◌≤◌, ℕ, List, [], ◌∷◌, Option, Some, IfSome, IsSomeAnd, length}
 use Rattle.rim_cli.specs.declared.fault.Fault.{Fault}
 use Rattle.rim_cli.specs.declared.fault.Fault.TheVariants.{FileUnreadable, FileTooLarge, NoMemory}
 
@@ -7,15 +7,33 @@ use Rattle.rim_cli.specs.declared.fault.Fault.TheVariants.{FileUnreadable, FileT
 abbrev pub file_limit : ℕ
 file_limit = 268435456
 
--- a fault of reading a file, of whose bytes this is known
-abbrev pub IsFileFault : Option (List ℕ) → Fault → Type 0
-IsFileFault held FileUnreadable = Unit {0}
-IsFileFault held FileTooLarge = IfSome held (λ bytes. file_limit < length bytes)
-IsFileFault held NoMemory = Unit {0}
-IsFileFault held _ = ⊥
+-- what is known of a path: nothing; that no file can be opened there, `Some None`; or the bytes of the file there
+abbrev pub Known : Type 0
+Known = Option (Option (List ℕ))
 
--- the bytes that were read of the files at these paths, one by one: those of each file, where they are known
-abbrev pub AreRead : (List ℕ → Option (List ℕ)) → List (List ℕ) → List (List ℕ) → Type 0
+-- the file at a path, where something is known of it, has bytes of which this holds
+abbrev pub IfFile : Known → (List ℕ → Type 0) → Type 0
+IfFile known P = IfSome known (λ file. IsSomeAnd file P)
+
+-- a fault of reading a file of which this is known
+abbrev pub IsFileFault : Known → Fault → Type 0
+IsFileFault known FileUnreadable = Unit {0}
+IsFileFault known FileTooLarge = IfFile known (λ bytes. file_limit < length bytes)
+IsFileFault known NoMemory = Unit {0}
+IsFileFault known _ = ⊥
+
+-- these are all bytes of a file of which this is known
+abbrev pub IsRead : Known → List ℕ → Type 0
+IsRead known bytes = (length bytes ≤ file_limit) × IfSome known (λ file. file ≡ Some bytes)
+
+-- the bytes that were read of the files at these paths, one by one
+abbrev pub AreRead : (List ℕ → Known) → List (List ℕ) → List (List ℕ) → Type 0
 AreRead held [] [] = Unit {0}
-AreRead held (path ∷ paths) (file ∷ files) = IfSome (held path) (λ bytes. file ≡ bytes) × AreRead held paths files
+AreRead held (path ∷ paths) (file ∷ files) = IsRead (held path) file × AreRead held paths files
 AreRead held _ _ = ⊥
+
+-- a fault of the first of the files at these paths that cannot be read: those before it can be
+abbrev pub IsFirstFault : (List ℕ → Known) → List (List ℕ) → Fault → Type 0
+IsFirstFault held [] fault = ⊥
+IsFirstFault held (path ∷ paths) fault = IsFileFault (held path) fault
+    ⊎ (IfFile (held path) (λ bytes. length bytes ≤ file_limit) × IsFirstFault held paths fault)

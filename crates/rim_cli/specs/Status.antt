@@ -3,7 +3,7 @@ use Rattle.std.specs.Prelude.{ℕ, List, codes}
 use Rattle.std.specs.declared.io.ErrorKind.{ErrorKind}
 use Rattle.std.specs.declared.io.ErrorKind.TheVariants as error
 use Rattle.rim_cli.specs.declared.fault.Fault.{Fault}
-use Rattle.rim_cli.specs.declared.fault.Fault.TheVariants.{Manifest, Start, Show, FileUnreadable, FileTooLarge, OutputFailed, NoMemory}
+use Rattle.rim_cli.specs.declared.fault.Fault.TheVariants.{Manifest, NoSuchLaunch, Start, Show, FileUnreadable, FileTooLarge, OutputFailed, NoMemory}
 use Rattle.rim_manifest.specs.Faults.{kind_of}
 use Rattle.rim_manifest.specs.declared.fault.ManifestFault.TheVariants as manifest
 use Rattle.rim_release.specs.Faults.{start_kind_of}
@@ -24,6 +24,7 @@ abbrev pub word_of : Fault → List ℕ
 word_of (Manifest fault) = kind_of fault
 word_of (Start fault) = start_kind_of fault
 word_of (Show fault) = show_kind_of fault
+word_of NoSuchLaunch = codes "no-such-launch"
 word_of FileUnreadable = codes "file-unreadable"
 word_of FileTooLarge = codes "file-too-large"
 word_of OutputFailed = codes "output-failed"

@@ -2,12 +2,14 @@
 ghost use Rattle.std.specs.Prelude.{◌≡◌, IfOk, codes, true, false};
 ghost use Rattle.clap.specs.Words.{app_of, rule_of, with_subcommand};
 ghost use Rattle.clap.specs.declared.builder.command.Command.TheViews.{out-Command};
-ghost use Rattle.rim_cli.specs.Command.{measure, operand_rule, rim, showing, workers_rule};
+ghost use Rattle.rim_cli.specs.Command.{audit, fdt, image, list, measure, operand_rule, rim, with_operand, workers_rule};
 
 use clap::{Arg, Command};
 use std::alloc::{AllocError, Global};
 
 const VERSION: &str = "0.1.0";
+
+const MANIFEST: &str = "The manifest, a TOML file";
 
 const GUIDE: &str = "\
 A manifest is a TOML file that describes launches of realms. The smallest one:
@@ -25,13 +27,19 @@ processors (`rec`). docs/FORMATS.md lists all keys.
 `NAME ALGORITHM MEASUREMENT` or `NAME refused KIND` for each launch, and the line
 `pages N`, the number of different pages that were hashed.
 
+`rim list MANIFEST LAUNCH` prints the listing of a launch: the line `rim-list 1 aux N`,
+a line for each command that a monitor takes to build the realm, and the line
+`rim ALGORITHM MEASUREMENT`; or the line `NAME refused KIND`. `rim audit MANIFEST` gives
+a monitor the commands of each launch, and prints the line `rim-audit 1` and a line for
+each launch, as the report has it.
+
 A fault is one line on standard error, `rim: ` and its name.
 
 Exit status:
   0  done
-  1  done, and some launch is refused
+  1  done, and the launch or one of the launches is refused
   2  the command line is wrong
-  3  the manifest, a file or the output is at fault
+  3  the manifest, a file or the output is at fault, or no launch has the name
   4  out of memory";
 
 /// The program's command line.
@@ -44,22 +52,42 @@ pub fn rim_command<'a>(alloc: Global) -> Result<Command<'a>, AllocError>
         .version(VERSION)
         .about("Computes Realm Initial Measurements of Arm CCA realms")
         .after_help(GUIDE);
-    let rim = with_subcommand(rim, measure_command(alloc)?)?;
+    let rim = with_release_commands(alloc, rim)?;
+    let rim = with_showing_commands(alloc, rim)?;
+    Ok(rim.subcommand_required(true).disable_help_subcommand(true))
+}
+
+/// A command with the subcommands that are about a manifest.
+fn with_release_commands<'a>(alloc: Global, command: Command<'a>) -> Result<Command<'a>, AllocError>
+    requires { (out-Command command).has_globals ≡ false }
+    ensures shape { IfOk result (λ c. app_of c ≡ with_subcommand (with_subcommand (with_subcommand (app_of command.entry) measure.top) list.top) audit.top) }
+    ensures globals { IfOk result (λ c. (out-Command c).has_globals ≡ false) }
+{
+    let command = with_subcommand(command, measure_command(alloc)?)?;
+    let command = with_subcommand(command, list_command(alloc)?)?;
+    with_subcommand(command, audit_command(alloc)?)
+}
+
+/// A command with the subcommands that show a file.
+fn with_showing_commands<'a>(alloc: Global, command: Command<'a>) -> Result<Command<'a>, AllocError>
+    requires { (out-Command command).has_globals ≡ false }
+    ensures shape { IfOk result (λ c. app_of c ≡ with_subcommand (with_subcommand (app_of command.entry) image.top) fdt.top) }
+    ensures globals { IfOk result (λ c. (out-Command c).has_globals ≡ false) }
+{
     let image = showing_command(
         alloc,
         "image",
         "Prints the header of an arm64 kernel Image",
         "The Image, as a kernel's build writes it",
     )?;
-    let rim = with_subcommand(rim, image)?;
     let fdt = showing_command(
         alloc,
         "fdt",
         "Prints a flattened devicetree, node by node",
         "The devicetree, as dtc or QEMU writes it",
     )?;
-    let rim = with_subcommand(rim, fdt)?;
-    Ok(rim.subcommand_required(true).disable_help_subcommand(true))
+    let command = with_subcommand(command, image)?;
+    with_subcommand(command, fdt)
 }
 
 /// A command with one more subcommand. Neither passes an argument on to all of its subcommands.
@@ -80,13 +108,35 @@ fn measure_command<'a>(alloc: Global) -> Result<Command<'a>, AllocError>
     ensures globals { IfOk result (λ c. (out-Command c).has_globals ≡ false) }
 {
     let measure = Command::new(alloc, "measure")
-        .arg(operand_arg(alloc, "manifest", "MANIFEST", "The manifest, a TOML file"))?
+        .arg(operand_arg(alloc, "manifest", "MANIFEST", MANIFEST))?
         .arg(workers_arg(alloc))?;
     Ok(
         measure
             .about("Prints the measurement of each launch of a manifest")
             .after_help("`rim --help` says what a manifest is, and lists the exit statuses."),
     )
+}
+
+fn list_command<'a>(alloc: Global) -> Result<Command<'a>, AllocError>
+    ensures shape { IfOk result (λ c. app_of c ≡ list) }
+    ensures globals { IfOk result (λ c. (out-Command c).has_globals ≡ false) }
+{
+    let list = Command::new(alloc, "list")
+        .arg(operand_arg(alloc, "manifest", "MANIFEST", MANIFEST))?
+        .arg(operand_arg(alloc, "launch", "LAUNCH", "The launch, by its name"))?;
+    Ok(list.about("Prints the monitor's commands that build the realm of a launch"))
+}
+
+fn audit_command<'a>(alloc: Global) -> Result<Command<'a>, AllocError>
+    ensures shape { IfOk result (λ c. app_of c ≡ audit) }
+    ensures globals { IfOk result (λ c. (out-Command c).has_globals ≡ false) }
+{
+    let audit = Command::new(alloc, "audit").arg(operand_arg(
+        alloc, "manifest", "MANIFEST", MANIFEST,
+    ))?;
+    Ok(audit.about(
+        "Prints the measurement of each launch, as a monitor that takes its commands holds it",
+    ))
 }
 
 /// A subcommand that shows the file at a path.
@@ -96,7 +146,7 @@ fn showing_command<'a>(
     about: &'a str,
     file: &'a str,
 ) -> Result<Command<'a>, AllocError>
-    ensures shape { IfOk result (λ c. app_of c ≡ showing name.entry.now) }
+    ensures shape { IfOk result (λ c. app_of c ≡ with_operand name.entry.now (codes "file")) }
     ensures globals { IfOk result (λ c. (out-Command c).has_globals ≡ false) }
 {
     let command = Command::new(alloc, name).arg(operand_arg(alloc, "file", "FILE", file))?;

@@ -8,6 +8,8 @@ use rim_release::{ManifestFault, ShowFault, StartFault};
 #[derive(Clone, Copy, Debug, PartialEq, Eq)]
 pub enum Fault {
     Manifest(ManifestFault),
+    /// No launch of the manifest has the name.
+    NoSuchLaunch,
     Start(StartFault),
     Show(ShowFault),
     /// A file cannot be opened or read.
@@ -28,6 +30,7 @@ impl Fault {
             Fault::Manifest(fault) => fault.kind(),
             Fault::Start(fault) => fault.kind(),
             Fault::Show(fault) => fault.kind(),
+            Fault::NoSuchLaunch => "no-such-launch",
             Fault::FileUnreadable => "file-unreadable",
             Fault::FileTooLarge => "file-too-large",
             Fault::OutputFailed => "output-failed",

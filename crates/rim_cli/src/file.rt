@@ -1,6 +1,6 @@
 //! Files, opened by their paths and read whole.
-ghost use Rattle.std.specs.Prelude.{◌≡◌, ◌≤◌, ℕ, IfErr, IfOk, IfSome, List, None, Option, Some, length, map, vec_len};
-ghost use Rattle.rim_cli.specs.Files.{AreRead, IsFileFault, file_limit};
+ghost use Rattle.std.specs.Prelude.{◌≡◌, ◌≤◌, ℕ, IfErr, IfOk, IfSome, List, None, Some, length, map, option_map, vec_len};
+ghost use Rattle.rim_cli.specs.Files.{AreRead, IfFile, IsFileFault, IsFirstFault, IsRead, Known, file_limit};
 
 use crate::fault::Fault;
 use crate::patient::Patient;
@@ -13,14 +13,14 @@ pub const FILE_LIMIT: u64 = 268_435_456;
 
 /// What opens files by their paths.
 pub trait Opener {
-    // The bytes of the file at a path, where they are known.
-    ghost held: { Self → List ℕ → Option (List ℕ) } = { λ _ _. None };
+    // What is known of a path: that no file can be opened there, or the bytes of the file there.
+    ghost held: { Self → List ℕ → Known } = { λ _ _. None };
 
     type Reader: Read + Drop;
 
     /// Opens a file for reading, or answers `None`.
     fn open(&mut self, path: &str) -> Option<Self::Reader>
-        ensures bytes { IfSome result (λ reader. IfSome (held self.old path.now) (λ bytes. Self.Reader.remaining reader ≡ Some bytes)) }
+        ensures bytes { IfSome result (λ reader. IfFile (held self.old path.now) (λ bytes. Self.Reader.remaining reader ≡ Some bytes)) }
         ensures stays { held self.new ≡ held self.old };
 }
 
@@ -32,21 +32,22 @@ pub fn read_files<O: Opener>(
 ) -> Result<Files, Fault>
     ensures count { IfOk result (λ files. vec_len files ≡ length release.now.paths) }
     ensures each { IfOk result (λ files. AreRead (O.held opener.old) release.now.paths (map (λ file. file.items) files.items)) }
-    ensures fault { IfErr result (IsFileFault None) }
+    ensures fault { IfErr result (IsFirstFault (O.held opener.old) release.now.paths) }
 {
     let mut files = Vec::new(alloc);
     for i in 0..release.file_count() {
         let bytes = read_file(alloc, opener, release.path(i))?;
-        files.push(bytes).map_err(|_| Fault::NoMemory)?;
+        if files.push(bytes).is_err() {
+            return Err(Fault::NoMemory);
+        }
     }
     Ok(files)
 }
 
 /// The bytes of the file at a path.
 pub fn read_file<O: Opener>(alloc: Global, opener: &mut O, path: &str) -> Result<Vec<u8>, Fault>
-    ensures limit { IfOk result (λ bytes. length bytes.items ≤ file_limit) }
+    ensures read { IfOk result (λ bytes. IsRead (O.held opener.old path.now) bytes.items) }
     ensures fault { IfErr result (IsFileFault (O.held opener.old path.now)) }
-    ensures whole { IfOk result (λ bytes. IfSome (O.held opener.old path.now) (λ held. bytes.items ≡ held)) }
     ensures stays { O.held opener.new ≡ O.held opener.old }
 {
     let reader = opener.open(path).ok_or(Fault::FileUnreadable)?;
@@ -56,7 +57,7 @@ pub fn read_file<O: Opener>(alloc: Global, opener: &mut O, path: &str) -> Result
 /// All bytes of a reader, of which one more than the limit is read at the most.
 fn read_whole<R: Read + Drop>(alloc: Global, reader: R) -> Result<Vec<u8>, Fault>
     ensures limit { IfOk result (λ bytes. length bytes.items ≤ file_limit) }
-    ensures fault { IfErr result (IsFileFault (R.remaining reader)) }
+    ensures fault { IfErr result (IsFileFault (option_map Some (R.remaining reader))) }
     ensures whole { IfOk result (λ bytes. IfSome (R.remaining reader) (λ held. bytes.items ≡ held)) }
 {
     let mut bytes = Vec::new(alloc);

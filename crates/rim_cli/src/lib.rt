@@ -1,14 +1,17 @@
 //! The command line of `rim`, and a run of the program over any files and streams.
 #![tactic(auto)]
 
+mod answer;
 mod definition;
 mod fault;
 mod file;
+mod in_memory;
 pub mod laws;
 mod patient;
 mod program;
 mod words;
 
 pub use file::Opener;
+pub use in_memory::measure_in_memory;
 pub use program::{report_unreadable, run};
 pub use words::{CommandFault, Request, command};

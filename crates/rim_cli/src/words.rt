@@ -17,6 +17,10 @@ use thiserror::Error;
 pub enum Request<'a> {
     /// The report of the launches of a manifest, at a path, made by 1 to 64 workers.
     Measure { manifest: &'a str, workers: u8 },
+    /// The listing of a launch of a manifest, at a path, by the launch's name.
+    List { manifest: &'a str, launch: &'a str },
+    /// The audit of the launches of a manifest, at a path.
+    Audit { manifest: &'a str },
     /// The header of the arm64 Image at a path.
     Image { file: &'a str },
     /// The devicetree in the flattened file at a path.
@@ -70,6 +74,13 @@ fn request_of<'a>(name: &str, given: &ArgMatches<'a>) -> Request<'a>
         "measure" => Request::Measure {
             manifest: operand(given, "manifest"),
             workers: workers(given),
+        },
+        "list" => Request::List {
+            manifest: operand(given, "manifest"),
+            launch: operand(given, "launch"),
+        },
+        "audit" => Request::Audit {
+            manifest: operand(given, "manifest"),
         },
         "image" => Request::Image {
             file: operand(given, "file"),

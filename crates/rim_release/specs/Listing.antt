@@ -1,15 +1,16 @@
 -- The listing of a launch: the commands that build its realm, a line each, and the measurement that they lead to. This
 -- project's choice; the commands are DEN0137's.
-use Rattle.std.specs.Prelude.{ℕ, List, ◌++◌, codes, Result, Ok}
+use Rattle.std.specs.Prelude.{ℕ, List, ◌++◌, codes, Result, Ok, Err}
 use Rattle.std.specs.Fmt.{decimal}
 use Rattle.std.specs.List.{flat_map}
 use Rattle.refusal.specs.Answer.{◌>>=◌}
 use Rattle.rim_desc.specs.declared.command.Command.{Command}
 use Rattle.rim_desc.specs.declared.measurement.Algo.{Algo}
 use Rattle.rim_launch.specs.LaunchData.{LaunchData}
+use Rattle.rim_manifest.specs.Launches.{NamedData}
 use Rattle.rmi_line.specs.Line as command
 use Rattle.rim_release.specs.Accepted.{commands_for, rim_after}
-use Rattle.rim_release.specs.Report.{rim_text}
+use Rattle.rim_release.specs.Report.{line_with, rim_text}
 use Rattle.rim_release.specs.declared.audit_fault.AuditFault.{AuditFault}
 
 -- the first line has the monitor's number of auxiliary granules
@@ -31,3 +32,11 @@ listing_with l commands = (first_line l.config.num_aux ++ flat_map command_line 
 -- the whole listing, or why the launch is refused
 unfoldable pub listing_of : LaunchData → List (List ℕ) → Result (List ℕ) AuditFault
 listing_of l files = commands_for l files >>= λ commands. Ok (listing_with l commands)
+
+-- what is printed of a launch: its listing, or its line of a report where it is refused
+abbrev pub listing_or_line : NamedData → Result (List ℕ) AuditFault → List ℕ
+listing_or_line l (Ok text) = text
+listing_or_line l (Err fault) = line_with l (Err fault)
+
+abbrev pub shown_of : List (List ℕ) → NamedData → List ℕ
+shown_of files l = listing_or_line l (listing_of l.launch files)

@@ -1,17 +1,17 @@
 //! The audit of a release: a monitor is given the commands of each launch.
-ghost use Rattle.std.specs.Prelude.{◌≡◌, ◌<◌, length, map, vec_len, true, IfOk, IfSome};
-ghost use Rattle.std.specs.List.{slice_get};
+ghost use Rattle.std.specs.Prelude.{◌≡◌, ◌<◌, is_err, length, map, vec_len, true, IfOk, IfSome};
+ghost use Rattle.std.specs.List.{list_any, slice_get};
 ghost use Rattle.refusal.specs.Answer.{Answers};
 ghost use Rattle.rim_launch.specs.LaunchData.{has_files};
 ghost use Rattle.ipa_layout.specs.inside.LayoutViews.{contents};
 ghost use Rattle.rim_release.specs.Accepted.{rim_after, rim_for};
-ghost use Rattle.rim_release.specs.Report.{audit_text_of};
+ghost use Rattle.rim_release.specs.Report.{audit_text_of, has_refused};
 ghost use Rattle.rim_release.specs.inside.Commands.{commands_in};
 ghost use Rattle.rim_release.specs.inside.Lines.{seen};
 
 use crate::audit_fault::AuditFault;
 use crate::commands::{LaunchCommands, lay_out};
-use crate::measure::Files;
+use crate::measure::{Files, Report};
 use crate::report::push_lines;
 use refusal::NoMemory;
 use rim_desc::Measurement;
@@ -40,11 +40,31 @@ pub fn audit_report(alloc: Global, release: &Release, files: &Files) -> Result<V
     requires { vec_len files.now ≡ length release.now.paths }
     ensures { IfOk result (λ text. text.items ≡ audit_text_of (contents files.now.items) release.now.launches) }
 {
+    let report = audit_launches(alloc, release, files)?;
+    Ok(report.text)
+}
+
+/// The same audit, and whether some launch in it is refused.
+pub fn audit_launches(alloc: Global, release: &Release, files: &Files) -> Result<Report, NoMemory>
+    requires { vec_len files.now ≡ length release.now.paths }
+    ensures text { IfOk result (λ r. r.text.items ≡ audit_text_of (contents files.now.items) release.now.launches) }
+    ensures refused { IfOk result (λ r. r.has_refused ≡ has_refused (contents files.now.items) release.now.launches) }
+{
     let outcomes = outcomes(alloc, release, files)?;
     let mut text = Vec::new(alloc);
     text.extend_from_slice(b"rim-audit 1\n")?;
     push_lines(&mut text, release.all_launches(), &outcomes)?;
-    Ok(text)
+    Ok(Report {
+        text,
+        has_refused: any_refused(&outcomes),
+    })
+}
+
+/// Whether some launch is refused.
+fn any_refused(outcomes: &[Result<Measurement, AuditFault>]) -> bool
+    ensures { result ≡ list_any is_err outcomes.now }
+{
+    outcomes.iter().any(|outcome| outcome.is_err())
 }
 
 /// What came of each launch.

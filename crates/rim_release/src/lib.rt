@@ -17,11 +17,11 @@ pub mod sheet;
 pub mod show;
 
 pub use audit_fault::AuditFault;
-pub use audits::{audit, audit_report};
+pub use audits::{audit, audit_launches, audit_report};
 pub use fault::StartFault;
 pub use job_board::JobId;
 pub use job_workers::{FreeGate, Gate};
-pub use listings::listing;
+pub use listings::{listing, listing_or_refusal};
 pub use measure::{Files, Report, measure_alone, report_alone};
 pub use parallel::{Outcome, measure_release};
 pub use rim_launch::{Config, Launch};

@@ -1,22 +1,23 @@
 //! The listing of a launch: the commands that build its realm, as a monitor takes them.
-ghost use Rattle.std.specs.Prelude.{◌≡◌, ◌++◌, ◌<◌, length, vec_len, true, IfOk, IfSome, OnOk};
+ghost use Rattle.std.specs.Prelude.{◌≡◌, ◌++◌, ◌<◌, length, is_err, vec_len, true, Err, IfOk, IfSome, OnOk};
 ghost use Rattle.std.specs.List.{flat_map, slice_get};
 ghost use Rattle.refusal.specs.Answer.{Answers};
 ghost use Rattle.rim_launch.specs.LaunchData.{has_files};
 ghost use Rattle.ipa_layout.specs.inside.LayoutViews.{contents};
 ghost use Rattle.rim_release.specs.Accepted.{rim_after};
-ghost use Rattle.rim_release.specs.Listing.{command_line, first_line, last_line, listing_of, listing_with};
+ghost use Rattle.rim_release.specs.Listing.{command_line, first_line, last_line, listing_of, listing_with, shown_of};
+ghost use Rattle.rim_release.specs.Report.{line_with};
 ghost use Rattle.rim_release.specs.inside.Commands.{commands_in};
 
 use crate::audit_fault::AuditFault;
 use crate::commands::{LaunchCommands, lay_out};
-use crate::measure::Files;
-use crate::report::push_rim;
+use crate::measure::{Files, Report};
+use crate::report::{push_line, push_rim};
 use itoa::Buffer;
 use refusal::NoMemory;
 use rim_desc::{Algo, Command, Measurement};
 use rim_launch::Launch;
-use rim_manifest::Release;
+use rim_manifest::{NamedLaunch, Release};
 use rmi_line::print_line;
 use std::alloc::Global;
 
@@ -34,6 +35,55 @@ pub fn listing(
     ensures { IfSome (slice_get release.now.launches i) (λ l. Answers AuditFault.NoMemory (λ text. text.items) result (listing_of l.launch (contents files.now.items))) }
 {
     list_launch(alloc, release.all_launches()[i].launch(), files)
+}
+
+/// The listing of the launch of this number; or, where the launch is refused, its line of a report: `NAME refused KIND`.
+pub fn listing_or_refusal(
+    alloc: Global,
+    release: &Release,
+    files: &Files,
+    i: usize,
+) -> Result<Report, NoMemory>
+    requires files { vec_len files.now ≡ length release.now.paths }
+    requires launch { i < length release.now.launches }
+    ensures text { IfSome (slice_get release.now.launches i) (λ l. IfOk result (λ r. r.text.items ≡ shown_of (contents files.now.items) l)) }
+    ensures refused { IfSome (slice_get release.now.launches i) (λ l. IfOk result (λ r. r.has_refused ≡ is_err (listing_of l.launch (contents files.now.items)))) }
+{
+    list_or_refuse(alloc, &release.all_launches()[i], files)
+}
+
+/// The listing of a launch, or its line of a report where it is refused.
+fn list_or_refuse(
+    alloc: Global,
+    launch: &NamedLaunch,
+    files: &[Vec<u8>],
+) -> Result<Report, NoMemory>
+    requires { has_files launch.now.launch (length files.now) ≡ true }
+    ensures text { IfOk result (λ r. r.text.items ≡ shown_of (contents files.now) launch.now) }
+    ensures refused { IfOk result (λ r. r.has_refused ≡ is_err (listing_of launch.now.launch (contents files.now))) }
+{
+    match list_launch(alloc, launch.launch(), files) {
+        Ok(text) => Ok(Report {
+            text,
+            has_refused: false,
+        }),
+        Err(fault) => {
+            let text = refused_line(alloc, launch, fault.own_fault()?)?;
+            Ok(Report {
+                text,
+                has_refused: true,
+            })
+        }
+    }
+}
+
+/// The line of a launch that is refused.
+fn refused_line(alloc: Global, launch: &NamedLaunch, fault: AuditFault) -> Result<Vec<u8>, NoMemory>
+    ensures { IfOk result (λ text. text.items ≡ line_with launch.now (Err fault)) }
+{
+    let mut text = Vec::new(alloc);
+    push_line(&mut text, launch, &Err(fault))?;
+    Ok(text)
 }
 
 /// The listing of a launch, or why it is refused.

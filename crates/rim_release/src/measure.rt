@@ -18,7 +18,7 @@ use std::alloc::Global;
 /// The bytes of a release's files, in the manifest's order.
 pub type Files = Vec<Vec<u8>>;
 
-/// The report of a release, and whether some launch in it is refused.
+/// A text about the launches of a release, and whether it says of some launch that it is refused.
 #[derive(Drop)]
 pub struct Report {
     pub text: Vec<u8>,

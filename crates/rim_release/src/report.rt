@@ -59,8 +59,9 @@ pub fn push_lines(
     Ok(())
 }
 
+/// Adds the line of a launch of which this came.
 #[tactic(auto, unfolding(crate::specs::Report::line_with))]
-fn push_line(
+pub fn push_line(
     text: &mut Vec<u8>,
     launch: &NamedLaunch,
     outcome: &Result<Measurement, AuditFault>,

@@ -22,6 +22,10 @@ mod releases;
 #[cfg(test)]
 mod reports;
 #[cfg(test)]
+mod subcommands;
+#[cfg(test)]
+mod virtual_machine;
+#[cfg(test)]
 mod words;
 #[cfg(test)]
 mod workers;

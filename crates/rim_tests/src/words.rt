@@ -49,9 +49,22 @@ fn numbers_of_workers(rt: HostRuntime) {
 }
 
 /// Words that are not taken, and how what is said of them begins.
-const USAGES: [(&[&str], &str); 6] = [
+const USAGES: [(&[&str], &str); 10] = [
     (&["rim", "help"], "error: unrecognized subcommand"),
-    (&["rim", "list"], "error: unrecognized subcommand"),
+    (&["rim", "print"], "error: unrecognized subcommand"),
+    (&["rim", "list"], "error: the following required arguments"),
+    (
+        &["rim", "list", "manifest.toml"],
+        "error: the following required arguments",
+    ),
+    (
+        &["rim", "list", "manifest.toml", "small", "small"],
+        "error: unexpected argument",
+    ),
+    (
+        &["rim", "audit", "manifest.toml", "small"],
+        "error: unexpected argument",
+    ),
     (
         &["rim", "measure"],
         "error: the following required arguments",
@@ -72,11 +85,13 @@ fn usage(rt: HostRuntime) {
 }
 
 /// Words, and how the text that they ask for begins.
-const TEXTS: [(&[&str], &str); 4] = [
+const TEXTS: [(&[&str], &str); 6] = [
     (&["rim", "--help"], "Computes Realm Initial Measurements"),
     (&["rim", "-h"], "Computes Realm Initial Measurements"),
     (&["rim", "--version"], "rim 0.1.0\n"),
     (&["rim", "measure", "--help"], "Prints the measurement"),
+    (&["rim", "list", "--help"], "Prints the monitor's commands"),
+    (&["rim", "audit", "--help"], "Prints the measurement"),
 ];
 
 #[test]

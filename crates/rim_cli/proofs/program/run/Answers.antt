@@ -1,4 +1,4 @@
-use Rattle.std.proofs.Common.{map, rules}
+use Rattle.std.proofs.Common.{inl, inr, map, refl, rules}
 use Rattle.rim_cli.proofs.Refusing.{asked_kind, mistaken_kind}
 use Rattle.rim_cli.proofs.program.run.Goals as goal
 
@@ -12,12 +12,37 @@ returns-in-Err-Usage-clause-helps g c asks =
 
 pub returns-in-Ok-answer_to-clause-done : goal.returns-in-Ok-answer_to-clause-done
 returns-in-Ok-answer_to-clause-done g c taken done = record {
-  written = rw (← c.as_slice.ensures.value) (c.finish.ensures.done done);
-  request = c.in-Ok.request;
   text = c.in-Ok-answer_to.answer.text.items;
-  asked = c.in-Ok.ensures.reads;
-  answer = rw (c.finish.ensures.own done) c.in-Ok-answer_to.ensures.answered;
+  made = record {
+    request = c.in-Ok.request;
+    asked = c.in-Ok.ensures.reads;
+    answer = rw (c.finish.ensures.own done) c.in-Ok-answer_to.ensures.answered;
+  };
+  written = rw (← c.as_slice.ensures.value) (c.finish.ensures.done done);
 }
+
+pub returns-in-Ok-answer_to-clause-refused : goal.returns-in-Ok-answer_to-clause-refused
+returns-in-Ok-answer_to-clause-refused g c taken failed = inr (record {
+  text = c.in-Ok-answer_to.answer.text.items;
+  status = c.in-Ok-answer_to.answer.status;
+  made = record {
+    request = c.in-Ok.request;
+    asked = c.in-Ok.ensures.reads;
+    answer = c.in-Ok-answer_to.ensures.answered;
+  };
+})
+
+pub returns-in-Err-clause-refused : goal.returns-in-Err-clause-refused
+returns-in-Err-clause-refused g c taken failed = inl (
+  record {
+    request = c.in-Ok.request;
+    fault = c.in-Err.fault;
+    asked = c.in-Ok.ensures.reads;
+    refused = c.in-Err.ensures.refused;
+    status = c.report_fault-in-Err.ensures.value;
+  },
+  refl,
+)
 
 pub returns-in-Err-NoMemory-clause-usage : goal.returns-in-Err-NoMemory-clause-usage
 returns-in-Err-NoMemory-clause-usage g c = search rules

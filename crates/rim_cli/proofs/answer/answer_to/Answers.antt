@@ -1,10 +1,22 @@
-use Rattle.rim_cli.proofs.program.answer_to.Goals as goal
+use Rattle.rim_cli.proofs.answer.answer_to.Goals as goal
 
 pub returns-in-Measure-clause-answered : goal.returns-in-Measure-clause-answered
 returns-in-Measure-clause-answered g c = rw c.in-Measure.is c.measure.ensures.answered
 
 pub returns-in-Measure-clause-refused : goal.returns-in-Measure-clause-refused
 returns-in-Measure-clause-refused g c = rw c.in-Measure.is c.measure.ensures.refused
+
+pub returns-in-List-clause-answered : goal.returns-in-List-clause-answered
+returns-in-List-clause-answered g c = rw c.in-List.is c.list.ensures.answered
+
+pub returns-in-List-clause-refused : goal.returns-in-List-clause-refused
+returns-in-List-clause-refused g c = rw c.in-List.is c.list.ensures.refused
+
+pub returns-in-Audit-clause-answered : goal.returns-in-Audit-clause-answered
+returns-in-Audit-clause-answered g c = rw c.in-Audit.is c.audit.ensures.answered
+
+pub returns-in-Audit-clause-refused : goal.returns-in-Audit-clause-refused
+returns-in-Audit-clause-refused g c = rw c.in-Audit.is c.audit.ensures.refused
 
 pub returns-in-Image-clause-answered : goal.returns-in-Image-clause-answered
 returns-in-Image-clause-answered g c = rw c.in-Image.is c.image.ensures.answered

@@ -4,11 +4,14 @@ use Rattle.rim_manifest.specs.Launches.{NamedData}
 use Rattle.rim_release.specs.Accepted.{rim_for}
 use Rattle.rim_release.specs.Report.{lines_of}
 use Rattle.rim_release.specs.inside.Lines.{lines_with, seen}
+use Rattle.std.specs.Prelude.{is_err}
+use Rattle.std.specs.List.{list_any}
 use Rattle.rim_release.proofs.Lines.{own-lines}
-use Rattle.rim_release.proofs.audits.audit_report.Goals as goal
+use Rattle.rim_release.proofs.Refused.{any-refused}
+use Rattle.rim_release.proofs.audits.audit_launches.Goals as goal
 
-pub returns : goal.returns
-returns c =
+pub returns-clause-text : goal.returns-clause-text
+returns-clause-text c =
     let files : List (List ℕ) = contents c.args.files.now.items in
     let launches : List NamedData = c.args.release.now.launches in
     let came = ap (map seen) c.deref-2.ensures.value ∙ c.in_ok-outcomes.ensures
@@ -19,3 +22,11 @@ returns c =
     ∙ ap (λ (text : List ℕ). text ++ lines_with c.all_launches.result.now c.deref-2.result.now)
     (c.in_ok-extend_from_slice.ensures.items ∙ ap (λ (text : List ℕ). text ++ codes "rim-audit 1\n") c.new-text.ensures.items)
     ∙ ap (λ (text : List ℕ). codes "rim-audit 1\n" ++ text) lines
+
+pub returns-clause-refused : goal.returns-clause-refused
+returns-clause-refused c =
+    let files : List (List ℕ) = contents c.args.files.now.items in
+    let launches : List NamedData = c.args.release.now.launches in
+    let came = c.in_ok-outcomes.ensures
+    ∙ ap (λ (fs : List (Vec ℕ Global)). map (λ (l : NamedData). rim_for l.launch (contents fs)) launches) c.deref.ensures.value in
+    c.any_refused.ensures ∙ ap (list_any is_err) c.deref-3.ensures.value ∙ any-refused files launches _ came

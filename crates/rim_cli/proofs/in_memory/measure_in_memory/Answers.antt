@@ -1,0 +1,27 @@
+use Rattle.std.proofs.Common.{◌≡◌, ℕ, ◌++◌, List, ap, inl, inr, sym, subst}
+use Rattle.std.specs.Prelude.{Result, IsOkAnd}
+use Rattle.rim_release.specs.declared.fault.StartFault.{StartFault}
+use Rattle.rim_cli.proofs.InMemory.{ends_above, none_made, own_status, own_text, plain_taken}
+use Rattle.rim_cli.proofs.in_memory.measure_in_memory.Goals as goal
+
+pub returns-clause-report : goal.returns-clause-report
+returns-clause-report g c r reads none low =
+    let done = c.run.ensures.done plain_taken low in
+    subst (λ (m : Result (List ℕ) StartFault). IsOkAnd m (λ text. c.run.new.out.items ≡ c.args.out.now.items ++ text))
+    (sym (own_text c.args.manifest.now r reads none done.text c.run.result done.made)) done.written
+
+pub returns-clause-status : goal.returns-clause-status
+returns-clause-status g c r reads none low =
+    let done = c.run.ensures.done plain_taken low in
+    own_status c.args.manifest.now r reads none done.text c.run.result done.made
+
+pub returns-clause-refused : goal.returns-clause-refused
+returns-clause-refused g c f refuses =
+    ends_above c.run.result (c.run.new.out.items ≡ c.args.out.now.items) c.run.ensures.known
+    (λ low. let done = c.run.ensures.done plain_taken low in none_made c.args.manifest.now f done.text c.run.result refuses done.made)
+    (c.run.ensures.usage plain_taken)
+    (λ three. elim (c.run.ensures.refused plain_taken three) [
+      | inl refused ↦ ap (λ out. out.items) refused.1
+      | inr unwritten ↦ absurd (none_made c.args.manifest.now f unwritten.text unwritten.status refuses unwritten.made)
+    ])
+    (λ four. ap (λ out. out.items) (c.run.ensures.kept (inr four)))

@@ -1,0 +1,130 @@
+//! The answer to a request, made whole.
+ghost use Rattle.std.specs.Prelude.{◌≡◌, ◌≤◌, IfErr, IfOk, IsOkAnd, Ok, if◌then◌else◌};
+ghost use Rattle.rim_manifest.specs.Manifest.{manifest_of};
+ghost use Rattle.rim_release.specs.ShownDevicetree.{ShowsDevicetree};
+ghost use Rattle.rim_release.specs.ShownImage.{image_answer_of};
+ghost use Rattle.rim_cli.specs.Done.{IsAnswer, IsAudit, IsListing, IsManifestFault, IsReport, Refuses, RefusesAudit, RefusesFdt, RefusesImage, RefusesListing, RefusesManifest, RefusesReport, path_of};
+ghost use Rattle.rim_cli.specs.Files.{IfFile};
+
+use crate::fault::Fault;
+use crate::file::{Opener, read_file, read_files};
+use crate::words::Request;
+use rim_release::{
+    Release, Report, audit_launches, listing_or_refusal, read_manifest, report_alone, show_fdt,
+    show_image,
+};
+use std::alloc::Global;
+
+/// The text that a request asks for, and the exit status that it ends with: 0, or 1 where the text says that some
+/// launch is refused.
+#[derive(Drop)]
+pub struct Answer {
+    pub text: Vec<u8>,
+    pub status: u8,
+}
+
+/// The answer to a request, or the first fault.
+pub fn answer_to<O: Opener>(
+    alloc: Global,
+    request: Request,
+    opener: &mut O,
+) -> Result<Answer, Fault>
+    ensures answered { IfOk result (λ a. IfFile (O.held opener.old (path_of request.entry)) (λ bytes. IsAnswer (O.held opener.old) request.entry bytes a.text.items a.status)) }
+    ensures refused { IfErr result (Refuses (O.held opener.old) request.entry) }
+    ensures status { IfOk result (λ a. a.status ≤ 1) }
+{
+    match request {
+        Request::Measure { manifest, .. } => measure(alloc, opener, manifest),
+        Request::List { manifest, launch } => list(alloc, opener, manifest, launch),
+        Request::Audit { manifest } => audit(alloc, opener, manifest),
+        Request::Image { file } => image(alloc, opener, file),
+        Request::Fdt { file } => fdt(alloc, opener, file),
+    }
+}
+
+/// The report of a manifest's launches.
+fn measure<O: Opener>(alloc: Global, opener: &mut O, path: &str) -> Result<Answer, Fault>
+    ensures answered { IfOk result (λ a. IfFile (O.held opener.old path.now) (λ bytes. IsOkAnd (manifest_of bytes) (λ r. IsReport (O.held opener.old) r a.text.items a.status))) }
+    ensures refused { IfErr result (RefusesManifest (RefusesReport (O.held opener.old)) (O.held opener.old path.now)) }
+    ensures status { IfOk result (λ a. a.status ≤ 1) }
+{
+    let release = read_release(alloc, opener, path)?;
+    let files = read_files(alloc, opener, &release)?;
+    let report = report_alone(alloc, &release, &files).map_err(Fault::Start)?;
+    Ok(answer_of(report))
+}
+
+/// The listing of a manifest's launch, or its line where it is refused.
+fn list<O: Opener>(alloc: Global, opener: &mut O, path: &str, launch: &str) -> Result<Answer, Fault>
+    ensures answered { IfOk result (λ a. IfFile (O.held opener.old path.now) (λ bytes. IsOkAnd (manifest_of bytes) (λ r. IsListing (O.held opener.old) r launch.now a.text.items a.status))) }
+    ensures refused { IfErr result (RefusesManifest (RefusesListing (O.held opener.old) launch.now) (O.held opener.old path.now)) }
+    ensures status { IfOk result (λ a. a.status ≤ 1) }
+{
+    let release = read_release(alloc, opener, path)?;
+    let Some(number) = release.launch_named(launch) else {
+        return Err(Fault::NoSuchLaunch);
+    };
+    let files = read_files(alloc, opener, &release)?;
+    match listing_or_refusal(alloc, &release, &files, number) {
+        Ok(report) => Ok(answer_of(report)),
+        Err(_) => Err(Fault::NoMemory),
+    }
+}
+
+/// The audit of a manifest's launches.
+fn audit<O: Opener>(alloc: Global, opener: &mut O, path: &str) -> Result<Answer, Fault>
+    ensures answered { IfOk result (λ a. IfFile (O.held opener.old path.now) (λ bytes. IsOkAnd (manifest_of bytes) (λ r. IsAudit (O.held opener.old) r a.text.items a.status))) }
+    ensures refused { IfErr result (RefusesManifest (RefusesAudit (O.held opener.old)) (O.held opener.old path.now)) }
+    ensures status { IfOk result (λ a. a.status ≤ 1) }
+{
+    let release = read_release(alloc, opener, path)?;
+    let files = read_files(alloc, opener, &release)?;
+    let report = audit_launches(alloc, &release, &files).map_err(|_| Fault::NoMemory)?;
+    Ok(answer_of(report))
+}
+
+/// The release that the manifest at a path describes.
+fn read_release<O: Opener>(alloc: Global, opener: &mut O, path: &str) -> Result<Release, Fault>
+    ensures read { IfOk result (λ r. IfFile (O.held opener.old path.now) (λ bytes. manifest_of bytes ≡ Ok r)) }
+    ensures fault { IfErr result (IsManifestFault (O.held opener.old path.now)) }
+    ensures stays { O.held opener.new ≡ O.held opener.old }
+{
+    let text = read_file(alloc, opener, path)?;
+    match read_manifest(alloc, text.as_slice()) {
+        Ok(release) => Ok(release),
+        Err(fault) => Err(Fault::Manifest(fault)),
+    }
+}
+
+/// A text about launches as an answer.
+fn answer_of(report: Report) -> Answer
+    ensures text { result.text.items ≡ report.text.items }
+    ensures status { result.status ≡ (if report.has_refused then 1 else 0) }
+{
+    Answer {
+        text: report.text,
+        status: if report.has_refused { 1 } else { 0 },
+    }
+}
+
+/// The header of the Image at a path.
+fn image<O: Opener>(alloc: Global, opener: &mut O, path: &str) -> Result<Answer, Fault>
+    ensures answered { IfOk result (λ a. IfFile (O.held opener.old path.now) (λ bytes. (image_answer_of bytes ≡ Ok a.text.items) × (a.status ≡ 0))) }
+    ensures refused { IfErr result (RefusesImage (O.held opener.old path.now)) }
+    ensures status { IfOk result (λ a. a.status ≤ 1) }
+{
+    let bytes = read_file(alloc, opener, path)?;
+    let text = show_image(alloc, bytes.as_slice()).map_err(Fault::Show)?;
+    Ok(Answer { text, status: 0 })
+}
+
+/// The devicetree in the file at a path.
+fn fdt<O: Opener>(alloc: Global, opener: &mut O, path: &str) -> Result<Answer, Fault>
+    ensures answered { IfOk result (λ a. IfFile (O.held opener.old path.now) (λ bytes. ShowsDevicetree bytes a.text.items × (a.status ≡ 0))) }
+    ensures refused { IfErr result (RefusesFdt (O.held opener.old path.now)) }
+    ensures status { IfOk result (λ a. a.status ≤ 1) }
+{
+    let bytes = read_file(alloc, opener, path)?;
+    let text = show_fdt(alloc, bytes.as_slice()).map_err(Fault::Show)?;
+    Ok(Answer { text, status: 0 })
+}
