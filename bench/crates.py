@@ -21,6 +21,9 @@ def built(folder, name, uses, words):
     crate = os.path.join(folder, "crates", name)
     os.makedirs(os.path.join(crate, "src"))
     shutil.copy(os.path.join(top, "bench", name, "main.rt.in"), os.path.join(crate, "src", "main.rt"))
+    proofs = os.path.join(top, "bench", name, "proofs")
+    if os.path.isdir(proofs):
+        shutil.copytree(proofs, os.path.join(crate, "proofs"))
     shutil.copy(os.path.join(top, "HANDLES"), folder)
     with open(os.path.join(top, "crates.txt")) as lines, open(os.path.join(folder, "crates.txt"), "w") as file:
         file.write(lines.read() + f"{name}: {uses}\n")

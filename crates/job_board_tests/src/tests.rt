@@ -1,8 +1,11 @@
-//! What tests ask of a core. Each question is compared at one place, since each comparison is proved.
+//! What tests ask of a core and of a board. Each question is compared at one place, since each comparison is proved.
 mod boards;
 mod faults;
+mod known;
+mod puts;
 mod runs;
 mod searches;
+mod sizes;
 
 ghost use Rattle.std.specs.Prelude.{◌<◌, ◌≤◌, map, IfOk};
 ghost use Rattle.std.specs.List.{All};

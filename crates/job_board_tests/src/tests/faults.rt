@@ -13,10 +13,11 @@ const LAUNCH: JobId = JobId::Launch(0);
 /// Beside worker 0 there are worker 1, who holds a page, and worker 2, who is retired. The launch needs both pages.
 const BEFORE: [(Act, Result<(), CoreFault>); 2] = [(Take(1, PAGE), Ok(())), (Retire(2), Ok(()))];
 
-const REFUSED: [(Act, Result<(), CoreFault>); 21] = [
+const REFUSED: [(Act, Result<(), CoreFault>); 24] = [
     (Retire(0), Err(CoreFault::Retired)),
     (Retire(2), Err(CoreFault::Retired)),
     (Retire(3), Err(CoreFault::Retired)),
+    (Retire(usize::MAX), Err(CoreFault::Retired)),
     (Take(2, OTHER), Err(CoreFault::Retired)),
     (Take(3, OTHER), Err(CoreFault::Retired)),
     (Take(usize::MAX, OTHER), Err(CoreFault::Retired)),
@@ -29,9 +30,11 @@ const REFUSED: [(Act, Result<(), CoreFault>); 21] = [
     // Busy too.
     (Take(1, JobId::Page(2)), Err(CoreFault::NoSuchJob)),
     (Put(1, JobId::Page(usize::MAX)), Err(CoreFault::NoSuchJob)),
+    (Put(1, JobId::Launch(1)), Err(CoreFault::NoSuchJob)),
     (Put(0, OTHER), Err(CoreFault::Stranger)),
     (Put(0, PAGE), Err(CoreFault::Stranger)),
     (Put(1, OTHER), Err(CoreFault::Stranger)),
+    (Put(1, LAUNCH), Err(CoreFault::Stranger)),
     (Take(1, OTHER), Err(CoreFault::Busy)),
     // Held already, and early.
     (Take(1, PAGE), Err(CoreFault::Busy)),
@@ -40,12 +43,19 @@ const REFUSED: [(Act, Result<(), CoreFault>); 21] = [
     (Take(0, LAUNCH), Err(CoreFault::Early)),
 ];
 
-const DONE: [(Act, Result<(), CoreFault>); 5] = [
+const DONE: [(Act, Result<(), CoreFault>); 11] = [
     (Put(1, PAGE), Ok(())),
     (Put(1, PAGE), Err(CoreFault::Stranger)),
     (Take(0, PAGE), Err(CoreFault::Taken)),
     (Take(0, LAUNCH), Err(CoreFault::Early)),
     (Take(1, OTHER), Ok(())),
+    // The other page is held, and not done.
+    (Take(0, LAUNCH), Err(CoreFault::Early)),
+    (Put(1, OTHER), Ok(())),
+    (Take(0, LAUNCH), Ok(())),
+    (Take(1, LAUNCH), Err(CoreFault::Taken)),
+    (Put(0, LAUNCH), Ok(())),
+    (Put(0, LAUNCH), Err(CoreFault::Stranger)),
 ];
 
 #[test]

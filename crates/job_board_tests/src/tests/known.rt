@@ -1,0 +1,42 @@
+//! Whether a table has all pages of some plans.
+ghost use Rattle.std.specs.Prelude.{◌≡◌, true};
+ghost use Rattle.std.specs.List.{All, Contains};
+ghost use Rattle.page_jobs.specs.Table.{keys_of as page_keys};
+ghost use Rattle.rim_chain.specs.Links.{keys_of};
+
+use page_jobs::laws::slots_go_by_keys;
+use page_jobs::{PageKey, Table};
+use rim_chain::LaunchPlan;
+
+/// Whether a table has a page of this key.
+fn has_key(table: &Table, key: &PageKey) -> bool
+    ensures { result ≡ true → Contains (page_keys table.now.pages) key.now }
+{
+    slots_go_by_keys();
+    let _pages = table.pages();
+    table.slot_of(key).is_some()
+}
+
+/// Whether a table has a page for each key of a plan.
+fn has_keys(table: &Table, plan: &LaunchPlan) -> bool
+    ensures { result ≡ true → All (Contains (page_keys table.now.pages)) (keys_of plan.now.links) }
+{
+    for index in 0..plan.pages() {
+        if !has_key(table, &plan.key(index)) {
+            return false;
+        }
+    }
+    true
+}
+
+/// Whether a table has a page for each key of some plans.
+pub(super) fn has_all_keys(table: &Table, plans: &[LaunchPlan]) -> bool
+    ensures { result ≡ true → All (λ p. All (Contains (page_keys table.now.pages)) (keys_of p.links)) plans.now }
+{
+    for plan in plans {
+        if !has_keys(table, plan) {
+            return false;
+        }
+    }
+    true
+}
