@@ -1,19 +1,23 @@
 #!/usr/bin/env python3
-"""Times `./rim measure` on large releases beside a bare loop of the kit's `sha2` over as many pages and descriptors, and
-weighs it beside the files. Not part of the gate.
+"""Times `rim measure` on large releases beside a bare loop, and weighs it beside the files. Not part of the gate.
 
-usage: bench/releases.py [RUNS]
+usage: bench/releases.py [RUNS [WORD]]
 
-`./rim` has to be built. The bare loop is in bench/timed/main.rt.in, which is built with the kit's rt.
+The bare loop is bench/bare/main.rt.in, which is built with the kit's rt: it reads the same files, hashes their pages with
+the kit's `sha2`, and then as many descriptors as the release has. Each run of `rim` is followed by one of the bare loop and
+one that only reads, and the least processor time of each is taken, so that a busy machine changes little. The first ratio
+is that of the whole runs; the second leaves the reading out of the bare loop. WORD picks the releases whose name has it.
+
+`rim` has to be built, by `./rim --help`.
 """
 import os
 import random
+import subprocess
 import sys
 import tempfile
 
-from crates import built, least, top
+from crates import built, top
 
-PAGE = 4096
 MIB = 1 << 20
 
 
@@ -29,43 +33,68 @@ def launch(name, end, items, more=""):
 
 
 def kernel(folder):
-    """A launch with contents of 32 MiB: the manifest, the pages, the extensions, the bytes of the files."""
+    """A launch with contents of 32 MiB: the manifest, the extensions, the files, and how many bytes they have."""
     text = file_of(folder, "kernel", 32 * MIB) + launch("a", 0x80000000, [("kernel", 0x40200000)])
-    return text, 8192, 512 + 8192, 32 * MIB
+    return text, 512 + 8192, ["kernel"], 32 * MIB
 
 
 def shared(folder):
     """200 launches over 8 kernels of 30 MiB and 16 initrds of 20 MiB."""
-    text = "".join(file_of(folder, f"kernel-{n}", 30 * MIB) for n in range(8))
-    text += "".join(file_of(folder, f"initrd-{n}", 20 * MIB) for n in range(16))
+    kernels = [f"kernel-{n}" for n in range(8)]
+    initrds = [f"initrd-{n}" for n in range(16)]
+    text = "".join(file_of(folder, name, 30 * MIB) for name in kernels)
+    text += "".join(file_of(folder, name, 20 * MIB) for name in initrds)
     for n in range(200):
-        items = [(f"kernel-{n % 8}", 0x40200000), (f"initrd-{n % 16}", 0x48000000)]
+        items = [(kernels[n % 8], 0x40200000), (initrds[n % 16], 0x48000000)]
         text += launch(f"launch-{n}", 0x50000000 + n * 0x200000, items)
-    pages = 8 * 30 * 256 + 16 * 20 * 256
     extensions = sum(128 + n for n in range(200)) + 200 * 50 * 256
-    return text, pages, extensions, (8 * 30 + 16 * 20) * MIB
+    return text, extensions, kernels + initrds, (8 * 30 + 16 * 20) * MIB
 
 
-def entries(folder):
+def entries(_folder):
     """A launch of 16 GiB of RAM that is set page by page."""
-    return launch("a", 0x440000000, [], "block_level = 3\n"), 0, 4_194_304, 0
+    return launch("a", 0x440000000, [], "block_level = 3\n"), 4_194_304, [], 0
+
+
+RELEASES = [("a launch of 32 MiB", kernel), ("200 launches", shared), ("4,194,304 entries", entries)]
+
+
+def run(words):
+    """The processor time of a run in seconds, and its most memory in MB."""
+    ran = subprocess.Popen(words, stdout=subprocess.DEVNULL)
+    _, status, usage = os.wait4(ran.pid, 0)
+    if status != 0:
+        raise SystemExit(f"{' '.join(words)}: failed")
+    return usage.ru_utime + usage.ru_stime, usage.ru_maxrss / 1024
+
+
+def least(commands, runs):
+    """The least time of each of some commands, run in turn, and the most memory of the first."""
+    times, memory = [[] for _ in commands], 0
+    for _ in range(runs):
+        for at, words in enumerate(commands):
+            time, size = run(words)
+            times[at].append(time)
+            memory = max(memory, size if at == 0 else 0)
+    return [min(found) for found in times], memory
 
 
 def main():
-    runs = int(sys.argv[1]) if len(sys.argv) > 1 else 3
+    runs = int(sys.argv[1]) if len(sys.argv) > 1 else 5
+    word = sys.argv[2] if len(sys.argv) > 2 else ""
     program = os.path.join(top, "crates", "rim", "out", "rim")
     with tempfile.TemporaryDirectory() as folder:
-        timed = built(folder, "timed", "rim_desc rmm_model rmm_monitor page_jobs rim_launch ipa_layout rmi_list", ["bytes"])
-        descriptor = least(timed, ["descriptors"], runs)[0] / 4_194_304
-        page = (least(timed, ["slices"], runs)[0] - least(timed, ["bytes"], runs)[0]) / 65_536
-        for what, made in (("a launch of 32 MiB", kernel), ("200 launches", shared), ("4,194,304 entries", entries)):
-            text, pages, extensions, size = made(folder)
+        bare = built(folder, "bare", "sha2", ["1"])
+        for what, made in (release for release in RELEASES if word in release[0]):
+            text, extensions, names, size = made(folder)
             path = os.path.join(folder, "manifest.toml")
             with open(path, "w") as file:
                 file.write("rim_manifest = 1\n" + text)
-            time, memory = least(program, ["measure", path], runs)
-            bare = pages * page + extensions * descriptor
-            print(f"{what}: {time:.2f} s, a bare loop {bare:.2f} s, ratio {time / bare:.3f}; {memory - size / MIB:.0f} MB beside the files")
+            files = [os.path.join(folder, name) for name in names]
+            commands = [[program, "measure", path], [bare, str(extensions), *files], [bare, "read", *files]]
+            (time, loop, read), memory = least(commands, runs)
+            ratios = f"ratio {time / loop:.3f}, without the reading {time / (loop - read):.3f}"
+            print(f"{what}: {time:.3f} s, a bare loop {loop:.3f} s, reading {read:.3f} s; {ratios}; {memory - size / MIB:.0f} MB beside the files", flush=True)
 
 
 if __name__ == "__main__":
