@@ -1,18 +1,15 @@
 -- What the line of a launch says, in the monitor's words.
-use Rattle.std.proofs.Common.{◌≡◌, ◌∙◌, ℕ, List, ◌++◌, ap}
-use Rattle.std.specs.Prelude.{Option, Result, Ok, codes, unwrap_or}
-use Rattle.refusal.specs.Answer.{◌>>=◌}
+use Rattle.std.proofs.Common.{◌≡◌, ℕ, List, [], ap, refl}
+use Rattle.std.specs.Prelude.{Option, Result, unwrap_or}
 use Rattle.rim_desc.specs.Part.{rim_of}
-use Rattle.rmm_model.specs.Run.{run}
-use Rattle.rmm_model.specs.State.{empty_state}
 use Rattle.list_model.specs.Entries.{commands_of}
 use Rattle.rmi_list.specs.Following.{IsFollowed}
 use Rattle.rmi_list.specs.Measured.{contents, measured}
 use Rattle.rmi_list.proofs.Contents.{contents-are-good}
 use Rattle.rmi_list.proofs.Follows.{list-is-followed}
 use Rattle.rim_release.specs.Accepted.{commands_for, rim_after, rim_for}
-use Rattle.rim_release.specs.Headline.{AcceptedAreMeasured, IsMeasured, RefusedAreNamed}
-use Rattle.rim_release.specs.Report.{line_of, line_with}
+use Rattle.rim_release.specs.Headline.{AcceptedAreMeasured, RefusedAreNamed}
+use Rattle.rim_release.specs.Report.{line_with}
 use Rattle.rim_release.specs.declared.audit_fault.AuditFault.{AuditFault}
 use Rattle.rim_release.proofs.Accepting.{accepted-is}
 use Rattle.rim_release.proofs.Held.{refused-rim}

@@ -16,7 +16,7 @@ use Rattle.rim_desc.specs.declared.measurement.Measurement.{Measurement}
 use Rattle.rim_manifest.proofs.Notes.{list_any_map}
 use Rattle.rim_manifest.specs.Launches.{NamedData}
 use Rattle.rim_release.specs.Accepted.{accepted_of}
-use Rattle.rim_release.specs.Report.{is_crew, report_with, started_of}
+use Rattle.rim_release.specs.Report.{is_crew, report_with}
 use Rattle.rim_release.specs.declared.audit_fault.AuditFault.{AuditFault}
 use Rattle.rim_release.specs.inside.Chains.{outcomes_of, unknown_rim, with_rims}
 use Rattle.rim_release.specs.inside.Lines.{lines_with}

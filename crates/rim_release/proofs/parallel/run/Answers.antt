@@ -1,4 +1,4 @@
-use Rattle.std.proofs.Common.{List, map, subst, sym}
+use Rattle.std.proofs.Common.{List, subst, sym}
 use Rattle.std.specs.List.{All, Contains}
 use Rattle.page_jobs.specs.Page.{PageView}
 use Rattle.page_jobs.specs.Table.{keys_of as page_keys_of}
