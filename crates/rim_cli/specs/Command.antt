@@ -1,6 +1,6 @@
 -- The command line of `rim`, as this project chooses it, in the words of `clap`'s definition for simple
 -- commands; and what the words of a command line ask for.
-use Rattle.std.specs.Prelude.{◌≡◌, ◌≢◌, ◌≤◌, ◌⊎◌, ℕ, Bool, true, false, not, pos, List, [], Option, Some, None, IfSome, codes, is_some}
+use Rattle.std.specs.Prelude.{◌≡◌, ◌≢◌, ◌≤◌, ◌⊎◌, ⊤, ℕ, Bool, true, false, not, pos, List, [], Option, Some, None, IfSome, codes, is_some}
 use Rattle.std.specs.List.{list_all}
 use Rattle.std.specs.Str.Parse.{digits_value, without_leading_plus}
 use Rattle.clap.specs.Words.{App, IsAmong, Kinds, Row, Rule, Text, fault_of, first_of, kind_of, new_app, new_rule, with_rule, with_subcommand}
@@ -9,6 +9,7 @@ use Rattle.clap.specs.Values.{IsSignedIn}
 use Rattle.clap.specs.declared.builder.value_parser.ValueParser.TheVariants as parser
 use Rattle.clap.specs.declared.error.kind.ErrorKind.{ErrorKind}
 use Rattle.clap.specs.declared.error.kind.ErrorKind.TheVariants as kind
+use Rattle.rim_release.specs.Report.{is_crew}
 use Rattle.rim_cli.specs.declared.words.CommandFault.{CommandFault}
 use Rattle.rim_cli.specs.declared.words.CommandFault.TheVariants.{Usage, NoMemory}
 use Rattle.rim_cli.specs.declared.words.Request.{Request}
@@ -56,6 +57,11 @@ rim = on_top (λ s. record s { has_version = true; subcommand_required = true; d
 abbrev pub CountsWorkers : Option Text → ℕ → Type 0
 CountsWorkers None n = n ≡ 4
 CountsWorkers (Some text) n = (n ≡ digits_value 10 (without_leading_plus text)) × (1 ≤ n) × (n ≤ 64)
+
+-- a request for a report has 1 to 64 workers
+abbrev pub HasCrew : Request → Type 0
+HasCrew (Measure manifest workers) = is_crew workers ≡ true
+HasCrew request = ⊤
 
 -- the request is the one of a subcommand's name, and has what the matches of that subcommand hold
 abbrev pub ReadsRow : Text → List Row → Request → Type 0

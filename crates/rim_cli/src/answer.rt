@@ -1,5 +1,8 @@
 //! The answer to a request, made whole.
-ghost use Rattle.std.specs.Prelude.{◌≡◌, ◌≤◌, IfErr, IfOk, IsOkAnd, Ok, if◌then◌else◌};
+ghost use Rattle.std.specs.Prelude.{◌≡◌, ◌≤◌, IfErr, IfOk, IsOkAnd, Ok, if◌then◌else◌, length, map, true, vec_len};
+ghost use Rattle.refusal.specs.Answer.{Answers};
+ghost use Rattle.rim_release.specs.Report.{has_refused, is_crew, measured_of};
+ghost use Rattle.rim_cli.specs.Command.{HasCrew};
 ghost use Rattle.rim_manifest.specs.Manifest.{manifest_of};
 ghost use Rattle.rim_release.specs.ShownDevicetree.{ShowsDevicetree};
 ghost use Rattle.rim_release.specs.ShownImage.{image_answer_of};
@@ -10,10 +13,12 @@ use crate::fault::Fault;
 use crate::file::{Opener, read_file, read_files};
 use crate::words::Request;
 use rim_release::{
-    Release, Report, audit_launches, listing_or_refusal, read_manifest, report_alone, show_fdt,
-    show_image,
+    Files, FreeGate, Release, Report, StartFault, audit_launches, listing_or_refusal,
+    measure_release, read_manifest, show_fdt, show_image,
 };
 use std::alloc::Global;
+use std::sync::Wait;
+use std::thread::Threads;
 
 /// The text that a request asks for, and the exit status that it ends with: 0, or 1 where the text says that some
 /// launch is refused.
@@ -24,17 +29,19 @@ pub struct Answer {
 }
 
 /// The answer to a request, or the first fault.
-pub fn answer_to<O: Opener>(
+pub fn answer_to<R: Threads + Wait + Sync, O: Opener>(
+    rt: &R,
     alloc: Global,
     request: Request,
     opener: &mut O,
 ) -> Result<Answer, Fault>
+    requires { HasCrew request }
     ensures answered { IfOk result (λ a. IfFile (O.held opener.old (path_of request.entry)) (λ bytes. IsAnswer (O.held opener.old) request.entry bytes a.text.items a.status)) }
     ensures refused { IfErr result (Refuses (O.held opener.old) request.entry) }
     ensures status { IfOk result (λ a. a.status ≤ 1) }
 {
     match request {
-        Request::Measure { manifest, .. } => measure(alloc, opener, manifest),
+        Request::Measure { manifest, workers } => measure(rt, alloc, opener, manifest, workers),
         Request::List { manifest, launch } => list(alloc, opener, manifest, launch),
         Request::Audit { manifest } => audit(alloc, opener, manifest),
         Request::Image { file } => image(alloc, opener, file),
@@ -42,16 +49,43 @@ pub fn answer_to<O: Opener>(
     }
 }
 
-/// The report of a manifest's launches.
-fn measure<O: Opener>(alloc: Global, opener: &mut O, path: &str) -> Result<Answer, Fault>
+/// The report of a manifest's launches, made by 1 to 64 workers.
+fn measure<R: Threads + Wait + Sync, O: Opener>(
+    rt: &R,
+    alloc: Global,
+    opener: &mut O,
+    path: &str,
+    workers: u8,
+) -> Result<Answer, Fault>
+    requires { is_crew workers ≡ true }
     ensures answered { IfOk result (λ a. IfFile (O.held opener.old path.now) (λ bytes. IsOkAnd (manifest_of bytes) (λ r. IsReport (O.held opener.old) r a.text.items a.status))) }
     ensures refused { IfErr result (RefusesManifest (RefusesReport (O.held opener.old)) (O.held opener.old path.now)) }
     ensures status { IfOk result (λ a. a.status ≤ 1) }
 {
     let release = read_release(alloc, opener, path)?;
     let files = read_files(alloc, opener, &release)?;
-    let report = report_alone(alloc, &release, &files).map_err(Fault::Start)?;
+    let report = report(rt, alloc, &release, &files, workers).map_err(Fault::Start)?;
     Ok(answer_of(report))
+}
+
+/// The report of a release, made by 1 to 64 workers.
+fn report<R: Threads + Wait + Sync>(
+    rt: &R,
+    alloc: Global,
+    release: &Release,
+    files: &Files,
+    workers: u8,
+) -> Result<Report, StartFault>
+    requires files { vec_len files.now ≡ length release.now.paths }
+    requires crew { is_crew workers ≡ true }
+    ensures text { Answers StartFault.NoMemory (λ r. r.text.items) result (measured_of (map (λ file. file.items) files.now.items) release.now.launches) }
+    ensures refused { IfOk result (λ r. r.has_refused ≡ has_refused (map (λ file. file.items) files.now.items) release.now.launches) }
+{
+    let outcome = measure_release(rt, alloc, &FreeGate, release, files, workers as usize)?;
+    Ok(Report {
+        text: outcome.report,
+        has_refused: outcome.has_refused,
+    })
 }
 
 /// The listing of a manifest's launch, or its line where it is refused.

@@ -9,6 +9,8 @@ ghost use Rattle.rim_release.specs.Report.{has_refused, measured_of};
 use crate::file::Opener;
 use crate::program::run;
 use std::alloc::Global;
+use std::sync::Wait;
+use std::thread::Threads;
 
 /// A manifest in memory, at the path `manifest.toml`. No other file exists.
 #[derive(Drop)]
@@ -33,7 +35,7 @@ impl<'a> Opener for InMemory<'a> {
 /// Runs `rim measure manifest.toml` on a manifest in memory. Where its launches name no file, statuses 0 and 1 say that
 /// their report was added to `out`, and which of both it is. A manifest with a fault ends with 3 or 4, and `out` is as
 /// it was.
-pub fn measure_in_memory<R>(
+pub fn measure_in_memory<R: Threads + Wait + Sync>(
     rt: &R,
     alloc: Global,
     manifest: &[u8],

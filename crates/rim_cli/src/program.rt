@@ -15,6 +15,8 @@ use std::alloc::Global;
 use std::convert::AsStr;
 use std::io;
 use std::io::{ErrorKind, Write};
+use std::sync::Wait;
+use std::thread::Threads;
 
 /// Runs the program on the words of a command line, of which the first is the program's name.
 ///
@@ -26,8 +28,8 @@ use std::io::{ErrorKind, Write};
 /// text says that a launch is refused. 3 says that the request is refused with a fault that holds, and `out` is as it
 /// was; or that the text was made and could not be written. 2 is not answered. After 2 and 4 `out` is as it was. No
 /// clause says what is on `err`, since writing there may fail and changes no status.
-pub fn run<R, S: AsStr, O: Opener, W: Write, E: Write>(
-    _rt: &R,
+pub fn run<R: Threads + Wait + Sync, S: AsStr, O: Opener, W: Write, E: Write>(
+    rt: &R,
     alloc: Global,
     words: &[S],
     opener: &mut O,
@@ -47,7 +49,7 @@ pub fn run<R, S: AsStr, O: Opener, W: Write, E: Write>(
         Err(CommandFault::NoMemory) => return report_fault(Fault::NoMemory, err),
         Err(CommandFault::Usage(answer)) => return show_usage(alloc, &answer, out, err),
     };
-    match answer_to(alloc, request, opener) {
+    match answer_to(rt, alloc, request, opener) {
         Ok(answer) => finish(answer.text.as_slice(), answer.status, out, err),
         Err(fault) => report_fault(fault, err),
     }

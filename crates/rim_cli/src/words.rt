@@ -3,7 +3,7 @@ ghost use Rattle.std.specs.Prelude.{◌≡◌, ◌≢◌, [], IfOk, IfErr, IfSom
 ghost use Rattle.clap.specs.Values.{IsSignedIn};
 ghost use Rattle.clap.specs.Words.{HasKind, Kinds, fault_of, first_of, found_of, kind_of, rows_of, subcommand_of, takes};
 ghost use Rattle.rim_cli.specs.declared.words.CommandFault.TheVariants as fault;
-ghost use Rattle.rim_cli.specs.Command.{CountsWorkers, IsEntered, IsRefusalOf, ReadsRequest, ReadsRow, rim};
+ghost use Rattle.rim_cli.specs.Command.{CountsWorkers, HasCrew, IsEntered, IsRefusalOf, ReadsRequest, ReadsRow, rim};
 
 use crate::definition::rim_command;
 use clap::ArgMatches;
@@ -50,6 +50,7 @@ impl From<AllocError> for CommandFault {
 pub fn command<'a, S: AsStr>(alloc: Global, words: &'a [S]) -> Result<Request<'a>, CommandFault>
     // the subcommand, its operands and the workers are those that the words have by `clap`'s definition
     ensures reads { IfOk result (ReadsRequest (subcommand_of rim (map S.text words.entry.now))) }
+    ensures crew { IfOk result HasCrew }
     ensures takes { takes rim (map S.text words.entry.now) ≡ true → IfErr result (λ e. e ≡ CommandFault.NoMemory) }
     ensures sound { IfOk result (λ _. fault_of rim (map S.text words.entry.now) ≡ []) }
     ensures refused { IfErr result (IsRefusalOf (fault_of rim (map S.text words.entry.now))) }

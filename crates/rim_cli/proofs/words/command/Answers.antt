@@ -3,6 +3,7 @@ use Rattle.clap.specs.Words.{App, HasKind, HasMatchesOf, Text, fault_of, found_o
 use Rattle.clap.specs.declared.parser.matches.ArgMatches.{ArgMatches}
 use Rattle.rim_cli.specs.Command.{rim}
 use Rattle.rim_cli.proofs.Entering.{entered_good, rows_met}
+use Rattle.rim_cli.proofs.Crews.{crew_read}
 use Rattle.rim_cli.proofs.words.command.Goals as goal
 
 -- what the definition has on the words is what the matches have
@@ -39,3 +40,6 @@ returns-clause-sound g c =
     let words = map g.S.AsStr.text c.args.words.now in
     let none = c.in-Ok.ensures.kinds (ap is_simple_and_free c.in_ok-rim.ensures.shape) in
     ap (λ (a : App). fault_of a words) (sym c.in_ok-rim.ensures.shape) ∙ none
+
+pub returns-clause-crew : goal.returns-clause-crew
+returns-clause-crew g c = crew_read c.in-Some.name.now (rows_of (found_of c.in-Some.given.now)) c.request_of.result c.request_of.ensures
