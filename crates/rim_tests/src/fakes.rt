@@ -61,6 +61,48 @@ pub fn check(rt: &(impl Abort + AllocGlobal), ran: &Ran, status: u8, out: &[u8],
     assert_eq!(rt; ran.err.as_slice(), err);
 }
 
+/// The same of one of many runs, which has a name.
+pub fn check_named(
+    rt: &(impl Abort + AllocGlobal),
+    name: &str,
+    ran: &Ran,
+    status: u8,
+    out: &[u8],
+    err: &[u8],
+) {
+    assert_eq!(rt; ran.out.as_slice(), out, "{name}");
+    assert_eq!(rt; ran.err.as_slice(), err, "{name}");
+    assert_eq!(rt; ran.status, status, "{name}");
+}
+
+/// The manifest and files by their paths.
+#[derive(Drop)]
+pub struct Folder<'a> {
+    pub manifest: &'a [u8],
+    pub files: &'a [(&'static str, &'a [u8])],
+}
+
+impl<'a> Opener for Folder<'a> {
+    type Reader = &'a [u8];
+
+    fn open(&mut self, path: &str) -> Option<&'a [u8]> {
+        if path == "manifest.toml" {
+            return Some(self.manifest);
+        }
+        let found = self.files.iter().find(|(name, _)| *name == path);
+        found.map(|(_, bytes)| *bytes)
+    }
+}
+
+/// A run of `measure manifest.toml` over some files.
+pub fn measured<O: Opener>(alloc: Global, files: &mut O) -> Ran {
+    let words = ["rim", "measure", "manifest.toml"];
+    let mut out = Vec::new(alloc);
+    let mut err = Vec::new(alloc);
+    let status = run(&(), alloc, &words, files, &mut out, &mut err);
+    Ran { status, out, err }
+}
+
 /// A reader that gives 100 bytes of zeros a read, and fails at one of its reads.
 #[derive(Drop)]
 pub struct FailingReader {

@@ -4,11 +4,15 @@
 #[cfg(test)]
 mod audits;
 #[cfg(test)]
+mod devicetree_faults;
+#[cfg(test)]
 mod devicetrees;
 #[cfg(test)]
 mod fakes;
 #[cfg(test)]
 mod faults;
+#[cfg(test)]
+mod file_order;
 #[cfg(test)]
 mod headers;
 #[cfg(test)]
@@ -16,7 +20,13 @@ mod images;
 #[cfg(test)]
 mod kinds;
 #[cfg(test)]
+mod limits;
+#[cfg(test)]
+mod manifest_faults;
+#[cfg(test)]
 mod manifests;
+#[cfg(test)]
+mod refusals;
 #[cfg(test)]
 mod releases;
 #[cfg(test)]

@@ -1,12 +1,38 @@
-//! Manifests and their faults, from the description of the format.
+//! Manifests and their faults as the program reports them, from the description of the format.
+use super::fakes::{Folder, measured};
 use rim_release::{ManifestFault, read_manifest};
 use std::alloc::Global;
 use std::process::Abort;
 use std::test::Fail;
 
-/// The fault of a manifest, `None` where it is read.
+/// All faults but want of memory.
+const FAULTS: [ManifestFault; 10] = [
+    ManifestFault::Syntax,
+    ManifestFault::Version,
+    ManifestFault::WrongKind,
+    ManifestFault::UnknownKey,
+    ManifestFault::MissingKey,
+    ManifestFault::Limit,
+    ManifestFault::Range,
+    ManifestFault::TwoNames,
+    ManifestFault::NoSuchFile,
+    ManifestFault::BadStep,
+];
+
+/// The fault of a manifest that a run reports, `None` where it reports another fault or none.
 fn fault_of(alloc: Global, text: &str) -> Option<ManifestFault> {
-    read_manifest(alloc, text.as_bytes()).err()
+    let mut folder = Folder {
+        manifest: text.as_bytes(),
+        files: &[],
+    };
+    let ran = measured(alloc, &mut folder);
+    if ran.status != 3 || !ran.out.is_empty() {
+        return None;
+    }
+    let word = ran.err.strip_prefix(b"rim: ")?.strip_suffix(b"\n")?;
+    FAULTS
+        .into_iter()
+        .find(|fault| fault.kind().as_bytes() == word)
 }
 
 /// The fault of a manifest of one launch that is well but for one more line.
