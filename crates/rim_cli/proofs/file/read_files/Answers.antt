@@ -2,7 +2,6 @@ use Rattle.std.proofs.Common.{◌≡◌, ◌+◌, ◌++◌, [], ◌∷◌, ℕ, 
 use Rattle.std.proofs.lemmas.List.{map-append}
 use Rattle.std.proofs.lemmas.Result.{err_from_is_err_and}
 use Rattle.rim_cli.specs.Files.{AreRead, IsFileFault, IsRead, Known}
-use Rattle.rim_cli.specs.declared.fault.Fault.TheVariants.{NoMemory}
 use Rattle.rim_cli.proofs.Reading.{first_fault, read_next}
 use Rattle.rim_cli.proofs.file.read_files.Goals as goal
 
@@ -26,4 +25,4 @@ returns-in_err-bytes-clause-fault g c =
 
 pub returns-then-is_err-clause-fault : goal.returns-then-is_err-clause-fault
 returns-then-is_err-clause-fault g c =
-    first_fault _ c.args.release.now.paths c.loop-i.i _ c.path.result.now NoMemory c.loop-i.invariant.read c.path.ensures tt
+    first_fault _ c.args.release.now.paths c.loop-i.i _ c.path.result.now _ c.loop-i.invariant.read c.path.ensures tt
