@@ -327,31 +327,6 @@ impl<'a, L: Ledger> BoardState<'a, L> {
     }
 }
 
-impl<'a, L: Ledger> BoardState<'a, L> {
-    /// The pages of its table.
-    pub fn pages(&self) -> &'a [Page<'a>]
-        ensures pages { map page_view result.now ≡ self.now.table.pages }
-        ensures board { IsBoard self.now }
-    {
-        self.table.pages()
-    }
-
-    /// Its plans.
-    pub fn plans(&self) -> &'a [LaunchPlan]
-        ensures plans { result.now ≡ self.now.plans }
-        ensures board { IsBoard self.now }
-    {
-        self.plans
-    }
-
-    /// Whether all jobs are done.
-    pub fn is_finished(&self) -> bool
-        ensures { result ≡ is_over self.now.core }
-    {
-        self.core.is_finished()
-    }
-}
-
 /// A list with room for this many events.
 fn room_for(alloc: Global, count: usize) -> Result<Vec<Event>, NoMemory>
     ensures empty { IfOk result (λ events. events.items ≡ []) }
