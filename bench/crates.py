@@ -24,6 +24,9 @@ def built(folder, name, uses, words):
     proofs = os.path.join(top, "bench", name, "proofs")
     if os.path.isdir(proofs):
         shutil.copytree(proofs, os.path.join(crate, "proofs"))
+        for place, _, names in os.walk(os.path.join(crate, "proofs")):
+            for file in names:
+                os.rename(os.path.join(place, file), os.path.join(place, file.removesuffix(".in")))
     shutil.copy(os.path.join(top, "HANDLES"), folder)
     with open(os.path.join(top, "crates.txt")) as lines, open(os.path.join(folder, "crates.txt"), "w") as file:
         file.write(lines.read() + f"{name}: {uses}\n")
