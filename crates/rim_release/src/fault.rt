@@ -10,7 +10,7 @@ use thiserror::Error;
 /// Why the measuring of a release does not start.
 #[derive(Clone, Copy, Debug, PartialEq, Eq, Error)]
 pub enum StartFault {
-    /// The number of workers is not 1 to 64. Not answered yet.
+    /// The number of workers is not 1 to 64.
     #[error("workers")]
     Workers,
     /// The launches that are accepted have more than 1,048,576 different measured pages.
