@@ -4,7 +4,9 @@ use super::fakes::{Folder, Ran, check_named, measured};
 use rim_cli::run;
 use std::alloc::Global;
 use std::process::Abort;
+use std::sync::Wait;
 use std::test::Fail;
+use std::thread::Threads;
 
 const BEGIN_NODE: u32 = 1;
 
@@ -49,7 +51,7 @@ fn large(alloc: Global, name: &[u8]) -> Result<Vec<u8>, Fail> {
     file(alloc, block.as_slice(), name)
 }
 
-/// A file of so many nodes, each in the one before it.
+/// A file of this many nodes, each in the one before it.
 fn deep(alloc: Global, depth: usize) -> Result<Vec<u8>, Fail> {
     let mut block = Vec::new(alloc);
     push_words(&mut block, &[BEGIN_NODE, 0])?;
@@ -497,7 +499,8 @@ const MEMORY_THAT_DOES_NOT: &[u8] =
     b"rim_manifest = 1\nfile = [{name = 'd', path = 'd'}]\n[[launch]]\nname = 'a'\nalgo = 'sha256'\ns2sz = 40\nram = [[0, 0x100000000]]\nitem = [{name = 'd', kind = 'dtb', file = 'd', at = 0, memory = true}]\n";
 
 /// What `rim fdt` does with these bytes.
-fn shown(alloc: Global, bytes: &[u8]) -> Ran {
+fn shown(rt: &(impl AllocGlobal + Threads + Wait + Sync), bytes: &[u8]) -> Ran {
+    let alloc = rt.alloc();
     let mut folder = Folder {
         manifest: bytes,
         files: &[],
@@ -505,13 +508,13 @@ fn shown(alloc: Global, bytes: &[u8]) -> Ran {
     let mut out = Vec::new(alloc);
     let mut err = Vec::new(alloc);
     let words = ["rim", "fdt", "manifest.toml"];
-    let status = run(&(), alloc, &words, &mut folder, &mut out, &mut err);
+    let status = run(rt, alloc, &words, &mut folder, &mut out, &mut err);
     Ran { status, out, err }
 }
 
 /// The launch of this manifest has this line, where its devicetree has these bytes, and this many pages are measured.
 fn check_edited(
-    rt: &(impl Abort + AllocGlobal),
+    rt: &(impl Abort + AllocGlobal + Threads + Wait + Sync),
     name: &str,
     manifest: &[u8],
     bytes: &[u8],
@@ -523,7 +526,7 @@ fn check_edited(
         manifest,
         files: &files,
     };
-    let ran = measured(rt.alloc(), &mut folder);
+    let ran = measured(rt, &mut folder);
     let report = format!(in rt.alloc(); "rim-report 1\na {outcome}\npages {pages}\n")?;
     let status = if pages == 0 { 1 } else { 0 };
     check_named(rt, name, &ran, status, report.as_bytes(), b"");
@@ -532,13 +535,13 @@ fn check_edited(
 
 /// These bytes have this fault, to `rim fdt` and to a launch that edits them.
 fn check_fault(
-    rt: &(impl Abort + AllocGlobal),
+    rt: &(impl Abort + AllocGlobal + Threads + Wait + Sync),
     name: &str,
     bytes: &[u8],
     fault: &str,
 ) -> Result<(), Fail> {
     let line = format!(in rt.alloc(); "rim: {fault}\n")?;
-    let ran = shown(rt.alloc(), bytes);
+    let ran = shown(rt, bytes);
     check_named(rt, name, &ran, 3, b"", line.as_bytes());
     let outcome = format!(in rt.alloc(); "refused {fault}")?;
     check_edited(rt, name, EDIT, bytes, outcome.as_str(), 0)
@@ -555,13 +558,13 @@ fn files_that_are_no_devicetrees(rt: HostRuntime) -> Result<(), Fail> {
 
 /// These bytes are shown as this, and a launch that edits them has this measurement.
 fn check_good(
-    rt: &(impl Abort + AllocGlobal),
+    rt: &(impl Abort + AllocGlobal + Threads + Wait + Sync),
     name: &str,
     bytes: &[u8],
     text: &str,
     rim: &str,
 ) -> Result<(), Fail> {
-    let ran = shown(rt.alloc(), bytes);
+    let ran = shown(rt, bytes);
     check_named(rt, name, &ran, 0, text.as_bytes(), b"");
     let outcome = format!(in rt.alloc(); "sha256 {rim}")?;
     check_edited(rt, name, EDIT, bytes, outcome.as_str(), 1)
@@ -576,7 +579,7 @@ fn devicetrees_at_their_edges(rt: HostRuntime) -> Result<(), Fail> {
     Ok(())
 }
 
-/// What `rim fdt` shows of so many nodes, each in the one before it.
+/// What `rim fdt` shows of this many nodes, each in the one before it.
 fn deep_text(alloc: Global, depth: usize) -> Result<String, Fail> {
     let mut text = "boot_cpu 0\nnode /\n".to_string(alloc)?;
     let mut path = String::new(alloc);

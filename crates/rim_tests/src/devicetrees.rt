@@ -56,7 +56,7 @@ const SHOWN: [(&[u8], &str); 3] = [
 #[test]
 fn shown(rt: HostRuntime) {
     for (bytes, text) in &SHOWN {
-        let ran = ran_on(rt.alloc(), &WORDS, bytes);
+        let ran = ran_on(&rt, &WORDS, bytes);
         check(&rt, &ran, 0, text.as_bytes(), b"");
     }
 }
@@ -71,10 +71,10 @@ const REFUSED: [(&[u8], &str); 3] = [
 #[test]
 fn no_devicetree(rt: HostRuntime) {
     for (bytes, text) in &REFUSED {
-        let ran = ran_on(rt.alloc(), &WORDS, bytes);
+        let ran = ran_on(&rt, &WORDS, bytes);
         check(&rt, &ran, 3, b"", text.as_bytes());
     }
-    let ran = ran_on(rt.alloc(), &WORDS, &CHOSEN[..116]);
+    let ran = ran_on(&rt, &WORDS, &CHOSEN[..116]);
     check(&rt, &ran, 3, b"", b"rim: dtb-bad-block\n");
 }
 

@@ -4,7 +4,9 @@ use std::alloc::Global;
 use std::io;
 use std::io::{ErrorKind, Read, Write};
 use std::process::Abort;
+use std::sync::Wait;
 use std::test::Fail;
+use std::thread::Threads;
 
 pub const SMALLEST: &[u8] =
     b"rim_manifest = 1\n[[launch]]\nname = \"small\"\nalgo = \"sha256\"\ns2sz = 33\n";
@@ -39,17 +41,15 @@ pub struct Ran {
 }
 
 /// Runs the program on some words, where `manifest.toml` has these bytes.
-pub fn ran_on(alloc: Global, words: &[&str], manifest: &'static [u8]) -> Ran {
+pub fn ran_on(
+    rt: &(impl AllocGlobal + Threads + Wait + Sync),
+    words: &[&str],
+    manifest: &'static [u8],
+) -> Ran {
+    let alloc = rt.alloc();
     let mut out = Vec::new(alloc);
     let mut err = Vec::new(alloc);
-    let status = run(
-        &(),
-        alloc,
-        words,
-        &mut OneFile(manifest),
-        &mut out,
-        &mut err,
-    );
+    let status = run(rt, alloc, words, &mut OneFile(manifest), &mut out, &mut err);
     Ran { status, out, err }
 }
 
@@ -95,11 +95,12 @@ impl<'a> Opener for Folder<'a> {
 }
 
 /// A run of `measure manifest.toml` over some files.
-pub fn measured<O: Opener>(alloc: Global, files: &mut O) -> Ran {
+pub fn measured<O: Opener>(rt: &(impl AllocGlobal + Threads + Wait + Sync), files: &mut O) -> Ran {
+    let alloc = rt.alloc();
     let words = ["rim", "measure", "manifest.toml"];
     let mut out = Vec::new(alloc);
     let mut err = Vec::new(alloc);
-    let status = run(&(), alloc, &words, files, &mut out, &mut err);
+    let status = run(rt, alloc, &words, files, &mut out, &mut err);
     Ran { status, out, err }
 }
 

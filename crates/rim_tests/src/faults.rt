@@ -7,6 +7,8 @@ use rim_cli::{Opener, report_unreadable, run};
 use std::alloc::Global;
 use std::io;
 use std::io::{ErrorKind, Write};
+use std::sync::Wait;
+use std::thread::Threads;
 
 const MEASURE: [&str; 3] = ["rim", "measure", "manifest.toml"];
 
@@ -17,17 +19,23 @@ const UNREADABLE: &[u8] = b"rim: file-unreadable\n";
 const OUTPUT_FAILED: &[u8] = b"rim: output-failed\n";
 
 /// A run over some files.
-fn ran_over<O: Opener>(alloc: Global, opener: &mut O) -> Ran {
+fn ran_over<O: Opener>(rt: &(impl AllocGlobal + Threads + Wait + Sync), opener: &mut O) -> Ran {
+    let alloc = rt.alloc();
     let mut out = Vec::new(alloc);
     let mut err = Vec::new(alloc);
-    let status = run(&(), alloc, &MEASURE, opener, &mut out, &mut err);
+    let status = run(rt, alloc, &MEASURE, opener, &mut out, &mut err);
     Ran { status, out, err }
 }
 
 /// A run that writes to this; what it wrote is not looked at.
-fn ran_to<W: Write>(alloc: Global, words: &[&str], out: &mut W) -> Ran {
+fn ran_to<W: Write>(
+    rt: &(impl AllocGlobal + Threads + Wait + Sync),
+    words: &[&str],
+    out: &mut W,
+) -> Ran {
+    let alloc = rt.alloc();
     let mut err = Vec::new(alloc);
-    let status = run(&(), alloc, words, &mut OneFile(SMALLEST), out, &mut err);
+    let status = run(rt, alloc, words, &mut OneFile(SMALLEST), out, &mut err);
     Ran {
         status,
         out: Vec::new(alloc),
@@ -37,35 +45,35 @@ fn ran_to<W: Write>(alloc: Global, words: &[&str], out: &mut W) -> Ran {
 
 #[test]
 fn manifest_faults(rt: HostRuntime) {
-    let ran = ran_on(rt.alloc(), &MEASURE, b"rim_manifest = 3");
+    let ran = ran_on(&rt, &MEASURE, b"rim_manifest = 3");
     check(&rt, &ran, 3, b"", b"rim: version\n");
 }
 
 #[test]
 fn missing_file(rt: HostRuntime) {
-    let ran = ran_on(rt.alloc(), &OTHER, SMALLEST);
+    let ran = ran_on(&rt, &OTHER, SMALLEST);
     check(&rt, &ran, 3, b"", UNREADABLE);
 }
 
 #[test]
 fn failing_reader(rt: HostRuntime) {
     for reads in 0..4u8 {
-        let ran = ran_over(rt.alloc(), &mut FailingFiles(reads));
+        let ran = ran_over(&rt, &mut FailingFiles(reads));
         check(&rt, &ran, 3, b"", UNREADABLE);
     }
 }
 
 #[test]
 fn interrupted_reader(rt: HostRuntime) {
-    let ran = ran_over(rt.alloc(), &mut InterruptedFiles(1023));
+    let ran = ran_over(&rt, &mut InterruptedFiles(1023));
     check(&rt, &ran, 0, SMALLEST_REPORT, b"");
-    let ran = ran_over(rt.alloc(), &mut InterruptedFiles(u32::MAX));
+    let ran = ran_over(&rt, &mut InterruptedFiles(u32::MAX));
     check(&rt, &ran, 3, b"", UNREADABLE);
 }
 
 #[test]
 fn endless_reader(rt: HostRuntime) {
-    let ran = ran_over(rt.alloc(), &mut EndlessFiles);
+    let ran = ran_over(&rt, &mut EndlessFiles);
     check(&rt, &ran, 3, b"", b"rim: file-too-large\n");
 }
 
@@ -76,21 +84,21 @@ fn failing_output(rt: HostRuntime) {
         let mut out = FailingWriter {
             writes_left: writes,
         };
-        let ran = ran_to(rt.alloc(), &MEASURE, &mut out);
+        let ran = ran_to(&rt, &MEASURE, &mut out);
         check(&rt, &ran, 3, b"", OUTPUT_FAILED);
     }
 }
 
 #[test]
 fn failing_flush(rt: HostRuntime) {
-    let ran = ran_to(rt.alloc(), &MEASURE, &mut FailingFlush);
+    let ran = ran_to(&rt, &MEASURE, &mut FailingFlush);
     check(&rt, &ran, 3, b"", OUTPUT_FAILED);
 }
 
 #[test]
 fn failing_help(rt: HostRuntime) {
     let mut out = FailingWriter { writes_left: 2 };
-    let ran = ran_to(rt.alloc(), &["rim", "--help"], &mut out);
+    let ran = ran_to(&rt, &["rim", "--help"], &mut out);
     check(&rt, &ran, 3, b"", OUTPUT_FAILED);
 }
 
@@ -102,7 +110,7 @@ fn failing_standard_error(rt: HostRuntime) {
             writes_left: writes,
         };
         let opener = &mut OneFile(SMALLEST);
-        let status = run(&(), rt.alloc(), &OTHER, opener, &mut out, &mut err);
+        let status = run(&rt, rt.alloc(), &OTHER, opener, &mut out, &mut err);
         let ran = Ran {
             status,
             out,
@@ -137,6 +145,6 @@ fn unreadable_words(rt: HostRuntime) {
 
 #[test]
 fn no_memory_for_a_file(rt: HostRuntime) {
-    let ran = ran_over(rt.alloc(), &mut MemorylessFiles);
+    let ran = ran_over(&rt, &mut MemorylessFiles);
     check(&rt, &ran, 4, b"", b"rim: no-memory\n");
 }

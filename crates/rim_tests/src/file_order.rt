@@ -5,7 +5,9 @@ use rim_cli::Opener;
 use std::alloc::Global;
 use std::io;
 use std::io::Read;
+use std::sync::Wait;
 use std::test::Fail;
+use std::thread::Threads;
 
 /// A text, and zeros after it.
 #[derive(Drop)]
@@ -59,7 +61,12 @@ struct Seen {
 }
 
 /// Runs on a manifest of files `f0`, `f1` and so on at these paths.
-fn watched(alloc: Global, paths: &[&str], launches: &str) -> Result<Seen, Fail> {
+fn watched(
+    rt: &(impl AllocGlobal + Threads + Wait + Sync),
+    paths: &[&str],
+    launches: &str,
+) -> Result<Seen, Fail> {
+    let alloc = rt.alloc();
     let mut manifest = "rim_manifest = 1\n".to_string(alloc)?;
     for (number, path) in paths.iter().enumerate() {
         let file = format!(in alloc; "[[file]]\nname = 'f{number}'\npath = '{path}'\n")?;
@@ -70,7 +77,7 @@ fn watched(alloc: Global, paths: &[&str], launches: &str) -> Result<Seen, Fail> 
         manifest: manifest.as_bytes(),
         opened: String::new(alloc),
     };
-    let ran = measured(alloc, &mut files);
+    let ran = measured(rt, &mut files);
     let opened = files.opened;
     Ok(Seen { ran, opened })
 }
@@ -137,7 +144,7 @@ const ROWS: [Row; 9] = [
 #[test]
 fn files_in_their_order(rt: HostRuntime) -> Result<(), Fail> {
     for (paths, status, out, err, opened) in &ROWS {
-        let seen = watched(rt.alloc(), paths, "")?;
+        let seen = watched(&rt, paths, "")?;
         check_named(
             &rt,
             opened,
@@ -157,7 +164,7 @@ const TWO_PAGES: &str =
 
 #[test]
 fn two_files_of_one_path(rt: HostRuntime) -> Result<(), Fail> {
-    let seen = watched(rt.alloc(), &["4096", "4096"], TWO_PAGES)?;
+    let seen = watched(&rt, &["4096", "4096"], TWO_PAGES)?;
     let report =
         "rim-report 1\na sha256 2aea56f6afc6129fb3ffcda98bf5fd76750f794c222fb9f4f126d8070bbc71e8\npages 2\n";
     check_named(&rt, "two pages", &seen.ran, 0, report.as_bytes(), b"");

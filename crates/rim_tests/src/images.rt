@@ -14,7 +14,7 @@ const WORDS: [&str; 3] = ["rim", "image", "manifest.toml"];
 
 #[test]
 fn kernel(rt: HostRuntime) {
-    let ran = ran_on(rt.alloc(), &WORDS, &KERNEL);
+    let ran = ran_on(&rt, &WORDS, &KERNEL);
     let expected =
         b"text_offset 0000000000000000\nimage_size 00000000029f0000\nflags 000000000000000a\nload_offset 0000000000000000\nextent 00000000029f0000\n";
     check(&rt, &ran, 0, expected, b"");
@@ -34,9 +34,9 @@ fn size_not_stated(rt: HostRuntime) -> Result<(), Fail> {
 
 #[test]
 fn no_image(rt: HostRuntime) {
-    let short = ran_on(rt.alloc(), &WORDS, &KERNEL[..63]);
+    let short = ran_on(&rt, &WORDS, &KERNEL[..63]);
     check(&rt, &short, 3, b"", b"rim: kernel-short\n");
-    let other = ran_on(rt.alloc(), &WORDS, &[0; 64]);
+    let other = ran_on(&rt, &WORDS, &[0; 64]);
     check(&rt, &other, 3, b"", b"rim: kernel-bad-magic\n");
 }
 

@@ -2,7 +2,9 @@
 use super::fakes::{Folder, Ran, check, check_named, measured};
 use std::alloc::Global;
 use std::process::Abort;
+use std::sync::Wait;
 use std::test::Fail;
+use std::thread::Threads;
 
 /// The only file, of one byte. Files of one path are different files.
 const FILES: [(&str, &[u8]); 1] = [("one", b"*")];
@@ -61,8 +63,9 @@ fn recs(alloc: Global, count: usize) -> Result<String, Fail> {
     Ok(text)
 }
 
-/// The run on a manifest of one launch that has so many parts.
-fn ran(alloc: Global, counts: Counts) -> Result<Ran, Fail> {
+/// The run on a manifest of one launch that has this many parts.
+fn ran(rt: &(impl AllocGlobal + Threads + Wait + Sync), counts: Counts) -> Result<Ran, Fail> {
+    let alloc = rt.alloc();
     let files = files(alloc, counts.0)?;
     let regions = regions(alloc, counts.1)?;
     let items = items(alloc, counts.2)?;
@@ -74,7 +77,7 @@ fn ran(alloc: Global, counts: Counts) -> Result<Ran, Fail> {
         manifest: manifest.as_bytes(),
         files: &FILES,
     };
-    Ok(measured(alloc, &mut folder))
+    Ok(measured(rt, &mut folder))
 }
 
 const LIMIT: &str = "rim: limit\n";
@@ -118,7 +121,7 @@ const ROWS: [(&str, Counts, u8, &str, &str); 8] = [
 #[test]
 fn parts_of_a_launch(rt: HostRuntime) -> Result<(), Fail> {
     for (name, counts, status, out, err) in &ROWS {
-        let ran = ran(rt.alloc(), *counts)?;
+        let ran = ran(&rt, *counts)?;
         check_named(&rt, name, &ran, *status, out.as_bytes(), err.as_bytes());
     }
     Ok(())
@@ -142,9 +145,9 @@ fn launches(alloc: Global, count: usize) -> Result<(String, String), Fail> {
     Ok((manifest, report))
 }
 
-/// A run on so many launches.
+/// A run on this many launches.
 fn check_launches(
-    rt: &(impl Abort + AllocGlobal),
+    rt: &(impl Abort + AllocGlobal + Threads + Wait + Sync),
     count: usize,
     status: u8,
     err: &str,
@@ -154,7 +157,7 @@ fn check_launches(
         manifest: manifest.as_bytes(),
         files: &[],
     };
-    let ran = measured(rt.alloc(), &mut folder);
+    let ran = measured(rt, &mut folder);
     let out = if status == 0 { report.as_str() } else { "" };
     check(rt, &ran, status, out.as_bytes(), err.as_bytes());
     Ok(())
@@ -176,6 +179,6 @@ fn a_page_more_than_a_release_may_have(rt: HostRuntime) {
         manifest: PAGES,
         files: &FILES,
     };
-    let ran = measured(rt.alloc(), &mut folder);
+    let ran = measured(&rt, &mut folder);
     check(&rt, &ran, 3, b"", b"rim: too-many-pages\n");
 }

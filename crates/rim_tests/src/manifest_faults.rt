@@ -1,7 +1,9 @@
 //! Each fault of a manifest as the program reports it, alone and beside each other fault in both orders.
 use super::fakes::{Folder, check, check_named, measured};
 use std::process::Abort;
+use std::sync::Wait;
 use std::test::Fail;
+use std::thread::Threads;
 
 /// Launches at fault, and the fault, in the order of faults.
 const LAUNCHES: [(&str, &str); 8] = [
@@ -35,7 +37,7 @@ const LAUNCHES: [(&str, &str); 8] = [
 
 /// A manifest of these lines has this fault. Its file does not exist: no fault of a file comes before those of the manifest.
 fn check_fault(
-    rt: &(impl Abort + AllocGlobal),
+    rt: &(impl Abort + AllocGlobal + Threads + Wait + Sync),
     first: &str,
     launches: &str,
     last: &str,
@@ -49,14 +51,14 @@ fn check_fault(
         files: &[],
     };
     let line = format!(in rt.alloc(); "rim: {fault}\n")?;
-    let ran = measured(rt.alloc(), &mut files);
+    let ran = measured(rt, &mut files);
     check_named(rt, manifest.as_str(), &ran, 3, b"", line.as_bytes());
     Ok(())
 }
 
 /// A launch at fault and each launch with a later fault, in both orders.
 fn check_launch(
-    rt: &(impl Abort + AllocGlobal),
+    rt: &(impl Abort + AllocGlobal + Threads + Wait + Sync),
     launch: &str,
     fault: &str,
     later: &[(&str, &str)],
@@ -90,7 +92,11 @@ const TOPS: [(&str, &str); 4] = [
 ];
 
 /// A line at the top, before and after each launch at fault.
-fn check_top(rt: &(impl Abort + AllocGlobal), top: &str, fault: &str) -> Result<(), Fail> {
+fn check_top(
+    rt: &(impl Abort + AllocGlobal + Threads + Wait + Sync),
+    top: &str,
+    fault: &str,
+) -> Result<(), Fail> {
     for (launch, _) in &LAUNCHES {
         check_fault(rt, top, launch, "", fault)?;
         check_fault(rt, "", launch, top, fault)?;
@@ -112,6 +118,6 @@ fn bytes_that_are_no_text(rt: HostRuntime) {
         manifest: b"rim_manifest = 2 # \xff",
         files: &[],
     };
-    let ran = measured(rt.alloc(), &mut files);
+    let ran = measured(&rt, &mut files);
     check(&rt, &ran, 3, b"", b"rim: syntax\n");
 }

@@ -3,7 +3,9 @@ use super::fakes::{Folder, measured};
 use rim_release::{ManifestFault, read_manifest};
 use std::alloc::Global;
 use std::process::Abort;
+use std::sync::Wait;
 use std::test::Fail;
+use std::thread::Threads;
 
 /// All faults but want of memory.
 const FAULTS: [ManifestFault; 10] = [
@@ -20,12 +22,13 @@ const FAULTS: [ManifestFault; 10] = [
 ];
 
 /// The fault of a manifest that a run reports, `None` where it reports another fault or none.
-fn fault_of(alloc: Global, text: &str) -> Option<ManifestFault> {
+fn fault_of(rt: &(impl AllocGlobal + Threads + Wait + Sync), text: &str) -> Option<ManifestFault> {
+    let alloc = rt.alloc();
     let mut folder = Folder {
         manifest: text.as_bytes(),
         files: &[],
     };
-    let ran = measured(alloc, &mut folder);
+    let ran = measured(rt, &mut folder);
     if ran.status != 3 || !ran.out.is_empty() {
         return None;
     }
@@ -36,11 +39,15 @@ fn fault_of(alloc: Global, text: &str) -> Option<ManifestFault> {
 }
 
 /// The fault of a manifest of one launch that is well but for one more line.
-fn fault_with(alloc: Global, line: &str) -> Result<Option<ManifestFault>, Fail> {
+fn fault_with(
+    rt: &(impl AllocGlobal + Threads + Wait + Sync),
+    line: &str,
+) -> Result<Option<ManifestFault>, Fail> {
+    let alloc = rt.alloc();
     let text = format!(in alloc;
         "rim_manifest = 1\n[[launch]]\nname = \"a\"\nalgo = \"sha256\"\ns2sz = 33\n{line}\n"
     )?;
-    Ok(fault_of(alloc, text.as_str()))
+    Ok(fault_of(rt, text.as_str()))
 }
 
 const SYNTAX: Option<ManifestFault> = Some(ManifestFault::Syntax);
@@ -67,17 +74,20 @@ const NO_SUCH_FILE: Option<ManifestFault> = Some(ManifestFault::NoSuchFile);
 type Row = (&'static str, Option<ManifestFault>);
 
 /// Each line, in a manifest that is well but for it, has its fault.
-fn check_lines(rt: &(impl Abort + AllocGlobal), rows: &[Row]) -> Result<(), Fail> {
+fn check_lines(
+    rt: &(impl Abort + AllocGlobal + Threads + Wait + Sync),
+    rows: &[Row],
+) -> Result<(), Fail> {
     for (line, fault) in rows {
-        assert_eq!(rt; fault_with(rt.alloc(), line)?, *fault, "at {line}");
+        assert_eq!(rt; fault_with(rt, line)?, *fault, "at {line}");
     }
     Ok(())
 }
 
 /// Each text has its fault.
-fn check_texts(rt: &(impl Abort + AllocGlobal), rows: &[Row]) {
+fn check_texts(rt: &(impl Abort + AllocGlobal + Threads + Wait + Sync), rows: &[Row]) {
     for (text, fault) in rows {
-        assert_eq!(rt; fault_of(rt.alloc(), text), *fault, "at {text}");
+        assert_eq!(rt; fault_of(rt, text), *fault, "at {text}");
     }
 }
 
@@ -280,21 +290,21 @@ const FILES: [Row; 12] = [
 fn files(rt: HostRuntime) -> Result<(), Fail> {
     for (files, fault) in &FILES {
         let text = format!(in rt.alloc(); "rim_manifest = 1\nfile = {files}\n")?;
-        assert_eq!(rt;
-            fault_of(rt.alloc(), text.as_str()),
-            *fault,
-            "files {files}"
-        );
+        assert_eq!(rt; fault_of(&rt, text.as_str()), *fault, "files {files}");
     }
     Ok(())
 }
 
 /// The fault of a launch of one region that has these items, in a manifest of a file `f`.
-fn fault_of_items(alloc: Global, items: &str) -> Result<Option<ManifestFault>, Fail> {
+fn fault_of_items(
+    rt: &(impl AllocGlobal + Threads + Wait + Sync),
+    items: &str,
+) -> Result<Option<ManifestFault>, Fail> {
+    let alloc = rt.alloc();
     let text = format!(in alloc;
         "rim_manifest = 1\nfile = [{{name = \"f\", path = \"p\"}}]\n[[launch]]\nname = \"f\"\nalgo = \"sha256\"\ns2sz = 33\n{items}\n"
     )?;
-    Ok(fault_of(alloc, text.as_str()))
+    Ok(fault_of(rt, text.as_str()))
 }
 
 /// Items that are well but for what follows.
@@ -422,7 +432,7 @@ const ITEMS: [Row; 31] = [
 #[test]
 fn items(rt: HostRuntime) -> Result<(), Fail> {
     for (items, fault) in &ITEMS {
-        assert_eq!(rt; fault_of_items(rt.alloc(), items)?, *fault, "{items}");
+        assert_eq!(rt; fault_of_items(&rt, items)?, *fault, "{items}");
     }
     Ok(())
 }
@@ -468,19 +478,15 @@ fn steps(rt: HostRuntime) -> Result<(), Fail> {
         let lines = format!(in rt.alloc();
             "ram = [[0, 1]]\nitem = [{{name = \"a.1\", kind = \"raw\", file = \"f\", at = 0}}]\nrec = [{{}}, {{}}]\nsteps = {steps}"
         )?;
-        assert_eq!(rt;
-            fault_of_items(rt.alloc(), lines.as_str())?,
-            *fault,
-            "{steps}"
-        );
+        assert_eq!(rt; fault_of_items(&rt, lines.as_str())?, *fault, "{steps}");
     }
     Ok(())
 }
 
 #[test]
 fn no_steps_of_nothing(rt: HostRuntime) -> Result<(), Fail> {
-    assert_eq!(rt; fault_with(rt.alloc(), "steps = []")?, None);
-    assert_eq!(rt; fault_with(rt.alloc(), "steps = [\"ram 0\"]")?, BAD_STEP);
+    assert_eq!(rt; fault_with(&rt, "steps = []")?, None);
+    assert_eq!(rt; fault_with(&rt, "steps = [\"ram 0\"]")?, BAD_STEP);
     Ok(())
 }
 
@@ -503,7 +509,7 @@ const LATE_PAIRS: [Row; 3] = [
 #[test]
 fn faults_of_names_and_steps(rt: HostRuntime) -> Result<(), Fail> {
     for (lines, fault) in &LATE_PAIRS {
-        assert_eq!(rt; fault_of_items(rt.alloc(), lines)?, *fault, "{lines}");
+        assert_eq!(rt; fault_of_items(&rt, lines)?, *fault, "{lines}");
     }
     Ok(())
 }
@@ -526,11 +532,7 @@ fn how_many_files_and_items(rt: HostRuntime) -> Result<(), Fail> {
     for (count, fault) in &COUNTS {
         let files = tables_of(rt.alloc(), "file", "path = \"p\"", *count)?;
         let text = format!(in rt.alloc(); "rim_manifest = 1\n{files}\n")?;
-        assert_eq!(rt;
-            fault_of(rt.alloc(), text.as_str()),
-            *fault,
-            "{count} files"
-        );
+        assert_eq!(rt; fault_of(&rt, text.as_str()), *fault, "{count} files");
         let items = tables_of(
             rt.alloc(),
             "item",
@@ -538,7 +540,7 @@ fn how_many_files_and_items(rt: HostRuntime) -> Result<(), Fail> {
             *count,
         )?;
         assert_eq!(rt;
-            fault_of_items(rt.alloc(), items.as_str())?,
+            fault_of_items(&rt, items.as_str())?,
             *fault,
             "{count} items"
         );
@@ -569,7 +571,7 @@ const LENGTHS: [(&str, &str, usize, Option<ManifestFault>); 4] = [
 fn how_many_regions_and_recs(rt: HostRuntime) -> Result<(), Fail> {
     for (key, member, count, fault) in &LENGTHS {
         let line = array_of(rt.alloc(), key, member, *count)?;
-        let found = fault_with(rt.alloc(), line.as_str())?;
+        let found = fault_with(&rt, line.as_str())?;
         assert_eq!(rt; found, *fault, "{count} of {key}");
     }
     Ok(())
@@ -604,9 +606,13 @@ fn values_at_their_ends_and_past_them(rt: HostRuntime) -> Result<(), Fail> {
 }
 
 /// The fault of a manifest of one launch that has these lines alone.
-fn fault_of_launch(alloc: Global, lines: &str) -> Result<Option<ManifestFault>, Fail> {
+fn fault_of_launch(
+    rt: &(impl AllocGlobal + Threads + Wait + Sync),
+    lines: &str,
+) -> Result<Option<ManifestFault>, Fail> {
+    let alloc = rt.alloc();
     let text = format!(in alloc; "rim_manifest = 1\n[[launch]]\n{lines}\n")?;
-    Ok(fault_of(alloc, text.as_str()))
+    Ok(fault_of(rt, text.as_str()))
 }
 
 /// A text of this many letters.
@@ -631,7 +637,7 @@ const WIDTHS: [Row; 6] = [
 fn widths(rt: HostRuntime) -> Result<(), Fail> {
     for (s2sz, fault) in &WIDTHS {
         let lines = format!(in rt.alloc(); "name = \"a\"\nalgo = \"sha512\"\ns2sz = {s2sz}")?;
-        let found = fault_of_launch(rt.alloc(), lines.as_str())?;
+        let found = fault_of_launch(&rt, lines.as_str())?;
         assert_eq!(rt; found, *fault, "s2sz {s2sz}");
     }
     Ok(())
@@ -647,16 +653,19 @@ const ALGORITHMS: [Row; 3] = [
 fn algorithms(rt: HostRuntime) -> Result<(), Fail> {
     for (algo, fault) in &ALGORITHMS {
         let lines = format!(in rt.alloc(); "name = \"a\"\nalgo = {algo}\ns2sz = 33")?;
-        let found = fault_of_launch(rt.alloc(), lines.as_str())?;
+        let found = fault_of_launch(&rt, lines.as_str())?;
         assert_eq!(rt; found, *fault, "algo {algo}");
     }
     Ok(())
 }
 
 /// The fault of a launch of this name.
-fn fault_of_name(alloc: Global, name: &str) -> Result<Option<ManifestFault>, Fail> {
-    let lines = format!(in alloc; "name = \"{name}\"\nalgo = \"sha256\"\ns2sz = 33")?;
-    fault_of_launch(alloc, lines.as_str())
+fn fault_of_name(
+    rt: &(impl AllocGlobal + Threads + Wait + Sync),
+    name: &str,
+) -> Result<Option<ManifestFault>, Fail> {
+    let lines = format!(in rt.alloc(); "name = \"{name}\"\nalgo = \"sha256\"\ns2sz = 33")?;
+    fault_of_launch(rt, lines.as_str())
 }
 
 const NAMES: [Row; 5] = [
@@ -670,7 +679,7 @@ const NAMES: [Row; 5] = [
 #[test]
 fn names(rt: HostRuntime) -> Result<(), Fail> {
     for (name, fault) in &NAMES {
-        assert_eq!(rt; fault_of_name(rt.alloc(), name)?, *fault, "name {name}");
+        assert_eq!(rt; fault_of_name(&rt, name)?, *fault, "name {name}");
     }
     Ok(())
 }
@@ -680,7 +689,7 @@ fn longest_name(rt: HostRuntime) -> Result<(), Fail> {
     for (count, fault) in [(64, None), (65, RANGE)] {
         let name = letters(rt.alloc(), count)?;
         assert_eq!(rt;
-            fault_of_name(rt.alloc(), name.as_str())?,
+            fault_of_name(&rt, name.as_str())?,
             fault,
             "{count} letters"
         );
@@ -689,10 +698,15 @@ fn longest_name(rt: HostRuntime) -> Result<(), Fail> {
 }
 
 /// A realm personalization value of this many digits.
-fn fault_of_digits(alloc: Global, count: usize, last: &str) -> Result<Option<ManifestFault>, Fail> {
+fn fault_of_digits(
+    rt: &(impl AllocGlobal + Threads + Wait + Sync),
+    count: usize,
+    last: &str,
+) -> Result<Option<ManifestFault>, Fail> {
+    let alloc = rt.alloc();
     let digits = letters(alloc, count)?;
     let line = format!(in alloc; "rpv = \"{digits}{last}\"")?;
-    fault_with(alloc, line.as_str())
+    fault_with(rt, line.as_str())
 }
 
 /// What follows 126 digits, and the fault.
@@ -701,7 +715,7 @@ const ENDS: [Row; 4] = [("Fa", None), ("F", RANGE), ("Fab", RANGE), ("Fg", RANGE
 #[test]
 fn personalization_values(rt: HostRuntime) -> Result<(), Fail> {
     for (end, fault) in &ENDS {
-        let found = fault_of_digits(rt.alloc(), 126, end)?;
+        let found = fault_of_digits(&rt, 126, end)?;
         assert_eq!(rt; found, *fault, "ends in {end}");
     }
     Ok(())
@@ -727,7 +741,7 @@ fn how_many_launches(rt: HostRuntime) -> Result<(), Fail> {
     assert_eq!(rt; release.launch_named("n1023"), Some(1023));
     assert_eq!(rt; release.launch_named("n1024"), None);
     let more = many(rt.alloc(), 1025)?;
-    assert_eq!(rt; fault_of(rt.alloc(), more.as_str()), LIMIT);
+    assert_eq!(rt; fault_of(&rt, more.as_str()), LIMIT);
     Ok(())
 }
 
@@ -741,16 +755,21 @@ const PAIRS: [(&str, &str, Option<ManifestFault>); 5] = [
 ];
 
 /// The fault of these lines, one after the other.
-fn fault_of_both(alloc: Global, first: &str, second: &str) -> Result<Option<ManifestFault>, Fail> {
+fn fault_of_both(
+    rt: &(impl AllocGlobal + Threads + Wait + Sync),
+    first: &str,
+    second: &str,
+) -> Result<Option<ManifestFault>, Fail> {
+    let alloc = rt.alloc();
     let lines = format!(in alloc; "{first}\n{second}")?;
-    fault_with(alloc, lines.as_str())
+    fault_with(rt, lines.as_str())
 }
 
 #[test]
 fn two_faults_at_once(rt: HostRuntime) -> Result<(), Fail> {
     for (first, second, fault) in &PAIRS {
-        let forth = fault_of_both(rt.alloc(), first, second)?;
-        let back = fault_of_both(rt.alloc(), second, first)?;
+        let forth = fault_of_both(&rt, first, second)?;
+        let back = fault_of_both(&rt, second, first)?;
         assert_eq!(rt; (forth, back), (*fault, *fault), "{first}, {second}");
     }
     Ok(())
@@ -759,8 +778,8 @@ fn two_faults_at_once(rt: HostRuntime) -> Result<(), Fail> {
 #[test]
 fn two_launches_of_one_name(rt: HostRuntime) -> Result<(), Fail> {
     let two = "[[launch]]\nname = \"a\"\nalgo = \"sha256\"\ns2sz = 33\n";
-    let names = fault_with(rt.alloc(), two)?;
-    let range = fault_of_both(rt.alloc(), "num_aux = 17", two)?;
+    let names = fault_with(&rt, two)?;
+    let range = fault_of_both(&rt, "num_aux = 17", two)?;
     assert_eq!(rt; (names, range), (Some(ManifestFault::TwoNames), RANGE));
     Ok(())
 }

@@ -3,7 +3,9 @@
 use super::fakes::{Folder, Ran, check_named, measured};
 use std::alloc::Global;
 use std::process::Abort;
+use std::sync::Wait;
 use std::test::Fail;
+use std::thread::Threads;
 
 /// The header of an Image: text_offset 0, image_size 2 MiB.
 const IMAGE: [u8; 64] = [
@@ -613,7 +615,12 @@ const FILE_LINE: &str =
     "file = [{name = 'f', path = 'f'}, {name = 'g', path = 'g'}, {name = 'k', path = 'k'}, {name = 's', path = 's'}, {name = 'e', path = 'e'}, {name = 'n', path = 'n'}]";
 
 /// The run on a manifest of one launch, which is named `a`.
-fn ran(alloc: Global, ram: &str, keys: &str) -> Result<Ran, Fail> {
+fn ran(
+    rt: &(impl AllocGlobal + Threads + Wait + Sync),
+    ram: &str,
+    keys: &str,
+) -> Result<Ran, Fail> {
+    let alloc = rt.alloc();
     let manifest = format!(in alloc;
         "rim_manifest = 1\n{FILE_LINE}\nlaunch = [{{name = 'a', algo = 'sha256', ram = {ram}, {keys}}}]\n"
     )?;
@@ -621,13 +628,16 @@ fn ran(alloc: Global, ram: &str, keys: &str) -> Result<Ran, Fail> {
         manifest: manifest.as_bytes(),
         files: &FILES,
     };
-    Ok(measured(alloc, &mut files))
+    Ok(measured(rt, &mut files))
 }
 
 /// Each launch has its line.
-fn check_rows(rt: &(impl Abort + AllocGlobal), rows: &[Row]) -> Result<(), Fail> {
+fn check_rows(
+    rt: &(impl Abort + AllocGlobal + Threads + Wait + Sync),
+    rows: &[Row],
+) -> Result<(), Fail> {
     for (name, ram, keys, outcome, pages) in rows {
-        let ran = ran(rt.alloc(), ram, keys)?;
+        let ran = ran(rt, ram, keys)?;
         let report = format!(in rt.alloc(); "rim-report 1\na {outcome}\npages {pages}\n")?;
         let status = if outcome.starts_with("refused") { 1 } else { 0 };
         check_named(rt, name, &ran, status, report.as_bytes(), b"");

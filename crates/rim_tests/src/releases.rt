@@ -3,6 +3,8 @@
 use super::fakes::{Ran, check};
 use rim_cli::{Opener, run};
 use std::alloc::Global;
+use std::sync::Wait;
+use std::thread::Threads;
 
 const MEASURE: [&str; 3] = ["rim", "measure", "manifest.toml"];
 
@@ -201,21 +203,22 @@ const CASES: [Case; 26] = [
     ),
 ];
 
-fn ran(alloc: Global, launches: &str) -> Ran {
+fn ran(rt: &(impl AllocGlobal + Threads + Wait + Sync), launches: &str) -> Ran {
+    let alloc = rt.alloc();
     let mut manifest = Vec::new(alloc);
     let mut out = Vec::new(alloc);
     let mut err = Vec::new(alloc);
     let _ = manifest.extend_from_slice(FILES.as_bytes());
     let _ = manifest.extend_from_slice(launches.as_bytes());
     let mut files = Given(manifest.as_slice());
-    let status = run(&(), alloc, &MEASURE, &mut files, &mut out, &mut err);
+    let status = run(rt, alloc, &MEASURE, &mut files, &mut out, &mut err);
     Ran { status, out, err }
 }
 
 #[test]
 fn reports(rt: HostRuntime) {
     for (launches, status, report) in CASES {
-        let ran = ran(rt.alloc(), launches);
+        let ran = ran(&rt, launches);
         check(&rt, &ran, status, report.as_bytes(), b"");
     }
 }

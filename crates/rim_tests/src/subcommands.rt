@@ -110,7 +110,7 @@ const CASES: [Case; 11] = [
 #[test]
 fn listings_and_audits(rt: HostRuntime) {
     for (words, manifest, status, out, err) in CASES {
-        let ran = ran_on(rt.alloc(), words, manifest);
+        let ran = ran_on(&rt, words, manifest);
         check(&rt, &ran, status, out.as_bytes(), err.as_bytes());
     }
 }

@@ -5,7 +5,9 @@ ghost use Rattle.std.specs.Prelude.{◌<◌};
 use super::fakes::{Ran, check};
 use rim_cli::{Opener, run};
 use std::alloc::{AllocError, Global};
+use std::sync::Wait;
 use std::test::Fail;
+use std::thread::Threads;
 
 /// `examples/vm/manifest.toml`.
 const MANIFEST: &str =
@@ -103,10 +105,15 @@ const CASES: [(&[&str], u8, &str); 4] = [
     ),
 ];
 
-fn ran(alloc: Global, words: &[&str], example: &mut Example) -> Ran {
+fn ran(
+    rt: &(impl AllocGlobal + Threads + Wait + Sync),
+    words: &[&str],
+    example: &mut Example,
+) -> Ran {
+    let alloc = rt.alloc();
     let mut out = Vec::new(alloc);
     let mut err = Vec::new(alloc);
-    let status = run(&(), alloc, words, example, &mut out, &mut err);
+    let status = run(rt, alloc, words, example, &mut out, &mut err);
     Ran { status, out, err }
 }
 
@@ -119,7 +126,7 @@ fn example_of_a_virtual_machine(rt: HostRuntime) -> Result<(), Fail> {
             image: image.as_slice(),
             initrd: initrd.as_slice(),
         };
-        let ran = ran(rt.alloc(), words, &mut example);
+        let ran = ran(&rt, words, &mut example);
         check(&rt, &ran, status, text.as_bytes(), b"");
     }
     Ok(())

@@ -3,7 +3,7 @@ use super::fakes::{SMALLEST, SMALLEST_REPORT, begins, check, ran_on};
 
 #[test]
 fn smallest_manifest(rt: HostRuntime) {
-    let ran = ran_on(rt.alloc(), &["rim", "measure", "manifest.toml"], SMALLEST);
+    let ran = ran_on(&rt, &["rim", "measure", "manifest.toml"], SMALLEST);
     check(&rt, &ran, 0, SMALLEST_REPORT, b"");
 }
 
@@ -41,7 +41,7 @@ const WORKERS: [(&[&str], u8); 9] = [
 #[test]
 fn numbers_of_workers(rt: HostRuntime) {
     for (words, status) in &WORKERS {
-        let ran = ran_on(rt.alloc(), words, SMALLEST);
+        let ran = ran_on(&rt, words, SMALLEST);
         assert_eq!(rt; ran.status, *status, "{words:?}");
         assert!(rt; ran.out.is_empty() == (*status != 0), "{words:?}");
         assert!(rt; begins(&ran.err, "error: ") == (*status == 2), "{words:?}");
@@ -77,7 +77,7 @@ const USAGES: [(&[&str], &str); 10] = [
 #[test]
 fn usage(rt: HostRuntime) {
     for (words, start) in &USAGES {
-        let ran = ran_on(rt.alloc(), words, SMALLEST);
+        let ran = ran_on(&rt, words, SMALLEST);
         assert_eq!(rt; ran.status, 2, "{words:?}");
         assert!(rt; ran.out.is_empty(), "{words:?}");
         assert!(rt; begins(&ran.err, start), "{words:?}");
@@ -97,7 +97,7 @@ const TEXTS: [(&[&str], &str); 6] = [
 #[test]
 fn help_and_version(rt: HostRuntime) {
     for (words, start) in &TEXTS {
-        let ran = ran_on(rt.alloc(), words, SMALLEST);
+        let ran = ran_on(&rt, words, SMALLEST);
         assert_eq!(rt; ran.status, 0, "{words:?}");
         assert!(rt; ran.err.is_empty(), "{words:?}");
         assert!(rt; begins(&ran.out, start), "{words:?}");
