@@ -96,7 +96,7 @@ fn release(alloc: Global) -> Result<(Release, Vec<Vec<u8>>), Fail> {
 fn two_workers_at_a_time(rt: HostRuntime) -> Result<(), Fail> {
     let alloc = rt.alloc();
     let (release, files) = release(alloc)?;
-    assert_eq!(rt; release.file_count(), 1);
+    assert_eq!(rt; files.len(), release.file_count());
     let alone = measure_alone(alloc, &release, &files)?;
     let gate = Hold {
         begun: AtomicU64::new(0),
@@ -126,9 +126,7 @@ fn report_by<R: Threads + Wait + Abort + Sync>(
     alone: &[u8],
 ) -> Result<(), Fail> {
     let (release, files) = release(alloc)?;
-    if release.file_count() != 1 {
-        return Ok(());
-    }
+    assert_eq!(rt; files.len(), release.file_count());
     let outcome = measure_release(rt, alloc, &FreeGate, &release, &files, workers)?;
     assert_eq!(rt; outcome.report.as_slice(), alone);
     assert_eq!(rt; outcome.shares.len(), workers);
@@ -139,7 +137,7 @@ fn report_by<R: Threads + Wait + Abort + Sync>(
 fn one_worker_and_many(rt: HostRuntime) -> Result<(), Fail> {
     let alloc = rt.alloc();
     let (release, files) = release(alloc)?;
-    assert_eq!(rt; release.file_count(), 1);
+    assert_eq!(rt; files.len(), release.file_count());
     let alone = measure_alone(alloc, &release, &files)?;
     for workers in [1, 2, 3, 16, 64] {
         report_by(&rt, alloc, workers, &alone)?;
@@ -151,7 +149,7 @@ fn one_worker_and_many(rt: HostRuntime) -> Result<(), Fail> {
 fn no_worker_and_too_many(rt: HostRuntime) -> Result<(), Fail> {
     let alloc = rt.alloc();
     let (release, files) = release(alloc)?;
-    assert_eq!(rt; release.file_count(), 1);
+    assert_eq!(rt; files.len(), release.file_count());
     for workers in [0, 65, usize::MAX] {
         let answer = measure_release(&rt, alloc, &FreeGate, &release, &files, workers);
         assert!(rt; matches!(answer, Err(StartFault::Workers)));
