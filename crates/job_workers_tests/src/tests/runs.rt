@@ -1,5 +1,8 @@
 //! Runs of workers over pages: what is counted, who is started, and what is called around each job.
-ghost use Rattle.std.specs.Prelude.{◌≡◌, [], length, replicate, None};
+ghost use Rattle.std.specs.Prelude.{◌≡◌, [], IfOk, length, map, replicate, None};
+ghost use Rattle.page_jobs.specs.Key.{IsRising};
+ghost use Rattle.page_jobs.specs.Page.{page_view};
+ghost use Rattle.page_jobs.specs.Table.{keys_of};
 
 use job_board::{BoardState, JobId, Share, Work};
 use job_workers::{Board, Gate, Run, run_workers_on};
@@ -54,7 +57,7 @@ impl Gate for Hold {
     }
 }
 
-fn hold(turns: u64) -> Hold {
+fn holding(turns: u64) -> Hold {
     Hold {
         first: AtomicU64::new(0),
         others: AtomicU64::new(0),
@@ -63,7 +66,9 @@ fn hold(turns: u64) -> Hold {
 }
 
 /// Pages 0 to 6 of these bytes.
-fn pages(alloc: Global) -> Result<Vec<Page<'static>>, NoMemory> {
+fn pages(alloc: Global) -> Result<Vec<Page<'static>>, NoMemory>
+    ensures { IfOk result (λ pages. IsRising (keys_of (map page_view pages.items))) }
+{
     let mut pages = Vec::new(alloc);
     for number in 0..7 {
         pages.push(Blob::new(Source::File(0), 0, &BYTES).page(Algo::Sha256, number))?;
@@ -103,7 +108,7 @@ fn run<L: Run + Send + Sync, R: Threads + Wait + Abort + Sync>(
 fn two_workers_at_a_time(rt: HostRuntime) -> Result<(), Fail> {
     let pages = pages(rt.alloc())?;
     let table = Table::reserve(rt.alloc(), &pages)?;
-    let gate = hold(100_000_000);
+    let gate = holding(100_000_000);
     run::<Brand, HostRuntime>(&rt, rt.alloc(), Blank::new(2), table, &gate, STACK, 2)?;
     assert!(rt; gate.others.load(Ordering::SeqCst) > 0);
     Ok(())
@@ -113,7 +118,7 @@ fn two_workers_at_a_time(rt: HostRuntime) -> Result<(), Fail> {
 fn no_worker_can_be_started(rt: HostRuntime) -> Result<(), Fail> {
     let pages = pages(rt.alloc())?;
     let table = Table::reserve(rt.alloc(), &pages)?;
-    let gate = hold(0);
+    let gate = holding(0);
     run::<Brand, HostRuntime>(&rt, rt.alloc(), Blank::new(2), table, &gate, usize::MAX, 1)?;
     assert_eq!(rt; gate.first.load(Ordering::SeqCst), 7);
     Ok(())
