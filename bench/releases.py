@@ -1,5 +1,5 @@
 #!/usr/bin/env python3
-"""Times `rim measure` on large releases beside a bare loop, and weighs it beside the files. Not part of the gate.
+"""Times `rim measure` by one worker on large releases beside a bare loop, and weighs it beside the files. Not part of the gate.
 
 usage: bench/releases.py [RUNS [WORD]]
 
@@ -91,7 +91,7 @@ def main():
             with open(path, "w") as file:
                 file.write("rim_manifest = 1\n" + text)
             files = [os.path.join(folder, name) for name in names]
-            commands = [[program, "measure", path], [bare, str(extensions), *files], [bare, "read", *files]]
+            commands = [[program, "measure", path, "--workers", "1"], [bare, str(extensions), *files], [bare, "read", *files]]
             (time, loop, read), memory = least(commands, runs)
             ratios = f"ratio {time / loop:.3f}, without the reading {time / (loop - read):.3f}"
             print(f"{what}: {time:.3f} s, a bare loop {loop:.3f} s, reading {read:.3f} s; {ratios}; {memory - size / MIB:.0f} MB beside the files", flush=True)
