@@ -1,5 +1,5 @@
 -- A new board.
-use Rattle.std.proofs.Common.{◌≡◌, ℕ, zero, suc, ◌+◌, ◌<◌, Bool, false, cond, not, List, [], ◌∷◌, ◌++◌, length, get_or, map, replicate, Option, Some, None, refl, sym, ap, ◌∙◌, subst, arith}
+use Rattle.std.proofs.Common.{◌≡◌, ℕ, zero, suc, ◌<◌, Bool, false, cond, not, List, [], ◌∷◌, length, get_or, map, replicate, Option, Some, None, refl, sym, ap, ◌∙◌, subst, arith}
 use Rattle.std.specs.Prelude.{is_some}
 use Rattle.std.specs.List.{All, Contains, count_by, range_with_len, slice_get}
 use Rattle.std.proofs.lemmas.List.{get_or-map, get_or-replicate, length-map, length-replicate}
@@ -36,19 +36,6 @@ rows_new workers pages needs plans rows spare count size there spares roomy = re
 }
 
 -- ---- numbers in order
-
-range_more : (a n : ℕ) → range_with_len a (n + 1) ≡ range_with_len a n ++ (a + n) ∷ []
-range_more a n = let same : suc n ≡ n + 1 = omega arith in subst (λ (k : ℕ). range_with_len a k ≡ range_with_len a n ++ (a + n) ∷ []) same (more a n)
-  where
-    more : (b m : ℕ) → range_with_len b (suc m) ≡ range_with_len b m ++ (b + m) ∷ []
-    more b zero = let same : b ≡ b + 0 = omega arith in ap (λ (k : ℕ). k ∷ []) same
-    more b (suc m) =
-        let rest = more (b + 1) m in
-        let same : b + 1 + m ≡ b + suc m = omega arith in
-        ap (λ (ks : List ℕ). b ∷ ks) rest ∙ ap (λ (k : ℕ). b ∷ range_with_len (b + 1) m ++ k ∷ []) same
-
-pub numbers_more : (n : ℕ) → range_with_len 0 (n + 1) ≡ range_with_len 0 n ++ n ∷ []
-numbers_more n = let same : 0 + n ≡ n = omega arith in range_more 0 n ∙ ap (λ (k : ℕ). range_with_len 0 n ++ k ∷ []) same
 
 pub all_within : (n pages : ℕ) → NeedsWithin (replicate n (range_with_len 0 pages)) pages
 all_within n pages = λ k d lt.

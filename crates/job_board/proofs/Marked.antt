@@ -3,7 +3,7 @@ use Rattle.std.proofs.Common.{min, ◌≡◌, ℕ, zero, suc, ◌+◌, ◌-◌, 
 use Rattle.std.specs.Prelude.{◌==◌, ◌⊎◌, IfSome, OnErr}
 use Rattle.refusal.specs.Answer.{Matches}
 use Rattle.job_board.specs.declared.job.CoreFault.{CoreFault}
-use Rattle.std.specs.List.{count_by, list_all, slice_get}
+use Rattle.std.specs.List.{count_by, list_all, range_with_len, slice_get}
 use Rattle.std.proofs.lemmas.List.{get_or_read, length-replicate}
 use Rattle.std.proofs.lemmas.List.Sums.{sum_by-cons}
 use Rattle.std.proofs.lemmas.Option.{same_Some}
@@ -277,7 +277,7 @@ ready_at f (p ∷ ps) (suc n) le done stops =
     same ∙ (rest ∙ ap (λ (b : Bool). b && list_all f ps) (sym here))
 
 -- a launch whose needs are done as far as was seen, and from there to a place
-pub ready_here : (f g p q : ℕ) (seen : List ℕ) (s : CoreState) (l : ℕ) (needed : List ℕ) (states : List JobState) (from end : ℕ) → Marks f g p q seen s → l < length s.launches
+pub ready_here : (f g p q : ℕ) (seen : List ℕ) (s : CoreState) (l : ℕ) (needed : List ℕ) (states : List JobState) (from end : ℕ) → Marks f g p q seen s → l < length seen
     → needed ≡ get_or s.needs l [] → states ≡ s.pages → from ≡ get_or seen l from
     → (from ≤ end) × (end ≤ length needed)
     → ((k : ℕ) → from ≤ k → k < end → is_page_done states (get_or needed k 0) ≡ true)
@@ -287,7 +287,7 @@ ready_here f g p q seen s l needed states from end m lt needs pages start within
     ready_at (is_page_done states) needed end within.1 before stops ∙ (ap (λ (ns : List ℕ). list_all (is_page_done states) ns) needs ∙ ap (λ (xs : List JobState). list_all (is_page_done xs) (get_or s.needs l [])) pages)
   where
     seen_here : from ≡ get_or seen l 0
-    seen_here = get_or_read seen l from (omega (arith, lt, m.size)) start 0
+    seen_here = get_or_read seen l from lt start 0
 
     before_at : (k : ℕ) → k < end → (k < from) ⊎ (from ≤ k) → is_page_done states (get_or needed k 0) ≡ true
     before_at k lt_end (inl low) =
@@ -297,3 +297,20 @@ ready_here f g p q seen s l needed states from end m lt needs pages start within
 
     before : (k : ℕ) → k < end → is_page_done states (get_or needed k 0) ≡ true
     before k lt_end = before_at k lt_end (cases_lt k from)
+
+-- that all pages are done, asked by number
+pub all_by_number : (states : List JobState) → list_all (is_page_done states) (range_with_len 0 (length states)) ≡ list_all is_done states
+all_by_number states = from (is_page_done states) states 0 (λ k. let same : 0 + k ≡ k = omega arith in ap (is_page_done states) same)
+  where
+    from : (f : ℕ → Bool) (xs : List JobState) (a : ℕ) → ((k : ℕ) → f (a + k) ≡ is_page_done xs k) → list_all f (range_with_len a (length xs)) ≡ list_all is_done xs
+    from f [] a same = refl
+    from f (x ∷ xs) a same =
+        let at : a ≡ a + 0 = omega arith in
+        let first : f a ≡ is_done x = ap f at ∙ same 0 in
+        let rest = from f xs (a + 1) (λ k. let next : a + 1 + k ≡ a + suc k = omega arith in ap f next ∙ same (suc k)) in
+        ap (λ (b : Bool). b && list_all f (range_with_len (a + 1) (length xs))) first ∙ ap (λ (b : Bool). is_done x && b) rest
+
+-- a launch that needs all pages, where as many are left
+pub all_ready : (f g p q : ℕ) (seen : List ℕ) (s : CoreState) (l : ℕ) → Marks f g p q seen s → get_or s.needs l [] ≡ range_with_len 0 (length s.pages) → (p == 0) ≡ is_ready s (Launch l)
+all_ready f g p q seen s l m all =
+    none_left s.pages p m.pages ∙ (sym (all_by_number s.pages) ∙ ap (λ (ns : List ℕ). list_all (is_page_done s.pages) ns) (sym all))

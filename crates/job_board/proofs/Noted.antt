@@ -11,7 +11,7 @@ use Rattle.job_board.specs.declared.job.JobId.{JobId}
 use Rattle.job_board.specs.declared.job.JobId.TheVariants.{Page, Launch}
 use Rattle.job_board.specs.declared.job.JobState.{JobState}
 use Rattle.job_board.specs.declared.job.JobState.TheVariants.{Free, Held}
-use Rattle.job_board.specs.Jobs.{CoreState, is_held_by, is_out, state_of, with_job, held_count, freed}
+use Rattle.job_board.specs.Jobs.{CoreState, is_held_by, is_out, state_of, with_job, with_page, held_count, freed}
 use Rattle.job_board.specs.Events.{same_job}
 use Rattle.job_board.specs.inside.Notes.{held_of, released, Notes, Moves, IsJob}
 use Rattle.job_board.proofs.Counting.{bit, total-with_job, sum_by-replicate_zero}
@@ -23,6 +23,11 @@ no_job n = None
 pub job_in : (s : CoreState) (job : JobId) (x : JobState) → state_of s job ≡ Some x → IsJob job (length s.pages) (length s.launches)
 job_in s (Page j) x at = slice_get_within s.pages j x at
 job_in s (Launch l) x at = slice_get_within s.launches l x at
+
+-- as many pages after one job changes
+pub pages_stay : (s : CoreState) (job : JobId) (x : JobState) → length (with_page job x s.pages) ≡ length s.pages
+pages_stay s (Page j) x = length-set s.pages j x
+pages_stay s (Launch l) x = refl
 
 pub worker_in : (s : CoreState) (holding : List (Option JobId)) (w : ℕ) → Notes holding s → is_out s w ≡ false → w < length holding
 worker_in s holding w n known = let r = slice_get_within s.retired w false (not_out s w known) in omega (arith, r, n.size)

@@ -1,4 +1,5 @@
 -- What the fields of this crate keep.
 pub mod Notes
 pub mod Marks
+pub mod Needs
 pub mod Rows

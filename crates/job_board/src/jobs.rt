@@ -1,13 +1,15 @@
 //! How each job is, and what each event makes of it.
-ghost use Rattle.std.specs.Prelude.{◌≡◌, [], false, length, map, IfOk, IfSome, OnErr, Some, slice_index_or};
-ghost use Rattle.std.specs.List.{list_all};
+ghost use Rattle.std.specs.Prelude.{◌≡◌, [], false, length, IfNone, IfOk, IfSome, OnErr, Some, slice_index_or};
+ghost use Rattle.std.specs.List.{range_with_len};
 ghost use Rattle.refusal.specs.Answer.{Matches};
 ghost use Rattle.job_board.specs.declared.job.Event.{Event};
-ghost use Rattle.job_board.specs.Jobs.{held_count, is_free, is_out, is_page_done, is_ready, opening, state_of, with_job, with_launch, with_page};
+ghost use Rattle.job_board.specs.Jobs.{held_count, is_free, is_out, is_ready, opening, state_of, with_job, with_launch, with_page};
 ghost use Rattle.job_board.specs.Step.{core_step, job_is};
+ghost use Rattle.job_board.specs.inside.Needs.{needs_of};
 ghost use Rattle.job_board.specs.inside.Notes.{IsJob, Moves, held_of, released};
 
 use crate::job::{CoreFault, JobId, JobState};
+use crate::needs::Needs;
 use refusal::NoMemory;
 use std::alloc::Global;
 use std::marker::Model;
@@ -18,37 +20,37 @@ pub(crate) struct Jobs {
     retired: Vec<bool>,
     pages: Vec<JobState>,
     launches: Vec<JobState>,
-    needs: Vec<Vec<usize>>,
+    needs: Needs,
     /// What each worker holds.
     holding: Vec<Option<JobId>>,
 }
 
 impl Model for Jobs {
-    ghost use Rattle.std.specs.Prelude.{map};
+    ghost use Rattle.std.specs.Prelude.{length};
     ghost use Rattle.job_board.specs.Jobs.{CoreState};
+    ghost use Rattle.job_board.specs.inside.Needs.{needs_of};
     ghost use Rattle.job_board.specs.inside.Notes.{Notes};
 
     ghost Value = { CoreState };
 
-    ghost view = { λ c. record { retired = c.retired.items; pages = c.pages.items; launches = c.launches.items; needs = map (λ v. v.items) c.needs.items } };
+    ghost view = { λ c. record { retired = c.retired.items; pages = c.pages.items; launches = c.launches.items; needs = needs_of (length c.pages.items) c.needs } };
 
-    ghost invariant = { λ c. Notes c.holding.items (record { retired = c.retired.items; pages = c.pages.items; launches = c.launches.items; needs = map (λ v. v.items) c.needs.items }) };
+    ghost invariant = { λ c. Notes c.holding.items (record { retired = c.retired.items; pages = c.pages.items; launches = c.launches.items; needs = needs_of (length c.pages.items) c.needs }) };
 }
 
 impl Jobs {
-    /// This many workers and pages, and launches that need the pages listed. No worker is retired, and each job
-    /// is free.
+    /// This many workers and pages, and launches with these needs. No worker is retired, and each job is free.
     pub(crate) fn new(
         alloc: Global,
         workers: usize,
         pages: usize,
-        needs: Vec<Vec<usize>>,
+        needs: Needs,
     ) -> Result<Jobs, NoMemory>
-        ensures { IfOk result (λ c. c ≡ opening workers pages (map (λ v. v.items) needs.items)) }
+        ensures { IfOk result (λ c. c ≡ opening workers pages (needs_of pages needs)) }
     {
         let retired = vec![in alloc; false; workers]?;
         let pages = vec![in alloc; JobState::Free; pages]?;
-        let launches = vec![in alloc; JobState::Free; needs.len()]?;
+        let launches = vec![in alloc; JobState::Free; needs.launches()]?;
         let holding = vec![in alloc; None; workers]?;
         Ok(Jobs {
             retired,
@@ -59,8 +61,10 @@ impl Jobs {
         })
     }
 
-    /// Takes a job, or answers the first fault that holds and changes nothing.
-    pub(crate) fn take(&mut self, worker: usize, job: JobId) -> Result<(), CoreFault>
+    /// Takes a job, or answers the first fault that holds and changes nothing. Whether the job is ready is known to
+    /// the caller, who has marks for it.
+    pub(crate) fn take(&mut self, worker: usize, job: JobId, ready: bool) -> Result<(), CoreFault>
+        requires { ready ≡ is_ready self.old job }
         ensures step { Matches (λ u. self.new) result (core_step self.old (Event.Take worker job)) }
         ensures same { OnErr result (self.new ≡ self.old) }
     {
@@ -76,7 +80,7 @@ impl Jobs {
         if !matches!(state, JobState::Free) {
             return Err(CoreFault::Taken);
         }
-        if !self.is_ready(job) {
+        if !ready {
             return Err(CoreFault::Early);
         }
         self.write(worker, job, JobState::Held(worker), Some(job));
@@ -192,24 +196,12 @@ impl Jobs {
         self.launches.as_slice()
     }
 
-    /// The pages that a launch needs.
-    pub(crate) fn needs(&self, launch: usize) -> &[usize]
-        ensures { result.now ≡ slice_index_or self.now.needs launch [] }
+    /// The pages that are listed for a launch, or `None` where it needs all.
+    pub(crate) fn needs(&self, launch: usize) -> Option<&[usize]>
+        ensures listed { IfSome result (λ list. list.now ≡ slice_index_or self.now.needs launch []) }
+        ensures all { IfNone result (slice_index_or self.now.needs launch [] ≡ range_with_len 0 (length self.now.pages)) }
     {
-        match self.needs.get(launch) {
-            Some(needed) => needed.as_slice(),
-            None => &[],
-        }
-    }
-
-    /// Whether all pages that a job needs are done.
-    fn is_ready(&self, job: JobId) -> bool
-        ensures { result ≡ is_ready self.now job }
-    {
-        match job {
-            JobId::Page(_) => true,
-            JobId::Launch(launch) => all_done(&self.pages, self.needs(launch)),
-        }
+        self.needs.listed(launch)
     }
 }
 
@@ -223,13 +215,4 @@ fn set_job(pages: &mut Vec<JobState>, launches: &mut Vec<JobState>, job: JobId, 
         JobId::Page(page) => pages[page] = state,
         JobId::Launch(launch) => launches[launch] = state,
     }
-}
-
-/// Whether some pages are all done.
-fn all_done(states: &[JobState], pages: &[usize]) -> bool
-    ensures { result ≡ list_all (is_page_done states.now) pages.now }
-{
-    pages
-        .iter()
-        .all(|page| matches!(states.get(*page), Some(JobState::Done)))
 }

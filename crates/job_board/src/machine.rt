@@ -4,9 +4,11 @@ ghost use Rattle.refusal.specs.Answer.{Matches};
 ghost use Rattle.job_board.specs.Jobs.{IsCore, NeedsWithin, held_count, is_out, is_over, is_page_done, is_ready, opening, state_of};
 ghost use Rattle.job_board.specs.Step.{core_step};
 ghost use Rattle.job_board.specs.inside.Marks.{lowered_launch, lowered_page};
+ghost use Rattle.job_board.specs.inside.Needs.{needs_of};
 
 use crate::job::{CoreFault, Event, JobId, JobState};
 use crate::jobs::Jobs;
+use crate::needs::Needs;
 use refusal::NoMemory;
 use std::alloc::Global;
 use std::marker::Model;
@@ -51,7 +53,21 @@ impl Core {
         requires needs { NeedsWithin (map (λ v. v.items) needs.items) pages }
         ensures { IfOk result (λ c. c ≡ opening workers pages (map (λ v. v.items) needs.items)) }
     {
-        let launches = needs.len();
+        Core::with_needs(alloc, workers, pages, Needs::Listed(needs))
+    }
+
+    /// A core of 1 to 64 workers and this many pages, and of launches with these needs.
+    pub(crate) fn with_needs(
+        alloc: Global,
+        workers: usize,
+        pages: usize,
+        needs: Needs,
+    ) -> Result<Core, NoMemory>
+        requires workers { (1 ≤ workers) × (workers ≤ 64) }
+        requires needs { NeedsWithin (needs_of pages needs) pages }
+        ensures { IfOk result (λ c. c ≡ opening workers pages (needs_of pages needs)) }
+    {
+        let launches = needs.launches();
         let seen = vec![in alloc; 0; launches]?;
         let jobs = Jobs::new(alloc, workers, pages, needs)?;
         Ok(Core {
@@ -70,10 +86,18 @@ impl Core {
         ensures same { OnErr result (self.new ≡ self.old) }
     {
         match *event {
-            Event::Take { worker, job } => self.jobs.take(worker, job),
+            Event::Take { worker, job } => self.take(worker, job),
             Event::Put { worker, job } => self.put(worker, job),
             Event::Retire { worker } => self.retire(worker),
         }
+    }
+
+    fn take(&mut self, worker: usize, job: JobId) -> Result<(), CoreFault>
+        ensures step { Matches (λ u. self.new) result (core_step self.old (Event.Take worker job)) }
+        ensures same { OnErr result (self.new ≡ self.old) }
+    {
+        let ready = self.is_ready(job);
+        self.jobs.take(worker, job, ready)
     }
 
     fn put(&mut self, worker: usize, job: JobId) -> Result<(), CoreFault>
@@ -179,7 +203,8 @@ impl Core {
     {
         let from = self.free_launch_from();
         for launch in from..self.launches() {
-            if self.jobs.is_free(JobId::Launch(launch)) && self.is_ready(launch) {
+            let job = JobId::Launch(launch);
+            if self.jobs.is_free(job) && self.is_ready(job) {
                 return Some(launch);
             }
         }
@@ -197,13 +222,29 @@ impl Core {
         from
     }
 
-    /// Whether all pages that a launch needs are done.
-    fn is_ready(&mut self, launch: usize) -> bool
-        requires { launch < length self.old.launches }
+    /// Whether all pages that a job needs are done.
+    fn is_ready(&mut self, job: JobId) -> bool
+        ensures same { self.new ≡ self.old }
+        ensures ready { result ≡ is_ready self.old job }
+    {
+        match job {
+            JobId::Page(_) => true,
+            JobId::Launch(launch) => self.is_launch_ready(launch),
+        }
+    }
+
+    /// Whether all pages that a launch needs are done. Where it needs all pages, none may be left. A launch that does not
+    /// exist needs no page.
+    fn is_launch_ready(&mut self, launch: usize) -> bool
         ensures same { self.new ≡ self.old }
         ensures ready { result ≡ is_ready self.old (JobId.Launch launch) }
     {
-        let needed = self.jobs.needs(launch);
+        let Some(needed) = self.jobs.needs(launch) else {
+            return self.pages_left == 0;
+        };
+        if launch >= self.seen.len() {
+            return true;
+        }
         let done = done_from(self.jobs.pages(), needed, self.seen[launch]);
         let is_ready = done == needed.len();
         self.seen[launch] = done;

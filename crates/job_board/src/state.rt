@@ -15,7 +15,7 @@ ghost use Rattle.rim_chain.specs.Rows.{IsRowOf, value_in};
 use crate::closing::{add_up, copy_values, write_counts};
 use crate::job::{Event, JobId};
 use crate::machine::Core;
-use crate::needs::all_pages;
+use crate::needs::Needs;
 use crate::rows::{free_row, plan_at, rows_of, spare_rows, take_row};
 use crate::share::{Share, cut};
 use crate::work::Work;
@@ -273,7 +273,7 @@ impl<'a, L: Ledger> BoardState<'a, L> {
         let (book, part) = blank.open::<L>();
         let shares = cut(alloc, part, workers)?;
         let pages = table.pages().len();
-        let core = Core::new(alloc, workers, pages, all_pages(alloc, pages, plans.len())?)?;
+        let core = Core::with_needs(alloc, workers, pages, Needs::AllPages(plans.len()))?;
         let history = room_for(alloc, 2 * (pages + plans.len()) + 2 * workers)?;
         let rows = rows_of(alloc, plans)?;
         let spare = spare_rows(alloc, plans, workers)?;

@@ -10,8 +10,8 @@ use Rattle.job_board.proofs.Fresh.{all_within, board_new, rows_new}
 use Rattle.job_board.proofs.Marked.{core_fresh}
 use Rattle.job_board.proofs.state.BoardState.new.Goals as goal
 
-pub new-requires-clause-needs : goal.new-requires-clause-needs
-new-requires-clause-needs g c = rw c.in_ok-all_pages.ensures (all_within (length c.args.plans.now) (length c.pages-pages.result.now))
+pub with_needs-requires-clause-needs : goal.with_needs-requires-clause-needs
+with_needs-requires-clause-needs g c = all_within (length c.args.plans.now) (length c.pages-pages.result.now)
 
 pub invariant_of-result : goal.invariant_of-result
 invariant_of-result g c =
@@ -19,8 +19,7 @@ invariant_of-result g c =
     let size = length c.args.table.pages in
     let needs : List (List ℕ) = replicate count (range_with_len 0 size) in
     let pages : length c.pages-pages.result.now ≡ size = sym (length-map c.pages-pages.result.now page_view) ∙ ap length c.pages-pages.ensures.pages in
-    let made : c.in_ok-core.core ≡ opening c.args.workers (length c.pages-pages.result.now) (replicate count (range_with_len 0 (length c.pages-pages.result.now))) =
-    rw c.in_ok-all_pages.ensures at c.in_ok-core.ensures in
+    let made : c.in_ok-core.core ≡ opening c.args.workers (length c.pages-pages.result.now) (replicate count (range_with_len 0 (length c.pages-pages.result.now))) = c.in_ok-core.ensures in
     let core : c.in_ok-core.core ≡ opening c.args.workers size needs = made ∙ ap (λ (k : ℕ). opening c.args.workers k (replicate count (range_with_len 0 k))) pages in
     let none : c.in_ok-results.results.items ≡ replicate count None = search rules in
     let most : most_events c.in_ok-core.core ≡ 2 * (length (replicate size Free) + length (replicate (length needs) Free)) + 2 * length (replicate c.args.workers false) = ap most_events core in

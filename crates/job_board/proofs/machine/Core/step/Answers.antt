@@ -1,7 +1,0 @@
-use Rattle.job_board.proofs.Marked.{taken_kept}
-use Rattle.job_board.proofs.machine.Core.step.Goals as goal
-
-pub invariant_of-self : goal.invariant_of-self
-invariant_of-self c =
-    let i = c.self.inside in
-    taken_kept i.pages_from i.launches_from i.pages_left i.launches_left i.seen.items i.jobs c.take.new.self c.in-Take.worker c.in-Take.job c.take.result c.take.ensures.step c.take.ensures.same c.self.invariant
