@@ -122,4 +122,5 @@ def main():
     sys.exit(0 if all(done) else 1)
 
 
-main()
+if __name__ == "__main__":
+    main()

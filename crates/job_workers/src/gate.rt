@@ -3,6 +3,9 @@ use job_board::JobId;
 
 /// Is called by a worker that holds no lock: before a job is run, and after it was put.
 pub trait Gate {
+    /// Is called once, before the first worker is started, with the numbers of all pages and launches.
+    fn begin(&self, _pages: usize, _launches: usize) {}
+
     fn before(&self, worker: usize, job: JobId);
 
     fn after(&self, worker: usize, job: JobId);

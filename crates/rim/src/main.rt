@@ -1,9 +1,13 @@
 //! The program `rim`.
 #![tactic(auto)]
 
+mod progress;
+
+use crate::progress::Progress;
 use rim_cli::{Opener, report_unreadable, run};
 use std::fs::File;
 use std::io;
+use std::io::IsTerminal;
 use std::process::ExitCode;
 
 /// Opens the files of the system.
@@ -25,6 +29,7 @@ fn main(rt: HostRuntime) -> ExitCode {
         Ok(words) => run(
             &rt,
             rt.alloc(),
+            &Progress::new(&rt, rt.stderr().is_terminal()),
             words.as_slice(),
             &mut FileOpener { rt: &rt },
             &mut io::writer(&rt),

@@ -13,8 +13,8 @@ use crate::fault::Fault;
 use crate::file::{Opener, read_file, read_files};
 use crate::words::Request;
 use rim_release::{
-    Files, FreeGate, Release, Report, StartFault, audit_launches, listing_or_refusal,
-    measure_release, read_manifest, show_fdt, show_image,
+    Files, Gate, Release, Report, StartFault, audit_launches, listing_or_refusal, measure_release,
+    read_manifest, show_fdt, show_image,
 };
 use std::alloc::Global;
 use std::sync::Wait;
@@ -28,10 +28,11 @@ pub struct Answer {
     pub status: u8,
 }
 
-/// The answer to a request, or the first fault.
-pub fn answer_to<R: Threads + Wait + Sync, O: Opener>(
+/// The answer to a request, or the first fault. The gate is that of the workers, if there are any.
+pub fn answer_to<R: Threads + Wait + Sync, G: Gate + Sync, O: Opener>(
     rt: &R,
     alloc: Global,
+    gate: &G,
     request: Request,
     opener: &mut O,
 ) -> Result<Answer, Fault>
@@ -41,7 +42,9 @@ pub fn answer_to<R: Threads + Wait + Sync, O: Opener>(
     ensures status { IfOk result (λ a. a.status ≤ 1) }
 {
     match request {
-        Request::Measure { manifest, workers } => measure(rt, alloc, opener, manifest, workers),
+        Request::Measure { manifest, workers } => measure(
+            rt, alloc, gate, opener, manifest, workers,
+        ),
         Request::List { manifest, launch } => list(alloc, opener, manifest, launch),
         Request::Audit { manifest } => audit(alloc, opener, manifest),
         Request::Image { file } => image(alloc, opener, file),
@@ -50,9 +53,10 @@ pub fn answer_to<R: Threads + Wait + Sync, O: Opener>(
 }
 
 /// The report of a manifest's launches, made by 1 to 64 workers.
-fn measure<R: Threads + Wait + Sync, O: Opener>(
+fn measure<R: Threads + Wait + Sync, G: Gate + Sync, O: Opener>(
     rt: &R,
     alloc: Global,
+    gate: &G,
     opener: &mut O,
     path: &str,
     workers: u8,
@@ -64,14 +68,15 @@ fn measure<R: Threads + Wait + Sync, O: Opener>(
 {
     let release = read_release(alloc, opener, path)?;
     let files = read_files(alloc, opener, &release)?;
-    let report = report(rt, alloc, &release, &files, workers).map_err(Fault::Start)?;
+    let report = report(rt, alloc, gate, &release, &files, workers).map_err(Fault::Start)?;
     Ok(answer_of(report))
 }
 
 /// The report of a release, made by 1 to 64 workers.
-fn report<R: Threads + Wait + Sync>(
+fn report<R: Threads + Wait + Sync, G: Gate + Sync>(
     rt: &R,
     alloc: Global,
+    gate: &G,
     release: &Release,
     files: &Files,
     workers: u8,
@@ -81,7 +86,7 @@ fn report<R: Threads + Wait + Sync>(
     ensures text { Answers StartFault.NoMemory (λ r. r.text.items) result (measured_of (map (λ file. file.items) files.now.items) release.now.launches) }
     ensures refused { IfOk result (λ r. r.has_refused ≡ has_refused (map (λ file. file.items) files.now.items) release.now.launches) }
 {
-    let outcome = measure_release(rt, alloc, &FreeGate, release, files, workers as usize)?;
+    let outcome = measure_release(rt, alloc, gate, release, files, workers as usize)?;
     Ok(Report {
         text: outcome.report,
         has_refused: outcome.has_refused,

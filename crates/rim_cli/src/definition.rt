@@ -172,5 +172,5 @@ fn workers_arg<'a>(alloc: Global) -> Arg<'a>
         .long("workers")
         .value_name("N")
         .value_parser(clap::value_parser!(u8).range(1..=64))
-        .help("Threads that hash pages, 1 to 64; 4 where not given")
+        .help("Threads that hash pages and chain launches, 1 to 64; 4 where not given")
 }

@@ -8,6 +8,7 @@ ghost use Rattle.rim_release.specs.Report.{has_refused, measured_of};
 
 use crate::file::Opener;
 use crate::program::run;
+use rim_release::FreeGate;
 use std::alloc::Global;
 use std::sync::Wait;
 use std::thread::Threads;
@@ -47,5 +48,6 @@ pub fn measure_in_memory<R: Threads + Wait + Sync>(
     ensures refused { (f : ManifestFault) → manifest_of manifest.now ≡ Err f → (3 ≤ result) × (out.new.items ≡ out.old.items) }
 {
     let words = ["rim", "measure", "manifest.toml"];
-    run(rt, alloc, &words, &mut InMemory { manifest }, out, err)
+    let opener = &mut InMemory { manifest };
+    run(rt, alloc, &FreeGate, &words, opener, out, err)
 }

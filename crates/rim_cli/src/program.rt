@@ -11,6 +11,7 @@ use crate::answer::answer_to;
 use crate::fault::Fault;
 use crate::file::Opener;
 use crate::words::{CommandFault, command};
+use rim_release::Gate;
 use std::alloc::Global;
 use std::convert::AsStr;
 use std::io;
@@ -20,17 +21,18 @@ use std::thread::Threads;
 
 /// Runs the program on the words of a command line, of which the first is the program's name.
 ///
-/// Files are opened by `opener`, output goes to `out`, usage texts and the one line of a fault go to
-/// `err`. The answer is the exit status: 0 done, 1 some launch is refused, 2 usage, 3 a fault of the
+/// `gate` is called around the jobs of `rim measure`. Files are opened by `opener`, output goes to `out`, usage texts and
+/// the one line of a fault go to `err`. The answer is the exit status: 0 done, 1 some launch is refused, 2 usage, 3 a fault of the
 /// manifest, a file or the output, 4 want of memory. Output is made whole before any of it is written.
 ///
 /// Where `clap` takes the words, 0 and 1 say that the text that they ask for was added to `out`: 1 exactly where that
 /// text says that a launch is refused. 3 says that the request is refused with a fault that holds, and `out` is as it
 /// was; or that the text was made and could not be written. 2 is not answered. After 2 and 4 `out` is as it was. No
 /// clause says what is on `err`, since writing there may fail and changes no status.
-pub fn run<R: Threads + Wait + Sync, S: AsStr, O: Opener, W: Write, E: Write>(
+pub fn run<R: Threads + Wait + Sync, G: Gate + Sync, S: AsStr, O: Opener, W: Write, E: Write>(
     rt: &R,
     alloc: Global,
+    gate: &G,
     words: &[S],
     opener: &mut O,
     out: &mut W,
@@ -49,7 +51,7 @@ pub fn run<R: Threads + Wait + Sync, S: AsStr, O: Opener, W: Write, E: Write>(
         Err(CommandFault::NoMemory) => return report_fault(Fault::NoMemory, err),
         Err(CommandFault::Usage(answer)) => return show_usage(alloc, &answer, out, err),
     };
-    match answer_to(rt, alloc, request, opener) {
+    match answer_to(rt, alloc, gate, request, opener) {
         Ok(answer) => finish(answer.text.as_slice(), answer.status, out, err),
         Err(fault) => report_fault(fault, err),
     }

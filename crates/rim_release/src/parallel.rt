@@ -124,6 +124,7 @@ fn run<'a, L: Run + Send + Sync, G: Gate + Sync, R: Threads + Wait + Sync>(
     let table = Table::reserve(alloc, pages)?;
     let (state, shares) = BoardState::<L>::new(alloc, blank, workers, table, plans)?;
     let board = Board::new(state);
+    gate.begin(pages.len(), plans.len());
     let tally = run_workers(
         rt,
         gate,

@@ -1,0 +1,70 @@
+#!/usr/bin/env python3
+"""Checks that `rim measure` shows on a terminal how far it is, that it removes what it showed, and that nothing is shown
+where standard error is no terminal. Not part of the gate.
+
+usage: tools/progress.py
+
+`rim` has to be built, by `./rim --help`.
+"""
+import os
+import pty
+import re
+import subprocess
+import tempfile
+import time
+
+from limits import FILES, PAGES, launch, program, spans
+
+LINE = re.compile(rb"\rrim: (\d+) of (\d+) pages, (\d+) of (\d+) launches")
+REMOVED = b"\r\x1b[K"
+
+
+def on_a_terminal(words):
+    """The output of a run whose standard error is a terminal, what the terminal got, and how many seconds it took."""
+    ours, theirs = pty.openpty()
+    start = time.monotonic()
+    ran = subprocess.Popen(words, stdout=subprocess.PIPE, stderr=theirs)
+    os.close(theirs)
+    shown = b""
+    while True:
+        try:
+            shown += os.read(ours, 65536)
+        except OSError:  # the other side is closed
+            break
+    text = ran.stdout.read()
+    if ran.wait() != 0:
+        raise SystemExit("the run failed")
+    return text, shown, time.monotonic() - start
+
+
+def check(is_so, what):
+    print(f"{'ok' if is_so else 'WRONG'}: {what}")
+    return is_so
+
+
+def main():
+    with tempfile.TemporaryDirectory() as folder:
+        path = os.path.join(folder, "manifest.toml")
+        with open(os.path.join(folder, "one"), "wb") as file:
+            file.write(b"\1")
+        with open(path, "w") as file:
+            text = FILES + launch("a", PAGES << 12, spans(PAGES, True))
+            file.write("rim_manifest = 1\n" + text.replace("path = 'one'", f"path = '{folder}/one'"))
+        words = [program, "measure", path, "--workers", "2"]
+        plain = subprocess.run(words, check=True, capture_output=True)
+        report, shown, seconds = on_a_terminal(words)
+    lines = [tuple(int(number) for number in line) for line in LINE.findall(shown)]
+    pages, launches = [line[0] for line in lines], [line[2] for line in lines]
+    well = [
+        check(plain.stderr == b"", "nothing is shown where standard error is no terminal"),
+        check(report == plain.stdout, "the report is the same"),
+        check(2 <= len(lines) <= 4 * seconds, f"{len(lines)} lines in {seconds:.1f} s"),
+        check(pages == sorted(pages) and launches == sorted(launches), "the counts rise"),
+        check({line[1::2] for line in lines} == {(PAGES, 1)}, "each line has the numbers of all pages and launches"),
+        check(LINE.sub(b"", shown) == REMOVED and shown.endswith(REMOVED), "the line is removed, and nothing else is shown"),
+    ]
+    raise SystemExit(0 if all(well) else 1)
+
+
+if __name__ == "__main__":
+    main()
