@@ -1,7 +1,7 @@
 //! Each fault of a devicetree at its edge, as `rim fdt` reports it and as a launch that edits the devicetree is refused for it.
 //! The devicetrees are written out by hand, the measurements are those of `tools/reference.py`.
 use super::fakes::{Folder, Ran, check_named, measured};
-use rim_cli::run;
+use rim_cli::{FreeGate, run};
 use std::alloc::Global;
 use std::process::Abort;
 use std::sync::Wait;
@@ -508,7 +508,15 @@ fn shown(rt: &(impl AllocGlobal + Threads + Wait + Sync), bytes: &[u8]) -> Ran {
     let mut out = Vec::new(alloc);
     let mut err = Vec::new(alloc);
     let words = ["rim", "fdt", "manifest.toml"];
-    let status = run(rt, alloc, &words, &mut folder, &mut out, &mut err);
+    let status = run(
+        rt,
+        alloc,
+        &FreeGate,
+        &words,
+        &mut folder,
+        &mut out,
+        &mut err,
+    );
     Ran { status, out, err }
 }
 

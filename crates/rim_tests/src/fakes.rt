@@ -1,5 +1,5 @@
 //! Files, readers and writers for the runs of the tests.
-use rim_cli::{Opener, run};
+use rim_cli::{FreeGate, Opener, run};
 use std::alloc::Global;
 use std::io;
 use std::io::{ErrorKind, Read, Write};
@@ -49,7 +49,15 @@ pub fn ran_on(
     let alloc = rt.alloc();
     let mut out = Vec::new(alloc);
     let mut err = Vec::new(alloc);
-    let status = run(rt, alloc, words, &mut OneFile(manifest), &mut out, &mut err);
+    let status = run(
+        rt,
+        alloc,
+        &FreeGate,
+        words,
+        &mut OneFile(manifest),
+        &mut out,
+        &mut err,
+    );
     Ran { status, out, err }
 }
 
@@ -100,7 +108,7 @@ pub fn measured<O: Opener>(rt: &(impl AllocGlobal + Threads + Wait + Sync), file
     let words = ["rim", "measure", "manifest.toml"];
     let mut out = Vec::new(alloc);
     let mut err = Vec::new(alloc);
-    let status = run(rt, alloc, &words, files, &mut out, &mut err);
+    let status = run(rt, alloc, &FreeGate, &words, files, &mut out, &mut err);
     Ran { status, out, err }
 }
 

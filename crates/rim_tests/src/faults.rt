@@ -3,7 +3,7 @@ use super::fakes::{
     EndlessFiles, FailingFiles, FailingFlush, FailingWriter, InterruptedFiles, MemorylessFiles,
     OneFile, Ran, SMALLEST, SMALLEST_REPORT, check, ran_on,
 };
-use rim_cli::{Opener, report_unreadable, run};
+use rim_cli::{FreeGate, Opener, report_unreadable, run};
 use std::alloc::Global;
 use std::io;
 use std::io::{ErrorKind, Write};
@@ -23,7 +23,7 @@ fn ran_over<O: Opener>(rt: &(impl AllocGlobal + Threads + Wait + Sync), opener: 
     let alloc = rt.alloc();
     let mut out = Vec::new(alloc);
     let mut err = Vec::new(alloc);
-    let status = run(rt, alloc, &MEASURE, opener, &mut out, &mut err);
+    let status = run(rt, alloc, &FreeGate, &MEASURE, opener, &mut out, &mut err);
     Ran { status, out, err }
 }
 
@@ -35,7 +35,15 @@ fn ran_to<W: Write>(
 ) -> Ran {
     let alloc = rt.alloc();
     let mut err = Vec::new(alloc);
-    let status = run(rt, alloc, words, &mut OneFile(SMALLEST), out, &mut err);
+    let status = run(
+        rt,
+        alloc,
+        &FreeGate,
+        words,
+        &mut OneFile(SMALLEST),
+        out,
+        &mut err,
+    );
     Ran {
         status,
         out: Vec::new(alloc),
@@ -110,7 +118,15 @@ fn failing_standard_error(rt: HostRuntime) {
             writes_left: writes,
         };
         let opener = &mut OneFile(SMALLEST);
-        let status = run(&rt, rt.alloc(), &OTHER, opener, &mut out, &mut err);
+        let status = run(
+            &rt,
+            rt.alloc(),
+            &FreeGate,
+            &OTHER,
+            opener,
+            &mut out,
+            &mut err,
+        );
         let ran = Ran {
             status,
             out,

@@ -1,7 +1,7 @@
 //! Releases with memory, files and processors, from the words of a command line to the report. The reports of launches
 //! that are accepted are those of `tools/reference.py`, which shares no code with rim.
 use super::fakes::{Ran, check};
-use rim_cli::{Opener, run};
+use rim_cli::{FreeGate, Opener, run};
 use std::alloc::Global;
 use std::sync::Wait;
 use std::thread::Threads;
@@ -211,7 +211,9 @@ fn ran(rt: &(impl AllocGlobal + Threads + Wait + Sync), launches: &str) -> Ran {
     let _ = manifest.extend_from_slice(FILES.as_bytes());
     let _ = manifest.extend_from_slice(launches.as_bytes());
     let mut files = Given(manifest.as_slice());
-    let status = run(rt, alloc, &MEASURE, &mut files, &mut out, &mut err);
+    let status = run(
+        rt, alloc, &FreeGate, &MEASURE, &mut files, &mut out, &mut err,
+    );
     Ran { status, out, err }
 }
 

@@ -3,7 +3,7 @@
 ghost use Rattle.std.specs.Prelude.{◌<◌};
 
 use super::fakes::{Ran, check};
-use rim_cli::{Opener, run};
+use rim_cli::{FreeGate, Opener, run};
 use std::alloc::{AllocError, Global};
 use std::sync::Wait;
 use std::test::Fail;
@@ -113,7 +113,7 @@ fn ran(
     let alloc = rt.alloc();
     let mut out = Vec::new(alloc);
     let mut err = Vec::new(alloc);
-    let status = run(rt, alloc, words, example, &mut out, &mut err);
+    let status = run(rt, alloc, &FreeGate, words, example, &mut out, &mut err);
     Ran { status, out, err }
 }
 

@@ -43,29 +43,32 @@ const NINES: [u8; 8192] = [9; 8192];
 /// How many jobs there are: four pages and three launches.
 const JOBS: u64 = 7;
 
-/// Holds the first page of worker 0 until another worker's page was put, for a number of turns. It counts the calls before
-/// jobs, and those after pages, for worker 0 and for the others.
+/// Holds the first job until a page was put, for a number of turns. It counts the calls before jobs, and those after jobs
+/// and after pages, for worker 0 and for the others.
 #[derive(Drop)]
 struct Hold {
     begun: AtomicU64,
     ended: AtomicU64,
     first: AtomicU64,
     others: AtomicU64,
-    turns: u64,
+    in_vain: AtomicU64,
 }
 
+/// How often it looks for a page that was put.
+const TURNS: u64 = 100_000_000;
+
 impl Gate for Hold {
-    fn before(&self, worker: usize, _job: JobId) {
-        self.begun.fetch_add(1, Ordering::SeqCst);
-        if worker > 0 {
+    fn before(&self, _worker: usize, _job: JobId) {
+        if self.begun.fetch_add(1, Ordering::SeqCst) > 0 {
             return;
         }
-        for _turn in 0..self.turns {
-            if self.others.load(Ordering::SeqCst) > 0 {
+        for _turn in 0..TURNS {
+            if self.ended.load(Ordering::SeqCst) > 0 {
                 return;
             }
             thread::yield_now();
         }
+        self.in_vain.fetch_add(1, Ordering::SeqCst);
     }
 
     fn after(&self, worker: usize, job: JobId) {
@@ -82,9 +85,9 @@ impl Gate for Hold {
     }
 }
 
-/// The release, and its one file.
-fn release(alloc: Global) -> Result<(Release, Vec<Vec<u8>>), Fail> {
-    let release = read_manifest(alloc, LAUNCHES.as_bytes())?;
+/// A release, and its one file.
+fn release(alloc: Global, manifest: &[u8]) -> Result<(Release, Vec<Vec<u8>>), Fail> {
+    let release = read_manifest(alloc, manifest)?;
     let mut bytes = Vec::new(alloc);
     bytes.extend_from_slice(&NINES)?;
     let mut files = Vec::new(alloc);
@@ -95,7 +98,7 @@ fn release(alloc: Global) -> Result<(Release, Vec<Vec<u8>>), Fail> {
 #[test]
 fn two_workers_at_a_time(rt: HostRuntime) -> Result<(), Fail> {
     let alloc = rt.alloc();
-    let (release, files) = release(alloc)?;
+    let (release, files) = release(alloc, LAUNCHES.as_bytes())?;
     assert_eq!(rt; files.len(), release.file_count());
     let alone = measure_alone(alloc, &release, &files)?;
     let gate = Hold {
@@ -103,7 +106,7 @@ fn two_workers_at_a_time(rt: HostRuntime) -> Result<(), Fail> {
         ended: AtomicU64::new(0),
         first: AtomicU64::new(0),
         others: AtomicU64::new(0),
-        turns: 100_000_000,
+        in_vain: AtomicU64::new(0),
     };
     let outcome = measure_release(&rt, alloc, &gate, &release, &files, 2)?;
     assert_eq!(rt; outcome.report.as_slice(), alone.as_slice());
@@ -114,45 +117,118 @@ fn two_workers_at_a_time(rt: HostRuntime) -> Result<(), Fail> {
     assert_eq!(rt; gate.ended.load(Ordering::SeqCst), JOBS);
     assert_eq!(rt; outcome.shares[0], gate.first.load(Ordering::SeqCst));
     assert_eq!(rt; outcome.shares[1], gate.others.load(Ordering::SeqCst));
-    assert!(rt; outcome.shares[1] > 0);
+    assert!(rt; outcome.shares[0] > 0 && outcome.shares[1] > 0);
+    assert_eq!(rt; gate.in_vain.load(Ordering::SeqCst), 0);
     Ok(())
 }
 
-/// The report by this many workers is to be this one.
-fn report_by<R: Threads + Wait + Abort + Sync>(
+/// The reports of a release by some numbers of workers are to be that of one thread.
+fn check_by_all<R: Threads + Wait + Abort + Sync>(
     rt: &R,
     alloc: Global,
-    workers: usize,
-    alone: &[u8],
+    manifest: &[u8],
 ) -> Result<(), Fail> {
-    let (release, files) = release(alloc)?;
-    assert_eq!(rt; files.len(), release.file_count());
-    let outcome = measure_release(rt, alloc, &FreeGate, &release, &files, workers)?;
-    assert_eq!(rt; outcome.report.as_slice(), alone);
-    assert_eq!(rt; outcome.shares.len(), workers);
-    Ok(())
-}
-
-#[test]
-fn one_worker_and_many(rt: HostRuntime) -> Result<(), Fail> {
-    let alloc = rt.alloc();
-    let (release, files) = release(alloc)?;
+    let (release, files) = release(alloc, manifest)?;
     assert_eq!(rt; files.len(), release.file_count());
     let alone = measure_alone(alloc, &release, &files)?;
     for workers in [1, 2, 3, 16, 64] {
-        report_by(&rt, alloc, workers, &alone)?;
+        let outcome = measure_release(rt, alloc, &FreeGate, &release, &files, workers)?;
+        assert_eq!(rt; outcome.report.as_slice(), alone.as_slice());
+        assert_eq!(rt; outcome.shares.len(), workers);
     }
     Ok(())
 }
 
 #[test]
+fn one_worker_and_many(rt: HostRuntime) -> Result<(), Fail> {
+    check_by_all(&rt, rt.alloc(), LAUNCHES.as_bytes())
+}
+
+#[test]
 fn no_worker_and_too_many(rt: HostRuntime) -> Result<(), Fail> {
     let alloc = rt.alloc();
-    let (release, files) = release(alloc)?;
+    let (release, files) = release(alloc, LAUNCHES.as_bytes())?;
     assert_eq!(rt; files.len(), release.file_count());
     for workers in [0, 65, usize::MAX] {
         let answer = measure_release(&rt, alloc, &FreeGate, &release, &files, workers);
         assert!(rt; matches!(answer, Err(StartFault::Workers)));
+    }
+    Ok(())
+}
+
+/// Delays one call until another comes, or for a number of turns.
+#[derive(Drop)]
+struct Delay {
+    calls: AtomicU64,
+    late: u64,
+}
+
+impl Delay {
+    fn call(&self) {
+        let number = self.calls.fetch_add(1, Ordering::SeqCst);
+        if number != self.late {
+            return;
+        }
+        for _turn in 0..10_000 {
+            if self.calls.load(Ordering::SeqCst) > number.saturating_add(1) {
+                return;
+            }
+            thread::yield_now();
+        }
+    }
+}
+
+impl Gate for Delay {
+    fn before(&self, _worker: usize, _job: JobId) {
+        self.call();
+    }
+
+    fn after(&self, _worker: usize, _job: JobId) {
+        self.call();
+    }
+}
+
+#[test]
+fn each_call_late_in_turn(rt: HostRuntime) -> Result<(), Fail> {
+    let alloc = rt.alloc();
+    let (release, files) = release(alloc, LAUNCHES.as_bytes())?;
+    assert_eq!(rt; files.len(), release.file_count());
+    let alone = measure_alone(alloc, &release, &files)?;
+    for late in 0..2 * JOBS {
+        let gate = Delay {
+            calls: AtomicU64::new(0),
+            late,
+        };
+        let outcome = measure_release(&rt, alloc, &gate, &release, &files, 2)?;
+        assert_eq!(rt; outcome.report.as_slice(), alone.as_slice(), "{late}");
+        assert_eq!(rt; gate.calls.load(Ordering::SeqCst), 2 * JOBS);
+    }
+    Ok(())
+}
+
+/// A manifest of this many launches over one file: with both algorithms, more and more RAM, and an item of two pages at
+/// another page each.
+fn generated(alloc: Global, launches: u64) -> Result<String, Fail> {
+    let mut text = String::new(alloc);
+    text.push_str("rim_manifest = 1\n[[file]]\nname = \"f\"\npath = \"f\"\n")?;
+    for n in 0..launches {
+        let algo = if n % 3 == 0 { "sha512" } else { "sha256" };
+        let end = 0x4020_0000_u64.saturating_add(n.saturating_mul(0x10_0000));
+        let at = 0x4000_0000_u64.saturating_add(n.saturating_mul(4096));
+        let launch = format!(in alloc;
+            "[[launch]]\nname = \"l{n}\"\nalgo = \"{algo}\"\ns2sz = 33\nram = [[0x40000000, {end}]]\nitem = [{{ name = \"x\", kind = \"raw\", file = \"f\", at = {at} }}]\n"
+        )?;
+        text.push_str(launch.as_str())?;
+    }
+    Ok(text)
+}
+
+#[test]
+fn generated_releases(rt: HostRuntime) -> Result<(), Fail> {
+    let alloc = rt.alloc();
+    for launches in [1, 2, 7, 40] {
+        let text = generated(alloc, launches)?;
+        check_by_all(&rt, alloc, text.as_bytes())?;
     }
     Ok(())
 }

@@ -25,26 +25,29 @@ const BYTES: [u8; 25_000] = [7; 25_000];
 /// The workers' stacks where they are to be started.
 const STACK: usize = 1 << 20;
 
-/// Holds the first page of worker 0 until another worker's page was put, for a number of turns; and counts the pages that
-/// worker 0 and the others put.
+/// Holds the first page until another was put, for a number of turns; and counts the pages that worker 0 and the others
+/// put.
 #[derive(Drop)]
 struct Hold {
+    begun: AtomicU64,
     first: AtomicU64,
     others: AtomicU64,
+    in_vain: AtomicU64,
     turns: u64,
 }
 
 impl Gate for Hold {
-    fn before(&self, worker: usize, _job: JobId) {
-        if worker > 0 {
+    fn before(&self, _worker: usize, _job: JobId) {
+        if self.begun.fetch_add(1, Ordering::SeqCst) > 0 {
             return;
         }
         for _turn in 0..self.turns {
-            if self.others.load(Ordering::SeqCst) > 0 {
+            if self.first.load(Ordering::SeqCst) > 0 || self.others.load(Ordering::SeqCst) > 0 {
                 return;
             }
             thread::yield_now();
         }
+        self.in_vain.fetch_add(1, Ordering::SeqCst);
     }
 
     fn after(&self, worker: usize, _job: JobId) {
@@ -59,8 +62,10 @@ impl Gate for Hold {
 
 fn holding(turns: u64) -> Hold {
     Hold {
+        begun: AtomicU64::new(0),
         first: AtomicU64::new(0),
         others: AtomicU64::new(0),
+        in_vain: AtomicU64::new(0),
         turns,
     }
 }
@@ -110,7 +115,9 @@ fn two_workers_at_a_time(rt: HostRuntime) -> Result<(), Fail> {
     let table = Table::reserve(rt.alloc(), &pages)?;
     let gate = holding(100_000_000);
     run::<Brand, HostRuntime>(&rt, rt.alloc(), Blank::new(2), table, &gate, STACK, 2)?;
+    assert!(rt; gate.first.load(Ordering::SeqCst) > 0);
     assert!(rt; gate.others.load(Ordering::SeqCst) > 0);
+    assert_eq!(rt; gate.in_vain.load(Ordering::SeqCst), 0);
     Ok(())
 }
 
