@@ -16,8 +16,10 @@ top = os.path.dirname(os.path.dirname(os.path.abspath(__file__)))
 
 
 def built(folder, name, uses, words):
-    """The program of that name in bench/, in a copy of the repository that has it as a crate with these libraries, run once."""
-    shutil.copytree(os.path.join(top, "crates"), os.path.join(folder, "crates"), ignore=shutil.ignore_patterns("out"))
+    """The program of that name in bench/, in a copy of the repository that has it as a crate with these libraries, run once.
+
+    The crates are copied with what is proved of them, since a program is built from proved crates alone."""
+    shutil.copytree(os.path.join(top, "crates"), os.path.join(folder, "crates"))
     crate = os.path.join(folder, "crates", name)
     os.makedirs(os.path.join(crate, "src"))
     shutil.copy(os.path.join(top, "bench", name, "main.rt.in"), os.path.join(crate, "src", "main.rt"))

@@ -1,0 +1,92 @@
+#!/usr/bin/env python3
+"""Shows that tests refuse wrong bodies of the workers' code which its contracts let through: what a contract says of a
+run that ends says nothing of one that does not end, and nothing of who did what. Not part of the gate.
+
+usage: tools/wrong_workers.py [WORD]
+
+Each body is written into a copy of the crates. The tests of the crate that is named are run there without proofs, by
+`rt try --test`, and one of them has to fail. WORD picks the bodies whose name has it.
+"""
+import os
+import shutil
+import subprocess
+import sys
+import tempfile
+
+top = os.path.dirname(os.path.dirname(os.path.abspath(__file__)))
+
+# what is wrong, the file, what it has and what it has in place of that, and the crate whose tests refuse it
+BODIES = [
+    (
+        "results of launches are dropped",
+        "job_workers/src/worker.rt",
+        [("let _ = board.put_launch(rt, worker, rim);", "drop(rim);")],
+        "rim_tests",
+    ),
+    (
+        "the gate is called under the lock",
+        "job_workers/src/worker.rt",
+        [
+            (
+                "        let given = board.take(rt, worker);\n",
+                "        let mut state = board.lock(rt);\n        let given = state.take(worker);\n"
+                "        match &given {\n            Work::Page(page, _) => gate.before(worker, JobId::Page(*page)),\n"
+                "            Work::Launch(job) => gate.before(worker, JobId::Launch(job.number())),\n            _ => {}\n        }\n"
+                "        drop(state);\n",
+            ),
+            ("            gate.before(worker, JobId::Page(page));\n", ""),
+            ("            gate.before(worker, launch);\n", ""),
+        ],
+        "job_workers_tests",
+    ),
+    (
+        "workers take turns",
+        "job_workers/src/workers.rt",
+        [
+            ("            work(rt, gate, board, 0, mine);\n        },\n    )", "            let _ = mine;\n        },\n    )"),
+            ("    let lent = shares.as_mut_slice();", "    work(rt, gate, board, 0, &mut shares[0]);\n    let lent = shares.as_mut_slice();"),
+        ],
+        "job_workers_tests",
+    ),
+    (
+        "memory is always wanting",
+        "rim_release/src/parallel.rt",
+        [("    let launches = release.all_launches();", "    if workers > 0 {\n        return Err(StartFault::NoMemory);\n    }\n    let launches = release.all_launches();")],
+        "rim_tests",
+    ),
+]
+
+
+def refused(body, folder):
+    """Whether a test fails. A test that is still running after a minute fails too."""
+    what, file, changes, tests = body
+    path = os.path.join(folder, "crates", file)
+    with open(path) as source:
+        text = source.read()
+    wrong = text
+    for old, new in changes:
+        if wrong.count(old) != 1:
+            raise SystemExit(f"{what}: {file} has one of the texts {wrong.count(old)} times")
+        wrong = wrong.replace(old, new)
+    with open(path, "w") as source:
+        source.write(wrong)
+    ran = subprocess.run(["rt", "try", "--test"], cwd=os.path.join(folder, "crates", tests), capture_output=True, text=True)
+    with open(path, "w") as source:
+        source.write(text)
+    failed = [line for line in (ran.stdout + ran.stderr).splitlines() if line.startswith("test ") and "passed" not in line]
+    print(f"{'ok' if failed else 'WRONG'}: {what}", *failed[:4], sep="\n  ", flush=True)
+    return bool(failed)
+
+
+def main():
+    word = sys.argv[1] if len(sys.argv) > 1 else ""
+    with tempfile.TemporaryDirectory() as folder:
+        shutil.copytree(os.path.join(top, "crates"), os.path.join(folder, "crates"), ignore=shutil.ignore_patterns("out"))
+        for name in ("HANDLES", "crates.txt"):
+            shutil.copy(os.path.join(top, name), folder)
+        done = [refused(body, folder) for body in BODIES if word in body[0]]
+    sys.exit(0 if all(done) else 1)
+
+
+if __name__ == "__main__":
+    main()
