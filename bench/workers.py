@@ -5,28 +5,26 @@ usage: bench/workers.py [RUNS]
 
 It builds bench/workers/main.rt.in with the kit's rt, and runs it in turn on one thread, by one worker and by two, on the
 releases of bench/releases.py that have many pages or many launches. It prints the processor time of one worker beside one
-thread's, the wall time of two workers beside one worker's, which says something only where two cores are free, and the
-most memory of each.
+thread's, the wall time of two workers beside one worker's, without the reading of files, and the most memory of each. The
+wall time says something only where two cores are free: the least of some runs is taken.
 """
 import os
 import subprocess
 import sys
 import tempfile
-import time
 
 from crates import built
 from releases import kernel, shared
 
 
 def run(words):
-    """The wall time and the processor time of a run in seconds, its most memory in MB, and what it prints."""
-    start = time.perf_counter()
-    ran = subprocess.Popen(words, stdout=subprocess.PIPE)
-    text = ran.stdout.read()
+    """The wall time of the report and the processor time of a run in seconds, its most memory in MB, and what it prints."""
+    ran = subprocess.Popen(words, stdout=subprocess.PIPE, stderr=subprocess.PIPE)
+    text, wall = ran.stdout.read(), ran.stderr.read()
     _, status, usage = os.wait4(ran.pid, 0)
     if status != 0:
         raise SystemExit(f"{' '.join(words)}: failed")
-    return time.perf_counter() - start, usage.ru_utime + usage.ru_stime, usage.ru_maxrss / 1024, text
+    return int(wall) / 1e9, usage.ru_utime + usage.ru_stime, usage.ru_maxrss / 1024, text
 
 
 def main():

@@ -4,6 +4,10 @@ use crate::gate::Gate;
 use crate::run::Run;
 use job_board::{JobId, Share, Work};
 use std::sync::Wait;
+use std::thread;
+
+/// How often a worker looks again where nothing that is free is ready.
+const TURNS: u32 = 1000;
 
 /// Takes jobs, runs them with no lock held and puts them, until none is given.
 pub(crate) fn work<'a, L: Run, G: Gate, R: Wait>(
@@ -15,11 +19,24 @@ pub(crate) fn work<'a, L: Run, G: Gate, R: Wait>(
 ) {
     share.note_start();
     for _ in rt.forever() {
-        let given = board.take(rt, worker);
+        let given = take_soon(rt, board, worker);
         if !run_job(rt, gate, board, worker, share, given) {
             return;
         }
     }
+}
+
+/// A job, or why none is given. Where nothing that is free is ready, it looks again for a while: launches are ready when
+/// other workers have put the last pages, which takes them microseconds.
+fn take_soon<'a, L: Run, R: Wait>(rt: &R, board: &Board<'a, L>, worker: usize) -> Work<'a> {
+    for _turn in 0..TURNS {
+        let given = board.take(rt, worker);
+        if !matches!(given, Work::Later) {
+            return given;
+        }
+        thread::yield_now();
+    }
+    Work::Later
 }
 
 /// Runs a job that was taken and puts it, or answers false where none was given. A result that is handed back is dropped.

@@ -26,9 +26,9 @@ pub struct Tally {
 /// started is gone without. Writes how many pages each worker has put, and the value of each launch in the order of the
 /// plans.
 ///
-/// Launches need all pages, so there are two rounds: pages first, and then launches. After these the other workers are
-/// retired, and worker 0 does what is left, until a take finds all jobs done. What is written is read under the same
-/// lock.
+/// Launches need all pages. A worker that finds no page free looks again for a while and then ends, so there are two
+/// rounds: the second is for launches where the last page was late. After these the other workers are retired, and worker 0
+/// does what is left, until a take finds all jobs done. What is written is read under the same lock.
 pub fn run_workers<L: Run + Send + Sync, G: Gate + Sync, R: Threads + Wait + Sync>(
     rt: &R,
     gate: &G,
