@@ -44,12 +44,12 @@ use Rattle.rim_chain.specs.Reading.{IsReadOf, measured_keys}
 use Rattle.rim_chain.specs.Rows.{IsFull, IsRowOf, has_all, value_in}
 use Rattle.rim_chain.proofs.Own.{chain-held, row-own}
 use Rattle.rim_release.specs.Accepted.{accepted_of, commands_for, layout_fault, list_fault, rim_after, rim_for}
-use Rattle.rim_release.specs.Pages.{keys_at, launch_keys, page_keys}
+use Rattle.rim_release.specs.Pages.{keys_at, launch_keys, page_keys, release_pages, source_bytes}
 use Rattle.rim_release.specs.Report.{line_of, line_with, lines_of, measured_of, report_of, report_with}
+use Rattle.rim_release.specs.Plans.{ArePlans, BeginsWith, places_of}
 use Rattle.rim_release.specs.inside.Chains.{outcomes_of}
 use Rattle.rim_release.specs.inside.Lines.{lines_with}
-use Rattle.rim_release.specs.inside.Preparing.{ArePlans, BeginsWith, places_of}
-use Rattle.rim_release.specs.inside.Sources.{pages_of, release_pages, source_bytes}
+use Rattle.rim_release.specs.inside.Sources.{pages_of}
 use Rattle.rim_release.specs.declared.audit_fault.AuditFault.{AuditFault}
 use Rattle.rim_release.specs.declared.fault.StartFault.TheVariants.{TooManyPages}
 use Rattle.rim_release.proofs.Accepting.{IsAccepted, accepted-is}
@@ -120,16 +120,16 @@ nat-same : (n : ℕ) → (n == n) ≡ true
 nat-same n = grind (arith, nat_tests)
 
 -- a slot that was found is one of the table's
-slot-low : (pages : List PageView) (key : PageKey) (j : ℕ) (d : PageView) → slot_of pages key ≡ Some j → j < length pages
+pub slot-low : (pages : List PageView) (key : PageKey) (j : ℕ) (d : PageView) → slot_of pages key ≡ Some j → j < length pages
 slot-low pages key j d at = (position-Some (λ q. is_eq (key_cmp q.key key)) pages j d at).0
 
 -- ---- the plans of a release
 
 -- launches are among others
-Later : List NamedData → List NamedData → Type 0
+unfoldable pub Later : List NamedData → List NamedData → Type 0
 Later all ls = (i : ℕ) (l : NamedData) → slice_get ls i ≡ Some l → (k : ℕ) × (slice_get all k ≡ Some l)
 
-later-next : (all : List NamedData) (l : NamedData) (ls : List NamedData) → Later all (l ∷ ls) → Later all ls
+pub later-next : (all : List NamedData) (l : NamedData) (ls : List NamedData) → Later all (l ∷ ls) → Later all ls
 unfolding Later
 later-next all l ls later = λ i m at. later (suc i) m at
 
@@ -258,7 +258,7 @@ module _ (files : List (List ℕ)) (r : ReleaseData) (t : TableView)
       ap (has_all t) read_of.keys
       ∙ all-some (measured_keys l.launch p) (recursion_from_All (λ key. is_some (digest_at t key) ≡ true) (measured_keys l.launch p) (λ k d low. (own-pages i l p at accepted k d low).1))
 
-  plan-rim : (i : ℕ) (l : NamedData) (p : PlacedData) (v : PlanView) → slice_get r.launches i ≡ Some l → accepted_of l.launch files ≡ Ok p → IsReadOf l.launch p v
+  pub plan-rim : (i : ℕ) (l : NamedData) (p : PlacedData) (v : PlanView) → slice_get r.launches i ≡ Some l → accepted_of l.launch files ≡ Ok p → IsReadOf l.launch p v
       → rim_for l.launch files ≡ Ok (value_in t v)
   unfolding HasOwn
   plan-rim i l p v at accepted read_of =
@@ -316,11 +316,13 @@ found-pages files ls pages found = at (nat_lt 1048576 (length (page_keys files l
     at true over e = absurd (cc)
     at false over e = (cc, ap (λ (b : Bool). if b then Err TooManyPages else Ok (report_of files ls)) over)
 
-pub rising-pages : (files : List (List ℕ)) (ls : List NamedData) (pages : List PageView) → pages_of files ls ≡ Ok pages → IsRising (table.keys_of pages)
+-- the keys of the pages of a release rise
+pub release-rises : (files : List (List ℕ)) (ls : List NamedData) → IsRising (table.keys_of (release_pages files ls))
 unfolding page_keys
-rising-pages files ls pages found =
-    let is : pages ≡ release_pages files ls = (found-pages files ls pages found).0 in
-    subst IsRising (sym (ap table.keys_of is ∙ named-keys (source_bytes files (places_of files ls)) (page_keys files ls))) (rising_keys-rise (flat_map (launch_keys files) ls))
+release-rises files ls = subst IsRising (sym (named-keys (source_bytes files (places_of files ls)) (page_keys files ls))) (rising_keys-rise (flat_map (launch_keys files) ls))
+
+pub rising-pages : (files : List (List ℕ)) (ls : List NamedData) (pages : List PageView) → pages_of files ls ≡ Ok pages → IsRising (table.keys_of pages)
+rising-pages files ls pages found = subst (λ (ps : List PageView). IsRising (table.keys_of ps)) (sym (found-pages files ls pages found).0) (release-rises files ls)
 
 -- the keys of pages that were found are those of the release
 pub found-keys : (files : List (List ℕ)) (ls : List NamedData) (pages : List PageView) → pages_of files ls ≡ Ok pages → table.keys_of pages ≡ page_keys files ls

@@ -11,7 +11,8 @@ use Rattle.rim_launch.specs.LaunchData.{has_files}
 use Rattle.ipa_layout.specs.Laws.{page_total}
 use Rattle.ipa_layout.proofs.PlacedFacts.{few-pages}
 use Rattle.rim_chain.proofs.Own.{lead-low}
-use Rattle.rim_release.specs.inside.Sources.{IsUsable, pages_of, release_pages}
+use Rattle.rim_release.specs.Plans.{places_of}
+use Rattle.rim_release.specs.inside.Sources.{IsUsable, pages_of}
 use Rattle.rim_release.specs.declared.fault.StartFault.TheVariants.{TooManyPages}
 use Rattle.rim_release.proofs.Accepting.{accepted-is}
 use Rattle.std.specs.List.{All, AllByRecursion, flat_map, range_with_len, slice_get}
@@ -35,9 +36,8 @@ use Rattle.ipa_layout.specs.declared.placed.PlacedItem.{PlacedItem}
 use Rattle.rim_manifest.specs.Launches.{AreNumbered, NamedData, ReleaseData}
 use Rattle.rim_chain.specs.Reading.{item_keys, key_at, measured_keys, step_keys}
 use Rattle.rim_release.specs.Accepted.{accepted_of}
-use Rattle.rim_release.specs.Pages.{keys_at, launch_keys, page_keys}
+use Rattle.rim_release.specs.Pages.{keys_at, launch_keys, page_keys, release_pages}
 use Rattle.rim_release.specs.inside.Ends.{ends_of, item_ends, launch_ends, step_ends}
-use Rattle.rim_release.specs.inside.Preparing.{places_of}
 use Rattle.rim_release.specs.declared.audit_fault.AuditFault.{AuditFault}
 
 -- ---- lists

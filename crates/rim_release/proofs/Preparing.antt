@@ -10,7 +10,8 @@ use Rattle.rim_manifest.specs.Launches.{NamedData}
 use Rattle.rim_chain.specs.Links.{PlanView}
 use Rattle.rim_chain.specs.Reading.{IsReadOf}
 use Rattle.rim_release.specs.Accepted.{accepted_of}
-use Rattle.rim_release.specs.inside.Preparing.{ArePlans, ArePrepared, BeginsWith, IsKept, places_of}
+use Rattle.rim_release.specs.Plans.{ArePlans, BeginsWith, places_of}
+use Rattle.rim_release.specs.inside.Preparing.{ArePrepared, IsKept}
 use Rattle.rim_release.specs.declared.audit_fault.AuditFault.{AuditFault}
 use Rattle.rim_release.specs.declared.audit_fault.AuditFault.TheVariants.{NoMemory}
 

@@ -1,10 +1,12 @@
 pub mod Faults
 pub mod AuditFaults
 pub mod Accepted
+pub mod Plans
 pub mod Pages
 pub mod Report
 pub mod Listing
 pub mod Headline
+pub mod Values
 pub mod ShowFaults
 pub mod ShownImage
 pub mod ShownDevicetree

@@ -1,5 +1,16 @@
 //! Laws of reports, proved of the definitions.
+ghost use Rattle.std.specs.Prelude.{◌≡◌, ℕ, List, length, true};
+ghost use Rattle.job_board.specs.declared.job.Event.{Event};
+ghost use Rattle.job_board.specs.Events.{is_legal, replay};
+ghost use Rattle.job_board.specs.Jobs.{is_over, opening};
+ghost use Rattle.job_board.specs.Values.{NeedsHold, values};
+ghost use Rattle.rim_chain.specs.Links.{PlanView};
+ghost use Rattle.rim_manifest.specs.Launches.{AreNumbered, ReleaseData};
 ghost use Rattle.rim_release.specs.Headline.{AcceptedAreMeasured, RefusedAreNamed};
+ghost use Rattle.rim_release.specs.Pages.{release_pages};
+ghost use Rattle.rim_release.specs.Plans.{ArePlans};
+ghost use Rattle.rim_release.specs.Report.{lines_of};
+ghost use Rattle.rim_release.specs.Values.{lines_by, makes_of};
 
 /// What a line of a report says. Where the launch is accepted, it shows the measurement that a monitor holds after the
 /// launch's listed commands; the monitor takes all of them, measures just the launch's measured parts, and gives no
@@ -7,4 +18,14 @@ ghost use Rattle.rim_release.specs.Headline.{AcceptedAreMeasured, RefusedAreName
 pub fn a_line_says_what_a_monitor_holds()
     ensures accepted { AcceptedAreMeasured }
     ensures refused { RefusedAreNamed }
+{}
+
+/// The lines made of the values that workers put are the report's, in whatever order they came to the jobs: after each
+/// legal list of events that leaves all jobs done, of the pages of a release and of plans that are read of its launches.
+/// Each launch needs all pages of its own plan, or more.
+pub fn values_make_the_lines()
+    ensures { (files : List (List ℕ)) (r : ReleaseData) (plans : List PlanView) (workers : ℕ) (needs : List (List ℕ)) (es : List Event) → let pages = release_pages files r.launches in
+        AreNumbered r → length files ≡ length r.paths → ArePlans files r.launches plans → length needs ≡ length plans → NeedsHold (makes_of pages plans) needs
+        → is_legal (opening workers (length pages) needs) es ≡ true → is_over (replay (opening workers (length pages) needs) es) ≡ true
+        → lines_by (values (makes_of pages plans) es) files 0 r.launches ≡ lines_of files r.launches }
 {}

@@ -1,28 +1,11 @@
 -- The launches of a release that were laid out so far. This project's choice.
-use Rattle.std.specs.Prelude.{◌≡◌, ◌≢◌, ℕ, List, [], ◌∷◌, ◌++◌, map, Result, Ok, Err}
+use Rattle.std.specs.Prelude.{◌≡◌, ◌≢◌, ℕ, List, [], ◌∷◌, ◌++◌, Result, Ok, Err}
 use Rattle.ipa_layout.specs.Layout.{PlacedData}
-use Rattle.rim_launch.specs.LaunchData.{LaunchData}
 use Rattle.rim_manifest.specs.Launches.{NamedData}
 use Rattle.rim_chain.specs.Links.{PlanView}
-use Rattle.rim_chain.specs.Reading.{IsReadOf}
-use Rattle.rim_release.specs.Accepted.{accepted_of}
+use Rattle.rim_release.specs.Plans.{ArePlans, places_of}
 use Rattle.rim_release.specs.declared.audit_fault.AuditFault.{AuditFault}
 use Rattle.rim_release.specs.declared.audit_fault.AuditFault.TheVariants.{NoMemory}
-
--- the places of launches, or why they are refused
-abbrev pub places_of : List (List ℕ) → List NamedData → List (Result PlacedData AuditFault)
-places_of files ls = map (λ l. accepted_of l.launch files) ls
-
--- plans begin with that of a launch, where it is accepted
-abbrev pub BeginsWith : LaunchData → Result PlacedData AuditFault → (List PlanView → Type 0) → List PlanView → Type 0
-BeginsWith l (Err fault) others plans = others plans
-BeginsWith l (Ok p) others [] = ⊥
-BeginsWith l (Ok p) others (v ∷ plans) = IsReadOf l p v × others plans
-
--- plans of the launches that are accepted, in their order
-abbrev pub ArePlans : List (List ℕ) → List NamedData → List PlanView → Type 0
-ArePlans files [] plans = plans ≡ []
-ArePlans files (l ∷ ls) plans = BeginsWith l.launch (accepted_of l.launch files) (ArePlans files ls) plans
 
 -- the places and the plans of some launches
 abbrev pub ArePrepared : List (List ℕ) → List NamedData → List (Result PlacedData AuditFault) → List PlanView → Type 0

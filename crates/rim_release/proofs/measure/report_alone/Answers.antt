@@ -13,13 +13,14 @@ use Rattle.rim_chain.specs.Links.{PlanView, keys_of}
 use Rattle.rim_chain.specs.Rows.{has_all, value_in}
 use Rattle.rim_manifest.specs.Launches.{NamedData}
 use Rattle.ipa_layout.specs.Layout.{PlacedData}
-use Rattle.rim_release.specs.Pages.{page_keys}
+use Rattle.rim_release.specs.Pages.{page_keys, source_bytes}
+use Rattle.rim_release.specs.Plans.{places_of}
 use Rattle.rim_release.specs.declared.audit_fault.AuditFault.{AuditFault}
 use Rattle.rim_release.specs.Report.{lines_of, report_with}
 use Rattle.rim_release.specs.inside.Chains.{outcomes_of}
 use Rattle.rim_release.specs.inside.Lines.{lines_with}
-use Rattle.rim_release.specs.inside.Preparing.{ArePrepared, places_of}
-use Rattle.rim_release.specs.inside.Sources.{pages_of, source_bytes}
+use Rattle.rim_release.specs.inside.Preparing.{ArePrepared}
+use Rattle.rim_release.specs.inside.Sources.{pages_of}
 use Rattle.rim_release.proofs.Held.{all-have, all-lines, found-pages, rising-pages}
 use Rattle.rim_release.proofs.measure.report_alone.Goals as goal
 

@@ -3,8 +3,7 @@ use Rattle.std.proofs.lemmas.List.{length-map}
 use Rattle.ipa_layout.specs.Layout.{PlacedData}
 use Rattle.ipa_layout.specs.inside.LayoutViews.{contents}
 use Rattle.page_jobs.specs.Page.{PageView, page_named}
-use Rattle.rim_release.specs.Pages.{page_keys}
-use Rattle.rim_release.specs.inside.Sources.{source_bytes}
+use Rattle.rim_release.specs.Pages.{page_keys, source_bytes}
 use Rattle.rim_release.specs.declared.audit_fault.AuditFault.{AuditFault}
 use Rattle.rim_release.proofs.PageKeys.{few-enough, files-there, keys-found, ranges-usable, too-many}
 use Rattle.rim_release.proofs.pages.pages.Goals as goal

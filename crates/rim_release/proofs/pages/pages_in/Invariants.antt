@@ -3,7 +3,7 @@ use Rattle.std.specs.List.{flat_map}
 use Rattle.ipa_layout.specs.inside.LayoutViews.{contents}
 use Rattle.page_jobs.specs.Page.{page_named, page_view}
 use Rattle.page_jobs.specs.Ranges.{range_keys}
-use Rattle.rim_release.specs.inside.Sources.{source_bytes}
+use Rattle.rim_release.specs.Pages.{source_bytes}
 use Rattle.rim_release.proofs.pages.pages_in.Given as goal
 
 abbrev pub invariant-loop-range : goal.invariant-loop-range

@@ -17,10 +17,11 @@ use Rattle.rim_manifest.proofs.Notes.{list_any_map}
 use Rattle.rim_manifest.specs.Launches.{NamedData}
 use Rattle.rim_release.specs.Accepted.{accepted_of}
 use Rattle.rim_release.specs.Report.{is_crew, report_with}
+use Rattle.rim_release.specs.Plans.{places_of}
 use Rattle.rim_release.specs.declared.audit_fault.AuditFault.{AuditFault}
 use Rattle.rim_release.specs.inside.Chains.{outcomes_of, unknown_rim, with_rims}
 use Rattle.rim_release.specs.inside.Lines.{lines_with}
-use Rattle.rim_release.specs.inside.Preparing.{ArePrepared, places_of}
+use Rattle.rim_release.specs.inside.Preparing.{ArePrepared}
 use Rattle.rim_release.specs.inside.Sources.{pages_of}
 use Rattle.rim_release.proofs.ChainValues.{rims-placed}
 use Rattle.rim_release.proofs.Held.{all-known, found-keys, report-is, rising-pages}
