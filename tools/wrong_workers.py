@@ -19,16 +19,16 @@ top = os.path.dirname(os.path.dirname(os.path.abspath(__file__)))
 BODIES = [
     (
         "results of launches are dropped",
-        "job_workers/src/worker.rt",
-        [("let _ = board.put_launch(rt, worker, rim);", "drop(rim);")],
-        "rim_tests",
+        "job_board/src/state.rt",
+        [("        if !is_plan(plans, number, rim.plan())", "        if number < plans.len() {\n            return Ok(());\n        }\n        if !is_plan(plans, number, rim.plan())")],
+        "job_board_tests",
     ),
     (
         "the gate is called under the lock",
         "job_workers/src/worker.rt",
         [
             (
-                "        let given = board.take(rt, worker);\n",
+                "        let given = take_soon(rt, board, worker);\n",
                 "        let mut state = board.lock(rt);\n        let given = state.take(worker);\n"
                 "        match &given {\n            Work::Page(page, _) => gate.before(worker, JobId::Page(*page)),\n"
                 "            Work::Launch(job) => gate.before(worker, JobId::Launch(job.number())),\n            _ => {}\n        }\n"
@@ -73,7 +73,7 @@ def refused(body, folder):
     ran = subprocess.run(["rt", "try", "--test"], cwd=os.path.join(folder, "crates", tests), capture_output=True, text=True)
     with open(path, "w") as source:
         source.write(text)
-    failed = [line for line in (ran.stdout + ran.stderr).splitlines() if line.startswith("test ") and "passed" not in line]
+    failed = [line for line in (ran.stdout + ran.stderr).splitlines() if line.startswith("test ") and line.endswith("FAILED")]
     print(f"{'ok' if failed else 'WRONG'}: {what}", *failed[:4], sep="\n  ", flush=True)
     return bool(failed)
 
