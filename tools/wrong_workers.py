@@ -1,6 +1,6 @@
 #!/usr/bin/env python3
-"""Shows that tests refuse wrong bodies of the workers' code which its contracts let through: what a contract says of a
-run that ends says nothing of one that does not end, and nothing of who did what. Not part of the gate.
+"""Shows that tests refuse wrong bodies of the workers' code. Contracts let most of them through, since they say nothing of
+a run that does not end, of who did what, or of memory that is refused needlessly. Not part of the gate.
 
 usage: tools/wrong_workers.py [WORD]
 
