@@ -4,6 +4,7 @@
 mod closing;
 pub mod job;
 mod jobs;
+pub mod known;
 pub mod laws;
 pub mod machine;
 mod needs;
@@ -13,6 +14,7 @@ pub mod state;
 pub mod work;
 
 pub use job::{CoreFault, Event, JobId, JobState};
+pub use known::has_all_keys;
 pub use machine::Core;
 pub use share::Share;
 pub use state::BoardState;

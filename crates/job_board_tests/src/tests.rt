@@ -1,7 +1,6 @@
 //! What tests ask of a core and of a board. Each question is compared at one place, since each comparison is proved.
 mod boards;
 mod faults;
-mod known;
 mod puts;
 mod runs;
 mod searches;

@@ -4,8 +4,7 @@ ghost use Rattle.page_jobs.specs.Key.{IsRising};
 ghost use Rattle.page_jobs.specs.Page.{page_view};
 ghost use Rattle.page_jobs.specs.Table.{keys_of as page_keys};
 
-use super::known::has_all_keys;
-use job_board::{BoardState, Share, Work};
+use job_board::{BoardState, Share, Work, has_all_keys};
 use page_jobs::{Blob, DigestRow, Page, PageJob, PageKey, Table, distinct_pages};
 use refusal::NoMemory;
 use rim_chain::{LaunchJob, LaunchPlan, LaunchRim, Link};

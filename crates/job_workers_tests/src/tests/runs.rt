@@ -1,14 +1,17 @@
 //! Runs of workers over pages: what is counted, who is started, and what is called around each job.
 ghost use Rattle.std.specs.Prelude.{◌≡◌, [], IfOk, length, map, replicate, None};
+ghost use Rattle.std.specs.List.{All, Contains};
 ghost use Rattle.page_jobs.specs.Key.{IsRising};
 ghost use Rattle.page_jobs.specs.Page.{page_view};
 ghost use Rattle.page_jobs.specs.Table.{keys_of};
+ghost use Rattle.rim_chain.specs.Links.{keys_of as link_keys};
 
-use job_board::{BoardState, JobId, Share, Work};
+use job_board::{BoardState, JobId, Share, Work, has_all_keys};
 use job_workers::{Board, Gate, Run, run_workers_on};
-use page_jobs::{Blob, Page, PageJob, Table, distinct_pages};
+use page_jobs::{Blob, Page, PageJob, PageKey, Table, distinct_pages};
 use refusal::NoMemory;
-use rim_desc::{Algo, Source};
+use rim_chain::{LaunchPlan, Link};
+use rim_desc::{Algo, RealmParams, Source};
 use std::alloc::Global;
 use std::marker::Brand;
 use std::process::Abort;
@@ -149,19 +152,22 @@ fn offer<'a, L: Run>(
     assert_eq!(rt; share.count(), count);
 }
 
-fn put_once<L: Run>(
+/// Worker 0 puts a page and the launch that measures it. No other worker can put the page, and no page is put twice.
+fn put_once<'a, L: Run>(
     rt: &(impl Wait + Abort),
     alloc: Global,
     blank: Blank,
-    table: Table,
+    table: Table<'a>,
+    plans: &'a [LaunchPlan],
 ) -> Result<(), NoMemory>
     requires name { blank.name ≡ L.name }
     requires parts { (blank.parts ≡ L.parts) × (blank.parts ≡ 2) }
     requires pages { table.pages ≡ L.pages }
-    requires plans { [] ≡ L.plans }
+    requires plans { plans.now ≡ L.plans }
+    requires keys { All (λ p. All (Contains (keys_of table.pages)) (link_keys p.links)) plans.now }
     requires empty { table.digests ≡ replicate (length table.pages) None }
 {
-    let (state, mut shares) = BoardState::<L>::new(alloc, blank, 2, table, &[])?;
+    let (state, mut shares) = BoardState::<L>::new(alloc, blank, 2, table, plans)?;
     let (Some(mut second), Some(mut first)) = (shares.pop(), shares.pop()) else {
         panic!(rt; "there are two shares");
     };
@@ -175,16 +181,54 @@ fn put_once<L: Run>(
     offer(rt, &board, 1, page, &mut second, false, 0);
     offer(rt, &board, 0, page, &mut first, true, 1);
     offer(rt, &board, 0, page, &mut first, false, 1);
+    let Work::Launch(job) = board.take(rt, 0) else {
+        panic!(rt; "the launch has its page");
+    };
+    assert!(rt; board.put_launch(rt, 0, job.run()).is_ok());
     assert!(rt; matches!(board.take(rt, 0), Work::Done));
     Ok(())
 }
 
+const REALM: RealmParams = RealmParams {
+    flags: 0,
+    s2sz: 33,
+    sve_vl: 0,
+    num_bps: 0,
+    num_wps: 0,
+    pmu_num_ctrs: 0,
+    rtt_level_start: 2,
+    rtt_num_start: 1,
+    algo: Algo::Sha256,
+    rpv: [0; 64],
+    rtt_base: 0,
+};
+
+/// The link that measures the first page of file 0.
+const LINK: Link = Link::Pages {
+    ipa: 0x4000_0000,
+    key: PageKey {
+        algo: Algo::Sha256,
+        source: Source::File(0),
+        lead: 0,
+        number: 0,
+    },
+    count: 1,
+};
+
 #[test]
-fn a_page_is_put_once_by_its_holder(rt: HostRuntime) -> Result<(), Fail> {
+fn a_page_and_its_launch_are_put_once(rt: HostRuntime) -> Result<(), Fail> {
     let mut pages = Vec::new(rt.alloc());
     pages.push(Blob::new(Source::File(0), 0, &[1, 2, 3]).page(Algo::Sha256, 0))?;
     distinct_pages(&mut pages);
     let table = Table::reserve(rt.alloc(), &pages)?;
-    put_once::<Brand>(&rt, rt.alloc(), Blank::new(2), table)?;
+    let mut links = Vec::new(rt.alloc());
+    links.push(LINK)?;
+    let mut plans = Vec::new(rt.alloc());
+    plans.push(LaunchPlan::new(REALM, links).expect(&rt, "the link fits"))?;
+    let plans = plans.as_slice();
+    if !has_all_keys(&table, plans) {
+        panic!(rt; "the launch's page exists");
+    }
+    put_once::<Brand>(&rt, rt.alloc(), Blank::new(2), table, plans)?;
     Ok(())
 }
