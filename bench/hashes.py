@@ -1,0 +1,37 @@
+#!/usr/bin/env python3
+"""Times the digests of descriptors beside those of the kit's `sha2`. Not part of the gate.
+
+usage: bench/hashes.py [RUNS]
+
+It builds bench/hashes/main.rt.in in a copy of the crates, with the kit's rt. One run of that program takes slices of each
+kind of work in turn, and keeps the least time of each.
+"""
+import subprocess
+import sys
+import tempfile
+
+from crates import built
+
+SLICES = 500
+DESCRIPTORS = 256
+
+
+def least_times(program, runs):
+    """The least times of some runs, in nanoseconds a slice, by the kind of work."""
+    times = []
+    for _ in range(runs):
+        ran = subprocess.run([program, str(SLICES)], check=True, capture_output=True, text=True)
+        times.append([int(word) for word in ran.stdout.splitlines()[-1].split()])
+    return [min(kind) for kind in zip(*times)]
+
+
+def main():
+    runs = int(sys.argv[1]) if len(sys.argv) > 1 else 4
+    with tempfile.TemporaryDirectory() as folder:
+        program = built(folder, "hashes", "known_tail sha2", ["1"])
+        library, known = least_times(program, runs)
+    print(f"a descriptor by SHA-256: {known / DESCRIPTORS:.0f} ns, by sha2 {library / DESCRIPTORS:.0f} ns")
+
+
+if __name__ == "__main__":
+    main()

@@ -1,0 +1,4 @@
+pub mod Rotations
+pub mod ChMaj
+pub mod KnownBlocks
+pub mod Messages
