@@ -1,8 +1,10 @@
 //! Measurements.
-ghost use Rattle.std.specs.Prelude.{◌≡◌};
+ghost use Rattle.std.specs.Prelude.{◌≡◌, ◌++◌};
 ghost use Rattle.rim_desc.specs.Measurement.{measurement_of};
+ghost use Rattle.rim_desc.specs.Page.{zeros};
 
 use crate::descriptor::DESCRIPTOR_SIZE;
+use known_tail::sha256_descriptor;
 use sha2::{Digest, Sha256, Sha512};
 
 /// The hash algorithm of a realm (DEN0137, RmiHashAlgorithm).
@@ -24,12 +26,12 @@ pub struct Measurement {
 pub fn hash(algo: Algo, message: &[u8]) -> Measurement
     ensures { result.bytes ≡ measurement_of algo message.now }
 {
-    let mut bytes = [0; 64];
     match algo {
-        Algo::Sha256 => bytes[..32].copy_from_slice(&Sha256::digest(message)),
-        Algo::Sha512 => bytes = Sha512::digest(message),
+        Algo::Sha256 => filled(Sha256::digest(message)),
+        Algo::Sha512 => Measurement {
+            bytes: Sha512::digest(message),
+        },
     }
-    Measurement { bytes }
 }
 
 /// A Realm Initial Measurement extended by a descriptor, which holds the present one: the measurement
@@ -37,5 +39,17 @@ pub fn hash(algo: Algo, message: &[u8]) -> Measurement
 pub fn extend(algo: Algo, descriptor: &[u8; DESCRIPTOR_SIZE]) -> Measurement
     ensures { result.bytes ≡ measurement_of algo descriptor.now }
 {
-    hash(algo, descriptor)
+    match algo {
+        Algo::Sha256 => filled(sha256_descriptor(descriptor)),
+        Algo::Sha512 => hash(algo, descriptor),
+    }
+}
+
+/// A digest of 32 bytes, filled with zero bytes to 64.
+fn filled(digest: [u8; 32]) -> Measurement
+    ensures { result.bytes ≡ digest ++ zeros 32 }
+{
+    let mut bytes = [0; 64];
+    bytes[..32].copy_from_slice(&digest);
+    Measurement { bytes }
 }
