@@ -1,5 +1,6 @@
 //! Messages are pseudo-random. Digests are compared with the kit's `sha2`, and some with Python's hashlib.
 mod descriptors;
+mod pages;
 
 /// Fills bytes with the high bytes of a linear congruential generator's states after the seed.
 fn fill(bytes: &mut [u8], seed: u32) {

@@ -1,14 +1,16 @@
 //! SHA-256 of descriptors. What a descriptor says is in its first 128 bytes, and zeros follow, so three of the
-//! five blocks that are hashed are known beforehand.
+//! five blocks that are hashed are known beforehand. The constants of SHA-256, and its words as bytes, are public
+//! for `sha_four`.
 #![tactic(auto)]
 
 ghost use Rattle.std.specs.Prelude.{◌≡◌};
 ghost use Rattle.sha2.specs.Sha256.{sha256};
 
-mod constants;
+pub mod constants;
 mod headed;
 mod known_blocks;
 mod rounds;
+pub mod words;
 
 use headed::sha256_headed;
 use sha2::{Digest, Sha256};

@@ -1,8 +1,9 @@
 //! The rounds of SHA-256 over one block (FIPS 180-4, 6.2.2), in the form of the kit's `sha2`.
 ghost use Rattle.std.specs.Prelude.{◌≡◌, ℕ, ◌+◌, ◌*◌, ◌<◌, ◌≤◌, List, length, slice_set};
-ghost use Rattle.sha2.specs.Sha256.{IsRoundsAt, IsWindow, big_sigma0, big_sigma1, ch, compress, maj, round, rounds, schedule, small_sigma0, small_sigma1, window_word, word_at};
+ghost use Rattle.sha2.specs.Sha256.{IsRoundsAt, IsWindow, big_sigma0, big_sigma1, ch, compress, maj, round, rounds, schedule, small_sigma0, small_sigma1, window_word};
 
 use crate::constants::ROUND_CONSTANTS;
+use crate::words::word;
 
 /// Adds a block to a hash value.
 pub(crate) fn compress(state: &mut [u32; 8], block: &[u8])
@@ -43,13 +44,6 @@ fn load(w: &mut [u32; 16], block: &[u8])
     'words: for i in 0..16 {
         w[i] = word(block, 4 * i);
     }
-}
-
-fn word(block: &[u8], i: usize) -> u32
-    requires { i + 4 ≤ length block.now }
-    ensures { result ≡ word_at block.now i }
-{
-    u32::from_be_bytes([block[i], block[i + 1], block[i + 2], block[i + 3]])
 }
 
 /// Round t of the first 16, whose words are the block's, and the three after it.

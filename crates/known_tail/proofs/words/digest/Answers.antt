@@ -3,7 +3,7 @@ use Rattle.std.proofs.lemmas.List.{take_all}
 use Rattle.std.proofs.lemmas.Slice.{overwrites}
 use Rattle.sha2.specs.Sha256.{digest_bytes}
 use Rattle.sha2.proofs.Absorbing256.{digest_more}
-use Rattle.known_tail.proofs.headed.digest.Goals as goal
+use Rattle.known_tail.proofs.words.digest.Goals as goal
 
 pub words-init : goal.words-init
 unfolding digest_bytes
