@@ -22,12 +22,23 @@ pub struct Measurement {
     pub bytes: [u8; 64],
 }
 
+impl Measurement {
+    /// A SHA-256 digest, filled with zero bytes to 64.
+    pub fn of_sha256(digest: [u8; 32]) -> Measurement
+        ensures { result.bytes ≡ digest ++ zeros 32 }
+    {
+        let mut bytes = [0; 64];
+        bytes[..32].copy_from_slice(&digest);
+        Measurement { bytes }
+    }
+}
+
 /// The measurement of some bytes: their digest, filled with zero bytes to 64.
 pub fn hash(algo: Algo, message: &[u8]) -> Measurement
     ensures { result.bytes ≡ measurement_of algo message.now }
 {
     match algo {
-        Algo::Sha256 => filled(Sha256::digest(message)),
+        Algo::Sha256 => Measurement::of_sha256(Sha256::digest(message)),
         Algo::Sha512 => Measurement {
             bytes: Sha512::digest(message),
         },
@@ -40,16 +51,7 @@ pub fn extend(algo: Algo, descriptor: &[u8; DESCRIPTOR_SIZE]) -> Measurement
     ensures { result.bytes ≡ measurement_of algo descriptor.now }
 {
     match algo {
-        Algo::Sha256 => filled(sha256_descriptor(descriptor)),
+        Algo::Sha256 => Measurement::of_sha256(sha256_descriptor(descriptor)),
         Algo::Sha512 => hash(algo, descriptor),
     }
-}
-
-/// A digest of 32 bytes, filled with zero bytes to 64.
-fn filled(digest: [u8; 32]) -> Measurement
-    ensures { result.bytes ≡ digest ++ zeros 32 }
-{
-    let mut bytes = [0; 64];
-    bytes[..32].copy_from_slice(&digest);
-    Measurement { bytes }
 }

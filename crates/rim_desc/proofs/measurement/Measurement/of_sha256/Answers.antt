@@ -1,5 +1,5 @@
 use Rattle.rim_desc.specs.Page.{zeros}
-use Rattle.rim_desc.proofs.measurement.filled.Goals as goal
+use Rattle.rim_desc.proofs.measurement.Measurement.of_sha256.Goals as goal
 
 pub returns : goal.returns
 unfolding zeros
