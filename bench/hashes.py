@@ -1,5 +1,5 @@
 #!/usr/bin/env python3
-"""Times the digests of descriptors beside those of the kit's `sha2`. Not part of the gate.
+"""Times the digests of descriptors and pages beside those of the kit's `sha2`. Not part of the gate.
 
 usage: bench/hashes.py [RUNS]
 
@@ -14,6 +14,7 @@ from crates import built
 
 SLICES = 500
 DESCRIPTORS = 256
+PAGES = 32
 
 
 def least_times(program, runs):
@@ -28,9 +29,12 @@ def least_times(program, runs):
 def main():
     runs = int(sys.argv[1]) if len(sys.argv) > 1 else 4
     with tempfile.TemporaryDirectory() as folder:
-        program = built(folder, "hashes", "known_tail sha2", ["1"])
-        library, known = least_times(program, runs)
-    print(f"a descriptor by SHA-256: {known / DESCRIPTORS:.0f} ns, by sha2 {library / DESCRIPTORS:.0f} ns")
+        program = built(folder, "hashes", "page_jobs known_tail rim_desc sha2", ["1"])
+        times = least_times(program, runs)
+    library, known = (time / DESCRIPTORS for time in times[:2])
+    bare, alone, fours = (time / PAGES for time in times[2:])
+    print(f"a descriptor by SHA-256: {known:.0f} ns, by sha2 {library:.0f} ns")
+    print(f"a page by SHA-256: {alone:.0f} ns alone, {fours:.0f} ns in a group of four, by sha2 {bare:.0f} ns")
 
 
 if __name__ == "__main__":

@@ -1,2 +1,3 @@
--- What the loops of this crate keep.
+-- What the loops of this crate keep, and which pages go together.
 pub mod Fresh
+pub mod Lanes

@@ -1,6 +1,6 @@
 //! Pages and their digests. The digests were computed by Python's hashlib.
 use super::item;
-use page_jobs::{Blob, Page, PageJob, PageKey, distinct_pages};
+use page_jobs::{Blob, Page, PageJob, PageKey, distinct_pages, run_four};
 use rim_desc::{Algo, Source};
 use std::mem::size_of;
 use std::test::Fail;
@@ -116,6 +116,66 @@ fn digests(rt: HostRuntime) -> Result<(), Fail> {
             "page {number} at lead {lead}"
         );
         assert!(rt; bytes[digest.len() / 2..].iter().all(|b| *b == 0));
+    }
+    Ok(())
+}
+
+/// Groups of pages of an item with four pages and one byte: the algorithm and the number of each.
+const GROUPS: [[(Algo, u8); 4]; 5] = [
+    [
+        (Algo::Sha256, 3),
+        (Algo::Sha256, 0),
+        (Algo::Sha256, 2),
+        (Algo::Sha256, 1),
+    ],
+    [
+        (Algo::Sha256, 3),
+        (Algo::Sha256, 0),
+        (Algo::Sha256, 2),
+        (Algo::Sha512, 1),
+    ],
+    [
+        (Algo::Sha256, 4),
+        (Algo::Sha256, 0),
+        (Algo::Sha256, 1),
+        (Algo::Sha256, 1),
+    ],
+    [
+        (Algo::Sha512, 0),
+        (Algo::Sha512, 1),
+        (Algo::Sha512, 2),
+        (Algo::Sha512, 3),
+    ],
+    [
+        (Algo::Sha256, 4),
+        (Algo::Sha512, 4),
+        (Algo::Sha256, 5),
+        (Algo::Sha512, 5),
+    ],
+];
+
+/// Whether a group's digests are those of its pages alone.
+fn are_as_alone(blob: Blob, group: [(Algo, u8); 4]) -> bool {
+    let [a, b, c, d] = group.map(|(algo, number)| blob.page(algo, u64::from(number)));
+    let (first, second, third, fourth) = run_four(
+        PageJob::new(a),
+        PageJob::new(b),
+        PageJob::new(c),
+        PageJob::new(d),
+    );
+    let together = [first.digest, second.digest, third.digest, fourth.digest];
+    together == [a, b, c, d].map(|page| PageJob::new(page).run().digest)
+}
+
+#[test]
+fn four_pages_together(rt: HostRuntime) -> Result<(), Fail> {
+    let mut bytes = Vec::new(rt.alloc());
+    for i in 0..16_385u32 {
+        bytes.push((i % 251) as u8)?;
+    }
+    let blob = Blob::new(Source::File(0), 0, bytes.as_slice());
+    for (place, group) in GROUPS.into_iter().enumerate() {
+        assert!(rt; are_as_alone(blob, group), "group {place}");
     }
     Ok(())
 }

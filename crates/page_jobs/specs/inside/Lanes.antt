@@ -1,0 +1,8 @@
+-- Pages that can be hashed side by side. This project's choice.
+use Rattle.std.specs.Prelude.{◌≡◌, length}
+use Rattle.rim_desc.specs.declared.measurement.Algo.TheVariants.{Sha256}
+use Rattle.page_jobs.specs.Page.{PageView}
+
+-- a page of 4096 lent bytes, for SHA-256
+abbrev pub FillsLane : PageView → Type 0
+FillsLane p = (p.key.algo ≡ Sha256) × (length p.bytes ≡ 4096)
