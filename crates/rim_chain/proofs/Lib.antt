@@ -2,6 +2,8 @@ pub mod Extending
 pub mod Keys
 pub mod LinkByLink
 pub mod Fitting
+pub mod KnownFronts
+pub mod FrontValues
 pub mod Readable
 pub mod ReadParts
 pub mod Rows

@@ -1,6 +1,8 @@
 pub mod Links
+pub mod Fronts
 pub mod Fitting
 pub mod Rows
+pub mod SharedFronts
 pub mod Reading
 pub mod Jobs
 pub mod OwnDigests

@@ -1,4 +1,6 @@
 -- What the fields and loops of this crate keep.
 pub mod Filling
 pub mod Counted
+pub mod Marks
+pub mod Places
 pub mod Steps

@@ -1,13 +1,17 @@
 //! Measurements extended link by link.
-ghost use Rattle.std.specs.Prelude.{◌≡◌, ◌+◌, ◌*◌, ◌^◌, ◌<◌, length, map, None};
+ghost use Rattle.std.specs.Prelude.{◌≡◌, ◌+◌, ◌*◌, ◌^◌, ◌<◌, ◌≤◌, List, length, map, IfSome, None};
 ghost use Rattle.rim_desc.specs.Measurement.{measurement_of};
 ghost use Rattle.rim_desc.specs.Part.{Data, extended_by};
+ghost use Rattle.rim_desc.specs.declared.measurement.Measurement.{Measurement};
 ghost use Rattle.rmm_model.specs.Blocks.{granules, stretches};
 ghost use Rattle.rmm_model.specs.Effects.{ripas_parts};
-ghost use Rattle.rim_chain.specs.Links.{chain_of, keys_of, link_parts, page_count, pages_with};
+ghost use Rattle.rim_chain.specs.Fronts.{AreFronts, IsFront, IsMarked, front_value};
+ghost use Rattle.rim_chain.specs.Links.{chain_of, link_parts, page_count, pages_with};
 ghost use Rattle.rim_chain.specs.Rows.{IsFilled};
 ghost use Rattle.rim_chain.specs.Fitting.{IsFitting};
+ghost use Rattle.rim_chain.specs.inside.Places.{IsPlace};
 
+use crate::front::{Front, Mark};
 use crate::link::Link;
 use crate::plan::{LaunchPlan, page_count};
 use page_jobs::DigestRow;
@@ -77,18 +81,127 @@ fn extended_by_link(
     }
 }
 
+/// Where a chain is: how many links and pages of a plan it has taken, and its value there.
+#[derive(Clone, Copy)]
+struct Place {
+    links: usize,
+    pages: usize,
+    value: Measurement,
+}
+
 /// The Realm Initial Measurement that a plan and the digests of its pages make. It takes a hash for each part.
 pub fn chain(plan: &LaunchPlan, row: &DigestRow) -> Measurement
     requires { IsFilled plan.now row.now.digests }
     ensures { result.bytes ≡ chain_of plan.now row.now.digests }
 {
-    let params = plan.params();
-    let mut rim = hash(params.algo, &realm_page(&params));
-    let mut digests = row.digests();
-    for link in plan.links() {
-        let (own, others) = digests.split_at(page_count(link) as usize);
-        rim = extended_by_link(params.algo, rim, link, own);
-        digests = others;
+    marked_chain(plan, row, None, &mut [])
+}
+
+/// The same measurement, which goes on from a front whose value is known, where there is one; and marks, where there
+/// are some, each with the value of the front up to it, where the chain comes to it.
+pub fn chain_from(
+    plan: &LaunchPlan,
+    row: &DigestRow,
+    head: Option<Front>,
+    marks: Option<Vec<Mark>>,
+) -> (Measurement, Option<Vec<Mark>>)
+    requires filled { IsFilled plan.now row.now.digests }
+    requires head { IfSome head (IsFront plan.now row.now.digests) }
+    ensures value { result.0.bytes ≡ chain_of plan.now row.now.digests }
+    ensures marks { IfSome result.1 (λ own. AreFronts plan.now row.now.digests own.items) }
+{
+    let mut marks = marks;
+    let value = match &mut marks {
+        Some(marks) => marked_chain(plan, row, head, marks.as_mut_slice()),
+        None => marked_chain(plan, row, head, &mut []),
+    };
+    (value, marks)
+}
+
+fn marked_chain(
+    plan: &LaunchPlan,
+    row: &DigestRow,
+    head: Option<Front>,
+    marks: &mut [Mark],
+) -> Measurement
+    requires filled { IsFilled plan.now row.now.digests }
+    requires head { IfSome head (IsFront plan.now row.now.digests) }
+    ensures value { result.bytes ≡ chain_of plan.now row.now.digests }
+    ensures marks { AreFronts plan.now row.now.digests marks.new }
+{
+    let end = plan.links().len();
+    let mut place = place_of(plan, row, head);
+    for at in 0..marks.len() {
+        let (next, mark) = marked(plan, row, place, marks[at].links);
+        marks[at] = mark;
+        place = next;
     }
-    rim
+    chained_to(plan, row, place, end).value
+}
+
+/// The place at a mark after this many links, and the mark with its value; or the same place, and the mark without a
+/// value, where the chain has passed it or the plan ends before it.
+fn marked(plan: &LaunchPlan, row: &DigestRow, from: Place, links: usize) -> (Place, Mark)
+    requires filled { IsFilled plan.now row.now.digests }
+    requires from { IsPlace plan.now row.now.digests from }
+    ensures place { IsPlace plan.now row.now.digests result.0 }
+    ensures mark { IsMarked plan.now row.now.digests result.1 }
+{
+    if links < from.links || plan.links().len() < links {
+        return (from, Mark { links, value: None });
+    }
+    let place = chained_to(plan, row, from, links);
+    let value = Some(place.value);
+    (place, Mark { links, value })
+}
+
+/// The place where a front ends, or the one after the realm.
+fn place_of(plan: &LaunchPlan, row: &DigestRow, head: Option<Front>) -> Place
+    requires filled { IsFilled plan.now row.now.digests }
+    requires head { IfSome head (IsFront plan.now row.now.digests) }
+    ensures { IsPlace plan.now row.now.digests result }
+{
+    match head {
+        Some(front) => Place {
+            links: front.links,
+            pages: plan.pages_before(front.links),
+            value: front.value,
+        },
+        None => Place {
+            links: 0,
+            pages: 0,
+            value: realm_value(plan),
+        },
+    }
+}
+
+/// What the realm of a plan is measured as.
+fn realm_value(plan: &LaunchPlan) -> Measurement
+    ensures { (digests : List Measurement) → result.bytes ≡ front_value 0 plan.now digests }
+{
+    let params = plan.params();
+    hash(params.algo, &realm_page(&params))
+}
+
+/// The place after this many links, to which a chain goes on from an earlier one.
+fn chained_to(plan: &LaunchPlan, row: &DigestRow, from: Place, end: usize) -> Place
+    requires filled { IsFilled plan.now row.now.digests }
+    requires from { IsPlace plan.now row.now.digests from }
+    requires end { (from.links ≤ end) × (end ≤ length plan.now.links) }
+    ensures place { IsPlace plan.now row.now.digests result }
+    ensures end { result.links ≡ end }
+{
+    let algo = plan.params().algo;
+    let mut place = from;
+    for at in from.links..end {
+        let link = &plan.links()[at];
+        let (_, rest) = row.digests().split_at(place.pages);
+        let (own, _) = rest.split_at(page_count(link) as usize);
+        place = Place {
+            links: at + 1,
+            pages: place.pages + own.len(),
+            value: extended_by_link(algo, place.value, link, own),
+        };
+    }
+    place
 }

@@ -1,15 +1,20 @@
 //! A launch's Realm Initial Measurement from the digests of its pages.
 #![tactic(auto)]
 
+mod chain_order;
 mod chaining;
 mod filling;
+mod front;
 mod job;
 mod laws;
 mod link;
 mod plan;
 mod reading;
+mod shared_fronts;
+mod siblings;
 
-pub use chaining::chain;
+pub use chaining::{chain, chain_from};
+pub use front::{Front, Mark};
 pub use job::{LaunchJob, LaunchRim};
 pub use laws::{
     a_chain_goes_on_from_its_front, a_row_has_the_digests_of_its_pages,
@@ -17,3 +22,4 @@ pub use laws::{
 };
 pub use link::Link;
 pub use plan::LaunchPlan;
+pub use shared_fronts::SharedFronts;

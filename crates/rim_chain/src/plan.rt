@@ -1,6 +1,7 @@
 //! What is measured of a launch, without the digests of its pages.
-ghost use Rattle.std.specs.Prelude.{◌≡◌, ◌+◌, ◌*◌, ◌^◌, ◌<◌, length, Some, IfSome, IsSome, IsTrue, ◌↔◌};
+ghost use Rattle.std.specs.Prelude.{◌≡◌, ◌+◌, ◌*◌, ◌^◌, ◌<◌, ◌≤◌, length, take, Some, IfSome, IsSome, IsTrue, ◌↔◌};
 ghost use Rattle.std.specs.List.{slice_get};
+ghost use Rattle.rim_chain.specs.Fronts.{HaveFront};
 ghost use Rattle.rim_chain.specs.Links.{keys_in, keys_of, page_count};
 ghost use Rattle.rim_chain.specs.inside.Counted.{AreLinks};
 ghost use Rattle.rim_chain.specs.Fitting.{AreFitting, IsFitting};
@@ -8,6 +9,7 @@ ghost use Rattle.rim_chain.specs.Fitting.{AreFitting, IsFitting};
 use crate::link::Link;
 use page_jobs::PageKey;
 use rim_desc::RealmParams;
+use std::cmp::Ordering;
 use std::marker::Model;
 
 /// What is measured of a launch, in order: its realm and what follows it, with keys in the places of the digests of
@@ -60,6 +62,20 @@ impl LaunchPlan {
         self.pages
     }
 
+    /// How many measured pages its first links have.
+    pub(crate) fn pages_before(&self, links: usize) -> usize
+        requires { links ≤ length self.now.links }
+        ensures { result ≡ length (keys_of (take links self.now.links)) }
+    {
+        // No more than all its pages, so the number fits.
+        let _all = self.pages();
+        let mut pages = 0;
+        for at in 0..links {
+            pages += page_count(&self.links()[at]) as usize;
+        }
+        pages
+    }
+
     /// The parameters of its realm.
     pub(crate) fn params(&self) -> RealmParams
         ensures { result ≡ self.now.params }
@@ -96,6 +112,70 @@ impl LaunchPlan {
     {
         self.params == other.params && is_same_links(self.links.as_slice(), other.links.as_slice())
     }
+}
+
+impl LaunchPlan {
+    /// Whether two plans have the same front of this many links: the same realm, and the same first links.
+    pub fn is_same_front(&self, other: &LaunchPlan, links: usize) -> bool
+        ensures { IsTrue result ↔ HaveFront links self.now other.now }
+    {
+        let (own, others) = (self.links.as_slice(), other.links.as_slice());
+        links <= own.len()
+            && links <= others.len()
+            && self.params == other.params
+            && is_same_links(own.split_at(links).0, others.split_at(links).0)
+    }
+
+    /// How many of their first links two plans have in common; none where their realms differ.
+    pub(crate) fn common_links(&self, other: &LaunchPlan) -> usize
+        ensures { take result self.now.links ≡ take result other.now.links }
+    {
+        if self.params != other.params {
+            return 0;
+        }
+        let (own, others) = (self.links.as_slice(), other.links.as_slice());
+        let end = own.len().min(others.len());
+        for at in 0..end {
+            if !is_same_link(&own[at], &others[at]) {
+                return at;
+            }
+        }
+        end
+    }
+
+    /// How many parts follow its first links: a chain that goes on from there takes as many hashes. It is a measure of the
+    /// work alone, and stays at 2^64 - 1 from there on.
+    pub fn parts_after(&self, links: usize) -> u64 {
+        let mut parts = 0u64;
+        for at in links..self.links.len() {
+            parts = parts.saturating_add(part_count(&self.links[at]));
+        }
+        parts
+    }
+
+    /// The order of two plans: by their realms, then by the first links that they do not have in common.
+    pub(crate) fn compare(&self, other: &LaunchPlan) -> Ordering {
+        let at = self.common_links(other);
+        let (own, others) = (self.links.as_slice(), other.links.as_slice());
+        compare_params(&self.params, &other.params).then(match (own.get(at), others.get(at)) {
+            (Some(a), Some(b)) => a.compare(b),
+            (a, b) => a.is_some().cmp(&b.is_some()),
+        })
+    }
+}
+
+fn compare_params(a: &RealmParams, b: &RealmParams) -> Ordering {
+    (a.algo.cmp(&b.algo))
+        .then(a.flags.cmp(&b.flags))
+        .then(a.s2sz.cmp(&b.s2sz))
+        .then(a.sve_vl.cmp(&b.sve_vl))
+        .then(a.num_bps.cmp(&b.num_bps))
+        .then(a.num_wps.cmp(&b.num_wps))
+        .then(a.pmu_num_ctrs.cmp(&b.pmu_num_ctrs))
+        .then(a.rtt_level_start.cmp(&b.rtt_level_start))
+        .then(a.rtt_num_start.cmp(&b.rtt_num_start))
+        .then(a.rpv.cmp(&b.rpv))
+        .then(a.rtt_base.cmp(&b.rtt_base))
 }
 
 /// How many measured pages some links have, or `None` where they do not fit.
@@ -149,6 +229,15 @@ pub(crate) fn page_count(link: &Link) -> u64
     }
 }
 
+/// How many parts a link has.
+fn part_count(link: &Link) -> u64 {
+    match link {
+        Link::Blocks { count, .. } | Link::Pages { count, .. } | Link::Unmeasured { count, .. } =>
+            *count,
+        Link::Rec { .. } => 1,
+    }
+}
+
 /// The key of a link's page, if it has one of this number.
 fn key_in(link: &Link, number: u64) -> Option<PageKey>
     requires { IsFitting link.now }
@@ -167,6 +256,12 @@ fn key_in(link: &Link, number: u64) -> Option<PageKey>
         }
         _ => None,
     }
+}
+
+fn is_same_link(a: &Link, b: &Link) -> bool
+    ensures { IsTrue result ↔ (a.now ≡ b.now) }
+{
+    *a == *b
 }
 
 /// Whether two lists of links are equal.

@@ -1,0 +1,197 @@
+-- Fronts whose values are known: of which launches they are, and what keeps them.
+use Rattle.std.proofs.Common.{rules, ◌≡◌, ◌⊎◌, inl, inr, ℕ, zero, suc, ◌+◌, ◌∙◌, refl, sym, ap, subst, arith, true, List, [], ◌∷◌, ◌++◌, length, map, set, get_or, take, drop, Option, Some, None}
+use Rattle.std.specs.Prelude.{is_some, IfSome, option_and_then}
+use Rattle.std.specs.List.{All, Contains, filter_map, slice_get}
+use Rattle.std.specs.Option.{option_map}
+use Rattle.std.proofs.lemmas.Bool.{and_parts}
+use Rattle.std.proofs.lemmas.List.{length-append, length-take-le, map-set, take-append-drop}
+use Rattle.std.proofs.lemmas.List.Concat.{flat_map-append}
+use Rattle.std.proofs.lemmas.List.Elements.{All-contains}
+use Rattle.std.proofs.lemmas.Option.{get_or_from_slice_get, same_Some, slice_get-map, slice_get_within}
+use Rattle.rim_desc.specs.declared.measurement.Measurement.{Measurement}
+use Rattle.page_jobs.specs.Table.{TableView, digest_at, digest_in, slot_of, with_digest}
+use Rattle.page_jobs.specs.declared.page.PageKey.{PageKey}
+use Rattle.rim_chain.specs.Fronts.{AreFronts, IsFront, front_of, front_value}
+use Rattle.rim_chain.specs.Links.{PlanView, chain_of, keys_in, keys_of}
+use Rattle.rim_chain.specs.Rows.{IsRowOf, has_all, value_in}
+use Rattle.rim_chain.specs.SharedFronts.{AreShared, HaveOwnValues, IsValueOfFront}
+use Rattle.rim_chain.specs.declared.front.Front.{Front}
+use Rattle.rim_chain.specs.declared.front.Mark.{Mark}
+use Rattle.rim_chain.specs.inside.Marks.{BothHaveFront, HaveNoValues}
+use Rattle.rim_chain.proofs.Rows.{row-length, row-parts}
+
+-- ---- a row of a table's digests
+
+-- it has just these
+pub row-values : (t : TableView) (keys : List PageKey) (digests : List Measurement) → IsRowOf t keys digests → filter_map (digest_at t) keys ≡ digests
+row-values t [] [] row = refl
+row-values t [] (d ∷ digests) row = absurd (cc)
+row-values t (key ∷ keys) [] row = absurd (cc)
+row-values t (key ∷ keys) (d ∷ digests) row = rw (here, row-values t keys digests rest) refl
+  where
+    here : digest_at t key ≡ Some d
+    here = cc
+
+    rest : map (digest_at t) keys ≡ map (λ m. Some m) digests
+    rest = cc
+
+-- and the table has all of them
+row-full : (t : TableView) (keys : List PageKey) (digests : List Measurement) → IsRowOf t keys digests → has_all t keys ≡ true
+row-full t [] digests row = refl
+row-full t (key ∷ keys) [] row = absurd (cc)
+row-full t (key ∷ keys) (d ∷ digests) row = rw (here, row-full t keys digests rest) refl
+  where
+    here : digest_at t key ≡ Some d
+    here = cc
+
+    rest : map (digest_at t) keys ≡ map (λ m. Some m) digests
+    rest = cc
+
+-- the first digests are the row of a front
+front-row : (t : TableView) (p : PlanView) (n : ℕ) (digests : List Measurement) → IsRowOf t (keys_of p.links) digests
+    → IsRowOf t (keys_of (take n p.links)) (take (length (keys_of (take n p.links))) digests)
+front-row t p n digests row =
+    let front : List PageKey = keys_of (take n p.links) in
+    let back : List PageKey = keys_of (drop n p.links) in
+    let k : ℕ = length front in
+    let keys : keys_of p.links ≡ front ++ back = ap keys_of (sym (take-append-drop n p.links)) ∙ flat_map-append keys_in (take n p.links) (drop n p.links) in
+    let size : length digests ≡ length (front ++ back) = row-length t (keys_of p.links) digests row ∙ ap length keys in
+    let sum : length (front ++ back) ≡ length front + length back = length-append front back in
+    let short : length (take k digests) ≡ k = length-take-le k digests (omega (arith, size, sum)) in
+    let whole : IsRowOf t (front ++ back) (take k digests ++ drop k digests) =
+    subst (λ (ks : List PageKey). IsRowOf t ks (take k digests ++ drop k digests)) keys (subst (IsRowOf t (keys_of p.links)) (sym (take-append-drop k digests)) row) in
+    ((row-parts t front back (take k digests) (drop k digests) (sym short)).0 whole).0
+
+front-value-in : (t : TableView) (p : PlanView) (n : ℕ) (digests : List Measurement) → IsRowOf t (keys_of p.links) digests → front_value n p digests ≡ value_in t (front_of n p)
+front-value-in t p n digests row = ap (chain_of (front_of n p)) (sym (row-values t (keys_of (take n p.links)) (take (length (keys_of (take n p.links))) digests) (front-row t p n digests row)))
+
+-- a front of the table's is a front with the digests of the plan's row
+own-front : (t : TableView) (p : PlanView) (n : ℕ) (v : Measurement) (digests : List Measurement) → IsRowOf t (keys_of p.links) digests → IsValueOfFront t p n v → IsFront p digests (record { links = n; value = v })
+own-front t p n v digests row h = (h.within, h.value ∙ sym (front-value-in t p n digests row))
+
+-- what holds where there is a value, made of what holds there
+if-some : {X : Type 0} (P Q : X → Type 0) → ((x : X) → P x → Q x) → (o : Option X) → IfSome o P → IfSome o Q
+if-some P Q f None h = h
+if-some P Q f (Some x) h = f x h
+
+-- and the other way round
+own-values : (t : TableView) (p : PlanView) (digests : List Measurement) (marks : List Mark) → IsRowOf t (keys_of p.links) digests → AreFronts p digests marks → HaveOwnValues t p marks
+own-values t p digests marks row fronts = λ k d inside.
+    let m : Mark = get_or marks k d in
+    if-some (λ v. IsFront p digests (record { links = m.links; value = v })) (IsValueOfFront t p m.links)
+    (λ v h. record {
+      within = h.0;
+      full = row-full t (keys_of (take m.links p.links)) (take (length (keys_of (take m.links p.links))) digests) (front-row t p m.links digests row);
+      value = h.1 ∙ front-value-in t p m.links digests row;
+    }) m.value (fronts k d inside)
+
+pub own-head : (t : TableView) (p : PlanView) (digests : List Measurement) (head : Option Front) → IsRowOf t (keys_of p.links) digests → IfSome head (λ f. IsValueOfFront t p f.links f.value) → IfSome head (IsFront p digests)
+own-head t p digests head row = if-some (λ f. IsValueOfFront t p f.links f.value) (IsFront p digests) (λ f. own-front t p f.links f.value digests row) head
+
+pub own-marks : {X : Type 0} (f : X → List Mark) (t : TableView) (p : PlanView) (digests : List Measurement) (marks : Option X) → IsRowOf t (keys_of p.links) digests
+    → IfSome marks (λ m. AreFronts p digests (f m)) → IfSome marks (λ m. HaveOwnValues t p (f m))
+own-marks f t p digests marks row = if-some (λ m. AreFronts p digests (f m)) (λ m. HaveOwnValues t p (f m)) (λ m. own-values t p digests (f m) row) marks
+
+-- ---- a slot that is filled
+
+set-or-same : {X : Type 0} (xs : List X) (i j : ℕ) (y : X) → (j ≡ i) ⊎ (slice_get (set xs i y) j ≡ slice_get xs j)
+set-or-same [] i j y = inr refl
+set-or-same (x ∷ xs) zero zero y = inl refl
+set-or-same (x ∷ xs) zero (suc j) y = inr refl
+set-or-same (x ∷ xs) (suc i) zero y = inr refl
+set-or-same (x ∷ xs) (suc i) (suc j) y = elim (set-or-same xs i j y) [
+  | inl same ↦ inl (ap suc same)
+  | inr same ↦ inr same
+]
+
+-- the digest of a page that has one is as before
+digest-stays : (t : TableView) (j : ℕ) (d : Measurement) (key : PageKey) → slice_get t.digests j ≡ Some None → is_some (digest_at t key) ≡ true → digest_at (with_digest t j d) key ≡ digest_at t key
+digest-stays t j d key empty full = stays (slot_of t.pages key) refl
+  where
+    in-slot : (k : ℕ) → is_some (digest_in t k) ≡ true → digest_in (with_digest t j d) k ≡ digest_in t k
+    in-slot k some = elim (set-or-same t.digests j k (Some d)) [
+      | inl same ↦ (let none : digest_in t k ≡ None = ap (digest_in t) same ∙ ap (option_and_then (λ (slot : Option Measurement). slot)) empty in cc)
+      | inr same ↦ ap (option_and_then (λ (slot : Option Measurement). slot)) same
+    ]
+
+    stays : (slot : Option ℕ) → slot_of t.pages key ≡ slot → digest_at (with_digest t j d) key ≡ digest_at t key
+    stays None at = ap (option_and_then (digest_in (with_digest t j d))) at ∙ ap (option_and_then (digest_in t)) (sym at)
+    stays (Some k) at =
+        ap (option_and_then (digest_in (with_digest t j d))) at
+        ∙ (in-slot k (ap (λ (o : Option ℕ). is_some (option_and_then (digest_in t) o)) (sym at) ∙ full) ∙ ap (option_and_then (digest_in t)) (sym at))
+
+keys-stay : (t : TableView) (j : ℕ) (d : Measurement) (keys : List PageKey) → slice_get t.digests j ≡ Some None → has_all t keys ≡ true
+    → (has_all (with_digest t j d) keys ≡ true) × (filter_map (digest_at (with_digest t j d)) keys ≡ filter_map (digest_at t) keys)
+keys-stay t j d [] empty full = (refl, refl)
+keys-stay t j d (key ∷ keys) empty full =
+    let parts = and_parts (is_some (digest_at t key)) (has_all t keys) full in
+    let rest = keys-stay t j d keys empty parts.1 in
+    rw (digest-stays t j d key empty parts.0, rest.0, rest.1, parts.0) (refl, refl)
+
+-- the values of fronts are as before
+pub shared-filled : (t : TableView) (plans : List PlanView) (marks : List (Option (List Mark))) (j : ℕ) (d : Measurement) → slice_get t.digests j ≡ Some None → AreShared t plans marks → AreShared (with_digest t j d) plans marks
+shared-filled t plans marks j d empty shared = λ l p own plan at k m inside.
+    let mark : Mark = get_or own k m in
+    if-some (IsValueOfFront t p mark.links) (IsValueOfFront (with_digest t j d) p mark.links)
+    (λ v h. let stay = keys-stay t j d (keys_of (take mark.links p.links)) empty h.full in record {
+      within = h.within;
+      full = stay.0;
+      value = h.value ∙ ap (chain_of (front_of mark.links p)) (sym stay.1);
+    }) mark.value (shared l p own plan at k m inside)
+
+-- ---- the marks of a launch
+
+-- before any launch is chained, whatever the lists of marks are kept in
+pub shared-first : {X : Type 0} (f : X → List Mark) (t : TableView) (plans : List PlanView) (marks : List (Option X)) → All (λ o. IfSome o (λ v. HaveNoValues (f v))) marks → AreShared t plans (map (option_map f) marks)
+shared-first {X = X} f t plans marks none = λ l p own plan at k m inside.
+    let mark : Mark = get_or own k m in
+    subst (λ (o : Option Measurement). IfSome o (IsValueOfFront t p mark.links)) (sym (no-values l own at k m inside)) (search rules)
+  where
+    at-launch : (l : ℕ) (own : List Mark) (o : Option (Option X)) → slice_get marks l ≡ o → option_map (option_map f) o ≡ Some (Some own) → HaveNoValues own
+    at-launch l own None is e = absurd (cc)
+    at-launch l own (Some None) is e = absurd (cc)
+    at-launch l own (Some (Some v)) is e =
+        let same : f v ≡ own = same_Some (f v) own (same_Some (Some (f v)) (Some own) e) in
+        let there : IfSome (get_or marks l (Some v)) (λ u. HaveNoValues (f u)) = none l (Some v) (slice_get_within marks l (Some v) is) in
+        subst HaveNoValues same (subst (λ (u : Option X). IfSome u (λ w. HaveNoValues (f w))) (get_or_from_slice_get marks l (Some v) (Some v) is) there)
+
+    no-values : (l : ℕ) (own : List Mark) → slice_get (map (option_map f) marks) l ≡ Some (Some own) → HaveNoValues own
+    no-values l own at = at-launch l own (slice_get marks l) refl (sym (slice_get-map (option_map f) marks l) ∙ at)
+
+-- where those of one launch are replaced by others, or by none
+pub shared-set : {X : Type 0} (f : X → List Mark) (t : TableView) (plans : List PlanView) (marks new : List (Option X)) (n : ℕ) (put : Option X) → new ≡ set marks n put
+    → AreShared t plans (map (option_map f) marks) → ((p : PlanView) → slice_get plans n ≡ Some p → IfSome put (λ o. HaveOwnValues t p (f o))) → AreShared t plans (map (option_map f) new)
+shared-set {X = X} f t plans marks new n put is shared values = λ l p own plan at. elim (set-cases (map (option_map f) marks) n l (option_map f put) (Some own) (ap (λ (os : List (Option (List Mark))). slice_get os l) (sym views) ∙ at)) [
+  | inl here ↦ subst (λ (o : Option (List Mark)). IfSome o (HaveOwnValues t p)) here.1 (if-mapped p put (values p (ap (slice_get plans) (sym here.0) ∙ plan)))
+  | inr there ↦ shared l p own plan there
+]
+  where
+    views : map (option_map f) new ≡ set (map (option_map f) marks) n (option_map f put)
+    views = ap (map (option_map f)) is ∙ map-set (option_map f) marks n put
+
+    if-mapped : (p : PlanView) (o : Option X) → IfSome o (λ x. HaveOwnValues t p (f x)) → IfSome (option_map f o) (HaveOwnValues t p)
+    if-mapped p None h = h
+    if-mapped p (Some x) h = h
+
+    set-cases : {Y : Type 0} (xs : List Y) (i j : ℕ) (y z : Y) → slice_get (set xs i y) j ≡ Some z → ((j ≡ i) × (y ≡ z)) ⊎ (slice_get xs j ≡ Some z)
+    set-cases [] i j y z at = inr at
+    set-cases (x ∷ xs) zero zero y z at = inl (refl, same_Some y z at)
+    set-cases (x ∷ xs) zero (suc j) y z at = inr at
+    set-cases (x ∷ xs) (suc i) zero y z at = inr at
+    set-cases (x ∷ xs) (suc i) (suc j) y z at = elim (set-cases xs i j y z at) [
+      | inl here ↦ inl (ap suc here.0, here.1)
+      | inr there ↦ inr there
+    ]
+
+-- the front that a launch has in common with another is its own
+pub shared-front : (t : TableView) (plans : List PlanView) (marks : List (Option (List Mark))) (a b : ℕ) (own : List Mark) (n : ℕ) (v : Measurement) (p : PlanView) → AreShared t plans marks
+    → slice_get marks a ≡ Some (Some own) → Contains own (record { links = n; value = Some v }) → BothHaveFront plans a b n → slice_get plans b ≡ Some p → IsValueOfFront t p n v
+shared-front t plans marks a b own n v p shared at has both plan =
+    let h : IsValueOfFront t both.first n v = All-contains (λ m. IfSome m.value (IsValueOfFront t both.first m.links)) own (record { links = n; value = Some v }) (shared a both.first own both.at_first at) has in
+    let fronts : front_of n both.first ≡ front_of n both.second = both.same.2 in
+    let second : both.second ≡ p = same_Some both.second p (sym both.at_second ∙ plan) in
+    subst (λ (q : PlanView). IsValueOfFront t q n v) second (record {
+      within = both.same.1;
+      full = ap (λ (q : PlanView). has_all t (keys_of q.links)) (sym fronts) ∙ h.full;
+      value = h.value ∙ ap (value_in t) fronts;
+    })

@@ -1,0 +1,141 @@
+//! The fronts that launches of a run have in common, so that each is chained once.
+ghost use Rattle.std.specs.Prelude.{◌≡◌, ℕ, true, List, map, Some, IfOk, IfSome, slice_set, option_map};
+ghost use Rattle.std.specs.List.{Contains, slice_get};
+ghost use Rattle.page_jobs.specs.Table.{TableView};
+ghost use Rattle.rim_chain.specs.Links.{PlanView};
+ghost use Rattle.rim_chain.specs.SharedFronts.{AreShared, HaveOwnValues, IsValueOfFront};
+ghost use Rattle.rim_chain.specs.inside.Marks.{BothHaveFront};
+
+use crate::chain_order::ChainOrder;
+use crate::front::{Front, Mark};
+use crate::plan::LaunchPlan;
+use crate::siblings::{Head, heads_of, marks_of};
+use refusal::NoMemory;
+use std::alloc::Global;
+use std::marker::Model;
+use std::mem::replace;
+
+/// For each launch of a run whose front it begins with, and its own marks. A launch goes on from the front of an
+/// earlier one. No value depends on which: a front is handed out just where it is the launch's own.
+#[derive(Drop)]
+pub struct SharedFronts {
+    heads: Vec<Option<Head>>,
+    marks: Vec<Option<Vec<Mark>>>,
+    order: ChainOrder,
+}
+
+impl Model for SharedFronts {
+    ghost use Rattle.std.specs.Prelude.{List, Option, map};
+    ghost use Rattle.std.specs.Option.{option_map};
+    ghost use Rattle.rim_chain.specs.declared.front.Mark.{Mark};
+
+    ghost Value = { List (Option (List Mark)) };
+
+    ghost view = { λ s. map (option_map (λ marks. marks.items)) s.marks.items };
+}
+
+impl SharedFronts {
+    /// The fronts that these launches have in common. None has a value yet. No later call takes memory.
+    pub fn new(alloc: Global, plans: &[LaunchPlan]) -> Result<SharedFronts, NoMemory>
+        ensures { IfOk result (λ s. (t : TableView) (ps : List PlanView) → AreShared t ps s) }
+    {
+        let heads = heads_of(alloc, plans)?;
+        let marks = marks_of(alloc, heads.as_slice())?;
+        let order = ChainOrder::new(alloc, plans, heads.as_slice())?;
+        Ok(SharedFronts {
+            heads,
+            marks,
+            order,
+        })
+    }
+
+    /// The front that a launch goes on from, where its value is known.
+    pub fn front(&self, plans: &[LaunchPlan], number: usize) -> Option<Front>
+        ensures { (t : TableView) (p : PlanView) → AreShared t plans.now self.now → slice_get plans.now number ≡ Some p → IfSome result (λ f. IsValueOfFront t p f.links f.value) }
+    {
+        let head = (*self.heads.get(number)?)?;
+        let marks = marks_at(self.marks.as_slice(), head.launch)?;
+        let front = marked_front(marks, head.links)?;
+        if !is_own(plans, head.launch, number, front.links) {
+            return None;
+        }
+        Some(front)
+    }
+
+    /// Takes the marks of a launch, for the job that chains it.
+    pub fn take_marks(&mut self, number: usize) -> Option<Vec<Mark>>
+        ensures { (t : TableView) (ps : List PlanView) → AreShared t ps self.old → AreShared t ps self.new }
+    {
+        replaced(&mut self.marks, number, None)
+    }
+
+    /// Keeps the marks of a launch that was chained, in the place of those that it had.
+    pub fn keep(&mut self, number: usize, marks: Option<Vec<Mark>>)
+        ensures { (t : TableView) (ps : List PlanView) (p : PlanView) → slice_get ps number ≡ Some p → IfSome marks (λ own. HaveOwnValues t p own.items) → AreShared t ps self.old → AreShared t ps self.new }
+    {
+        let _old = replaced(&mut self.marks, number, marks);
+        self.order.add_followers(number);
+    }
+
+    /// The launch that had best be chained next: one that goes on from no other, or one whose front is chained.
+    pub fn next(&self) -> Option<usize> {
+        self.order.next()
+    }
+
+    /// Passes that launch.
+    pub fn pass(&mut self)
+        ensures { self.new ≡ self.old }
+    {
+        self.order.pass();
+    }
+}
+
+/// The marks of a launch, where they are not with its job.
+fn marks_at(marks: &[Option<Vec<Mark>>], launch: usize) -> Option<&[Mark]>
+    ensures { IfSome result (λ own. slice_get (map (option_map (λ m. m.items)) marks.now) launch ≡ Some (Some own.now)) }
+{
+    if launch >= marks.len() {
+        return None;
+    }
+    match &marks[launch] {
+        Some(own) => Some(own.as_slice()),
+        None => None,
+    }
+}
+
+/// The front of a mark after this many links, where its value is known.
+fn marked_front(marks: &[Mark], links: usize) -> Option<Front>
+    ensures { IfSome result (λ f. Contains marks.now (record { links = f.links; value = Some f.value })) }
+{
+    for mark in marks {
+        if mark.links == links {
+            let value = mark.value?;
+            return Some(Front { links, value });
+        }
+    }
+    None
+}
+
+/// Whether two launches have the same front of this many links.
+fn is_own(plans: &[LaunchPlan], earlier: usize, own: usize, links: usize) -> bool
+    ensures { result ≡ true → BothHaveFront plans.now earlier own links }
+{
+    match (plans.get(earlier), plans.get(own)) {
+        (Some(earlier), Some(own)) => earlier.is_same_front(own, links),
+        _ => false,
+    }
+}
+
+/// Puts marks in the place of those of a launch.
+fn replaced(
+    marks: &mut Vec<Option<Vec<Mark>>>,
+    number: usize,
+    own: Option<Vec<Mark>>,
+) -> Option<Vec<Mark>>
+    ensures { marks.new.items ≡ slice_set marks.old.items number own }
+{
+    if number >= marks.len() {
+        return None;
+    }
+    replace(&mut marks[number], own)
+}
