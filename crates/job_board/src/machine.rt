@@ -1,5 +1,5 @@
 //! The core: how each job is, with marks that make it quick to find a free one.
-ghost use Rattle.std.specs.Prelude.{◌≡◌, ◌≢◌, ◌<◌, ◌≤◌, [], ℕ, false, length, map, true, IfNone, IfOk, IfSome, OnErr, Some, slice_get, slice_index_or};
+ghost use Rattle.std.specs.Prelude.{◌≡◌, ◌≢◌, ◌<◌, ◌≤◌, [], ℕ, false, length, map, true, IfNone, IfOk, IfSome, IsTrue, ◌↔◌, OnErr, Some, slice_get, slice_index_or};
 ghost use Rattle.refusal.specs.Answer.{Matches};
 ghost use Rattle.job_board.specs.Jobs.{IsCore, NeedsWithin, held_count, is_out, is_over, is_page_done, is_ready, opening, state_of};
 ghost use Rattle.job_board.specs.Step.{core_step};
@@ -203,12 +203,20 @@ impl Core {
     {
         let from = self.free_launch_from();
         for launch in from..self.launches() {
-            let job = JobId::Launch(launch);
-            if self.jobs.is_free(job) && self.is_ready(job) {
+            if self.is_open(launch) {
                 return Some(launch);
             }
         }
         None
+    }
+
+    /// Whether a launch is free and all pages that it needs are done.
+    pub(crate) fn is_open(&mut self, launch: usize) -> bool
+        ensures same { self.new ≡ self.old }
+        ensures open { IsTrue result ↔ ((slice_get self.old.launches launch ≡ Some JobState.Free) × (is_ready self.old (JobId.Launch launch) ≡ true)) }
+    {
+        let job = JobId::Launch(launch);
+        self.jobs.is_free(job) && self.is_ready(job)
     }
 
     /// A launch below which none is free.

@@ -1,5 +1,5 @@
 //! A board's state: what each call makes of it.
-ghost use Rattle.std.specs.Prelude.{◌≡◌, ◌<◌, ◌≤◌, ◌+◌, ◌⊎◌, ◌↔◌, [], false, true, length, map, replicate, sum, vec_len, IfErr, IfOk, IsTrue, None, OnOk, Some, slice_get, slice_set, vec_capacity};
+ghost use Rattle.std.specs.Prelude.{◌≡◌, ◌<◌, ◌≤◌, ◌+◌, ◌⊎◌, ◌↔◌, [], false, true, ℕ, length, map, replicate, sum, vec_len, IfErr, IfNone, IfOk, IfSome, IsTrue, None, OnOk, Some, slice_get, slice_set, vec_capacity};
 ghost use Rattle.std.specs.List.{All, Contains, range_with_len};
 ghost use Rattle.job_board.specs.declared.job.Event.{Event};
 ghost use Rattle.job_board.specs.declared.job.JobId.{JobId};
@@ -21,15 +21,15 @@ use crate::share::{Share, cut};
 use crate::work::Work;
 use page_jobs::{DigestRow, Hashed, Page, PageJob, Table};
 use refusal::NoMemory;
-use rim_chain::{LaunchJob, LaunchPlan, LaunchRim};
+use rim_chain::{LaunchJob, LaunchPlan, LaunchRim, SharedFronts};
 use rim_desc::Measurement;
 use std::alloc::Global;
 use std::marker::Model;
 use std::sync::ledger::{Blank, Book, Ledger};
 
-/// The core and its history, the table, the plans, the rows, the values of launches and the ledger's book. Its type
-/// says that the core is what its history leaves, that each filled slot and each value is its own job's, and that as
-/// many pages are done as the book says.
+/// The core and its history, the table, the plans, the rows, the values of launches and of the fronts that launches
+/// have in common, and the ledger's book. Its type says that the core is what its history leaves, that each filled
+/// slot, each value and each front is its own job's, and that as many pages are done as the book says.
 #[derive(Drop)]
 pub struct BoardState<'a, L: Ledger> {
     core: Core,
@@ -39,6 +39,7 @@ pub struct BoardState<'a, L: Ledger> {
     rows: Vec<Option<DigestRow>>,
     spare: Vec<DigestRow>,
     results: Vec<Option<Measurement>>,
+    fronts: SharedFronts,
     book: Book<L>,
 }
 
@@ -47,12 +48,13 @@ impl<'a, L: Ledger> Model for BoardState<'a, L> {
     ghost use Rattle.job_board.specs.Board.{BoardView, IsBoard};
     ghost use Rattle.job_board.specs.History.{most_events};
     ghost use Rattle.job_board.specs.inside.Rows.{HasRows};
+    ghost use Rattle.rim_chain.specs.SharedFronts.{AreShared};
 
     ghost Value = { BoardView };
 
     ghost view = { λ b. record { core = b.core; history = b.history.items; table = b.table; plans = b.plans.now; results = b.results.items; book = b.book.total } };
 
-    ghost invariant = { λ b. IsBoard (record { core = b.core; history = b.history.items; table = b.table; plans = b.plans.now; results = b.results.items; book = b.book.total }) × (most_events b.core ≤ vec_capacity b.history) × HasRows b.core b.plans.now b.rows.items b.spare.items };
+    ghost invariant = { λ b. IsBoard (record { core = b.core; history = b.history.items; table = b.table; plans = b.plans.now; results = b.results.items; book = b.book.total }) × (most_events b.core ≤ vec_capacity b.history) × HasRows b.core b.plans.now b.rows.items b.spare.items × AreShared b.table b.plans.now b.fronts };
 }
 
 impl<'a, L: Ledger> BoardState<'a, L> {
@@ -122,6 +124,7 @@ impl<'a, L: Ledger> BoardState<'a, L> {
             table,
             plans,
             results,
+            fronts,
             ..
         } = self;
         let number = rim.number();
@@ -137,6 +140,7 @@ impl<'a, L: Ledger> BoardState<'a, L> {
         };
         history.push_reserved(event);
         results[number] = Some(rim.value());
+        fronts.keep(number, rim.into_marks());
         Ok(())
     }
 
@@ -180,10 +184,30 @@ impl<'a, L: Ledger> BoardState<'a, L> {
         if let Some(page) = self.core.free_page() {
             return Work::Page(page, self.give_page(worker, page));
         }
-        if let Some(number) = self.core.ready_launch() {
+        if let Some(number) = self.next_launch() {
             return Work::Launch(self.give_launch(worker, number));
         }
         Work::Later
+    }
+
+    /// A free launch that is ready: the one that had best be chained next, if that is one.
+    fn next_launch(&mut self) -> Option<usize>
+        ensures same { self.new ≡ self.old }
+        ensures some { IfSome result (λ l. (slice_get self.old.core.launches l ≡ Some JobState.Free) × (is_ready self.old.core (JobId.Launch l) ≡ true)) }
+        ensures none { IfNone result ((l : ℕ) → slice_get self.old.core.launches l ≡ Some JobState.Free → is_ready self.old.core (JobId.Launch l) ≡ false) }
+    {
+        let BoardState { core, fronts, .. } = self;
+        let first = core.ready_launch()?;
+        for _ in 0..core.launches() {
+            let Some(number) = fronts.next() else {
+                return Some(first);
+            };
+            fronts.pass();
+            if core.is_open(number) {
+                return Some(number);
+            }
+        }
+        Some(first)
     }
 
     /// Gives a free page to a worker that holds no job.
@@ -230,6 +254,7 @@ impl<'a, L: Ledger> BoardState<'a, L> {
             table,
             plans,
             rows,
+            fronts,
             ..
         } = self;
         let event = Event::Take {
@@ -247,7 +272,8 @@ impl<'a, L: Ledger> BoardState<'a, L> {
         if !plan.fill_row(table, &mut row) {
             unreachable!()
         }
-        LaunchJob::new(number, plan, row)
+        let head = fronts.front(plans, number);
+        LaunchJob::new(number, plan, row).going_on(head, fronts.take_marks(number))
     }
 }
 
@@ -278,6 +304,7 @@ impl<'a, L: Ledger> BoardState<'a, L> {
         let rows = rows_of(alloc, plans)?;
         let spare = spare_rows(alloc, plans, workers)?;
         let results = vec![in alloc; None; plans.len()]?;
+        let fronts = SharedFronts::new(alloc, plans)?;
         Ok((
             BoardState {
                 core,
@@ -287,6 +314,7 @@ impl<'a, L: Ledger> BoardState<'a, L> {
                 rows,
                 spare,
                 results,
+                fronts,
                 book,
             },
             shares,

@@ -19,8 +19,10 @@ returns c =
 
 pub returns-then-not-has_keys : goal.returns-then-not-has_keys
 returns-then-not-has_keys c =
-    let fits = λ (p : PlanView). All (Contains (page_keys c.args.table.now.pages)) (keys_of p.links) in
-    (λ yes. absurd (cc), λ all.
-        let here = subst fits (sym c.plan-item.is) (all c.loop-plan.plan-index c.plan-item.result c.loop-plan-test.true) in
-        let yes = c.has_keys.ensures.1 here in
-        absurd (cc))
+    let fits = λ (p : PlanView). All (Contains (page_keys c.args.table.now.pages)) (keys_of p.links) in (
+      λ yes. absurd (cc),
+      λ all.
+          let here = subst fits (sym c.plan-item.is) (all c.loop-plan.plan-index c.plan-item.result c.loop-plan-test.true) in
+          let yes = c.has_keys.ensures.1 here in
+          absurd (cc),
+    )

@@ -22,9 +22,11 @@ returns c =
 pub returns-then-not-has_key : goal.returns-then-not-has_key
 returns-then-not-has_key c =
     let keys = keys_of c.args.plan.now.links in
-    let has = Contains (page_keys c.args.table.now.pages) in
-    (λ yes. absurd (cc), λ all.
-        let at = sym c.key.ensures in
-        let here = subst has (get_or_from_slice_get keys c.loop-index.index c.key.result c.key.result at) (all c.loop-index.index c.key.result (slice_get_within keys c.loop-index.index c.key.result at)) in
-        let yes = c.has_key.ensures.1 here in
-        absurd (cc))
+    let has = Contains (page_keys c.args.table.now.pages) in (
+      λ yes. absurd (cc),
+      λ all.
+          let at = sym c.key.ensures in
+          let here = subst has (get_or_from_slice_get keys c.loop-index.index c.key.result c.key.result at) (all c.loop-index.index c.key.result (slice_get_within keys c.loop-index.index c.key.result at)) in
+          let yes = c.has_key.ensures.1 here in
+          absurd (cc),
+    )

@@ -9,6 +9,7 @@ use Rattle.job_board.proofs.Histories.{history_room, same_most}
 use Rattle.job_board.proofs.Boards.{board_other, ready_filled}
 use Rattle.job_board.proofs.Kept.{take_says}
 use Rattle.job_board.proofs.BoardRows.{rows_take_launch}
+use Rattle.rim_chain.proofs.KnownFronts.{own-head}
 use Rattle.job_board.proofs.state.BoardState.give_launch.Goals as goal
 
 pub push_reserved-requires : goal.push_reserved-requires
@@ -41,6 +42,12 @@ unreachable-requires-then-not-fill_row g c =
     let e : true ≡ false = sym filled ∙ c.fill_row.ensures.missing c.if-not-fill_row.true in
     cc
 
+pub going_on-requires : goal.going_on-requires
+going_on-requires g c =
+    let i = c.self.inside in
+    let known = c.front-head.ensures i.table c.plan_at-plan.result.now c.self.invariant.3 c.plan_at-plan.ensures in
+    rw c.new.ensures (own-head i.table c.plan_at-plan.result.now c.fill_row.new.row.digests c.front-head.result (c.fill_row.ensures.filled c.if-not-fill_row.false) known)
+
 pub invariant_of-self : goal.invariant_of-self
 invariant_of-self g c =
     let i = c.self.inside in
@@ -50,4 +57,5 @@ invariant_of-self g c =
       rw c.push_reserved.ensures.items (board_other b c.step.new.self (Take c.args.worker (Launch c.args.number)) refl c.self.invariant.0 step),
       omega (arith, most, c.self.invariant.1, c.push_reserved.ensures.capacity),
       rw c.take_row.ensures.rest (rows_take_launch i.core c.step.new.self i.plans.now i.rows.items i.spare.items c.args.worker c.args.number c.self.invariant.2 step),
+      c.take_marks.ensures i.table i.plans.now c.self.invariant.3,
     )

@@ -28,4 +28,5 @@ invariant_of-result g c =
       rw (core, c.in_ok-history.ensures.empty, none, c.open-book.ensures.total) (board_new c.args.workers c.args.table c.args.plans.now fresh c.pages-pages.ensures.table c.requires.empty c.requires.keys),
       omega (arith, most, cap, pages, length-replicate size Free, length-replicate (length needs) Free, length-replicate count (range_with_len 0 size), length-replicate c.args.workers false),
       rw core (rows_new c.args.workers size needs c.args.plans.now c.in_ok-rows.rows.items c.in_ok-spare.spare.items (length-replicate count (range_with_len 0 size)) c.in_ok-rows.ensures.size c.in_ok-rows.ensures.there c.in_ok-spare.ensures.size c.in_ok-spare.ensures.roomy),
+      c.in_ok-fronts.ensures c.args.table c.args.plans.now,
     )

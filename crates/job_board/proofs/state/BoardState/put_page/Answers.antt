@@ -10,6 +10,7 @@ use Rattle.job_board.proofs.Histories.{history_room, same_most}
 use Rattle.job_board.proofs.Boards.{board_put_page, slot_empty}
 use Rattle.job_board.proofs.Kept.{put_says}
 use Rattle.job_board.proofs.BoardRows.{rows_put_page}
+use Rattle.rim_chain.proofs.KnownFronts.{shared-filled}
 use Rattle.job_board.proofs.state.BoardState.put_page.Goals as goal
 
 pub unreachable-requires : goal.unreachable-requires
@@ -32,9 +33,11 @@ invariant_of-self-2 g c =
     let i = c.self.inside in
     let b : BoardView = record { core = i.core; history = i.history.items; table = i.table; plans = i.plans.now; results = i.results.items; book = i.book.total } in
     let step : core_step i.core (Put c.args.worker (Page c.args.page)) ≡ Ok c.step.new.self = c.in-Ok.ensures.step in
+    let was = put_says i.core c.step.new.self c.args.worker (Page c.args.page) step in
     let most = same_most i.core c.step.new.self (Put c.args.worker (Page c.args.page)) step in
     let book : c.add.new.self.total ≡ b.book + 1 = omega (arith, c.add.ensures.total, c.audit.ensures.total) in (
       rw (c.push_reserved.ensures.items, c.in-Ok-fill.ensures.ok.1, book) (board_put_page b c.step.new.self c.args.worker c.args.page c.args.hashed.digest c.self.invariant.0 step),
       omega (arith, most, c.self.invariant.1, c.push_reserved.ensures.capacity),
       rows_put_page i.core c.step.new.self i.plans.now i.rows.items i.spare.items c.args.worker c.args.page c.self.invariant.2 step,
+      rw c.in-Ok-fill.ensures.ok.1 (shared-filled i.table i.plans.now i.fronts c.args.page c.args.hashed.digest (slot_empty i.table.digests i.core.pages c.args.worker c.args.page c.self.invariant.0.filled was.1) c.self.invariant.3),
     )
