@@ -1,33 +1,18 @@
 -- The measurements of launches from a table with the digests of all pages.
-use Rattle.std.proofs.Common.{◌≡◌, ℕ, ◌+◌, ◌<◌, ◌≤◌, ◌∙◌, inl, inr, true, List, [], ◌∷◌, ◌++◌, length, map, take, refl, ap, sym, subst, arith}
+use Rattle.std.proofs.Common.{◌≡◌, ℕ, ◌+◌, ◌<◌, ◌≤◌, ◌∙◌, inl, inr, true, List, [], ◌∷◌, ◌++◌, length, take, refl, ap, sym, subst, arith}
 use Rattle.std.proofs.Math.ListN.{drop}
 use Rattle.std.specs.Prelude.{Option, Some, None, Result, Ok, Err, is_some, slice_set}
-use Rattle.std.specs.List.{filter_map, slice_get}
+use Rattle.std.specs.List.{slice_get}
 use Rattle.std.specs.Option.{option_and_then}
 use Rattle.std.proofs.Common.{zero, suc}
 use Rattle.std.proofs.lemmas.Bool.{cases_lt}
 use Rattle.std.proofs.lemmas.Option.{slice_get_within}
 use Rattle.rim_desc.specs.declared.measurement.Measurement.{Measurement}
 use Rattle.page_jobs.specs.Page.{PageView}
-use Rattle.page_jobs.specs.Table.{CanFill, TableView, digest_at, digest_in, with_digest}
-use Rattle.page_jobs.specs.declared.page.PageKey.{PageKey}
-use Rattle.rim_chain.specs.Rows.{IsRowOf}
+use Rattle.page_jobs.specs.Table.{CanFill, TableView, digest_in, with_digest}
 use Rattle.ipa_layout.specs.Layout.{PlacedData}
 use Rattle.rim_release.specs.inside.Chains.{outcomes_of, with_rims}
 use Rattle.rim_release.specs.declared.audit_fault.AuditFault.{AuditFault}
-
--- a row of a table's digests has just these
-pub row-values : (t : TableView) (keys : List PageKey) (digests : List Measurement) → IsRowOf t keys digests → filter_map (digest_at t) keys ≡ digests
-row-values t [] [] row = refl
-row-values t [] (d ∷ digests) row = absurd (cc)
-row-values t (key ∷ keys) [] row = absurd (cc)
-row-values t (key ∷ keys) (d ∷ digests) row = rw (here, row-values t keys digests rest) refl
-  where
-    here : digest_at t key ≡ Some d
-    here = cc
-
-    rest : map (digest_at t) keys ≡ map (λ m. Some m) digests
-    rest = cc
 
 -- ---- a table that is being filled
 

@@ -1,18 +1,19 @@
 //! The measurements of the launches of a release, on one thread.
-ghost use Rattle.std.specs.Prelude.{◌≡◌, ◌≤◌, ◌<◌, IfOk, length, map, true};
-ghost use Rattle.std.specs.List.{All};
+ghost use Rattle.std.specs.Prelude.{◌≡◌, ◌≤◌, ◌<◌, IfOk, Some, length, map, true};
+ghost use Rattle.std.specs.List.{All, slice_get};
 ghost use Rattle.page_jobs.specs.Key.{IsRising};
 ghost use Rattle.page_jobs.specs.Page.{page_view};
 ghost use Rattle.page_jobs.specs.Table.{keys_of as page_keys};
 ghost use Rattle.rim_chain.specs.Links.{keys_of};
 ghost use Rattle.rim_chain.specs.Rows.{IsFull, has_all, value_in};
+ghost use Rattle.rim_chain.specs.SharedFronts.{AreShared};
 ghost use Rattle.rim_release.specs.inside.Chains.{outcomes_of, with_rims};
 
 use crate::audit_fault::AuditFault;
 use ipa_layout::Placed;
 use page_jobs::{DigestRow, Page, PageJob, Table};
 use refusal::NoMemory;
-use rim_chain::{LaunchPlan, chain};
+use rim_chain::{LaunchPlan, SharedFronts, chain_from};
 use rim_desc::Measurement;
 use std::alloc::{AllocError, Global};
 
@@ -41,9 +42,11 @@ pub fn chains(
     ensures { IfOk result (λ rims. map (λ m. m.bytes) rims.items ≡ map (value_in table.now) plans.now) }
 {
     let mut row = DigestRow::reserve(alloc, most_pages(plans))?;
+    let mut fronts = SharedFronts::new(alloc, plans)?;
     let mut rims = Vec::with_capacity(alloc, plans.len())?;
-    for plan in plans {
-        rims.push(chained(table, plan, &mut row))?;
+    for number in 0..plans.len() {
+        let plan = &plans[number];
+        rims.push(chained(table, plans, number, plan, &mut row, &mut fronts))?;
     }
     Ok(rims)
 }
@@ -59,18 +62,32 @@ fn most_pages(plans: &[LaunchPlan]) -> usize
     most
 }
 
-/// The Realm Initial Measurement of a launch, whose digests are put into a row in the place of others.
-fn chained(table: &Table, plan: &LaunchPlan, row: &mut DigestRow) -> Measurement
+/// The Realm Initial Measurement of a launch, whose digests are put into a row in the place of others. It goes on from
+/// the front that it has in common with an earlier launch, and keeps its own for later ones.
+fn chained(
+    table: &Table,
+    plans: &[LaunchPlan],
+    number: usize,
+    plan: &LaunchPlan,
+    row: &mut DigestRow,
+    fronts: &mut SharedFronts,
+) -> Measurement
+    requires plan { slice_get plans.now number ≡ Some plan.now }
     requires room { length (keys_of plan.now.links) ≤ row.old.room }
     requires all { has_all table.now (keys_of plan.now.links) ≡ true }
+    requires fronts { AreShared table.now plans.now fronts.old }
     ensures value { result.bytes ≡ value_in table.now plan.now }
     ensures room { row.new.room ≡ row.old.room }
+    ensures fronts { AreShared table.now plans.now fronts.new }
 {
     row.truncate(0);
     if !plan.fill_row(table, row) {
         unreachable!()
     }
-    chain(plan, row)
+    let head = fronts.front(plans, number);
+    let (value, marks) = chain_from(plan, row, head, fronts.take_marks(number));
+    fronts.keep(number, marks);
+    value
 }
 
 /// What came of each launch, where those that are accepted have these measurements, in their order.

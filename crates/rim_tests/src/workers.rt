@@ -1,6 +1,7 @@
 //! Reports made by workers: each is that of one thread, whoever does which job.
 use rim_release::{
-    FreeGate, Gate, JobId, Release, StartFault, measure_alone, measure_release, read_manifest,
+    FreeGate, Gate, JobId, Release, StartFault, audit_launches, measure_alone, measure_release,
+    read_manifest,
 };
 use std::alloc::Global;
 use std::process::Abort;
@@ -122,7 +123,16 @@ fn two_workers_at_a_time(rt: HostRuntime) -> Result<(), Fail> {
     Ok(())
 }
 
-/// The reports of a release by some numbers of workers are to be that of one thread.
+/// What follows the first line of a text.
+fn after_first_line(text: &[u8]) -> &[u8] {
+    match text.iter().position(|byte| *byte == b'\n') {
+        Some(end) => text.split_at(end.min(text.len())).1,
+        None => text,
+    }
+}
+
+/// The reports of a release by some numbers of workers are to be that of one thread, with the measurements of an audit,
+/// which are worked out one launch at a time.
 fn check_by_all<R: Threads + Wait + Abort + Sync>(
     rt: &R,
     alloc: Global,
@@ -131,6 +141,10 @@ fn check_by_all<R: Threads + Wait + Abort + Sync>(
     let (release, files) = release(alloc, manifest)?;
     assert_eq!(rt; files.len(), release.file_count());
     let alone = measure_alone(alloc, &release, &files)?;
+    let audit = audit_launches(alloc, &release, &files)?;
+    assert!(rt;
+        after_first_line(alone.as_slice()).starts_with(after_first_line(audit.text.as_slice()))
+    );
     for workers in [1, 2, 3, 16, 64] {
         let outcome = measure_release(rt, alloc, &FreeGate, &release, &files, workers)?;
         assert_eq!(rt; outcome.report.as_slice(), alone.as_slice());
@@ -206,17 +220,17 @@ fn each_call_late_in_turn(rt: HostRuntime) -> Result<(), Fail> {
     Ok(())
 }
 
-/// A manifest of this many launches over one file: with both algorithms, more and more RAM, and an item of two pages at
-/// another page each.
+/// A manifest of this many launches over one file: with both algorithms, three sizes of RAM, one item of two pages that all
+/// have, and one at another page each. So some launches begin alike, with and without the first item.
 fn generated(alloc: Global, launches: u64) -> Result<String, Fail> {
     let mut text = String::new(alloc);
     text.push_str("rim_manifest = 1\n[[file]]\nname = \"f\"\npath = \"f\"\n")?;
     for n in 0..launches {
-        let algo = if n % 3 == 0 { "sha512" } else { "sha256" };
-        let end = 0x4020_0000_u64.saturating_add(n.saturating_mul(0x10_0000));
-        let at = 0x4000_0000_u64.saturating_add(n.saturating_mul(4096));
+        let algo = if n % 2 == 0 { "sha512" } else { "sha256" };
+        let end = 0x4020_0000_u64.saturating_add((n % 3).saturating_mul(0x10_0000));
+        let at = 0x4001_0000_u64.saturating_add((n / 4).saturating_mul(4096));
         let launch = format!(in alloc;
-            "[[launch]]\nname = \"l{n}\"\nalgo = \"{algo}\"\ns2sz = 33\nram = [[0x40000000, {end}]]\nitem = [{{ name = \"x\", kind = \"raw\", file = \"f\", at = {at} }}]\n"
+            "[[launch]]\nname = \"l{n}\"\nalgo = \"{algo}\"\ns2sz = 33\nram = [[0x40000000, {end}]]\nitem = [{{ name = \"x\", kind = \"raw\", file = \"f\", at = 0x40000000 }}, {{ name = \"y\", kind = \"raw\", file = \"f\", at = {at} }}]\n"
         )?;
         text.push_str(launch.as_str())?;
     }
