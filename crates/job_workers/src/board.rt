@@ -2,9 +2,10 @@
 ghost use Rattle.std.specs.Prelude.{◌≡◌, ◌≤◌, ◌+◌, IfErr, OnOk};
 ghost use Rattle.job_board.specs.declared.job.Event.{Event};
 ghost use Rattle.job_board.specs.declared.job.JobId.{JobId};
-ghost use Rattle.job_board.specs.Board.{Adds, BoardView, IsBoard};
+ghost use Rattle.job_board.specs.Board.{BoardView, CanPutLaunch, CanPutPage, IsBoard};
 ghost use Rattle.job_board.specs.Gives.{Gives};
-ghost use Rattle.job_workers.specs.Run.{IsOfRun};
+ghost use Rattle.job_workers.specs.Run.{IsOfRun, Puts};
+ghost use Rattle.page_jobs.specs.Page.{page_view};
 
 use crate::locked::Locked;
 use crate::run::Run;
@@ -37,8 +38,8 @@ impl<'a, L: Run> Board<'a, L> {
         self.state.lock(rt).take(worker)
     }
 
-    /// Puts a page that a worker holds, and counts it in the worker's share. It is handed back where the worker does not
-    /// hold that job or the page is not that job's. The book that was found had counted what the share has.
+    /// Puts a page that a worker holds, and counts it in the worker's share. It is handed back just where the worker does
+    /// not hold that job or the page is not that job's. The book that was found had counted what the share has.
     pub fn put_page(
         &self,
         rt: &impl Wait,
@@ -47,22 +48,22 @@ impl<'a, L: Run> Board<'a, L> {
         hashed: Hashed<'a>,
         share: &mut Share<L>,
     ) -> Result<(), Hashed<'a>>
-        ensures found { (found : BoardView) × (left : BoardView) × IsBoard found × IsOfRun L.pages L.plans found × (share.old ≤ found.book) × OnOk result (Adds found (Event.Put worker (JobId.Page page)) left) }
+        ensures found { (found : BoardView) × (left : BoardView) × IsBoard found × IsOfRun L.pages L.plans found × (share.old ≤ found.book) × Puts (CanPutPage found worker page (page_view hashed.entry.page)) found (Event.Put worker (JobId.Page page)) left result }
         ensures share { OnOk result (share.new ≡ share.old + 1) }
         ensures err { IfErr result (λ h. (h ≡ hashed.entry) × (share.new ≡ share.old)) }
     {
         self.state.lock(rt).put_page(worker, page, hashed, share)
     }
 
-    /// Puts a launch that a worker holds. It is handed back where the worker does not hold that job, or its number, plan
-    /// or row are not that job's.
+    /// Puts a launch that a worker holds. It is handed back just where the worker does not hold that job, or its number,
+    /// plan or row are not that job's.
     pub fn put_launch(
         &self,
         rt: &impl Wait,
         worker: usize,
         rim: LaunchRim<'a>,
     ) -> Result<(), LaunchRim<'a>>
-        ensures found { (found : BoardView) × (left : BoardView) × IsBoard found × IsOfRun L.pages L.plans found × OnOk result (Adds found (Event.Put worker (JobId.Launch rim.entry.job.number)) left) }
+        ensures found { (found : BoardView) × (left : BoardView) × IsBoard found × IsOfRun L.pages L.plans found × Puts (CanPutLaunch found worker rim.entry.job.number rim.entry.job.plan rim.entry.job.row.digests) found (Event.Put worker (JobId.Launch rim.entry.job.number)) left result }
         ensures err { IfErr result (λ r. r ≡ rim.entry) }
     {
         self.state.lock(rt).put_launch(worker, rim)

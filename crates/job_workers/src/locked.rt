@@ -2,10 +2,11 @@
 ghost use Rattle.std.specs.Prelude.{◌≡◌, ◌≤◌, ◌<◌, ◌+◌, true, length, sum, vec_len, IfErr, OnOk};
 ghost use Rattle.job_board.specs.declared.job.Event.{Event};
 ghost use Rattle.job_board.specs.declared.job.JobId.{JobId};
-ghost use Rattle.job_board.specs.Board.{Adds, AreValuesOf, IsBoard};
+ghost use Rattle.job_board.specs.Board.{Adds, AreValuesOf, CanPutLaunch, CanPutPage, IsBoard};
 ghost use Rattle.job_board.specs.Gives.{Gives};
 ghost use Rattle.job_board.specs.Jobs.{is_out, is_over};
-ghost use Rattle.job_workers.specs.Run.{IsOfRun};
+ghost use Rattle.job_workers.specs.Run.{IsOfRun, Puts};
+ghost use Rattle.page_jobs.specs.Page.{page_view};
 
 use crate::run::Run;
 use job_board::{BoardState, Share, Work};
@@ -55,7 +56,7 @@ impl<'a, L: Run> Locked<'a, L> {
     ) -> Result<(), Hashed<'a>>
         ensures board { IsBoard self.old × IsOfRun L.pages L.plans self.old }
         ensures fresh { share.old ≤ self.old.book }
-        ensures event { OnOk result (Adds self.old (Event.Put worker (JobId.Page page)) self.new) }
+        ensures event { Puts (CanPutPage self.old worker page (page_view hashed.entry.page)) self.old (Event.Put worker (JobId.Page page)) self.new result }
         ensures share { OnOk result (share.new ≡ share.old + 1) }
         ensures err { IfErr result (λ h. (h ≡ hashed.entry) × (self.new ≡ self.old) × (share.new ≡ share.old)) }
     {
@@ -68,7 +69,7 @@ impl<'a, L: Run> Locked<'a, L> {
         rim: LaunchRim<'a>,
     ) -> Result<(), LaunchRim<'a>>
         ensures board { IsBoard self.old × IsOfRun L.pages L.plans self.old }
-        ensures event { OnOk result (Adds self.old (Event.Put worker (JobId.Launch rim.entry.job.number)) self.new) }
+        ensures event { Puts (CanPutLaunch self.old worker rim.entry.job.number rim.entry.job.plan rim.entry.job.row.digests) self.old (Event.Put worker (JobId.Launch rim.entry.job.number)) self.new result }
         ensures err { IfErr result (λ r. (r ≡ rim.entry) × (self.new ≡ self.old)) }
     {
         self.state.put_launch(worker, rim)
