@@ -1,1 +1,2 @@
+mod late;
 mod runs;
