@@ -49,6 +49,12 @@ BODIES = [
         "job_workers_tests",
     ),
     (
+        "a worker looks once for a job",
+        "job_workers/src/worker.rt",
+        [("const TURNS: u32 = 1000;", "const TURNS: u32 = 1;")],
+        "job_workers_tests",
+    ),
+    (
         "memory is always wanting",
         "rim_release/src/parallel.rt",
         [("    let launches = release.all_launches();", "    if workers > 0 {\n        return Err(StartFault::NoMemory);\n    }\n    let launches = release.all_launches();")],
