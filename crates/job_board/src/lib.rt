@@ -2,6 +2,7 @@
 #![tactic(auto)]
 
 mod closing;
+mod groups;
 pub mod job;
 mod jobs;
 pub mod known;

@@ -1,5 +1,5 @@
 //! A board's state: what each call makes of it.
-ghost use Rattle.std.specs.Prelude.{◌≡◌, ◌<◌, ◌≤◌, ◌+◌, ◌⊎◌, ◌↔◌, [], false, true, ℕ, length, map, replicate, sum, vec_len, IfErr, IfNone, IfOk, IfSome, IsTrue, None, OnOk, Some, slice_get, slice_set, vec_capacity};
+ghost use Rattle.std.specs.Prelude.{◌≡◌, ◌≢◌, ◌<◌, ◌≤◌, ◌+◌, ◌⊎◌, ◌↔◌, [], false, true, ℕ, length, map, replicate, sum, vec_len, IfErr, IfNone, IfOk, IfSome, IsTrue, None, OnOk, Some, slice_get, slice_set, vec_capacity};
 ghost use Rattle.std.specs.List.{All, Contains, range_with_len};
 ghost use Rattle.job_board.specs.declared.job.Event.{Event};
 ghost use Rattle.job_board.specs.declared.job.JobId.{JobId};
@@ -13,7 +13,8 @@ ghost use Rattle.rim_chain.specs.Links.{keys_of};
 ghost use Rattle.rim_chain.specs.Rows.{IsRowOf, value_in};
 
 use crate::closing::{add_up, copy_values, write_counts};
-use crate::job::{Event, JobId};
+use crate::groups::Groups;
+use crate::job::{Event, JobId, JobState};
 use crate::machine::Core;
 use crate::needs::Needs;
 use crate::rows::{free_row, plan_at, rows_of, spare_rows, take_row};
@@ -28,7 +29,7 @@ use std::marker::Model;
 use std::sync::ledger::{Blank, Book, Ledger};
 
 /// The core and its history, the table, the plans, the rows, the values of launches and of the fronts that launches
-/// have in common, and the ledger's book. Its type says that the core is what its history leaves, that each filled
+/// have in common, which page each worker had best hash next, and the ledger's book. Its type says that the core is what its history leaves, that each filled
 /// slot, each value and each front is its own job's, and that as many pages are done as the book says.
 #[derive(Drop)]
 pub struct BoardState<'a, L: Ledger> {
@@ -40,6 +41,7 @@ pub struct BoardState<'a, L: Ledger> {
     spare: Vec<DigestRow>,
     results: Vec<Option<Measurement>>,
     fronts: SharedFronts,
+    groups: Groups,
     book: Book<L>,
 }
 
@@ -181,13 +183,26 @@ impl<'a, L: Ledger> BoardState<'a, L> {
         if self.core.held(worker).is_some() {
             return Work::Busy;
         }
-        if let Some(page) = self.core.free_page() {
+        if let Some(page) = self.next_page(worker) {
             return Work::Page(page, self.give_page(worker, page));
         }
         if let Some(number) = self.next_launch() {
             return Work::Launch(self.give_launch(worker, number));
         }
         Work::Later
+    }
+
+    /// A free page: the one that the worker had best hash next, if that is one.
+    fn next_page(&mut self, worker: usize) -> Option<usize>
+        ensures same { self.new ≡ self.old }
+        ensures some { IfSome result (λ page. slice_get self.old.core.pages page ≡ Some JobState.Free) }
+        ensures none { IfNone result ((page : ℕ) → slice_get self.old.core.pages page ≢ Some JobState.Free) }
+    {
+        let BoardState { core, groups, .. } = self;
+        let first = core.free_page()?;
+        let page = free_of(core, groups.wish(worker), first);
+        groups.note(worker, page);
+        Some(page)
     }
 
     /// A free launch that is ready: the one that had best be chained next, if that is one.
@@ -305,6 +320,7 @@ impl<'a, L: Ledger> BoardState<'a, L> {
         let spare = spare_rows(alloc, plans, workers)?;
         let results = vec![in alloc; None; plans.len()]?;
         let fronts = SharedFronts::new(alloc, plans)?;
+        let groups = Groups::new(alloc, workers)?;
         Ok((
             BoardState {
                 core,
@@ -315,10 +331,20 @@ impl<'a, L: Ledger> BoardState<'a, L> {
                 spare,
                 results,
                 fronts,
+                groups,
                 book,
             },
             shares,
         ))
+    }
+}
+
+impl<'a, L: Ledger> BoardState<'a, L> {
+    /// The pages of its table, which are lent. Page `j` is the one of job `j`.
+    pub fn pages(&self) -> &'a [Page<'a>]
+        ensures { map page_view result.now ≡ self.now.table.pages }
+    {
+        self.table.pages()
     }
 }
 
@@ -361,6 +387,17 @@ fn room_for(alloc: Global, count: usize) -> Result<Vec<Event>, NoMemory>
     ensures room { IfOk result (λ events. count ≤ vec_capacity events) }
 {
     Ok(Vec::with_capacity(alloc, count)?)
+}
+
+/// A page where it is free, or else another, which is.
+fn free_of(core: &Core, page: usize, other: usize) -> usize
+    requires { slice_get core.now.pages other ≡ Some JobState.Free }
+    ensures { slice_get core.now.pages result ≡ Some JobState.Free }
+{
+    match core.state(JobId::Page(page)) {
+        Some(JobState::Free) => page,
+        _ => other,
+    }
 }
 
 /// Whether this is the plan of a number.

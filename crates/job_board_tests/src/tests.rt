@@ -1,6 +1,7 @@
 //! What tests ask of a core and of a board. Each question is compared at one place, since each comparison is proved.
 mod boards;
 mod faults;
+mod groups;
 mod puts;
 mod runs;
 mod searches;

@@ -9,6 +9,9 @@ use crate::page::Page;
 use rim_desc::{Algo, Measurement, PAGE_SIZE, hash};
 use sha_four::sha256_four;
 
+/// How many pages are hashed side by side.
+pub const LANES: usize = 4;
+
 /// A page that is to be hashed.
 #[derive(Drop)]
 pub struct PageJob<'a> {

@@ -10,7 +10,7 @@ pub mod row;
 pub mod table;
 
 pub use distinct::distinct_pages;
-pub use hashed::{Hashed, PageJob, run_four};
+pub use hashed::{Hashed, LANES, PageJob, run_four};
 pub use page::{Blob, Page, PageKey};
 pub use range::{KeyRange, distinct_ranges};
 pub use row::DigestRow;

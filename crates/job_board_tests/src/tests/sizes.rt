@@ -59,11 +59,25 @@ fn launches_come_after_all_pages(rt: HostRuntime) -> Result<(), Fail> {
     Ok(())
 }
 
+/// The pages in the order in which they are given to as many workers: first those that begin a group.
+fn in_order(alloc: Global, count: usize) -> Result<Vec<usize>, NoMemory> {
+    let mut pages = Vec::new(alloc);
+    for is_first in [true, false] {
+        for page in 0..count {
+            if (page % 4 == 0) == is_first {
+                pages.push(page)?;
+            }
+        }
+    }
+    Ok(pages)
+}
+
 /// Each of this many workers takes a page, and all but worker 0 retire. Worker 0 works all pages.
 fn asks_of(alloc: Global, workers: usize) -> Result<Vec<Ask<'static>>, NoMemory> {
     let mut asks = Vec::new(alloc);
-    for worker in 0..workers {
-        asks.push(Take(worker, Given::Page(worker)))?;
+    for page in &in_order(alloc, workers)? {
+        let worker = asks.len();
+        asks.push(Take(worker, Given::Page(*page)))?;
     }
     asks.push(Take(workers, Given::Done))?;
     for worker in 1..workers {

@@ -1,0 +1,42 @@
+//! Which page a worker had best be given next.
+
+use page_jobs::LANES;
+use refusal::NoMemory;
+use std::alloc::Global;
+
+/// The pages in groups of neighbours, as many as are hashed side by side. Each group is best given to one worker. What is
+/// said here is a wish: the board gives another page where that one is not free.
+#[derive(Drop)]
+pub(crate) struct Groups {
+    /// Of each worker, the page after its last one.
+    next: Vec<usize>,
+    /// The first page of the first group that was given to none.
+    begin: usize,
+}
+
+impl Groups {
+    /// Groups of which none was given to any of this many workers.
+    pub(crate) fn new(alloc: Global, workers: usize) -> Result<Groups, NoMemory> {
+        let next = vec![in alloc; 0; workers]?;
+        Ok(Groups { next, begin: 0 })
+    }
+
+    /// The page that a worker had best be given: the one after its last in the same group, or else the first of a group
+    /// that was given to none.
+    pub(crate) fn wish(&self, worker: usize) -> usize {
+        match self.next.get(worker) {
+            Some(next) if next % LANES != 0 => *next,
+            _ => self.begin,
+        }
+    }
+
+    /// Notes the page that a worker was given.
+    pub(crate) fn note(&mut self, worker: usize, page: usize) {
+        if let Some(next) = self.next.get_mut(worker) {
+            *next = page.saturating_add(1);
+        }
+        if page == self.begin {
+            self.begin = page.saturating_add(LANES);
+        }
+    }
+}
