@@ -1,5 +1,5 @@
 //! The board: its state under a lock, for workers in threads of their own.
-ghost use Rattle.std.specs.Prelude.{◌≡◌, ◌≤◌, ◌+◌, IfErr, OnOk};
+ghost use Rattle.std.specs.Prelude.{◌≡◌, ◌≤◌, ◌+◌, IfErr, OnOk, map};
 ghost use Rattle.job_board.specs.declared.job.Event.{Event};
 ghost use Rattle.job_board.specs.declared.job.JobId.{JobId};
 ghost use Rattle.job_board.specs.Board.{BoardView, CanPutLaunch, CanPutPage, IsBoard};
@@ -10,7 +10,7 @@ ghost use Rattle.page_jobs.specs.Page.{page_view};
 use crate::locked::Locked;
 use crate::run::Run;
 use job_board::{BoardState, Share, Work};
-use page_jobs::Hashed;
+use page_jobs::{Hashed, Page};
 use rim_chain::LaunchRim;
 use std::sync::{Mutex, MutexGuard, Wait};
 
@@ -29,6 +29,13 @@ impl<'a, L: Run> Board<'a, L> {
         Board {
             state: Mutex::new(Locked::new(state)),
         }
+    }
+
+    /// The pages of the run, which are lent. Page `j` is the one of job `j`.
+    pub fn pages(&self, rt: &impl Wait) -> &'a [Page<'a>]
+        ensures { map page_view result.now ≡ L.pages }
+    {
+        self.state.lock(rt).pages()
     }
 
     /// A free job that is ready, or why none is given.

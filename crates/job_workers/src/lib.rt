@@ -1,6 +1,7 @@
 //! A board under its lock, and the workers that do its jobs.
 #![tactic(auto)]
 
+mod ahead;
 pub mod board;
 pub mod gate;
 mod locked;

@@ -1,5 +1,5 @@
 //! What is kept under a board's lock.
-ghost use Rattle.std.specs.Prelude.{◌≡◌, ◌≤◌, ◌<◌, ◌+◌, true, length, sum, vec_len, IfErr, OnOk};
+ghost use Rattle.std.specs.Prelude.{◌≡◌, ◌≤◌, ◌<◌, ◌+◌, true, length, map, sum, vec_len, IfErr, OnOk};
 ghost use Rattle.job_board.specs.declared.job.Event.{Event};
 ghost use Rattle.job_board.specs.declared.job.JobId.{JobId};
 ghost use Rattle.job_board.specs.Board.{Adds, AreValuesOf, CanPutLaunch, CanPutPage, IsBoard};
@@ -10,7 +10,7 @@ ghost use Rattle.page_jobs.specs.Page.{page_view};
 
 use crate::run::Run;
 use job_board::{BoardState, Share, Work};
-use page_jobs::Hashed;
+use page_jobs::{Hashed, Page};
 use rim_chain::LaunchRim;
 use rim_desc::Measurement;
 use std::marker::Model;
@@ -38,6 +38,12 @@ impl<'a, L: Run> Locked<'a, L> {
         ensures { result ≡ state.entry }
     {
         Locked { state }
+    }
+
+    pub(crate) fn pages(&self) -> &'a [Page<'a>]
+        ensures { map page_view result.now ≡ L.pages }
+    {
+        self.state.pages()
     }
 
     pub(crate) fn take(&mut self, worker: usize) -> Work<'a>

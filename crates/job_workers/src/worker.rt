@@ -1,4 +1,5 @@
 //! What a worker does.
+use crate::ahead::Ahead;
 use crate::board::Board;
 use crate::gate::Gate;
 use crate::run::Run;
@@ -18,9 +19,10 @@ pub(crate) fn work<'a, L: Run, G: Gate, R: Wait>(
     share: &mut Share<L>,
 ) {
     share.note_start();
+    let mut ahead = Ahead::new(board.pages(rt));
     for _ in rt.forever() {
         let given = take_soon(rt, board, worker);
-        if !run_job(rt, gate, board, worker, share, given) {
+        if !run_job(rt, gate, board, worker, share, &mut ahead, given) {
             return;
         }
     }
@@ -46,12 +48,13 @@ pub(crate) fn run_job<'a, L: Run, G: Gate, R: Wait>(
     board: &Board<'a, L>,
     worker: usize,
     share: &mut Share<L>,
+    ahead: &mut Ahead<'a>,
     given: Work<'a>,
 ) -> bool {
     match given {
         Work::Page(page, job) => {
             gate.before(worker, JobId::Page(page));
-            let hashed = job.run();
+            let hashed = ahead.run(page, job);
             let _ = board.put_page(rt, worker, page, hashed, share);
             gate.after(worker, JobId::Page(page));
             true

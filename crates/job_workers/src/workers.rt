@@ -2,6 +2,7 @@
 ghost use Rattle.std.specs.Prelude.{◌≡◌, ◌≤◌, ◌<◌, length, sum, vec_len};
 ghost use Rattle.job_board.specs.Board.{AreValuesOf};
 
+use crate::ahead::Ahead;
 use crate::board::Board;
 use crate::gate::Gate;
 use crate::run::Run;
@@ -26,9 +27,9 @@ pub struct Tally {
 /// started is gone without. Writes how many pages each worker has put, and the value of each launch in the order of the
 /// plans.
 ///
-/// Launches need all pages. A worker that finds no page free looks again for a while and then ends, so there are two
-/// rounds: the second is for launches where the last page was late. After these the other workers are retired, and worker 0
-/// does what is left, until a take finds all jobs done. What is written is read under the same lock.
+/// Launches need all pages. A worker that finds no page free looks again for a while and then ends. A second round of
+/// workers takes what was left by those of the first. After these the other workers are retired, and worker 0 does what is
+/// left, until a take finds all jobs done. What is written is read under the same lock.
 pub fn run_workers<L: Run + Send + Sync, G: Gate + Sync, R: Threads + Wait + Sync>(
     rt: &R,
     gate: &G,
@@ -151,6 +152,7 @@ fn finish<'a, L: Run, G: Gate, R: Wait>(
     ensures values { AreValuesOf L.pages L.plans values.new }
 {
     let mut shares = shares;
+    let mut ahead = Ahead::new(board.pages(rt));
     for _ in rt.forever() {
         let mut state = board.lock(rt);
         let given = state.take(0);
@@ -158,7 +160,7 @@ fn finish<'a, L: Run, G: Gate, R: Wait>(
             return state.close(shares, counts, values);
         }
         drop(state);
-        run_job(rt, gate, board, 0, &mut shares[0], given);
+        run_job(rt, gate, board, 0, &mut shares[0], &mut ahead, given);
     }
     unreachable!()
 }
