@@ -2,6 +2,7 @@
 pub mod Preparing
 pub mod Ends
 pub mod Sources
+pub mod Filled
 pub mod Chains
 pub mod Lines
 pub mod Commands

@@ -1,36 +1,18 @@
 //! The measurements of the launches of a release, on one thread.
 ghost use Rattle.std.specs.Prelude.{◌≡◌, ◌≤◌, ◌<◌, IfOk, Some, length, map, true};
 ghost use Rattle.std.specs.List.{All, slice_get};
-ghost use Rattle.page_jobs.specs.Key.{IsRising};
-ghost use Rattle.page_jobs.specs.Page.{page_view};
-ghost use Rattle.page_jobs.specs.Table.{keys_of as page_keys};
 ghost use Rattle.rim_chain.specs.Links.{keys_of};
-ghost use Rattle.rim_chain.specs.Rows.{IsFull, has_all, value_in};
+ghost use Rattle.rim_chain.specs.Rows.{has_all, value_in};
 ghost use Rattle.rim_chain.specs.SharedFronts.{AreShared};
 ghost use Rattle.rim_release.specs.inside.Chains.{outcomes_of, with_rims};
 
 use crate::audit_fault::AuditFault;
 use ipa_layout::Placed;
-use page_jobs::{DigestRow, Page, PageJob, Table};
+use page_jobs::{DigestRow, Table};
 use refusal::NoMemory;
 use rim_chain::{LaunchPlan, SharedFronts, chain_from};
 use rim_desc::Measurement;
 use std::alloc::{AllocError, Global};
-
-/// A table with the digests of these pages, hashed one after another.
-pub fn hashed<'a>(alloc: Global, pages: &'a [Page<'a>]) -> Result<Table<'a>, NoMemory>
-    requires { IsRising (page_keys (map page_view pages.now)) }
-    ensures pages { IfOk result (λ t. t.pages ≡ map page_view pages.entry.now) }
-    ensures full { IfOk result IsFull }
-{
-    let mut table = Table::reserve(alloc, pages)?;
-    for slot in 0..pages.len() {
-        let Ok(()) = table.fill(slot, PageJob::new(pages[slot]).run()) else {
-            unreachable!()
-        };
-    }
-    Ok(table)
-}
 
 /// The Realm Initial Measurements of launches by their plans, where a table has the digests of all their pages.
 pub fn chains(

@@ -6,6 +6,7 @@ pub mod audits;
 pub mod chains;
 pub mod commands;
 pub mod fault;
+pub mod hashing;
 pub mod laws;
 pub mod listings;
 pub mod measure;

@@ -6,8 +6,9 @@ ghost use Rattle.ipa_layout.specs.inside.LayoutViews.{contents};
 ghost use Rattle.rim_release.specs.Report.{has_refused, measured_of};
 
 use crate::audit_fault::AuditFault;
-use crate::chains::{chains, hashed, outcomes};
+use crate::chains::{chains, outcomes};
 use crate::fault::StartFault;
+use crate::hashing::hashed;
 use crate::pages::pages;
 use crate::prepare::prepare;
 use crate::report::report;
