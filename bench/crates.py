@@ -15,11 +15,14 @@ import time
 top = os.path.dirname(os.path.dirname(os.path.abspath(__file__)))
 
 
-def built(folder, name, uses, words):
+def built(folder, name, uses, words, changes=(), flags=()):
     """The program of that name in bench/, in a copy of the repository that has it as a crate with these libraries, run once.
 
-    The crates are copied with what is proved of them, since a program is built from proved crates alone."""
+    The crates are copied with what is proved of them, since a program is built from proved crates alone. Each change is a
+    file of the copy, a text that it has once, and the text in its place."""
     shutil.copytree(os.path.join(top, "crates"), os.path.join(folder, "crates"))
+    for path, old, new in changes:
+        change(os.path.join(folder, "crates", path), old, new)
     crate = os.path.join(folder, "crates", name)
     os.makedirs(os.path.join(crate, "src"))
     shutil.copy(os.path.join(top, "bench", name, "main.rt.in"), os.path.join(crate, "src", "main.rt"))
@@ -32,8 +35,18 @@ def built(folder, name, uses, words):
     shutil.copy(os.path.join(top, "HANDLES"), folder)
     with open(os.path.join(top, "crates.txt")) as lines, open(os.path.join(folder, "crates.txt"), "w") as file:
         file.write(lines.read() + f"{name}: {uses}\n")
-    subprocess.run(["rt", "run", "--", *words], cwd=crate, check=True, capture_output=True)
+    subprocess.run(["rt", "run", *flags, "--", *words], cwd=crate, check=True, capture_output=True)
     return os.path.join(crate, "out", name)
+
+
+def change(path, old, new):
+    """Puts a text in the place of another, which the file has once."""
+    with open(path) as file:
+        text = file.read()
+    if text.count(old) != 1:
+        raise SystemExit(f"{path}: not once: {old}")
+    with open(path, "w") as file:
+        file.write(text.replace(old, new))
 
 
 def least(program, words, runs):

@@ -11,7 +11,6 @@ processor time of some runs is taken.
 """
 import os
 import random
-import shutil
 import subprocess
 import sys
 import tempfile
@@ -20,8 +19,9 @@ import crates
 from releases import MIB, file_of, launch
 from workers import run
 
-SHARED = "if last.links > 0 && later < heads.len() {"
-NONE = "if last.links == usize::MAX && later < heads.len() {"
+# A change after which no launch has a front in common with another.
+NO_FRONT = ("rim_chain/src/siblings.rt", "if last.links > 0 && later < heads.len() {",
+            "if last.links == usize::MAX && later < heads.len() {")
 
 
 def image(folder, size):
@@ -56,28 +56,6 @@ def unlike(folder):
     return text
 
 
-def program(folder, source, name, uses, words):
-    """A program of bench/, built in this folder from crates that are there."""
-    top, crates.top = crates.top, source
-    try:
-        return crates.built(folder, name, uses, words)
-    finally:
-        crates.top = top
-
-
-def without(folder):
-    """A copy of the repository in which no launch has a front in common with another."""
-    copy = os.path.join(folder, "copy")
-    shutil.copytree(crates.top, copy, ignore=shutil.ignore_patterns(".git"))
-    path = os.path.join(copy, "crates", "rim_chain", "src", "siblings.rt")
-    with open(path) as file:
-        text = file.read()
-    assert text.count(SHARED) == 1
-    with open(path, "w") as file:
-        file.write(text.replace(SHARED, NONE))
-    return copy
-
-
 def main():
     runs = int(sys.argv[1]) if len(sys.argv) > 1 else 5
     with tempfile.TemporaryDirectory() as folder:
@@ -86,9 +64,9 @@ def main():
             file.write("rim_manifest = 1\n")
         places = [os.path.join(folder, name) for name in ["count", "with", "without"]]
         uses = "rim_release rim_manifest rim_desc"
-        counter = program(places[0], crates.top, "fronts", uses + " rim_chain", [path])
-        programs = [program(places[1], crates.top, "workers", uses, ["alone", path]),
-                    program(places[2], without(folder), "workers", uses, ["alone", path])]
+        counter = crates.built(places[0], "fronts", uses + " rim_chain", [path])
+        programs = [crates.built(places[1], "workers", uses, ["alone", path]),
+                    crates.built(places[2], "workers", uses, ["alone", path], [NO_FRONT])]
         for what, made in [("300 launches over one kernel", alike), ("launches with nothing in common", unlike)]:
             with open(path, "w") as file:
                 file.write("rim_manifest = 1\n" + made(folder))
