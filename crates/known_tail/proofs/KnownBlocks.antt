@@ -3,7 +3,7 @@ use Rattle.std.proofs.Common.{◌≡◌, ℕ, ◌+◌, ◌<◌, List, length, re
 use Rattle.std.proofs.lemmas.Simd.{get_or-zip2}
 use Rattle.sha2.specs.Sha256.{add32, big_sigma1, ch, first_words, round, rounds, round_constants, schedule, temp1}
 use Rattle.sha2.proofs.Schedule256.{length-schedule, rounds_next}
-use Rattle.known_tail.specs.inside.Sums.{AreSums}
+use Rattle.known_tail.specs.Sums.{AreSums}
 
 add_sum : (x k w sum : ℕ) → sum ≡ add32 k w → add32 (add32 x sum) 0 ≡ add32 (add32 x k) w
 add_sum x k w sum e = rw e (omega arith)

@@ -1,1 +1,1 @@
-pub mod inside
+pub mod Sums

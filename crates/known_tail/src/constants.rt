@@ -18,11 +18,11 @@ pub const ROUND_CONSTANTS: [u32; 64] = [
 ];
 
 /// Each round's constant with its word of the schedule of a block of zeros, whose words are all zero.
-pub(crate) const ZEROS_SUMS: [u32; 64] = ROUND_CONSTANTS;
+pub const ZEROS_SUMS: [u32; 64] = ROUND_CONSTANTS;
 
 /// Each round's constant with its word of the schedule of the padding of 256 bytes: a bit 1, zeros, and the length of
 /// 2048 bits (5.1.1).
-pub(crate) const PADDING_SUMS: [u32; 64] = [
+pub const PADDING_SUMS: [u32; 64] = [
     0xc28a2f98, 0x71374491, 0xb5c0fbcf, 0xe9b5dba5, 0x3956c25b, 0x59f111f1, 0x923f82a4, 0xab1c5ed5,
     0xd807aa98, 0x12835b01, 0x243185be, 0x550c7dc3, 0x72be5d74, 0x80deb1fe, 0x9bdc06a7, 0xc19bf974,
     0x649b69c1, 0xf4be4788, 0x0fe1edc6, 0x240ca3ec, 0x4fe9346f, 0x4bc884aa, 0x61b9471e, 0x76f9de5a,

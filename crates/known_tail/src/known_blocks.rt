@@ -2,7 +2,7 @@
 //! constant.
 ghost use Rattle.std.specs.Prelude.{◌≡◌, ℕ, List, ◌+◌, ◌<◌, ◌≤◌};
 ghost use Rattle.sha2.specs.Sha256.{compress, rounds, schedule};
-ghost use Rattle.known_tail.specs.inside.Sums.{AreSums};
+ghost use Rattle.known_tail.specs.Sums.{AreSums};
 
 use crate::rounds::round;
 

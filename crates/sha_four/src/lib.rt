@@ -2,17 +2,20 @@
 //! messages take less than twice the time of one.
 #![tactic(auto)]
 
-ghost use Rattle.std.specs.Prelude.{◌≡◌, ◌%◌, [], ◌∷◌, length};
+ghost use Rattle.std.specs.Prelude.{◌≡◌, ◌%◌, ◌++◌, [], ◌∷◌, length, take, replicate, true};
 ghost use Rattle.sha2.specs.Sha256.{digest_bytes, sha256};
 ghost use Rattle.sha_four.specs.inside.Lanes.{lane};
 
+mod known_blocks;
 mod lanes;
 mod messages;
 mod rounds;
 
 use known_tail::words::digest;
-use messages::final_hashes;
+use messages::{final_hashes, headed_hashes};
 use std::simd::u32x4;
+
+const ZEROS: [u8; 128] = [0; 128];
 
 /// The SHA-256 digests of four messages of one length, which is a whole number of blocks of 64 bytes
 /// (FIPS 180-4, 6.2).
@@ -24,6 +27,30 @@ pub fn sha256_four(m0: &[u8], m1: &[u8], m2: &[u8], m3: &[u8]) -> [[u8; 32]; 4]
     ensures { result ≡ sha256 m0.now ∷ sha256 m1.now ∷ sha256 m2.now ∷ sha256 m3.now ∷ [] }
 {
     digests(final_hashes(m0, m1, m2, m3))
+}
+
+/// The SHA-256 digests of four descriptors. They are quicker where the last 128 bytes of each are zero.
+pub fn sha256_descriptors(
+    d0: &[u8; 256],
+    d1: &[u8; 256],
+    d2: &[u8; 256],
+    d3: &[u8; 256],
+) -> [[u8; 32]; 4]
+    ensures { result ≡ sha256 d0.now ∷ sha256 d1.now ∷ sha256 d2.now ∷ sha256 d3.now ∷ [] }
+{
+    if has_zero_tail(d0) && has_zero_tail(d1) && has_zero_tail(d2) && has_zero_tail(d3) {
+        digests(headed_hashes(&d0[..128], &d1[..128], &d2[..128], &d3[..128]))
+    } else {
+        sha256_four(d0, d1, d2, d3)
+    }
+}
+
+/// Whether the last 128 bytes of a descriptor are zero.
+fn has_zero_tail(descriptor: &[u8; 256]) -> bool
+    ensures { result ≡ true → descriptor.now ≡ take 128 descriptor.now ++ replicate 128 0 }
+{
+    let (_, tail) = descriptor.split_at(128);
+    tail == &ZEROS[..]
 }
 
 /// The bytes of each lane's hash value.

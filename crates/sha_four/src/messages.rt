@@ -1,10 +1,11 @@
 //! Four messages, block by block.
-ghost use Rattle.std.specs.Prelude.{◌≡◌, ℕ, ◌%◌, ◌<◌, length};
-ghost use Rattle.sha2.specs.Sha256.{final_hash, initial_hash_256, padding};
+ghost use Rattle.std.specs.Prelude.{◌≡◌, ℕ, ◌+◌, ◌%◌, ◌<◌, ◌≤◌, ◌++◌, length, take, drop, replicate};
+ghost use Rattle.sha2.specs.Sha256.{compress, final_hash, initial_hash_256, padding};
 ghost use Rattle.sha_four.specs.inside.Lanes.{lane, message};
 
+use crate::known_blocks::compress_sums;
 use crate::rounds::compress;
-use known_tail::constants::INITIAL;
+use known_tail::constants::{INITIAL, PADDING_SUMS, ZEROS_SUMS};
 use std::simd::u32x4;
 
 const BLOCK_SIZE: usize = 64;
@@ -21,19 +22,50 @@ pub(crate) fn final_hashes(m0: &[u8], m1: &[u8], m2: &[u8], m3: &[u8]) -> [u32x4
     let mut state = initial();
     let count = m0.len() / BLOCK_SIZE;
     'each: for i in 0..count {
-        let at = BLOCK_SIZE * i;
-        let end = at + BLOCK_SIZE;
-        compress(
-            &mut state,
-            &m0[at..end],
-            &m1[at..end],
-            &m2[at..end],
-            &m3[at..end],
-        );
+        compress_at(&mut state, m0, m1, m2, m3, BLOCK_SIZE * i);
     }
     let last = padding(m0.len());
     compress(&mut state, &last, &last, &last, &last);
     state
+}
+
+/// The hash value of each message of a head of 128 bytes and as many zeros after it. Two blocks are given, two are
+/// zero, and the last is the padding of 256 bytes (FIPS 180-4, 5.1.1).
+pub(crate) fn headed_hashes(h0: &[u8], h1: &[u8], h2: &[u8], h3: &[u8]) -> [u32x4; 8]
+    requires first { length h0.now ≡ 128 }
+    requires second { length h1.now ≡ 128 }
+    requires third { length h2.now ≡ 128 }
+    requires fourth { length h3.now ≡ 128 }
+    ensures { (j : ℕ) → j < 4
+        → lane j result ≡ final_hash initial_hash_256 (message h0.now h1.now h2.now h3.now j ++ replicate 128 0) }
+{
+    let mut state = initial();
+    compress_at(&mut state, h0, h1, h2, h3, 0);
+    compress_at(&mut state, h0, h1, h2, h3, BLOCK_SIZE);
+    compress_sums(&mut state, &ZEROS_SUMS);
+    compress_sums(&mut state, &ZEROS_SUMS);
+    compress_sums(&mut state, &PADDING_SUMS);
+    state
+}
+
+/// Adds the block of each message that begins at a byte to its hash value.
+#[inline(always)]
+fn compress_at(state: &mut [u32x4; 8], m0: &[u8], m1: &[u8], m2: &[u8], m3: &[u8], at: usize)
+    requires first { at + 64 ≤ length m0.now }
+    requires second { at + 64 ≤ length m1.now }
+    requires third { at + 64 ≤ length m2.now }
+    requires fourth { at + 64 ≤ length m3.now }
+    ensures { (j : ℕ) → j < 4
+        → lane j state.new ≡ compress (lane j state.old) (take 64 (drop at (message m0.now m1.now m2.now m3.now j))) }
+{
+    let end = at + BLOCK_SIZE;
+    compress(
+        state,
+        &m0[at..end],
+        &m1[at..end],
+        &m2[at..end],
+        &m3[at..end],
+    );
 }
 
 /// The initial hash value in each lane (FIPS 180-4, 5.3.3).

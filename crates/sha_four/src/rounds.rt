@@ -151,7 +151,7 @@ fn next_word(w: &mut [u32x4; 16], place: usize) -> u32x4
 
 /// One round on the working variables a to h, with its constant and words.
 #[inline(always)]
-fn round(v: [u32x4; 8], k: u32, word: u32x4) -> [u32x4; 8]
+pub(crate) fn round(v: [u32x4; 8], k: u32, word: u32x4) -> [u32x4; 8]
     ensures { (j : ℕ) → j < 4 → lane j result ≡ round (lane j v) k (slice_index word j) }
 {
     let [a, b, c, d, e, f, g, h] = v;

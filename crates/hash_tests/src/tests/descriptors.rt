@@ -1,6 +1,7 @@
 //! Digests of descriptors.
 use super::{fill, front};
 use known_tail::sha256_descriptor;
+use sha_four::sha256_descriptors;
 use sha2::{Digest, Sha256};
 
 /// A descriptor of 128 pseudo-random bytes and as many zeros, with one byte changed.
@@ -45,5 +46,43 @@ fn tails_of_zeros(rt: HostRuntime) {
 fn one_byte_of_the_tail(rt: HostRuntime) {
     for place in 128..=255u8 {
         assert!(rt; is_that_of_sha2(&descriptor(7, place, 1)), "place {place}");
+    }
+}
+
+/// Whether the digests of four descriptors are those of `sha2`, each in its place.
+fn are_those_of_sha2(four: &[[u8; 256]; 4]) -> bool {
+    let [a, b, c, d] = four;
+    let expected = [
+        Sha256::digest(a),
+        Sha256::digest(b),
+        Sha256::digest(c),
+        Sha256::digest(d),
+    ];
+    sha256_descriptors(a, b, c, d) == expected
+}
+
+#[test]
+fn four_tails_of_zeros(rt: HostRuntime) {
+    for seed in 0..1000u32 {
+        let four = [
+            descriptor(seed, 0, 1),
+            descriptor(seed, 0, 2),
+            descriptor(seed, 0, 3),
+            descriptor(seed, 0, 4),
+        ];
+        assert!(rt; are_those_of_sha2(&four), "seed {seed}");
+    }
+}
+
+#[test]
+fn a_byte_of_one_tail_of_four(rt: HostRuntime) {
+    for places in [
+        [128, 0, 0, 0],
+        [0, 160, 0, 0],
+        [0, 0, 200, 0],
+        [0, 0, 0, 255u8],
+    ] {
+        let four = places.map(|place| descriptor(11, place, 9));
+        assert!(rt; are_those_of_sha2(&four), "places {places:?}");
     }
 }
