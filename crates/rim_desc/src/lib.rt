@@ -14,7 +14,7 @@ pub mod source;
 
 pub use command::Command;
 pub use descriptor::{DESCRIPTOR_SIZE, data_descriptor, rec_descriptor, ripas_descriptor};
-pub use measurement::{Algo, Measurement, extend, hash};
+pub use measurement::{Algo, Measurement, extend, extend_four, hash};
 pub use number::push_digits;
 pub use page::PAGE_SIZE;
 pub use realm::{RealmParams, realm_page};
