@@ -1,5 +1,5 @@
 -- Fronts whose values are known: of which launches they are, and what keeps them.
-use Rattle.std.proofs.Common.{rules, ◌≡◌, ◌⊎◌, inl, inr, ℕ, zero, suc, ◌+◌, ◌∙◌, refl, sym, ap, subst, arith, true, List, [], ◌∷◌, ◌++◌, length, map, set, get_or, take, drop, Option, Some, None}
+use Rattle.std.proofs.Common.{rules, ◌≡◌, ◌⊎◌, inl, inr, ℕ, zero, suc, ◌+◌, ◌∙◌, refl, sym, ap, subst, arith, true, List, [], ◌∷◌, ◌++◌, length, map, set, get_or, take, drop, replicate, Option, Some, None}
 use Rattle.std.specs.Prelude.{is_some, IfSome, option_and_then}
 use Rattle.std.specs.List.{All, Contains, filter_map, slice_get}
 use Rattle.std.specs.Option.{option_map}
@@ -14,10 +14,12 @@ use Rattle.page_jobs.specs.declared.page.PageKey.{PageKey}
 use Rattle.rim_chain.specs.Fronts.{AreFronts, IsFront, front_of, front_value}
 use Rattle.rim_chain.specs.Links.{PlanView, chain_of, keys_in, keys_of}
 use Rattle.rim_chain.specs.Rows.{IsRowOf, has_all, value_in}
-use Rattle.rim_chain.specs.SharedFronts.{AreShared, HaveOwnValues, IsValueOfFront}
+use Rattle.rim_chain.specs.SharedFronts.{AreShared, HaveOwnFronts, HaveOwnValues, IsOwnFront, IsValueOfFront}
 use Rattle.rim_chain.specs.declared.front.Front.{Front}
 use Rattle.rim_chain.specs.declared.front.Mark.{Mark}
+use Rattle.rim_chain.specs.declared.starting.Start.{Start}
 use Rattle.rim_chain.specs.inside.Marks.{BothHaveFront, HaveNoValues}
+use Rattle.rim_chain.specs.inside.Starts.{IsStart}
 use Rattle.rim_chain.proofs.Rows.{row-length, row-parts}
 
 -- ---- a row of a table's digests
@@ -75,15 +77,18 @@ if-some P Q f None h = h
 if-some P Q f (Some x) h = f x h
 
 -- and the other way round
+known-front : (t : TableView) (p : PlanView) (n : ℕ) (v : Measurement) (digests : List Measurement) → IsRowOf t (keys_of p.links) digests → IsFront p digests (record { links = n; value = v }) → IsValueOfFront t p n v
+known-front t p n v digests row h = record {
+  within = h.0;
+  full = row-full t (keys_of (take n p.links)) (take (length (keys_of (take n p.links))) digests) (front-row t p n digests row);
+  value = h.1 ∙ front-value-in t p n digests row;
+}
+
 own-values : (t : TableView) (p : PlanView) (digests : List Measurement) (marks : List Mark) → IsRowOf t (keys_of p.links) digests → AreFronts p digests marks → HaveOwnValues t p marks
 own-values t p digests marks row fronts = λ k d inside.
     let m : Mark = get_or marks k d in
     if-some (λ v. IsFront p digests (record { links = m.links; value = v })) (IsValueOfFront t p m.links)
-    (λ v h. record {
-      within = h.0;
-      full = row-full t (keys_of (take m.links p.links)) (take (length (keys_of (take m.links p.links))) digests) (front-row t p m.links digests row);
-      value = h.1 ∙ front-value-in t p m.links digests row;
-    }) m.value (fronts k d inside)
+    (λ v. known-front t p m.links v digests row) m.value (fronts k d inside)
 
 pub own-head : (t : TableView) (p : PlanView) (digests : List Measurement) (head : Option Front) → IsRowOf t (keys_of p.links) digests → IfSome head (λ f. IsValueOfFront t p f.links f.value) → IfSome head (IsFront p digests)
 own-head t p digests head row = if-some (λ f. IsValueOfFront t p f.links f.value) (IsFront p digests) (λ f. own-front t p f.links f.value digests row) head
@@ -158,6 +163,17 @@ shared-first {X = X} f t plans marks none = λ l p own plan at k m inside.
     no-values : (l : ℕ) (own : List Mark) → slice_get (map (option_map f) marks) l ≡ Some (Some own) → HaveNoValues own
     no-values l own at = at-launch l own (slice_get marks l) refl (sym (slice_get-map (option_map f) marks l) ∙ at)
 
+-- an element of a list of which one was replaced
+set-cases : {Y : Type 0} (xs : List Y) (i j : ℕ) (y z : Y) → slice_get (set xs i y) j ≡ Some z → ((j ≡ i) × (y ≡ z)) ⊎ (slice_get xs j ≡ Some z)
+set-cases [] i j y z at = inr at
+set-cases (x ∷ xs) zero zero y z at = inl (refl, same_Some y z at)
+set-cases (x ∷ xs) zero (suc j) y z at = inr at
+set-cases (x ∷ xs) (suc i) zero y z at = inr at
+set-cases (x ∷ xs) (suc i) (suc j) y z at = elim (set-cases xs i j y z at) [
+  | inl here ↦ inl (ap suc here.0, here.1)
+  | inr there ↦ inr there
+]
+
 -- where those of one launch are replaced by others, or by none
 pub shared-set : {X : Type 0} (f : X → List Mark) (t : TableView) (plans : List PlanView) (marks new : List (Option X)) (n : ℕ) (put : Option X) → new ≡ set marks n put
     → AreShared t plans (map (option_map f) marks) → ((p : PlanView) → slice_get plans n ≡ Some p → IfSome put (λ o. HaveOwnValues t p (f o))) → AreShared t plans (map (option_map f) new)
@@ -173,16 +189,6 @@ shared-set {X = X} f t plans marks new n put is shared values = λ l p own plan 
     if-mapped p None h = h
     if-mapped p (Some x) h = h
 
-    set-cases : {Y : Type 0} (xs : List Y) (i j : ℕ) (y z : Y) → slice_get (set xs i y) j ≡ Some z → ((j ≡ i) × (y ≡ z)) ⊎ (slice_get xs j ≡ Some z)
-    set-cases [] i j y z at = inr at
-    set-cases (x ∷ xs) zero zero y z at = inl (refl, same_Some y z at)
-    set-cases (x ∷ xs) zero (suc j) y z at = inr at
-    set-cases (x ∷ xs) (suc i) zero y z at = inr at
-    set-cases (x ∷ xs) (suc i) (suc j) y z at = elim (set-cases xs i j y z at) [
-      | inl here ↦ inl (ap suc here.0, here.1)
-      | inr there ↦ inr there
-    ]
-
 -- the front that a launch has in common with another is its own
 pub shared-front : (t : TableView) (plans : List PlanView) (marks : List (Option (List Mark))) (a b : ℕ) (own : List Mark) (n : ℕ) (v : Measurement) (p : PlanView) → AreShared t plans marks
     → slice_get marks a ≡ Some (Some own) → Contains own (record { links = n; value = Some v }) → BothHaveFront plans a b n → slice_get plans b ≡ Some p → IsValueOfFront t p n v
@@ -195,3 +201,29 @@ shared-front t plans marks a b own n v p shared at has both plan =
       full = ap (λ (q : PlanView). has_all t (keys_of q.links)) (sym fronts) ∙ h.full;
       value = h.value ∙ ap (value_in t) fronts;
     })
+
+-- ---- the fronts of launches that are chained from their realms on
+
+pub no-fronts : (t : TableView) (plans : List PlanView) (n : ℕ) → HaveOwnFronts t plans (replicate n None)
+no-fronts t plans n l f at = absurd (none n l at)
+  where
+    none : (n l : ℕ) → slice_get (replicate n None) l ≡ Some (Some f) → ⊥
+    none zero l at = cc
+    none (suc n) zero at = cc
+    none (suc n) (suc l) at = none n l at
+
+pub fronts-set : (t : TableView) (plans : List PlanView) (fronts new : List (Option Front)) (n : ℕ) (f : Front) → new ≡ set fronts n (Some f)
+    → IsOwnFront t plans n f → HaveOwnFronts t plans fronts → HaveOwnFronts t plans new
+fronts-set t plans fronts new n f is own all = λ l g at. elim (set-cases fronts n l (Some f) (Some g) (ap (λ (fs : List (Option Front)). slice_get fs l) (sym is) ∙ at)) [
+  | inl here ↦ subst (λ (m : ℕ). IsOwnFront t plans m g) (sym here.0) (subst (IsOwnFront t plans n) (same_Some f g here.1) own)
+  | inr there ↦ all l g there
+]
+
+pub known-first : (t : TableView) (plans : List PlanView) (fronts : List (Option Front)) (l : ℕ) (first : Option Front) → HaveOwnFronts t plans fronts
+    → IfSome first (λ f. slice_get fronts l ≡ Some (Some f)) → IfSome first (IsOwnFront t plans l)
+known-first t plans fronts l first all = if-some (λ f. slice_get fronts l ≡ Some (Some f)) (IsOwnFront t plans l) (all l) first
+
+pub start-front : (t : TableView) (plans : List PlanView) (s : Start) (p : PlanView) (digests : List Measurement) (v : Measurement) → IsStart t plans s p digests
+    → v.bytes ≡ front_value s.links p digests → IsOwnFront t plans s.number (record { links = s.links; value = v })
+start-front t plans s p digests v start value = λ q at.
+    subst (λ (r : PlanView). IsValueOfFront t r s.links v) (same_Some p q (sym start.own ∙ at)) (known-front t p s.links v digests start.row (start.links, value))

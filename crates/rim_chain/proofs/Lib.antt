@@ -8,3 +8,4 @@ pub mod Readable
 pub mod ReadParts
 pub mod Rows
 pub mod Own
+pub mod PartByPart

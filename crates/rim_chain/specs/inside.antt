@@ -3,4 +3,6 @@ pub mod Filling
 pub mod Counted
 pub mod Marks
 pub mod Places
+pub mod Starts
 pub mod Steps
+pub mod UnderWay

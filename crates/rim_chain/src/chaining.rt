@@ -63,7 +63,7 @@ fn extended_by_unmeasured(algo: Algo, rim: Measurement, ipa: u64, count: u64) ->
 }
 
 /// A measurement extended by the parts of a link, whose pages have these digests.
-fn extended_by_link(
+pub(crate) fn extended_by_link(
     algo: Algo,
     rim: Measurement,
     link: &Link,
@@ -176,7 +176,7 @@ fn place_of(plan: &LaunchPlan, row: &DigestRow, head: Option<Front>) -> Place
 }
 
 /// What the realm of a plan is measured as.
-fn realm_value(plan: &LaunchPlan) -> Measurement
+pub(crate) fn realm_value(plan: &LaunchPlan) -> Measurement
     ensures { (digests : List Measurement) → result.bytes ≡ front_value 0 plan.now digests }
 {
     let params = plan.params();

@@ -12,6 +12,8 @@ mod plan;
 mod reading;
 mod shared_fronts;
 mod siblings;
+mod starting;
+mod under_way;
 
 pub use chaining::{chain, chain_from};
 pub use front::{Front, Mark};
@@ -23,3 +25,4 @@ pub use laws::{
 pub use link::Link;
 pub use plan::LaunchPlan;
 pub use shared_fronts::SharedFronts;
+pub use starting::first_fronts;

@@ -4,6 +4,7 @@ ghost use Rattle.std.specs.List.{slice_get};
 ghost use Rattle.rim_chain.specs.Fronts.{HaveFront};
 ghost use Rattle.rim_chain.specs.Links.{keys_in, keys_of, page_count};
 ghost use Rattle.rim_chain.specs.inside.Counted.{AreLinks};
+ghost use Rattle.rim_chain.specs.inside.UnderWay.{IsEmpty};
 ghost use Rattle.rim_chain.specs.Fitting.{AreFitting, IsFitting};
 
 use crate::link::Link;
@@ -153,6 +154,11 @@ impl LaunchPlan {
         parts
     }
 
+    /// How many parts its first links have. It is a measure of the work alone.
+    pub(crate) fn parts_before(&self, links: usize) -> u64 {
+        self.parts_after(0).saturating_sub(self.parts_after(links))
+    }
+
     /// The order of two plans: by their realms, then by the first links that they do not have in common.
     pub(crate) fn compare(&self, other: &LaunchPlan) -> Ordering {
         let at = self.common_links(other);
@@ -230,10 +236,13 @@ pub(crate) fn page_count(link: &Link) -> u64
 }
 
 /// How many parts a link has.
-fn part_count(link: &Link) -> u64 {
+pub(crate) fn part_count(link: &Link) -> u64
+    ensures { result ≡ 0 → IsEmpty link.now }
+{
     match link {
-        Link::Blocks { count, .. } | Link::Pages { count, .. } | Link::Unmeasured { count, .. } =>
-            *count,
+        Link::Blocks { count, .. } => *count,
+        Link::Pages { count, .. } => *count,
+        Link::Unmeasured { count, .. } => *count,
         Link::Rec { .. } => 1,
     }
 }

@@ -10,7 +10,9 @@ use crate::chain_order::ChainOrder;
 use crate::front::{Front, Mark};
 use crate::plan::LaunchPlan;
 use crate::siblings::{Head, heads_of, marks_of};
+use crate::starting::Start;
 use refusal::NoMemory;
+use rim_desc::Algo;
 use std::alloc::Global;
 use std::marker::Model;
 use std::mem::replace;
@@ -46,6 +48,39 @@ impl SharedFronts {
             heads,
             marks,
             order,
+        })
+    }
+
+    /// The launches by SHA-256 that go on from no other, the longest first.
+    pub(crate) fn starts(
+        &self,
+        alloc: Global,
+        plans: &[LaunchPlan],
+    ) -> Result<Vec<Start>, NoMemory> {
+        let mut starts = Vec::with_capacity(alloc, plans.len())?;
+        for number in 0..plans.len() {
+            if let Some(start) = self.start(number, &plans[number]) {
+                starts.push(start)?;
+            }
+        }
+        starts.sort_unstable_by(|a, b| b.parts.cmp(&a.parts));
+        Ok(starts)
+    }
+
+    /// A launch by SHA-256 that goes on from no other, up to where another first parts from it, or all of it.
+    fn start(&self, number: usize, plan: &LaunchPlan) -> Option<Start> {
+        let (Some(None), Algo::Sha256) = (self.heads.get(number), plan.params().algo) else {
+            return None;
+        };
+        let marks = marks_at(self.marks.as_slice(), number)?;
+        let links = match marks.first() {
+            Some(mark) => mark.links,
+            None => plan.links().len(),
+        };
+        Some(Start {
+            number,
+            links,
+            parts: plan.parts_before(links),
         })
     }
 
