@@ -5,8 +5,8 @@ use Rattle.rim_release.proofs.chains.chained.Goals as goal
 
 pub chain_from-marks-requires-clause-head : goal.chain_from-marks-requires-clause-head
 chain_from-marks-requires-clause-head c =
-    own-head c.args.table.now c.args.plan.now c.fill_row.new.row.digests c.front-head.result (c.fill_row.ensures.filled c.if-not-fill_row.false)
-    (c.front-head.ensures c.args.table.now c.args.plan.now c.requires.fronts c.requires.plan)
+    own-head c.args.table.now c.args.plan.now c.fill_row.new.row.digests c.head_of-head.result (c.fill_row.ensures.filled c.if-not-fill_row.false)
+    (c.head_of-head.ensures c.args.table.now c.args.plan.now c.requires.fronts c.requires.plan c.requires.first)
 
 pub returns-clause-value : goal.returns-clause-value
 returns-clause-value c =
