@@ -29,11 +29,11 @@ def least_times(program, runs):
 def main():
     runs = int(sys.argv[1]) if len(sys.argv) > 1 else 4
     with tempfile.TemporaryDirectory() as folder:
-        program = built(folder, "hashes", "page_jobs known_tail rim_desc sha2", ["1"])
+        program = built(folder, "hashes", "page_jobs known_tail sha_four rim_desc sha2", ["1"])
         times = least_times(program, runs)
-    library, known = (time / DESCRIPTORS for time in times[:2])
-    bare, alone, fours = (time / PAGES for time in times[2:])
-    print(f"a descriptor by SHA-256: {known:.0f} ns, by sha2 {library:.0f} ns")
+    library, known, beside = (time / DESCRIPTORS for time in times[:3])
+    bare, alone, fours = (time / PAGES for time in times[3:])
+    print(f"a descriptor by SHA-256: {known:.0f} ns alone, {beside:.0f} ns beside three others, by sha2 {library:.0f} ns")
     print(f"a page by SHA-256: {alone:.0f} ns alone, {fours:.0f} ns in a group of four, by sha2 {bare:.0f} ns")
 
 

@@ -3,10 +3,10 @@
 
 usage: bench/lanes.py [RUNS]
 
-bench/workers/main.rt.in is built from the crates as they are, from crates in which no page is hashed beside others and no
-descriptor by its known tail, and as they are for processors with AVX2 where this is one. All are run in turn on one thread,
-by one worker and by two, on the releases of bench/releases.py that have many pages or many launches. The least times of
-some runs are taken: the processor time on one thread and by one worker, and the wall time by two.
+bench/workers/main.rt.in is built from the crates as they are, from crates in which no page or chain is hashed beside
+others and no descriptor by its known tail, and as they are for processors with AVX2 where this is one. All are run in turn
+on one thread, by one worker and by two, on the releases of bench/releases.py that have many pages or many launches. The
+least times of some runs are taken: the processor time on one thread and by one worker, and the wall time by two.
 """
 import os
 import sys
@@ -19,6 +19,7 @@ from workers import run
 PLAIN = [
     ("known_tail/src/lib.rt", "if tail == &ZEROS[..] {", "if head.is_empty() && tail == &ZEROS[..] {"),
     ("page_jobs/src/hashed.rt", "if fills_lane(&a.page) && ", "if a.page.bytes.is_empty() && fills_lane(&a.page) && "),
+    ("rim_chain/src/starting.rt", "if groups == 0 {", "if groups < usize::MAX {"),
 ]
 
 
