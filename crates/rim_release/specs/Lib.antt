@@ -5,6 +5,7 @@ pub mod Plans
 pub mod Pages
 pub mod Report
 pub mod Listing
+pub mod Devicetree
 pub mod Headline
 pub mod Values
 pub mod ShowFaults

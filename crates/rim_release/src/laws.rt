@@ -6,6 +6,7 @@ ghost use Rattle.job_board.specs.Jobs.{is_over, opening};
 ghost use Rattle.job_board.specs.Values.{NeedsHold, values};
 ghost use Rattle.rim_chain.specs.Links.{PlanView};
 ghost use Rattle.rim_manifest.specs.Launches.{AreNumbered, ReleaseData};
+ghost use Rattle.rim_release.specs.Devicetree.{DevicetreesAreMeasured};
 ghost use Rattle.rim_release.specs.Headline.{AcceptedAreMeasured, RefusedAreNamed};
 ghost use Rattle.rim_release.specs.Pages.{release_pages};
 ghost use Rattle.rim_release.specs.Plans.{ArePlans};
@@ -28,4 +29,10 @@ pub fn values_make_the_lines()
         AreNumbered r → length files ≡ length r.paths → ArePlans files r.launches plans → length needs ≡ length plans → NeedsHold (makes_of pages plans) needs
         → is_legal (opening workers (length pages) needs) es ≡ true → is_over (replay (opening workers (length pages) needs) es) ≡ true
         → lines_by (values (makes_of pages plans) es) files 0 r.launches ≡ lines_of files r.launches }
+{}
+
+/// The devicetree that is given out of a launch is the one that is measured: the step of the launch's devicetree adds just
+/// the pages of these bytes to its measured parts. Each item of a launch has one step.
+pub fn devicetrees_are_measured()
+    ensures { DevicetreesAreMeasured }
 {}

@@ -5,6 +5,7 @@ pub mod audit_fault;
 pub mod audits;
 pub mod chains;
 pub mod commands;
+pub mod devicetree;
 pub mod fault;
 pub mod hashing;
 pub mod laws;
@@ -19,6 +20,7 @@ pub mod show;
 
 pub use audit_fault::AuditFault;
 pub use audits::{audit, audit_launches, audit_report};
+pub use devicetree::placed_devicetree;
 pub use fault::StartFault;
 pub use job_board::JobId;
 pub use job_workers::{FreeGate, Gate};

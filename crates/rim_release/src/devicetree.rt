@@ -1,0 +1,93 @@
+//! The devicetree of a launch as it is placed.
+ghost use Rattle.std.specs.Prelude.{◌≡◌, ◌<◌, length, option_map, vec_len, true, IfOk, IfSome};
+ghost use Rattle.std.specs.List.{position_from, slice_get};
+ghost use Rattle.refusal.specs.Answer.{Answers};
+ghost use Rattle.rim_launch.specs.Kinds.{has_role};
+ghost use Rattle.rim_launch.specs.LaunchData.{has_files};
+ghost use Rattle.ipa_layout.specs.inside.LayoutViews.{contents};
+ghost use Rattle.rim_release.specs.Accepted.{accepted_of};
+ghost use Rattle.rim_release.specs.Devicetree.{devicetree_in, devicetree_number, devicetree_of};
+
+use crate::audit_fault::AuditFault;
+use crate::measure::Files;
+use ipa_layout::{Placed, place};
+use refusal::NoMemory;
+use rim_launch::{Launch, Role};
+use rim_manifest::Release;
+use rmi_list::list;
+use std::alloc::Global;
+
+/// The devicetree of the launch of this number, as it is placed: the bytes of its file, or the edited ones. `None` where
+/// the launch has no devicetree. A launch that is refused has none to give: its first refusal is the answer.
+pub fn placed_devicetree(
+    alloc: Global,
+    release: &Release,
+    files: &Files,
+    i: usize,
+) -> Result<Option<Vec<u8>>, AuditFault>
+    requires files { vec_len files.now ≡ length release.now.paths }
+    requires launch { i < length release.now.launches }
+    ensures { IfSome (slice_get release.now.launches i) (λ l. Answers AuditFault.NoMemory (option_map (λ bytes. bytes.items)) result (devicetree_of l.launch (contents files.now.items))) }
+{
+    devicetree_of(alloc, release.all_launches()[i].launch(), files)
+}
+
+/// The devicetree of a launch, or why the launch is refused.
+#[tactic(auto, unfolding(crate::specs::Devicetree::devicetree_of))]
+fn devicetree_of(
+    alloc: Global,
+    launch: &Launch,
+    files: &[Vec<u8>],
+) -> Result<Option<Vec<u8>>, AuditFault>
+    requires { has_files launch.now (length files.now) ≡ true }
+    ensures { Answers AuditFault.NoMemory (option_map (λ bytes. bytes.items)) result (devicetree_of launch.now (contents files.now)) }
+{
+    let placed = accepted(alloc, launch, files)?;
+    match devicetree_bytes(launch, files, &placed) {
+        Some(bytes) => Ok(Some(copied(alloc, bytes)?)),
+        None => Ok(None),
+    }
+}
+
+/// The place of a launch that is accepted, or why it is refused.
+#[tactic(auto, unfolding(crate::specs::Accepted::accepted_of))]
+fn accepted(alloc: Global, launch: &Launch, files: &[Vec<u8>]) -> Result<Placed, AuditFault>
+    requires { has_files launch.now (length files.now) ≡ true }
+    ensures { Answers AuditFault.NoMemory (λ p. p) result (accepted_of launch.now (contents files.now)) }
+{
+    let placed = place(alloc, launch, files)?;
+    list(alloc, launch, &placed)?;
+    Ok(placed)
+}
+
+/// The bytes of the devicetree of a launch that is placed so, if it has one.
+fn devicetree_bytes<'a>(
+    launch: &Launch,
+    files: &'a [Vec<u8>],
+    placed: &'a Placed,
+) -> Option<&'a [u8]>
+    ensures { option_map (λ bytes. bytes.now) result ≡ devicetree_in launch.now (contents files.entry.now) placed.entry.now }
+{
+    let number = number_of(launch)?;
+    let item = placed.items().get(number)?;
+    Some(placed.bytes(files, item.source))
+}
+
+/// Which item of a launch is its devicetree, if it has one.
+fn number_of(launch: &Launch) -> Option<usize>
+    ensures { result ≡ devicetree_number launch.now }
+{
+    launch
+        .items()
+        .iter()
+        .position(|item| item.has_role(Role::Dtb))
+}
+
+/// A copy of some bytes.
+fn copied(alloc: Global, bytes: &[u8]) -> Result<Vec<u8>, NoMemory>
+    ensures { IfOk result (λ copy. copy.items ≡ bytes.now) }
+{
+    let mut copy = Vec::with_capacity(alloc, bytes.len())?;
+    copy.extend_from_slice(bytes)?;
+    Ok(copy)
+}
