@@ -1,11 +1,11 @@
 #!/usr/bin/env python3
-"""A second opinion: the report of a manifest, or the listing of a launch, by the plainest program that can be written
-from docs/FORMATS.md.
+"""A second opinion: the report of a manifest, or the listing or the devicetree of a launch, by the plainest program that can
+be written from docs/FORMATS.md.
 
 It shares no code with rim, is slow, and finds hardly any faults: it is for manifests whose launches are accepted, or
 refused by `size`, `overlap` or `outside-ram`. Tests take their expected values from it.
 
-usage: reference.py MANIFEST [LAUNCH]
+usage: reference.py MANIFEST [LAUNCH [dtb]]
 """
 import hashlib
 import struct
@@ -330,6 +330,10 @@ def main():
             files[entry["name"]] = file.read()
     if len(sys.argv) > 2:
         launch = next(launch for launch in manifest["launch"] if launch["name"] == sys.argv[2])
+        if len(sys.argv) > 3:
+            item = next(item for item in launch["item"] if item["kind"] == "dtb")
+            sys.stdout.buffer.write(edited(item, launch, files))
+            return
         try:
             print("\n".join(measure(launch, files, set())[1]))
         except Refused as refused:

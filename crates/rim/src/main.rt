@@ -4,7 +4,7 @@
 mod progress;
 
 use crate::progress::Progress;
-use rim_cli::{Opener, report_unreadable, run};
+use rim_cli::{Opener, asks_for_bytes, report_terminal, report_unreadable, run};
 use std::fs::File;
 use std::io;
 use std::io::IsTerminal;
@@ -26,18 +26,29 @@ impl Opener for FileOpener<'_> {
 
 fn main(rt: HostRuntime) -> ExitCode {
     let status = match words(&rt) {
-        Ok(words) => run(
-            &rt,
-            rt.alloc(),
-            &Progress::new(&rt, rt.stderr().is_terminal()),
-            words.as_slice(),
-            &mut FileOpener { rt: &rt },
-            &mut io::writer(&rt),
-            &mut rt.stderr(),
-        ),
+        Ok(words) => {
+            if is_terminal_for_bytes(&rt, words.as_slice()) {
+                report_terminal(&mut rt.stderr())
+            } else {
+                run(
+                    &rt,
+                    rt.alloc(),
+                    &Progress::new(&rt, rt.stderr().is_terminal()),
+                    words.as_slice(),
+                    &mut FileOpener { rt: &rt },
+                    &mut io::writer(&rt),
+                    &mut rt.stderr(),
+                )
+            }
+        }
         Err(error) => report_unreadable(&error, &mut rt.stderr()),
     };
     ExitCode::from(status)
+}
+
+/// Whether the words ask for bytes that are no text, and these would be written to a terminal.
+fn is_terminal_for_bytes(rt: &HostRuntime, words: &[String]) -> bool {
+    rt.stdout().is_terminal() && asks_for_bytes(rt.alloc(), words)
 }
 
 /// The words of the command line, of which the first is the program's name.

@@ -17,7 +17,7 @@ use Rattle.clap.specs.declared.parser.matches.SubCommand.{SubCommand}
 use Rattle.clap.specs.declared.parser.matches.ArgMatches.TheViews.{out-SubCommand}
 use Rattle.clap.proofs.ValueTestLemmas.{accepts-Accepts}
 use Rattle.clap.specs.declared.builder.value_parser.ValueParser.TheVariants as parser
-use Rattle.rim_cli.specs.Command.{IsEntered, IsList, IsMeasure, IsOne, list, measure, operand_rule, rim, with_operand, workers_rule}
+use Rattle.rim_cli.specs.Command.{IsEntered, IsMeasure, IsOfLaunch, IsOne, measure, operand_rule, rim, with_launch, with_operand, workers_rule}
 use Rattle.rim_cli.proofs.Fitting.{none_of, settled_fits, walk_fits}
 use Rattle.rim_cli.proofs.Values.{IsSound, fits, first_given, first_passes, keeps}
 
@@ -107,25 +107,26 @@ measure_entered words passes = (refl, first_given measure_shape.rules manifest_b
     workers (Some text) is =
         accepts-Accepts false (parser.Signed (pos 1) (pos 64)) text (first_passes measure_shape.rules workers_built refl rows all text is)
 
--- `list` as it is built below `rim`
-abbrev list_shape : Shape
-list_shape = built_leaf (inherited (with_leaf_noted (marked_built rim.top)) list.top)
+-- a subcommand about one launch, as it is built below `rim`
+abbrev launch_shape : Text → Shape
+launch_shape verb = built_leaf (inherited (with_leaf_noted (marked_built rim.top)) (with_launch verb).top)
 
 abbrev launch_built : Rule
 launch_built = with_index 2 (filled (operand_rule (codes "launch")))
 
-list_entered : (words : List Text) → level_fault list_shape [] nothing_held words false [] ≡ []
-    → IsList (codes "list") (rows_after list_shape.rules [] words)
-list_entered words passes = (refl, first_given list_shape.rules manifest_built refl rows all given.0, first_given list_shape.rules launch_built refl rows all given.1)
+launch_entered : (verb : Text) (words : List Text) → level_fault (launch_shape verb) [] nothing_held words false [] ≡ []
+    → IsOfLaunch verb verb (rows_after (launch_shape verb).rules [] words)
+launch_entered verb words passes =
+    (refl, first_given (launch_shape verb).rules manifest_built refl rows all given.0, first_given (launch_shape verb).rules launch_built refl rows all given.1)
   where
-    sound : Each (IsSound list_shape.rules) list_shape.rules
+    sound : Each (IsSound (launch_shape verb).rules) (launch_shape verb).rules
     sound = (inl (record { set = refl; least = refl; own = refl }), (inl (record { set = refl; least = refl; own = refl }), (inr refl, tt)))
 
     rows : List Row
-    rows = rows_after list_shape.rules [] words
+    rows = rows_after (launch_shape verb).rules [] words
 
-    all : list_all (fits list_shape.rules) rows ≡ true
-    all = rows_fit list_shape words sound (refl, (refl, (refl, tt))) passes
+    all : list_all (fits (launch_shape verb).rules) rows ≡ true
+    all = rows_fit (launch_shape verb) words sound (refl, (refl, (refl, tt))) passes
 
     go : (manifest launch : Bool) → check_kinds false false (not manifest || (not launch || false)) ≡ [] → (manifest ≡ true) × (launch ≡ true)
     go true true e = (refl, refl)
@@ -133,7 +134,7 @@ list_entered words passes = (refl, first_given list_shape.rules manifest_built r
     go false launch e = cc
 
     given : (is_given (codes "manifest") rows ≡ true) × (is_given (codes "launch") rows ≡ true)
-    given = go (is_given (codes "manifest") rows) (is_given (codes "launch") rows) (checks_pass list_shape words sound (refl, (refl, (refl, tt))) passes)
+    given = go (is_given (codes "manifest") rows) (is_given (codes "launch") rows) (checks_pass (launch_shape verb) words sound (refl, (refl, (refl, tt))) passes)
 
 -- a subcommand with one operand, as it is built below `rim`
 abbrev one_shape : Text → Text → Shape
@@ -194,12 +195,15 @@ stopped_good (Some q) p is passes = found_good q.0 q.1 (built rim).subs p each i
     each = (
       (λ words fits. inl (measure_entered words fits)),
       (
-        (λ words fits. inr (inl (list_entered words fits))),
+        (λ words fits. inr (inl (launch_entered (codes "list") words fits))),
         (
           (λ words fits. inr (inr (inl (one_entered (codes "audit") (codes "manifest") words fits)))),
           (
-            (λ words fits. inr (inr (inr (inl (one_entered (codes "image") (codes "file") words fits))))),
-            ((λ words fits. inr (inr (inr (inr (one_entered (codes "fdt") (codes "file") words fits))))), tt),
+            (λ words fits. inr (inr (inr (inl (launch_entered (codes "dtb") words fits))))),
+            (
+              (λ words fits. inr (inr (inr (inr (inl (one_entered (codes "image") (codes "file") words fits)))))),
+              ((λ words fits. inr (inr (inr (inr (inr (one_entered (codes "fdt") (codes "file") words fits)))))), tt),
+            ),
           ),
         ),
       ),

@@ -15,7 +15,7 @@ use Rattle.rim_cli.specs.Done.{IsAnswer, IsMade, IsReport, path_of}
 use Rattle.rim_cli.specs.Examples.{plain}
 use Rattle.rim_cli.specs.Files.{AreRead, IfFile, Known}
 use Rattle.rim_cli.specs.declared.words.Request.{Request}
-use Rattle.rim_cli.specs.declared.words.Request.TheVariants.{Measure, List as Lists, Audit, Image, Fdt}
+use Rattle.rim_cli.specs.declared.words.Request.TheVariants.{Measure, List as Lists, Audit, Dtb, Image, Fdt}
 
 -- what is known where there is one manifest
 abbrev pub in_memory : List ℕ → List ℕ → Known
@@ -34,6 +34,7 @@ unfolding clap_on_literals
 asked_path (Measure path workers) asked = sym (same_Some _ _ asked.1)
 asked_path (Lists path launch) asked = absurd (other (codes "list") refl asked.0)
 asked_path (Audit path) asked = absurd (other (codes "audit") refl asked.0)
+asked_path (Dtb path launch) asked = absurd (other (codes "dtb") refl asked.0)
 asked_path (Image file) asked = absurd (other (codes "image") refl asked.0)
 asked_path (Fdt file) asked = absurd (other (codes "fdt") refl asked.0)
 
@@ -44,6 +45,7 @@ unfolding clap_on_literals
 asked_report held (Measure path workers) bytes text status asked answer = answer
 asked_report held (Lists path launch) bytes text status asked answer = absurd (other (codes "list") refl asked.0)
 asked_report held (Audit path) bytes text status asked answer = absurd (other (codes "audit") refl asked.0)
+asked_report held (Dtb path launch) bytes text status asked answer = absurd (other (codes "dtb") refl asked.0)
 asked_report held (Image file) bytes text status asked answer = absurd (other (codes "image") refl asked.0)
 asked_report held (Fdt file) bytes text status asked answer = absurd (other (codes "fdt") refl asked.0)
 

@@ -5,7 +5,7 @@ use Rattle.std.proofs.lemmas.List.{length-take, take_all}
 use Rattle.std.proofs.lemmas.Option.{same_Some}
 use Rattle.rim_cli.specs.Files.{AreRead, IfFile, IsFileFault, IsFirstFault, IsRead, Known, file_limit}
 use Rattle.rim_cli.specs.declared.fault.Fault.{Fault}
-use Rattle.rim_cli.specs.declared.fault.Fault.TheVariants.{Manifest, NoSuchLaunch, Start, Show, FileUnreadable, FileTooLarge, OutputFailed, NoMemory}
+use Rattle.rim_cli.specs.declared.fault.Fault.TheVariants.{Manifest, NoSuchLaunch, Start, Refused, NoDevicetree, Show, FileUnreadable, FileTooLarge, OutputIsTerminal, OutputFailed, NoMemory}
 
 -- fewer bytes than the limit allows are all bytes
 pub all_read : (o : Option (List ℕ)) (n : ℕ) (bytes : List ℕ) → IfSome (option_map (take n) o) (λ xs. bytes ≡ [] ++ xs)
@@ -36,7 +36,10 @@ fault_there known o NoMemory opened is = tt
 fault_there known o (Manifest fault) opened is = absurd is
 fault_there known o NoSuchLaunch opened is = absurd is
 fault_there known o (Start fault) opened is = absurd is
+fault_there known o (Refused fault) opened is = absurd is
+fault_there known o NoDevicetree opened is = absurd is
 fault_there known o (Show fault) opened is = absurd is
+fault_there known o OutputIsTerminal opened is = absurd is
 fault_there known o OutputFailed opened is = absurd is
 
 -- one more file is read, at the next path

@@ -1,12 +1,12 @@
 -- The release that a manifest describes, and the listing of one of its launches.
-use Rattle.std.proofs.Common.{◌≡◌, ℕ, Bool, ◌<◌, arith, inl, inr, List, Option, Some, None, length, slice_get, refl, ap, ◌∙◌, subst, sym}
+use Rattle.std.proofs.Common.{◌≡◌, ◌⊎◌, ℕ, Bool, ◌<◌, arith, inl, inr, List, Option, Some, None, length, slice_get, refl, ap, ◌∙◌, subst, sym}
 use Rattle.std.specs.Prelude.{Result, Ok, IfSome, IsOkAnd, is_err, option_and_then, position, if◌then◌else◌}
 use Rattle.std.proofs.lemmas.Option.{slice_get_cases}
 use Rattle.rim_manifest.specs.Manifest.{manifest_of, name_in}
 use Rattle.rim_manifest.specs.Launches.{NamedData, ReleaseData}
 use Rattle.rim_manifest.specs.declared.fault.ManifestFault.{ManifestFault}
 use Rattle.rim_release.specs.Listing.{listing_of, shown_of}
-use Rattle.rim_cli.specs.Done.{IsListing, launch_in}
+use Rattle.rim_cli.specs.Done.{OfLaunch}
 use Rattle.rim_cli.specs.Files.{AreRead, IfFile, Known}
 
 -- what holds of the release that was read holds of the one that the manifest describes
@@ -16,29 +16,39 @@ of_release None r Q read q = tt
 of_release (Some None) r Q read q = absurd read
 of_release (Some (Some bytes)) r Q read q = subst (λ (m : Result ReleaseData ManifestFault). IsOkAnd m Q) (sym read) q
 
-module _ (r : ReleaseData) (name : List ℕ) (number : ℕ) (named : position (name_in name) r.launches ≡ Some number) (low : number < length r.launches) where
-  -- the launch at its number
-  at_number : launch_in r name ≡ slice_get r.launches number
-  at_number = ap (option_and_then (slice_get r.launches)) named
+-- what holds of the launch at the number of a name holds of the launch of that name
+pub found_launch : (held : List ℕ → Known) (name : List ℕ) (r : ReleaseData) (number : ℕ) (files : List (List ℕ)) (Holds : NamedData → List (List ℕ) → Type 0)
+    → position (name_in name) r.launches ≡ Some number → number < length r.launches → AreRead held r.paths files
+    → IfSome (slice_get r.launches number) (λ l. Holds l files) → OfLaunch held r name Holds
+found_launch held name r number files Holds named low read own = go (slice_get r.launches number) refl own
+  where
+    go : (o : Option NamedData) → slice_get r.launches number ≡ o → IfSome o (λ l. Holds l files) → OfLaunch held r name Holds
+    go None is own = elim ((slice_get_cases r.launches number).1) [
+      | inl within ↦ let some = sym is ∙ within.2 in cc
+      | inr past ↦ absurd (omega (arith, low, past.0))
+    ]
+    go (Some l) is own = record {
+      files = files;
+      read = read;
+      launch = l;
+      named = ap (option_and_then (slice_get r.launches)) named ∙ is;
+      holds = own;
+    }
 
-  -- a text and whether it is a refusal, which are those of that launch
-  pub listing_is : (held : List ℕ → Known) (files : List (List ℕ)) (shown : List ℕ) (refused : Bool) (answer : ℕ) → AreRead held r.paths files
-      → IfSome (slice_get r.launches number) (λ l. shown ≡ shown_of files l)
-      → IfSome (slice_get r.launches number) (λ l. refused ≡ is_err (listing_of l.launch files))
-      → answer ≡ (if refused then 1 else 0) → IsListing held r name shown answer
-  listing_is held files shown refused answer read text own status = go (slice_get r.launches number) refl text own
-    where
-      go : (o : Option NamedData) → slice_get r.launches number ≡ o → IfSome o (λ l. shown ≡ shown_of files l)
-          → IfSome o (λ l. refused ≡ is_err (listing_of l.launch files)) → IsListing held r name shown answer
-      go None is text own = elim ((slice_get_cases r.launches number).1) [
-        | inl within ↦ let some = sym is ∙ within.2 in cc
-        | inr past ↦ absurd (omega (arith, low, past.0))
-      ]
-      go (Some l) is text own = record {
-        files = files;
-        read = read;
-        launch = l;
-        named = at_number ∙ is;
-        text = text;
-        status = status ∙ ap (λ (b : Bool). if b then 1 else 0) own;
-      }
+-- a text and a status, where the status says whether the text is a refusal
+pub listed : (o : Option NamedData) (files : List (List ℕ)) (text : List ℕ) (refused : Bool) (status : ℕ) → IfSome o (λ l. text ≡ shown_of files l)
+    → IfSome o (λ l. refused ≡ is_err (listing_of l.launch files)) → status ≡ (if refused then 1 else 0)
+    → IfSome o (λ l. (text ≡ shown_of files l) × (status ≡ (if is_err (listing_of l.launch files) then 1 else 0)))
+listed None files text refused status is own e = tt
+listed (Some l) files text refused status is own e = (is, e ∙ ap (λ (b : Bool). if b then 1 else 0) own)
+
+-- the same of bytes that are given out with this status
+pub given : (o : Option NamedData) (Own : NamedData → Type 0) (Status : Type 0) → IfSome o Own → Status → IfSome o (λ l. Own l × Status)
+given None Own Status is status = tt
+given (Some l) Own Status is status = (is, status)
+
+-- a fault that is want of memory, or that of the launch
+pub own_or : (o : Option NamedData) (Full : Type 0) (Own : NamedData → Type 0) → IfSome o (λ l. Full ⊎ Own l) → Full ⊎ IfSome o Own
+own_or None Full Own is = inr tt
+own_or (Some l) Full Own (inl full) = inl full
+own_or (Some l) Full Own (inr own) = inr own

@@ -3,7 +3,7 @@
 use Rattle.std.specs.Prelude.{◌≡◌, ◌≢◌, ◌≤◌, ◌⊎◌, ⊤, ℕ, Bool, true, false, not, pos, List, [], Option, Some, None, IfSome, codes, is_some}
 use Rattle.std.specs.List.{list_all}
 use Rattle.std.specs.Str.Parse.{digits_value, without_leading_plus}
-use Rattle.clap.specs.Words.{App, IsAmong, Kinds, Row, Rule, Text, fault_of, first_of, kind_of, new_app, new_rule, with_rule, with_subcommand}
+use Rattle.clap.specs.Words.{App, IsAmong, Kinds, Row, Rule, Text, fault_of, first_of, kind_of, new_app, new_rule, subcommand_of, with_rule, with_subcommand}
 use Rattle.clap.specs.Simple.{on_top}
 use Rattle.clap.specs.Values.{IsSignedIn}
 use Rattle.clap.specs.declared.builder.value_parser.ValueParser.TheVariants as parser
@@ -13,7 +13,7 @@ use Rattle.rim_release.specs.Report.{is_crew}
 use Rattle.rim_cli.specs.declared.words.CommandFault.{CommandFault}
 use Rattle.rim_cli.specs.declared.words.CommandFault.TheVariants.{Usage, NoMemory}
 use Rattle.rim_cli.specs.declared.words.Request.{Request}
-use Rattle.rim_cli.specs.declared.words.Request.TheVariants.{Measure, List as Lists, Audit, Image, Fdt}
+use Rattle.rim_cli.specs.declared.words.Request.TheVariants.{Measure, List as Lists, Audit, Dtb, Image, Fdt}
 
 -- an operand that has to be given, with a name that usage texts show
 abbrev pub operand_rule : Text → Rule
@@ -44,14 +44,20 @@ image = with_operand (codes "image") (codes "file")
 abbrev pub fdt : App
 fdt = with_operand (codes "fdt") (codes "file")
 
--- `list MANIFEST LAUNCH`
+-- a subcommand about one launch of a manifest: `list MANIFEST LAUNCH`, `dtb MANIFEST LAUNCH`
+abbrev pub with_launch : Text → App
+with_launch name = with_rule (with_operand name (codes "manifest")) (operand_rule (codes "launch"))
+
 abbrev pub list : App
-list = with_rule (with_operand (codes "list") (codes "manifest")) (operand_rule (codes "launch"))
+list = with_launch (codes "list")
+
+abbrev pub dtb : App
+dtb = with_launch (codes "dtb")
 
 -- the program: one of its subcommands has to be given, and it has a version
 abbrev pub rim : App
 rim = on_top (λ s. record s { has_version = true; subcommand_required = true; disable_help_subcommand = true })
-    (with_subcommand (with_subcommand (with_subcommand (with_subcommand (with_subcommand (new_app (codes "rim")) measure.top) list.top) audit.top) image.top) fdt.top)
+    (with_subcommand (with_subcommand (with_subcommand (with_subcommand (with_subcommand (with_subcommand (new_app (codes "rim")) measure.top) list.top) audit.top) dtb.top) image.top) fdt.top)
 
 -- the number of workers, 4 where none is given: in words that `clap` takes it is from 1 to 64
 abbrev pub CountsWorkers : Option Text → ℕ → Type 0
@@ -70,12 +76,25 @@ ReadsRow name rows (Measure manifest workers) = (name ≡ codes "measure")
 ReadsRow name rows (Lists manifest launch) = (name ≡ codes "list")
     × (first_of (codes "manifest") rows ≡ Some manifest.now) × (first_of (codes "launch") rows ≡ Some launch.now)
 ReadsRow name rows (Audit manifest) = (name ≡ codes "audit") × (first_of (codes "manifest") rows ≡ Some manifest.now)
+ReadsRow name rows (Dtb manifest launch) = (name ≡ codes "dtb")
+    × (first_of (codes "manifest") rows ≡ Some manifest.now) × (first_of (codes "launch") rows ≡ Some launch.now)
 ReadsRow name rows (Image file) = (name ≡ codes "image") × (first_of (codes "file") rows ≡ Some file.now)
 ReadsRow name rows (Fdt file) = (name ≡ codes "fdt") × (first_of (codes "file") rows ≡ Some file.now)
 
 abbrev pub ReadsRequest : Option (Text × List Row) → Request → Type 0
 ReadsRequest None request = ⊥
 ReadsRequest (Some p) request = ReadsRow p.0 p.1 request
+
+-- whether a request is for bytes that are no text
+abbrev pub is_for_bytes : Request → Bool
+is_for_bytes (Dtb manifest launch) = true
+is_for_bytes _ = false
+
+-- the words ask for bytes that are no text
+pub record AsksForBytes (words : List Text) : Type 0 where
+  pub request : Request
+  pub asked : ReadsRequest (subcommand_of rim words) request
+  pub bytes : is_for_bytes request ≡ true
 
 -- an operand of this name has a text
 abbrev pub HasOperand : Text → List Row → Type 0
@@ -86,9 +105,9 @@ abbrev pub IsMeasure : Text → List Row → Type 0
 IsMeasure name rows = (name ≡ codes "measure") × HasOperand (codes "manifest") rows
     × IfSome (first_of (codes "workers") rows) (λ text. IsSignedIn (pos 1) (pos 64) text)
 
--- the same of `list`
-abbrev pub IsList : Text → List Row → Type 0
-IsList name rows = (name ≡ codes "list") × HasOperand (codes "manifest") rows × HasOperand (codes "launch") rows
+-- the same of a subcommand about one launch
+abbrev pub IsOfLaunch : Text → Text → List Row → Type 0
+IsOfLaunch verb name rows = (name ≡ verb) × HasOperand (codes "manifest") rows × HasOperand (codes "launch") rows
 
 -- the same of a subcommand with one operand
 abbrev pub IsOne : Text → Text → Text → List Row → Type 0
@@ -96,8 +115,8 @@ IsOne verb id name rows = (name ≡ verb) × HasOperand id rows
 
 -- and of those of some subcommand: a further one is a further case
 abbrev pub IsEntered : Text → List Row → Type 0
-IsEntered name rows = IsMeasure name rows ⊎ (IsList name rows ⊎ (IsOne (codes "audit") (codes "manifest") name rows
-    ⊎ (IsOne (codes "image") (codes "file") name rows ⊎ IsOne (codes "fdt") (codes "file") name rows)))
+IsEntered name rows = IsMeasure name rows ⊎ (IsOfLaunch (codes "list") name rows ⊎ (IsOne (codes "audit") (codes "manifest") name rows
+    ⊎ (IsOfLaunch (codes "dtb") name rows ⊎ (IsOne (codes "image") (codes "file") name rows ⊎ IsOne (codes "fdt") (codes "file") name rows))))
 
 -- help and the version are asked for; each other kind of error is a mistake in the words
 abbrev pub is_asked : ErrorKind → Bool

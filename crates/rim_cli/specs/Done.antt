@@ -5,17 +5,19 @@ use Rattle.clap.specs.Words.{Text, subcommand_of}
 use Rattle.rim_manifest.specs.Manifest.{manifest_of, name_in}
 use Rattle.rim_manifest.specs.Launches.{NamedData, ReleaseData}
 use Rattle.rim_manifest.specs.declared.fault.ManifestFault.TheVariants as manifest
+use Rattle.rim_release.specs.Devicetree.{devicetree_of}
 use Rattle.rim_release.specs.Listing.{listing_of, shown_of}
 use Rattle.rim_release.specs.ShownDevicetree.{IsDevicetreeFault, ShowsDevicetree}
 use Rattle.rim_release.specs.Report.{audit_text_of, has_refused, measured_of}
 use Rattle.rim_release.specs.ShownImage.{image_answer_of}
+use Rattle.rim_release.specs.declared.audit_fault.AuditFault.TheVariants as audit
 use Rattle.rim_release.specs.declared.show.fault.ShowFault.TheVariants as show
 use Rattle.rim_release.specs.declared.fault.StartFault.{StartFault}
 use Rattle.rim_release.specs.declared.fault.StartFault.TheVariants as start
 use Rattle.rim_cli.specs.declared.words.Request.{Request}
-use Rattle.rim_cli.specs.declared.words.Request.TheVariants.{Measure, List as Lists, Audit, Image, Fdt}
+use Rattle.rim_cli.specs.declared.words.Request.TheVariants.{Measure, List as Lists, Audit, Dtb, Image, Fdt}
 use Rattle.rim_cli.specs.declared.fault.Fault.{Fault}
-use Rattle.rim_cli.specs.declared.fault.Fault.TheVariants.{Manifest, NoSuchLaunch, Start, Show}
+use Rattle.rim_cli.specs.declared.fault.Fault.TheVariants.{Manifest, NoSuchLaunch, Start, Refused, NoDevicetree, Show}
 use Rattle.rim_cli.specs.Command.{ReadsRequest, rim}
 use Rattle.rim_cli.specs.Files.{AreRead, IfFile, IsFileFault, IsFirstFault, Known}
 use Rattle.rim_cli.specs.Status.{status_of}
@@ -25,6 +27,7 @@ abbrev pub path_of : Request → List ℕ
 path_of (Measure path workers) = path.now
 path_of (Lists path launch) = path.now
 path_of (Audit path) = path.now
+path_of (Dtb path launch) = path.now
 path_of (Image file) = file.now
 path_of (Fdt file) = file.now
 
@@ -48,20 +51,28 @@ pub record IsAudit (held : List ℕ → Known) (r : ReleaseData) (shown : List �
 abbrev pub launch_in : ReleaseData → List ℕ → Option NamedData
 launch_in r name = option_and_then (slice_get r.launches) (position (name_in name) r.launches)
 
--- the listing of the launch of a name, or its line where it is refused, and then 1 is the status
-pub record IsListing (held : List ℕ → Known) (r : ReleaseData) (name shown : List ℕ) (answer : ℕ) : Type 0 where
+-- this holds of the launch of a name and of the release's files, where the files that it names are read
+pub record OfLaunch (held : List ℕ → Known) (r : ReleaseData) (name : List ℕ) (Holds : NamedData → List (List ℕ) → Type 0) : Type 0 where
   pub files : List (List ℕ)
   pub read : AreRead held r.paths files
   pub launch : NamedData
   pub named : launch_in r name ≡ Some launch
-  pub text : shown ≡ shown_of files launch
-  pub status : answer ≡ (if is_err (listing_of launch.launch files) then 1 else 0)
+  pub holds : Holds launch files
+
+-- the listing of the launch of a name, or its line where it is refused, and then 1 is the status
+abbrev pub IsListing : (List ℕ → Known) → ReleaseData → List ℕ → List ℕ → ℕ → Type 0
+IsListing held r name text status = OfLaunch held r name (λ l files. (text ≡ shown_of files l) × (status ≡ (if is_err (listing_of l.launch files) then 1 else 0)))
+
+-- the devicetree of the launch of a name, as it is placed
+abbrev pub IsDevicetree : (List ℕ → Known) → ReleaseData → List ℕ → List ℕ → ℕ → Type 0
+IsDevicetree held r name bytes status = OfLaunch held r name (λ l files. (devicetree_of l.launch files ≡ Ok (Some bytes)) × (status ≡ 0))
 
 -- the text that a request asks for and its status, where its file has these bytes
 abbrev pub IsAnswer : (List ℕ → Known) → Request → List ℕ → List ℕ → ℕ → Type 0
 IsAnswer held (Measure path workers) bytes text status = IsOkAnd (manifest_of bytes) (λ r. IsReport held r text status)
 IsAnswer held (Lists path launch) bytes text status = IsOkAnd (manifest_of bytes) (λ r. IsListing held r launch.now text status)
 IsAnswer held (Audit path) bytes text status = IsOkAnd (manifest_of bytes) (λ r. IsAudit held r text status)
+IsAnswer held (Dtb path launch) bytes text status = IsOkAnd (manifest_of bytes) (λ r. IsDevicetree held r launch.now text status)
 IsAnswer held (Image file) bytes text status = (image_answer_of bytes ≡ Ok text) × (status ≡ 0)
 IsAnswer held (Fdt file) bytes text status = ShowsDevicetree bytes text × (status ≡ 0)
 
@@ -86,6 +97,15 @@ RefusesReport held r fault = IsFirstFault held r.paths fault ⊎ IsStartFault he
 abbrev pub RefusesListing : (List ℕ → Known) → List ℕ → ReleaseData → Fault → Type 0
 RefusesListing held name r fault = ((fault ≡ NoSuchLaunch) × (launch_in r name ≡ None))
     ⊎ ((is_some (launch_in r name) ≡ true) × IsFirstFault held r.paths fault)
+
+-- why the launch of a name gives no devicetree: it has none, or is refused
+abbrev pub IsDtbFault : (List ℕ → Known) → List ℕ → ReleaseData → Fault → Type 0
+IsDtbFault held name r NoDevicetree = OfLaunch held r name (λ l files. devicetree_of l.launch files ≡ Ok None)
+IsDtbFault held name r (Refused fault) = (fault ≡ audit.NoMemory) ⊎ OfLaunch held r name (λ l files. devicetree_of l.launch files ≡ Err fault)
+IsDtbFault held name r _ = ⊥
+
+abbrev pub RefusesDtb : (List ℕ → Known) → List ℕ → ReleaseData → Fault → Type 0
+RefusesDtb held name r fault = RefusesListing held name r fault ⊎ IsDtbFault held name r fault
 
 abbrev pub RefusesAudit : (List ℕ → Known) → ReleaseData → Fault → Type 0
 RefusesAudit held r fault = IsFirstFault held r.paths fault
@@ -112,6 +132,7 @@ abbrev pub Refuses : (List ℕ → Known) → Request → Fault → Type 0
 Refuses held (Measure path workers) fault = RefusesManifest (RefusesReport held) (held path.now) fault
 Refuses held (Lists path launch) fault = RefusesManifest (RefusesListing held launch.now) (held path.now) fault
 Refuses held (Audit path) fault = RefusesManifest (RefusesAudit held) (held path.now) fault
+Refuses held (Dtb path launch) fault = RefusesManifest (RefusesDtb held launch.now) (held path.now) fault
 Refuses held (Image file) fault = RefusesImage (held file.now) fault
 Refuses held (Fdt file) fault = RefusesFdt (held file.now) fault
 

@@ -22,6 +22,9 @@ a_listing = codes "rim" ∷ codes "list" ∷ codes "manifest.toml" ∷ codes "sm
 abbrev pub an_audit : List Text
 an_audit = codes "rim" ∷ codes "audit" ∷ codes "manifest.toml" ∷ []
 
+abbrev pub a_placed_devicetree : List Text
+a_placed_devicetree = codes "rim" ∷ codes "dtb" ∷ codes "manifest.toml" ∷ codes "small" ∷ []
+
 -- a listing of no launch
 abbrev pub too_few : List Text
 too_few = codes "rim" ∷ codes "list" ∷ codes "manifest.toml" ∷ []
@@ -30,7 +33,7 @@ abbrev pub too_many : List Text
 too_many = codes "rim" ∷ codes "measure" ∷ codes "manifest.toml" ∷ codes "--workers" ∷ codes "65" ∷ []
 
 abbrev pub TakesExamples : Type 0
-TakesExamples = (takes rim plain ≡ true) × (takes rim with_seven ≡ true) × (takes rim a_listing ≡ true) × (takes rim an_audit ≡ true)
+TakesExamples = (takes rim plain ≡ true) × (takes rim with_seven ≡ true) × (takes rim a_listing ≡ true) × (takes rim an_audit ≡ true) × (takes rim a_placed_devicetree ≡ true)
     × (takes rim an_image ≡ true) × (takes rim a_devicetree ≡ true) × (takes rim too_many ≡ false) × (takes rim too_few ≡ false)
     × (takes rim (codes "rim" ∷ codes "help" ∷ []) ≡ false) × (takes rim (codes "rim" ∷ []) ≡ false)
 
@@ -46,6 +49,7 @@ abbrev pub ReadsExamples : Type 0
 ReadsExamples = (read_in plain ≡ Some (Some (codes "manifest.toml"), None))
     × (read_in with_seven ≡ Some (Some (codes "manifest.toml"), Some (codes "7")))
     × (launch_in a_listing ≡ Some (Some (codes "manifest.toml"), Some (codes "small")))
+    × (launch_in a_placed_devicetree ≡ Some (Some (codes "manifest.toml"), Some (codes "small")))
     × ((n : ℕ) → CountsWorkers None n → n ≡ 4) × ((n : ℕ) → CountsWorkers (Some (codes "7")) n → n ≡ 7)
 
 -- help and the version are asked for, and not a mistake; too many workers, a listing of no launch, another subcommand and none are

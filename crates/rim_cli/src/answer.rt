@@ -1,26 +1,26 @@
 //! The answer to a request, made whole.
-ghost use Rattle.std.specs.Prelude.{◌≡◌, ◌≤◌, IfErr, IfOk, IsOkAnd, Ok, if◌then◌else◌, length, map, true, vec_len};
+ghost use Rattle.std.specs.Prelude.{◌≡◌, ◌<◌, ◌≤◌, IfErr, IfOk, IsOkAnd, Ok, Some, if◌then◌else◌, length, map, position, true, vec_len};
 ghost use Rattle.refusal.specs.Answer.{Answers};
 ghost use Rattle.rim_release.specs.Report.{has_refused, is_crew, measured_of};
 ghost use Rattle.rim_cli.specs.Command.{HasCrew};
-ghost use Rattle.rim_manifest.specs.Manifest.{manifest_of};
+ghost use Rattle.rim_manifest.specs.Manifest.{manifest_of, name_in};
 ghost use Rattle.rim_release.specs.ShownDevicetree.{ShowsDevicetree};
 ghost use Rattle.rim_release.specs.ShownImage.{image_answer_of};
-ghost use Rattle.rim_cli.specs.Done.{IsAnswer, IsAudit, IsListing, IsManifestFault, IsReport, Refuses, RefusesAudit, RefusesFdt, RefusesImage, RefusesListing, RefusesManifest, RefusesReport, path_of};
-ghost use Rattle.rim_cli.specs.Files.{IfFile};
+ghost use Rattle.rim_cli.specs.Done.{IsAnswer, IsAudit, IsDevicetree, IsListing, IsManifestFault, IsReport, Refuses, RefusesAudit, RefusesDtb, RefusesFdt, RefusesImage, RefusesListing, RefusesManifest, RefusesReport, path_of};
+ghost use Rattle.rim_cli.specs.Files.{AreRead, IfFile};
 
 use crate::fault::Fault;
 use crate::file::{Opener, read_file, read_files};
 use crate::words::Request;
 use rim_release::{
     Files, Gate, Release, Report, StartFault, audit_launches, listing_or_refusal, measure_release,
-    read_manifest, show_fdt, show_image,
+    placed_devicetree, read_manifest, show_fdt, show_image,
 };
 use std::alloc::Global;
 use std::sync::Wait;
 use std::thread::Threads;
 
-/// The text that a request asks for, and the exit status that it ends with: 0, or 1 where the text says that some
+/// The text that a request asks for, or the bytes of a devicetree, and the exit status that it ends with: 0, or 1 where the text says that some
 /// launch is refused.
 #[derive(Drop)]
 pub struct Answer {
@@ -47,6 +47,7 @@ pub fn answer_to<R: Threads + Wait + Sync, G: Gate + Sync, O: Opener>(
         ),
         Request::List { manifest, launch } => list(alloc, opener, manifest, launch),
         Request::Audit { manifest } => audit(alloc, opener, manifest),
+        Request::Dtb { manifest, launch } => dtb(alloc, opener, manifest, launch),
         Request::Image { file } => image(alloc, opener, file),
         Request::Fdt { file } => fdt(alloc, opener, file),
     }
@@ -99,15 +100,59 @@ fn list<O: Opener>(alloc: Global, opener: &mut O, path: &str, launch: &str) -> R
     ensures refused { IfErr result (RefusesManifest (RefusesListing (O.held opener.old) launch.now) (O.held opener.old path.now)) }
     ensures status { IfOk result (λ a. a.status ≤ 1) }
 {
+    let found = read_launch(alloc, opener, path, launch)?;
+    match listing_or_refusal(alloc, &found.release, &found.files, found.number) {
+        Ok(report) => Ok(answer_of(report)),
+        Err(_) => Err(Fault::NoMemory),
+    }
+}
+
+/// The devicetree of a manifest's launch, as it is placed.
+fn dtb<O: Opener>(alloc: Global, opener: &mut O, path: &str, launch: &str) -> Result<Answer, Fault>
+    ensures answered { IfOk result (λ a. IfFile (O.held opener.old path.now) (λ bytes. IsOkAnd (manifest_of bytes) (λ r. IsDevicetree (O.held opener.old) r launch.now a.text.items a.status))) }
+    ensures refused { IfErr result (RefusesManifest (RefusesDtb (O.held opener.old) launch.now) (O.held opener.old path.now)) }
+    ensures status { IfOk result (λ a. a.status ≤ 1) }
+{
+    let found = read_launch(alloc, opener, path, launch)?;
+    match placed_devicetree(alloc, &found.release, &found.files, found.number) {
+        Ok(Some(text)) => Ok(Answer { text, status: 0 }),
+        Ok(None) => Err(Fault::NoDevicetree),
+        Err(fault) => Err(Fault::Refused(fault)),
+    }
+}
+
+/// A launch of a manifest: its release, its number there, and the files of the release.
+#[derive(Drop)]
+struct FoundLaunch {
+    release: Release,
+    number: usize,
+    files: Files,
+    ghost there: { number < length release.launches },
+    ghost each: { vec_len files ≡ length release.paths },
+}
+
+/// The launch of this name of the manifest at a path.
+fn read_launch<O: Opener>(
+    alloc: Global,
+    opener: &mut O,
+    path: &str,
+    launch: &str,
+) -> Result<FoundLaunch, Fault>
+    ensures release { IfOk result (λ f. IfFile (O.held opener.old path.now) (λ bytes. manifest_of bytes ≡ Ok f.release)) }
+    ensures number { IfOk result (λ f. position (name_in launch.now) f.release.launches ≡ Some f.number) }
+    ensures files { IfOk result (λ f. AreRead (O.held opener.old) f.release.paths (map (λ file. file.items) f.files.items)) }
+    ensures refused { IfErr result (RefusesManifest (RefusesListing (O.held opener.old) launch.now) (O.held opener.old path.now)) }
+{
     let release = read_release(alloc, opener, path)?;
     let Some(number) = release.launch_named(launch) else {
         return Err(Fault::NoSuchLaunch);
     };
     let files = read_files(alloc, opener, &release)?;
-    match listing_or_refusal(alloc, &release, &files, number) {
-        Ok(report) => Ok(answer_of(report)),
-        Err(_) => Err(Fault::NoMemory),
-    }
+    Ok(FoundLaunch {
+        release,
+        number,
+        files,
+    })
 }
 
 /// The audit of a manifest's launches.

@@ -2,7 +2,7 @@
 ghost use Rattle.std.specs.Prelude.{◌≡◌, IfOk, codes, true, false};
 ghost use Rattle.clap.specs.Words.{app_of, rule_of, with_subcommand};
 ghost use Rattle.clap.specs.declared.builder.command.Command.TheViews.{out-Command};
-ghost use Rattle.rim_cli.specs.Command.{audit, fdt, image, list, measure, operand_rule, rim, with_operand, workers_rule};
+ghost use Rattle.rim_cli.specs.Command.{audit, dtb, fdt, image, list, measure, operand_rule, rim, with_launch, with_operand, workers_rule};
 
 use clap::{Arg, Command};
 use std::alloc::{AllocError, Global};
@@ -33,13 +33,17 @@ a line for each command that a monitor takes to build the realm, and the line
 a monitor the commands of each launch, and prints the line `rim-audit 1` and a line for
 each launch, as the report has it.
 
+`rim dtb MANIFEST LAUNCH` writes the devicetree of a launch as it is placed: the bytes
+that are measured, to be given to a hypervisor. They are not written to a terminal.
+
 A fault is one line on standard error, `rim: ` and its name.
 
 Exit status:
   0  done
   1  done, and the launch or one of the launches is refused
   2  the command line is wrong
-  3  the manifest, a file or the output is at fault, or no launch has the name
+  3  the manifest, a file or the output is at fault, or no launch has the name, or
+     (`rim dtb`) the launch is refused or has no devicetree
   4  out of memory";
 
 /// The program's command line.
@@ -53,11 +57,12 @@ pub fn rim_command<'a>(alloc: Global) -> Result<Command<'a>, AllocError>
         .about("Computes Realm Initial Measurements of Arm CCA realms")
         .after_help(GUIDE);
     let rim = with_release_commands(alloc, rim)?;
+    let rim = with_subcommand(rim, dtb_command(alloc)?)?;
     let rim = with_showing_commands(alloc, rim)?;
     Ok(rim.subcommand_required(true).disable_help_subcommand(true))
 }
 
-/// A command with the subcommands that are about a manifest.
+/// A command with the subcommands that print texts about a manifest's launches.
 fn with_release_commands<'a>(alloc: Global, command: Command<'a>) -> Result<Command<'a>, AllocError>
     requires { (out-Command command).has_globals ≡ false }
     ensures shape { IfOk result (λ c. app_of c ≡ with_subcommand (with_subcommand (with_subcommand (app_of command.entry) measure.top) list.top) audit.top) }
@@ -121,10 +126,27 @@ fn list_command<'a>(alloc: Global) -> Result<Command<'a>, AllocError>
     ensures shape { IfOk result (λ c. app_of c ≡ list) }
     ensures globals { IfOk result (λ c. (out-Command c).has_globals ≡ false) }
 {
-    let list = Command::new(alloc, "list")
-        .arg(operand_arg(alloc, "manifest", "MANIFEST", MANIFEST))?
-        .arg(operand_arg(alloc, "launch", "LAUNCH", "The launch, by its name"))?;
+    let list = launch_command(alloc, "list")?;
     Ok(list.about("Prints the monitor's commands that build the realm of a launch"))
+}
+
+fn dtb_command<'a>(alloc: Global) -> Result<Command<'a>, AllocError>
+    ensures shape { IfOk result (λ c. app_of c ≡ dtb) }
+    ensures globals { IfOk result (λ c. (out-Command c).has_globals ≡ false) }
+{
+    let dtb = launch_command(alloc, "dtb")?;
+    Ok(dtb.about("Writes the devicetree of a launch, as it is placed and measured"))
+}
+
+/// A subcommand about one launch of a manifest.
+fn launch_command<'a>(alloc: Global, name: &'a str) -> Result<Command<'a>, AllocError>
+    ensures shape { IfOk result (λ c. app_of c ≡ with_launch name.entry.now) }
+    ensures globals { IfOk result (λ c. (out-Command c).has_globals ≡ false) }
+{
+    let launch = operand_arg(alloc, "launch", "LAUNCH", "The launch, by its name");
+    Command::new(alloc, name)
+        .arg(operand_arg(alloc, "manifest", "MANIFEST", MANIFEST))?
+        .arg(launch)
 }
 
 fn audit_command<'a>(alloc: Global) -> Result<Command<'a>, AllocError>

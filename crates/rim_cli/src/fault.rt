@@ -2,7 +2,7 @@
 ghost use Rattle.std.specs.Prelude.{◌≡◌, ◌≤◌};
 ghost use Rattle.rim_cli.specs.Status.{word_of, status_of};
 
-use rim_release::{ManifestFault, ShowFault, StartFault};
+use rim_release::{AuditFault, ManifestFault, ShowFault, StartFault};
 
 /// Why a run fails, apart from the words of its command line.
 #[derive(Clone, Copy, Debug, PartialEq, Eq)]
@@ -11,11 +11,17 @@ pub enum Fault {
     /// No launch of the manifest has the name.
     NoSuchLaunch,
     Start(StartFault),
+    /// The launch is refused, so it has no devicetree to give.
+    Refused(AuditFault),
+    /// The launch has no devicetree.
+    NoDevicetree,
     Show(ShowFault),
     /// A file cannot be opened or read.
     FileUnreadable,
     /// A file has more bytes than the limit.
     FileTooLarge,
+    /// The output is a terminal, and is to be bytes that are no text.
+    OutputIsTerminal,
     /// The output cannot be written.
     OutputFailed,
     NoMemory,
@@ -29,10 +35,13 @@ impl Fault {
         match self {
             Fault::Manifest(fault) => fault.kind(),
             Fault::Start(fault) => fault.kind(),
+            Fault::Refused(fault) => fault.kind(),
             Fault::Show(fault) => fault.kind(),
             Fault::NoSuchLaunch => "no-such-launch",
+            Fault::NoDevicetree => "no-devicetree",
             Fault::FileUnreadable => "file-unreadable",
             Fault::FileTooLarge => "file-too-large",
+            Fault::OutputIsTerminal => "output-is-terminal",
             Fault::OutputFailed => "output-failed",
             Fault::NoMemory => "no-memory",
         }
@@ -47,6 +56,7 @@ impl Fault {
             Fault::NoMemory
             | Fault::Manifest(ManifestFault::NoMemory)
             | Fault::Start(StartFault::NoMemory)
+            | Fault::Refused(AuditFault::NoMemory)
             | Fault::Show(ShowFault::NoMemory) => 4,
             _ => 3,
         }

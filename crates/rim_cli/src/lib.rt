@@ -13,6 +13,6 @@ mod words;
 
 pub use file::Opener;
 pub use in_memory::measure_in_memory;
-pub use program::{report_unreadable, run};
+pub use program::{asks_for_bytes, report_terminal, report_unreadable, run};
 pub use rim_release::{FreeGate, Gate, JobId};
 pub use words::{CommandFault, Request, command};

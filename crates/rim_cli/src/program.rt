@@ -2,7 +2,7 @@
 ghost use Rattle.std.specs.Prelude.{◌≡◌, ◌≢◌, ◌≤◌, ◌⊎◌, IfErr, OnOk, map, false, true};
 ghost use Rattle.std.specs.Io.KnownBytes.{Appends};
 ghost use Rattle.clap.specs.Words.{kind_of, takes};
-ghost use Rattle.rim_cli.specs.Command.{AsksForHelp, IsMistaken, is_asked, rim};
+ghost use Rattle.rim_cli.specs.Command.{AsksForBytes, AsksForHelp, IsMistaken, is_asked, rim};
 ghost use Rattle.rim_cli.specs.Done.{IsDone, IsRefused, IsUnwritten};
 ghost use Rattle.std.specs.IoError.{error_kind};
 ghost use Rattle.rim_cli.specs.Status.{status_of, unreadable_status};
@@ -10,7 +10,7 @@ ghost use Rattle.rim_cli.specs.Status.{status_of, unreadable_status};
 use crate::answer::answer_to;
 use crate::fault::Fault;
 use crate::file::Opener;
-use crate::words::{CommandFault, command};
+use crate::words::{CommandFault, Request, command};
 use rim_release::Gate;
 use std::alloc::Global;
 use std::convert::AsStr;
@@ -110,6 +110,20 @@ fn report_fault<E: Write>(fault: Fault, err: &mut E) -> u8
     let kind = fault.kind();
     let _ = writeln!(err, "rim: {kind}");
     fault.status()
+}
+
+/// Whether the words ask for bytes that are no text, which are not for a terminal: those of a devicetree.
+pub fn asks_for_bytes<S: AsStr>(alloc: Global, words: &[S]) -> bool
+    ensures { result ≡ true → AsksForBytes (map S.text words.now) }
+{
+    matches!(command(alloc, words), Ok(Request::Dtb { .. }))
+}
+
+/// Reports a terminal where the output is to be bytes that are no text, in one line, and answers the exit status, 3.
+pub fn report_terminal<E: Write>(err: &mut E) -> u8
+    ensures { result ≡ 3 }
+{
+    report_fault(Fault::OutputIsTerminal, err)
 }
 
 /// Reports a command line whose words cannot be read, in one line, and answers the exit status: 4 where

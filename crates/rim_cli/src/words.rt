@@ -21,6 +21,8 @@ pub enum Request<'a> {
     List { manifest: &'a str, launch: &'a str },
     /// The audit of the launches of a manifest, at a path.
     Audit { manifest: &'a str },
+    /// The devicetree of a launch of a manifest, at a path, by the launch's name: bytes, and no text.
+    Dtb { manifest: &'a str, launch: &'a str },
     /// The header of the arm64 Image at a path.
     Image { file: &'a str },
     /// The devicetree in the flattened file at a path.
@@ -82,6 +84,10 @@ fn request_of<'a>(name: &str, given: &ArgMatches<'a>) -> Request<'a>
         },
         "audit" => Request::Audit {
             manifest: operand(given, "manifest"),
+        },
+        "dtb" => Request::Dtb {
+            manifest: operand(given, "manifest"),
+            launch: operand(given, "launch"),
         },
         "image" => Request::Image {
             file: operand(given, "file"),

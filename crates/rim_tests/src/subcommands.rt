@@ -1,4 +1,4 @@
-//! Listings and audits, from the words of a command line to the text, with the texts of `audits` and others written out by
+//! Listings, audits and devicetrees, from the words of a command line to the text, with the texts of `audits` and others written out by
 //! hand; and the order of their faults.
 use super::fakes::{check, ran_on};
 
@@ -31,7 +31,7 @@ type Case = (
     &'static str,
 );
 
-const CASES: [Case; 11] = [
+const CASES: [Case; 16] = [
     (&["rim", "audit", "manifest.toml"], THREE, 1, AUDIT, ""),
     (
         &["rim", "list", "manifest.toml", "a"],
@@ -105,10 +105,46 @@ const CASES: [Case; 11] = [
         "",
         "rim: file-unreadable\n",
     ),
+    // a launch without a devicetree, one that is refused, and the faults before them
+    (
+        &["rim", "dtb", "manifest.toml", "a"],
+        THREE,
+        3,
+        "",
+        "rim: no-devicetree\n",
+    ),
+    (
+        &["rim", "dtb", "manifest.toml", "b"],
+        THREE,
+        3,
+        "",
+        "rim: pool-end\n",
+    ),
+    (
+        &["rim", "dtb", "manifest.toml", "c"],
+        NO_FILE,
+        3,
+        "",
+        "rim: no-such-launch\n",
+    ),
+    (
+        &["rim", "dtb", "manifest.toml", "a"],
+        b"rim_manifest = 3",
+        3,
+        "",
+        "rim: version\n",
+    ),
+    (
+        &["rim", "dtb", "manifest.toml", "a"],
+        NO_FILE,
+        3,
+        "",
+        "rim: file-unreadable\n",
+    ),
 ];
 
 #[test]
-fn listings_and_audits(rt: HostRuntime) {
+fn listings_audits_and_devicetrees(rt: HostRuntime) {
     for (words, manifest, status, out, err) in CASES {
         let ran = ran_on(&rt, words, manifest);
         check(&rt, &ran, status, out.as_bytes(), err.as_bytes());

@@ -1,5 +1,6 @@
 //! What command lines ask for.
 use super::fakes::{SMALLEST, SMALLEST_REPORT, begins, check, ran_on};
+use rim_cli::{asks_for_bytes, report_terminal};
 
 #[test]
 fn smallest_manifest(rt: HostRuntime) {
@@ -49,7 +50,7 @@ fn numbers_of_workers(rt: HostRuntime) {
 }
 
 /// Words that are not taken, and how what is said of them begins.
-const USAGES: [(&[&str], &str); 10] = [
+const USAGES: [(&[&str], &str); 11] = [
     (&["rim", "help"], "error: unrecognized subcommand"),
     (&["rim", "print"], "error: unrecognized subcommand"),
     (&["rim", "list"], "error: the following required arguments"),
@@ -60,6 +61,10 @@ const USAGES: [(&[&str], &str); 10] = [
     (
         &["rim", "list", "manifest.toml", "small", "small"],
         "error: unexpected argument",
+    ),
+    (
+        &["rim", "dtb", "manifest.toml"],
+        "error: the following required arguments",
     ),
     (
         &["rim", "audit", "manifest.toml", "small"],
@@ -85,13 +90,14 @@ fn usage(rt: HostRuntime) {
 }
 
 /// Words, and how the text that they ask for begins.
-const TEXTS: [(&[&str], &str); 6] = [
+const TEXTS: [(&[&str], &str); 7] = [
     (&["rim", "--help"], "Computes Realm Initial Measurements"),
     (&["rim", "-h"], "Computes Realm Initial Measurements"),
     (&["rim", "--version"], "rim 0.1.0\n"),
     (&["rim", "measure", "--help"], "Prints the measurement"),
     (&["rim", "list", "--help"], "Prints the monitor's commands"),
     (&["rim", "audit", "--help"], "Prints the measurement"),
+    (&["rim", "dtb", "--help"], "Writes the devicetree"),
 ];
 
 #[test]
@@ -102,4 +108,26 @@ fn help_and_version(rt: HostRuntime) {
         assert!(rt; ran.err.is_empty(), "{words:?}");
         assert!(rt; begins(&ran.out, start), "{words:?}");
     }
+}
+
+/// Words, and whether they ask for bytes that are no text.
+const BYTES: [(&[&str], bool); 4] = [
+    (&["rim", "dtb", "manifest.toml", "small"], true),
+    (&["rim", "dtb", "--help"], false),
+    (&["rim", "list", "manifest.toml", "small"], false),
+    (&["rim", "fdt", "dtb"], false),
+];
+
+#[test]
+fn words_that_ask_for_bytes(rt: HostRuntime) {
+    for (words, is_asked) in &BYTES {
+        assert_eq!(rt; asks_for_bytes(rt.alloc(), words), *is_asked, "{words:?}");
+    }
+}
+
+#[test]
+fn a_terminal_is_reported(rt: HostRuntime) {
+    let mut err = Vec::new(rt.alloc());
+    assert_eq!(rt; report_terminal(&mut err), 3);
+    assert_eq!(rt; err.as_slice(), b"rim: output-is-terminal\n".as_slice());
 }

@@ -18,6 +18,12 @@ returns-in-Audit-clause-answered g c = rw c.in-Audit.is c.audit.ensures.answered
 pub returns-in-Audit-clause-refused : goal.returns-in-Audit-clause-refused
 returns-in-Audit-clause-refused g c = rw c.in-Audit.is c.audit.ensures.refused
 
+pub returns-in-Dtb-clause-answered : goal.returns-in-Dtb-clause-answered
+returns-in-Dtb-clause-answered g c = rw c.in-Dtb.is c.dtb.ensures.answered
+
+pub returns-in-Dtb-clause-refused : goal.returns-in-Dtb-clause-refused
+returns-in-Dtb-clause-refused g c = rw c.in-Dtb.is c.dtb.ensures.refused
+
 pub returns-in-Image-clause-answered : goal.returns-in-Image-clause-answered
 returns-in-Image-clause-answered g c = rw c.in-Image.is c.image.ensures.answered
 
