@@ -45,7 +45,7 @@ use Rattle.rim_chain.specs.Rows.{IsFull, IsRowOf, has_all, value_in}
 use Rattle.rim_chain.proofs.Own.{chain-held, row-own}
 use Rattle.rim_release.specs.Accepted.{accepted_of, commands_for, layout_fault, list_fault, rim_after, rim_for}
 use Rattle.rim_release.specs.Pages.{keys_at, launch_keys, page_keys, release_pages, source_bytes}
-use Rattle.rim_release.specs.Report.{line_of, line_with, lines_of, measured_of, report_of, report_with}
+use Rattle.rim_release.specs.Report.{lines_of, measured_of, outcomes_for, report_of, report_with, seen}
 use Rattle.rim_release.specs.Plans.{ArePlans, BeginsWith, places_of}
 use Rattle.rim_release.specs.inside.Chains.{outcomes_of}
 use Rattle.rim_release.specs.inside.Lines.{lines_with}
@@ -53,6 +53,7 @@ use Rattle.rim_release.specs.inside.Sources.{pages_of}
 use Rattle.rim_release.specs.declared.audit_fault.AuditFault.{AuditFault}
 use Rattle.rim_release.specs.declared.fault.StartFault.TheVariants.{TooManyPages}
 use Rattle.rim_release.proofs.Accepting.{IsAccepted, accepted-is}
+use Rattle.rim_release.proofs.Lines.{own-lines}
 use Rattle.rim_release.proofs.PageKeys.{each-measured, files-there}
 
 -- ---- the pages of a table
@@ -275,34 +276,34 @@ module _ (files : List (List ℕ)) (r : ReleaseData) (t : TableView)
   unfolding OfEach
   all-have = all-plans files r.launches (λ v. has_all t (keys_of v.links) ≡ true) plan-has
 
-  lines-are : (ls : List NamedData) (plans : List PlanView) (rims : List Measurement) → Later r.launches ls → ArePlans files ls plans → map (λ m. m.bytes) rims ≡ map (value_in t) plans
-      → lines_with ls (outcomes_of (places_of files ls) rims) ≡ lines_of files ls
+  outcomes-are : (ls : List NamedData) (plans : List PlanView) (rims : List Measurement) → Later r.launches ls → ArePlans files ls plans → map (λ m. m.bytes) rims ≡ map (value_in t) plans
+      → map seen (outcomes_of (places_of files ls) rims) ≡ outcomes_for files ls
   unfolding Later
-  lines-are [] plans rims later are values = refl
-  lines-are (l ∷ ls) plans rims later are values =
-      by_place (accepted_of l.launch files) refl plans are rims values (λ vs ms others same. lines-are ls vs ms (later-next r.launches l ls later) others same)
+  outcomes-are [] plans rims later are values = refl
+  outcomes-are (l ∷ ls) plans rims later are values =
+      by_place (accepted_of l.launch files) refl plans are rims values (λ vs ms others same. outcomes-are ls vs ms (later-next r.launches l ls later) others same)
     where
       by_place : (place : Result PlacedData AuditFault) → accepted_of l.launch files ≡ place → (vs : List PlanView) → BeginsWith l.launch place (ArePlans files ls) vs
           → (ms : List Measurement) → map (λ m. m.bytes) ms ≡ map (value_in t) vs
-          → ((us : List PlanView) (ns : List Measurement) → ArePlans files ls us → map (λ m. m.bytes) ns ≡ map (value_in t) us → lines_with ls (outcomes_of (places_of files ls) ns) ≡ lines_of files ls)
-          → lines_with (l ∷ ls) (outcomes_of (place ∷ places_of files ls) ms) ≡ lines_of files (l ∷ ls)
+          → ((us : List PlanView) (ns : List Measurement) → ArePlans files ls us → map (λ m. m.bytes) ns ≡ map (value_in t) us → map seen (outcomes_of (places_of files ls) ns) ≡ outcomes_for files ls)
+          → map seen (outcomes_of (place ∷ places_of files ls) ms) ≡ outcomes_for files (l ∷ ls)
       by_place (Err fault) is vs begins ms same rest =
-          ap (λ (o : Result (List ℕ) AuditFault). line_with l o ++ lines_with ls (outcomes_of (places_of files ls) ms)) (sym (refused-rim l.launch files fault is))
-          ∙ ap (λ (text : List ℕ). line_of files l ++ text) (rest vs ms begins same)
+          ap (λ (o : Result (List ℕ) AuditFault). o ∷ map seen (outcomes_of (places_of files ls) ms)) (sym (refused-rim l.launch files fault is))
+          ∙ ap (λ (os : List (Result (List ℕ) AuditFault)). rim_for l.launch files ∷ os) (rest vs ms begins same)
       by_place (Ok p) is [] begins ms same rest = absurd begins
       by_place (Ok p) is (v ∷ vs) begins [] same rest = absurd (cc)
       by_place (Ok p) is (v ∷ vs) begins (m ∷ ms) same rest =
           let here : m.bytes ≡ value_in t v = cc in
           let others : map (λ n. n.bytes) ms ≡ map (value_in t) vs = cc in
           let found = later 0 l refl in
-          ap (λ (o : Result (List ℕ) AuditFault). line_with l o ++ lines_with ls (outcomes_of (places_of files ls) ms))
+          ap (λ (o : Result (List ℕ) AuditFault). o ∷ map seen (outcomes_of (places_of files ls) ms))
           (ap (λ (rim : List ℕ). Ok rim) here ∙ sym (plan-rim found.0 l p v found.1 is begins.0))
-          ∙ ap (λ (text : List ℕ). line_of files l ++ text) (rest vs ms begins.1 others)
+          ∙ ap (λ (os : List (Result (List ℕ) AuditFault)). rim_for l.launch files ∷ os) (rest vs ms begins.1 others)
 
-  pub all-lines : (plans : List PlanView) (rims : List Measurement) → ArePlans files r.launches plans → map (λ m. m.bytes) rims ≡ map (value_in t) plans
-      → lines_with r.launches (outcomes_of (places_of files r.launches) rims) ≡ lines_of files r.launches
+  pub all-outcomes : (plans : List PlanView) (rims : List Measurement) → ArePlans files r.launches plans → map (λ m. m.bytes) rims ≡ map (value_in t) plans
+      → map seen (outcomes_of (places_of files r.launches) rims) ≡ outcomes_for files r.launches
   unfolding Later
-  all-lines plans rims are values = lines-are r.launches plans rims (λ i l at. (i, at)) are values
+  all-outcomes plans rims are values = outcomes-are r.launches plans rims (λ i l at. (i, at)) are values
 
 -- ---- the whole report
 
@@ -328,12 +329,15 @@ rising-pages files ls pages found = subst (λ (ps : List PageView). IsRising (ta
 pub found-keys : (files : List (List ℕ)) (ls : List NamedData) (pages : List PageView) → pages_of files ls ≡ Ok pages → table.keys_of pages ≡ page_keys files ls
 found-keys files ls pages found = ap table.keys_of (found-pages files ls pages found).0 ∙ named-keys (source_bytes files (places_of files ls)) (page_keys files ls)
 
--- the report of a release, from the values of its plans with a table of its pages
-pub report-is : (files : List (List ℕ)) (r : ReleaseData) (t : TableView) (pages : List PageView) (plans : List PlanView) (rims : List Measurement) → AreNumbered r → length files ≡ length r.paths
-    → pages_of files r.launches ≡ Ok pages → ArePlans files r.launches plans → IsTable t → t.pages ≡ pages → IsFull t → map (λ m. m.bytes) rims ≡ map (value_in t) plans
-    → measured_of files r.launches ≡ Ok (report_with (lines_with r.launches (outcomes_of (places_of files r.launches) rims)) (length pages))
-report-is files r t pages plans rims numbered size found are own same full values =
-    let is = found-pages files r.launches pages found in
-    let lines = all-lines files r t numbered size own (same ∙ is.0) full plans rims are values in
-    let count : length pages ≡ length (page_keys files r.launches) = sym (length-map pages (λ p. p.key)) ∙ ap length (found-keys files r.launches pages found) in
-    is.1 ∙ ap (λ (text : List ℕ). Ok text) (sym (ap (λ (text : List ℕ). report_with text (length pages)) lines ∙ ap (report_with (lines_of files r.launches)) count))
+-- what came of the launches of a release, and its report, from the values of its plans with a table of its pages
+module _ (files : List (List ℕ)) (r : ReleaseData) (t : TableView) (pages : List PageView) (plans : List PlanView) (rims : List Measurement) (numbered : AreNumbered r) (size : length files ≡ length r.paths)
+    (found : pages_of files r.launches ≡ Ok pages) (are : ArePlans files r.launches plans) (own : IsTable t) (same : t.pages ≡ pages) (full : IsFull t) (values : map (λ m. m.bytes) rims ≡ map (value_in t) plans) where
+  pub outcomes-is : map seen (outcomes_of (places_of files r.launches) rims) ≡ outcomes_for files r.launches
+  outcomes-is = all-outcomes files r t numbered size own (same ∙ (found-pages files r.launches pages found).0) full plans rims are values
+
+  pub report-is : measured_of files r.launches ≡ Ok (report_with (lines_with r.launches (outcomes_of (places_of files r.launches) rims)) (length pages))
+  report-is =
+      let lines = own-lines files r.launches (outcomes_of (places_of files r.launches) rims) outcomes-is in
+      let count : length pages ≡ length (page_keys files r.launches) = sym (length-map pages (λ p. p.key)) ∙ ap length (found-keys files r.launches pages found) in
+      (found-pages files r.launches pages found).1
+      ∙ ap (λ (text : List ℕ). Ok text) (sym (ap (λ (text : List ℕ). report_with text (length pages)) lines ∙ ap (report_with (lines_of files r.launches)) count))

@@ -9,8 +9,8 @@ use Rattle.std.proofs.Math.Seq.{take-suc}
 use Rattle.rim_desc.specs.declared.measurement.Measurement.{Measurement}
 use Rattle.rim_manifest.specs.Launches.{NamedData}
 use Rattle.rim_release.specs.Accepted.{rim_for}
-use Rattle.rim_release.specs.Report.{line_of, line_with, lines_of}
-use Rattle.rim_release.specs.inside.Lines.{lines_with, seen}
+use Rattle.rim_release.specs.Report.{line_of, line_with, lines_of, seen}
+use Rattle.rim_release.specs.inside.Lines.{lines_with}
 use Rattle.rim_release.specs.declared.audit_fault.AuditFault.{AuditFault}
 
 -- after the last launch all lines were added

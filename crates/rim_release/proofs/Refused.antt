@@ -11,8 +11,7 @@ use Rattle.rmi_list.specs.Measured.{contents}
 use Rattle.rim_manifest.specs.Launches.{NamedData}
 use Rattle.rim_manifest.proofs.Notes.{list_any_map}
 use Rattle.rim_release.specs.Accepted.{accepted_of, commands_for, entries_of, placed_of, rim_after, rim_for}
-use Rattle.rim_release.specs.Report.{has_refused}
-use Rattle.rim_release.specs.inside.Lines.{seen}
+use Rattle.rim_release.specs.Report.{has_refused, seen}
 use Rattle.rim_release.specs.declared.audit_fault.AuditFault.{AuditFault}
 
 -- a launch has no measurement just where it is not accepted

@@ -4,6 +4,7 @@ pub mod Accepted
 pub mod Plans
 pub mod Pages
 pub mod Report
+pub mod Json
 pub mod Listing
 pub mod Devicetree
 pub mod Headline

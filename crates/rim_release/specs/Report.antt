@@ -1,9 +1,11 @@
 -- The report of a release, and that of its audit. This project's choice.
-use Rattle.std.specs.Prelude.{ℕ, Bool, ◌&&◌, is_err, List, ◌++◌, length, nat_le, nat_lt, take, codes, Result, Ok, Err, if◌then◌else◌}
+use Rattle.std.specs.Prelude.{ℕ, Bool, ◌&&◌, is_err, List, ◌++◌, length, map, nat_le, nat_lt, take, codes, Result, Ok, Err, if◌then◌else◌}
 use Rattle.std.specs.Fmt.{decimal}
 use Rattle.std.specs.List.{flat_map, list_any}
+use Rattle.std.specs.Result.{result_map_both}
 use Rattle.hex.specs.Hex.{encode_lower}
 use Rattle.rim_desc.specs.declared.measurement.Algo.{Algo}
+use Rattle.rim_desc.specs.declared.measurement.Measurement.{Measurement}
 use Rattle.rim_desc.specs.declared.measurement.Algo.TheVariants.{Sha256, Sha512}
 use Rattle.rim_manifest.specs.Launches.{NamedData}
 use Rattle.rim_release.specs.Accepted.{accepted_of, rim_for}
@@ -26,6 +28,14 @@ digest_bytes Sha512 rim = rim
 -- a measurement: its algorithm, and two lower case hexadecimal digits for each byte of the digest
 abbrev pub rim_text : Algo → List ℕ → List ℕ
 rim_text algo rim = algo_word algo ++ encode_lower (digest_bytes algo rim)
+
+-- what came of a launch, with the bytes of its measurement
+abbrev pub seen : Result Measurement AuditFault → Result (List ℕ) AuditFault
+seen outcome = result_map_both (λ m. m.bytes) (λ fault. fault) outcome
+
+-- what came of each launch, where a release has these files
+abbrev pub outcomes_for : List (List ℕ) → List NamedData → List (Result (List ℕ) AuditFault)
+outcomes_for files ls = map (λ l. rim_for l.launch files) ls
 
 -- what is printed of a launch after its name: its Realm Initial Measurement, or why it is refused
 abbrev pub outcome_text : Algo → Result (List ℕ) AuditFault → List ℕ
@@ -51,9 +61,13 @@ report_with lines count = ((codes "rim-report 1\n" ++ lines) ++ codes "pages ") 
 abbrev pub report_of : List (List ℕ) → List NamedData → List ℕ
 report_of files ls = report_with (lines_of files ls) (length (page_keys files ls))
 
--- the report, unless the launches have too many different measured pages
+-- a text about launches, unless these have too many different measured pages
+abbrev pub unless_too_many : List (List ℕ) → List NamedData → List ℕ → Result (List ℕ) StartFault
+unless_too_many files ls text = if nat_lt page_limit (length (page_keys files ls)) then Err TooManyPages else Ok text
+
+-- the report, unless there are too many
 abbrev pub measured_of : List (List ℕ) → List NamedData → Result (List ℕ) StartFault
-measured_of files ls = if nat_lt page_limit (length (page_keys files ls)) then Err TooManyPages else Ok (report_of files ls)
+measured_of files ls = unless_too_many files ls (report_of files ls)
 
 -- whether a run may have this many workers
 abbrev pub is_crew : ℕ → Bool

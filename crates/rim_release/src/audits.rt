@@ -5,9 +5,8 @@ ghost use Rattle.refusal.specs.Answer.{Answers};
 ghost use Rattle.rim_launch.specs.LaunchData.{has_files};
 ghost use Rattle.ipa_layout.specs.inside.LayoutViews.{contents};
 ghost use Rattle.rim_release.specs.Accepted.{rim_after, rim_for};
-ghost use Rattle.rim_release.specs.Report.{audit_text_of, has_refused};
+ghost use Rattle.rim_release.specs.Report.{audit_text_of, has_refused, seen};
 ghost use Rattle.rim_release.specs.inside.Commands.{commands_in};
-ghost use Rattle.rim_release.specs.inside.Lines.{seen};
 
 use crate::audit_fault::AuditFault;
 use crate::commands::{LaunchCommands, lay_out};

@@ -9,8 +9,9 @@ ghost use Rattle.page_jobs.specs.Page.{page_view};
 ghost use Rattle.page_jobs.specs.Table.{keys_of as page_keys_of};
 ghost use Rattle.rim_chain.specs.Links.{keys_of};
 ghost use Rattle.rim_release.specs.Pages.{page_keys};
-ghost use Rattle.rim_release.specs.Report.{has_refused, is_crew, started_of};
+ghost use Rattle.rim_release.specs.Report.{has_refused, is_crew, outcomes_for, seen, started_of};
 
+use crate::audit_fault::AuditFault;
 use crate::fault::StartFault;
 use crate::measure::{Files, has_refused};
 use crate::pages::pages;
@@ -34,6 +35,8 @@ use std::thread::Threads;
 pub struct Outcome {
     /// The report.
     pub report: Vec<u8>,
+    /// What came of each launch, in the manifest's order.
+    pub launches: Vec<Result<Measurement, AuditFault>>,
     /// Whether some launch in it is refused.
     pub has_refused: bool,
     /// How many different pages were hashed.
@@ -64,6 +67,7 @@ pub fn measure_release<G: Gate + Sync, R: Threads + Wait + Sync>(
 ) -> Result<Outcome, StartFault>
     requires { vec_len files.now ≡ length release.now.paths }
     ensures report { Answers StartFault.NoMemory (λ o. o.report.items) result (started_of workers (contents files.now.items) release.now.launches) }
+    ensures launches { IfOk result (λ o. map seen o.launches.items ≡ outcomes_for (contents files.now.items) release.now.launches) }
     ensures workers { is_crew workers ≡ false → result ≡ Err StartFault.Workers }
     ensures refused { IfOk result (λ o. o.has_refused ≡ has_refused (contents files.now.items) release.now.launches) }
     ensures pages { IfOk result (λ o. o.pages ≡ length (page_keys (contents files.now.items) release.now.launches)) }
@@ -88,8 +92,10 @@ pub fn measure_release<G: Gate + Sync, R: Threads + Wait + Sync>(
         workers,
         &mut rims,
     )?;
+    let filled = sheet.fill(launches, &rims, pages.len());
     Ok(Outcome {
-        report: sheet.fill(launches, &rims, pages.len()),
+        report: filled.text,
+        launches: filled.outcomes,
         has_refused: has_refused(&prepared.places),
         pages: pages.len() as u64,
         shares: counted.shares,

@@ -1,7 +1,7 @@
 //! The report of what came of each launch of a release.
 ghost use Rattle.std.specs.Prelude.{◌≡◌, ◌≤◌, ◌++◌, IfOk, OnErr, OnOk, length, vec_capacity};
-ghost use Rattle.rim_release.specs.Report.{algo_word, digest_bytes, outcome_text, report_with, rim_text};
-ghost use Rattle.rim_release.specs.inside.Lines.{HasNoRoom, line_with_outcome, lines_with, seen};
+ghost use Rattle.rim_release.specs.Report.{algo_word, digest_bytes, outcome_text, report_with, rim_text, seen};
+ghost use Rattle.rim_release.specs.inside.Lines.{HasNoRoom, line_with_outcome, lines_with};
 
 use crate::audit_fault::AuditFault;
 use itoa::Buffer;
@@ -124,7 +124,7 @@ fn algo_word(algo: Algo) -> &'static [u8]
 }
 
 /// The bytes of a measurement that are a digest of its algorithm.
-fn digest(algo: Algo, rim: &Measurement) -> &[u8]
+pub(crate) fn digest(algo: Algo, rim: &Measurement) -> &[u8]
     ensures value { result.now ≡ digest_bytes algo rim.now.bytes }
     ensures size { length result.now ≤ 64 }
 {

@@ -21,6 +21,13 @@ pub struct Sheet {
     ghost empty: { text.items ≡ [] },
 }
 
+/// What came of each launch, and the report.
+#[derive(Drop)]
+pub struct Filled {
+    pub outcomes: Vec<Result<Measurement, AuditFault>>,
+    pub text: Vec<u8>,
+}
+
 /// This many measurements that are not known yet.
 pub fn unknown_rims(alloc: Global, count: usize) -> Result<Vec<Measurement>, NoMemory>
     ensures { IfOk result (λ rims. rims.items ≡ replicate count unknown_rim) }
@@ -47,10 +54,11 @@ impl Sheet {
         Ok(Sheet { outcomes, text })
     }
 
-    /// The report with these measurements. It takes no memory.
-    pub fn fill(self, launches: &[NamedLaunch], rims: &[Measurement], count: usize) -> Vec<u8>
+    /// The report with these measurements, and what came of each launch. It takes no memory.
+    pub fn fill(self, launches: &[NamedLaunch], rims: &[Measurement], count: usize) -> Filled
         requires { length (report_with (lines_with launches.now (with_rims self.outcomes.items rims.now)) count) ≤ vec_capacity self.text }
-        ensures { result.items ≡ report_with (lines_with launches.now (with_rims self.outcomes.items rims.now)) count }
+        ensures text { result.text.items ≡ report_with (lines_with launches.now (with_rims self.outcomes.items rims.now)) count }
+        ensures outcomes { result.outcomes.items ≡ with_rims self.outcomes.items rims.now }
     {
         let Sheet {
             mut outcomes,
@@ -60,6 +68,6 @@ impl Sheet {
         let Ok(()) = push_report(&mut text, launches, &outcomes, count) else {
             unreachable!()
         };
-        text
+        Filled { outcomes, text }
     }
 }

@@ -1,15 +1,10 @@
 -- The lines of launches, of which this came. This project's choice.
 use Rattle.std.specs.Prelude.{ℕ, ◌+◌, ◌<◌, List, [], ◌∷◌, ◌++◌, Result, length, vec_capacity, vec_len}
 use Rattle.std.specs.Global.{Vec}
-use Rattle.std.specs.Result.{result_map_both}
 use Rattle.rim_desc.specs.declared.measurement.Measurement.{Measurement}
 use Rattle.rim_manifest.specs.Launches.{NamedData}
-use Rattle.rim_release.specs.Report.{line_with}
+use Rattle.rim_release.specs.Report.{line_with, seen}
 use Rattle.rim_release.specs.declared.audit_fault.AuditFault.{AuditFault}
-
--- the bytes of a measurement
-abbrev pub seen : Result Measurement AuditFault → Result (List ℕ) AuditFault
-seen outcome = result_map_both (λ m. m.bytes) (λ fault. fault) outcome
 
 abbrev pub line_with_outcome : NamedData → Result Measurement AuditFault → List ℕ
 line_with_outcome l outcome = line_with l (seen outcome)

@@ -2,8 +2,8 @@ use Rattle.std.proofs.Common.{◌≡◌, ◌∙◌, ◌++◌, ℕ, List, Vec, Gl
 use Rattle.ipa_layout.specs.inside.LayoutViews.{contents}
 use Rattle.rim_manifest.specs.Launches.{NamedData}
 use Rattle.rim_release.specs.Accepted.{rim_for}
-use Rattle.rim_release.specs.Report.{lines_of}
-use Rattle.rim_release.specs.inside.Lines.{lines_with, seen}
+use Rattle.rim_release.specs.Report.{lines_of, seen}
+use Rattle.rim_release.specs.inside.Lines.{lines_with}
 use Rattle.std.specs.Prelude.{is_err}
 use Rattle.std.specs.List.{list_any}
 use Rattle.rim_release.proofs.Lines.{own-lines}

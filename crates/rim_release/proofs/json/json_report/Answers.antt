@@ -1,0 +1,16 @@
+use Rattle.std.proofs.Common.{◌≡◌, ◌∙◌, ◌++◌, ℕ, Global, List, Vec, ap, codes, map}
+use Rattle.serde_json.specs.Data.{Data}
+use Rattle.serde_json.specs.View.{view}
+use Rattle.serde_json.specs.Written.{compact_text, has_float}
+use Rattle.rim_release.specs.Json.{json_with, launches_json, report_data}
+use Rattle.rim_release.specs.Report.{seen}
+use Rattle.rim_release.proofs.JsonValues.{no-float}
+use Rattle.rim_release.proofs.json.json_report.Goals as goal
+
+pub returns : goal.returns
+returns c =
+    let outcomes = map seen c.args.outcomes.now in
+    let made = c.in_ok-report.ensures in
+    let whole = ap has_float made ∙ no-float c.args.launches.now outcomes c.args.count in
+    c.in_ok-push.ensures.items
+    ∙ ap (λ (text : List ℕ). text ++ codes "\n") (ap (λ (v : Vec ℕ Global). v.items) c.into_bytes-text.ensures.value ∙ c.in_ok-to_string.ensures.text whole ∙ ap compact_text made)

@@ -1,0 +1,46 @@
+-- The report of a release as JSON. This project's choice.
+use Rattle.std.specs.Prelude.{ℕ, List, [], ◌∷◌, ◌++◌, codes, length, Result, Ok, Err}
+use Rattle.hex.specs.Hex.{encode_lower}
+use Rattle.serde_json.specs.Data.{Data, array, member, Members, no_members, number, object, string, unsigned}
+use Rattle.serde_json.specs.View.{items_of}
+use Rattle.serde_json.specs.Written.{compact_text}
+use Rattle.rim_desc.specs.declared.measurement.Algo.{Algo}
+use Rattle.rim_desc.specs.declared.measurement.Algo.TheVariants.{Sha256, Sha512}
+use Rattle.rim_manifest.specs.Launches.{NamedData}
+use Rattle.rim_release.specs.AuditFaults.{audit_kind_of}
+use Rattle.rim_release.specs.Pages.{page_keys}
+use Rattle.rim_release.specs.Report.{digest_bytes, outcomes_for}
+use Rattle.rim_release.specs.declared.audit_fault.AuditFault.{AuditFault}
+
+abbrev pub algo_name : Algo → List ℕ
+algo_name Sha256 = codes "sha256"
+algo_name Sha512 = codes "sha512"
+
+-- what came of a launch: the measurement with two lower case hexadecimal digits for each byte of the digest, or why it is refused
+abbrev pub outcome_member : Algo → Result (List ℕ) AuditFault → Members
+outcome_member algo (Ok rim) = member (codes "rim") (string (encode_lower (digest_bytes algo rim))) no_members
+outcome_member algo (Err fault) = member (codes "refused") (string (audit_kind_of fault)) no_members
+
+-- a launch of which this came; members are in the order of their keys
+unfoldable pub launch_json : NamedData → Result (List ℕ) AuditFault → Data
+launch_json l outcome =
+    object (member (codes "algorithm") (string (algo_name l.launch.config.algo)) (member (codes "name") (string l.name) (outcome_member l.launch.config.algo outcome)))
+
+-- each launch with what came of it
+abbrev pub launches_json : List NamedData → List (Result (List ℕ) AuditFault) → List Data
+launches_json [] outcomes = []
+launches_json (l ∷ ls) [] = []
+launches_json (l ∷ ls) (outcome ∷ outcomes) = launch_json l outcome ∷ launches_json ls outcomes
+
+-- a report of these launches, for a release with this many different measured pages
+unfoldable pub report_data : List Data → ℕ → Data
+report_data launches count =
+    object (member (codes "launches") (array (items_of launches)) (member (codes "pages") (number (unsigned count)) (member (codes "version") (number (unsigned 1)) no_members)))
+
+-- its text: no spaces, and a line feed at its end
+abbrev pub json_with : List Data → ℕ → List ℕ
+json_with launches count = compact_text (report_data launches count) ++ codes "\n"
+
+-- the whole report
+abbrev pub json_of : List (List ℕ) → List NamedData → List ℕ
+json_of files ls = json_with (launches_json ls (outcomes_for files ls)) (length (page_keys files ls))
