@@ -87,20 +87,23 @@ measure_entered : (words : List Text) → level_fault measure_shape [] nothing_h
 measure_entered words passes = (refl, first_given measure_shape.rules manifest_built refl rows all given, workers (first_of (codes "workers") rows) refl)
   where
     sound : Each (IsSound measure_shape.rules) measure_shape.rules
-    sound = (inl (record { set = refl; least = refl; own = refl }), (inl (record { set = refl; least = refl; own = refl }), (inr refl, tt)))
+    sound = (
+      inl (record { set = refl; least = refl; own = refl }),
+      (inl (record { set = refl; least = refl; own = refl }), (inl (record { set = refl; least = refl; own = refl }), (inr refl, tt))),
+    )
 
     rows : List Row
     rows = rows_after measure_shape.rules [] words
 
     all : list_all (fits measure_shape.rules) rows ≡ true
-    all = rows_fit measure_shape words sound (refl, (refl, (refl, tt))) passes
+    all = rows_fit measure_shape words sound (refl, (refl, (refl, (refl, tt)))) passes
 
     go : (b : Bool) → check_kinds false false (not b || false) ≡ [] → b ≡ true
     go true e = refl
     go false e = cc
 
     given : is_given (codes "manifest") rows ≡ true
-    given = go (is_given (codes "manifest") rows) (checks_pass measure_shape words sound (refl, (refl, (refl, tt))) passes)
+    given = go (is_given (codes "manifest") rows) (checks_pass measure_shape words sound (refl, (refl, (refl, (refl, tt)))) passes)
 
     workers : (o : Option Text) → first_of (codes "workers") rows ≡ o → IfSome o (λ text. IsSignedIn (pos 1) (pos 64) text)
     workers None is = tt

@@ -5,15 +5,17 @@ use Rattle.std.specs.Str.{bytes_eq}
 use Rattle.std.proofs.lemmas.Option.{same_Some}
 use Rattle.std.proofs.lemmas.Slice.Eq.{bytes_eq-Decides}
 use Rattle.clap.proofs.OnLiterals.{clap_on_literals}
-use Rattle.clap.specs.Words.{subcommand_of, takes}
+use Rattle.clap.specs.Words.{subcommand_of}
 use Rattle.rim_manifest.specs.Launches.{ReleaseData}
 use Rattle.rim_manifest.specs.Manifest.{manifest_of}
 use Rattle.rim_manifest.specs.declared.fault.ManifestFault.{ManifestFault}
 use Rattle.rim_release.specs.Report.{has_refused, measured_of}
-use Rattle.rim_cli.specs.Command.{ReadsRequest, rim}
+use Rattle.rim_cli.specs.Command.{ReadsRequest, is_taken, rim}
 use Rattle.rim_cli.specs.Done.{IsAnswer, IsMade, IsReport, path_of}
 use Rattle.rim_cli.specs.Examples.{plain}
 use Rattle.rim_cli.specs.Files.{AreRead, IfFile, Known}
+use Rattle.rim_cli.specs.declared.words.Format.{Format}
+use Rattle.rim_cli.specs.declared.words.Format.TheVariants as format
 use Rattle.rim_cli.specs.declared.words.Request.{Request}
 use Rattle.rim_cli.specs.declared.words.Request.TheVariants.{Measure, List as Lists, Audit, Dtb, Image, Fdt}
 
@@ -21,7 +23,7 @@ use Rattle.rim_cli.specs.declared.words.Request.TheVariants.{Measure, List as Li
 abbrev pub in_memory : List ℕ → List ℕ → Known
 in_memory manifest path = Some (if bytes_eq path (codes "manifest.toml") then Some manifest else None)
 
-pub plain_taken : takes rim plain ≡ true
+pub plain_taken : is_taken plain ≡ true
 unfolding clap_on_literals
 plain_taken = refl
 
@@ -31,7 +33,7 @@ other name apart same = let equal : bytes_eq (codes "measure") name ≡ true = (
 
 asked_path : (request : Request) → ReadsRequest (subcommand_of rim plain) request → path_of request ≡ codes "manifest.toml"
 unfolding clap_on_literals
-asked_path (Measure path workers) asked = sym (same_Some _ _ asked.1)
+asked_path (Measure path workers format) asked = sym (same_Some _ _ asked.1)
 asked_path (Lists path launch) asked = absurd (other (codes "list") refl asked.0)
 asked_path (Audit path) asked = absurd (other (codes "audit") refl asked.0)
 asked_path (Dtb path launch) asked = absurd (other (codes "dtb") refl asked.0)
@@ -40,9 +42,10 @@ asked_path (Fdt file) asked = absurd (other (codes "fdt") refl asked.0)
 
 -- what they ask for is a report
 asked_report : (held : List ℕ → Known) (request : Request) (bytes text : List ℕ) (status : ℕ) → ReadsRequest (subcommand_of rim plain) request
-    → IsAnswer held request bytes text status → IsOkAnd (manifest_of bytes) (λ r. IsReport held r text status)
+    → IsAnswer held request bytes text status → IsOkAnd (manifest_of bytes) (λ r. IsReport format.Text held r text status)
 unfolding clap_on_literals
-asked_report held (Measure path workers) bytes text status asked answer = answer
+asked_report held (Measure path workers format) bytes text status asked answer =
+    subst (λ (f : Format). IsOkAnd (manifest_of bytes) (λ r. IsReport f held r text status)) (sym (same_Some _ _ asked.3)) answer
 asked_report held (Lists path launch) bytes text status asked answer = absurd (other (codes "list") refl asked.0)
 asked_report held (Audit path) bytes text status asked answer = absurd (other (codes "audit") refl asked.0)
 asked_report held (Dtb path launch) bytes text status asked answer = absurd (other (codes "dtb") refl asked.0)
@@ -51,7 +54,7 @@ asked_report held (Fdt file) bytes text status asked answer = absurd (other (cod
 
 -- what was made is the report of the manifest
 pub made_report : (manifest text : List ℕ) (status : ℕ) → IsMade plain (in_memory manifest) text status
-    → IsOkAnd (manifest_of manifest) (λ r. IsReport (in_memory manifest) r text status)
+    → IsOkAnd (manifest_of manifest) (λ r. IsReport format.Text (in_memory manifest) r text status)
 made_report manifest text status made =
     let here : in_memory manifest (path_of made.request) ≡ Some (Some manifest)
     = ap (in_memory manifest) (asked_path made.request made.asked) ∙ ap (λ (b : Bool). Some (if b then Some manifest else None)) ((bytes_eq-Decides (codes "manifest.toml") (codes "manifest.toml")).1 refl) in
@@ -65,8 +68,8 @@ no_files held (f ∷ fs) read = absurd read
 
 module _ (manifest : List ℕ) (r : ReleaseData) (reads : manifest_of manifest ≡ Ok r) (none : r.paths ≡ []) (text : List ℕ) (status : ℕ)
     (made : IsMade plain (in_memory manifest) text status) where
-  own_report : IsReport (in_memory manifest) r text status
-  own_report = subst (λ (m : Result ReleaseData ManifestFault). IsOkAnd m (λ r. IsReport (in_memory manifest) r text status)) reads (made_report manifest text status made)
+  own_report : IsReport format.Text (in_memory manifest) r text status
+  own_report = subst (λ (m : Result ReleaseData ManifestFault). IsOkAnd m (λ r. IsReport format.Text (in_memory manifest) r text status)) reads (made_report manifest text status made)
 
   own_files : own_report.files ≡ []
   own_files = no_files (in_memory manifest) own_report.files (subst (λ (paths : List (List ℕ)). AreRead (in_memory manifest) paths own_report.files) none own_report.read)
@@ -80,7 +83,7 @@ module _ (manifest : List ℕ) (r : ReleaseData) (reads : manifest_of manifest �
 -- nothing is made of a manifest with a fault
 pub none_made : (manifest : List ℕ) (f : ManifestFault) (text : List ℕ) (status : ℕ) → manifest_of manifest ≡ Err f → IsMade plain (in_memory manifest) text status → ⊥
 none_made manifest f text status refuses made =
-    subst (λ (m : Result ReleaseData ManifestFault). IsOkAnd m (λ r. IsReport (in_memory manifest) r text status)) refuses (made_report manifest text status made)
+    subst (λ (m : Result ReleaseData ManifestFault). IsOkAnd m (λ r. IsReport format.Text (in_memory manifest) r text status)) refuses (made_report manifest text status made)
 
 -- a status above 2, where it is neither below nor 2
 pub ends_above : (n : ℕ) (Same : Type 0) → n ≤ 4 → (n ≤ 1 → ⊥) → (n ≡ 2 → ⊥) → (n ≡ 3 → Same) → (n ≡ 4 → Same) → (3 ≤ n) × Same

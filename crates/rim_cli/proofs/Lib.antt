@@ -5,4 +5,4 @@ pub mod Reading
 pub mod Refusing
 pub mod Releases
 pub mod InMemory
-pub mod Crews
+pub mod Formats

@@ -1,9 +1,11 @@
 -- The command line of `rim`, as this project chooses it, in the words of `clap`'s definition for simple
 -- commands; and what the words of a command line ask for.
-use Rattle.std.specs.Prelude.{◌≡◌, ◌≢◌, ◌≤◌, ◌⊎◌, ⊤, ℕ, Bool, true, false, not, pos, List, [], Option, Some, None, IfSome, codes, is_some}
+use Rattle.std.specs.Prelude.{◌≡◌, ◌≢◌, ◌≤◌, ◌⊎◌, ⊤, ℕ, Bool, true, false, not, ◌&&◌, pos, List, [], ◌∷◌, Option, Some, None, IfSome, codes, if◌then◌else◌, is_some}
 use Rattle.std.specs.List.{list_all}
+use Rattle.std.specs.Str.{bytes_eq}
 use Rattle.std.specs.Str.Parse.{digits_value, without_leading_plus}
-use Rattle.clap.specs.Words.{App, IsAmong, Kinds, Row, Rule, Text, fault_of, first_of, kind_of, new_app, new_rule, subcommand_of, with_rule, with_subcommand}
+use Rattle.clap.specs.Words.{App, IsAmong, Kinds, Row, Rule, Text, fault_of, first_of, kind_of, new_app, new_rule, subcommand_of, takes, with_rule, with_subcommand}
+use Rattle.clap.specs.Kinds.{or_else}
 use Rattle.clap.specs.Simple.{on_top}
 use Rattle.clap.specs.Values.{IsSignedIn}
 use Rattle.clap.specs.declared.builder.value_parser.ValueParser.TheVariants as parser
@@ -12,6 +14,8 @@ use Rattle.clap.specs.declared.error.kind.ErrorKind.TheVariants as kind
 use Rattle.rim_release.specs.Report.{is_crew}
 use Rattle.rim_cli.specs.declared.words.CommandFault.{CommandFault}
 use Rattle.rim_cli.specs.declared.words.CommandFault.TheVariants.{Usage, NoMemory}
+use Rattle.rim_cli.specs.declared.words.Format.{Format}
+use Rattle.rim_cli.specs.declared.words.Format.TheVariants as format
 use Rattle.rim_cli.specs.declared.words.Request.{Request}
 use Rattle.rim_cli.specs.declared.words.Request.TheVariants.{Measure, List as Lists, Audit, Dtb, Image, Fdt}
 
@@ -27,9 +31,14 @@ workers_rule = record (new_rule (codes "workers")) {
   parser = Some (parser.Signed (pos 1) (pos 64));
 }
 
--- `measure MANIFEST [--workers N]`
+-- `--format FORMAT`. This definition takes any text there, since `clap` holds the texts of a choice by reference; a
+-- format that is not known is refused after it.
+abbrev pub format_rule : Rule
+format_rule = record (new_rule (codes "format")) { long = Some (codes "format"); value_names = 1 }
+
+-- `measure MANIFEST [--workers N] [--format FORMAT]`
 abbrev pub measure : App
-measure = with_rule (with_rule (new_app (codes "measure")) (operand_rule (codes "manifest"))) workers_rule
+measure = with_rule (with_rule (with_rule (new_app (codes "measure")) (operand_rule (codes "manifest"))) workers_rule) format_rule
 
 -- a subcommand with one operand: `audit MANIFEST`, `image FILE`, `fdt FILE`
 abbrev pub with_operand : Text → Text → App
@@ -66,13 +75,32 @@ CountsWorkers (Some text) n = (n ≡ digits_value 10 (without_leading_plus text)
 
 -- a request for a report has 1 to 64 workers
 abbrev pub HasCrew : Request → Type 0
-HasCrew (Measure manifest workers) = is_crew workers ≡ true
+HasCrew (Measure manifest workers format) = is_crew workers ≡ true
 HasCrew request = ⊤
+
+-- the format of a report, text where none is given
+abbrev pub format_of : Option Text → Option Format
+format_of None = Some format.Text
+format_of (Some text) = if bytes_eq text (codes "text") then Some format.Text else (if bytes_eq text (codes "json") then Some format.Json else None)
+
+-- whether the format that a subcommand has is known
+abbrev pub has_format : Option (Text × List Row) → Bool
+has_format None = true
+has_format (Some p) = is_some (format_of (first_of (codes "format") p.1))
+
+-- whether words are a command line of the program: the definition takes them, and the format is known
+abbrev pub is_taken : List Text → Bool
+is_taken words = takes rim words && has_format (subcommand_of rim words)
+
+-- the kinds of error that words may be refused with: those of the definition, and else that of their format
+abbrev pub mistakes_of : List Text → Kinds
+mistakes_of words = or_else (fault_of rim words) (if has_format (subcommand_of rim words) then [] else kind.InvalidValue ∷ [])
 
 -- the request is the one of a subcommand's name, and has what the matches of that subcommand hold
 abbrev pub ReadsRow : Text → List Row → Request → Type 0
-ReadsRow name rows (Measure manifest workers) = (name ≡ codes "measure")
+ReadsRow name rows (Measure manifest workers format) = (name ≡ codes "measure")
     × (first_of (codes "manifest") rows ≡ Some manifest.now) × CountsWorkers (first_of (codes "workers") rows) workers
+    × (format_of (first_of (codes "format") rows) ≡ Some format)
 ReadsRow name rows (Lists manifest launch) = (name ≡ codes "list")
     × (first_of (codes "manifest") rows ≡ Some manifest.now) × (first_of (codes "launch") rows ≡ Some launch.now)
 ReadsRow name rows (Audit manifest) = (name ≡ codes "audit") × (first_of (codes "manifest") rows ≡ Some manifest.now)
@@ -124,9 +152,9 @@ is_asked kind.DisplayHelp = true
 is_asked kind.DisplayVersion = true
 is_asked _ = false
 
--- the definition refuses the words, and each kind of error that it may give there passes the test
+-- the words are refused, and each kind of error that they may be refused with passes the test
 abbrev pub IsRefusedBy : (ErrorKind → Bool) → List Text → Type 0
-IsRefusedBy test words = (fault_of rim words ≢ []) × (list_all test (fault_of rim words) ≡ true)
+IsRefusedBy test words = (mistakes_of words ≢ []) × (list_all test (mistakes_of words) ≡ true)
 
 abbrev pub IsMistaken : List Text → Type 0
 IsMistaken words = IsRefusedBy (λ k. not (is_asked k)) words
@@ -134,7 +162,7 @@ IsMistaken words = IsRefusedBy (λ k. not (is_asked k)) words
 abbrev pub AsksForHelp : List Text → Type 0
 AsksForHelp words = IsRefusedBy is_asked words
 
--- a refusal is of a kind that the definition gives, where memory did not run out
+-- a refusal is of one of these kinds, where memory did not run out
 abbrev pub IsRefusalOf : Kinds → CommandFault → Type 0
 IsRefusalOf kinds (Usage error) = IsAmong (kind_of error) kinds
 IsRefusalOf kinds NoMemory = Unit {0}

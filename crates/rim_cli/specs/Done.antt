@@ -8,12 +8,15 @@ use Rattle.rim_manifest.specs.declared.fault.ManifestFault.TheVariants as manife
 use Rattle.rim_release.specs.Devicetree.{devicetree_of}
 use Rattle.rim_release.specs.Listing.{listing_of, shown_of}
 use Rattle.rim_release.specs.ShownDevicetree.{IsDevicetreeFault, ShowsDevicetree}
-use Rattle.rim_release.specs.Report.{audit_text_of, has_refused, measured_of}
+use Rattle.rim_release.specs.Json.{json_of}
+use Rattle.rim_release.specs.Report.{audit_text_of, has_refused, measured_of, report_of, unless_too_many}
 use Rattle.rim_release.specs.ShownImage.{image_answer_of}
 use Rattle.rim_release.specs.declared.audit_fault.AuditFault.TheVariants as audit
 use Rattle.rim_release.specs.declared.show.fault.ShowFault.TheVariants as show
 use Rattle.rim_release.specs.declared.fault.StartFault.{StartFault}
 use Rattle.rim_release.specs.declared.fault.StartFault.TheVariants as start
+use Rattle.rim_cli.specs.declared.words.Format.{Format}
+use Rattle.rim_cli.specs.declared.words.Format.TheVariants as format
 use Rattle.rim_cli.specs.declared.words.Request.{Request}
 use Rattle.rim_cli.specs.declared.words.Request.TheVariants.{Measure, List as Lists, Audit, Dtb, Image, Fdt}
 use Rattle.rim_cli.specs.declared.fault.Fault.{Fault}
@@ -24,7 +27,7 @@ use Rattle.rim_cli.specs.Status.{status_of}
 
 -- the path of the file that a request is about
 abbrev pub path_of : Request → List ℕ
-path_of (Measure path workers) = path.now
+path_of (Measure path workers format) = path.now
 path_of (Lists path launch) = path.now
 path_of (Audit path) = path.now
 path_of (Dtb path launch) = path.now
@@ -33,11 +36,19 @@ path_of (Fdt file) = file.now
 
 -- ---- what is answered
 
+-- the report of a release with these files, in a format
+abbrev pub report_in : Format → List (List ℕ) → List NamedData → List ℕ
+report_in format.Text files ls = report_of files ls
+report_in format.Json files ls = json_of files ls
+
+abbrev pub IsReportOf : Format → List (List ℕ) → List NamedData → List ℕ → Type 0
+IsReportOf format files ls shown = unless_too_many files ls (report_in format files ls) ≡ Ok shown
+
 -- the report of a release, where the files that it names are read, and the status that it ends with: 1 where some launch in it is refused
-pub record IsReport (held : List ℕ → Known) (r : ReleaseData) (shown : List ℕ) (answer : ℕ) : Type 0 where
+pub record IsReport (format : Format) (held : List ℕ → Known) (r : ReleaseData) (shown : List ℕ) (answer : ℕ) : Type 0 where
   pub files : List (List ℕ)
   pub read : AreRead held r.paths files
-  pub text : measured_of files r.launches ≡ Ok shown
+  pub text : IsReportOf format files r.launches shown
   pub status : answer ≡ (if has_refused files r.launches then 1 else 0)
 
 -- the audit of a release, in the same way
@@ -69,7 +80,7 @@ IsDevicetree held r name bytes status = OfLaunch held r name (λ l files. (devic
 
 -- the text that a request asks for and its status, where its file has these bytes
 abbrev pub IsAnswer : (List ℕ → Known) → Request → List ℕ → List ℕ → ℕ → Type 0
-IsAnswer held (Measure path workers) bytes text status = IsOkAnd (manifest_of bytes) (λ r. IsReport held r text status)
+IsAnswer held (Measure path workers format) bytes text status = IsOkAnd (manifest_of bytes) (λ r. IsReport format held r text status)
 IsAnswer held (Lists path launch) bytes text status = IsOkAnd (manifest_of bytes) (λ r. IsListing held r launch.now text status)
 IsAnswer held (Audit path) bytes text status = IsOkAnd (manifest_of bytes) (λ r. IsAudit held r text status)
 IsAnswer held (Dtb path launch) bytes text status = IsOkAnd (manifest_of bytes) (λ r. IsDevicetree held r launch.now text status)
@@ -129,7 +140,7 @@ RefusesFdt known fault = IsFileFault known fault
 
 -- a request is refused with a fault that holds
 abbrev pub Refuses : (List ℕ → Known) → Request → Fault → Type 0
-Refuses held (Measure path workers) fault = RefusesManifest (RefusesReport held) (held path.now) fault
+Refuses held (Measure path workers format) fault = RefusesManifest (RefusesReport held) (held path.now) fault
 Refuses held (Lists path launch) fault = RefusesManifest (RefusesListing held launch.now) (held path.now) fault
 Refuses held (Audit path) fault = RefusesManifest (RefusesAudit held) (held path.now) fault
 Refuses held (Dtb path launch) fault = RefusesManifest (RefusesDtb held launch.now) (held path.now) fault

@@ -1,14 +1,19 @@
 -- Examples of command lines, read by the definition of `clap`.
 use Rattle.std.specs.Prelude.{◌≡◌, ℕ, true, false, List, [], ◌∷◌, Option, Some, None, codes, length, map, option_map}
-use Rattle.clap.specs.Words.{Text, first_of, subcommand_of, takes}
+use Rattle.clap.specs.Words.{Text, first_of, subcommand_of}
 use Rattle.rim_manifest.specs.Launches.{ReleaseData}
-use Rattle.rim_cli.specs.Command.{AsksForHelp, CountsWorkers, IsMistaken, rim}
+use Rattle.rim_cli.specs.Command.{AsksForHelp, CountsWorkers, IsMistaken, format_of, is_taken, rim}
+use Rattle.rim_cli.specs.declared.words.Format.{Format}
+use Rattle.rim_cli.specs.declared.words.Format.TheVariants as format
 
 abbrev pub plain : List Text
 plain = codes "rim" ∷ codes "measure" ∷ codes "manifest.toml" ∷ []
 
 abbrev pub with_seven : List Text
 with_seven = codes "rim" ∷ codes "measure" ∷ codes "--workers=7" ∷ codes "manifest.toml" ∷ []
+
+abbrev pub with_json : List Text
+with_json = codes "rim" ∷ codes "measure" ∷ codes "manifest.toml" ∷ codes "--format" ∷ codes "json" ∷ []
 
 abbrev pub an_image : List Text
 an_image = codes "rim" ∷ codes "image" ∷ codes "Image" ∷ []
@@ -32,10 +37,13 @@ too_few = codes "rim" ∷ codes "list" ∷ codes "manifest.toml" ∷ []
 abbrev pub too_many : List Text
 too_many = codes "rim" ∷ codes "measure" ∷ codes "manifest.toml" ∷ codes "--workers" ∷ codes "65" ∷ []
 
+abbrev pub other_format : List Text
+other_format = codes "rim" ∷ codes "measure" ∷ codes "manifest.toml" ∷ codes "--format" ∷ codes "xml" ∷ []
+
 abbrev pub TakesExamples : Type 0
-TakesExamples = (takes rim plain ≡ true) × (takes rim with_seven ≡ true) × (takes rim a_listing ≡ true) × (takes rim an_audit ≡ true) × (takes rim a_placed_devicetree ≡ true)
-    × (takes rim an_image ≡ true) × (takes rim a_devicetree ≡ true) × (takes rim too_many ≡ false) × (takes rim too_few ≡ false)
-    × (takes rim (codes "rim" ∷ codes "help" ∷ []) ≡ false) × (takes rim (codes "rim" ∷ []) ≡ false)
+TakesExamples = (is_taken plain ≡ true) × (is_taken with_seven ≡ true) × (is_taken with_json ≡ true) × (is_taken a_listing ≡ true) × (is_taken an_audit ≡ true) × (is_taken a_placed_devicetree ≡ true)
+    × (is_taken an_image ≡ true) × (is_taken a_devicetree ≡ true) × (is_taken too_many ≡ false) × (is_taken other_format ≡ false) × (is_taken too_few ≡ false)
+    × (is_taken (codes "rim" ∷ codes "help" ∷ []) ≡ false) × (is_taken (codes "rim" ∷ []) ≡ false)
 
 -- the texts of the manifest and of the workers that the words hold
 abbrev pub read_in : List Text → Option (Option Text × Option Text)
@@ -45,17 +53,22 @@ read_in words = option_map (λ p. (first_of (codes "manifest") p.1, first_of (co
 abbrev pub launch_in : List Text → Option (Option Text × Option Text)
 launch_in words = option_map (λ p. (first_of (codes "manifest") p.1, first_of (codes "launch") p.1)) (subcommand_of rim words)
 
+-- the format of the report that the words ask for
+abbrev pub format_in : List Text → Option (Option Format)
+format_in words = option_map (λ p. format_of (first_of (codes "format") p.1)) (subcommand_of rim words)
+
 abbrev pub ReadsExamples : Type 0
 ReadsExamples = (read_in plain ≡ Some (Some (codes "manifest.toml"), None))
     × (read_in with_seven ≡ Some (Some (codes "manifest.toml"), Some (codes "7")))
     × (launch_in a_listing ≡ Some (Some (codes "manifest.toml"), Some (codes "small")))
     × (launch_in a_placed_devicetree ≡ Some (Some (codes "manifest.toml"), Some (codes "small")))
+    × (format_in plain ≡ Some (Some format.Text)) × (format_in with_json ≡ Some (Some format.Json)) × (format_in other_format ≡ Some None)
     × ((n : ℕ) → CountsWorkers None n → n ≡ 4) × ((n : ℕ) → CountsWorkers (Some (codes "7")) n → n ≡ 7)
 
--- help and the version are asked for, and not a mistake; too many workers, a listing of no launch, another subcommand and none are
+-- help and the version are asked for, and not a mistake; too many workers, another format, a listing of no launch, another subcommand and none are
 abbrev pub RefusesExamples : Type 0
 RefusesExamples = AsksForHelp (codes "rim" ∷ codes "--help" ∷ []) × AsksForHelp (codes "rim" ∷ codes "measure" ∷ codes "--help" ∷ [])
-    × AsksForHelp (codes "rim" ∷ codes "--version" ∷ []) × IsMistaken too_many × IsMistaken too_few × IsMistaken (codes "rim" ∷ codes "print" ∷ []) × IsMistaken (codes "rim" ∷ [])
+    × AsksForHelp (codes "rim" ∷ codes "--version" ∷ []) × IsMistaken too_many × IsMistaken other_format × IsMistaken too_few × IsMistaken (codes "rim" ∷ codes "print" ∷ []) × IsMistaken (codes "rim" ∷ [])
 
 -- the smallest manifest: a launch without memory and files
 abbrev pub smallest : List ℕ

@@ -1,20 +1,19 @@
 //! The answer to a request, made whole.
-ghost use Rattle.std.specs.Prelude.{◌≡◌, ◌<◌, ◌≤◌, IfErr, IfOk, IsOkAnd, Ok, Some, if◌then◌else◌, length, map, position, true, vec_len};
-ghost use Rattle.refusal.specs.Answer.{Answers};
+ghost use Rattle.std.specs.Prelude.{◌≡◌, ◌⊎◌, ◌<◌, ◌≤◌, Err, IfErr, IfOk, IsOkAnd, Ok, Some, if◌then◌else◌, length, map, position, true, vec_len};
 ghost use Rattle.rim_release.specs.Report.{has_refused, is_crew, measured_of};
 ghost use Rattle.rim_cli.specs.Command.{HasCrew};
 ghost use Rattle.rim_manifest.specs.Manifest.{manifest_of, name_in};
 ghost use Rattle.rim_release.specs.ShownDevicetree.{ShowsDevicetree};
 ghost use Rattle.rim_release.specs.ShownImage.{image_answer_of};
-ghost use Rattle.rim_cli.specs.Done.{IsAnswer, IsAudit, IsDevicetree, IsListing, IsManifestFault, IsReport, Refuses, RefusesAudit, RefusesDtb, RefusesFdt, RefusesImage, RefusesListing, RefusesManifest, RefusesReport, path_of};
+ghost use Rattle.rim_cli.specs.Done.{IsAnswer, IsAudit, IsDevicetree, IsListing, IsManifestFault, IsReport, IsReportOf, Refuses, RefusesAudit, RefusesDtb, RefusesFdt, RefusesImage, RefusesListing, RefusesManifest, RefusesReport, path_of};
 ghost use Rattle.rim_cli.specs.Files.{AreRead, IfFile};
 
 use crate::fault::Fault;
 use crate::file::{Opener, read_file, read_files};
-use crate::words::Request;
+use crate::words::{Format, Request};
 use rim_release::{
-    Files, Gate, Release, Report, StartFault, audit_launches, listing_or_refusal, measure_release,
-    placed_devicetree, read_manifest, show_fdt, show_image,
+    Files, Gate, Outcome, Release, Report, StartFault, audit_launches, json_report,
+    listing_or_refusal, measure_release, placed_devicetree, read_manifest, show_fdt, show_image,
 };
 use std::alloc::Global;
 use std::sync::Wait;
@@ -42,9 +41,11 @@ pub fn answer_to<R: Threads + Wait + Sync, G: Gate + Sync, O: Opener>(
     ensures status { IfOk result (λ a. a.status ≤ 1) }
 {
     match request {
-        Request::Measure { manifest, workers } => measure(
-            rt, alloc, gate, opener, manifest, workers,
-        ),
+        Request::Measure {
+            manifest,
+            workers,
+            format,
+        } => measure(rt, alloc, gate, opener, manifest, workers, format),
         Request::List { manifest, launch } => list(alloc, opener, manifest, launch),
         Request::Audit { manifest } => audit(alloc, opener, manifest),
         Request::Dtb { manifest, launch } => dtb(alloc, opener, manifest, launch),
@@ -61,19 +62,20 @@ fn measure<R: Threads + Wait + Sync, G: Gate + Sync, O: Opener>(
     opener: &mut O,
     path: &str,
     workers: u8,
+    format: Format,
 ) -> Result<Answer, Fault>
     requires { is_crew workers ≡ true }
-    ensures answered { IfOk result (λ a. IfFile (O.held opener.old path.now) (λ bytes. IsOkAnd (manifest_of bytes) (λ r. IsReport (O.held opener.old) r a.text.items a.status))) }
+    ensures answered { IfOk result (λ a. IfFile (O.held opener.old path.now) (λ bytes. IsOkAnd (manifest_of bytes) (λ r. IsReport format (O.held opener.old) r a.text.items a.status))) }
     ensures refused { IfErr result (RefusesManifest (RefusesReport (O.held opener.old)) (O.held opener.old path.now)) }
     ensures status { IfOk result (λ a. a.status ≤ 1) }
 {
     let release = read_release(alloc, opener, path)?;
     let files = read_files(alloc, opener, &release)?;
-    let report = report(rt, alloc, gate, &release, &files, workers).map_err(Fault::Start)?;
+    let report = report(rt, alloc, gate, &release, &files, workers, format).map_err(Fault::Start)?;
     Ok(answer_of(report))
 }
 
-/// The report of a release, made by 1 to 64 workers.
+/// The report of a release, made by 1 to 64 workers, in a format.
 fn report<R: Threads + Wait + Sync, G: Gate + Sync>(
     rt: &R,
     alloc: Global,
@@ -81,17 +83,26 @@ fn report<R: Threads + Wait + Sync, G: Gate + Sync>(
     release: &Release,
     files: &Files,
     workers: u8,
+    format: Format,
 ) -> Result<Report, StartFault>
     requires files { vec_len files.now ≡ length release.now.paths }
     requires crew { is_crew workers ≡ true }
-    ensures text { Answers StartFault.NoMemory (λ r. r.text.items) result (measured_of (map (λ file. file.items) files.now.items) release.now.launches) }
+    ensures text { IfOk result (λ r. IsReportOf format (map (λ file. file.items) files.now.items) release.now.launches r.text.items) }
+    ensures fault { IfErr result (λ e. (e ≡ StartFault.NoMemory) ⊎ (measured_of (map (λ file. file.items) files.now.items) release.now.launches ≡ Err e)) }
     ensures refused { IfOk result (λ r. r.has_refused ≡ has_refused (map (λ file. file.items) files.now.items) release.now.launches) }
 {
-    let outcome = measure_release(rt, alloc, gate, release, files, workers as usize)?;
-    Ok(Report {
-        text: outcome.report,
-        has_refused: outcome.has_refused,
-    })
+    let Outcome {
+        report,
+        launches,
+        has_refused,
+        pages,
+        ..
+    } = measure_release(rt, alloc, gate, release, files, workers as usize)?;
+    let text = match format {
+        Format::Text => report,
+        Format::Json => json_report(alloc, release.all_launches(), &launches, pages)?,
+    };
+    Ok(Report { text, has_refused })
 }
 
 /// The listing of a manifest's launch, or its line where it is refused.

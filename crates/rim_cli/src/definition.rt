@@ -2,7 +2,7 @@
 ghost use Rattle.std.specs.Prelude.{◌≡◌, IfOk, codes, true, false};
 ghost use Rattle.clap.specs.Words.{app_of, rule_of, with_subcommand};
 ghost use Rattle.clap.specs.declared.builder.command.Command.TheViews.{out-Command};
-ghost use Rattle.rim_cli.specs.Command.{audit, dtb, fdt, image, list, measure, operand_rule, rim, with_launch, with_operand, workers_rule};
+ghost use Rattle.rim_cli.specs.Command.{audit, dtb, fdt, format_rule, image, list, measure, operand_rule, rim, with_launch, with_operand, workers_rule};
 
 use clap::{Arg, Command};
 use std::alloc::{AllocError, Global};
@@ -25,7 +25,8 @@ processors (`rec`). docs/FORMATS.md lists all keys.
 
 `rim measure MANIFEST` prints the report: the line `rim-report 1`, a line
 `NAME ALGORITHM MEASUREMENT` or `NAME refused KIND` for each launch, and the line
-`pages N`, the number of different pages that were hashed.
+`pages N`, the number of different pages that were hashed. With `--format json` it is one
+JSON object; docs/FORMATS.md describes it.
 
 `rim list MANIFEST LAUNCH` prints the listing of a launch: the line `rim-list 1 aux N`,
 a line for each command that a monitor takes to build the realm, and the line
@@ -114,7 +115,8 @@ fn measure_command<'a>(alloc: Global) -> Result<Command<'a>, AllocError>
 {
     let measure = Command::new(alloc, "measure")
         .arg(operand_arg(alloc, "manifest", "MANIFEST", MANIFEST))?
-        .arg(workers_arg(alloc))?;
+        .arg(workers_arg(alloc))?
+        .arg(format_arg(alloc))?;
     Ok(
         measure
             .about("Prints the measurement of each launch of a manifest")
@@ -195,4 +197,14 @@ fn workers_arg<'a>(alloc: Global) -> Arg<'a>
         .value_name("N")
         .value_parser(clap::value_parser!(u8).range(1..=64))
         .help("Threads that hash pages and chain launches, 1 to 64; 4 where not given")
+}
+
+fn format_arg<'a>(alloc: Global) -> Arg<'a>
+    ensures rule { rule_of result ≡ format_rule }
+    ensures local { result.global ≡ false }
+{
+    Arg::new(alloc, "format")
+        .long("format")
+        .value_name("FORMAT")
+        .help("text, or json for one JSON object; text where not given")
 }

@@ -15,4 +15,4 @@ pub use file::Opener;
 pub use in_memory::measure_in_memory;
 pub use program::{asks_for_bytes, report_terminal, report_unreadable, run};
 pub use rim_release::{FreeGate, Gate, JobId};
-pub use words::{CommandFault, Request, command};
+pub use words::{CommandFault, Format, Request, command};

@@ -1,8 +1,8 @@
 //! A run of the program, over any files and streams.
 ghost use Rattle.std.specs.Prelude.{◌≡◌, ◌≢◌, ◌≤◌, ◌⊎◌, IfErr, OnOk, map, false, true};
 ghost use Rattle.std.specs.Io.KnownBytes.{Appends};
-ghost use Rattle.clap.specs.Words.{kind_of, takes};
-ghost use Rattle.rim_cli.specs.Command.{AsksForBytes, AsksForHelp, IsMistaken, is_asked, rim};
+ghost use Rattle.clap.specs.Words.{kind_of};
+ghost use Rattle.rim_cli.specs.Command.{AsksForBytes, AsksForHelp, IsMistaken, is_asked, is_taken};
 ghost use Rattle.rim_cli.specs.Done.{IsDone, IsRefused, IsUnwritten};
 ghost use Rattle.std.specs.IoError.{error_kind};
 ghost use Rattle.rim_cli.specs.Status.{status_of, unreadable_status};
@@ -25,7 +25,7 @@ use std::thread::Threads;
 /// the one line of a fault go to `err`. The answer is the exit status: 0 done, 1 some launch is refused, 2 usage, 3 a fault of the
 /// manifest, a file or the output, 4 want of memory. Output is made whole before any of it is written.
 ///
-/// Where `clap` takes the words, 0 and 1 say that the text that they ask for was added to `out`: 1 exactly where that
+/// Where the words are taken, 0 and 1 say that the text that they ask for was added to `out`: 1 exactly where that
 /// text says that a launch is refused. 3 says that the request is refused with a fault that holds, and `out` is as it
 /// was; or that the text was made and could not be written. 2 is not answered. After 2 and 4 `out` is as it was. No
 /// clause says what is on `err`, since writing there may fail and changes no status.
@@ -39,11 +39,11 @@ pub fn run<R: Threads + Wait + Sync, G: Gate + Sync, S: AsStr, O: Opener, W: Wri
     err: &mut E,
 ) -> u8
     ensures known { result ≤ 4 }
-    ensures done { takes rim (map S.text words.now) ≡ true → result ≤ 1 → IsDone (map S.text words.now) (O.held opener.old) (W.contents out.old) (W.contents out.new) result }
-    ensures usage { takes rim (map S.text words.now) ≡ true → result ≢ 2 }
+    ensures done { is_taken (map S.text words.now) ≡ true → result ≤ 1 → IsDone (map S.text words.now) (O.held opener.old) (W.contents out.old) (W.contents out.new) result }
+    ensures usage { is_taken (map S.text words.now) ≡ true → result ≢ 2 }
     ensures mistaken { IsMistaken (map S.text words.now) → (result ≡ 2) ⊎ (result ≡ 4) }
     ensures helps { AsksForHelp (map S.text words.now) → result ≢ 2 }
-    ensures refused { takes rim (map S.text words.now) ≡ true → result ≡ 3 → (IsRefused (map S.text words.now) (O.held opener.old) result × (out.new ≡ out.old)) ⊎ IsUnwritten (map S.text words.now) (O.held opener.old) }
+    ensures refused { is_taken (map S.text words.now) ≡ true → result ≡ 3 → (IsRefused (map S.text words.now) (O.held opener.old) result × (out.new ≡ out.old)) ⊎ IsUnwritten (map S.text words.now) (O.held opener.old) }
     ensures kept { (result ≡ 2) ⊎ (result ≡ 4) → out.new ≡ out.old }
 {
     let request = match command(alloc, words) {

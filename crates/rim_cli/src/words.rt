@@ -1,9 +1,9 @@
 //! What the words of a command line ask for.
-ghost use Rattle.std.specs.Prelude.{◌≡◌, ◌≢◌, [], IfOk, IfErr, IfSome, Some, true, pos, map, codes, is_some, option_map};
+ghost use Rattle.std.specs.Prelude.{◌≡◌, ◌≢◌, [], ◌∷◌, IfOk, IfErr, IfSome, Some, true, pos, map, codes, is_some, option_map};
 ghost use Rattle.clap.specs.Values.{IsSignedIn};
-ghost use Rattle.clap.specs.Words.{HasKind, Kinds, fault_of, first_of, found_of, kind_of, rows_of, subcommand_of, takes};
+ghost use Rattle.clap.specs.Words.{HasKind, Kinds, first_of, found_of, kind_of, rows_of, subcommand_of};
 ghost use Rattle.rim_cli.specs.declared.words.CommandFault.TheVariants as fault;
-ghost use Rattle.rim_cli.specs.Command.{CountsWorkers, HasCrew, IsEntered, IsRefusalOf, ReadsRequest, ReadsRow, rim};
+ghost use Rattle.rim_cli.specs.Command.{CountsWorkers, HasCrew, IsEntered, IsRefusalOf, ReadsRequest, ReadsRow, format_of, is_taken, mistakes_of, rim};
 
 use crate::definition::rim_command;
 use clap::ArgMatches;
@@ -16,17 +16,42 @@ use thiserror::Error;
 #[derive(Clone, Copy, Debug)]
 pub enum Request<'a> {
     /// The report of the launches of a manifest, at a path, made by 1 to 64 workers.
-    Measure { manifest: &'a str, workers: u8 },
+    Measure {
+        manifest: &'a str,
+        workers: u8,
+        format: Format,
+    },
     /// The listing of a launch of a manifest, at a path, by the launch's name.
-    List { manifest: &'a str, launch: &'a str },
+    List {
+        manifest: &'a str,
+        launch: &'a str,
+    },
     /// The audit of the launches of a manifest, at a path.
-    Audit { manifest: &'a str },
+    Audit {
+        manifest: &'a str,
+    },
     /// The devicetree of a launch of a manifest, at a path, by the launch's name: bytes, and no text.
-    Dtb { manifest: &'a str, launch: &'a str },
+    Dtb {
+        manifest: &'a str,
+        launch: &'a str,
+    },
     /// The header of the arm64 Image at a path.
-    Image { file: &'a str },
+    Image {
+        file: &'a str,
+    },
     /// The devicetree in the flattened file at a path.
-    Fdt { file: &'a str },
+    Fdt {
+        file: &'a str,
+    },
+}
+
+/// The format of a report.
+#[derive(Clone, Copy, Debug, PartialEq, Eq)]
+pub enum Format {
+    /// Lines, each of a launch.
+    Text,
+    /// One JSON object.
+    Json,
 }
 
 /// Why the words ask for nothing.
@@ -50,12 +75,12 @@ impl From<AllocError> for CommandFault {
 
 /// Reads the words of a command line, of which the first is the program's name.
 pub fn command<'a, S: AsStr>(alloc: Global, words: &'a [S]) -> Result<Request<'a>, CommandFault>
-    // the subcommand, its operands and the workers are those that the words have by `clap`'s definition
+    // the subcommand, its operands, the workers and the format are those that the words have by `clap`'s definition
     ensures reads { IfOk result (ReadsRequest (subcommand_of rim (map S.text words.entry.now))) }
     ensures crew { IfOk result HasCrew }
-    ensures takes { takes rim (map S.text words.entry.now) ≡ true → IfErr result (λ e. e ≡ CommandFault.NoMemory) }
-    ensures sound { IfOk result (λ _. fault_of rim (map S.text words.entry.now) ≡ []) }
-    ensures refused { IfErr result (IsRefusalOf (fault_of rim (map S.text words.entry.now))) }
+    ensures takes { is_taken (map S.text words.entry.now) ≡ true → IfErr result (λ e. e ≡ CommandFault.NoMemory) }
+    ensures sound { IfOk result (λ _. mistakes_of (map S.text words.entry.now) ≡ []) }
+    ensures refused { IfErr result (IsRefusalOf (mistakes_of (map S.text words.entry.now))) }
 {
     let rim = rim_command(alloc)?;
     let matches = match rim.try_get_matches_from(words) {
@@ -65,18 +90,23 @@ pub fn command<'a, S: AsStr>(alloc: Global, words: &'a [S]) -> Result<Request<'a
     let Some((name, given)) = matches.subcommand() else {
         unreachable!()
     };
-    Ok(request_of(name, given))
+    match known_format(given) {
+        Some(format) => Ok(request_of(name, given, format)),
+        None => Err(unknown_format(alloc)?),
+    }
 }
 
 /// What a subcommand with its matches asks for.
-fn request_of<'a>(name: &str, given: &ArgMatches<'a>) -> Request<'a>
-    requires { IsEntered name.now (rows_of (found_of given.now)) }
+fn request_of<'a>(name: &str, given: &ArgMatches<'a>, format: Format) -> Request<'a>
+    requires entered { IsEntered name.now (rows_of (found_of given.now)) }
+    requires format { format_of (first_of (codes "format") (rows_of (found_of given.now))) ≡ Some format }
     ensures { ReadsRow name.now (rows_of (found_of given.now)) result }
 {
     match name {
         "measure" => Request::Measure {
             manifest: operand(given, "manifest"),
             workers: workers(given),
+            format,
         },
         "list" => Request::List {
             manifest: operand(given, "manifest"),
@@ -135,6 +165,26 @@ fn workers(given: &ArgMatches) -> u8
         Some(text) => number_of(text),
         None => 4,
     }
+}
+
+/// The format of a report, text where none is given, if it is known.
+fn known_format(given: &ArgMatches) -> Option<Format>
+    ensures { result ≡ format_of (first_of (codes "format") (rows_of (found_of given.now))) }
+{
+    match value(given, "format") {
+        None | Some("text") => Some(Format::Text),
+        Some("json") => Some(Format::Json),
+        Some(_) => None,
+    }
+}
+
+/// The refusal of a format that is not known.
+fn unknown_format(alloc: Global) -> Result<CommandFault, AllocError>
+    ensures { IfOk result (IsRefusalOf (ErrorKind.InvalidValue ∷ [])) }
+{
+    let message = "invalid value for '--format <FORMAT>'\n  [possible values: text, json]";
+    let error = rim_command(alloc)?.error(ErrorKind::InvalidValue, message)?;
+    Ok(CommandFault::Usage(error))
 }
 
 /// The number from 1 to 64 that a text writes.

@@ -18,6 +18,8 @@ mod headers;
 #[cfg(test)]
 mod images;
 #[cfg(test)]
+mod json;
+#[cfg(test)]
 mod kinds;
 #[cfg(test)]
 mod limits;
