@@ -11,3 +11,4 @@ pub mod Steps
 pub mod Given
 pub mod Digits
 pub mod Regions
+pub mod FoundFaults

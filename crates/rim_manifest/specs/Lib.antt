@@ -10,4 +10,5 @@ pub mod Items
 pub mod StepTexts
 pub mod Launches
 pub mod Manifest
+pub mod Found
 pub mod Given

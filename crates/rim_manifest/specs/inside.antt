@@ -1,1 +1,2 @@
 pub mod NumberRanges
+pub mod Findings

@@ -1,78 +1,127 @@
 //! The faults of a table whose keys have rules.
-ghost use Rattle.std.specs.Prelude.{◌≡◌, map, option_map};
+ghost use Rattle.std.specs.Prelude.{◌≡◌, ◌++◌, [], ◌∷◌, OnOk, if◌then◌else◌, map, option_map};
 ghost use Rattle.std.specs.List.{flat_map};
 ghost use Rattle.toml.specs.Data.{get_member};
 ghost use Rattle.toml.specs.View.{table_view, view};
-ghost use Rattle.rim_manifest.specs.Faults.{noted};
 ghost use Rattle.rim_manifest.specs.Checks.{has_unknown_key, is_known, rule_faults, ruled_faults, table_faults, value_faults};
+ghost use Rattle.rim_manifest.specs.Forms.{has_kind};
 ghost use Rattle.rim_manifest.specs.Rules.{rule_of};
+ghost use Rattle.rim_manifest.specs.inside.Findings.{faults_in};
 
-use crate::fault::{ManifestFault, note, note_if};
+use crate::fault::ManifestFault;
+use crate::finding::{Array, Finding, Place, Subject, note, note_if};
 use crate::form::{Form, Rule, has_kind, is_over, is_required, is_within};
+use refusal::NoMemory;
 use toml::{Table, Value};
 
-/// Notes the faults of a table whose keys have rules.
-#[tactic(auto, using(crate::proofs::Notes::noted_append, crate::proofs::Notes::flat_map_map))]
-pub fn check_table(rules: &[Rule], table: &Table, found: &mut Option<ManifestFault>)
-    ensures { found.new ≡ noted found.old (table_faults (map rule_of rules.now) (table_view table.now)) }
+/// Adds the faults of a table whose keys have rules.
+pub fn check_table(
+    rules: &[Rule],
+    place: Place,
+    table: &Table,
+    found: &mut Vec<Finding>,
+) -> Result<(), NoMemory>
+    ensures { OnOk result (faults_in found.new.items ≡ faults_in found.old.items ++ table_faults (map rule_of rules.now) (table_view table.now)) }
 {
-    note_if(
-        found,
-        has_unknown_key(rules, table),
-        ManifestFault::UnknownKey,
-    );
-    check_rules(rules, table, found);
+    let other_keys = Finding {
+        place,
+        subject: Subject::OtherKeys,
+        fault: ManifestFault::UnknownKey,
+    };
+    note_if(found, has_unknown_key(rules, table), other_keys)?;
+    check_rules(rules, place, table, found)
 }
 
-fn check_rules(rules: &[Rule], table: &Table, found: &mut Option<ManifestFault>)
-    ensures { found.new ≡ noted found.old (flat_map (λ r. rule_faults (rule_of r) (table_view table.now)) rules.now) }
+fn check_rules(
+    rules: &[Rule],
+    place: Place,
+    table: &Table,
+    found: &mut Vec<Finding>,
+) -> Result<(), NoMemory>
+    ensures { OnOk result (faults_in found.new.items ≡ faults_in found.old.items ++ flat_map (λ r. rule_faults (rule_of r) (table_view table.now)) rules.now) }
 {
     for rule in rules {
-        check_rule(rule, table, found);
+        check_rule(rule, place, table, found)?;
+    }
+    Ok(())
+}
+
+/// Adds the faults of each table of an array, whose keys have these rules.
+pub fn check_tables(
+    rules: &[Rule],
+    array: Array,
+    tables: &[Value],
+    found: &mut Vec<Finding>,
+) -> Result<(), NoMemory>
+    ensures { OnOk result (faults_in found.new.items ≡ faults_in found.old.items ++ flat_map (λ v. ruled_faults (map rule_of rules.now) (view v)) tables.now) }
+{
+    for (number, table) in tables.iter().enumerate() {
+        check_ruled(rules, array.at(number), table, found)?;
+    }
+    Ok(())
+}
+
+pub fn check_ruled(
+    rules: &[Rule],
+    place: Place,
+    table: &Value,
+    found: &mut Vec<Finding>,
+) -> Result<(), NoMemory>
+    ensures { OnOk result (faults_in found.new.items ≡ faults_in found.old.items ++ ruled_faults (map rule_of rules.now) (view table.now)) }
+{
+    match table {
+        Value::Table(table) => check_table(rules, place, table, found),
+        _ => Ok(()),
     }
 }
 
-/// Notes the faults of each table of an array, whose keys have rules.
-pub fn check_tables(rules: &[Rule], items: &[Value], found: &mut Option<ManifestFault>)
-    ensures { found.new ≡ noted found.old (flat_map (λ v. ruled_faults (map rule_of rules.now) (view v)) items.now) }
+/// Adds the faults of the value at the key of a rule.
+fn check_rule(
+    rule: &Rule,
+    place: Place,
+    table: &Table,
+    found: &mut Vec<Finding>,
+) -> Result<(), NoMemory>
+    ensures { OnOk result (faults_in found.new.items ≡ faults_in found.old.items ++ rule_faults (rule_of rule.now) (table_view table.now)) }
 {
-    for item in items {
-        check_ruled(rules, item, found);
+    let (key, form, presence) = *rule;
+    match cell(table, key) {
+        Some(value) => check_value(key, form, place, value, found),
+        None => note_if(
+            found,
+            is_required(presence),
+            at_key(key, form, place, ManifestFault::MissingKey),
+        ),
     }
 }
 
-pub fn check_ruled(rules: &[Rule], item: &Value, found: &mut Option<ManifestFault>)
-    ensures { found.new ≡ noted found.old (ruled_faults (map rule_of rules.now) (view item.now)) }
+fn check_value(
+    key: &'static str,
+    form: Form,
+    place: Place,
+    value: &Value,
+    found: &mut Vec<Finding>,
+) -> Result<(), NoMemory>
+    ensures { OnOk result (faults_in found.new.items ≡ faults_in found.old.items ++ (if has_kind form (view value.now) then value_faults form (view value.now) else ManifestFault.WrongKind ∷ [])) }
 {
-    if let Value::Table(table) = item {
-        check_table(rules, table, found);
+    if !has_kind(form, value) {
+        return note(found, at_key(key, form, place, ManifestFault::WrongKind));
     }
+    let over = at_key(key, form, place, ManifestFault::Limit);
+    note_if(found, is_over(form, value), over)?;
+    let outside = at_key(key, form, place, ManifestFault::Range);
+    note_if(found, !is_within(form, value), outside)
 }
 
-/// Notes the faults of the value at the key of a rule.
-fn check_rule(rule: &Rule, table: &Table, found: &mut Option<ManifestFault>)
-    ensures { found.new ≡ noted found.old (rule_faults (rule_of rule.now) (table_view table.now)) }
+/// A fault of the value at a key, or that the key is not given.
+fn at_key(key: &'static str, form: Form, place: Place, fault: ManifestFault) -> Finding
+    ensures { result.fault ≡ fault }
 {
-    let (name, form, presence) = *rule;
-    match cell(table, name) {
-        Some(value) => {
-            if !has_kind(form, value) {
-                note(found, ManifestFault::WrongKind);
-            } else {
-                check_value(form, value, found);
-            }
-        }
-        None => {
-            note_if(found, is_required(presence), ManifestFault::MissingKey);
-        }
+    Finding {
+        place,
+        subject: Subject::Key { key, form },
+        fault,
     }
-}
-
-fn check_value(form: Form, value: &Value, found: &mut Option<ManifestFault>)
-    ensures { found.new ≡ noted found.old (value_faults form (view value.now)) }
-{
-    note_if(found, is_over(form, value), ManifestFault::Limit);
-    note_if(found, !is_within(form, value), ManifestFault::Range);
 }
 
 /// The value at a key of a table.

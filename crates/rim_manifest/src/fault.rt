@@ -1,7 +1,7 @@
 //! Why a manifest is refused.
-ghost use Rattle.std.specs.Prelude.{◌≡◌, Option};
+ghost use Rattle.std.specs.Prelude.{◌≡◌};
 ghost use Rattle.rim_manifest.specs.declared.fault.ManifestFault.TheVariants as fault;
-ghost use Rattle.rim_manifest.specs.Faults.{fault_if, kind_of, lower, noted};
+ghost use Rattle.rim_manifest.specs.Faults.{kind_of, lower};
 
 use refusal::NoMemory;
 use std::alloc::AllocError;
@@ -85,20 +85,11 @@ impl ManifestFault {
 
 /// Keeps the lower of what was found so far and one more fault.
 #[tactic(auto, unfolding(crate::specs::Faults::lower))]
-pub fn note(found: &mut Option<ManifestFault>, fault: ManifestFault)
+pub fn lower(found: &mut Option<ManifestFault>, fault: ManifestFault)
     ensures { found.new ≡ lower found.old fault }
 {
     match found {
         Some(least) if *least as u8 <= fault as u8 => {}
         _ => *found = Some(fault),
-    }
-}
-
-/// Notes a fault where it holds.
-pub fn note_if(found: &mut Option<ManifestFault>, holds: bool, fault: ManifestFault)
-    ensures { found.new ≡ noted found.old (fault_if holds fault) }
-{
-    if holds {
-        note(found, fault);
     }
 }

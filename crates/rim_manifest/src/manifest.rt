@@ -1,24 +1,28 @@
 //! Reading a manifest.
-ghost use Rattle.std.specs.Prelude.{◌≡◌, ◌<◌, [], ◌∷◌, ◌++◌, ◌||◌, None, OnOk, Some, codes, length, map, position, slice_get, string_bytes};
+ghost use Rattle.std.specs.Prelude.{◌≡◌, ◌<◌, [], ◌∷◌, ◌++◌, ◌||◌, IfOk, None, OnOk, Some, codes, length, map, position, slice_get, string_bytes};
 ghost use Rattle.std.specs.List.{flat_map, list_any};
 ghost use Rattle.refusal.specs.Answer.{Answers};
 ghost use Rattle.toml.specs.Data.{get_member};
 ghost use Rattle.toml.specs.View.{table_view, view};
-ghost use Rattle.rim_manifest.specs.Faults.{lowest, noted};
+ghost use Rattle.rim_manifest.specs.Faults.{lowest};
 ghost use Rattle.rim_manifest.specs.Launches.{AreNumbered, ReleaseData, launches_from};
 ghost use Rattle.rim_manifest.specs.Forms.{items_in};
 ghost use Rattle.rim_manifest.specs.Manifest.{all_made, has_version, item_faults, launch_faults, manifest_faults, manifest_of, name_in, named_of};
 ghost use Rattle.rim_manifest.specs.StepTexts.{is_miscounted};
 ghost use Rattle.rim_manifest.specs.Names.{lacks_file, repeats, share_names};
+ghost use Rattle.rim_manifest.specs.inside.Findings.{faults_in};
 
 use crate::check::{cell, check_ruled, check_table, check_tables};
-use crate::fault::{ManifestFault, note_if};
+use crate::fault::ManifestFault;
 use crate::file::read_paths;
+use crate::finding::{Array, Finding, Place, Subject, lowest, note_if};
+use crate::form::Form;
 use crate::launch::{NamedLaunch, read_launch};
 use crate::names::{has_asked, lacks_file, repeats, role, share_names};
 use crate::rules::{DTB_RULES, FILE_RULES, ITEM_RULES, LAUNCH_RULES, REC_RULES, TOP_RULES};
 use crate::step::is_miscounted;
 use crate::value::{array, items};
+use refusal::NoMemory;
 use rim_launch::Role;
 use std::alloc::{AllocError, Global};
 use std::marker::Model;
@@ -97,23 +101,37 @@ pub fn read_manifest(alloc: Global, text: &[u8]) -> Result<Release, ManifestFaul
             return Err(ManifestFault::Syntax);
         }
     };
-    match lowest_fault(&table) {
+    let found = find_faults(alloc, &table)?;
+    match lowest(&found) {
         Some(fault) => Err(fault),
         None => read_release(alloc, &table),
     }
 }
 
-/// The lowest fault of the tables, each by itself.
-#[tactic(auto, using(crate::proofs::Notes::noted_append, crate::proofs::Notes::flat_map_map), unfolding(crate::specs::Manifest::manifest_faults))]
-fn lowest_fault(table: &Table) -> Option<ManifestFault>
-    ensures { result ≡ lowest (manifest_faults (table_view table.now)) }
+/// The faults of the tables, each by itself.
+#[tactic(auto, unfolding(crate::specs::Manifest::manifest_faults))]
+pub fn find_faults(alloc: Global, table: &Table) -> Result<Vec<Finding>, NoMemory>
+    ensures { IfOk result (λ found. faults_in found.items ≡ manifest_faults (table_view table.now)) }
 {
-    let mut found = None;
-    note_if(&mut found, !has_version(table), ManifestFault::Version);
-    check_table(&TOP_RULES, table, &mut found);
-    check_tables(&FILE_RULES, entries(table, "file"), &mut found);
-    check_launches(entries(table, "launch"), &mut found);
-    found
+    let mut found = Vec::new(alloc);
+    let version = Finding {
+        place: Place::Top,
+        subject: Subject::Key {
+            key: "rim_manifest",
+            form: Form::Version,
+        },
+        fault: ManifestFault::Version,
+    };
+    note_if(&mut found, !has_version(table), version)?;
+    check_table(&TOP_RULES, Place::Top, table, &mut found)?;
+    check_tables(
+        &FILE_RULES,
+        Array::Files,
+        entries(table, "file"),
+        &mut found,
+    )?;
+    check_launches(entries(table, "launch"), &mut found)?;
+    Ok(found)
 }
 
 fn has_version(table: &Table) -> bool
@@ -123,7 +141,7 @@ fn has_version(table: &Table) -> bool
 }
 
 /// The values of the array at a key; none where it is not given.
-fn entries<'a>(table: &'a Table, key: &str) -> &'a [Value]
+pub fn entries<'a>(table: &'a Table, key: &str) -> &'a [Value]
     ensures { map view result.now ≡ items_in (get_member key.now (table_view table.now)) }
 {
     match cell(table, key) {
@@ -132,49 +150,63 @@ fn entries<'a>(table: &'a Table, key: &str) -> &'a [Value]
     }
 }
 
-fn check_launches(items: &[Value], found: &mut Option<ManifestFault>)
-    ensures { found.new ≡ noted found.old (flat_map (λ v. launch_faults (view v)) items.now) }
+fn check_launches(launches: &[Value], found: &mut Vec<Finding>) -> Result<(), NoMemory>
+    ensures { OnOk result (faults_in found.new.items ≡ faults_in found.old.items ++ flat_map (λ v. launch_faults (view v)) launches.now) }
 {
-    for item in items {
-        check_launch(item, found);
+    for (number, launch) in launches.iter().enumerate() {
+        check_launch(number, launch, found)?;
     }
+    Ok(())
 }
 
-/// Notes the faults of a launch's table and of the tables of its items and RECs, and an edit without what it
+/// Adds the faults of a launch's table and of the tables of its items and RECs, and an edit without what it
 /// asks for.
 #[tactic(auto, unfolding(crate::specs::Manifest::launch_faults))]
-fn check_launch(launch: &Value, found: &mut Option<ManifestFault>)
-    ensures { found.new ≡ noted found.old (launch_faults (view launch.now)) }
+fn check_launch(number: usize, launch: &Value, found: &mut Vec<Finding>) -> Result<(), NoMemory>
+    ensures { OnOk result (faults_in found.new.items ≡ faults_in found.old.items ++ launch_faults (view launch.now)) }
 {
-    if let Value::Table(table) = launch {
-        check_table(&LAUNCH_RULES, table, found);
-        check_items(array(launch, "item"), found);
-        check_tables(&REC_RULES, array(launch, "rec"), found);
-        note_if(found, !has_asked(launch), ManifestFault::MissingKey);
-    }
+    let Value::Table(table) = launch else {
+        return Ok(());
+    };
+    let place = Place::Launch { launch: number };
+    check_table(&LAUNCH_RULES, place, table, found)?;
+    check_items(number, array(launch, "item"), found)?;
+    let recs = Array::Recs { launch: number };
+    check_tables(&REC_RULES, recs, array(launch, "rec"), found)?;
+    let asked = Finding {
+        place,
+        subject: Subject::Asked,
+        fault: ManifestFault::MissingKey,
+    };
+    note_if(found, !has_asked(launch), asked)
 }
 
-fn check_items(items: &[Value], found: &mut Option<ManifestFault>)
-    ensures { found.new ≡ noted found.old (flat_map (λ v. item_faults (view v)) items.now) }
+fn check_items(launch: usize, items: &[Value], found: &mut Vec<Finding>) -> Result<(), NoMemory>
+    ensures { OnOk result (faults_in found.new.items ≡ faults_in found.old.items ++ flat_map (λ v. item_faults (view v)) items.now) }
 {
-    for item in items {
-        check_item(item, found);
+    for (number, item) in items.iter().enumerate() {
+        let place = Place::Item {
+            launch,
+            item: number,
+        };
+        check_item(place, item, found)?;
     }
+    Ok(())
 }
 
-/// Notes the faults of an item's table, which has the keys of its kind.
-fn check_item(item: &Value, found: &mut Option<ManifestFault>)
-    ensures { found.new ≡ noted found.old (item_faults (view item.now)) }
+/// Adds the faults of an item's table, which has the keys of its kind.
+fn check_item(place: Place, item: &Value, found: &mut Vec<Finding>) -> Result<(), NoMemory>
+    ensures { OnOk result (faults_in found.new.items ≡ faults_in found.old.items ++ item_faults (view item.now)) }
 {
     match role(item) {
-        Role::Dtb => check_ruled(&DTB_RULES, item, found),
-        _ => check_ruled(&ITEM_RULES, item, found),
+        Role::Dtb => check_ruled(&DTB_RULES, place, item, found),
+        _ => check_ruled(&ITEM_RULES, place, item, found),
     }
 }
 
 /// Reads what a document without faults in its tables describes. The searches are quadratic in the launches and
 /// in the items of each, which are at most 1,024 and 64 by now, and in the files, which are at most 64.
-fn read_release(alloc: Global, table: &Table) -> Result<Release, ManifestFault>
+pub fn read_release(alloc: Global, table: &Table) -> Result<Release, ManifestFault>
     requires { lowest (manifest_faults (table_view table.now)) ≡ None }
     ensures { Answers ManifestFault.NoMemory (λ release. release) result (named_of (table_view table.now)) }
 {

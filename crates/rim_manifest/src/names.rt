@@ -104,7 +104,7 @@ pub fn repeats(launch: &Value) -> bool
 }
 
 /// Whether a file has the name that an item gives as its file.
-fn has_file(files: &[Value], item: &Value) -> bool
+pub fn has_file(files: &[Value], item: &Value) -> bool
     ensures { result ≡ has_file (map view files.now) (view item.now) }
 {
     is_any_named(files, text(item, "file"))

@@ -44,7 +44,8 @@ fn spelled_steps(alloc: Global, tables: &[Value], texts: &[Value]) -> Result<Vec
     texts.iter().map(|text| step(tables, text)).collect(alloc)
 }
 
-fn step(tables: &[Value], text: &Value) -> Step
+/// The step that a text spells; one that spells none, as the step of a region that no launch has.
+pub fn step(tables: &[Value], text: &Value) -> Step
     ensures { result ≡ step_in (map view tables.now) (view text.now) }
 {
     match text {

@@ -1,6 +1,6 @@
 use Rattle.std.proofs.Common.{rules}
 use Rattle.rim_manifest.specs.Faults.{lower}
-use Rattle.rim_manifest.proofs.fault.note.Goals as goal
+use Rattle.rim_manifest.proofs.fault.lower.Goals as goal
 
 pub returns-in-Some : goal.returns-in-Some
 unfolding lower

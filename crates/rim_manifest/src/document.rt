@@ -1,0 +1,113 @@
+//! A manifest as a TOML document, which is searched for all of its faults.
+ghost use Rattle.std.specs.Prelude.{◌≡◌, ◌≢◌, IfErr, IfOk, None, Some};
+ghost use Rattle.toml.specs.Errors.{IsMemory};
+ghost use Rattle.toml.specs.View.{table_view};
+ghost use Rattle.rim_manifest.specs.Faults.{lowest};
+ghost use Rattle.rim_manifest.specs.Found.{IsChecked};
+ghost use Rattle.rim_manifest.specs.Manifest.{document_of};
+ghost use Rattle.rim_manifest.specs.inside.Findings.{faults_in};
+
+use crate::fault::ManifestFault;
+use crate::finding::{Finding, Place, Subject, lowest};
+use crate::manifest::{Release, entries, find_faults, read_release};
+use crate::naming::find_names;
+use crate::value::array;
+use refusal::NoMemory;
+use std::alloc::Global;
+use toml::de::Error;
+use toml::{Table, Value};
+
+/// A TOML document, which may be a manifest.
+#[derive(Drop)]
+pub struct Document {
+    pub table: Table,
+}
+
+/// What a document is found to be.
+#[derive(Drop)]
+pub enum Checked {
+    /// A manifest, and the release that it describes.
+    Accepted(Release),
+    /// A manifest with faults, each with its place.
+    Refused(Vec<Finding>),
+}
+
+impl Document {
+    /// The document that a text is. The error is that of `toml`.
+    pub fn read(alloc: Global, text: &[u8]) -> Result<Document, Error>
+        ensures document { IfOk result (λ d. document_of text.now ≡ Some (table_view d.table)) }
+        ensures refused { IfErr result (λ e. ¬ (IsMemory e) → document_of text.now ≡ None) }
+    {
+        match toml::table_from_slice(alloc, text) {
+            Ok(table) => Ok(Document { table }),
+            Err(error) => Err(error),
+        }
+    }
+
+    /// The release that it describes, or its faults: those of the tables, each where it holds; or, where no table has one,
+    /// those of names and of steps.
+    pub fn check(&self, alloc: Global) -> Result<Checked, NoMemory>
+        ensures { IfOk result (IsChecked (table_view self.now.table)) }
+    {
+        let found = find_faults(alloc, &self.table)?;
+        if lowest(&found).is_some() {
+            return Ok(Checked::Refused(found));
+        }
+        match read_release(alloc, &self.table) {
+            Ok(release) => Ok(Checked::Accepted(release)),
+            Err(fault) => Ok(Checked::Refused(faults_of_names(alloc, &self.table, fault)?)),
+        }
+    }
+
+    /// The table at a place, if it is there.
+    pub fn table(&self, place: Place) -> Option<&Table> {
+        let launches = entries(&self.table, "launch");
+        match place {
+            Place::Top => Some(&self.table),
+            Place::File { file } => table_at(entries(&self.table, "file"), file),
+            Place::Launch { launch } => table_at(launches, launch),
+            Place::Item { launch, item } => table_at(array(launches.get(launch)?, "item"), item),
+            Place::Rec { launch, rec } => table_at(array(launches.get(launch)?, "rec"), rec),
+        }
+    }
+}
+
+/// The table of this number.
+fn table_at(tables: &[Value], number: usize) -> Option<&Table> {
+    match tables.get(number)? {
+        Value::Table(table) => Some(table),
+        _ => None,
+    }
+}
+
+/// Faults of names and of steps, of which the lowest is this one; want of memory is no such fault.
+fn faults_of_names(
+    alloc: Global,
+    table: &Table,
+    fault: ManifestFault,
+) -> Result<Vec<Finding>, NoMemory>
+    ensures least { IfOk result (λ found. lowest (faults_in found.items) ≡ Some fault) }
+    ensures own { IfOk result (λ _. fault ≢ ManifestFault.NoMemory) }
+{
+    if fault == ManifestFault::NoMemory {
+        return Err(NoMemory);
+    }
+    let found = find_names(alloc, table)?;
+    if lowest(&found) == Some(fault) {
+        return Ok(found);
+    }
+    one_fault(alloc, fault)
+}
+
+/// This fault, of which no place is known.
+#[tactic(auto, unfolding(crate::specs::Faults::lower))]
+fn one_fault(alloc: Global, fault: ManifestFault) -> Result<Vec<Finding>, NoMemory>
+    ensures { IfOk result (λ found. lowest (faults_in found.items) ≡ Some fault) }
+{
+    let whole = Finding {
+        place: Place::Top,
+        subject: Subject::Whole,
+        fault,
+    };
+    Ok(vec![in alloc; whole]?)
+}

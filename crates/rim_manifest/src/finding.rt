@@ -1,0 +1,99 @@
+//! The faults that are found in a manifest, each with its place.
+ghost use Rattle.std.specs.Prelude.{◌≡◌, ◌++◌, [], ◌∷◌, OnOk};
+ghost use Rattle.rim_manifest.specs.Faults.{fault_if, lowest};
+ghost use Rattle.rim_manifest.specs.inside.Findings.{faults_in};
+
+use crate::fault::{ManifestFault, lower};
+use crate::form::Form;
+use refusal::NoMemory;
+
+/// A table of a manifest: the one at the top, or one of an array, by its number there.
+#[derive(Clone, Copy, Debug, PartialEq, Eq)]
+pub enum Place {
+    Top,
+    File { file: usize },
+    Launch { launch: usize },
+    Item { launch: usize, item: usize },
+    Rec { launch: usize, rec: usize },
+}
+
+/// An array of tables of a manifest.
+#[derive(Clone, Copy, Debug, PartialEq, Eq)]
+pub enum Array {
+    Files,
+    Launches,
+    Items { launch: usize },
+    Recs { launch: usize },
+}
+
+impl Array {
+    /// The table of this number in the array.
+    pub fn at(self, number: usize) -> Place {
+        match self {
+            Array::Files => Place::File { file: number },
+            Array::Launches => Place::Launch { launch: number },
+            Array::Items { launch } => Place::Item {
+                launch,
+                item: number,
+            },
+            Array::Recs { launch } => Place::Rec {
+                launch,
+                rec: number,
+            },
+        }
+    }
+}
+
+/// What is at fault in a table.
+#[derive(Clone, Copy, Debug)]
+pub enum Subject {
+    /// The value at a key, or that the key is not given.
+    Key { key: &'static str, form: Form },
+    /// The keys that the format does not list.
+    OtherKeys,
+    /// A devicetree of the launch asks for an initrd or for RAM that the launch has not.
+    Asked,
+    /// The step of this number.
+    Step { step: usize },
+    /// The launch's steps together.
+    Steps,
+    /// No part of it is known to be.
+    Whole,
+}
+
+/// A fault of a manifest, where it is.
+#[derive(Clone, Copy, Debug)]
+pub struct Finding {
+    pub place: Place,
+    pub subject: Subject,
+    pub fault: ManifestFault,
+}
+
+/// Adds a fault to those that were found.
+pub fn note(found: &mut Vec<Finding>, finding: Finding) -> Result<(), NoMemory>
+    ensures { OnOk result (faults_in found.new.items ≡ faults_in found.old.items ++ finding.fault ∷ []) }
+{
+    found.push(finding)?;
+    Ok(())
+}
+
+/// Adds a fault where it holds.
+pub fn note_if(found: &mut Vec<Finding>, holds: bool, finding: Finding) -> Result<(), NoMemory>
+    ensures { OnOk result (faults_in found.new.items ≡ faults_in found.old.items ++ fault_if holds finding.fault) }
+{
+    if holds {
+        note(found, finding)?;
+    }
+    Ok(())
+}
+
+/// The lowest fault of those that were found.
+pub fn lowest(found: &[Finding]) -> Option<ManifestFault>
+    ensures { result ≡ lowest (faults_in found.now) }
+{
+    let mut least = None;
+    for finding in found {
+        lower(&mut least, finding.fault);
+    }
+    least
+}
