@@ -1,0 +1,5 @@
+pub mod AddedLines
+pub mod Explaining
+pub mod FindingLines
+pub mod LaunchLines
+pub mod Refusals

@@ -1,0 +1,7 @@
+use Rattle.std.proofs.Common.{rules}
+use Rattle.rim_check.proofs.AddedLines.{adds-line}
+use Rattle.rim_check.proofs.line.push_line.Goals as goal
+
+pub returns : goal.returns
+returns c =
+    adds-line _ c.as_slice.result.now c.as_slice-2.result.now _ _ c.as_slice.ensures.inside c.as_slice-2.ensures.inside (search rules)

@@ -1,0 +1,30 @@
+use Rattle.std.proofs.Common.{◌∙◌, ◌≡◌, List, Ok, Err, map, refl, subst, sym, true}
+use Rattle.std.proofs.lemmas.Bool.{false≢true}
+use Rattle.toml.specs.Errors.{IsMemory}
+use Rattle.toml.specs.View.{table_view}
+use Rattle.rim_manifest.specs.declared.document.Checked.TheVariants.{Accepted}
+use Rattle.rim_manifest.specs.declared.finding.Finding.{Finding}
+use Rattle.rim_manifest.specs.Faults.{kind_of}
+use Rattle.rim_manifest.specs.Found.{AreFound, IsChecked}
+use Rattle.rim_manifest.specs.inside.Findings.{faults_in}
+use Rattle.rim_check.specs.Lines.{SayInTurn}
+use Rattle.rim_check.proofs.Explaining.{explains-found, explains-syntax, of-document, of-none}
+use Rattle.rim_check.proofs.manifest.check_manifest.Goals as goal
+
+pub returns-in-Err : goal.returns-in-Err
+returns-in-Err c =
+    let not_memory : ¬ (IsMemory c.in-Err.error) = λ m. let t : c.is_memory.result ≡ true = c.is_memory.ensures.1 m in false≢true (sym c.if-is_memory.false ∙ t) in
+    of-none _ _ (c.in-Err.ensures.refused not_memory) (explains-syntax _ c.in_ok-syntax_line-in-Err.ensures)
+
+pub returns-in-Accepted : goal.returns-in-Accepted
+returns-in-Accepted c =
+    let ms = table_view c.in-Ok.document.table in
+    let checked : IsChecked ms (Accepted c.in-Accepted.release) = subst (IsChecked ms) c.in-Accepted.is c.in_ok-release.ensures in
+    of-document _ ms (Ok c.in-Accepted.release) _ c.in-Ok.ensures.document checked refl
+
+pub returns-in_ok-lines-in-Refused : goal.returns-in_ok-lines-in-Refused
+returns-in_ok-lines-in-Refused c =
+    let ms = table_view c.in-Ok.document.table in
+    let found : AreFound ms (faults_in c.in-Refused.found.items) = subst (IsChecked ms) c.in-Refused.is c.in_ok-release.ensures in
+    let lines = subst (λ (fs : List Finding). SayInTurn (map kind_of (faults_in fs)) c.in_ok-lines-in-Refused.field-0.items) c.deref.ensures.value c.in_ok-lines-in-Refused.ensures in
+    of-document _ ms (Err found.fault) _ c.in-Ok.ensures.document found.refused (explains-found ms _ _ found lines)

@@ -1,0 +1,21 @@
+//! What is wrong with a manifest and with the launches that it describes: a line for each fault, with its place, what is
+//! there and what may be.
+#![tactic(auto)]
+
+mod checked;
+mod expected;
+mod finding_detail;
+pub mod launches;
+mod layout_detail;
+pub mod line;
+mod list_detail;
+pub mod manifest;
+mod nearest;
+mod place;
+mod shown;
+mod syntax;
+mod walk;
+
+pub use launches::check_launches;
+pub use line::push_file;
+pub use manifest::{ManifestCheck, Readable, check_manifest};

@@ -1,0 +1,117 @@
+//! The faults of a manifest.
+ghost use Rattle.std.specs.Prelude.{[], ◌∷◌, IfOk, OnOk, map};
+ghost use Rattle.rim_manifest.specs.Faults.{kind_of};
+ghost use Rattle.rim_manifest.specs.Manifest.{manifest_of};
+ghost use Rattle.rim_manifest.specs.inside.Findings.{faults_in};
+ghost use Rattle.rim_check.specs.Explained.{IsCheckOf};
+ghost use Rattle.rim_check.specs.Lines.{AddsLine, SayInTurn};
+
+use crate::finding_detail::write_detail;
+use crate::line::{Line, push_line};
+use crate::place::{name_at, write_place};
+use crate::syntax::write_position;
+use refusal::NoMemory;
+use rim_manifest::{Checked, Document, Finding, ManifestFault, Place, Release};
+use std::alloc::Global;
+use std::fmt::Write;
+use std::marker::Model;
+use toml::de::Error;
+
+/// A manifest that was checked.
+#[derive(Drop)]
+pub enum ManifestCheck {
+    /// It has faults: a line for each.
+    Faulty(Vec<u8>),
+    /// It describes a release.
+    Readable(Readable),
+}
+
+/// A manifest without faults. A clause sees its release.
+#[derive(Drop)]
+pub struct Readable {
+    document: Document,
+    release: Release,
+}
+
+impl Model for Readable {
+    ghost use Rattle.rim_manifest.specs.Launches.{ReleaseData};
+
+    ghost Value = { ReleaseData };
+
+    ghost view = { λ r. r.release };
+}
+
+impl Readable {
+    ghost use Rattle.std.specs.Prelude.{◌≡◌};
+
+    /// The release that it describes.
+    pub fn release(&self) -> &Release
+        ensures { result.now ≡ self.now }
+    {
+        &self.release
+    }
+
+    /// The name of an item of a launch, by their numbers; no text where there is none.
+    pub fn item_name(&self, launch: usize, item: usize) -> &str {
+        name_at(&self.document, Place::Item { launch, item }).unwrap_or("")
+    }
+}
+
+/// Checks a manifest: a line for each of its faults, or the release that it describes. A line has the place of the fault, its
+/// word, what is there and what may be.
+pub fn check_manifest(alloc: Global, text: &[u8]) -> Result<ManifestCheck, NoMemory>
+    ensures { IfOk result (IsCheckOf (manifest_of text.now)) }
+{
+    let document = match Document::read(alloc, text) {
+        Ok(document) => document,
+        Err(error) => {
+            if error.is_memory() {
+                return Err(NoMemory);
+            }
+            return Ok(ManifestCheck::Faulty(syntax_line(alloc, text, &error)?));
+        }
+    };
+    match document.check(alloc)? {
+        Checked::Accepted(release) => {
+            Ok(ManifestCheck::Readable(Readable { document, release }))
+        }
+        Checked::Refused(found) => Ok(ManifestCheck::Faulty(lines(alloc, &document, &found)?)),
+    }
+}
+
+/// The line of a text that is no TOML document: where it is none, and why.
+fn syntax_line(alloc: Global, text: &[u8], error: &Error) -> Result<Vec<u8>, NoMemory>
+    ensures { IfOk result (λ line. SayInTurn (map kind_of (ManifestFault.Syntax ∷ [])) line.items) }
+{
+    let mut before = Line::new(alloc);
+    write_position(&mut before, text, error).map_err(|_| NoMemory)?;
+    let mut after = Line::new(alloc);
+    let message = error.message();
+    write!(after, ": {message}").map_err(|_| NoMemory)?;
+    let mut lines = Vec::new(alloc);
+    push_line(&mut lines, &before, ManifestFault::Syntax.kind(), &after)?;
+    Ok(lines)
+}
+
+/// A line for each fault.
+fn lines(alloc: Global, document: &Document, found: &[Finding]) -> Result<Vec<u8>, NoMemory>
+    ensures { IfOk result (λ lines. SayInTurn (map kind_of (faults_in found.now)) lines.items) }
+{
+    let mut lines = Vec::new(alloc);
+    for finding in found {
+        add_line(&mut lines, document, finding)?;
+    }
+    Ok(lines)
+}
+
+/// Adds the line of a fault.
+fn add_line(lines: &mut Vec<u8>, document: &Document, finding: &Finding) -> Result<(), NoMemory>
+    ensures { OnOk result (AddsLine (kind_of finding.now.fault) lines.old.items lines.new.items) }
+{
+    let alloc = *lines.allocator();
+    let mut before = Line::new(alloc);
+    write_place(&mut before, document, finding).map_err(|_| NoMemory)?;
+    let mut after = Line::new(alloc);
+    write_detail(alloc, &mut after, document, finding).map_err(|_| NoMemory)?;
+    push_line(lines, &before, finding.fault.kind(), &after)
+}

@@ -1,0 +1,52 @@
+//! The known word that is nearest to another one.
+use std::alloc::{AllocError, Global};
+use std::fmt;
+use strsim::levenshtein;
+
+/// How many letters a word may differ by from the nearest one, and one more.
+const FAR: usize = 3;
+
+/// The longest word that is compared, in bytes.
+const LONGEST: usize = 64;
+
+/// The nearest of some known words to a word, as far as they were added. Printed, it is ` (nearest: WORD)`, or nothing where
+/// none is near.
+#[derive(Clone, Copy)]
+pub struct Nearest<'a, 'k> {
+    word: &'a str,
+    found: Option<&'k str>,
+    distance: usize,
+}
+
+impl<'a, 'k> Nearest<'a, 'k> {
+    /// No known word yet.
+    pub fn new(word: &'a str) -> Nearest<'a, 'k> {
+        Nearest {
+            word,
+            found: None,
+            distance: FAR,
+        }
+    }
+
+    /// Adds a known word.
+    pub fn add(&mut self, alloc: Global, known: &'k str) -> Result<(), AllocError> {
+        if self.word.len() > LONGEST || known.len() > LONGEST {
+            return Ok(());
+        }
+        let distance = levenshtein(alloc, self.word, known)?;
+        if distance < self.distance {
+            self.distance = distance;
+            self.found = Some(known);
+        }
+        Ok(())
+    }
+}
+
+impl fmt::Display for Nearest<'_, '_> {
+    fn fmt<W: fmt::Write>(&self, f: &mut fmt::Formatter<W>) -> fmt::Result {
+        match self.found {
+            Some(found) => write!(f, " (nearest: {found})"),
+            None => Ok(()),
+        }
+    }
+}
