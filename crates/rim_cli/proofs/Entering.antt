@@ -202,10 +202,13 @@ stopped_good (Some q) p is passes = found_good q.0 q.1 (built rim).subs p each i
         (
           (λ words fits. inr (inr (inl (one_entered (codes "audit") (codes "manifest") words fits)))),
           (
-            (λ words fits. inr (inr (inr (inl (launch_entered (codes "dtb") words fits))))),
+            (λ words fits. inr (inr (inr (inl (one_entered (codes "check") (codes "manifest") words fits))))),
             (
-              (λ words fits. inr (inr (inr (inr (inl (one_entered (codes "image") (codes "file") words fits)))))),
-              ((λ words fits. inr (inr (inr (inr (inr (one_entered (codes "fdt") (codes "file") words fits)))))), tt),
+              (λ words fits. inr (inr (inr (inr (inl (launch_entered (codes "dtb") words fits)))))),
+              (
+                (λ words fits. inr (inr (inr (inr (inr (inl (one_entered (codes "image") (codes "file") words fits))))))),
+                ((λ words fits. inr (inr (inr (inr (inr (inr (one_entered (codes "fdt") (codes "file") words fits))))))), tt),
+              ),
             ),
           ),
         ),

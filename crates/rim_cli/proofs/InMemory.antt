@@ -17,7 +17,7 @@ use Rattle.rim_cli.specs.Files.{AreRead, IfFile, Known}
 use Rattle.rim_cli.specs.declared.words.Format.{Format}
 use Rattle.rim_cli.specs.declared.words.Format.TheVariants as format
 use Rattle.rim_cli.specs.declared.words.Request.{Request}
-use Rattle.rim_cli.specs.declared.words.Request.TheVariants.{Measure, List as Lists, Audit, Dtb, Image, Fdt}
+use Rattle.rim_cli.specs.declared.words.Request.TheVariants.{Measure, List as Lists, Audit, Check, Dtb, Image, Fdt}
 
 -- what is known where there is one manifest
 abbrev pub in_memory : List ℕ → List ℕ → Known
@@ -36,6 +36,7 @@ unfolding clap_on_literals
 asked_path (Measure path workers format) asked = sym (same_Some _ _ asked.1)
 asked_path (Lists path launch) asked = absurd (other (codes "list") refl asked.0)
 asked_path (Audit path) asked = absurd (other (codes "audit") refl asked.0)
+asked_path (Check path) asked = absurd (other (codes "check") refl asked.0)
 asked_path (Dtb path launch) asked = absurd (other (codes "dtb") refl asked.0)
 asked_path (Image file) asked = absurd (other (codes "image") refl asked.0)
 asked_path (Fdt file) asked = absurd (other (codes "fdt") refl asked.0)
@@ -48,6 +49,7 @@ asked_report held (Measure path workers format) bytes text status asked answer =
     subst (λ (f : Format). IsOkAnd (manifest_of bytes) (λ r. IsReport f held r text status)) (sym (same_Some _ _ asked.3)) answer
 asked_report held (Lists path launch) bytes text status asked answer = absurd (other (codes "list") refl asked.0)
 asked_report held (Audit path) bytes text status asked answer = absurd (other (codes "audit") refl asked.0)
+asked_report held (Check path) bytes text status asked answer = absurd (other (codes "check") refl asked.0)
 asked_report held (Dtb path launch) bytes text status asked answer = absurd (other (codes "dtb") refl asked.0)
 asked_report held (Image file) bytes text status asked answer = absurd (other (codes "image") refl asked.0)
 asked_report held (Fdt file) bytes text status asked answer = absurd (other (codes "fdt") refl asked.0)

@@ -6,3 +6,4 @@ pub mod Refusing
 pub mod Releases
 pub mod InMemory
 pub mod Formats
+pub mod Found

@@ -17,7 +17,7 @@ use Rattle.rim_cli.specs.declared.words.CommandFault.TheVariants.{Usage, NoMemor
 use Rattle.rim_cli.specs.declared.words.Format.{Format}
 use Rattle.rim_cli.specs.declared.words.Format.TheVariants as format
 use Rattle.rim_cli.specs.declared.words.Request.{Request}
-use Rattle.rim_cli.specs.declared.words.Request.TheVariants.{Measure, List as Lists, Audit, Dtb, Image, Fdt}
+use Rattle.rim_cli.specs.declared.words.Request.TheVariants.{Measure, List as Lists, Audit, Check, Dtb, Image, Fdt}
 
 -- an operand that has to be given, with a name that usage texts show
 abbrev pub operand_rule : Text → Rule
@@ -40,12 +40,15 @@ format_rule = record (new_rule (codes "format")) { long = Some (codes "format");
 abbrev pub measure : App
 measure = with_rule (with_rule (with_rule (new_app (codes "measure")) (operand_rule (codes "manifest"))) workers_rule) format_rule
 
--- a subcommand with one operand: `audit MANIFEST`, `image FILE`, `fdt FILE`
+-- a subcommand with one operand: `audit MANIFEST`, `check MANIFEST`, `image FILE`, `fdt FILE`
 abbrev pub with_operand : Text → Text → App
 with_operand name id = with_rule (new_app name) (operand_rule id)
 
 abbrev pub audit : App
 audit = with_operand (codes "audit") (codes "manifest")
+
+abbrev pub check : App
+check = with_operand (codes "check") (codes "manifest")
 
 abbrev pub image : App
 image = with_operand (codes "image") (codes "file")
@@ -66,7 +69,7 @@ dtb = with_launch (codes "dtb")
 -- the program: one of its subcommands has to be given, and it has a version
 abbrev pub rim : App
 rim = on_top (λ s. record s { has_version = true; subcommand_required = true; disable_help_subcommand = true })
-    (with_subcommand (with_subcommand (with_subcommand (with_subcommand (with_subcommand (with_subcommand (new_app (codes "rim")) measure.top) list.top) audit.top) dtb.top) image.top) fdt.top)
+    (with_subcommand (with_subcommand (with_subcommand (with_subcommand (with_subcommand (with_subcommand (with_subcommand (new_app (codes "rim")) measure.top) list.top) audit.top) check.top) dtb.top) image.top) fdt.top)
 
 -- the number of workers, 4 where none is given: in words that `clap` takes it is from 1 to 64
 abbrev pub CountsWorkers : Option Text → ℕ → Type 0
@@ -104,6 +107,7 @@ ReadsRow name rows (Measure manifest workers format) = (name ≡ codes "measure"
 ReadsRow name rows (Lists manifest launch) = (name ≡ codes "list")
     × (first_of (codes "manifest") rows ≡ Some manifest.now) × (first_of (codes "launch") rows ≡ Some launch.now)
 ReadsRow name rows (Audit manifest) = (name ≡ codes "audit") × (first_of (codes "manifest") rows ≡ Some manifest.now)
+ReadsRow name rows (Check manifest) = (name ≡ codes "check") × (first_of (codes "manifest") rows ≡ Some manifest.now)
 ReadsRow name rows (Dtb manifest launch) = (name ≡ codes "dtb")
     × (first_of (codes "manifest") rows ≡ Some manifest.now) × (first_of (codes "launch") rows ≡ Some launch.now)
 ReadsRow name rows (Image file) = (name ≡ codes "image") × (first_of (codes "file") rows ≡ Some file.now)
@@ -144,7 +148,8 @@ IsOne verb id name rows = (name ≡ verb) × HasOperand id rows
 -- and of those of some subcommand: a further one is a further case
 abbrev pub IsEntered : Text → List Row → Type 0
 IsEntered name rows = IsMeasure name rows ⊎ (IsOfLaunch (codes "list") name rows ⊎ (IsOne (codes "audit") (codes "manifest") name rows
-    ⊎ (IsOfLaunch (codes "dtb") name rows ⊎ (IsOne (codes "image") (codes "file") name rows ⊎ IsOne (codes "fdt") (codes "file") name rows))))
+    ⊎ (IsOne (codes "check") (codes "manifest") name rows ⊎ (IsOfLaunch (codes "dtb") name rows
+    ⊎ (IsOne (codes "image") (codes "file") name rows ⊎ IsOne (codes "fdt") (codes "file") name rows)))))
 
 -- help and the version are asked for; each other kind of error is a mistake in the words
 abbrev pub is_asked : ErrorKind → Bool

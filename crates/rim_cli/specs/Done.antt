@@ -1,8 +1,8 @@
 -- What a run of the program has written when it is done, and why it is refused. This project's choice.
-use Rattle.std.specs.Prelude.{◌≡◌, ◌⊎◌, ℕ, List, Option, Some, None, IsOkAnd, Ok, Err, is_err, is_some, true, option_and_then, position, slice_get, if◌then◌else◌}
+use Rattle.std.specs.Prelude.{◌≡◌, ◌≢◌, ◌⊎◌, ℕ, List, [], Option, Some, None, IsOkAnd, Ok, Err, is_err, is_some, true, option_and_then, position, slice_get, if◌then◌else◌}
 use Rattle.std.specs.Io.KnownBytes.{Appends}
 use Rattle.clap.specs.Words.{Text, subcommand_of}
-use Rattle.rim_manifest.specs.Manifest.{manifest_of, name_in}
+use Rattle.rim_manifest.specs.Manifest.{Answer, manifest_of, name_in}
 use Rattle.rim_manifest.specs.Launches.{NamedData, ReleaseData}
 use Rattle.rim_manifest.specs.declared.fault.ManifestFault.TheVariants as manifest
 use Rattle.rim_release.specs.Devicetree.{devicetree_of}
@@ -15,14 +15,17 @@ use Rattle.rim_release.specs.declared.audit_fault.AuditFault.TheVariants as audi
 use Rattle.rim_release.specs.declared.show.fault.ShowFault.TheVariants as show
 use Rattle.rim_release.specs.declared.fault.StartFault.{StartFault}
 use Rattle.rim_release.specs.declared.fault.StartFault.TheVariants as start
+use Rattle.rim_check.specs.Explained.{Explains, refused_words}
+use Rattle.rim_check.specs.Lines.{SayInTurn}
 use Rattle.rim_cli.specs.declared.words.Format.{Format}
 use Rattle.rim_cli.specs.declared.words.Format.TheVariants as format
 use Rattle.rim_cli.specs.declared.words.Request.{Request}
-use Rattle.rim_cli.specs.declared.words.Request.TheVariants.{Measure, List as Lists, Audit, Dtb, Image, Fdt}
+use Rattle.rim_cli.specs.declared.words.Request.TheVariants.{Measure, List as Lists, Audit, Check, Dtb, Image, Fdt}
 use Rattle.rim_cli.specs.declared.fault.Fault.{Fault}
 use Rattle.rim_cli.specs.declared.fault.Fault.TheVariants.{Manifest, NoSuchLaunch, Start, Refused, NoDevicetree, Show}
 use Rattle.rim_cli.specs.Command.{ReadsRequest, rim}
 use Rattle.rim_cli.specs.Files.{AreRead, IfFile, IsFileFault, IsFirstFault, Known}
+use Rattle.rim_cli.specs.Unread.{AreUnread}
 use Rattle.rim_cli.specs.Status.{status_of}
 
 -- the path of the file that a request is about
@@ -30,6 +33,7 @@ abbrev pub path_of : Request → List ℕ
 path_of (Measure path workers format) = path.now
 path_of (Lists path launch) = path.now
 path_of (Audit path) = path.now
+path_of (Check path) = path.now
 path_of (Dtb path launch) = path.now
 path_of (Image file) = file.now
 path_of (Fdt file) = file.now
@@ -58,6 +62,30 @@ pub record IsAudit (held : List ℕ → Known) (r : ReleaseData) (shown : List �
   pub text : shown ≡ audit_text_of files r.launches
   pub status : answer ≡ (if has_refused files r.launches then 1 else 0)
 
+-- a release is checked whose files are not all read: a line for each that cannot be, and the status is 3
+pub record ChecksFiles (held : List ℕ → Known) (r : ReleaseData) (shown : List ℕ) (answer : ℕ) : Type 0 where
+  pub words : List (List ℕ)
+  pub unread : AreUnread held r.paths words
+  pub some : words ≢ []
+  pub lines : SayInTurn words shown
+  pub status : answer ≡ 3
+
+-- one is checked whose files are read: a line for each launch that is refused, and the status is 1 where there is one
+pub record ChecksLaunches (held : List ℕ → Known) (r : ReleaseData) (shown : List ℕ) (answer : ℕ) : Type 0 where
+  pub files : List (List ℕ)
+  pub read : AreRead held r.paths files
+  pub lines : SayInTurn (refused_words files r.launches) shown
+  pub status : answer ≡ (if has_refused files r.launches then 1 else 0)
+
+-- a release is checked: its files, or its launches where all files are read
+abbrev pub IsReleaseCheck : (List ℕ → Known) → ReleaseData → List ℕ → ℕ → Type 0
+IsReleaseCheck held r text status = ChecksFiles held r text status ⊎ ChecksLaunches held r text status
+
+-- a manifest is checked: a line for each of its faults, and the status is 3; or else the release that it describes is
+abbrev pub IsCheck : (List ℕ → Known) → Answer → List ℕ → ℕ → Type 0
+IsCheck held (Err fault) text status = Explains fault text × (status ≡ 3)
+IsCheck held (Ok r) text status = IsReleaseCheck held r text status
+
 -- the launch of a name
 abbrev pub launch_in : ReleaseData → List ℕ → Option NamedData
 launch_in r name = option_and_then (slice_get r.launches) (position (name_in name) r.launches)
@@ -83,6 +111,7 @@ abbrev pub IsAnswer : (List ℕ → Known) → Request → List ℕ → List ℕ
 IsAnswer held (Measure path workers format) bytes text status = IsOkAnd (manifest_of bytes) (λ r. IsReport format held r text status)
 IsAnswer held (Lists path launch) bytes text status = IsOkAnd (manifest_of bytes) (λ r. IsListing held r launch.now text status)
 IsAnswer held (Audit path) bytes text status = IsOkAnd (manifest_of bytes) (λ r. IsAudit held r text status)
+IsAnswer held (Check path) bytes text status = IsCheck held (manifest_of bytes) text status
 IsAnswer held (Dtb path launch) bytes text status = IsOkAnd (manifest_of bytes) (λ r. IsDevicetree held r launch.now text status)
 IsAnswer held (Image file) bytes text status = (image_answer_of bytes ≡ Ok text) × (status ≡ 0)
 IsAnswer held (Fdt file) bytes text status = ShowsDevicetree bytes text × (status ≡ 0)
@@ -143,6 +172,7 @@ abbrev pub Refuses : (List ℕ → Known) → Request → Fault → Type 0
 Refuses held (Measure path workers format) fault = RefusesManifest (RefusesReport held) (held path.now) fault
 Refuses held (Lists path launch) fault = RefusesManifest (RefusesListing held launch.now) (held path.now) fault
 Refuses held (Audit path) fault = RefusesManifest (RefusesAudit held) (held path.now) fault
+Refuses held (Check path) fault = IsFileFault (held path.now) fault
 Refuses held (Dtb path launch) fault = RefusesManifest (RefusesDtb held launch.now) (held path.now) fault
 Refuses held (Image file) fault = RefusesImage (held file.now) fault
 Refuses held (Fdt file) fault = RefusesFdt (held file.now) fault
@@ -169,7 +199,7 @@ pub record IsRefused (words : List Text) (held : List ℕ → Known) (answer : �
   pub refused : Refuses held request fault
   pub status : answer ≡ status_of fault
 
--- what the words ask for was made, with the status 0 or 1, but could not be written
+-- what the words ask for was made, with the status 0 or 1, or 3 of a check, but could not be written
 pub record IsUnwritten (words : List Text) (held : List ℕ → Known) : Type 0 where
   pub text : List ℕ
   pub status : ℕ

@@ -27,6 +27,9 @@ a_listing = codes "rim" ∷ codes "list" ∷ codes "manifest.toml" ∷ codes "sm
 abbrev pub an_audit : List Text
 an_audit = codes "rim" ∷ codes "audit" ∷ codes "manifest.toml" ∷ []
 
+abbrev pub a_check : List Text
+a_check = codes "rim" ∷ codes "check" ∷ codes "manifest.toml" ∷ []
+
 abbrev pub a_placed_devicetree : List Text
 a_placed_devicetree = codes "rim" ∷ codes "dtb" ∷ codes "manifest.toml" ∷ codes "small" ∷ []
 
@@ -41,8 +44,8 @@ abbrev pub other_format : List Text
 other_format = codes "rim" ∷ codes "measure" ∷ codes "manifest.toml" ∷ codes "--format" ∷ codes "xml" ∷ []
 
 abbrev pub TakesExamples : Type 0
-TakesExamples = (is_taken plain ≡ true) × (is_taken with_seven ≡ true) × (is_taken with_json ≡ true) × (is_taken a_listing ≡ true) × (is_taken an_audit ≡ true) × (is_taken a_placed_devicetree ≡ true)
-    × (is_taken an_image ≡ true) × (is_taken a_devicetree ≡ true) × (is_taken too_many ≡ false) × (is_taken other_format ≡ false) × (is_taken too_few ≡ false)
+TakesExamples = (is_taken plain ≡ true) × (is_taken with_seven ≡ true) × (is_taken with_json ≡ true) × (is_taken a_listing ≡ true) × (is_taken an_audit ≡ true) × (is_taken a_check ≡ true)
+    × (is_taken a_placed_devicetree ≡ true) × (is_taken an_image ≡ true) × (is_taken a_devicetree ≡ true) × (is_taken too_many ≡ false) × (is_taken other_format ≡ false) × (is_taken too_few ≡ false)
     × (is_taken (codes "rim" ∷ codes "help" ∷ []) ≡ false) × (is_taken (codes "rim" ∷ []) ≡ false)
 
 -- the texts of the manifest and of the workers that the words hold

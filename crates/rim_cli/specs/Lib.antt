@@ -3,3 +3,5 @@ pub mod Done
 pub mod Examples
 pub mod Files
 pub mod Status
+pub mod Unread
+pub mod inside

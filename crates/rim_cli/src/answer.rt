@@ -8,6 +8,7 @@ ghost use Rattle.rim_release.specs.ShownImage.{image_answer_of};
 ghost use Rattle.rim_cli.specs.Done.{IsAnswer, IsAudit, IsDevicetree, IsListing, IsManifestFault, IsReport, IsReportOf, Refuses, RefusesAudit, RefusesDtb, RefusesFdt, RefusesImage, RefusesListing, RefusesManifest, RefusesReport, path_of};
 ghost use Rattle.rim_cli.specs.Files.{AreRead, IfFile};
 
+use crate::checking::check;
 use crate::fault::Fault;
 use crate::file::{Opener, read_file, read_files};
 use crate::words::{Format, Request};
@@ -19,8 +20,8 @@ use std::alloc::Global;
 use std::sync::Wait;
 use std::thread::Threads;
 
-/// The text that a request asks for, or the bytes of a devicetree, and the exit status that it ends with: 0, or 1 where the text says that some
-/// launch is refused.
+/// The text that a request asks for, or the bytes of a devicetree, and the exit status that it ends with: 0, or 1 where
+/// the text says that some launch is refused, or 3 where it says what a check found at fault in a manifest or its files.
 #[derive(Drop)]
 pub struct Answer {
     pub text: Vec<u8>,
@@ -38,7 +39,7 @@ pub fn answer_to<R: Threads + Wait + Sync, G: Gate + Sync, O: Opener>(
     requires { HasCrew request }
     ensures answered { IfOk result (λ a. IfFile (O.held opener.old (path_of request.entry)) (λ bytes. IsAnswer (O.held opener.old) request.entry bytes a.text.items a.status)) }
     ensures refused { IfErr result (Refuses (O.held opener.old) request.entry) }
-    ensures status { IfOk result (λ a. a.status ≤ 1) }
+    ensures status { IfOk result (λ a. (a.status ≤ 1) ⊎ (a.status ≡ 3)) }
 {
     match request {
         Request::Measure {
@@ -48,6 +49,7 @@ pub fn answer_to<R: Threads + Wait + Sync, G: Gate + Sync, O: Opener>(
         } => measure(rt, alloc, gate, opener, manifest, workers, format),
         Request::List { manifest, launch } => list(alloc, opener, manifest, launch),
         Request::Audit { manifest } => audit(alloc, opener, manifest),
+        Request::Check { manifest } => check(alloc, opener, manifest),
         Request::Dtb { manifest, launch } => dtb(alloc, opener, manifest, launch),
         Request::Image { file } => image(alloc, opener, file),
         Request::Fdt { file } => fdt(alloc, opener, file),
@@ -192,7 +194,7 @@ fn read_release<O: Opener>(alloc: Global, opener: &mut O, path: &str) -> Result<
 }
 
 /// A text about launches as an answer.
-fn answer_of(report: Report) -> Answer
+pub fn answer_of(report: Report) -> Answer
     ensures text { result.text.items ≡ report.text.items }
     ensures status { result.status ≡ (if report.has_refused then 1 else 0) }
 {

@@ -2,7 +2,7 @@
 ghost use Rattle.std.specs.Prelude.{◌≡◌, IfOk, codes, true, false};
 ghost use Rattle.clap.specs.Words.{app_of, rule_of, with_subcommand};
 ghost use Rattle.clap.specs.declared.builder.command.Command.TheViews.{out-Command};
-ghost use Rattle.rim_cli.specs.Command.{audit, dtb, fdt, format_rule, image, list, measure, operand_rule, rim, with_launch, with_operand, workers_rule};
+ghost use Rattle.rim_cli.specs.Command.{audit, check, dtb, fdt, format_rule, image, list, measure, operand_rule, rim, with_launch, with_operand, workers_rule};
 
 use clap::{Arg, Command};
 use std::alloc::{AllocError, Global};
@@ -34,10 +34,16 @@ a line for each command that a monitor takes to build the realm, and the line
 a monitor the commands of each launch, and prints the line `rim-audit 1` and a line for
 each launch, as the report has it.
 
+`rim check MANIFEST` prints a line for each fault of a manifest, with its place. Where
+there is none, it prints `PATH: file-unreadable` or `PATH: file-too-large` for each file
+that cannot be read; where all are read, a line for each launch that is refused, with
+what is at fault. It prints nothing where nothing is wrong.
+
 `rim dtb MANIFEST LAUNCH` writes the devicetree of a launch as it is placed: the bytes
 that are measured, to be given to a hypervisor. They are not written to a terminal.
 
-A fault is one line on standard error, `rim: ` and its name.
+A fault is one line on standard error, `rim: ` and its name. What `rim check` finds is
+on standard output.
 
 Exit status:
   0  done
@@ -65,6 +71,16 @@ pub fn rim_command<'a>(alloc: Global) -> Result<Command<'a>, AllocError>
 
 /// A command with the subcommands that print texts about a manifest's launches.
 fn with_release_commands<'a>(alloc: Global, command: Command<'a>) -> Result<Command<'a>, AllocError>
+    requires { (out-Command command).has_globals ≡ false }
+    ensures shape { IfOk result (λ c. app_of c ≡ with_subcommand (with_subcommand (with_subcommand (with_subcommand (app_of command.entry) measure.top) list.top) audit.top) check.top) }
+    ensures globals { IfOk result (λ c. (out-Command c).has_globals ≡ false) }
+{
+    let command = with_report_commands(alloc, command)?;
+    with_subcommand(command, check_command(alloc)?)
+}
+
+/// A command with the subcommands that print what becomes of launches.
+fn with_report_commands<'a>(alloc: Global, command: Command<'a>) -> Result<Command<'a>, AllocError>
     requires { (out-Command command).has_globals ≡ false }
     ensures shape { IfOk result (λ c. app_of c ≡ with_subcommand (with_subcommand (with_subcommand (app_of command.entry) measure.top) list.top) audit.top) }
     ensures globals { IfOk result (λ c. (out-Command c).has_globals ≡ false) }
@@ -160,6 +176,18 @@ fn audit_command<'a>(alloc: Global) -> Result<Command<'a>, AllocError>
     ))?;
     Ok(audit.about(
         "Prints the measurement of each launch, as a monitor that takes its commands holds it",
+    ))
+}
+
+fn check_command<'a>(alloc: Global) -> Result<Command<'a>, AllocError>
+    ensures shape { IfOk result (λ c. app_of c ≡ check) }
+    ensures globals { IfOk result (λ c. (out-Command c).has_globals ≡ false) }
+{
+    let check = Command::new(alloc, "check").arg(operand_arg(
+        alloc, "manifest", "MANIFEST", MANIFEST,
+    ))?;
+    Ok(check.about(
+        "Prints what is wrong with a manifest and which launches are refused, each with its place",
     ))
 }
 

@@ -27,7 +27,8 @@ use std::thread::Threads;
 ///
 /// Where the words are taken, 0 and 1 say that the text that they ask for was added to `out`: 1 exactly where that
 /// text says that a launch is refused. 3 says that the request is refused with a fault that holds, and `out` is as it
-/// was; or that the text was made and could not be written. 2 is not answered. After 2 and 4 `out` is as it was. No
+/// was; or that the text was made and could not be written; or that it was added to `out`, and is that of a check which
+/// found the manifest or a file of it at fault. 2 is not answered. After 2 and 4 `out` is as it was. No
 /// clause says what is on `err`, since writing there may fail and changes no status.
 pub fn run<R: Threads + Wait + Sync, G: Gate + Sync, S: AsStr, O: Opener, W: Write, E: Write>(
     rt: &R,
@@ -43,7 +44,7 @@ pub fn run<R: Threads + Wait + Sync, G: Gate + Sync, S: AsStr, O: Opener, W: Wri
     ensures usage { is_taken (map S.text words.now) ≡ true → result ≢ 2 }
     ensures mistaken { IsMistaken (map S.text words.now) → (result ≡ 2) ⊎ (result ≡ 4) }
     ensures helps { AsksForHelp (map S.text words.now) → result ≢ 2 }
-    ensures refused { is_taken (map S.text words.now) ≡ true → result ≡ 3 → (IsRefused (map S.text words.now) (O.held opener.old) result × (out.new ≡ out.old)) ⊎ IsUnwritten (map S.text words.now) (O.held opener.old) }
+    ensures refused { is_taken (map S.text words.now) ≡ true → result ≡ 3 → (IsRefused (map S.text words.now) (O.held opener.old) result × (out.new ≡ out.old)) ⊎ (IsUnwritten (map S.text words.now) (O.held opener.old) ⊎ IsDone (map S.text words.now) (O.held opener.old) (W.contents out.old) (W.contents out.new) result) }
     ensures kept { (result ≡ 2) ⊎ (result ≡ 4) → out.new ≡ out.old }
 {
     let request = match command(alloc, words) {
@@ -82,10 +83,11 @@ fn show_usage<W: Write, E: Write>(
 
 /// Writes the text that a request asked for, and answers the exit status: this one, or that of the fault.
 fn finish<W: Write, E: Write>(text: &[u8], status: u8, out: &mut W, err: &mut E) -> u8
-    requires { status ≤ 1 }
+    requires { (status ≤ 1) ⊎ (status ≡ 3) }
     ensures known { (result ≡ status) ⊎ (result ≡ 3) }
     ensures own { result ≤ 1 → result ≡ status }
     ensures done { result ≤ 1 → Appends (W.contents out.old) (W.contents out.new) text.now }
+    ensures ends { ((result ≡ status) × Appends (W.contents out.old) (W.contents out.new) text.now) ⊎ (result ≡ 3) }
 {
     match write_text(text, out) {
         Ok(()) => status,

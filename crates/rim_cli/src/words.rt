@@ -30,6 +30,10 @@ pub enum Request<'a> {
     Audit {
         manifest: &'a str,
     },
+    /// What is wrong with a manifest, at a path, and which of its launches are refused.
+    Check {
+        manifest: &'a str,
+    },
     /// The devicetree of a launch of a manifest, at a path, by the launch's name: bytes, and no text.
     Dtb {
         manifest: &'a str,
@@ -113,6 +117,9 @@ fn request_of<'a>(name: &str, given: &ArgMatches<'a>, format: Format) -> Request
             launch: operand(given, "launch"),
         },
         "audit" => Request::Audit {
+            manifest: operand(given, "manifest"),
+        },
+        "check" => Request::Check {
             manifest: operand(given, "manifest"),
         },
         "dtb" => Request::Dtb {

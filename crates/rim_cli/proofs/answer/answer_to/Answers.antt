@@ -18,6 +18,12 @@ returns-in-Audit-clause-answered g c = rw c.in-Audit.is c.audit.ensures.answered
 pub returns-in-Audit-clause-refused : goal.returns-in-Audit-clause-refused
 returns-in-Audit-clause-refused g c = rw c.in-Audit.is c.audit.ensures.refused
 
+pub returns-in-Check-clause-answered : goal.returns-in-Check-clause-answered
+returns-in-Check-clause-answered g c = rw c.in-Check.is c.check.ensures.answered
+
+pub returns-in-Check-clause-refused : goal.returns-in-Check-clause-refused
+returns-in-Check-clause-refused g c = rw c.in-Check.is c.check.ensures.refused
+
 pub returns-in-Dtb-clause-answered : goal.returns-in-Dtb-clause-answered
 returns-in-Dtb-clause-answered g c = rw c.in-Dtb.is c.dtb.ensures.answered
 

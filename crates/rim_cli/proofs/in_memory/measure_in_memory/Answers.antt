@@ -22,6 +22,7 @@ returns-clause-refused g c f refuses =
     (c.run.ensures.usage plain_taken)
     (λ three. elim (c.run.ensures.refused plain_taken three) [
       | inl refused ↦ ap (λ out. out.items) refused.1
-      | inr unwritten ↦ absurd (none_made c.args.manifest.now f unwritten.text unwritten.status refuses unwritten.made)
+      | inr (inl unwritten) ↦ absurd (none_made c.args.manifest.now f unwritten.text unwritten.status refuses unwritten.made)
+      | inr (inr done) ↦ absurd (none_made c.args.manifest.now f done.text c.run.result refuses done.made)
     ])
     (λ four. ap (λ out. out.items) (c.run.ensures.kept (inr four)))

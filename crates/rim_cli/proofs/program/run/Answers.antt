@@ -22,15 +22,26 @@ returns-in-Ok-answer_to-clause-done g c taken done = record {
 }
 
 pub returns-in-Ok-answer_to-clause-refused : goal.returns-in-Ok-answer_to-clause-refused
-returns-in-Ok-answer_to-clause-refused g c taken failed = inr (record {
-  text = c.in-Ok-answer_to.answer.text.items;
-  status = c.in-Ok-answer_to.answer.status;
-  made = record {
-    request = c.in-Ok.request;
-    asked = c.in-Ok.ensures.reads;
-    answer = c.in-Ok-answer_to.ensures.answered;
-  };
-})
+returns-in-Ok-answer_to-clause-refused g c taken failed = inr (elim c.finish.ensures.ends [
+  | inl written ↦ inr (record {
+    text = c.in-Ok-answer_to.answer.text.items;
+    made = record {
+      request = c.in-Ok.request;
+      asked = c.in-Ok.ensures.reads;
+      answer = rw written.0 c.in-Ok-answer_to.ensures.answered;
+    };
+    written = rw (← c.as_slice.ensures.value) written.1;
+  })
+  | inr three ↦ inl (record {
+    text = c.in-Ok-answer_to.answer.text.items;
+    status = c.in-Ok-answer_to.answer.status;
+    made = record {
+      request = c.in-Ok.request;
+      asked = c.in-Ok.ensures.reads;
+      answer = c.in-Ok-answer_to.ensures.answered;
+    };
+  })
+])
 
 pub returns-in-Err-clause-refused : goal.returns-in-Err-clause-refused
 returns-in-Err-clause-refused g c taken failed = inl (

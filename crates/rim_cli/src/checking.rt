@@ -1,0 +1,92 @@
+//! What is wrong with a manifest, with its files and with its launches.
+ghost use Rattle.std.specs.Prelude.{◌≡◌, ◌≢◌, ◌⊎◌, ◌≤◌, IfErr, IfOk, OnOk, map};
+ghost use Rattle.rim_cli.specs.Done.{IsCheck, IsReleaseCheck};
+ghost use Rattle.rim_cli.specs.Files.{IfFile, IsFileFault};
+ghost use Rattle.rim_cli.specs.Status.{word_of};
+ghost use Rattle.rim_cli.specs.inside.Found.{AreFound};
+ghost use Rattle.rim_check.specs.Lines.{AddsLine};
+ghost use Rattle.rim_manifest.specs.Manifest.{manifest_of};
+
+use crate::answer::{Answer, answer_of};
+use crate::fault::Fault;
+use crate::file::{Opener, read_file};
+use rim_check::{ManifestCheck, Readable, check_launches, check_manifest, push_file};
+use rim_release::{Files, Release};
+use std::alloc::Global;
+
+/// What is wrong with the manifest at a path; or else with the files and the launches of its release.
+pub fn check<O: Opener>(alloc: Global, opener: &mut O, path: &str) -> Result<Answer, Fault>
+    ensures answered { IfOk result (λ a. IfFile (O.held opener.old path.now) (λ bytes. IsCheck (O.held opener.old) (manifest_of bytes) a.text.items a.status)) }
+    ensures refused { IfErr result (IsFileFault (O.held opener.old path.now)) }
+    ensures status { IfOk result (λ a. (a.status ≤ 1) ⊎ (a.status ≡ 3)) }
+{
+    let bytes = read_file(alloc, opener, path)?;
+    match check_manifest(alloc, bytes.as_slice()) {
+        Ok(ManifestCheck::Faulty(text)) => Ok(Answer { text, status: 3 }),
+        Ok(ManifestCheck::Readable(readable)) => check_release(alloc, opener, &readable),
+        Err(_) => Err(Fault::NoMemory),
+    }
+}
+
+/// What is wrong with the files of a release; or else with its launches.
+fn check_release<O: Opener>(
+    alloc: Global,
+    opener: &mut O,
+    readable: &Readable,
+) -> Result<Answer, Fault>
+    ensures answered { IfOk result (λ a. IsReleaseCheck (O.held opener.old) readable.now a.text.items a.status) }
+    ensures refused { IfErr result (λ e. e ≡ Fault.NoMemory) }
+    ensures status { IfOk result (λ a. (a.status ≤ 1) ⊎ (a.status ≡ 3)) }
+{
+    let found = find_files(alloc, opener, readable.release())?;
+    if !found.unread.is_empty() {
+        return Ok(Answer {
+            text: found.unread,
+            status: 3,
+        });
+    }
+    match check_launches(alloc, readable, &found.files) {
+        Ok(report) => Ok(answer_of(report)),
+        Err(_) => Err(Fault::NoMemory),
+    }
+}
+
+/// The bytes of the files that are read, and a line for each that cannot be.
+#[derive(Drop)]
+struct FoundFiles {
+    files: Files,
+    unread: Vec<u8>,
+}
+
+/// Reads each file of a release, also where one before it cannot be read.
+fn find_files<O: Opener>(
+    alloc: Global,
+    opener: &mut O,
+    release: &Release,
+) -> Result<FoundFiles, Fault>
+    ensures found { IfOk result (λ f. AreFound (O.held opener.old) release.now.paths (map (λ file. file.items) f.files.items) f.unread.items) }
+    ensures fault { IfErr result (λ e. e ≡ Fault.NoMemory) }
+{
+    let mut files = Vec::new(alloc);
+    let mut unread = Vec::new(alloc);
+    for i in 0..release.file_count() {
+        let path = release.path(i);
+        match read_file(alloc, opener, path) {
+            Ok(bytes) => files.push(bytes).map_err(|_| Fault::NoMemory)?,
+            Err(fault) => push_unread(&mut unread, path, fault)?,
+        }
+    }
+    Ok(FoundFiles { files, unread })
+}
+
+/// Adds the line of a file that cannot be read, but passes want of memory on.
+fn push_unread(text: &mut Vec<u8>, path: &str, fault: Fault) -> Result<(), Fault>
+    ensures line { OnOk result (AddsLine (word_of fault) text.old.items text.new.items) }
+    ensures own { OnOk result (fault ≢ Fault.NoMemory) }
+    ensures full { IfErr result (λ e. e ≡ Fault.NoMemory) }
+{
+    match fault {
+        Fault::NoMemory => Err(Fault::NoMemory),
+        _ => push_file(text, path, fault.kind()).map_err(|_| Fault::NoMemory),
+    }
+}
