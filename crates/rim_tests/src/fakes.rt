@@ -104,8 +104,17 @@ impl<'a> Opener for Folder<'a> {
 
 /// A run of `measure manifest.toml` over some files.
 pub fn measured<O: Opener>(rt: &(impl AllocGlobal + Threads + Wait + Sync), files: &mut O) -> Ran {
+    ran_over(rt, "measure", files)
+}
+
+/// A run of a subcommand on `manifest.toml` over some files.
+pub fn ran_over<O: Opener>(
+    rt: &(impl AllocGlobal + Threads + Wait + Sync),
+    subcommand: &str,
+    files: &mut O,
+) -> Ran {
     let alloc = rt.alloc();
-    let words = ["rim", "measure", "manifest.toml"];
+    let words = ["rim", subcommand, "manifest.toml"];
     let mut out = Vec::new(alloc);
     let mut err = Vec::new(alloc);
     let status = run(rt, alloc, &FreeGate, &words, files, &mut out, &mut err);

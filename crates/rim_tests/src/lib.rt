@@ -4,6 +4,8 @@
 #[cfg(test)]
 mod audits;
 #[cfg(test)]
+mod checks;
+#[cfg(test)]
 mod devicetree_faults;
 #[cfg(test)]
 mod devicetrees;
