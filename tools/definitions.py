@@ -1,15 +1,16 @@
 #!/usr/bin/env python3
 """Checks the definitions of the house against its documents.
 
-    tools/definitions.py           the table of promises with their lines
-    tools/definitions.py --check   status 1 where something does not hold
+    tools/definitions.py             the table of promises with their lines
+    tools/definitions.py --reading   the files of the headline in the order of reading, as docs/PROMISES.md lists them
+    tools/definitions.py --check     status 1 where something does not hold
 
 A promise of docs/PROMISES.md names definitions, as `FILE.word`. Its number is how many lines of definitions one
 has to believe for it: those that it names and all that they are made of, down to the kit's own words.
 Comments, imports and empty lines do not count, nor do types that are declared in src/.
 
 The check asks three things:
-1. each number of docs/PROMISES.md is the one that is counted here;
+1. each number of docs/PROMISES.md is the one that is counted here, and its list for reading the headline is the one that is made here;
 2. docs/ARCHITECTURE.md names each file of specs/, but for those in specs/inside/, which hold what loops and
    fields keep;
 3. each definition of specs/ is named by a contract, or by a definition that is. What only proofs need belongs in
@@ -147,6 +148,41 @@ def promises(known):
         yield crate, cells[1], cells[3], counted
 
 
+def headline(known):
+    """What the contract of `measure_release` and the law beside it name: the two promises of docs/PROMISES.md that are the headline."""
+    row = re.compile(r"^\| \*\*[^|]*\| ([^|]*) \|", re.M)
+    for cell in row.findall((TOP / "docs/PROMISES.md").read_text()):
+        yield from pointed_at(known, "rim_release", cell)
+
+
+def reading(known):
+    """The rows of the list for reading the headline: each file before those that it is made of, with its lines and what it holds."""
+    keys = reached(known, headline(known))
+    lines, below = {}, {}
+    for key in keys:
+        lines[key[:2]] = lines.get(key[:2], 0) + known[key][0]
+        below.setdefault(key[:2], set()).update(k[:2] for k in known[key][1] & keys if k[:2] != key[:2])
+    order, seen = [], set()
+
+    def visit(file):
+        if file not in seen:
+            seen.add(file)
+            for other in sorted(below[file], reverse=True):
+                visit(other)
+            order.insert(0, file)
+
+    for key in sorted(headline(known), reverse=True):
+        visit(key[:2])
+    for crate, place in order:
+        text = (TOP / "crates" / crate / "specs" / (place.replace(".", "/") + ".antt")).read_text()
+        holds = re.match(r"-- (.*?)(?:\. |\.?$)", " ".join(re.match(r"(?:-- .*\n)+", text).group(0).split("\n-- ")).strip())
+        yield f"| `{crate}/specs/{place.replace('.', '/')}.antt` | {lines[crate, place]} | {holds.group(1)} |"
+    whole = sum(lines.values())
+    edits = sum(count for file, count in lines.items() if file[0] == "fdt_tree" or file == ("ipa_layout", "DtbEdit"))
+    yield f"| all | {whole} | |"
+    yield f"| all but the edits of a devicetree | {whole - edits} | for launches whose devicetree is placed as its file |"
+
+
 def unnamed_files():
     """The files of specs/ that docs/ARCHITECTURE.md does not name in the row of their crate's rules."""
     named = set()
@@ -164,6 +200,9 @@ def unnamed_files():
 
 def main():
     known, wrong = declarations(), []
+    if "--reading" in sys.argv:
+        print("\n".join(reading(known)))
+        return 0
     for crate, what, written, counted in promises(known):
         if "--check" not in sys.argv:
             print(f"{crate}\t{counted}\t{what}")
@@ -171,6 +210,8 @@ def main():
             wrong.append(f"docs/PROMISES.md: {crate}: {what}: {written} lines are written, {counted} are counted")
     if "--check" in sys.argv:
         wrong += [f"docs/ARCHITECTURE.md does not name {path}" for path in unnamed_files()]
+        listed = (TOP / "docs/PROMISES.md").read_text().splitlines()
+        wrong += [f"docs/PROMISES.md: the list for reading the headline lacks: {row}" for row in reading(known) if row not in listed]
         used = reached(known, cited(known))
         wrong += [f"crates/{c}/specs/{p}.antt: no contract needs {name}" for c, p, name in sorted(set(known) - used)]
     print("\n".join(wrong), end="\n" if wrong else "")
