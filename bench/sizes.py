@@ -3,8 +3,8 @@
 
 usage: bench/sizes.py PROGRAM
 
-PROGRAM is rim as `./rim` builds it, crates/rim/out/rim. Each input is given to it twice: with all memory that there is, where
-it is not more than 16 GB, and with 1 GB. Not part of the gate.
+PROGRAM is rim as `./rim` builds it, crates/rim/out/rim. Each input is given to it twice: with 8 GB of memory, and with
+256 MB. Not part of the gate.
 """
 import os
 import resource
@@ -14,8 +14,7 @@ import sys
 import tempfile
 import time
 
-GB = 1 << 30
-MOST = 16 * GB
+MB = 1 << 20
 
 
 def ran(program, words, limit):
@@ -29,10 +28,11 @@ def ran(program, words, limit):
 
 
 def manifests():
-    """Manifests of about 10 MB, by what they hold."""
-    size = 10_000_000
+    """Manifests of about 2 MB, by what they hold."""
+    size = 2_000_000
     head = "rim_manifest = 1\n"
     yield "headers of empty tables", head + "[[x]]\n" * (size // 6)
+    yield "headers of empty launches", head + "[[launch]]\n" * (size // 11)
     yield "empty tables in an array", head + "x = [" + "{}," * (size // 3) + "]\n"
     yield "empty arrays in an array", head + "x = [" + "[]," * (size // 3) + "]\n"
     yield "numbers in an array", head + "x = [" + "0," * (size // 2) + "]\n"
@@ -53,9 +53,9 @@ def devicetree(depth, length, leaves):
 
 
 def report(what, program, words, size):
-    for limit in [MOST, GB]:
+    for limit in [8192 * MB, 256 * MB]:
         status, said, seconds, memory = ran(program, words, limit)
-        print(f"{what}, {size} bytes, with {limit // GB} GB: status {status}, {said or 'done'}, {seconds:.1f} s, {memory / 1e6:.0f} MB, {memory / size:.0f} bytes a byte", flush=True)
+        print(f"{what}, {size} bytes, with {limit // MB} MB: status {status}, {said or 'done'}, {seconds:.1f} s, {memory / 1e6:.0f} MB, {memory / size:.0f} bytes a byte", flush=True)
 
 
 def main():
@@ -66,6 +66,7 @@ def main():
             with open(path, "w") as file:
                 file.write(text)
             report(what, program, ["measure", path], len(text))
+            report(what + ", checked", program, ["check", path], len(text))
         for what, depth, length, leaves in [("leaves below short names", 1, 1, 170_000), ("63 long names", 62, 30_000, 0),
                                             ("1,000 leaves below long names", 61, 30_000, 1_000), ("10,000 leaves below long names", 61, 30_000, 10_000)]:
             path = os.path.join(folder, "tree.dtb")
