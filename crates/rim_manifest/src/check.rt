@@ -1,15 +1,15 @@
 //! The faults of a table whose keys have rules.
-ghost use Rattle.std.specs.Prelude.{◌≡◌, ◌++◌, [], ◌∷◌, OnOk, if◌then◌else◌, map, option_map};
+ghost use Rattle.std.specs.Prelude.{◌≡◌, [], ◌∷◌, OnOk, if◌then◌else◌, map, option_map};
 ghost use Rattle.std.specs.List.{flat_map};
 ghost use Rattle.toml.specs.Data.{get_member};
 ghost use Rattle.toml.specs.View.{table_view, view};
 ghost use Rattle.rim_manifest.specs.Checks.{has_unknown_key, is_known, rule_faults, ruled_faults, table_faults, value_faults};
 ghost use Rattle.rim_manifest.specs.Forms.{has_kind};
 ghost use Rattle.rim_manifest.specs.Rules.{rule_of};
-ghost use Rattle.rim_manifest.specs.inside.Findings.{faults_in};
+ghost use Rattle.rim_manifest.specs.inside.Findings.{kept, with_faults};
 
 use crate::fault::ManifestFault;
-use crate::finding::{Array, Finding, Place, Subject, note, note_if};
+use crate::finding::{Array, Finding, Findings, Place, Subject, note, note_if};
 use crate::form::{Form, Rule, has_kind, is_over, is_required, is_within};
 use refusal::NoMemory;
 use toml::{Table, Value};
@@ -19,9 +19,9 @@ pub fn check_table(
     rules: &[Rule],
     place: Place,
     table: &Table,
-    found: &mut Vec<Finding>,
+    found: &mut Findings,
 ) -> Result<(), NoMemory>
-    ensures { OnOk result (faults_in found.new.items ≡ faults_in found.old.items ++ table_faults (map rule_of rules.now) (table_view table.now)) }
+    ensures { OnOk result (kept found.new ≡ with_faults (kept found.old) (table_faults (map rule_of rules.now) (table_view table.now))) }
 {
     let other_keys = Finding {
         place,
@@ -36,9 +36,9 @@ fn check_rules(
     rules: &[Rule],
     place: Place,
     table: &Table,
-    found: &mut Vec<Finding>,
+    found: &mut Findings,
 ) -> Result<(), NoMemory>
-    ensures { OnOk result (faults_in found.new.items ≡ faults_in found.old.items ++ flat_map (λ r. rule_faults (rule_of r) (table_view table.now)) rules.now) }
+    ensures { OnOk result (kept found.new ≡ with_faults (kept found.old) (flat_map (λ r. rule_faults (rule_of r) (table_view table.now)) rules.now)) }
 {
     for rule in rules {
         check_rule(rule, place, table, found)?;
@@ -51,9 +51,9 @@ pub fn check_tables(
     rules: &[Rule],
     array: Array,
     tables: &[Value],
-    found: &mut Vec<Finding>,
+    found: &mut Findings,
 ) -> Result<(), NoMemory>
-    ensures { OnOk result (faults_in found.new.items ≡ faults_in found.old.items ++ flat_map (λ v. ruled_faults (map rule_of rules.now) (view v)) tables.now) }
+    ensures { OnOk result (kept found.new ≡ with_faults (kept found.old) (flat_map (λ v. ruled_faults (map rule_of rules.now) (view v)) tables.now)) }
 {
     for (number, table) in tables.iter().enumerate() {
         check_ruled(rules, array.at(number), table, found)?;
@@ -65,9 +65,9 @@ pub fn check_ruled(
     rules: &[Rule],
     place: Place,
     table: &Value,
-    found: &mut Vec<Finding>,
+    found: &mut Findings,
 ) -> Result<(), NoMemory>
-    ensures { OnOk result (faults_in found.new.items ≡ faults_in found.old.items ++ ruled_faults (map rule_of rules.now) (view table.now)) }
+    ensures { OnOk result (kept found.new ≡ with_faults (kept found.old) (ruled_faults (map rule_of rules.now) (view table.now))) }
 {
     match table {
         Value::Table(table) => check_table(rules, place, table, found),
@@ -80,9 +80,9 @@ fn check_rule(
     rule: &Rule,
     place: Place,
     table: &Table,
-    found: &mut Vec<Finding>,
+    found: &mut Findings,
 ) -> Result<(), NoMemory>
-    ensures { OnOk result (faults_in found.new.items ≡ faults_in found.old.items ++ rule_faults (rule_of rule.now) (table_view table.now)) }
+    ensures { OnOk result (kept found.new ≡ with_faults (kept found.old) (rule_faults (rule_of rule.now) (table_view table.now))) }
 {
     let (key, form, presence) = *rule;
     match cell(table, key) {
@@ -100,9 +100,9 @@ fn check_value(
     form: Form,
     place: Place,
     value: &Value,
-    found: &mut Vec<Finding>,
+    found: &mut Findings,
 ) -> Result<(), NoMemory>
-    ensures { OnOk result (faults_in found.new.items ≡ faults_in found.old.items ++ (if has_kind form (view value.now) then value_faults form (view value.now) else ManifestFault.WrongKind ∷ [])) }
+    ensures { OnOk result (kept found.new ≡ with_faults (kept found.old) (if has_kind form (view value.now) then value_faults form (view value.now) else ManifestFault.WrongKind ∷ [])) }
 {
     if !has_kind(form, value) {
         return note(found, at_key(key, form, place, ManifestFault::WrongKind));

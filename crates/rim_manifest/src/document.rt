@@ -4,11 +4,11 @@ ghost use Rattle.toml.specs.Errors.{IsMemory};
 ghost use Rattle.toml.specs.View.{table_view};
 ghost use Rattle.rim_manifest.specs.Faults.{lowest};
 ghost use Rattle.rim_manifest.specs.Found.{IsChecked};
-ghost use Rattle.rim_manifest.specs.Manifest.{document_of};
+ghost use Rattle.rim_manifest.specs.Manifest.{document_of, manifest_faults};
 ghost use Rattle.rim_manifest.specs.inside.Findings.{faults_in};
 
 use crate::fault::ManifestFault;
-use crate::finding::{Finding, Place, Subject, lowest};
+use crate::finding::{Finding, Findings, Place, Subject, lowest};
 use crate::manifest::{Release, entries, find_faults, read_release};
 use crate::naming::find_names;
 use crate::value::array;
@@ -49,7 +49,7 @@ impl Document {
     pub fn check(&self, alloc: Global) -> Result<Checked, NoMemory>
         ensures { IfOk result (IsChecked (table_view self.now.table)) }
     {
-        let found = find_faults(alloc, &self.table)?;
+        let found = all_faults(alloc, &self.table)?;
         if lowest(&found).is_some() {
             return Ok(Checked::Refused(found));
         }
@@ -80,6 +80,18 @@ fn table_at(tables: &[Value], number: usize) -> Option<&Table> {
     }
 }
 
+/// The faults of the tables, each by itself.
+fn all_faults(alloc: Global, table: &Table) -> Result<Vec<Finding>, NoMemory>
+    ensures { IfOk result (λ found. faults_in found.items ≡ manifest_faults (table_view table.now)) }
+{
+    let mut found = Findings::All(Vec::new(alloc));
+    find_faults(table, &mut found)?;
+    match found {
+        Findings::All(all) => Ok(all),
+        Findings::Lowest(_) => unreachable!(),
+    }
+}
+
 /// Faults of names and of steps, of which the lowest is this one; want of memory is no such fault.
 fn faults_of_names(
     alloc: Global,
@@ -92,11 +104,12 @@ fn faults_of_names(
     if fault == ManifestFault::NoMemory {
         return Err(NoMemory);
     }
-    let found = find_names(alloc, table)?;
-    if lowest(&found) == Some(fault) {
-        return Ok(found);
+    let mut found = Findings::All(Vec::new(alloc));
+    find_names(table, &mut found)?;
+    match found {
+        Findings::All(all) if lowest(&all) == Some(fault) => Ok(all),
+        _ => one_fault(alloc, fault),
     }
-    one_fault(alloc, fault)
 }
 
 /// This fault, of which no place is known.

@@ -1,7 +1,7 @@
 //! The faults that are found in a manifest, each with its place.
-ghost use Rattle.std.specs.Prelude.{◌≡◌, ◌++◌, [], ◌∷◌, OnOk};
+ghost use Rattle.std.specs.Prelude.{◌≡◌, OnOk};
 ghost use Rattle.rim_manifest.specs.Faults.{fault_if, lowest};
-ghost use Rattle.rim_manifest.specs.inside.Findings.{faults_in};
+ghost use Rattle.rim_manifest.specs.inside.Findings.{faults_in, kept, with_fault, with_faults};
 
 use crate::fault::{ManifestFault, lower};
 use crate::form::Form;
@@ -69,17 +69,27 @@ pub struct Finding {
     pub fault: ManifestFault,
 }
 
+/// What is kept of the faults that are found: the lowest, which takes no memory, or all of them.
+#[derive(Drop)]
+pub enum Findings {
+    Lowest(Option<ManifestFault>),
+    All(Vec<Finding>),
+}
+
 /// Adds a fault to those that were found.
-pub fn note(found: &mut Vec<Finding>, finding: Finding) -> Result<(), NoMemory>
-    ensures { OnOk result (faults_in found.new.items ≡ faults_in found.old.items ++ finding.fault ∷ []) }
+pub fn note(found: &mut Findings, finding: Finding) -> Result<(), NoMemory>
+    ensures { OnOk result (kept found.new ≡ with_fault (kept found.old) finding.fault) }
 {
-    found.push(finding)?;
+    match found {
+        Findings::Lowest(least) => lower(least, finding.fault),
+        Findings::All(all) => all.push(finding)?,
+    }
     Ok(())
 }
 
 /// Adds a fault where it holds.
-pub fn note_if(found: &mut Vec<Finding>, holds: bool, finding: Finding) -> Result<(), NoMemory>
-    ensures { OnOk result (faults_in found.new.items ≡ faults_in found.old.items ++ fault_if holds finding.fault) }
+pub fn note_if(found: &mut Findings, holds: bool, finding: Finding) -> Result<(), NoMemory>
+    ensures { OnOk result (kept found.new ≡ with_faults (kept found.old) (fault_if holds finding.fault)) }
 {
     if holds {
         note(found, finding)?;

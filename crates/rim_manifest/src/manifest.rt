@@ -10,12 +10,12 @@ ghost use Rattle.rim_manifest.specs.Forms.{items_in};
 ghost use Rattle.rim_manifest.specs.Manifest.{all_made, has_version, item_faults, launch_faults, manifest_faults, manifest_of, name_in, named_of};
 ghost use Rattle.rim_manifest.specs.StepTexts.{is_miscounted};
 ghost use Rattle.rim_manifest.specs.Names.{lacks_file, repeats, share_names};
-ghost use Rattle.rim_manifest.specs.inside.Findings.{faults_in};
+ghost use Rattle.rim_manifest.specs.inside.Findings.{kept, with_faults};
 
 use crate::check::{cell, check_ruled, check_table, check_tables};
 use crate::fault::ManifestFault;
 use crate::file::read_paths;
-use crate::finding::{Array, Finding, Place, Subject, lowest, note_if};
+use crate::finding::{Array, Finding, Findings, Place, Subject, note_if};
 use crate::form::Form;
 use crate::launch::{NamedLaunch, read_launch};
 use crate::names::{has_asked, lacks_file, repeats, role, share_names};
@@ -101,19 +101,29 @@ pub fn read_manifest(alloc: Global, text: &[u8]) -> Result<Release, ManifestFaul
             return Err(ManifestFault::Syntax);
         }
     };
-    let found = find_faults(alloc, &table)?;
-    match lowest(&found) {
+    match lowest_fault(&table)? {
         Some(fault) => Err(fault),
         None => read_release(alloc, &table),
     }
 }
 
-/// The faults of the tables, each by itself.
-#[tactic(auto, unfolding(crate::specs::Manifest::manifest_faults))]
-pub fn find_faults(alloc: Global, table: &Table) -> Result<Vec<Finding>, NoMemory>
-    ensures { IfOk result (λ found. faults_in found.items ≡ manifest_faults (table_view table.now)) }
+/// The lowest fault of the tables, each by itself. It takes no memory.
+fn lowest_fault(table: &Table) -> Result<Option<ManifestFault>, NoMemory>
+    ensures { IfOk result (λ least. least ≡ lowest (manifest_faults (table_view table.now))) }
 {
-    let mut found = Vec::new(alloc);
+    let mut found = Findings::Lowest(None);
+    find_faults(table, &mut found)?;
+    match found {
+        Findings::Lowest(least) => Ok(least),
+        Findings::All(_) => unreachable!(),
+    }
+}
+
+/// Adds the faults of the tables, each by itself.
+#[tactic(auto, unfolding(crate::specs::Manifest::manifest_faults))]
+pub fn find_faults(table: &Table, found: &mut Findings) -> Result<(), NoMemory>
+    ensures { OnOk result (kept found.new ≡ with_faults (kept found.old) (manifest_faults (table_view table.now))) }
+{
     let version = Finding {
         place: Place::Top,
         subject: Subject::Key {
@@ -122,16 +132,10 @@ pub fn find_faults(alloc: Global, table: &Table) -> Result<Vec<Finding>, NoMemor
         },
         fault: ManifestFault::Version,
     };
-    note_if(&mut found, !has_version(table), version)?;
-    check_table(&TOP_RULES, Place::Top, table, &mut found)?;
-    check_tables(
-        &FILE_RULES,
-        Array::Files,
-        entries(table, "file"),
-        &mut found,
-    )?;
-    check_launches(entries(table, "launch"), &mut found)?;
-    Ok(found)
+    note_if(found, !has_version(table), version)?;
+    check_table(&TOP_RULES, Place::Top, table, found)?;
+    check_tables(&FILE_RULES, Array::Files, entries(table, "file"), found)?;
+    check_launches(entries(table, "launch"), found)
 }
 
 fn has_version(table: &Table) -> bool
@@ -150,8 +154,8 @@ pub fn entries<'a>(table: &'a Table, key: &str) -> &'a [Value]
     }
 }
 
-fn check_launches(launches: &[Value], found: &mut Vec<Finding>) -> Result<(), NoMemory>
-    ensures { OnOk result (faults_in found.new.items ≡ faults_in found.old.items ++ flat_map (λ v. launch_faults (view v)) launches.now) }
+fn check_launches(launches: &[Value], found: &mut Findings) -> Result<(), NoMemory>
+    ensures { OnOk result (kept found.new ≡ with_faults (kept found.old) (flat_map (λ v. launch_faults (view v)) launches.now)) }
 {
     for (number, launch) in launches.iter().enumerate() {
         check_launch(number, launch, found)?;
@@ -162,8 +166,8 @@ fn check_launches(launches: &[Value], found: &mut Vec<Finding>) -> Result<(), No
 /// Adds the faults of a launch's table and of the tables of its items and RECs, and an edit without what it
 /// asks for.
 #[tactic(auto, unfolding(crate::specs::Manifest::launch_faults))]
-fn check_launch(number: usize, launch: &Value, found: &mut Vec<Finding>) -> Result<(), NoMemory>
-    ensures { OnOk result (faults_in found.new.items ≡ faults_in found.old.items ++ launch_faults (view launch.now)) }
+fn check_launch(number: usize, launch: &Value, found: &mut Findings) -> Result<(), NoMemory>
+    ensures { OnOk result (kept found.new ≡ with_faults (kept found.old) (launch_faults (view launch.now))) }
 {
     let Value::Table(table) = launch else {
         return Ok(());
@@ -181,8 +185,8 @@ fn check_launch(number: usize, launch: &Value, found: &mut Vec<Finding>) -> Resu
     note_if(found, !has_asked(launch), asked)
 }
 
-fn check_items(launch: usize, items: &[Value], found: &mut Vec<Finding>) -> Result<(), NoMemory>
-    ensures { OnOk result (faults_in found.new.items ≡ faults_in found.old.items ++ flat_map (λ v. item_faults (view v)) items.now) }
+fn check_items(launch: usize, items: &[Value], found: &mut Findings) -> Result<(), NoMemory>
+    ensures { OnOk result (kept found.new ≡ with_faults (kept found.old) (flat_map (λ v. item_faults (view v)) items.now)) }
 {
     for (number, item) in items.iter().enumerate() {
         let place = Place::Item {
@@ -195,8 +199,8 @@ fn check_items(launch: usize, items: &[Value], found: &mut Vec<Finding>) -> Resu
 }
 
 /// Adds the faults of an item's table, which has the keys of its kind.
-fn check_item(place: Place, item: &Value, found: &mut Vec<Finding>) -> Result<(), NoMemory>
-    ensures { OnOk result (faults_in found.new.items ≡ faults_in found.old.items ++ item_faults (view item.now)) }
+fn check_item(place: Place, item: &Value, found: &mut Findings) -> Result<(), NoMemory>
+    ensures { OnOk result (kept found.new ≡ with_faults (kept found.old) (item_faults (view item.now))) }
 {
     match role(item) {
         Role::Dtb => check_ruled(&DTB_RULES, place, item, found),

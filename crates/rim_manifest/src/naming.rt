@@ -1,7 +1,7 @@
 //! Where the names, the kinds, the files and the steps of a manifest are at fault. It is looked at where no table has a
 //! fault of its own; which fault the manifest is refused with does not rest on it.
 use crate::fault::ManifestFault;
-use crate::finding::{Array, Finding, Place, Subject, note, note_if};
+use crate::finding::{Array, Finding, Findings, Place, Subject, note, note_if};
 use crate::form::Form;
 use crate::manifest::entries;
 use crate::names::{has_file, name, position_of, role};
@@ -9,28 +9,26 @@ use crate::step::{is_miscounted, step};
 use crate::value::{array, field, items};
 use refusal::NoMemory;
 use rim_launch::{Role, Step};
-use std::alloc::Global;
 use toml::{Table, Value};
 
-/// The faults of names, of files and of steps.
-pub fn find_names(alloc: Global, table: &Table) -> Result<Vec<Finding>, NoMemory> {
-    let mut found = Vec::new(alloc);
+/// Adds the faults of names, of files and of steps.
+pub fn find_names(table: &Table, found: &mut Findings) -> Result<(), NoMemory> {
     let files = entries(table, "file");
     let launches = entries(table, "launch");
-    find_shared(Array::Files, files, &mut found)?;
-    find_shared(Array::Launches, launches, &mut found)?;
+    find_shared(Array::Files, files, found)?;
+    find_shared(Array::Launches, launches, found)?;
     for (number, launch) in launches.iter().enumerate() {
-        find_in_launch(files, number, launch, &mut found)?;
+        find_in_launch(files, number, launch, found)?;
     }
-    Ok(found)
+    Ok(())
 }
 
-/// The faults of the names, the files and the steps of a launch.
+/// Adds the faults of the names, the files and the steps of a launch.
 fn find_in_launch(
     files: &[Value],
     number: usize,
     launch: &Value,
-    found: &mut Vec<Finding>,
+    found: &mut Findings,
 ) -> Result<(), NoMemory> {
     let parts = array(launch, "item");
     find_shared(Array::Items { launch: number }, parts, found)?;
@@ -54,7 +52,7 @@ fn at(place: Place, key: &'static str, form: Form, fault: ManifestFault) -> Find
 }
 
 /// The tables of an array that have the name of an earlier one.
-fn find_shared(array: Array, tables: &[Value], found: &mut Vec<Finding>) -> Result<(), NoMemory> {
+fn find_shared(array: Array, tables: &[Value], found: &mut Findings) -> Result<(), NoMemory> {
     for (number, table) in tables.iter().enumerate() {
         let first = position_of(tables, name(table).as_bytes());
         let shared = at(
@@ -74,7 +72,7 @@ fn find_in_item(
     place: Place,
     item: &Value,
     earlier: &[Value],
-    found: &mut Vec<Finding>,
+    found: &mut Findings,
 ) -> Result<(), NoMemory> {
     let kind = role(item);
     let twice = kind != Role::Raw && earlier.iter().any(|other| role(other) == kind);
@@ -86,7 +84,7 @@ fn find_in_item(
 
 /// The steps that are none, or name what is not there or is named before. Where they are not as many as the launch's parts, they
 /// are not looked at one by one.
-fn find_steps(number: usize, launch: &Value, found: &mut Vec<Finding>) -> Result<(), NoMemory> {
+fn find_steps(number: usize, launch: &Value, found: &mut Findings) -> Result<(), NoMemory> {
     let Some(steps) = field(launch, "steps") else {
         return Ok(());
     };

@@ -13,23 +13,23 @@ use Rattle.rim_manifest.specs.Manifest.{item_faults, launch_faults}
 use Rattle.rim_manifest.specs.Names.{has_asked}
 use Rattle.rim_manifest.specs.Rules.{launch_rules, rec_rules}
 use Rattle.rim_manifest.specs.Values.{array_at}
-use Rattle.rim_manifest.specs.inside.Findings.{faults_in}
+use Rattle.rim_manifest.specs.inside.Findings.{Kept, kept, with_faults}
 use Rattle.rim_manifest.proofs.Notes.{flat_map_map, noted_two}
 use Rattle.rim_manifest.proofs.manifest.check_launch.Goals as goal
 
 -- the four kinds of faults of a launch, found one after another
-noted_launch : (ms : Members) (items recs : List Value) (asked : Bool) (o a b c e : List ManifestFault) → a ≡ o ++ table_faults launch_rules ms
-    → map view items ≡ array_at (codes "item") (table ms) → b ≡ a ++ flat_map (λ v. item_faults (view v)) items
-    → map view recs ≡ array_at (codes "rec") (table ms) → c ≡ b ++ flat_map (λ v. ruled_faults rec_rules (view v)) recs
-    → asked ≡ has_asked (table ms) → e ≡ c ++ fault_if (not asked) MissingKey → e ≡ o ++ launch_faults (table ms)
+noted_launch : (ms : Members) (items recs : List Value) (asked : Bool) (o a b c e : Kept) → a ≡ with_faults o (table_faults launch_rules ms)
+    → map view items ≡ array_at (codes "item") (table ms) → b ≡ with_faults a (flat_map (λ v. item_faults (view v)) items)
+    → map view recs ≡ array_at (codes "rec") (table ms) → c ≡ with_faults b (flat_map (λ v. ruled_faults rec_rules (view v)) recs)
+    → asked ≡ has_asked (table ms) → e ≡ with_faults c (fault_if (not asked) MissingKey) → e ≡ with_faults o (launch_faults (table ms))
 unfolding launch_faults
 noted_launch ms items recs asked o a b c e of_table items_are of_items recs_are of_recs asked_is last =
     let things : List ManifestFault = flat_map item_faults (array_at (codes "item") (table ms)) in
     let processors : List ManifestFault = flat_map (ruled_faults rec_rules) (array_at (codes "rec") (table ms)) in
     let missing : List ManifestFault = fault_if (not (has_asked (table ms))) MissingKey in
-    let of_things : b ≡ a ++ things = of_items ∙ ap (λ fs. a ++ fs) (sym (flat_map_map item_faults view items) ∙ ap (flat_map item_faults) items_are) in
-    let of_processors : c ≡ b ++ processors = of_recs ∙ ap (λ fs. b ++ fs) (sym (flat_map_map (ruled_faults rec_rules) view recs) ∙ ap (flat_map (ruled_faults rec_rules)) recs_are) in
-    let of_missing : e ≡ c ++ missing = last ∙ ap (λ x. c ++ fault_if (not x) MissingKey) asked_is in
+    let of_things : b ≡ with_faults a things = of_items ∙ ap (with_faults a) (sym (flat_map_map item_faults view items) ∙ ap (flat_map item_faults) items_are) in
+    let of_processors : c ≡ with_faults b processors = of_recs ∙ ap (with_faults b) (sym (flat_map_map (ruled_faults rec_rules) view recs) ∙ ap (flat_map (ruled_faults rec_rules)) recs_are) in
+    let of_missing : e ≡ with_faults c missing = last ∙ ap (λ x. with_faults c (fault_if (not x) MissingKey)) asked_is in
     noted_two o a e (table_faults launch_rules ms) (things ++ (processors ++ missing)) of_table
     (noted_two a b e things (processors ++ missing) of_things (noted_two b c e processors missing of_processors of_missing))
 
@@ -38,4 +38,4 @@ returns c =
     let is : view c.args.launch.now ≡ table _ = ap view c.in-Table.is ∙ view-Table c.in-Table.table in
     on_ok_weaker c.note_if.result (λ last. noted_launch _ c.array.result.now c.array-2.result.now c.has_asked.result _ _ _ _ _ c.in_ok-check_table.ensures
     (c.array.ensures ∙ ap (array_at (codes "item")) is) c.in_ok-check_items.ensures (c.array-2.ensures ∙ ap (array_at (codes "rec")) is) c.in_ok-check_tables.ensures
-    (c.has_asked.ensures ∙ ap has_asked is) last ∙ ap (λ d. faults_in c.args.found.now.items ++ launch_faults d) (sym is)) c.note_if.ensures
+    (c.has_asked.ensures ∙ ap has_asked is) last ∙ ap (λ d. with_faults (kept c.args.found.now) (launch_faults d)) (sym is)) c.note_if.ensures

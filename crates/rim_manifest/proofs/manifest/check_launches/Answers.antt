@@ -1,11 +1,11 @@
-use Rattle.std.proofs.Common.{◌++◌, ◌∙◌, ap}
+use Rattle.std.proofs.Common.{◌∙◌, ap}
 use Rattle.toml.specs.View.{view}
 use Rattle.rim_manifest.specs.Manifest.{launch_faults}
-use Rattle.rim_manifest.specs.inside.Findings.{faults_in}
+use Rattle.rim_manifest.specs.inside.Findings.{kept, with_faults}
 use Rattle.rim_manifest.proofs.Notes.{noted_step}
 use Rattle.rim_manifest.proofs.manifest.check_launches.Goals as goal
 
 pub loop-number-preserved : goal.loop-number-preserved
 loop-number-preserved c =
     noted_step (λ v. launch_faults (view v)) _ _ c.index-launches-number.result _ _ c.loop-number-test.true
-    (c.in_ok-check_launch.ensures ∙ ap (λ v. faults_in c.loop-number.found.items ++ launch_faults (view v)) c.index-launches-number.is) ∙ c.loop-number.invariant
+    (c.in_ok-check_launch.ensures ∙ ap (λ v. with_faults (kept c.loop-number.found) (launch_faults (view v))) c.index-launches-number.is) ∙ c.loop-number.invariant

@@ -1,10 +1,10 @@
-use Rattle.std.proofs.Common.{◌≡◌, ◌++◌, drop}
+use Rattle.std.proofs.Common.{◌≡◌, drop}
 use Rattle.std.specs.List.{flat_map}
 use Rattle.toml.specs.View.{view}
 use Rattle.rim_manifest.specs.Manifest.{launch_faults}
-use Rattle.rim_manifest.specs.inside.Findings.{faults_in}
+use Rattle.rim_manifest.specs.inside.Findings.{kept, with_faults}
 use Rattle.rim_manifest.proofs.manifest.check_launches.Given as goal
 
 abbrev pub invariant-loop-number : goal.invariant-loop-number
-invariant-loop-number l = faults_in l.found.items ++ flat_map (λ v. launch_faults (view v)) (drop l.number l.launches)
-    ≡ faults_in l.initial.found.items ++ flat_map (λ v. launch_faults (view v)) l.launches
+invariant-loop-number l = with_faults (kept l.found) (flat_map (λ v. launch_faults (view v)) (drop l.number l.launches))
+    ≡ with_faults (kept l.initial.found) (flat_map (λ v. launch_faults (view v)) l.launches)

@@ -1,0 +1,10 @@
+use Rattle.toml.specs.View.{table_view}
+use Rattle.rim_manifest.specs.Manifest.{manifest_faults}
+use Rattle.rim_manifest.proofs.Notes.{lowest_is, not_all}
+use Rattle.rim_manifest.proofs.manifest.lowest_fault.Goals as goal
+
+pub returns : goal.returns
+returns c = lowest_is _ (manifest_faults (table_view c.args.table.now)) _ c.in-Lowest.is c.in_ok-find_faults.ensures
+
+pub unreachable-requires : goal.unreachable-requires
+unreachable-requires c = not_all _ (manifest_faults (table_view c.args.table.now)) _ c.in-All.is c.in_ok-find_faults.ensures
