@@ -18,8 +18,8 @@ use Rattle.rtt_plan.specs.Runs.{runs_of}
 use Rattle.rtt_plan.specs.declared.run.Run.{Run}
 use Rattle.rtt_plan.proofs.Following.{ram-runs, region-blocks, region-runs}
 use Rattle.rtt_plan.proofs.Setting.{pages-in-turn, region-in-turn}
-use Rattle.list_model.specs.Entries.{Contents, commands_of, delegated}
-use Rattle.list_model.specs.Leading.{Build, Built, IsBuilt, Leads, item_entries, planned, region_entries}
+use Rattle.list_model.specs.Entries.{Contents, commands_of, delegated, item_entries, region_entries}
+use Rattle.list_model.specs.Leading.{Build, Built, IsBuilt, Leads, planned}
 use Rattle.list_model.specs.Parts.{AreContents, block_parts, page_part, page_parts}
 use Rattle.list_model.proofs.Filling.{pages-lead, parts_from, piled_pages, with_pages}
 use Rattle.list_model.proofs.Setting.{piled, runs-lead, with_runs}

@@ -12,6 +12,8 @@ use Rattle.rim_desc.specs.Rec.{RecData}
 use Rattle.rmm_model.specs.Blocks.{granules}
 use Rattle.rmm_model.specs.declared.table.Table.{Table}
 use Rattle.rtt_plan.specs.Missing.{missing}
+use Rattle.rtt_plan.specs.Planned.{Planned}
+use Rattle.rtt_plan.specs.Runs.{runs_of}
 use Rattle.rtt_plan.specs.declared.run.Run.{Run}
 
 -- the measurement of each page of each item, by the item's number and the page's
@@ -88,6 +90,13 @@ page_entries pool n start ts measured item k (x ∷ xs) =
     let g = granule pool (n + length new) in
     table_entries pool n new
     ++ (Whole (Delegate g) ∷ page_entry measured g x item k ∷ page_entries pool (n + length new + 1) start (ts ++ new) measured item (k + 1) xs)
+
+-- the entries of a region, and of an item's pages, after what was planned so far, with the nth granule of the pool as the next
+abbrev pub region_entries : ℕ → ℕ → Planned → ℕ → ℕ → List Entry
+region_entries pool n p base end = run_entries pool n p.space.start p.space.tables (runs_of base end p.least_level)
+
+abbrev pub item_entries : ℕ → ℕ → Planned → Bool → ℕ → ℕ → ℕ → List Entry
+item_entries pool n p measured item base count = page_entries pool n p.space.start p.space.tables measured item 0 (granules count base)
 
 -- the granules of a REC: its own, and the auxiliary granules after it
 abbrev pub rec_granules : ℕ → ℕ → ℕ → List ℕ

@@ -1,5 +1,5 @@
 -- A monitor that has carried out a list of commands, and commands that lead it on. This project's choice.
-use Rattle.std.specs.Prelude.{◌≡◌, ℕ, ◌+◌, ◌%◌, ◌<◌, ◌≤◌, true, Bool, List, Some, None}
+use Rattle.std.specs.Prelude.{◌≡◌, ℕ, ◌+◌, ◌%◌, ◌<◌, ◌≤◌, true, List, Some, None}
 use Rattle.rim_desc.specs.Part.{Part}
 use Rattle.rim_desc.specs.declared.command.Command.{Command}
 use Rattle.rim_desc.specs.declared.realm.RealmParams.{RealmParams}
@@ -11,8 +11,7 @@ use Rattle.rmm_model.specs.State.{State, is_new}
 use Rattle.rmm_model.specs.Owners.{kind_of}
 use Rattle.rmm_model.specs.Run.{accepted, run, shown}
 use Rattle.rtt_plan.specs.Planned.{Planned}
-use Rattle.rtt_plan.specs.Runs.{runs_of}
-use Rattle.list_model.specs.Entries.{Entry, granule, page_entries, run_entries}
+use Rattle.list_model.specs.Entries.{granule}
 
 -- what does not change while a realm is built
 pub record Build : Type 0 where
@@ -48,7 +47,7 @@ pub record Leads (b : Build) (w : Built) (s : State) (commands : List Command) (
   pub shown : shown s commands ≡ parts
   pub built : IsBuilt b w (run s commands)
 
--- ---- what is built by the realm and by a REC
+-- ---- what is built by the realm, by a REC, and by what was planned
 
 -- just after the realm was created: its start tables and the realm descriptor are taken
 abbrev pub opened : RealmParams → Built
@@ -68,14 +67,6 @@ pub record IsNextRec (b : Build) (w : Built) (r : RecData) : Type 0 where
   pub few : w.num_recs < 512
   pub aux : r.aux ≡ granules b.num_aux (granule b.pool (w.taken + 1))
 
--- ---- what is built by a region and by an item
-
 -- what was planned is built, with the next granule of the pool and the number of RECs
 abbrev pub planned : Planned → ℕ → ℕ → Built
 planned p taken num_recs = record { space = p.space; taken = taken; num_recs = num_recs }
-
-abbrev pub region_entries : ℕ → ℕ → Planned → ℕ → ℕ → List Entry
-region_entries pool n p base end = run_entries pool n p.space.start p.space.tables (runs_of base end p.least_level)
-
-abbrev pub item_entries : ℕ → ℕ → Planned → Bool → ℕ → ℕ → ℕ → List Entry
-item_entries pool n p measured item base count = page_entries pool n p.space.start p.space.tables measured item 0 (granules count base)

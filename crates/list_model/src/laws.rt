@@ -14,8 +14,8 @@ ghost use Rattle.rtt_plan.specs.Accepted.{AcceptsData, AcceptsRegion};
 ghost use Rattle.rtt_plan.specs.Missing.{page_acts, run_acts};
 ghost use Rattle.rtt_plan.specs.Planned.{IsPlanned, Planned, after_data, after_region};
 ghost use Rattle.rtt_plan.specs.declared.run.Run.{Run};
-ghost use Rattle.list_model.specs.Entries.{Contents, commands_of, delegated, page_entries, realm_entries, rec_entries, run_entries};
-ghost use Rattle.list_model.specs.Leading.{Build, Built, IsBuilt, IsNextRec, Leads, item_entries, opened, planned, region_entries, with_rec};
+ghost use Rattle.list_model.specs.Entries.{Contents, commands_of, delegated, item_entries, page_entries, realm_entries, rec_entries, region_entries, run_entries};
+ghost use Rattle.list_model.specs.Leading.{Build, Built, IsBuilt, IsNextRec, Leads, opened, planned, with_rec};
 ghost use Rattle.list_model.specs.Parts.{AreContents, block_parts, page_parts};
 ghost use Rattle.list_model.specs.inside.Acts.{ItemOf, act_entries};
 

@@ -19,7 +19,7 @@ use Rattle.list_model.specs.Entries.{Entry, Whole, delegated, granule, page_entr
 use Rattle.list_model.proofs.Counting.{count-append}
 use Rattle.rmi_list.specs.Measured.{page_base}
 use Rattle.rim_chain.specs.Links.{key_after, keys_in, keys_of}
-use Rattle.rim_chain.specs.Reading.{key_at}
+use Rattle.rim_chain.specs.Keys.{key_at}
 use Rattle.rim_chain.specs.declared.link.Link.{Link}
 use Rattle.rim_chain.specs.Fitting.{IsFitting}
 use Rattle.rim_chain.specs.inside.Steps.{item_links, pages_link, run_link}

@@ -32,7 +32,8 @@ use Rattle.ipa_layout.specs.declared.placed.PlacedItem.{PlacedItem}
 use Rattle.ipa_layout.specs.declared.rec.PlacedRec.{PlacedRec}
 use Rattle.rmi_list.specs.Measured.{least_level, of_named, page_base, rec_part, step_parts}
 use Rattle.rim_chain.specs.Links.{key_after, keys_in, keys_of, link_parts, page_count, pages_with, parts_with}
-use Rattle.rim_chain.specs.Reading.{GoByKeys, IsReadOf, item_keys, key_at, step_keys}
+use Rattle.rim_chain.specs.Keys.{item_keys, key_at, step_keys}
+use Rattle.rim_chain.specs.Reading.{GoByKeys, IsReadOf}
 use Rattle.rim_chain.specs.declared.link.Link.{Link}
 use Rattle.rim_chain.specs.inside.Steps.{IsReadable, IsReadableRegion, item_links, pages_link, rec_links, region_links, run_link, step_links}
 use Rattle.rim_chain.proofs.Fitting.{runs-keyless}

@@ -15,8 +15,7 @@ use Rattle.rmm_model.specs.Blocks.{granules}
 use Rattle.rtt_plan.specs.Planned.{after_data, after_region, data_checks, region_checks}
 use Rattle.rtt_plan.proofs.Accepted.{data-accepted, region-accepted}
 use Rattle.rtt_plan.proofs.Following.{region-runs}
-use Rattle.list_model.specs.Entries.{Entry, delegated, granule, rec_entries}
-use Rattle.list_model.specs.Leading.{item_entries, region_entries}
+use Rattle.list_model.specs.Entries.{Entry, delegated, granule, item_entries, rec_entries, region_entries}
 use Rattle.list_model.proofs.Delegating.{length-granules}
 use Rattle.rim_launch.specs.LaunchData.{LaunchData}
 use Rattle.rim_launch.specs.declared.config.Config.{Config}

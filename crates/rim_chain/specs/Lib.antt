@@ -3,6 +3,7 @@ pub mod Fronts
 pub mod Fitting
 pub mod Rows
 pub mod SharedFronts
+pub mod Keys
 pub mod Reading
 pub mod Jobs
 pub mod OwnDigests

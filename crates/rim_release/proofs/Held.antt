@@ -40,7 +40,8 @@ use Rattle.rmi_list.specs.Listed.{listed}
 use Rattle.rmi_list.specs.Measured.{contents}
 use Rattle.rim_chain.specs.Links.{PlanView, chain_of, keys_of}
 use Rattle.rim_chain.specs.OwnDigests.{HasOwnPage, own_digest}
-use Rattle.rim_chain.specs.Reading.{IsReadOf, measured_keys}
+use Rattle.rim_chain.specs.Keys.{measured_keys}
+use Rattle.rim_chain.specs.Reading.{IsReadOf}
 use Rattle.rim_chain.specs.Rows.{IsFull, IsRowOf, has_all, value_in}
 use Rattle.rim_chain.proofs.Own.{chain-held, row-own}
 use Rattle.rim_release.specs.Accepted.{accepted_of, commands_for, layout_fault, list_fault, rim_after, rim_for}

@@ -17,8 +17,7 @@ use Rattle.rmm_model.specs.declared.table.Table.{Table}
 use Rattle.rtt_plan.specs.Missing.{missing}
 use Rattle.rtt_plan.specs.Planned.{after_data, after_region, data_checks, region_checks}
 use Rattle.rtt_plan.specs.declared.run.Run.{Run}
-use Rattle.list_model.specs.Entries.{Contents, Entry, Page, Whole, command_of, commands_of, delegate_all, delegated, granule, page_entries, page_entry, page_of, rec_entries, rec_granules, run_entries, table_entries}
-use Rattle.list_model.specs.Leading.{item_entries, region_entries}
+use Rattle.list_model.specs.Entries.{Contents, Entry, Page, Whole, command_of, commands_of, delegate_all, delegated, granule, item_entries, page_entries, page_entry, page_of, rec_entries, rec_granules, region_entries, run_entries, table_entries}
 use Rattle.list_model.proofs.Delegating.{length-granules}
 use Rattle.rim_launch.specs.LaunchData.{LaunchData}
 use Rattle.rim_launch.specs.Realm.{realm_params}

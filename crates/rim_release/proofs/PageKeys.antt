@@ -34,7 +34,7 @@ use Rattle.rim_launch.specs.declared.step.Step.TheVariants as step
 use Rattle.ipa_layout.specs.Layout.{IsPlaced, PlacedData}
 use Rattle.ipa_layout.specs.declared.placed.PlacedItem.{PlacedItem}
 use Rattle.rim_manifest.specs.Launches.{AreNumbered, NamedData, ReleaseData}
-use Rattle.rim_chain.specs.Reading.{item_keys, key_at, measured_keys, step_keys}
+use Rattle.rim_chain.specs.Keys.{item_keys, key_at, measured_keys, step_keys}
 use Rattle.rim_release.specs.Accepted.{accepted_of}
 use Rattle.rim_release.specs.Pages.{keys_at, launch_keys, page_keys, release_pages}
 use Rattle.rim_release.specs.inside.Ends.{ends_of, item_ends, launch_ends, step_ends}

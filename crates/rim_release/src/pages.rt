@@ -8,7 +8,7 @@ ghost use Rattle.page_jobs.specs.Ranges.{keys_before, range_keys};
 ghost use Rattle.rim_release.specs.Plans.{places_of};
 ghost use Rattle.rim_release.specs.Pages.{edited_at, source_bytes};
 ghost use Rattle.rim_release.specs.inside.Ends.{ends_of, item_ends, launch_ends, step_ends};
-ghost use Rattle.rim_chain.specs.Reading.{key_at};
+ghost use Rattle.rim_chain.specs.Keys.{key_at};
 ghost use Rattle.rim_release.specs.inside.Sources.{IsUsable, pages_of};
 
 use crate::audit_fault::AuditFault;

@@ -11,8 +11,7 @@ use Rattle.rtt_plan.specs.Planned.{Planned, after_data, after_region, data_check
 use Rattle.rtt_plan.specs.declared.fault.PlanFault.{PlanFault}
 use Rattle.rtt_plan.specs.Runs.{runs_of}
 use Rattle.rtt_plan.proofs.Alike.{after_data-alike, after_region-alike}
-use Rattle.list_model.specs.Entries.{Entry, delegated, granule, rec_entries}
-use Rattle.list_model.specs.Leading.{item_entries, region_entries}
+use Rattle.list_model.specs.Entries.{Entry, delegated, granule, item_entries, rec_entries, region_entries}
 use Rattle.list_model.proofs.Acts.{pages-alike, runs-alike}
 use Rattle.rim_launch.specs.LaunchData.{LaunchData}
 use Rattle.rim_launch.specs.declared.config.Config.{Config}

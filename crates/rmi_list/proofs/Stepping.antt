@@ -18,8 +18,7 @@ use Rattle.rtt_plan.specs.declared.act.Act.TheVariants as act
 use Rattle.rtt_plan.specs.declared.fault.PlanFault.{PlanFault}
 use Rattle.rtt_plan.specs.declared.fault.PlanFault.TheVariants as plan
 use Rattle.rtt_plan.proofs.Alike.{agrees-refl}
-use Rattle.list_model.specs.Entries.{Entry, Whole, delegate_all, delegated, granule, rec_entries}
-use Rattle.list_model.specs.Leading.{item_entries, region_entries}
+use Rattle.list_model.specs.Entries.{Entry, Whole, delegate_all, delegated, granule, item_entries, rec_entries, region_entries}
 use Rattle.list_model.specs.inside.Acts.{act_entries}
 use Rattle.list_model.proofs.Acts.{acts-of-pages, acts-of-runs}
 use Rattle.list_model.proofs.Counting.{count-append}

@@ -9,8 +9,7 @@ use Rattle.rmm_model.specs.Blocks.{granules}
 use Rattle.rtt_plan.specs.Planned.{Planned, after_data, after_region, data_checks, nothing_planned, region_checks}
 use Rattle.rtt_plan.specs.declared.fault.PlanFault.{PlanFault}
 use Rattle.rtt_plan.specs.declared.fault.PlanFault.TheVariants as plan
-use Rattle.list_model.specs.Entries.{Entry, Whole, delegated, granule, realm_entries, rec_entries}
-use Rattle.list_model.specs.Leading.{item_entries, region_entries}
+use Rattle.list_model.specs.Entries.{Entry, Whole, delegated, granule, item_entries, realm_entries, rec_entries, region_entries}
 use Rattle.rim_launch.specs.LaunchData.{LaunchData}
 use Rattle.rim_launch.specs.Realm.{realm_params}
 use Rattle.rim_launch.specs.declared.config.Config.{Config}

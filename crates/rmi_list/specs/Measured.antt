@@ -1,6 +1,6 @@
 -- What is measured of a launch that has its place, part by part, in the order of its steps. DEN0137, "Realm Initial
 -- Measurement"; the order is this project's choice.
-use Rattle.std.specs.Prelude.{ℕ, ◌-◌, max, List, [], ◌∷◌, Option, Some, None}
+use Rattle.std.specs.Prelude.{ℕ, ◌-◌, List, [], ◌∷◌, Option, Some, None}
 use Rattle.std.specs.List.{flat_map, slice_get}
 use Rattle.rim_desc.specs.Measurement.{measurement_of}
 use Rattle.rim_desc.specs.PageBytes.{page_bytes}
@@ -8,7 +8,7 @@ use Rattle.rim_desc.specs.Part.{Part, Realm, Rec}
 use Rattle.rim_desc.specs.Realm.{realm_page_of}
 use Rattle.rim_desc.specs.Rec.{rec_page_of}
 use Rattle.rim_desc.specs.declared.measurement.Algo.{Algo}
-use Rattle.rmm_model.specs.Start.{start_level}
+use Rattle.rtt_plan.specs.Planned.{least_level_of}
 use Rattle.list_model.specs.Entries.{Contents}
 use Rattle.list_model.specs.Parts.{block_parts, page_parts}
 use Rattle.rim_launch.specs.LaunchData.{LaunchData}
@@ -33,9 +33,9 @@ contents l files p item k = record { bytes = digest_of l.config.algo files p (sl
 
 -- ---- its parts
 
--- the least level of a block of RAM, which is no larger than an entry of a start table
+-- the least level of a block of its RAM
 abbrev pub least_level : Config → ℕ
-least_level c = max c.block_level (start_level c.s2sz)
+least_level c = least_level_of c.s2sz c.block_level
 
 -- the address of the first page of an item
 abbrev pub page_base : PlacedItem → ℕ

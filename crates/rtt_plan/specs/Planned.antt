@@ -21,11 +21,15 @@ pub record Planned : Type 0 where
   -- how many entries all regions so far have
   pub entries : ℕ
 
--- nothing was planned. A block of RAM is no larger than an entry of a start table
+-- the least level of a block of RAM, which is no larger than an entry of a start table
+abbrev pub least_level_of : ℕ → ℕ → ℕ
+least_level_of s2sz block_level = max block_level (start_level s2sz)
+
+-- nothing was planned
 abbrev pub nothing_planned : ℕ → ℕ → Planned
 nothing_planned s2sz block_level = record {
   space = empty_space (start_level s2sz) (protected_end s2sz);
-  least_level = max block_level (start_level s2sz);
+  least_level = least_level_of s2sz block_level;
   entries = 0;
 }
 

@@ -17,7 +17,7 @@ use Rattle.ipa_layout.specs.declared.placed.PlacedItem.{PlacedItem}
 use Rattle.ipa_layout.specs.declared.rec.PlacedRec.{PlacedRec}
 use Rattle.rmi_list.specs.Measured.{least_level, page_base}
 use Rattle.rmi_list.specs.RecParams.{rec_params}
-use Rattle.rim_chain.specs.Reading.{key_at}
+use Rattle.rim_chain.specs.Keys.{key_at}
 use Rattle.rim_chain.specs.declared.link.Link.{Link}
 use Rattle.rim_chain.specs.declared.link.Link.TheVariants as link
 

@@ -9,7 +9,7 @@ use Rattle.rim_launch.specs.declared.step.Step.TheVariants as step
 use Rattle.ipa_layout.specs.Layout.{PlacedData}
 use Rattle.ipa_layout.specs.declared.placed.PlacedItem.{PlacedItem}
 use Rattle.rim_manifest.specs.Launches.{NamedData}
-use Rattle.rim_chain.specs.Reading.{key_at}
+use Rattle.rim_chain.specs.Keys.{key_at}
 use Rattle.rim_release.specs.declared.audit_fault.AuditFault.{AuditFault}
 
 abbrev pub item_ends : Algo → Option PlacedItem → List PageKey
