@@ -24,6 +24,15 @@ header_of bytes = record {
   size_dt_struct = word_at 36 bytes;
 }
 
+-- the number that each devicetree begins with
+abbrev pub magic_number : ℕ
+magic_number = 0xd00dfeed
+
+-- The most bytes of a devicetree, 2 MiB, as Linux has it for arm64: Documentation/arch/arm64/booting.rst, "Setup the
+-- device tree".
+abbrev pub size_limit : ℕ
+size_limit = 2 ^ 21
+
 -- the size of the header in bytes
 abbrev pub header_size : ℕ
 header_size = 40
@@ -38,15 +47,14 @@ pub record BlocksFit (h : Header) (len : ℕ) : Type 0 where
   pub structure : h.off_dt_struct + h.size_dt_struct ≤ h.totalsize
   pub strings : h.off_dt_strings + h.size_dt_strings ≤ h.totalsize
 
--- The bytes begin with this header. The limit of 2 MiB (2 ^ 21 bytes) is the one that Linux sets for
--- arm64 (Documentation/arch/arm64/booting.rst, "Setup the device tree").
+-- the bytes begin with this header
 pub record HasHeader (bytes : List ℕ) (h : Header) : Type 0 where
   pub fields : h ≡ header_of bytes
   pub long : header_size ≤ length bytes
-  pub magic : word_at 0 bytes ≡ 0xd00dfeed
+  pub magic : word_at 0 bytes ≡ magic_number
   pub version : h.version ≡ 17
   pub compatible : h.last_comp_version ≤ 17
-  pub small : length bytes ≤ 2 ^ 21
+  pub small : length bytes ≤ size_limit
   pub blocks : BlocksFit h (length bytes)
 
 -- the blocks
@@ -75,9 +83,9 @@ is_known_version h = (h.version == 17) && nat_le h.last_comp_version 17
 unfoldable pub header_at : List ℕ → Result Header FdtFault
 header_at bytes =
     if nat_lt (length bytes) header_size then Err Short
-    else (if word_at 0 bytes == 0xd00dfeed then
+    else (if word_at 0 bytes == magic_number then
     (if is_known_version (header_of bytes) then
-    (if nat_lt (2 ^ 21) (length bytes) then Err TooLarge
+    (if nat_lt size_limit (length bytes) then Err TooLarge
     else (if blocks_fit (header_of bytes) (length bytes) then Ok (header_of bytes) else Err BadBlock))
     else Err BadVersion)
     else Err BadMagic)

@@ -1,7 +1,15 @@
 -- What a devicetree is, and the tokens of its nodes: Devicetree Specification 0.4, sections 2.1 to 2.3
 -- and 5.4.
-use Rattle.std.specs.Prelude.{ℕ, List, [], ◌∷◌, ◌++◌, map}
+use Rattle.std.specs.Prelude.{ℕ, ◌-◌, ◌%◌, List, [], ◌∷◌, ◌++◌, map}
 use Rattle.fdt_tree.specs.declared.tree.Reservation.{Reservation}
+
+-- the most nodes from the root to a node, both counted: none is deeper. This project's choice
+abbrev pub depth_limit : ℕ
+depth_limit = 64
+
+-- how many bytes pad n bytes to a multiple of 4
+abbrev pub padding_of : ℕ → ℕ
+padding_of n = (4 - n % 4) % 4
 
 -- a property, as clauses see it
 pub record PropertyData : Type 0 where

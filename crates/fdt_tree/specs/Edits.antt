@@ -4,7 +4,7 @@ use Rattle.std.specs.Prelude.{ℕ, List, [], ◌∷◌, length, Bool, true, Opti
 use Rattle.std.specs.Str.{bytes_eq}
 use Rattle.fdt_tree.specs.declared.fault.FdtFault.{FdtFault}
 use Rattle.fdt_tree.specs.declared.fault.FdtFault.TheVariants.{BadName, TooDeep}
-use Rattle.fdt_tree.specs.Devicetree.{PropertyData, Nodes, none, node, Branch, Root, branch_of_root, Devicetree, bare}
+use Rattle.fdt_tree.specs.Devicetree.{Branch, Devicetree, Nodes, PropertyData, Root, bare, branch_of_root, depth_limit, node, none}
 use Rattle.fdt_tree.specs.Names.{legal}
 use Rattle.fdt_tree.specs.Lookup.{names_on}
 use Rattle.refusal.specs.Answer.{◌>>=◌}
@@ -47,10 +47,10 @@ root_in b = record { properties = b.properties; children = b.children }
 abbrev pub with_root : Devicetree → Branch → Devicetree
 with_root t b = record t { root = root_in b }
 
--- the names of the path and of the property are legal, and no node is made deeper than 64
+-- the names of the path and of the property are legal, and no node is made deeper than the limit
 abbrev pub check_names : List (List ℕ) → List ℕ → Result (Unit {0}) FdtFault
 check_names names name =
-    if all_legal names then (if legal name then (if nat_lt (length names) 64 then Ok tt else Err TooDeep) else Err BadName)
+    if all_legal names then (if legal name then (if nat_lt (length names) depth_limit then Ok tt else Err TooDeep) else Err BadName)
     else Err BadName
 
 abbrev pub path_names : Option (List (List ℕ)) → Result (List (List ℕ)) FdtFault

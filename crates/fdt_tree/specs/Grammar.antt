@@ -1,13 +1,13 @@
 -- Which bytes spell a structure block: Devicetree Specification 0.4, section 5.4.
-use Rattle.std.specs.Prelude.{◌≡◌, ℕ, ◌+◌, ◌-◌, ◌%◌, ◌^◌, ◌<◌, List, [], ◌∷◌, ◌++◌, length, drop}
+use Rattle.std.specs.Prelude.{◌≡◌, ℕ, ◌+◌, ◌^◌, ◌<◌, List, [], ◌∷◌, ◌++◌, length, drop}
 use Rattle.std.specs.Int.{w32, to_be_bytes}
-use Rattle.fdt_tree.specs.Devicetree.{Token, begin_node, property, end_node, nop, finish, Root, root_tokens, FDT_BEGIN_NODE, FDT_END_NODE, FDT_PROP, FDT_NOP, FDT_END}
+use Rattle.fdt_tree.specs.Devicetree.{FDT_BEGIN_NODE, FDT_END, FDT_END_NODE, FDT_NOP, FDT_PROP, Root, Token, begin_node, end_node, finish, nop, padding_of, property, root_tokens}
 use Rattle.fdt_tree.specs.Names.{AreLegal, IsLegal}
 
 -- Any bytes that pad n bytes to a multiple of 4. The specification requires zeros. Like other readers, this
 -- one does not look at them.
 abbrev pub IsPadding : ℕ → List ℕ → Type 0
-IsPadding n pad = length pad ≡ (4 - n % 4) % 4
+IsPadding n pad = length pad ≡ padding_of n
 
 -- the name is at this offset in the strings block, and a zero byte follows it
 abbrev pub IsStringAt : List ℕ → ℕ → List ℕ → Type 0

@@ -2,7 +2,7 @@
 -- property names (2.2.4). Devicetrees in use have others too, so this project accepts every visible ASCII
 -- character except `/`, which separates the names of a path.
 use Rattle.std.specs.Prelude.{ℕ, ◌+◌, ◌<◌, List, [], ◌∷◌, length, Bool, true, false, nat_lt, ◌==◌, ◌&&◌, not, cond, IsTrue}
-use Rattle.fdt_tree.specs.Devicetree.{PropertyData, Nodes, none, node}
+use Rattle.fdt_tree.specs.Devicetree.{Nodes, PropertyData, depth_limit, node, none}
 
 abbrev pub is_name_character : ℕ → Bool
 is_name_character c = nat_lt 32 c && nat_lt c 127 && not (c == 47)
@@ -24,4 +24,4 @@ AreLegal (e ∷ es) = IsTrue (legal e.name) × AreLegal es
 abbrev pub IsLegal : ℕ → Nodes → Type 0
 IsLegal depth none = Unit {0}
 IsLegal depth (node name properties children next) =
-    (depth < 64) × IsTrue (legal name) × AreLegal properties × IsLegal (depth + 1) children × IsLegal depth next
+    (depth < depth_limit) × IsTrue (legal name) × AreLegal properties × IsLegal (depth + 1) children × IsLegal depth next

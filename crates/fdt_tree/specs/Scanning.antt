@@ -1,13 +1,13 @@
 -- Scanning the structure block token by token: Devicetree Specification 0.4, sections 5.4 and 5.5.
 -- `token_at` is the first token of some bytes, or its fault. Which of several faults is reported, and that
 -- no node is deeper than 64, is this project's choice.
-use Rattle.std.specs.Prelude.{ℕ, zero, suc, ◌+◌, ◌-◌, ◌%◌, List, [], ◌∷◌, length, take, drop, Bool, true, false, Option, Some, None, Result, Ok, Err, nat_lt, ◌==◌, ◌&&◌, not, if◌then◌else◌}
+use Rattle.std.specs.Prelude.{ℕ, zero, suc, ◌+◌, ◌-◌, List, [], ◌∷◌, length, take, drop, Bool, true, false, Option, Some, None, Result, Ok, Err, nat_lt, ◌==◌, ◌&&◌, not, if◌then◌else◌}
 use Rattle.std.specs.Int.{w32, from_be_bytes}
 use Rattle.fdt_tree.specs.declared.fault.FdtFault.{FdtFault}
 use Rattle.fdt_tree.specs.declared.fault.FdtFault.TheVariants.{BadToken, BadName, BadString, LateProperty, TooDeep}
 use Rattle.fdt_tree.specs.declared.reading.place.Place.{Place}
 use Rattle.refusal.specs.Answer.{◌>>=◌}
-use Rattle.fdt_tree.specs.Devicetree.{Token, begin_node, property, end_node, nop, finish, FDT_BEGIN_NODE, FDT_END_NODE, FDT_PROP, FDT_NOP, FDT_END}
+use Rattle.fdt_tree.specs.Devicetree.{FDT_BEGIN_NODE, FDT_END, FDT_END_NODE, FDT_NOP, FDT_PROP, Token, begin_node, depth_limit, end_node, finish, nop, padding_of, property}
 use Rattle.fdt_tree.specs.Names.{legal}
 
 -- before the root
@@ -31,7 +31,7 @@ number_at bytes =
 -- at: where the block ends within it, no bytes follow.
 unfoldable pub padded_at : ℕ → List ℕ → Result (List ℕ × List ℕ) FdtFault
 padded_at n bytes =
-    if nat_lt (length bytes) n then Err BadToken else Ok (take n bytes, drop (n + (4 - n % 4) % 4) bytes)
+    if nat_lt (length bytes) n then Err BadToken else Ok (take n bytes, drop (n + padding_of n) bytes)
 
 -- the number of bytes before the first zero byte
 abbrev pub until_zero : List ℕ → Option ℕ
@@ -52,7 +52,7 @@ unfoldable pub begin_at : Place → List ℕ → Result (Token × List ℕ) FdtF
 begin_at p bytes = do
   name ← string_at BadToken bytes
   text ← padded_at (length name + 1) bytes
-  if legal_at p name then (if nat_lt p.depth 64 then Ok (begin_node name, text.1) else Err TooDeep) else Err BadName
+  if legal_at p name then (if nat_lt p.depth depth_limit then Ok (begin_node name, text.1) else Err TooDeep) else Err BadName
 
 -- the name of a property: the text at this offset in the strings block, which may be the end of a longer name
 unfoldable pub name_at : List ℕ → ℕ → Result (List ℕ) FdtFault

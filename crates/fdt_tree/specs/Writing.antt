@@ -1,13 +1,13 @@
 -- The bytes that are written: Devicetree Specification 0.4, chapter 5. The order of the blocks and of the
 -- names is this project's choice.
-use Rattle.std.specs.Prelude.{◌^◌, ℕ, ◌+◌, ◌-◌, ◌%◌, List, [], ◌∷◌, ◌++◌, length, Bool, true, false, Result, Ok, Err, nat_lt, replicate, if◌then◌else◌}
+use Rattle.std.specs.Prelude.{ℕ, ◌+◌, List, [], ◌∷◌, ◌++◌, length, Bool, true, false, Result, Ok, Err, nat_lt, replicate, if◌then◌else◌}
 use Rattle.std.specs.Int.{w32, to_be_bytes}
 use Rattle.std.specs.Str.{bytes_eq}
 use Rattle.fdt_tree.specs.declared.fault.FdtFault.{FdtFault}
 use Rattle.fdt_tree.specs.declared.fault.FdtFault.TheVariants.{TooLarge}
 use Rattle.fdt_tree.specs.declared.tree.Reservation.{Reservation}
-use Rattle.fdt_tree.specs.Devicetree.{Token, begin_node, property, end_node, nop, finish, Devicetree, root_tokens, FDT_BEGIN_NODE, FDT_END_NODE, FDT_PROP, FDT_NOP, FDT_END}
-use Rattle.fdt_tree.specs.Blocks.{header_size}
+use Rattle.fdt_tree.specs.Devicetree.{Devicetree, FDT_BEGIN_NODE, FDT_END, FDT_END_NODE, FDT_NOP, FDT_PROP, Token, begin_node, end_node, finish, nop, padding_of, property, root_tokens}
+use Rattle.fdt_tree.specs.Blocks.{header_size, magic_number, size_limit}
 use Rattle.fdt_tree.specs.Reservations.{pair_text}
 
 -- ---- the strings: each name once, in the order of first use
@@ -41,7 +41,7 @@ offset_in (n ∷ names) name = if bytes_eq name n then 0 else length n + 1 + off
 -- ---- the structure block
 
 abbrev pub padding_after : ℕ → List ℕ
-padding_after n = replicate ((4 - n % 4) % 4) 0
+padding_after n = replicate (padding_of n) 0
 
 abbrev pub begin_text : List ℕ → List ℕ
 begin_text name = to_be_bytes w32 FDT_BEGIN_NODE ++ (name ++ (0 ∷ padding_after (length name + 1)))
@@ -74,7 +74,7 @@ reservations_text (r ∷ rs) = pair_text r ++ reservations_text rs
 -- reservations begin.
 abbrev pub places_text : ℕ → ℕ → ℕ → List ℕ
 places_text reserve structure strings =
-    to_be_bytes w32 0xd00dfeed ++ (to_be_bytes w32 (header_size + reserve + structure + strings)
+    to_be_bytes w32 magic_number ++ (to_be_bytes w32 (header_size + reserve + structure + strings)
     ++ (to_be_bytes w32 (header_size + reserve) ++ (to_be_bytes w32 (header_size + reserve + structure) ++ to_be_bytes w32 header_size)))
 
 -- The second half: version 17, which a reader of version 16 can read, the processor that boots, and the
@@ -95,6 +95,6 @@ abbrev pub written : Devicetree → List ℕ
 written t =
     file_text t.boot_cpu (reservations_text t.reservations) (structure_text t) (strings_text (names_after [] (root_tokens t.root)))
 
--- the file of a tree, unless it would be longer than 2 MiB (Linux, booting.rst, "Setup the device tree")
+-- the file of a tree, unless it would be longer than a devicetree may be
 abbrev pub file_of : Devicetree → Result (List ℕ) FdtFault
-file_of t = if nat_lt (2 ^ 21) (length (written t)) then Err TooLarge else Ok (written t)
+file_of t = if nat_lt size_limit (length (written t)) then Err TooLarge else Ok (written t)

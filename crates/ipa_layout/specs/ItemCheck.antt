@@ -3,6 +3,7 @@
 -- is a multiple of 2 MiB: "Call the kernel image". The rest is this project's choice.
 use Rattle.std.specs.Prelude.{ℕ, ◌+◌, ◌-◌, ◌%◌, ◌^◌, List, [], ◌∷◌, length, Bool, Result, Ok, Err, not, ◌&&◌, ◌||◌, ◌==◌, nat_lt, nat_le}
 use Rattle.refusal.specs.Checks.{Check, unless_refused}
+use Rattle.fdt_tree.specs.Blocks.{size_limit}
 use Rattle.fdt_tree.specs.declared.fault.FdtFault.TheVariants.{TooLarge}
 use Rattle.rim_launch.specs.declared.item.Item.{Item}
 use Rattle.rim_launch.specs.declared.item.Region.{Region}
@@ -29,7 +30,7 @@ is_too_small pages_before a count = nat_lt a.size count || nat_lt 1048576 (pages
 -- in this order
 abbrev pub checks_of : List Region → ℕ → Item → ℕ → WantedExtent → List (Check LayoutFault)
 checks_of ram pages_before i count a =
-    (Dtb TooLarge, has_role role.Dtb i && nat_lt 2097152 a.size)
+    (Dtb TooLarge, has_role role.Dtb i && nat_lt size_limit a.size)
     ∷ (Unaligned, has_role role.Dtb i && not (i.at % 8 == 0))
     ∷ (KernelBase, has_role role.Kernel i && not (i.at % 2097152 == 0))
     ∷ (Size, is_too_small pages_before a count)

@@ -1,5 +1,5 @@
 -- What the table of names keeps, and when bytes are too many.
-use Rattle.std.specs.Prelude.{◌^◌, ◌≡◌, ◌⊎◌, ℕ, ◌<◌, List, take, drop, Option, Some, None, if◌then◌else◌}
+use Rattle.std.specs.Prelude.{◌≡◌, ◌⊎◌, ℕ, ◌<◌, List, take, drop, Option, Some, None, if◌then◌else◌}
 use Rattle.std.specs.Ordering.{nat_cmp}
 use Rattle.std.specs.Cmp.Lexicographic.{slice_cmp}
 use Rattle.std.specs.BTreeMap.{get_by}
@@ -8,6 +8,7 @@ use Rattle.fdt_tree.specs.declared.fault.FdtFault.TheVariants.{NoMemory, TooLarg
 use Rattle.fdt_tree.specs.declared.writing.names.NameTable.{NameTable}
 use Rattle.fdt_tree.specs.declared.writing.names.KnownRange.{KnownRange}
 use Rattle.fdt_tree.specs.Writing.{is_among, strings_text, offset_in}
+use Rattle.fdt_tree.specs.Blocks.{size_limit}
 
 -- the offset of a name, if it is among the names
 abbrev pub place_in : List (List ℕ) → List ℕ → Option ℕ
@@ -22,4 +23,4 @@ pub record HasNames (source : List ℕ) (t : NameTable) (names : List (List ℕ)
 
 -- the fault where memory was refused, or where these are too many bytes
 abbrev pub TooMuch : FdtFault → ℕ → Type 0
-TooMuch e n = (e ≡ NoMemory) ⊎ ((e ≡ TooLarge) × (2 ^ 21 < n))
+TooMuch e n = (e ≡ NoMemory) ⊎ ((e ≡ TooLarge) × (size_limit < n))

@@ -1,11 +1,11 @@
 -- What has been written of a tree, and how long it is.
-use Rattle.std.specs.Prelude.{◌^◌, ◌≡◌, ℕ, ◌+◌, ◌≤◌, List, ◌++◌, length, map}
+use Rattle.std.specs.Prelude.{◌≡◌, ℕ, ◌+◌, ◌≤◌, List, ◌++◌, length, map}
 use Rattle.fdt_tree.specs.declared.node.Property.{Property}
 use Rattle.fdt_tree.specs.declared.node.Node.{Node}
 use Rattle.fdt_tree.specs.declared.writing.Output.{Output}
 use Rattle.fdt_tree.specs.declared.writing.Lengths.{Lengths}
 use Rattle.fdt_tree.specs.Devicetree.{Token, property, tokens, joined}
-use Rattle.fdt_tree.specs.Blocks.{header_size}
+use Rattle.fdt_tree.specs.Blocks.{header_size, size_limit}
 use Rattle.fdt_tree.specs.NodeViews.{property_data, branches}
 use Rattle.fdt_tree.specs.Writing.{names_after, text_after, strings_text}
 use Rattle.fdt_tree.specs.inside.NameTables.{HasNames}
@@ -31,4 +31,4 @@ pub record AreLengths (l : Lengths) (reserve structure strings : ℕ) : Type 0 w
   pub reserve_is : l.reserve ≡ reserve
   pub structure_is : l.structure ≡ structure
   pub strings_is : l.strings ≡ strings
-  pub fits : header_size + reserve + structure + strings ≤ 2 ^ 21
+  pub fits : header_size + reserve + structure + strings ≤ size_limit
