@@ -1,4 +1,4 @@
-//! What is there and what may be, where a manifest has a fault.
+//! What is given and what is expected, where a manifest has a fault.
 use crate::expected::Expected;
 use crate::line::{Line, Quoted};
 use crate::nearest::Nearest;

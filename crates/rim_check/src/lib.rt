@@ -1,5 +1,5 @@
 //! What is wrong with a manifest and with the launches that it describes: a line for each fault, with its place, what is
-//! there and what may be.
+//! given and what is expected.
 #![tactic(auto)]
 
 mod checked;
