@@ -63,7 +63,7 @@ def imported(text):
 
 
 def spoken(text):
-    """The words of a text, but for the names of fields; a word behind a file's name keeps it."""
+    """The words of a text, but for the names of fields; a word after a file's name keeps it."""
     text = re.sub(r"--.*", " ", text)
     text = re.sub(r"^  pub \w+ :", " ", text, flags=re.M)
     text = re.sub(r"(\{|;|^ )\s*\w+ = ", r"\1 ", text, flags=re.M)
