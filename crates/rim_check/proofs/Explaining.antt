@@ -3,20 +3,20 @@ use Rattle.std.proofs.Common.{◌≡◌, ◌∙◌, ℕ, List, [], ◌∷◌, So
 use Rattle.toml.specs.Data.{Members}
 use Rattle.rim_manifest.specs.declared.fault.ManifestFault.{ManifestFault}
 use Rattle.rim_manifest.specs.declared.fault.ManifestFault.TheVariants.{Syntax}
-use Rattle.rim_manifest.specs.Faults.{kind_of, lower}
+use Rattle.rim_manifest.specs.Faults.{lower}
 use Rattle.rim_manifest.specs.Found.{AreFound}
 use Rattle.rim_manifest.specs.Manifest.{Answer, answer_of, document_of, manifest_of, read_of}
-use Rattle.rim_check.specs.Explained.{Explains, IsCheckOf}
+use Rattle.rim_check.specs.Explained.{Explains, IsCheckOf, fault_said}
 use Rattle.rim_check.specs.Lines.{SayInTurn}
 use Rattle.rim_check.specs.declared.manifest.ManifestCheck.{ManifestCheck}
 
 -- a text that is no document is explained by one line
-pub explains-syntax : (lines : List ℕ) → SayInTurn (map kind_of (Syntax ∷ [])) lines → Explains Syntax lines
+pub explains-syntax : (lines : List ℕ) → SayInTurn (map fault_said (Syntax ∷ [])) lines → Explains Syntax lines
 unfolding lower
 explains-syntax lines says = record { faults = Syntax ∷ []; lowest = refl; lines = says }
 
 -- a manifest is explained by a line for each fault that was found
-pub explains-found : (ms : Members) (faults : List ManifestFault) (lines : List ℕ) (found : AreFound ms faults) → SayInTurn (map kind_of faults) lines → Explains found.fault lines
+pub explains-found : (ms : Members) (faults : List ManifestFault) (lines : List ℕ) (found : AreFound ms faults) → SayInTurn (map fault_said faults) lines → Explains found.fault lines
 explains-found ms faults lines found says = record { faults = faults; lowest = found.lowest; lines = says }
 
 -- a check of what a document reads as is one of the manifest

@@ -11,12 +11,12 @@ use Rattle.rim_launch.specs.LaunchData.{LaunchData, has_files}
 use Rattle.rim_manifest.specs.Launches.{AreNumbered, NamedData, ReleaseData}
 use Rattle.rim_release.specs.Accepted.{accepted_of, rim_for}
 use Rattle.rim_release.specs.Report.{has_refused}
-use Rattle.rim_check.specs.Explained.{refusal_words, refused_words}
-use Rattle.rim_check.specs.Lines.{SayInTurn}
+use Rattle.rim_check.specs.Explained.{refusals_said, said_of}
+use Rattle.rim_check.specs.Lines.{Saying, SayInTurn}
 
 -- what is kept of the launches before one: their lines, and whether one of them is refused
 pub record AreChecked (files : List (List ℕ)) (ls : List NamedData) (text : List ℕ) (is_some : Bool) : Type 0 where
-  pub lines : SayInTurn (refused_words files ls) text
+  pub lines : SayInTurn (refusals_said files ls) text
   pub refused : is_some ≡ has_refused files ls
 
 or-false : (b : Bool) → (b || false) ≡ b
@@ -27,10 +27,10 @@ or-true : (b : Bool) → (b || true) ≡ true
 or-true true = refl
 or-true false = refl
 
-words-next : (files : List (List ℕ)) (ls : List NamedData) (l : NamedData) → refused_words files (ls ++ l ∷ []) ≡ refused_words files ls ++ refusal_words (rim_for l.launch files)
-words-next files ls l =
-    flat_map-append (λ (x : NamedData). refusal_words (rim_for x.launch files)) ls (l ∷ [])
-    ∙ ap (λ (ws : List (List ℕ)). refused_words files ls ++ ws) (append-nil (refusal_words (rim_for l.launch files)))
+said-next : (files : List (List ℕ)) (ls : List NamedData) (l : NamedData) → refusals_said files (ls ++ l ∷ []) ≡ refusals_said files ls ++ said_of l.name (rim_for l.launch files)
+said-next files ls l =
+    flat_map-append (λ (x : NamedData). said_of x.name (rim_for x.launch files)) ls (l ∷ [])
+    ∙ ap (λ (ss : List Saying). refusals_said files ls ++ ss) (append-nil (said_of l.name (rim_for l.launch files)))
 
 some-next : (files : List (List ℕ)) (ls : List NamedData) (l : NamedData) → has_refused files (ls ++ l ∷ []) ≡ (has_refused files ls || is_err (accepted_of l.launch files))
 some-next files ls l =
@@ -39,24 +39,25 @@ some-next files ls l =
 
 -- one launch more
 checked-next : (files : List (List ℕ)) (ls : List NamedData) (l : NamedData) (text text' : List ℕ) (is_some is_some' : Bool)
-    → ((words : List (List ℕ)) → SayInTurn words text → SayInTurn (words ++ refusal_words (rim_for l.launch files)) text')
+    → ((said : List Saying) → SayInTurn said text → SayInTurn (said ++ said_of l.name (rim_for l.launch files)) text')
     → is_some' ≡ (is_some || is_err (accepted_of l.launch files)) → AreChecked files ls text is_some → AreChecked files (ls ++ l ∷ []) text' is_some'
 checked-next files ls l text text' is_some is_some' adds is are = record {
-  lines = subst (λ (ws : List (List ℕ)). SayInTurn ws text') (sym (words-next files ls l)) (adds (refused_words files ls) are.lines);
+  lines = subst (λ (ss : List Saying). SayInTurn ss text') (sym (said-next files ls l)) (adds (refusals_said files ls) are.lines);
   refused = is ∙ ap (λ (b : Bool). b || is_err (accepted_of l.launch files)) are.refused ∙ sym (some-next files ls l);
 }
 
 -- in a loop over the launches, of which this is the one with number i
-pub checked-at : (files : List (List ℕ)) (ls : List NamedData) (i : ℕ) (l : NamedData) (launch : LaunchData) (text text' : List ℕ) (is_some is_some' : Bool)
-    → i < length ls → l ≡ get_or ls i l → launch ≡ l.launch
-    → ((words : List (List ℕ)) → SayInTurn words text → SayInTurn (words ++ refusal_words (rim_for launch files)) text')
+pub checked-at : (files : List (List ℕ)) (ls : List NamedData) (i : ℕ) (l : NamedData) (launch : LaunchData) (name : List ℕ) (text text' : List ℕ) (is_some is_some' : Bool)
+    → i < length ls → l ≡ get_or ls i l → launch ≡ l.launch → name ≡ l.name
+    → ((said : List Saying) → SayInTurn said text → SayInTurn (said ++ said_of name (rim_for launch files)) text')
     → is_some' ≡ (is_some || is_err (accepted_of launch files)) → AreChecked files (take i ls) text is_some → AreChecked files (take (i + 1) ls) text' is_some'
-checked-at files ls i l launch text text' is_some is_some' inside is same adds some are =
+checked-at files ls i l launch name text text' is_some is_some' inside is same named adds some are =
     let next : i + 1 ≡ suc i = omega arith in
     subst (λ (front : List NamedData). AreChecked files front text' is_some')
     (sym (ap (λ (n : ℕ). take n ls) next ∙ take-suc ls i l inside ∙ ap (λ (x : NamedData). take i ls ++ x ∷ []) (sym is)))
     (checked-next files (take i ls) l text text' is_some is_some'
-    (subst (λ (x : LaunchData). (words : List (List ℕ)) → SayInTurn words text → SayInTurn (words ++ refusal_words (rim_for x files)) text') same adds)
+    (subst (λ (x : LaunchData). (said : List Saying) → SayInTurn said text → SayInTurn (said ++ said_of l.name (rim_for x files)) text') same
+    (subst (λ (x : List ℕ). (said : List Saying) → SayInTurn said text → SayInTurn (said ++ said_of x (rim_for launch files)) text') named adds))
     (subst (λ (x : LaunchData). is_some' ≡ (is_some || is_err (accepted_of x files))) same some) are)
 
 -- a launch that is refused, and one that is not

@@ -1,31 +1,49 @@
 -- Texts of lines, each of which says a word. This project's choice.
-use Rattle.std.specs.Prelude.{◌≡◌, ℕ, Bool, true, not, ◌==◌, List, [], ◌∷◌, ◌++◌}
+use Rattle.std.specs.Prelude.{◌≡◌, ℕ, Bool, true, not, ◌&&◌, ◌==◌, nat_le, List, [], ◌∷◌, ◌++◌, Option, Some, IfSome, codes}
 use Rattle.std.specs.List.{list_all}
 
 -- a byte that ends no line
 abbrev pub is_inside : ℕ → Bool
 is_inside b = not (b == 10)
 
--- the line has the word, and no line feed before or after it
-pub record Says (word line : List ℕ) : Type 0 where
+-- a byte that a line shows as it is: it begins no control character. Those of two bytes begin with 194.
+abbrev pub is_plain : ℕ → Bool
+is_plain b = nat_le 32 b && not (b == 127) && not (b == 194)
+
+-- what a line says: a word; and what is before it, where that is known
+pub record Saying : Type 0 where
+  pub front : Option (List ℕ)
+  pub word : List ℕ
+
+-- what is said of a file that cannot be read: its path and why
+abbrev pub file_said : List ℕ → List ℕ → Saying
+file_said path word = record { front = Some (path ++ codes ": "); word = word }
+
+-- what is before the word is just what is known to be there, if all bytes of that are shown as they are
+abbrev pub IsFront : Option (List ℕ) → List ℕ → Type 0
+IsFront known before = IfSome known (λ front. list_all is_plain front ≡ true → before ≡ front)
+
+-- the line has the word, with what is known to be before it, and no line feed before or after it
+pub record Says (s : Saying) (line : List ℕ) : Type 0 where
   pub before : List ℕ
   pub after : List ℕ
-  pub spelled : line ≡ (before ++ word) ++ after
+  pub spelled : line ≡ (before ++ s.word) ++ after
   pub one : (list_all is_inside before ≡ true) × (list_all is_inside after ≡ true)
+  pub begins : IsFront s.front before
 
 -- a line with its line feed, and the text after it
-pub record Begins (word : List ℕ) (Follows : List ℕ → Type 0) (text : List ℕ) : Type 0 where
+pub record Begins (s : Saying) (Follows : List ℕ → Type 0) (text : List ℕ) : Type 0 where
   pub line : List ℕ
   pub rest : List ℕ
   pub split : text ≡ line ++ (10 ∷ rest)
-  pub says : Says word line
+  pub says : Says s line
   pub follows : Follows rest
 
--- a text is one line for each word, in turn
-abbrev pub SayInTurn : List (List ℕ) → List ℕ → Type 0
+-- a text is one line for each saying, in turn
+abbrev pub SayInTurn : List Saying → List ℕ → Type 0
 SayInTurn [] text = text ≡ []
-SayInTurn (word ∷ words) text = Begins word (SayInTurn words) text
+SayInTurn (s ∷ said) text = Begins s (SayInTurn said) text
 
--- a text has one more line than it had, which says a word
-abbrev pub AddsLine : List ℕ → List ℕ → List ℕ → Type 0
-AddsLine word old new = (words : List (List ℕ)) → SayInTurn words old → SayInTurn (words ++ word ∷ []) new
+-- a text has one more line than it had, which says this
+abbrev pub AddsLine : Saying → List ℕ → List ℕ → Type 0
+AddsLine s old new = (said : List Saying) → SayInTurn said old → SayInTurn (said ++ s ∷ []) new

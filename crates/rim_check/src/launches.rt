@@ -1,22 +1,21 @@
 //! The launches of a release that are refused.
-ghost use Rattle.std.specs.Prelude.{◌≡◌, ◌++◌, ℕ, List, IfOk, OnOk, is_err, length, true, vec_len};
+ghost use Rattle.std.specs.Prelude.{◌≡◌, ◌++◌, List, IfOk, OnOk, Some, is_err, length, true, vec_len};
 ghost use Rattle.rim_launch.specs.LaunchData.{has_files};
 ghost use Rattle.ipa_layout.specs.inside.LayoutViews.{contents};
 ghost use Rattle.rim_release.specs.Accepted.{accepted_of, rim_for};
-ghost use Rattle.rim_release.specs.AuditFaults.{audit_kind_of};
 ghost use Rattle.rim_release.specs.Report.{has_refused};
-ghost use Rattle.rim_check.specs.Explained.{refusal_words, refused_words};
-ghost use Rattle.rim_check.specs.Lines.{AddsLine, SayInTurn};
+ghost use Rattle.rim_check.specs.Explained.{launch_front, refusal_said, refusals_said, said_of};
+ghost use Rattle.rim_check.specs.Lines.{AddsLine, IsFront, Saying, SayInTurn};
 
 use crate::checked::CheckedLaunch;
 use crate::layout_detail::layout_detail;
-use crate::line::{Line, Quoted, push_line};
+use crate::line::{Line, push_line};
 use crate::list_detail::list_detail;
 use crate::manifest::Readable;
 use refusal::NoMemory;
 use rim_release::commands::lay_out;
 use rim_release::{AuditFault, Files, Report};
-use std::alloc::Global;
+use std::alloc::{AllocError, Global};
 use std::fmt;
 use std::fmt::Write;
 
@@ -27,7 +26,7 @@ const BEFORE_DETAIL: &str = ": ";
 /// it, and what is at fault. And whether there is one.
 pub fn check_launches(alloc: Global, readable: &Readable, files: &Files) -> Result<Report, NoMemory>
     requires { vec_len files.now ≡ length readable.now.paths }
-    ensures text { IfOk result (λ r. SayInTurn (refused_words (contents files.now.items) readable.now.launches) r.text.items) }
+    ensures text { IfOk result (λ r. SayInTurn (refusals_said (contents files.now.items) readable.now.launches) r.text.items) }
     ensures refused { IfOk result (λ r. r.has_refused ≡ has_refused (contents files.now.items) readable.now.launches) }
 {
     check_all(alloc, readable, files)
@@ -35,7 +34,7 @@ pub fn check_launches(alloc: Global, readable: &Readable, files: &Files) -> Resu
 
 fn check_all(alloc: Global, readable: &Readable, files: &[Vec<u8>]) -> Result<Report, NoMemory>
     requires { length files.now ≡ length readable.now.paths }
-    ensures text { IfOk result (λ r. SayInTurn (refused_words (contents files.now) readable.now.launches) r.text.items) }
+    ensures text { IfOk result (λ r. SayInTurn (refusals_said (contents files.now) readable.now.launches) r.text.items) }
     ensures refused { IfOk result (λ r. r.has_refused ≡ has_refused (contents files.now) readable.now.launches) }
 {
     let mut text = Vec::new(alloc);
@@ -59,8 +58,8 @@ fn check_all(alloc: Global, readable: &Readable, files: &[Vec<u8>]) -> Result<Re
 /// Adds the line of a launch, where it is refused; and whether it is.
 fn check_launch(text: &mut Vec<u8>, name: &str, checked: &CheckedLaunch) -> Result<bool, NoMemory>
     requires { has_files checked.now.launch.now (length checked.now.files.now) ≡ true }
-    ensures text { OnOk result ((words : List (List ℕ)) → SayInTurn words text.old.items
-        → SayInTurn (words ++ refusal_words (rim_for checked.now.launch.now (contents checked.now.files.now))) text.new.items) }
+    ensures text { OnOk result ((said : List Saying) → SayInTurn said text.old.items
+        → SayInTurn (said ++ said_of name.now (rim_for checked.now.launch.now (contents checked.now.files.now))) text.new.items) }
     ensures refused { IfOk result (λ is_refused. is_refused ≡ is_err (accepted_of checked.now.launch.now (contents checked.now.files.now))) }
 {
     match lay_out(checked.alloc, checked.launch, checked.files) {
@@ -79,13 +78,22 @@ fn push_refused(
     checked: &CheckedLaunch,
     fault: AuditFault,
 ) -> Result<(), NoMemory>
-    ensures { OnOk result (AddsLine (audit_kind_of fault) text.old.items text.new.items) }
+    ensures { OnOk result (AddsLine (refusal_said name.now fault) text.old.items text.new.items) }
 {
-    let mut before = Line::new(checked.alloc);
-    let name = Quoted(name);
-    write!(before, "launch {name}: ").map_err(|_| NoMemory)?;
+    let before = launch_front(checked.alloc, name)?;
     let after = detail(checked, fault)?;
     push_line(text, &before, fault.kind(), &after)
+}
+
+/// How the line of a launch begins.
+fn launch_front(alloc: Global, name: &str) -> Result<Line, AllocError>
+    ensures { IfOk result (λ line. IsFront (Some (launch_front name.now)) line.text.items) }
+{
+    let mut line = Line::new(alloc);
+    line.push_text("launch \"")?;
+    line.push_text(name)?;
+    line.push_text("\": ")?;
+    Ok(line)
 }
 
 /// What is at fault, with a colon before it; or nothing, where that cannot be found out.

@@ -1,7 +1,7 @@
 //! Lines of text.
-ghost use Rattle.std.specs.Prelude.{◌≡◌, ◌<◌, OnOk, true};
+ghost use Rattle.std.specs.Prelude.{◌≡◌, ◌<◌, Option, List, ℕ, OnOk, true};
 ghost use Rattle.std.specs.List.{list_all};
-ghost use Rattle.rim_check.specs.Lines.{AddsLine, is_inside};
+ghost use Rattle.rim_check.specs.Lines.{AddsLine, IsFront, file_said, is_inside, is_plain};
 
 use refusal::NoMemory;
 use std::alloc::{AllocError, Global};
@@ -20,8 +20,14 @@ pub struct Line {
 }
 
 impl Line {
+    ghost use Rattle.std.specs.Prelude.{◌≡◌, ◌++◌, [], OnOk, true};
+    ghost use Rattle.std.specs.List.{list_all};
+    ghost use Rattle.rim_check.specs.Lines.{is_inside, is_plain};
+
     /// A line with no bytes. It takes no memory.
-    pub fn new(alloc: Global) -> Line {
+    pub fn new(alloc: Global) -> Line
+        ensures { result.text.items ≡ [] }
+    {
         Line {
             text: Vec::new(alloc),
         }
@@ -33,6 +39,34 @@ impl Line {
         ensures inside { list_all is_inside result.now ≡ true }
     {
         self.text.as_slice()
+    }
+
+    /// Adds a text: as it is, where all of its bytes are shown so.
+    pub fn push_text(&mut self, text: &str) -> Result<(), AllocError>
+        ensures { OnOk result (list_all is_plain text.now ≡ true → self.new.text.items ≡ self.old.text.items ++ text.now) }
+    {
+        if is_all_plain(text) {
+            self.push_plain(text.as_bytes())
+        } else {
+            self.push_chars(text)
+        }
+    }
+
+    /// Adds bytes that are shown as they are.
+    fn push_plain(&mut self, bytes: &[u8]) -> Result<(), AllocError>
+        requires { list_all is_plain bytes.now ≡ true }
+        ensures { OnOk result (self.new.text.items ≡ self.old.text.items ++ bytes.now) }
+    {
+        self.text.extend_from_slice(bytes)?;
+        Ok(())
+    }
+
+    /// Adds each character of a text.
+    fn push_chars(&mut self, text: &str) -> Result<(), AllocError> {
+        for c in text.chars() {
+            self.push_char(c)?;
+        }
+        Ok(())
     }
 
     /// Adds a character. A control character of two bytes is written as the digits of its number.
@@ -73,6 +107,20 @@ impl Line {
     }
 }
 
+/// Whether all bytes of a text are shown as they are.
+fn is_all_plain(text: &str) -> bool
+    ensures { result ≡ list_all is_plain text.now }
+{
+    text.as_bytes().iter().all(|byte| is_plain(*byte))
+}
+
+/// Whether a byte is shown as it is: it begins no control character. Those of two bytes begin with 0xc2.
+fn is_plain(byte: u8) -> bool
+    ensures { result ≡ is_plain byte }
+{
+    byte >= 0x20 && byte != 0x7f && byte != 0xc2
+}
+
 /// A hexadecimal digit.
 fn digit(value: u8) -> u8
     requires { value < 16 }
@@ -87,9 +135,7 @@ fn digit(value: u8) -> u8
 
 impl fmt::Write for Line {
     fn write_str(&mut self, text: &str) -> fmt::Result {
-        for c in text.chars() {
-            self.push_char(c)?;
-        }
+        self.push_text(text)?;
         Ok(())
     }
 }
@@ -124,7 +170,7 @@ pub fn push_line(
     kind: &str,
     after: &Line,
 ) -> Result<(), NoMemory>
-    ensures { OnOk result (AddsLine kind.now text.old.items text.new.items) }
+    ensures { OnOk result ((known : Option (List ℕ)) → IsFront known before.now.text.items → AddsLine (record { front = known; word = kind.now }) text.old.items text.new.items) }
 {
     text.extend_from_slice(before.as_slice())?;
     text.extend_from_slice(kind.as_bytes())?;
@@ -135,12 +181,11 @@ pub fn push_line(
 
 /// Adds the line of a file that cannot be read: its path and why.
 pub fn push_file(text: &mut Vec<u8>, path: &str, kind: &str) -> Result<(), NoMemory>
-    ensures { OnOk result (AddsLine kind.now text.old.items text.new.items) }
+    ensures { OnOk result (AddsLine (file_said path.now kind.now) text.old.items text.new.items) }
 {
     let alloc = *text.allocator();
     let mut before = Line::new(alloc);
-    if write!(before, "{path}: ").is_err() {
-        return Err(NoMemory);
-    }
+    before.push_text(path)?;
+    before.push_text(": ")?;
     push_line(text, &before, kind, &Line::new(alloc))
 }

@@ -1,9 +1,8 @@
 //! The faults of a manifest.
 ghost use Rattle.std.specs.Prelude.{[], ◌∷◌, IfOk, OnOk, map};
-ghost use Rattle.rim_manifest.specs.Faults.{kind_of};
 ghost use Rattle.rim_manifest.specs.Manifest.{manifest_of};
 ghost use Rattle.rim_manifest.specs.inside.Findings.{faults_in};
-ghost use Rattle.rim_check.specs.Explained.{IsCheckOf};
+ghost use Rattle.rim_check.specs.Explained.{IsCheckOf, fault_said};
 ghost use Rattle.rim_check.specs.Lines.{AddsLine, SayInTurn};
 
 use crate::finding_detail::write_detail;
@@ -81,7 +80,7 @@ pub fn check_manifest(alloc: Global, text: &[u8]) -> Result<ManifestCheck, NoMem
 
 /// The line of a text that is no TOML document: where it is none, and why.
 fn syntax_line(alloc: Global, text: &[u8], error: &Error) -> Result<Vec<u8>, NoMemory>
-    ensures { IfOk result (λ line. SayInTurn (map kind_of (ManifestFault.Syntax ∷ [])) line.items) }
+    ensures { IfOk result (λ line. SayInTurn (map fault_said (ManifestFault.Syntax ∷ [])) line.items) }
 {
     let mut before = Line::new(alloc);
     write_position(&mut before, text, error).map_err(|_| NoMemory)?;
@@ -95,7 +94,7 @@ fn syntax_line(alloc: Global, text: &[u8], error: &Error) -> Result<Vec<u8>, NoM
 
 /// A line for each fault.
 fn lines(alloc: Global, document: &Document, found: &[Finding]) -> Result<Vec<u8>, NoMemory>
-    ensures { IfOk result (λ lines. SayInTurn (map kind_of (faults_in found.now)) lines.items) }
+    ensures { IfOk result (λ lines. SayInTurn (map fault_said (faults_in found.now)) lines.items) }
 {
     let mut lines = Vec::new(alloc);
     for finding in found {
@@ -106,7 +105,7 @@ fn lines(alloc: Global, document: &Document, found: &[Finding]) -> Result<Vec<u8
 
 /// Adds the line of a fault.
 fn add_line(lines: &mut Vec<u8>, document: &Document, finding: &Finding) -> Result<(), NoMemory>
-    ensures { OnOk result (AddsLine (kind_of finding.now.fault) lines.old.items lines.new.items) }
+    ensures { OnOk result (AddsLine (fault_said finding.now.fault) lines.old.items lines.new.items) }
 {
     let alloc = *lines.allocator();
     let mut before = Line::new(alloc);

@@ -15,8 +15,8 @@ use Rattle.rim_release.specs.declared.audit_fault.AuditFault.TheVariants as audi
 use Rattle.rim_release.specs.declared.show.fault.ShowFault.TheVariants as show
 use Rattle.rim_release.specs.declared.fault.StartFault.{StartFault}
 use Rattle.rim_release.specs.declared.fault.StartFault.TheVariants as start
-use Rattle.rim_check.specs.Explained.{Explains, refused_words}
-use Rattle.rim_check.specs.Lines.{SayInTurn}
+use Rattle.rim_check.specs.Explained.{Explains, refusals_said}
+use Rattle.rim_check.specs.Lines.{Saying, SayInTurn}
 use Rattle.rim_cli.specs.declared.words.Format.{Format}
 use Rattle.rim_cli.specs.declared.words.Format.TheVariants as format
 use Rattle.rim_cli.specs.declared.words.Request.{Request}
@@ -64,17 +64,17 @@ pub record IsAudit (held : List ℕ → Known) (r : ReleaseData) (shown : List �
 
 -- a release is checked whose files are not all read: a line for each that cannot be, and the status is 3
 pub record ChecksFiles (held : List ℕ → Known) (r : ReleaseData) (shown : List ℕ) (answer : ℕ) : Type 0 where
-  pub words : List (List ℕ)
-  pub unread : AreUnread held r.paths words
-  pub some : words ≢ []
-  pub lines : SayInTurn words shown
+  pub said : List Saying
+  pub unread : AreUnread held r.paths said
+  pub some : said ≢ []
+  pub lines : SayInTurn said shown
   pub status : answer ≡ 3
 
 -- one is checked whose files are read: a line for each launch that is refused, and the status is 1 where there is one
 pub record ChecksLaunches (held : List ℕ → Known) (r : ReleaseData) (shown : List ℕ) (answer : ℕ) : Type 0 where
   pub files : List (List ℕ)
   pub read : AreRead held r.paths files
-  pub lines : SayInTurn (refused_words files r.launches) shown
+  pub lines : SayInTurn (refusals_said files r.launches) shown
   pub status : answer ≡ (if has_refused files r.launches then 1 else 0)
 
 -- a release is checked: its files, or its launches where all files are read

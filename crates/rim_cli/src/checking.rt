@@ -4,7 +4,7 @@ ghost use Rattle.rim_cli.specs.Done.{IsCheck, IsReleaseCheck};
 ghost use Rattle.rim_cli.specs.Files.{IfFile, IsFileFault};
 ghost use Rattle.rim_cli.specs.Status.{word_of};
 ghost use Rattle.rim_cli.specs.inside.Found.{AreFound};
-ghost use Rattle.rim_check.specs.Lines.{AddsLine};
+ghost use Rattle.rim_check.specs.Lines.{AddsLine, file_said};
 ghost use Rattle.rim_manifest.specs.Manifest.{manifest_of};
 
 use crate::answer::{Answer, answer_of};
@@ -81,7 +81,7 @@ fn find_files<O: Opener>(
 
 /// Adds the line of a file that cannot be read, but passes want of memory on.
 fn push_unread(text: &mut Vec<u8>, path: &str, fault: Fault) -> Result<(), Fault>
-    ensures line { OnOk result (AddsLine (word_of fault) text.old.items text.new.items) }
+    ensures line { OnOk result (AddsLine (file_said path.now (word_of fault)) text.old.items text.new.items) }
     ensures own { OnOk result (fault ≢ Fault.NoMemory) }
     ensures full { IfErr result (λ e. e ≡ Fault.NoMemory) }
 {

@@ -15,8 +15,8 @@ check_launch-requires c =
 
 pub loop-number-preserved : goal.loop-number-preserved
 loop-number-preserved c =
-    checked-at _ _ c.loop-number.number c.launch-item.result c.launch.result.now _ _ c.loop-number.has_refused _
-    c.loop-number-test.true c.launch-item.is c.launch.ensures c.in_ok-is_refused.ensures.text
+    checked-at _ _ c.loop-number.number c.launch-item.result c.launch.result.now c.name.result.now _ _ c.loop-number.has_refused _
+    c.loop-number-test.true c.launch-item.is c.launch.ensures c.name.ensures c.in_ok-is_refused.ensures.text
     (elim c.if-is_refused.branch [
       | then-is_refused w ↦ some-refused _ _ _ _ c.in_ok-is_refused.ensures.refused w.if-is_refused.true w.has_refused-is
       | else-is_refused w ↦ none-refused _ _ _ _ c.in_ok-is_refused.ensures.refused w.if-is_refused.false w.has_refused-is

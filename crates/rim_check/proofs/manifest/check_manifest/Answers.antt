@@ -4,9 +4,9 @@ use Rattle.toml.specs.Errors.{IsMemory}
 use Rattle.toml.specs.View.{table_view}
 use Rattle.rim_manifest.specs.declared.document.Checked.TheVariants.{Accepted}
 use Rattle.rim_manifest.specs.declared.finding.Finding.{Finding}
-use Rattle.rim_manifest.specs.Faults.{kind_of}
 use Rattle.rim_manifest.specs.Found.{AreFound, IsChecked}
 use Rattle.rim_manifest.specs.inside.Findings.{faults_in}
+use Rattle.rim_check.specs.Explained.{fault_said}
 use Rattle.rim_check.specs.Lines.{SayInTurn}
 use Rattle.rim_check.proofs.Explaining.{explains-found, explains-syntax, of-document, of-none}
 use Rattle.rim_check.proofs.manifest.check_manifest.Goals as goal
@@ -26,5 +26,5 @@ pub returns-in_ok-lines-in-Refused : goal.returns-in_ok-lines-in-Refused
 returns-in_ok-lines-in-Refused c =
     let ms = table_view c.in-Ok.document.table in
     let found : AreFound ms (faults_in c.in-Refused.found.items) = subst (IsChecked ms) c.in-Refused.is c.in_ok-release.ensures in
-    let lines = subst (λ (fs : List Finding). SayInTurn (map kind_of (faults_in fs)) c.in_ok-lines-in-Refused.field-0.items) c.deref.ensures.value c.in_ok-lines-in-Refused.ensures in
+    let lines = subst (λ (fs : List Finding). SayInTurn (map fault_said (faults_in fs)) c.in_ok-lines-in-Refused.field-0.items) c.deref.ensures.value c.in_ok-lines-in-Refused.ensures in
     of-document _ ms (Err found.fault) _ c.in-Ok.ensures.document found.refused (explains-found ms _ _ found lines)

@@ -1,7 +1,7 @@
 use Rattle.std.proofs.Common.{take}
 use Rattle.rim_check.specs.Lines.{SayInTurn}
-use Rattle.rim_check.proofs.FindingLines.{words_of}
+use Rattle.rim_check.proofs.FindingLines.{findings_said}
 use Rattle.rim_check.proofs.manifest.lines.Given as goal
 
 abbrev pub invariant-loop-finding : goal.invariant-loop-finding
-invariant-loop-finding l = SayInTurn (words_of (take l.finding-index l.found)) l.lines.items
+invariant-loop-finding l = SayInTurn (findings_said (take l.finding-index l.found)) l.lines.items

@@ -1,7 +1,7 @@
-use Rattle.std.proofs.Common.{ℕ, List, [], ◌∷◌, subst}
+use Rattle.std.proofs.Common.{ℕ, List, [], ◌∷◌, None, subst}
 use Rattle.rim_check.specs.Lines.{SayInTurn}
 use Rattle.rim_check.proofs.manifest.syntax_line.Goals as goal
 
 pub returns : goal.returns
 returns c =
-    subst (λ (word : List ℕ). SayInTurn (word ∷ []) c.push_line.new.text.items) c.kind.ensures (c.in_ok-push_line.ensures [] c.new-lines.ensures.items)
+    subst (λ (word : List ℕ). SayInTurn (record { front = None; word = word } ∷ []) c.push_line.new.text.items) c.kind.ensures (c.in_ok-push_line.ensures None tt [] c.new-lines.ensures.items)

@@ -1,7 +1,7 @@
 use Rattle.std.proofs.Common.{◌≡◌, ◌++◌, [], ◌∷◌, ℕ, List, rules, map, ◌∙◌, subst}
 use Rattle.std.proofs.lemmas.List.{map-append}
 use Rattle.rim_cli.specs.Files.{IsFileFault, IsRead, Known}
-use Rattle.rim_cli.proofs.Found.{found_fault, found_file, unread_word}
+use Rattle.rim_cli.proofs.Found.{found_fault, found_file, unread_said}
 use Rattle.rim_cli.proofs.checking.find_files.Goals as goal
 use Rattle.rim_cli.proofs.checking.find_files.Goals.{in-Ok+in_ok-map_err-in-Ok, in-Err+in_ok-push_unread-in-Err}
 
@@ -18,6 +18,6 @@ loop-i-preserved g c =
         | in-Err+in_ok-push_unread-in-Err w ↦
             let fault = subst (λ (h : List ℕ → Known). IsFileFault (h c.path-path.result.now) w.in-Err.fault) c.loop-i.invariant.held w.in-Err.ensures.fault in
             rw (w.files-is, w.unread-is) (found_fault _ _ c.loop-i.i before _ _ c.loop-i.invariant.found c.path-path.ensures _ _
-            (unread_word _ w.in-Err.fault fault w.in_ok-push_unread-in-Err.ensures.own) w.in_ok-push_unread-in-Err.ensures.line)
+            (unread_said _ _ w.in-Err.fault fault w.in_ok-push_unread-in-Err.ensures.own) w.in_ok-push_unread-in-Err.ensures.line)
       ];
     }
