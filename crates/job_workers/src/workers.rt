@@ -30,9 +30,12 @@ pub struct Tally {
 /// Launches need all pages. A worker that finds no page free looks again for a while and then ends. A second round of
 /// workers takes what was left by those of the first. After these the other workers are retired, and worker 0 does what is
 /// left, until a take finds all jobs done. What is written is read under the same lock.
+///
+/// The gate is borrowed to be changed, and no clause says what it is after the run. So a caller whose own contract says
+/// that the gate is as it was has started no worker.
 pub fn run_workers<L: Run + Send + Sync, G: Gate + Sync, R: Threads + Wait + Sync>(
     rt: &R,
-    gate: &G,
+    gate: &mut G,
     board: &Board<'_, L>,
     shares: Vec<Share<L>>,
     counts: &mut [u64],
@@ -53,7 +56,7 @@ pub fn run_workers<L: Run + Send + Sync, G: Gate + Sync, R: Threads + Wait + Syn
 /// The same, with this many bytes for the stack of each worker. Where they are too many no worker can be started.
 pub fn run_workers_on<L: Run + Send + Sync, G: Gate + Sync, R: Threads + Wait + Sync>(
     rt: &R,
-    gate: &G,
+    gate: &mut G,
     board: &Board<'_, L>,
     shares: Vec<Share<L>>,
     counts: &mut [u64],
@@ -69,6 +72,7 @@ pub fn run_workers_on<L: Run + Send + Sync, G: Gate + Sync, R: Threads + Wait + 
     ensures sum { sum counts.new ≡ result.pages }
     ensures values { AreValuesOf L.pages L.plans values.new }
 {
+    let gate = &*gate;
     let mut shares = shares;
     round(rt, gate, board, &mut shares, stack_size);
     round(rt, gate, board, &mut shares, stack_size);

@@ -33,7 +33,7 @@ fn main(rt: HostRuntime) -> ExitCode {
                 run(
                     &rt,
                     rt.alloc(),
-                    &Progress::new(&rt, rt.stderr().is_terminal()),
+                    &mut Progress::new(&rt, rt.stderr().is_terminal()),
                     words.as_slice(),
                     &mut FileOpener { rt: &rt },
                     &mut io::writer(&rt),

@@ -32,7 +32,7 @@ pub struct Answer {
 pub fn answer_to<R: Threads + Wait + Sync, G: Gate + Sync, O: Opener>(
     rt: &R,
     alloc: Global,
-    gate: &G,
+    gate: &mut G,
     request: Request,
     opener: &mut O,
 ) -> Result<Answer, Fault>
@@ -60,7 +60,7 @@ pub fn answer_to<R: Threads + Wait + Sync, G: Gate + Sync, O: Opener>(
 fn measure<R: Threads + Wait + Sync, G: Gate + Sync, O: Opener>(
     rt: &R,
     alloc: Global,
-    gate: &G,
+    gate: &mut G,
     opener: &mut O,
     path: &str,
     workers: u8,
@@ -81,7 +81,7 @@ fn measure<R: Threads + Wait + Sync, G: Gate + Sync, O: Opener>(
 fn report<R: Threads + Wait + Sync, G: Gate + Sync>(
     rt: &R,
     alloc: Global,
-    gate: &G,
+    gate: &mut G,
     release: &Release,
     files: &Files,
     workers: u8,

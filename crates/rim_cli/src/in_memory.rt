@@ -49,5 +49,5 @@ pub fn measure_in_memory<R: Threads + Wait + Sync>(
 {
     let words = ["rim", "measure", "manifest.toml"];
     let opener = &mut InMemory { manifest };
-    run(rt, alloc, &FreeGate, &words, opener, out, err)
+    run(rt, alloc, &mut FreeGate, &words, opener, out, err)
 }

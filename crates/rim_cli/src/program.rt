@@ -33,7 +33,7 @@ use std::thread::Threads;
 pub fn run<R: Threads + Wait + Sync, G: Gate + Sync, S: AsStr, O: Opener, W: Write, E: Write>(
     rt: &R,
     alloc: Global,
-    gate: &G,
+    gate: &mut G,
     words: &[S],
     opener: &mut O,
     out: &mut W,

@@ -1,5 +1,5 @@
 //! The report of a release, made by workers.
-ghost use Rattle.std.specs.Prelude.{◌≡◌, ◌≤◌, Err, IfOk, OnOk, false, length, map, sum, vec_len};
+ghost use Rattle.std.specs.Prelude.{◌≡◌, ◌≤◌, Err, IfOk, OnErr, OnOk, false, length, map, sum, vec_len};
 ghost use Rattle.std.specs.List.{All, Contains};
 ghost use Rattle.refusal.specs.Answer.{Answers};
 ghost use Rattle.ipa_layout.specs.inside.LayoutViews.{contents};
@@ -56,11 +56,12 @@ struct Counted {
 
 /// The report of a release, made by 1 to 64 workers. It is the one that `measure_alone` makes, in whatever order the
 /// workers come to their jobs. All memory is taken before the first worker is started, and from then on nothing is
-/// refused. A worker that cannot be started is gone without.
+/// refused: after a fault the gate is as it was, so no worker was started. A worker that cannot be started is gone
+/// without.
 pub fn measure_release<G: Gate + Sync, R: Threads + Wait + Sync>(
     rt: &R,
     alloc: Global,
-    gate: &G,
+    gate: &mut G,
     release: &Release,
     files: &Files,
     workers: usize,
@@ -73,6 +74,7 @@ pub fn measure_release<G: Gate + Sync, R: Threads + Wait + Sync>(
     ensures pages { IfOk result (λ o. o.pages ≡ length (page_keys (contents files.now.items) release.now.launches)) }
     ensures shares { IfOk result (λ o. (vec_len o.shares ≡ workers) × (sum o.shares.items ≡ o.pages)) }
     ensures started { IfOk result (λ o. (1 ≤ o.started) × (o.started ≤ workers)) }
+    ensures unstarted { OnErr result (gate.new ≡ gate.old) }
 {
     if !(1..=64).contains(&workers) {
         return Err(StartFault::Workers);
@@ -107,7 +109,7 @@ pub fn measure_release<G: Gate + Sync, R: Threads + Wait + Sync>(
 fn run<'a, L: Run + Send + Sync, G: Gate + Sync, R: Threads + Wait + Sync>(
     rt: &R,
     alloc: Global,
-    gate: &G,
+    gate: &mut G,
     blank: Blank,
     pages: &'a [Page<'a>],
     plans: &'a [LaunchPlan],
@@ -125,6 +127,7 @@ fn run<'a, L: Run + Send + Sync, G: Gate + Sync, R: Threads + Wait + Sync>(
     ensures rims { OnOk result (AreValuesOf (map page_view pages.now) plans.now rims.new.items) }
     ensures shares { IfOk result (λ c. (vec_len c.shares ≡ workers) × (sum c.shares.items ≡ length pages.now)) }
     ensures started { IfOk result (λ c. (1 ≤ c.started) × (c.started ≤ workers)) }
+    ensures unstarted { OnErr result (gate.new ≡ gate.old) }
 {
     let mut counts = vec![in alloc; 0; workers]?;
     let table = Table::reserve(alloc, pages)?;

@@ -511,7 +511,7 @@ fn shown(rt: &(impl AllocGlobal + Threads + Wait + Sync), bytes: &[u8]) -> Ran {
     let status = run(
         rt,
         alloc,
-        &FreeGate,
+        &mut FreeGate,
         &words,
         &mut folder,
         &mut out,

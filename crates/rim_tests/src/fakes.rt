@@ -52,7 +52,7 @@ pub fn ran_on(
     let status = run(
         rt,
         alloc,
-        &FreeGate,
+        &mut FreeGate,
         words,
         &mut OneFile(manifest),
         &mut out,
@@ -117,7 +117,7 @@ pub fn ran_over<O: Opener>(
     let words = ["rim", subcommand, "manifest.toml"];
     let mut out = Vec::new(alloc);
     let mut err = Vec::new(alloc);
-    let status = run(rt, alloc, &FreeGate, &words, files, &mut out, &mut err);
+    let status = run(rt, alloc, &mut FreeGate, &words, files, &mut out, &mut err);
     Ran { status, out, err }
 }
 

@@ -23,7 +23,15 @@ fn ran_over<O: Opener>(rt: &(impl AllocGlobal + Threads + Wait + Sync), opener: 
     let alloc = rt.alloc();
     let mut out = Vec::new(alloc);
     let mut err = Vec::new(alloc);
-    let status = run(rt, alloc, &FreeGate, &MEASURE, opener, &mut out, &mut err);
+    let status = run(
+        rt,
+        alloc,
+        &mut FreeGate,
+        &MEASURE,
+        opener,
+        &mut out,
+        &mut err,
+    );
     Ran { status, out, err }
 }
 
@@ -38,7 +46,7 @@ fn ran_to<W: Write>(
     let status = run(
         rt,
         alloc,
-        &FreeGate,
+        &mut FreeGate,
         words,
         &mut OneFile(SMALLEST),
         out,
@@ -121,7 +129,7 @@ fn failing_standard_error(rt: HostRuntime) {
         let status = run(
             &rt,
             rt.alloc(),
-            &FreeGate,
+            &mut FreeGate,
             &OTHER,
             opener,
             &mut out,

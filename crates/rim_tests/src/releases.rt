@@ -212,7 +212,13 @@ fn ran(rt: &(impl AllocGlobal + Threads + Wait + Sync), launches: &str) -> Ran {
     let _ = manifest.extend_from_slice(launches.as_bytes());
     let mut files = Given(manifest.as_slice());
     let status = run(
-        rt, alloc, &FreeGate, &MEASURE, &mut files, &mut out, &mut err,
+        rt,
+        alloc,
+        &mut FreeGate,
+        &MEASURE,
+        &mut files,
+        &mut out,
+        &mut err,
     );
     Ran { status, out, err }
 }

@@ -140,7 +140,7 @@ fn ran(
     let alloc = rt.alloc();
     let mut out = Vec::new(alloc);
     let mut err = Vec::new(alloc);
-    let status = run(rt, alloc, &FreeGate, words, example, &mut out, &mut err);
+    let status = run(rt, alloc, &mut FreeGate, words, example, &mut out, &mut err);
     Ran { status, out, err }
 }
 

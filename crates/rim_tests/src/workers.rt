@@ -102,14 +102,14 @@ fn two_workers_at_a_time(rt: HostRuntime) -> Result<(), Fail> {
     let (release, files) = release(alloc, LAUNCHES.as_bytes())?;
     assert_eq!(rt; files.len(), release.file_count());
     let alone = measure_alone(alloc, &release, &files)?;
-    let gate = Hold {
+    let mut gate = Hold {
         begun: AtomicU64::new(0),
         ended: AtomicU64::new(0),
         first: AtomicU64::new(0),
         others: AtomicU64::new(0),
         in_vain: AtomicU64::new(0),
     };
-    let outcome = measure_release(&rt, alloc, &gate, &release, &files, 2)?;
+    let outcome = measure_release(&rt, alloc, &mut gate, &release, &files, 2)?;
     assert_eq!(rt; outcome.report.as_slice(), alone.as_slice());
     assert!(rt; outcome.has_refused);
     assert_eq!(rt; outcome.started, 2);
@@ -146,7 +146,7 @@ fn check_by_all<R: Threads + Wait + Abort + Sync>(
         after_first_line(alone.as_slice()).starts_with(after_first_line(audit.text.as_slice()))
     );
     for workers in [1, 2, 3, 16, 64] {
-        let outcome = measure_release(rt, alloc, &FreeGate, &release, &files, workers)?;
+        let outcome = measure_release(rt, alloc, &mut FreeGate, &release, &files, workers)?;
         assert_eq!(rt; outcome.report.as_slice(), alone.as_slice());
         assert_eq!(rt; outcome.shares.len(), workers);
     }
@@ -164,7 +164,7 @@ fn no_worker_and_too_many(rt: HostRuntime) -> Result<(), Fail> {
     let (release, files) = release(alloc, LAUNCHES.as_bytes())?;
     assert_eq!(rt; files.len(), release.file_count());
     for workers in [0, 65, usize::MAX] {
-        let answer = measure_release(&rt, alloc, &FreeGate, &release, &files, workers);
+        let answer = measure_release(&rt, alloc, &mut FreeGate, &release, &files, workers);
         assert!(rt; matches!(answer, Err(StartFault::Workers)));
     }
     Ok(())
@@ -209,11 +209,11 @@ fn each_call_late_in_turn(rt: HostRuntime) -> Result<(), Fail> {
     assert_eq!(rt; files.len(), release.file_count());
     let alone = measure_alone(alloc, &release, &files)?;
     for late in 0..2 * JOBS {
-        let gate = Delay {
+        let mut gate = Delay {
             calls: AtomicU64::new(0),
             late,
         };
-        let outcome = measure_release(&rt, alloc, &gate, &release, &files, 2)?;
+        let outcome = measure_release(&rt, alloc, &mut gate, &release, &files, 2)?;
         assert_eq!(rt; outcome.report.as_slice(), alone.as_slice(), "{late}");
         assert_eq!(rt; gate.calls.load(Ordering::SeqCst), 2 * JOBS);
     }

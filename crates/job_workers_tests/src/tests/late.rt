@@ -127,13 +127,21 @@ fn is_shared<'a, L: Run + Send + Sync, R: Threads + Wait + Abort + Sync>(
     let mut values = vec![in alloc; Measurement { bytes: [0; 64] }; plans.len()]?;
     let (state, shares) = BoardState::<L>::new(alloc, blank, 2, table, plans)?;
     let board = Board::new(state);
-    let gate = Late {
+    let mut gate = Late {
         pages: AtomicU64::new(0),
         put: AtomicU64::new(0),
         launches: AtomicU64::new(0),
         in_vain: AtomicU64::new(0),
     };
-    run_workers_on(rt, &gate, &board, shares, &mut counts, &mut values, STACK);
+    run_workers_on(
+        rt,
+        &mut gate,
+        &board,
+        shares,
+        &mut counts,
+        &mut values,
+        STACK,
+    );
     Ok(gate.in_vain.load(Ordering::SeqCst) == 0)
 }
 

@@ -91,7 +91,7 @@ fn run<L: Run + Send + Sync, R: Threads + Wait + Abort + Sync>(
     alloc: Global,
     blank: Blank,
     table: Table,
-    gate: &Hold,
+    gate: &mut Hold,
     stack_size: usize,
     started: usize,
 ) -> Result<(), NoMemory>
@@ -116,8 +116,8 @@ fn run<L: Run + Send + Sync, R: Threads + Wait + Abort + Sync>(
 fn two_workers_at_a_time(rt: HostRuntime) -> Result<(), Fail> {
     let pages = pages(rt.alloc())?;
     let table = Table::reserve(rt.alloc(), &pages)?;
-    let gate = holding(100_000_000);
-    run::<Brand, HostRuntime>(&rt, rt.alloc(), Blank::new(2), table, &gate, STACK, 2)?;
+    let mut gate = holding(100_000_000);
+    run::<Brand, HostRuntime>(&rt, rt.alloc(), Blank::new(2), table, &mut gate, STACK, 2)?;
     assert!(rt; gate.first.load(Ordering::SeqCst) > 0);
     assert!(rt; gate.others.load(Ordering::SeqCst) > 0);
     assert_eq!(rt; gate.in_vain.load(Ordering::SeqCst), 0);
@@ -128,8 +128,16 @@ fn two_workers_at_a_time(rt: HostRuntime) -> Result<(), Fail> {
 fn no_worker_can_be_started(rt: HostRuntime) -> Result<(), Fail> {
     let pages = pages(rt.alloc())?;
     let table = Table::reserve(rt.alloc(), &pages)?;
-    let gate = holding(0);
-    run::<Brand, HostRuntime>(&rt, rt.alloc(), Blank::new(2), table, &gate, usize::MAX, 1)?;
+    let mut gate = holding(0);
+    run::<Brand, HostRuntime>(
+        &rt,
+        rt.alloc(),
+        Blank::new(2),
+        table,
+        &mut gate,
+        usize::MAX,
+        1,
+    )?;
     assert_eq!(rt; gate.first.load(Ordering::SeqCst), 7);
     Ok(())
 }
