@@ -9,7 +9,6 @@ time. Each time has one reading of the clock in it. Memory is what is touched, s
 """
 import subprocess
 import sys
-import tempfile
 
 from crates import built, least
 
@@ -58,14 +57,17 @@ def core(program, size, runs):
     print(f"  that no launch is ready, while one page is held: {run['later'][0] / 1000:.0f} us")
 
 
+def prepare():
+    return built("board", "job_board page_jobs refusal rim_chain rim_desc", ["run", "8", "2", "4"])
+
+
 def main():
     runs = int(sys.argv[1]) if len(sys.argv) > 1 else 5
-    with tempfile.TemporaryDirectory() as folder:
-        program = built(folder, "board", "job_board page_jobs refusal rim_chain rim_desc", ["run", "8", "2", "4"])
-        board(program, (131_080, 200, 12_800), runs)
-        board(program, (131_080, 200, 0), runs)
-        board(program, (35_699, 8, 30_000), runs)
-        core(program, (1_048_576, 1_024, 12_800), runs)
+    program = prepare()
+    board(program, (131_080, 200, 12_800), runs)
+    board(program, (131_080, 200, 0), runs)
+    board(program, (35_699, 8, 30_000), runs)
+    core(program, (1_048_576, 1_024, 12_800), runs)
 
 
 if __name__ == "__main__":

@@ -8,7 +8,6 @@ and of the bare loop in turn, and keeps the least time of each.
 """
 import subprocess
 import sys
-import tempfile
 
 from crates import built, least
 
@@ -27,15 +26,18 @@ def memory(program, plans):
     return least(program, ["plans", str(plans)], 1)[1] * 1024
 
 
+def prepare():
+    return built("chain", "rim_chain rmi_list ipa_layout rim_launch page_jobs rim_desc sha2", ["sha256", "1"])
+
+
 def main():
     slices = int(sys.argv[1]) if len(sys.argv) > 1 else 200
-    with tempfile.TemporaryDirectory() as folder:
-        program = built(folder, "chain", "rim_chain rmi_list ipa_layout rim_launch page_jobs rim_desc sha2", ["sha256", "1"])
-        for algo in ["sha256", "sha512"]:
-            chained, bare = slice_times(program, algo, slices)
-            times = f"{chained / EXTENSIONS:.0f} ns each, hashes of descriptors alone {bare / EXTENSIONS:.0f} ns"
-            print(f"{EXTENSIONS:,} extensions by {algo}: {times}, ratio {chained / bare:.3f}")
-        plan = (memory(program, 2 * PLANS) - memory(program, PLANS)) / PLANS
+    program = prepare()
+    for algo in ["sha256", "sha512"]:
+        chained, bare = slice_times(program, algo, slices)
+        times = f"{chained / EXTENSIONS:.0f} ns each, hashes of descriptors alone {bare / EXTENSIONS:.0f} ns"
+        print(f"{EXTENSIONS:,} extensions by {algo}: {times}, ratio {chained / bare:.3f}")
+    plan = (memory(program, 2 * PLANS) - memory(program, PLANS)) / PLANS
     print(f"a plan of 30,000 pages: {plan:.1f} KiB")
 
 

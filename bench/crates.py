@@ -14,12 +14,27 @@ import time
 
 top = os.path.dirname(os.path.dirname(os.path.abspath(__file__)))
 
+# The programs that were built in this run, by what they are built from, and the folder that has them until it ends.
+programs = {}
+room = tempfile.TemporaryDirectory()
 
-def built(folder, name, uses, words, changes=(), flags=()):
-    """The program of that name in bench/, in a copy of the repository that has it as a crate with these libraries, run once.
 
-    The crates are copied with what is proved of them, since a program is built from proved crates alone. Each change is a
-    file of the copy, a text that it has once, and the text in its place."""
+def built(name, uses, words, changes=(), flags=()):
+    """The program of that name in bench/, built with these libraries and run once with these words; it is built once in a run.
+
+    Each change is a file of a crate, a text that it has once, and the text in its place."""
+    made_of = (name, uses, tuple(changes), tuple(flags))
+    if made_of not in programs:
+        programs[made_of] = os.path.join(room.name, f"{name}-{len(programs)}")
+        with tempfile.TemporaryDirectory() as folder:
+            shutil.copy(build(folder, name, uses, words, changes, flags), programs[made_of])
+    return programs[made_of]
+
+
+def build(folder, name, uses, words, changes, flags):
+    """Builds a program of bench/ in a copy of the repository, which has it as a crate.
+
+    The crates are copied with what is proved of them, since a program is built from proved crates alone."""
     shutil.copytree(os.path.join(top, "crates"), os.path.join(folder, "crates"))
     for path, old, new in changes:
         change(os.path.join(folder, "crates", path), old, new)
@@ -63,17 +78,20 @@ def least(program, words, runs):
     return min(times), max(sizes)
 
 
+def prepare():
+    return built("timed", "rim_desc rmm_model rmm_monitor page_jobs rim_launch ipa_layout rmi_list", ["bytes"])
+
+
 def main():
     runs = int(sys.argv[1]) if len(sys.argv) > 1 else 5
-    with tempfile.TemporaryDirectory() as folder:
-        program = built(folder, "timed", "rim_desc rmm_model rmm_monitor page_jobs rim_launch ipa_layout rmi_list", ["bytes"])
-        hashes = least(program, ["descriptors"], runs)[0]
-        data, data_size = least(program, ["data"], runs)
-        ripas, ripas_size = least(program, ["ripas"], runs)
-        listed, listed_size = least(program, ["list_data"], runs)
-        entries, entries_size = least(program, ["list_ripas"], runs)
-        made = least(program, ["bytes"], runs)[0]
-        slices, pages, lead = (least(program, [work], runs)[0] - made for work in ["slices", "pages", "lead"])
+    program = prepare()
+    hashes = least(program, ["descriptors"], runs)[0]
+    data, data_size = least(program, ["data"], runs)
+    ripas, ripas_size = least(program, ["ripas"], runs)
+    listed, listed_size = least(program, ["list_data"], runs)
+    entries, entries_size = least(program, ["list_ripas"], runs)
+    made = least(program, ["bytes"], runs)[0]
+    slices, pages, lead = (least(program, [work], runs)[0] - made for work in ["slices", "pages", "lead"])
     print(f"1,048,576 pages delegated, made RAM and created: {data:.2f} s, {data_size:.0f} MB; their hashes {hashes / 2:.2f} s")
     print(f"4,194,304 entries made RAM: {ripas:.2f} s, {ripas_size:.0f} MB; their hashes {hashes:.2f} s")
     print(f"1,048,576 pages placed and listed: {listed:.2f} s, {listed_size:.0f} MB")

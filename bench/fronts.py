@@ -17,7 +17,7 @@ import tempfile
 
 import crates
 from releases import MIB, file_of, launch
-from workers import run
+from workers import SMALL, measuring, run
 
 # A change after which no launch has a front in common with another.
 NO_FRONT = ("rim_chain/src/siblings.rt", "if last.links > 0 && later < heads.len() {",
@@ -56,17 +56,16 @@ def unlike(folder):
     return text
 
 
+def prepare():
+    counter = crates.built("fronts", "rim_release rim_manifest rim_desc rim_chain", [SMALL])
+    return counter, [measuring(), measuring([NO_FRONT])]
+
+
 def main():
     runs = int(sys.argv[1]) if len(sys.argv) > 1 else 5
+    counter, programs = prepare()
     with tempfile.TemporaryDirectory() as folder:
         path = os.path.join(folder, "manifest.toml")
-        with open(path, "w") as file:
-            file.write("rim_manifest = 1\n")
-        places = [os.path.join(folder, name) for name in ["count", "with", "without"]]
-        uses = "rim_release rim_manifest rim_desc"
-        counter = crates.built(places[0], "fronts", uses + " rim_chain", [path])
-        programs = [crates.built(places[1], "workers", uses, ["alone", path]),
-                    crates.built(places[2], "workers", uses, ["alone", path], [NO_FRONT])]
         for what, made in [("300 launches over one kernel", alike), ("launches with nothing in common", unlike)]:
             with open(path, "w") as file:
                 file.write("rim_manifest = 1\n" + made(folder))

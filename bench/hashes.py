@@ -8,7 +8,6 @@ kind of work in turn, and keeps the least time of each.
 """
 import subprocess
 import sys
-import tempfile
 
 from crates import built
 
@@ -26,11 +25,13 @@ def least_times(program, runs):
     return [min(kind) for kind in zip(*times)]
 
 
+def prepare():
+    return built("hashes", "page_jobs known_tail sha_four rim_desc sha2", ["1"])
+
+
 def main():
     runs = int(sys.argv[1]) if len(sys.argv) > 1 else 4
-    with tempfile.TemporaryDirectory() as folder:
-        program = built(folder, "hashes", "page_jobs known_tail sha_four rim_desc sha2", ["1"])
-        times = least_times(program, runs)
+    times = least_times(prepare(), runs)
     library, known, beside = (time / DESCRIPTORS for time in times[:3])
     bare, alone, fours = (time / PAGES for time in times[3:])
     print(f"a descriptor by SHA-256: {known:.0f} ns alone, {beside:.0f} ns beside three others, by sha2 {library:.0f} ns")

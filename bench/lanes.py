@@ -12,9 +12,8 @@ import os
 import sys
 import tempfile
 
-from crates import built
 from releases import kernel, shared
-from workers import run
+from workers import measuring, run
 
 PLAIN = [
     ("known_tail/src/lib.rt", "if tail == &ZEROS[..] {", "if head.is_empty() && tail == &ZEROS[..] {"),
@@ -23,17 +22,18 @@ PLAIN = [
 ]
 
 
-def main():
-    runs = int(sys.argv[1]) if len(sys.argv) > 1 else 5
+def prepare():
     with open("/proc/cpuinfo") as file:
         is_new = " avx2 " in file.read()
+    ways = [("sha2 alone", PLAIN, []), ("lanes", [], [])] + ([("lanes, AVX2", [], ["--cpu=x86-64-v3"])] if is_new else [])
+    return [(way, measuring(changes, flags)) for way, changes, flags in ways]
+
+
+def main():
+    runs = int(sys.argv[1]) if len(sys.argv) > 1 else 5
+    programs = prepare()
     with tempfile.TemporaryDirectory() as folder:
         path = os.path.join(folder, "manifest.toml")
-        with open(path, "w") as file:
-            file.write("rim_manifest = 1\n")
-        ways = [("sha2 alone", PLAIN, []), ("lanes", [], [])] + ([("lanes, AVX2", [], ["--cpu=x86-64-v3"])] if is_new else [])
-        programs = [(way, built(os.path.join(folder, str(n)), "workers", "rim_release rim_manifest rim_desc", ["alone", path], changes, flags))
-                    for n, (way, changes, flags) in enumerate(ways)]
         for what, made in [("a launch of 32 MiB", kernel), ("200 launches", shared)]:
             with open(path, "w") as file:
                 file.write("rim_manifest = 1\n" + made(folder)[0])

@@ -48,4 +48,5 @@ def main():
     print(f"{count} launches: {whole * 1000:.1f} ms; by ./rim {script * 1000:.1f} ms (least of {runs})")
 
 
-main()
+if __name__ == "__main__":
+    main()

@@ -79,12 +79,16 @@ def least(commands, runs):
     return [min(found) for found in times], memory
 
 
+def prepare():
+    return built("bare", "sha2", ["1"])
+
+
 def main():
     runs = int(sys.argv[1]) if len(sys.argv) > 1 else 5
     word = sys.argv[2] if len(sys.argv) > 2 else ""
     program = os.path.join(top, "crates", "rim", "out", "rim")
+    bare = prepare()
     with tempfile.TemporaryDirectory() as folder:
-        bare = built(folder, "bare", "sha2", ["1"])
         for what, made in (release for release in RELEASES if word in release[0]):
             text, extensions, names, size = made(folder)
             path = os.path.join(folder, "manifest.toml")

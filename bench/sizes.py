@@ -1,18 +1,19 @@
 #!/usr/bin/env python3
 """What the largest inputs cost: manifests of nothing but small tables, and devicetrees whose paths are long.
 
-usage: bench/sizes.py PROGRAM
+usage: bench/sizes.py
 
-PROGRAM is rim as `./rim` builds it, crates/rim/out/rim. Each input is given to it twice: with 8 GB of memory, and with
+It runs crates/rim/out/rim, which `./rim --help` builds. Each input is given to it twice: with 8 GB of memory, and with
 256 MB. Not part of the gate.
 """
 import os
 import resource
 import struct
 import subprocess
-import sys
 import tempfile
 import time
+
+from crates import top
 
 MB = 1 << 20
 
@@ -59,7 +60,7 @@ def report(what, program, words, size):
 
 
 def main():
-    program = os.path.abspath(sys.argv[1])
+    program = os.path.join(top, "crates", "rim", "out", "rim")
     with tempfile.TemporaryDirectory() as folder:
         for what, text in manifests():
             path = os.path.join(folder, "manifest.toml")

@@ -6,7 +6,6 @@ usage: bench/trees.py [RUNS]
 It builds bench/trees/main.rt.in in a copy of the crates, with the kit's rt, and prints the least times of some runs.
 """
 import sys
-import tempfile
 
 from crates import built, least
 
@@ -18,13 +17,16 @@ WORKS = {
 }
 
 
+def prepare():
+    return built("trees", "fdt_tree", ["names", "make"])
+
+
 def main():
     runs = int(sys.argv[1]) if len(sys.argv) > 1 else 5
-    with tempfile.TemporaryDirectory() as folder:
-        program = built(folder, "trees", "fdt_tree", ["names", "make"])
-        for work, what in WORKS.items():
-            made, read, written = (least(program, [work, step], runs) for step in ["make", "read", "write"])
-            print(f"{what}: read in {read[0] - made[0]:.3f} s, written in {written[0] - read[0]:.3f} s, {written[1]:.0f} MB")
+    program = prepare()
+    for work, what in WORKS.items():
+        made, read, written = (least(program, [work, step], runs) for step in ["make", "read", "write"])
+        print(f"{what}: read in {read[0] - made[0]:.3f} s, written in {written[0] - read[0]:.3f} s, {written[1]:.0f} MB")
 
 
 if __name__ == "__main__":

@@ -13,8 +13,16 @@ import subprocess
 import sys
 import tempfile
 
-from crates import built
+from crates import built, top
 from releases import kernel, shared
+
+# A manifest for the run in which the program is built.
+SMALL = os.path.join(top, "examples", "first", "manifest.toml")
+
+
+def measuring(changes=(), flags=()):
+    """The program that makes a report alone or by workers, from crates with these changes."""
+    return built("workers", "rim_release rim_manifest rim_desc", ["alone", SMALL], changes, flags)
 
 
 def run(words):
@@ -27,13 +35,15 @@ def run(words):
     return int(wall) / 1e9, usage.ru_utime + usage.ru_stime, usage.ru_maxrss / 1024, text
 
 
+def prepare():
+    return measuring()
+
+
 def main():
     runs = int(sys.argv[1]) if len(sys.argv) > 1 else 5
+    program = prepare()
     with tempfile.TemporaryDirectory() as folder:
         path = os.path.join(folder, "manifest.toml")
-        with open(path, "w") as file:
-            file.write("rim_manifest = 1\n")
-        program = built(folder, "workers", "rim_release rim_manifest rim_desc", ["alone", path])
         for what, made in [("a launch of 32 MiB", kernel), ("200 launches", shared)]:
             with open(path, "w") as file:
                 file.write("rim_manifest = 1\n" + made(folder)[0])
