@@ -17,7 +17,7 @@ struct Faulty {
 }
 
 /// Manifests with faults in their tables, or that are no documents.
-const TABLES: [Faulty; 14] = [
+const TABLES: [Faulty; 15] = [
     Faulty {
         manifest: b"rim_manifest = 1\n[[launch]\n",
         lines: b"line 2, column 10: syntax: unclosed array table, expected `]]`\n",
@@ -63,6 +63,10 @@ const TABLES: [Faulty; 14] = [
         lines: b"launch \"a\", item \"r\": unknown-key: \"bootargs\"\nlaunch \"a\", item \"r\": kind: range: \"rawe\", expected \"kernel\", \"initrd\", \"dtb\" or \"raw\"\nlaunch \"a\", item \"r\": file: wrong-kind: 3, expected the name of a file\nlaunch \"a\", item \"r\": at: range: -1, expected a whole number from 0 to 9223372036854775807\nlaunch \"a\": missing-key: its devicetree asks for initrd and for memory, and it has no such item and no ram\n",
     },
     Faulty {
+        manifest: b"rim_manifest = 1\nlaunch = [{name = 'a', algo = 'sha256', s2sz = 33}, {name = 'b', algo = 'sha256', s2sz = 33, item = [{name = 'x', kind = 'raw', file = 'f', at = 0}, {name = 'y', kind = 'raw', file = 'f', at = -1}], rec = [{pc = -1}]}]\n",
+        lines: b"launch \"b\", item \"y\": at: range: -1, expected a whole number from 0 to 9223372036854775807\nlaunch \"b\", rec 0: pc: range: -1, expected a whole number or a text 0x and 1 to 16 hexadecimal digits\n",
+    },
+    Faulty {
         manifest: b"rim_manifest = 1\n[launch]\nname = 'a'\n",
         lines: b"manifest: launch: wrong-kind: a table, expected an array of at most 1024 tables\n",
     },
@@ -77,7 +81,7 @@ const TABLES: [Faulty; 14] = [
 ];
 
 /// Manifests whose tables are right, with faults in their names, files and steps.
-const NAMES: [Faulty; 4] = [
+const NAMES: [Faulty; 9] = [
     Faulty {
         manifest: b"rim_manifest = 1\n[[file]]\nname = 'kernel'\npath = 'Image'\n[[launch]]\nname = 'a'\nalgo = 'sha256'\ns2sz = 33\n[[launch.item]]\nname = 'k'\nkind = 'kernel'\nfile = 'krenel'\nat = 0x40000000\n[[launch.item]]\nname = 'k'\nkind = 'kernel'\nfile = 'kernel'\nat = 0x50000000\n",
         lines: b"launch \"a\", item \"k\": name: two-names: an earlier one has \"k\" too\nlaunch \"a\", item \"k\": file: no-such-file: \"krenel\", expected the name of a file (nearest: kernel)\nlaunch \"a\", item \"k\": kind: two-names: an earlier one has \"kernel\" too\n",
@@ -93,6 +97,26 @@ const NAMES: [Faulty; 4] = [
     Faulty {
         manifest: b"rim_manifest = 1\n[[launch]]\nname = 'a'\nalgo = 'sha256'\ns2sz = 33\nram = [[0, 4096], [4096, 8192], [8192, 12288]]\nsteps = ['ram 5', 'ram 1', 'ram 1']\n",
         lines: b"launch \"a\": steps: bad-step: step 0, \"ram 5\", names nothing of the launch, or what an earlier step names\nlaunch \"a\": steps: bad-step: step 2, \"ram 1\", names nothing of the launch, or what an earlier step names\n",
+    },
+    Faulty {
+        manifest: b"rim_manifest = 1\nfile = [{name = 'f', path = 'x'}, {name = 'f', path = 'y'}, {name = 'f', path = 'z'}]\n",
+        lines: b"file \"f\": name: two-names: an earlier one has \"f\" too\nfile \"f\": name: two-names: an earlier one has \"f\" too\n",
+    },
+    Faulty {
+        manifest: b"rim_manifest = 1\nlaunch = [{name = 'a', algo = 'sha256', s2sz = 33}, {name = 'a', algo = 'sha256', s2sz = 33}]\n",
+        lines: b"launch \"a\": name: two-names: an earlier one has \"a\" too\n",
+    },
+    Faulty {
+        manifest: b"rim_manifest = 1\nlaunch = [{name = 'a', algo = 'sha256', s2sz = 33, item = [{name = 'x', kind = 'kernel', file = 'f', at = 0}]}, {name = 'b', algo = 'sha256', s2sz = 33, item = [{name = 'x', kind = 'raw', file = 'f', at = 0}, {name = 'y', kind = 'raw', file = 'f', at = 0}]}]\n",
+        lines: b"launch \"a\", item \"x\": file: no-such-file: \"f\", expected the name of a file\nlaunch \"b\", item \"x\": file: no-such-file: \"f\", expected the name of a file\nlaunch \"b\", item \"y\": file: no-such-file: \"f\", expected the name of a file\n",
+    },
+    Faulty {
+        manifest: b"rim_manifest = 1\nlaunch = [{name = 'a', algo = 'sha256', s2sz = 33, ram = [[0, 4096]], steps = ['ram 1']}]\n",
+        lines: b"launch \"a\": steps: bad-step: step 0, \"ram 1\", names nothing of the launch, or what an earlier step names\n",
+    },
+    Faulty {
+        manifest: b"rim_manifest = 1\nlaunch = [{name = 'a', algo = 'sha256', s2sz = 33, ram = [[0, 4096], [4096, 8192]], steps = ['ram 0', 'rec 0']}]\n",
+        lines: b"launch \"a\": steps: bad-step: step 1, \"rec 0\", names nothing of the launch, or what an earlier step names\n",
     },
 ];
 

@@ -150,24 +150,26 @@ impl Opener for FailingFiles {
     }
 }
 
-/// A reader of which each read is interrupted, but for one after this many.
+/// A reader of which this many reads in a row are interrupted before each one that is not.
 #[derive(Drop)]
 pub struct InterruptedReader {
-    pub before: u32,
+    pub in_a_row: u32,
+    pub left: u32,
     pub text: &'static [u8],
 }
 
 impl Read for InterruptedReader {
     fn read(&mut self, buf: &mut [u8]) -> io::Result<usize> {
-        if self.before > 0 {
-            self.before -= 1;
+        if self.left > 0 {
+            self.left -= 1;
             return Err(io::Error::from(ErrorKind::Interrupted));
         }
+        self.left = self.in_a_row;
         self.text.read(buf)
     }
 }
 
-/// Opens every path as the smallest manifest after this many interruptions.
+/// Opens every path as the smallest manifest with this many interruptions in a row.
 #[derive(Drop)]
 pub struct InterruptedFiles(pub u32);
 
@@ -176,7 +178,8 @@ impl Opener for InterruptedFiles {
 
     fn open(&mut self, _path: &str) -> Option<InterruptedReader> {
         Some(InterruptedReader {
-            before: self.0,
+            in_a_row: self.0,
+            left: self.0,
             text: SMALLEST,
         })
     }

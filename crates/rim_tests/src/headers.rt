@@ -20,7 +20,7 @@ const BOOT_LOADER: [u8; 64] = [
 ];
 
 #[test]
-fn fields_stand_at_their_offsets(rt: HostRuntime) {
+fn fields_are_at_their_offsets(rt: HostRuntime) {
     assert_eq!(rt;
         read(&DISTRIBUTION),
         Ok(Header {
@@ -44,7 +44,7 @@ fn fields_stand_at_their_offsets(rt: HostRuntime) {
 }
 
 #[test]
-fn bytes_behind_the_header_do_not_count(rt: HostRuntime) -> Result<(), Fail> {
+fn bytes_after_the_header_do_not_count(rt: HostRuntime) -> Result<(), Fail> {
     let mut file = DISTRIBUTION.to_vec(rt.alloc())?;
     file.extend_from_slice(&BOOT_LOADER)?;
     assert_eq!(rt; read(file.as_slice()), read(&DISTRIBUTION));

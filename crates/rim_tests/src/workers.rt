@@ -1,4 +1,6 @@
 //! Reports made by workers: each is that of one thread, whoever does which job.
+use super::fakes::{Folder, SMALLEST};
+use rim_cli::run;
 use rim_release::{
     FreeGate, Gate, JobId, Release, StartFault, audit_launches, measure_alone, measure_release,
     read_manifest,
@@ -58,6 +60,18 @@ struct Hold {
 /// How often it looks for a page that was put.
 const TURNS: u64 = 100_000_000;
 
+impl Hold {
+    fn new() -> Hold {
+        Hold {
+            begun: AtomicU64::new(0),
+            ended: AtomicU64::new(0),
+            first: AtomicU64::new(0),
+            others: AtomicU64::new(0),
+            in_vain: AtomicU64::new(0),
+        }
+    }
+}
+
 impl Gate for Hold {
     fn before(&self, _worker: usize, _job: JobId) {
         if self.begun.fetch_add(1, Ordering::SeqCst) > 0 {
@@ -102,13 +116,7 @@ fn two_workers_at_a_time(rt: HostRuntime) -> Result<(), Fail> {
     let (release, files) = release(alloc, LAUNCHES.as_bytes())?;
     assert_eq!(rt; files.len(), release.file_count());
     let alone = measure_alone(alloc, &release, &files)?;
-    let mut gate = Hold {
-        begun: AtomicU64::new(0),
-        ended: AtomicU64::new(0),
-        first: AtomicU64::new(0),
-        others: AtomicU64::new(0),
-        in_vain: AtomicU64::new(0),
-    };
+    let mut gate = Hold::new();
     let outcome = measure_release(&rt, alloc, &mut gate, &release, &files, 2)?;
     assert_eq!(rt; outcome.report.as_slice(), alone.as_slice());
     assert!(rt; outcome.has_refused);
@@ -120,6 +128,40 @@ fn two_workers_at_a_time(rt: HostRuntime) -> Result<(), Fail> {
     assert_eq!(rt; outcome.shares[1], gate.others.load(Ordering::SeqCst));
     assert!(rt; outcome.shares[0] > 0 && outcome.shares[1] > 0);
     assert_eq!(rt; gate.in_vain.load(Ordering::SeqCst), 0);
+    Ok(())
+}
+
+/// The words of a command line say how many workers there are, and all of them call the program's gate.
+#[test]
+fn workers_of_a_command_line(rt: HostRuntime) {
+    let alloc = rt.alloc();
+    let mut gate = Hold::new();
+    let mut files = Folder {
+        manifest: LAUNCHES.as_bytes(),
+        files: &[("f", &NINES)],
+    };
+    let words = ["rim", "measure", "--workers", "2", "manifest.toml"];
+    let mut out = Vec::new(alloc);
+    let mut err = Vec::new(alloc);
+    let status = run(
+        &rt, alloc, &mut gate, &words, &mut files, &mut out, &mut err,
+    );
+    assert_eq!(rt; status, 1);
+    assert_eq!(rt; gate.begun.load(Ordering::SeqCst), JOBS);
+    assert_eq!(rt; gate.ended.load(Ordering::SeqCst), JOBS);
+    assert!(rt; gate.others.load(Ordering::SeqCst) > 0);
+    assert_eq!(rt; gate.in_vain.load(Ordering::SeqCst), 0);
+}
+
+/// A worker is counted where it was started, though there is no page for it.
+#[test]
+fn workers_without_a_page(rt: HostRuntime) -> Result<(), Fail> {
+    let alloc = rt.alloc();
+    let release = read_manifest(alloc, SMALLEST)?;
+    let files = Vec::new(alloc);
+    assert_eq!(rt; files.len(), release.file_count());
+    let outcome = measure_release(&rt, alloc, &mut FreeGate, &release, &files, 2)?;
+    assert_eq!(rt; outcome.started, 2);
     Ok(())
 }
 
