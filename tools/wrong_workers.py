@@ -1,10 +1,10 @@
 #!/usr/bin/env python3
-"""Shows that tests refuse wrong bodies of the workers' code. Contracts let most of them through, since they say nothing of
-a run that does not end, of who did what, or of memory that is refused needlessly. Not part of the gate.
+"""Shows that tests refuse wrong bodies of the code of workers and files. Contracts let most of them through, since they say
+nothing of a run that does not end, of who did what, of the gate, or of memory that is refused needlessly. Not part of the gate.
 
 usage: tools/wrong_workers.py [WORD]
 
-Each body is written into a copy of the crates. The tests of the crate that is named are run there without proofs, by
+Each body is written into a copy of the crates. The tests of the module that is named are run there without proofs, by
 `rt try --test`, and one of them has to fail. WORD picks the bodies whose name has it.
 """
 import os
@@ -15,7 +15,8 @@ import tempfile
 
 top = os.path.dirname(os.path.dirname(os.path.abspath(__file__)))
 
-# what is wrong, the file, what it has and what it has in place of that, and the crate whose tests refuse it
+# what is wrong, the file, what it has and what it has in place of that, and the crate whose tests refuse it, with the
+# module where it has many
 BODIES = [
     (
         "results of launches are dropped",
@@ -58,28 +59,80 @@ BODIES = [
         "memory is always wanting",
         "rim_release/src/parallel.rt",
         [("    let launches = release.all_launches();", "    if workers > 0 {\n        return Err(StartFault::NoMemory);\n    }\n    let launches = release.all_launches();")],
-        "rim_tests",
+        "rim_tests::workers",
+    ),
+    (
+        "a worker that has put no page is not counted",
+        "job_board/src/share.rt",
+        [("        self.is_started\n", "        self.count > 0\n")],
+        "rim_tests::workers",
+    ),
+    (
+        "the number of workers in the words is not used",
+        "rim_cli/src/answer.rt",
+        [("} => measure(rt, alloc, gate, opener, manifest, workers, format),", "} => measure(rt, alloc, gate, opener, manifest, workers.min(1), format),")],
+        "rim_tests::workers",
+    ),
+    (
+        "the program's gate is not called",
+        "rim_cli/src/answer.rt",
+        [
+            (
+                "} => measure(rt, alloc, gate, opener, manifest, workers, format),",
+                "} => {\n            let _ = gate;\n            measure(rt, alloc, &mut rim_release::FreeGate, opener, manifest, workers, format)\n        }",
+            )
+        ],
+        "rim_tests::workers",
+    ),
+    (
+        "interruptions are counted in all and not in a row",
+        "rim_cli/src/patient.rt",
+        [("                self.interruptions = 0;\n                answer", "                answer")],
+        "rim_tests::faults",
     ),
 ]
+
+
+# Tests that take longer than `rt try` waits, whatever the bodies are.
+SLOW = ["faults::endless_reader", "file_order::files_in_their_order"]
+
+
+def keep_module(source, module):
+    """Takes all modules of tests from a crate but this one, and the fakes."""
+    kept = [module, "fakes"]
+    root = os.path.join(source, "lib.rt")
+    with open(root) as file:
+        head, *modules = file.read().split("#[cfg(test)]\n")
+    with open(root, "w") as file:
+        file.write(head + "".join("#[cfg(test)]\n" + line for line in modules if line.strip() in [f"mod {name};" for name in kept]))
+    for name in os.listdir(source):
+        if name.removesuffix(".rt") not in ["lib", *kept]:
+            os.remove(os.path.join(source, name))
 
 
 def refused(body, folder):
     """Whether a test fails. A test that is still running after a minute fails too."""
     what, file, changes, tests = body
     path = os.path.join(folder, "crates", file)
-    with open(path) as source:
-        text = source.read()
+    with open(path) as right:
+        text = right.read()
     wrong = text
     for old, new in changes:
         if wrong.count(old) != 1:
             raise SystemExit(f"{what}: {file} has one of the texts {wrong.count(old)} times")
         wrong = wrong.replace(old, new)
-    with open(path, "w") as source:
-        source.write(wrong)
-    ran = subprocess.run(["rt", "try", "--test"], cwd=os.path.join(folder, "crates", tests), capture_output=True, text=True)
-    with open(path, "w") as source:
-        source.write(text)
-    failed = [line for line in (ran.stdout + ran.stderr).splitlines() if line.startswith("test ") and line.endswith("FAILED")]
+    with open(path, "w") as edited:
+        edited.write(wrong)
+    crate, _, module = tests.partition("::")
+    source = os.path.join(folder, "crates", crate, "src")
+    if module:
+        keep_module(source, module)
+    ran = subprocess.run(["rt", "try", "--test"], cwd=os.path.dirname(source), capture_output=True, text=True)
+    shutil.copytree(os.path.join(top, "crates", crate, "src"), source, dirs_exist_ok=True)
+    with open(path, "w") as edited:
+        edited.write(text)
+    lines = [line for line in (ran.stdout + ran.stderr).splitlines() if not any(name in line for name in SLOW)]
+    failed = [line for line in lines if line.startswith("test ") and line.endswith("FAILED")]
     print(f"{'ok' if failed else 'WRONG'}: {what}", *failed[:4], sep="\n  ", flush=True)
     return bool(failed)
 
