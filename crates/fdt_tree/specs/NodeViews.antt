@@ -1,4 +1,5 @@
--- Which nodes of a devicetree the nodes in memory are, given the strings of their tree.
+-- Which nodes of a devicetree the nodes in memory are, given the strings of their tree. How they are kept is this project's
+-- choice.
 use Rattle.std.specs.Prelude.{ℕ, List, map, take, drop}
 use Rattle.fdt_tree.specs.declared.node.Name.{Name}
 use Rattle.fdt_tree.specs.declared.node.Name.TheVariants.{Shared, Own}

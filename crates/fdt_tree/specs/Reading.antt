@@ -1,4 +1,5 @@
--- Which bytes spell a devicetree, and why others are refused.
+-- Which bytes spell a devicetree, and why others are refused: Devicetree Specification 0.4, chapter 5. The order of the
+-- refusals is this project's choice.
 use Rattle.std.specs.Prelude.{◌≡◌, ◌⊎◌, ℕ, List, Result, Ok, Option, Some}
 use Rattle.std.specs.Result.{result_err}
 use Rattle.fdt_tree.specs.declared.fault.FdtFault.{FdtFault}

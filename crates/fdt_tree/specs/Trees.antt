@@ -1,4 +1,4 @@
--- What contracts see of a tree in memory.
+-- What contracts see of a tree in memory. This project's choice.
 use Rattle.std.specs.Prelude.{ℕ, List}
 use Rattle.fdt_tree.specs.declared.tree.Tree.{Tree}
 use Rattle.fdt_tree.specs.Devicetree.{Devicetree}

@@ -1,4 +1,4 @@
--- What always holds of a tree in memory.
+-- What always holds of a tree in memory. This project's choice.
 use Rattle.std.specs.Prelude.{ℕ, ◌+◌, List, [], ◌∷◌}
 use Rattle.std.specs.Coded.{le_prop}
 use Rattle.std.proofs.Math.Bool.{Bool-set}

@@ -1,5 +1,5 @@
 -- A launch as contracts see it, and the conditions of its type, each by its name. The ranges of its numbers are
--- kept by the types of its parts.
+-- kept by the types of its parts. This project's choice.
 use Rattle.std.specs.Prelude.{ℕ, List, length, Bool, ◌&&◌, nat_le, nat_lt}
 use Rattle.std.specs.List.{list_all}
 use Rattle.rim_launch.specs.declared.config.Config.{Config}

@@ -16,7 +16,7 @@ pub(crate) fn next(w2: u32x4, w7: u32x4, w15: u32x4, w16: u32x4) -> u32x4
     small_sigma1(w2) + w7 + small_sigma0(w15) + w16
 }
 
-/// T1 of a round.
+/// The first of the two temporary words of a round (6.2.2).
 #[inline(always)]
 pub(crate) fn temp1(e: u32x4, f: u32x4, g: u32x4, h: u32x4, k: u32, word: u32x4) -> u32x4
     ensures { IsLanes result (λ j. add32 (add32 (add32 (add32 (slice_index h j) (big_sigma1 (slice_index e j)))
@@ -25,7 +25,7 @@ pub(crate) fn temp1(e: u32x4, f: u32x4, g: u32x4, h: u32x4, k: u32, word: u32x4)
     h + big_sigma1(e) + ch(e, f, g) + u32x4::splat(k) + word
 }
 
-/// T2 of a round.
+/// The second of the two temporary words of a round (6.2.2).
 #[inline(always)]
 pub(crate) fn temp2(a: u32x4, b: u32x4, c: u32x4) -> u32x4
     ensures { IsLanes result (λ j. add32 (big_sigma0 (slice_index a j))
