@@ -8,6 +8,7 @@ use Rattle.std.proofs.lemmas.Option.{option_and_then_some, same_Some, slice_get-
 use Rattle.rim_desc.specs.Measurement.{measurement_of}
 use Rattle.rim_desc.specs.Part.{rim_of}
 use Rattle.rim_desc.specs.declared.measurement.Measurement.{Measurement}
+use Rattle.rim_desc.specs.declared.realm.RealmParams.{RealmParams}
 use Rattle.rmm_model.specs.Run.{run}
 use Rattle.rmm_model.specs.State.{empty_state}
 use Rattle.list_model.specs.Entries.{Entry, commands_of}
@@ -59,7 +60,7 @@ chain-held l files p entries v is_placed at read =
     let own : PageKey → Measurement = own_digest files p in
     let parts : parts_of v (map own (keys_of v.links)) ≡ measured l p (contents l files p) = read.parts own (contents l files p) (by-keys l files p is_placed) in
     (list-is-followed l p (contents l files p) entries (contents-are-good l files p) at).rim
-    ∙ ap Some (ap (rim_of l.config.algo) (sym parts) ∙ ap (λ a. rim_of a (parts_of v (map own (keys_of v.links)))) (sym read.algo))
+    ∙ ap Some (ap (rim_of l.config.algo) (sym parts) ∙ ap (λ a. rim_of a (parts_of v (map own (keys_of v.links)))) (sym (ap (λ (q : RealmParams). q.algo) read.params)))
 
 -- ---- rows of a table that has the launch's pages
 

@@ -184,7 +184,7 @@ step-parts l p digest contents low by_keys (step.Rec n) readable = by_rec (slice
 pub read-of : (l : LaunchData) (p : PlacedData) → least_level l.config ≤ 3 → All (IsReadable l) l.steps
     → IsReadOf l p (record { params = realm_params l.config; links = flat_map (step_links l p) l.steps })
 read-of l p low readable = record {
-  algo = refl;
+  params = refl;
   keys = flat-flat keys_in (step_links l p) l.steps ∙ flat-same (IsReadable l) _ _ l.steps (λ st _. step-keys l p st) readable;
   parts = λ digest contents by_keys. ap (λ ps. Realm (realm_page_of (realm_params l.config)) ∷ ps)
       (parts-own digest (flat_map (step_links l p) l.steps)

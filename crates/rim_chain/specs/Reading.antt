@@ -5,6 +5,7 @@ use Rattle.rim_desc.specs.declared.measurement.Measurement.{Measurement}
 use Rattle.page_jobs.specs.declared.page.PageKey.{PageKey}
 use Rattle.list_model.specs.Entries.{Contents}
 use Rattle.rim_launch.specs.LaunchData.{LaunchData}
+use Rattle.rim_launch.specs.Realm.{realm_params}
 use Rattle.ipa_layout.specs.Layout.{PlacedData}
 use Rattle.ipa_layout.specs.declared.placed.PlacedItem.{PlacedItem}
 use Rattle.rmi_list.specs.Measured.{measured}
@@ -16,10 +17,10 @@ abbrev pub GoByKeys : LaunchData → PlacedData → (PageKey → Measurement) �
 GoByKeys l p digest contents = (number page : ℕ) (item : PlacedItem) → slice_get p.items number ≡ Some item
     → contents number page ≡ digest (key_at l.config.algo item page)
 
--- A plan reads a launch: it has the launch's algorithm and the keys of its measured pages, and whatever the digests of
--- the pages are, its parts with them are the launch's.
+-- A plan reads a launch: it has the parameters of the launch's realm and the keys of its measured pages, and whatever the
+-- digests of the pages are, its parts with them are the launch's.
 pub record IsReadOf (l : LaunchData) (p : PlacedData) (v : PlanView) : Type 0 where
-  pub algo : v.params.algo ≡ l.config.algo
+  pub params : v.params ≡ realm_params l.config
   pub keys : keys_of v.links ≡ measured_keys l p
   pub parts : (digest : PageKey → Measurement) (contents : Contents) → GoByKeys l p digest contents
       → parts_of v (map digest (keys_of v.links)) ≡ measured l p contents

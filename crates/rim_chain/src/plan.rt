@@ -146,7 +146,7 @@ impl LaunchPlan {
 
     /// How many parts follow its first links: a chain that goes on from there takes as many hashes. It is a measure of the
     /// work alone, and stays at 2^64 - 1 from there on.
-    pub fn parts_after(&self, links: usize) -> u64 {
+    pub(crate) fn parts_after(&self, links: usize) -> u64 {
         let mut parts = 0u64;
         for at in links..self.links.len() {
             parts = parts.saturating_add(part_count(&self.links[at]));

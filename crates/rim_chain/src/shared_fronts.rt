@@ -1,5 +1,5 @@
 //! The fronts that launches of a run have in common, so that each is chained once.
-ghost use Rattle.std.specs.Prelude.{◌≡◌, ℕ, true, List, map, Some, IfOk, IfSome, slice_set, option_map};
+ghost use Rattle.std.specs.Prelude.{◌≡◌, ℕ, true, List, map, None, Some, IfOk, IfSome, slice_set, option_map};
 ghost use Rattle.std.specs.List.{Contains, slice_get};
 ghost use Rattle.page_jobs.specs.Table.{TableView};
 ghost use Rattle.rim_chain.specs.Links.{PlanView};
@@ -99,14 +99,16 @@ impl SharedFronts {
 
     /// Takes the marks of a launch, for the job that chains it.
     pub fn take_marks(&mut self, number: usize) -> Option<Vec<Mark>>
-        ensures { (t : TableView) (ps : List PlanView) → AreShared t ps self.old → AreShared t ps self.new }
+        ensures marks { self.new ≡ slice_set self.old number None }
+        ensures shared { (t : TableView) (ps : List PlanView) → AreShared t ps self.old → AreShared t ps self.new }
     {
         replaced(&mut self.marks, number, None)
     }
 
     /// Keeps the marks of a launch that was chained, in the place of those that it had.
     pub fn keep(&mut self, number: usize, marks: Option<Vec<Mark>>)
-        ensures { (t : TableView) (ps : List PlanView) (p : PlanView) → slice_get ps number ≡ Some p → IfSome marks (λ own. HaveOwnValues t p own.items) → AreShared t ps self.old → AreShared t ps self.new }
+        ensures marks { self.new ≡ slice_set self.old number (option_map (λ own. own.items) marks) }
+        ensures shared { (t : TableView) (ps : List PlanView) (p : PlanView) → slice_get ps number ≡ Some p → IfSome marks (λ own. HaveOwnValues t p own.items) → AreShared t ps self.old → AreShared t ps self.new }
     {
         let _old = replaced(&mut self.marks, number, marks);
         self.order.add_followers(number);

@@ -181,8 +181,8 @@ fn extended_by_links(
     rim
 }
 
-/// What four chains by SHA-256 come to. As many parts of each as `parts` says are hashed side by side, so it had best be
-/// the number of parts of the shortest.
+/// What four chains by SHA-256 come to. The next parts of all four are hashed side by side, `parts` times at most and no
+/// longer than each has one, so `parts` had best be the number of parts of the shortest.
 pub(crate) fn side_by_side(
     a: Chain,
     b: Chain,
@@ -201,13 +201,15 @@ pub(crate) fn side_by_side(
 {
     let (mut a, mut b, mut c, mut d) = (a, b, c, d);
     for _ in 0..parts {
-        extend_each(&mut a, &mut b, &mut c, &mut d);
+        if !extend_each(&mut a, &mut b, &mut c, &mut d) {
+            break;
+        }
     }
     (a.finished(), b.finished(), c.finished(), d.finished())
 }
 
-/// Extends four measurements by the next part of each.
-fn extend_each(a: &mut Chain, b: &mut Chain, c: &mut Chain, d: &mut Chain)
+/// Extends four measurements by the next part of each. Answers whether each had one.
+fn extend_each(a: &mut Chain, b: &mut Chain, c: &mut Chain, d: &mut Chain) -> bool
     requires first { a.old.algo ≡ algo.Sha256 }
     requires second { b.old.algo ≡ algo.Sha256 }
     requires third { c.old.algo ≡ algo.Sha256 }
@@ -224,12 +226,14 @@ fn extend_each(a: &mut Chain, b: &mut Chain, c: &mut Chain, d: &mut Chain)
             b.set(q);
             c.set(r);
             d.set(s);
+            true
         }
         (p, q, r, s) => {
             a.go_on(p);
             b.go_on(q);
             c.go_on(r);
             d.go_on(s);
+            false
         }
     }
 }

@@ -14,6 +14,6 @@ returns-clause-value c =
 
 pub returns-clause-fronts : goal.returns-clause-fronts
 returns-clause-fronts c =
-    c.keep.ensures c.args.table.now c.args.plans.now c.args.plan.now c.requires.plan
+    c.keep.ensures.shared c.args.table.now c.args.plans.now c.args.plan.now c.requires.plan
     (own-marks (λ v. v.items) c.args.table.now c.args.plan.now c.fill_row.new.row.digests c.chain_from-marks.result.1 (c.fill_row.ensures.filled c.if-not-fill_row.false) c.chain_from-marks.ensures.marks)
-    (c.take_marks.ensures c.args.table.now c.args.plans.now c.requires.fronts)
+    (c.take_marks.ensures.shared c.args.table.now c.args.plans.now c.requires.fronts)

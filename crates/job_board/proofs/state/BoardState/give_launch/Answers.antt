@@ -57,5 +57,5 @@ invariant_of-self g c =
       rw c.push_reserved.ensures.items (board_other b c.step.new.self (Take c.args.worker (Launch c.args.number)) refl c.self.invariant.0 step),
       omega (arith, most, c.self.invariant.1, c.push_reserved.ensures.capacity),
       rw c.take_row.ensures.rest (rows_take_launch i.core c.step.new.self i.plans.now i.rows.items i.spare.items c.args.worker c.args.number c.self.invariant.2 step),
-      c.take_marks.ensures i.table i.plans.now c.self.invariant.3,
+      c.take_marks.ensures.shared i.table i.plans.now c.self.invariant.3,
     )

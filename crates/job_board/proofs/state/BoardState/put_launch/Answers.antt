@@ -47,7 +47,7 @@ invariant_of-self-2 g c =
       rw c.push_reserved.ensures.items (board_put_launch b c.step.new.self c.args.worker c.number-number.result p c.value.result c.self.invariant.0 step plan value),
       omega (arith, most, c.self.invariant.1, c.push_reserved.ensures.capacity),
       rows_put_launch i.core c.step.new.self i.plans.now i.rows.items i.spare.items c.args.worker c.number-number.result c.self.invariant.2 step,
-      c.keep.ensures i.table i.plans.now p plan (own-marks (λ v. v.items) i.table p c.args.rim.job.row.digests c.into_marks.result row c.into_marks.ensures) c.self.invariant.3,
+      c.keep.ensures.shared i.table i.plans.now p plan (own-marks (λ v. v.items) i.table p c.args.rim.job.row.digests c.into_marks.result row c.into_marks.ensures) c.self.invariant.3,
     )
 
 pub returns-clause-own : goal.returns-clause-own
