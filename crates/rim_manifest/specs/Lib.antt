@@ -11,4 +11,5 @@ pub mod StepTexts
 pub mod Launches
 pub mod Manifest
 pub mod Found
+pub mod Places
 pub mod Given

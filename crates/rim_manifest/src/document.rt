@@ -1,10 +1,12 @@
 //! A manifest as a TOML document, which is searched for all of its faults.
-ghost use Rattle.std.specs.Prelude.{◌≡◌, ◌≢◌, IfErr, IfOk, None, Some};
-ghost use Rattle.toml.specs.Errors.{IsMemory};
-ghost use Rattle.toml.specs.View.{table_view};
+ghost use Rattle.std.specs.Prelude.{◌≡◌, ◌≢◌, IfErr, IfOk, None, Some, map, option_map};
+ghost use Rattle.std.specs.List.{slice_get};
+ghost use Rattle.toml.specs.Errors.{IsMemory, IsWithin};
+ghost use Rattle.toml.specs.View.{table_view, view};
 ghost use Rattle.rim_manifest.specs.Faults.{lowest};
 ghost use Rattle.rim_manifest.specs.Found.{IsChecked};
 ghost use Rattle.rim_manifest.specs.Manifest.{document_of, manifest_faults};
+ghost use Rattle.rim_manifest.specs.Places.{table_at, table_of};
 ghost use Rattle.rim_manifest.specs.inside.Findings.{faults_in};
 
 use crate::fault::ManifestFault;
@@ -33,10 +35,11 @@ pub enum Checked {
 }
 
 impl Document {
-    /// The document that a text is. The error is that of `toml`.
+    /// The document that a text is. The error is that of `toml`, and its place is within the text.
     pub fn read(alloc: Global, text: &[u8]) -> Result<Document, Error>
         ensures document { IfOk result (λ d. document_of text.now ≡ Some (table_view d.table)) }
         ensures refused { IfErr result (λ e. ¬ (IsMemory e) → document_of text.now ≡ None) }
+        ensures span { IfErr result (IsWithin text.now) }
     {
         match toml::table_from_slice(alloc, text) {
             Ok(table) => Ok(Document { table }),
@@ -60,7 +63,9 @@ impl Document {
     }
 
     /// The table at a place, if it is there.
-    pub fn table(&self, place: Place) -> Option<&Table> {
+    pub fn table(&self, place: Place) -> Option<&Table>
+        ensures { option_map (λ t. table_view t.now) result ≡ table_at (table_view self.now.table) place }
+    {
         let launches = entries(&self.table, "launch");
         match place {
             Place::Top => Some(&self.table),
@@ -73,8 +78,17 @@ impl Document {
 }
 
 /// The table of this number.
-fn table_at(tables: &[Value], number: usize) -> Option<&Table> {
-    match tables.get(number)? {
+fn table_at(tables: &[Value], number: usize) -> Option<&Table>
+    ensures { option_map (λ t. table_view t.now) result ≡ table_of (slice_get (map view tables.now) number) }
+{
+    as_table(tables.get(number)?)
+}
+
+/// The table that a value is, if it is one.
+fn as_table(value: &Value) -> Option<&Table>
+    ensures { option_map (λ t. table_view t.now) result ≡ table_of (Some (view value.now)) }
+{
+    match value {
         Value::Table(table) => Some(table),
         _ => None,
     }

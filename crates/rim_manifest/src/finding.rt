@@ -1,6 +1,7 @@
 //! The faults that are found in a manifest, each with its place.
 ghost use Rattle.std.specs.Prelude.{◌≡◌, OnOk};
 ghost use Rattle.rim_manifest.specs.Faults.{fault_if, lowest};
+ghost use Rattle.rim_manifest.specs.Places.{place_at};
 ghost use Rattle.rim_manifest.specs.inside.Findings.{faults_in, kept, with_fault, with_faults};
 
 use crate::fault::{ManifestFault, lower};
@@ -28,7 +29,9 @@ pub enum Array {
 
 impl Array {
     /// The table of this number in the array.
-    pub fn at(self, number: usize) -> Place {
+    pub fn at(self, number: usize) -> Place
+        ensures { result ≡ place_at self number }
+    {
         match self {
             Array::Files => Place::File { file: number },
             Array::Launches => Place::Launch { launch: number },
