@@ -21,12 +21,12 @@ pub struct CheckedLaunch<'a> {
 
 impl<'a> CheckedLaunch<'a> {
     /// The name of an item, as it is shown.
-    pub fn name(&self, item: usize) -> Quoted<'a> {
+    pub(crate) fn name(&self, item: usize) -> Quoted<'a> {
         Quoted(self.readable.item_name(self.number, item))
     }
 
     /// The bytes of an item's file.
-    pub fn bytes(&self, item: &Item) -> &'a [u8] {
+    pub(crate) fn bytes(&self, item: &Item) -> &'a [u8] {
         match self.files.get(item.kind.file()) {
             Some(bytes) => bytes.as_slice(),
             None => &[],
@@ -34,19 +34,19 @@ impl<'a> CheckedLaunch<'a> {
     }
 
     /// The first item with a role, and its number.
-    pub fn first(&self, role: Role) -> Option<(usize, &'a Item)> {
+    pub(crate) fn first(&self, role: Role) -> Option<(usize, &'a Item)> {
         let items = self.launch.items();
         let number = items.iter().position(|item| item.has_role(role))?;
         Some((number, items.get(number)?))
     }
 
     /// What the item of this number asks for. A kernel that is no Image asks for nothing.
-    pub fn asked_at(&self, number: usize) -> Option<Asked> {
+    pub(crate) fn asked_at(&self, number: usize) -> Option<Asked> {
         self.asked(self.launch.items().get(number)?)
     }
 
     /// What an item asks for.
-    pub fn asked(&self, item: &Item) -> Option<Asked> {
+    pub(crate) fn asked(&self, item: &Item) -> Option<Asked> {
         let bytes = self.bytes(item);
         let count = bytes.len() as u64;
         let size = item.size.unwrap_or(count);
@@ -86,22 +86,22 @@ pub struct Asked {
 
 impl Asked {
     /// The first address after it.
-    pub fn end(&self) -> u128 {
+    pub(crate) fn end(&self) -> u128 {
         self.address.saturating_add(u128::from(self.len))
     }
 
     /// The number of its first page.
-    pub fn first_page(&self) -> u128 {
+    pub(crate) fn first_page(&self) -> u128 {
         self.address / PAGE
     }
 
     /// The number of the first page after it.
-    pub fn end_page(&self) -> u128 {
+    pub(crate) fn end_page(&self) -> u128 {
         self.end().saturating_add(PAGE - 1) / PAGE
     }
 
     /// How many pages its size touches.
-    pub fn page_count(&self) -> u128 {
+    pub(crate) fn page_count(&self) -> u128 {
         if self.size == 0 {
             return 0;
         }
@@ -110,7 +110,7 @@ impl Asked {
     }
 
     /// Whether it has a page of another.
-    pub fn meets(&self, other: &Asked) -> bool {
+    pub(crate) fn meets(&self, other: &Asked) -> bool {
         self.len != 0
             && other.len != 0
             && self.first_page() < other.end_page()

@@ -17,7 +17,7 @@ use std::fmt::Write;
 use toml::{Table, Value};
 
 /// Adds what is known of a fault beside its place and its word, after a colon.
-pub fn write_detail(
+pub(crate) fn write_detail(
     alloc: Global,
     line: &mut Line,
     document: &Document,

@@ -18,7 +18,11 @@ const MOST_PAGES: u128 = 1_048_576;
 const END: u128 = 0x1_0000_0000_0000_0000;
 
 /// Writes which items are at fault, with their numbers. Where that cannot be found out it writes nothing.
-pub fn layout_detail(line: &mut Line, checked: &CheckedLaunch, fault: LayoutFault) -> fmt::Result {
+pub(crate) fn layout_detail(
+    line: &mut Line,
+    checked: &CheckedLaunch,
+    fault: LayoutFault,
+) -> fmt::Result {
     match fault {
         LayoutFault::Kernel(fault) => kernel(line, checked, fault),
         LayoutFault::Dtb(_) => devicetree(line, checked),

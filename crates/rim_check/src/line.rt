@@ -153,7 +153,7 @@ impl fmt::Display for Quoted<'_> {
 }
 
 /// The first bytes of a text, and `..` where it has more.
-pub fn shown(text: &str) -> (&str, &'static str) {
+pub(crate) fn shown(text: &str) -> (&str, &'static str) {
     if text.len() <= MOST_SHOWN {
         return (text, "");
     }

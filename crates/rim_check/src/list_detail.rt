@@ -17,7 +17,11 @@ const MOST_RECS: usize = 512;
 const MOST_ENTRIES: u64 = 4_194_304;
 
 /// Writes which step is at fault, with its numbers. Where that cannot be found out it writes nothing.
-pub fn list_detail(line: &mut Line, checked: &CheckedLaunch, fault: ListFault) -> fmt::Result {
+pub(crate) fn list_detail(
+    line: &mut Line,
+    checked: &CheckedLaunch,
+    fault: ListFault,
+) -> fmt::Result {
     if fault == ListFault::TooManyRecs {
         let count = checked.launch.recs().len();
         return write!(line, "{count} RECs, expected at most {MOST_RECS}");

@@ -51,7 +51,7 @@ impl Readable {
     }
 
     /// The name of an item of a launch, by their numbers; no text where there is none.
-    pub fn item_name(&self, launch: usize, item: usize) -> &str {
+    pub(crate) fn item_name(&self, launch: usize, item: usize) -> &str {
         name_at(&self.document, Place::Item { launch, item }).unwrap_or("")
     }
 }

@@ -20,7 +20,7 @@ pub struct Nearest<'a, 'k> {
 
 impl<'a, 'k> Nearest<'a, 'k> {
     /// No known word yet.
-    pub fn new(word: &'a str) -> Nearest<'a, 'k> {
+    pub(crate) fn new(word: &'a str) -> Nearest<'a, 'k> {
         Nearest {
             word,
             found: None,
@@ -29,7 +29,7 @@ impl<'a, 'k> Nearest<'a, 'k> {
     }
 
     /// Adds a known word.
-    pub fn add(&mut self, alloc: Global, known: &'k str) -> Result<(), AllocError> {
+    pub(crate) fn add(&mut self, alloc: Global, known: &'k str) -> Result<(), AllocError> {
         if self.word.len() > LONGEST || known.len() > LONGEST {
             return Ok(());
         }

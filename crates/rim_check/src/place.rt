@@ -8,7 +8,7 @@ use std::fmt::Write;
 use toml::{Table, Value};
 
 /// The text at a key of a table, if there is one.
-pub fn text_at<'a>(table: &'a Table, key: &str) -> Option<&'a str> {
+pub(crate) fn text_at<'a>(table: &'a Table, key: &str) -> Option<&'a str> {
     match cell(table, key)? {
         Value::String(text) => Some(text.as_str()),
         _ => None,
@@ -16,7 +16,7 @@ pub fn text_at<'a>(table: &'a Table, key: &str) -> Option<&'a str> {
 }
 
 /// The values of the array at a key of a table; none where it is not given.
-pub fn array_at<'a>(table: &'a Table, key: &str) -> &'a [Value] {
+pub(crate) fn array_at<'a>(table: &'a Table, key: &str) -> &'a [Value] {
     match cell(table, key) {
         Some(value) => items(value),
         None => &[],
@@ -24,12 +24,12 @@ pub fn array_at<'a>(table: &'a Table, key: &str) -> &'a [Value] {
 }
 
 /// The name of the table at a place, if it has one.
-pub fn name_at(document: &Document, place: Place) -> Option<&str> {
+pub(crate) fn name_at(document: &Document, place: Place) -> Option<&str> {
     text_at(document.table(place)?, "name")
 }
 
 /// Adds the place of a fault, and a colon.
-pub fn write_place(line: &mut Line, document: &Document, finding: &Finding) -> fmt::Result {
+pub(crate) fn write_place(line: &mut Line, document: &Document, finding: &Finding) -> fmt::Result {
     write_table(line, document, finding.place)?;
     match finding.subject {
         Subject::Key { key, .. } => write!(line, ": {key}: "),

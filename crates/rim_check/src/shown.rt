@@ -38,7 +38,11 @@ fn write_array<W: fmt::Write>(f: &mut fmt::Formatter<W>, items: &[Value]) -> fmt
 }
 
 /// The first value of an array that is at fault, with its number; `None` where the fault is not one of a value in it.
-pub fn bad_element(value: &Value, form: Form, fault: ManifestFault) -> Option<(usize, &Value)> {
+pub(crate) fn bad_element(
+    value: &Value,
+    form: Form,
+    fault: ManifestFault,
+) -> Option<(usize, &Value)> {
     let Value::Array(items) = value else {
         return None;
     };

@@ -5,7 +5,7 @@ use std::fmt::Write;
 use toml::de::Error;
 
 /// Adds the line and the column at which an error is, both from 1.
-pub fn write_position(line: &mut Line, text: &[u8], error: &Error) -> fmt::Result {
+pub(crate) fn write_position(line: &mut Line, text: &[u8], error: &Error) -> fmt::Result {
     let Some(span) = error.span() else {
         return Ok(());
     };

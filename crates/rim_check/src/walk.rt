@@ -20,7 +20,7 @@ pub struct Walk<'a> {
 
 impl<'a> Walk<'a> {
     /// No steps yet.
-    pub fn new(alloc: Global, launch: &'a Launch, placed: &'a Placed) -> Walk<'a> {
+    pub(crate) fn new(alloc: Global, launch: &'a Launch, placed: &'a Placed) -> Walk<'a> {
         let config = launch.config();
         Walk {
             launch,
@@ -32,7 +32,7 @@ impl<'a> Walk<'a> {
     }
 
     /// Takes the granules of the start tables and of the realm descriptor.
-    pub fn open(&mut self) -> Result<(), ListFault> {
+    pub(crate) fn open(&mut self) -> Result<(), ListFault> {
         match start_of(self.launch.config().s2sz) {
             Some((_, count)) => self.take(u64::from(count) + 1),
             None => Ok(()),
@@ -40,7 +40,7 @@ impl<'a> Walk<'a> {
     }
 
     /// Walks a step.
-    pub fn step(&mut self, step: &Step) -> Result<(), ListFault> {
+    pub(crate) fn step(&mut self, step: &Step) -> Result<(), ListFault> {
         let (launch, placed) = (self.launch, self.placed);
         match step {
             Step::Ram(number) => match launch.ram().get(*number) {
@@ -106,6 +106,6 @@ impl<'a> Walk<'a> {
 }
 
 /// The address of an item's first page.
-pub fn first_page(item: &PlacedItem) -> u64 {
+pub(crate) fn first_page(item: &PlacedItem) -> u64 {
     item.address.saturating_sub(item.lead)
 }
