@@ -26,32 +26,27 @@ impl Opener for FileOpener<'_> {
 
 fn main(rt: HostRuntime) -> ExitCode {
     let status = match words(&rt) {
-        Ok(words) => {
-            if is_terminal_for_bytes(&rt, words.as_slice()) {
-                report_terminal(&mut rt.stderr())
-            } else {
-                run(
-                    &rt,
-                    rt.alloc(),
-                    &mut Progress::new(&rt, rt.stderr().is_terminal()),
-                    words.as_slice(),
-                    &mut FileOpener { rt: &rt },
-                    &mut io::writer(&rt),
-                    &mut rt.stderr(),
-                )
-            }
-        }
+        Ok(Some(words)) => run(
+            &rt,
+            rt.alloc(),
+            &mut Progress::new(&rt, rt.stderr().is_terminal()),
+            words.as_slice(),
+            &mut FileOpener { rt: &rt },
+            &mut io::writer(&rt),
+            &mut rt.stderr(),
+        ),
+        Ok(None) => report_terminal(&mut rt.stderr()),
         Err(error) => report_unreadable(&error, &mut rt.stderr()),
     };
     ExitCode::from(status)
 }
 
-/// Whether the words ask for bytes that are no text, and these would be written to a terminal.
-fn is_terminal_for_bytes(rt: &HostRuntime, words: &[String]) -> bool {
-    rt.stdout().is_terminal() && asks_for_bytes(rt.alloc(), words)
-}
-
-/// The words of the command line, of which the first is the program's name.
-fn words(rt: &HostRuntime) -> io::Result<Vec<String>> {
-    Ok(std::env::args(rt)?.collect(rt.alloc())?)
+/// The words of the command line, of which the first is the program's name; or `None` where they ask for bytes that are no
+/// text, and these would be written to a terminal.
+fn words(rt: &HostRuntime) -> io::Result<Option<Vec<String>>> {
+    let words: Vec<String> = std::env::args(rt)?.collect(rt.alloc())?;
+    if rt.stdout().is_terminal() && asks_for_bytes(rt.alloc(), words.as_slice())? {
+        return Ok(None);
+    }
+    Ok(Some(words))
 }

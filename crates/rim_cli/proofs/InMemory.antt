@@ -18,6 +18,7 @@ use Rattle.rim_cli.specs.declared.words.Format.{Format}
 use Rattle.rim_cli.specs.declared.words.Format.TheVariants as format
 use Rattle.rim_cli.specs.declared.words.Request.{Request}
 use Rattle.rim_cli.specs.declared.words.Request.TheVariants.{Measure, List as Lists, Audit, Check, Dtb, Image, Fdt}
+use Rattle.rim_cli.proofs.Verbs.{apart}
 
 -- what is known where there is one manifest
 abbrev pub in_memory : List ℕ → List ℕ → Known
@@ -28,18 +29,15 @@ unfolding clap_on_literals
 plain_taken = refl
 
 -- the words ask for no other subcommand
-other : (name : List ℕ) → bytes_eq (codes "measure") name ≡ false → codes "measure" ≡ name → ⊥
-other name apart same = let equal : bytes_eq (codes "measure") name ≡ true = (bytes_eq-Decides (codes "measure") name).1 same in cc
-
 asked_path : (request : Request) → ReadsRequest (subcommand_of rim plain) request → path_of request ≡ codes "manifest.toml"
 unfolding clap_on_literals
 asked_path (Measure path workers format) asked = sym (same_Some _ _ asked.1)
-asked_path (Lists path launch) asked = absurd (other (codes "list") refl asked.0)
-asked_path (Audit path) asked = absurd (other (codes "audit") refl asked.0)
-asked_path (Check path) asked = absurd (other (codes "check") refl asked.0)
-asked_path (Dtb path launch) asked = absurd (other (codes "dtb") refl asked.0)
-asked_path (Image file) asked = absurd (other (codes "image") refl asked.0)
-asked_path (Fdt file) asked = absurd (other (codes "fdt") refl asked.0)
+asked_path (Lists path launch) asked = absurd (apart (codes "measure") (codes "list") refl asked.0)
+asked_path (Audit path) asked = absurd (apart (codes "measure") (codes "audit") refl asked.0)
+asked_path (Check path) asked = absurd (apart (codes "measure") (codes "check") refl asked.0)
+asked_path (Dtb path launch) asked = absurd (apart (codes "measure") (codes "dtb") refl asked.0)
+asked_path (Image file) asked = absurd (apart (codes "measure") (codes "image") refl asked.0)
+asked_path (Fdt file) asked = absurd (apart (codes "measure") (codes "fdt") refl asked.0)
 
 -- what they ask for is a report
 asked_report : (held : List ℕ → Known) (request : Request) (bytes text : List ℕ) (status : ℕ) → ReadsRequest (subcommand_of rim plain) request
@@ -47,12 +45,12 @@ asked_report : (held : List ℕ → Known) (request : Request) (bytes text : Lis
 unfolding clap_on_literals
 asked_report held (Measure path workers format) bytes text status asked answer =
     subst (λ (f : Format). IsOkAnd (manifest_of bytes) (λ r. IsReport f held r text status)) (sym (same_Some _ _ asked.3)) answer
-asked_report held (Lists path launch) bytes text status asked answer = absurd (other (codes "list") refl asked.0)
-asked_report held (Audit path) bytes text status asked answer = absurd (other (codes "audit") refl asked.0)
-asked_report held (Check path) bytes text status asked answer = absurd (other (codes "check") refl asked.0)
-asked_report held (Dtb path launch) bytes text status asked answer = absurd (other (codes "dtb") refl asked.0)
-asked_report held (Image file) bytes text status asked answer = absurd (other (codes "image") refl asked.0)
-asked_report held (Fdt file) bytes text status asked answer = absurd (other (codes "fdt") refl asked.0)
+asked_report held (Lists path launch) bytes text status asked answer = absurd (apart (codes "measure") (codes "list") refl asked.0)
+asked_report held (Audit path) bytes text status asked answer = absurd (apart (codes "measure") (codes "audit") refl asked.0)
+asked_report held (Check path) bytes text status asked answer = absurd (apart (codes "measure") (codes "check") refl asked.0)
+asked_report held (Dtb path launch) bytes text status asked answer = absurd (apart (codes "measure") (codes "dtb") refl asked.0)
+asked_report held (Image file) bytes text status asked answer = absurd (apart (codes "measure") (codes "image") refl asked.0)
+asked_report held (Fdt file) bytes text status asked answer = absurd (apart (codes "measure") (codes "fdt") refl asked.0)
 
 -- what was made is the report of the manifest
 pub made_report : (manifest text : List ℕ) (status : ℕ) → IsMade plain (in_memory manifest) text status

@@ -4,6 +4,7 @@ pub mod Values
 pub mod Reading
 pub mod Refusing
 pub mod Releases
+pub mod Verbs
 pub mod InMemory
 pub mod Formats
 pub mod Found

@@ -1,4 +1,4 @@
--- Examples of command lines, read by the definition of `clap`.
+-- Examples of command lines, read by the definition of `clap`. This project's choice.
 use Rattle.std.specs.Prelude.{◌≡◌, ℕ, true, false, List, [], ◌∷◌, Option, Some, None, codes, length, map, option_map}
 use Rattle.clap.specs.Words.{Text, first_of, subcommand_of}
 use Rattle.rim_manifest.specs.Launches.{ReleaseData}

@@ -43,6 +43,7 @@ pub fn measure_in_memory<R: Threads + Wait + Sync>(
     out: &mut Vec<u8>,
     err: &mut Vec<u8>,
 ) -> u8
+    ensures known { result ≤ 4 }
     ensures report { (r : ReleaseData) → manifest_of manifest.now ≡ Ok r → r.paths ≡ [] → result ≤ 1 → IsOkAnd (measured_of [] r.launches) (λ text. out.new.items ≡ out.old.items ++ text) }
     ensures status { (r : ReleaseData) → manifest_of manifest.now ≡ Ok r → r.paths ≡ [] → result ≤ 1 → result ≡ (if has_refused [] r.launches then 1 else 0) }
     ensures refused { (f : ManifestFault) → manifest_of manifest.now ≡ Err f → (3 ≤ result) × (out.new.items ≡ out.old.items) }

@@ -1,8 +1,8 @@
 //! A run of the program, over any files and streams.
-ghost use Rattle.std.specs.Prelude.{◌≡◌, ◌≢◌, ◌≤◌, ◌⊎◌, IfErr, OnOk, map, false, true};
+ghost use Rattle.std.specs.Prelude.{◌≡◌, ◌≢◌, ◌≤◌, ◌⊎◌, IfErr, IfOk, OnOk, map, false, true};
 ghost use Rattle.std.specs.Io.KnownBytes.{Appends};
 ghost use Rattle.clap.specs.Words.{kind_of};
-ghost use Rattle.rim_cli.specs.Command.{AsksForBytes, AsksForHelp, IsMistaken, is_asked, is_taken};
+ghost use Rattle.rim_cli.specs.Command.{AsksForBytes, AsksForHelp, IsMistaken, is_asked, is_for_bytes, is_taken};
 ghost use Rattle.rim_cli.specs.Done.{IsDone, IsRefused, IsUnwritten};
 ghost use Rattle.std.specs.IoError.{error_kind};
 ghost use Rattle.rim_cli.specs.Status.{status_of, unreadable_status};
@@ -12,7 +12,7 @@ use crate::fault::Fault;
 use crate::file::Opener;
 use crate::words::{CommandFault, Request, command};
 use rim_release::Gate;
-use std::alloc::Global;
+use std::alloc::{AllocError, Global};
 use std::convert::AsStr;
 use std::io;
 use std::io::{ErrorKind, Write};
@@ -114,11 +114,24 @@ fn report_fault<E: Write>(fault: Fault, err: &mut E) -> u8
     fault.status()
 }
 
-/// Whether the words ask for bytes that are no text, which are not for a terminal: those of a devicetree.
-pub fn asks_for_bytes<S: AsStr>(alloc: Global, words: &[S]) -> bool
-    ensures { result ≡ true → AsksForBytes (map S.text words.now) }
+/// Whether the words ask for bytes that are no text, which are not for a terminal: those of a devicetree. Words that are no
+/// command line ask for none.
+pub fn asks_for_bytes<S: AsStr>(alloc: Global, words: &[S]) -> Result<bool, AllocError>
+    ensures asked { IfOk result (λ b. b ≡ true → AsksForBytes (map S.text words.now)) }
+    ensures other { IfOk result (λ b. b ≡ false → is_taken (map S.text words.now) ≡ true → ¬ AsksForBytes (map S.text words.now)) }
 {
-    matches!(command(alloc, words), Ok(Request::Dtb { .. }))
+    match command(alloc, words) {
+        Ok(request) => Ok(is_for_bytes(&request)),
+        Err(CommandFault::Usage(_)) => Ok(false),
+        Err(CommandFault::NoMemory) => Err(AllocError),
+    }
+}
+
+/// Whether a request is for bytes that are no text.
+fn is_for_bytes(request: &Request) -> bool
+    ensures { result ≡ is_for_bytes request.now }
+{
+    matches!(request, Request::Dtb { .. })
 }
 
 /// Reports a terminal where the output is to be bytes that are no text, in one line, and answers the exit status, 3.

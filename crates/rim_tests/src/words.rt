@@ -121,7 +121,11 @@ const BYTES: [(&[&str], bool); 4] = [
 #[test]
 fn words_that_ask_for_bytes(rt: HostRuntime) {
     for (words, is_asked) in &BYTES {
-        assert_eq!(rt; asks_for_bytes(rt.alloc(), words), *is_asked, "{words:?}");
+        assert_eq!(rt;
+            asks_for_bytes(rt.alloc(), words),
+            Ok(*is_asked),
+            "{words:?}"
+        );
     }
 }
 
