@@ -3,9 +3,10 @@
 
 usage: bench/all.py [--wait]
 
-The building proves what the scripts change, which takes tens of minutes and may share the machine with other work. From the
-line `times` on nothing should run beside it: with --wait it takes times only after a line of standard input. Each script's
-lines come under its name, with the minutes that it took.
+The building proves what the scripts change, which takes tens of minutes and may share the machine with other work. What an
+earlier run built from the same sources is taken from bench/out. From the line `times` on nothing should run beside it: with
+--wait it takes times only after a line of standard input. Each script's lines come under its name, with the minutes that it
+took.
 """
 import datetime
 import os
@@ -25,7 +26,8 @@ import sizes
 import trees
 import workers
 
-BUILDING = [hashes, chain, board, crates, trees, releases, workers, lanes, fronts]
+# What proves most comes first, so that a program that cannot be built is reported early.
+BUILDING = [fronts, lanes, workers, board, hashes, chain, crates, trees, releases]
 TIMING = [hashes, chain, board, crates, trees, workers, lanes, fronts, releases, launches, sizes]
 
 

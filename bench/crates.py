@@ -5,6 +5,7 @@ usage: bench/crates.py [RUNS]
 
 It builds bench/timed/main.rt.in in a copy of the crates, with the kit's rt, and prints the least times of some runs.
 """
+import hashlib
 import os
 import shutil
 import subprocess
@@ -14,21 +15,36 @@ import time
 
 top = os.path.dirname(os.path.dirname(os.path.abspath(__file__)))
 
-# The programs that were built in this run, by what they are built from, and the folder that has them until it ends.
-programs = {}
-room = tempfile.TemporaryDirectory()
+# The programs that were built, each with a sum of what it is built from in its name. Building them takes long.
+kept = os.path.join(top, "bench", "out")
 
 
 def built(name, uses, words, changes=(), flags=()):
-    """The program of that name in bench/, built with these libraries and run once with these words; it is built once in a run.
+    """The program of that name in bench/, built with these libraries and run once with these words; or the one that an earlier
+    run built from the same.
 
     Each change is a file of a crate, a text that it has once, and the text in its place."""
-    made_of = (name, uses, tuple(changes), tuple(flags))
-    if made_of not in programs:
-        programs[made_of] = os.path.join(room.name, f"{name}-{len(programs)}")
+    program = os.path.join(kept, f"{name}-{sum_of(name, uses, changes, flags)}")
+    if not os.path.exists(program):
+        os.makedirs(kept, exist_ok=True)
         with tempfile.TemporaryDirectory() as folder:
-            shutil.copy(build(folder, name, uses, words, changes, flags), programs[made_of])
-    return programs[made_of]
+            shutil.copy(build(folder, name, uses, words, changes, flags), program + ".new")
+        os.rename(program + ".new", program)
+    return program
+
+
+def sum_of(name, uses, changes, flags):
+    """A sum of all that a program is built from: the kit, its libraries, the changes and flags, and the sources."""
+    kit = subprocess.run(["rt", "version"], check=True, capture_output=True).stdout
+    found = hashlib.sha256(repr((kit, uses, list(changes), list(flags))).encode())
+    for folder in [os.path.join(top, "crates"), os.path.join(top, "bench", name)]:
+        for place, folders, files in os.walk(folder):
+            folders[:] = sorted(each for each in folders if each not in ("out", "must-fail"))
+            for file in sorted(files):
+                path = os.path.join(place, file)
+                with open(path, "rb") as text:
+                    found.update(repr((os.path.relpath(path, top), text.read())).encode())
+    return found.hexdigest()[:16]
 
 
 def build(folder, name, uses, words, changes, flags):

@@ -24,6 +24,10 @@ NO_FRONT = ("rim_chain/src/siblings.rt", "if last.links > 0 && later < heads.len
             "if last.links == usize::MAX && later < heads.len() {")
 
 
+# The program that counts calls what only rim_chain calls else.
+COUNTED = ("rim_chain/src/plan.rt", "pub(crate) fn parts_after(", "pub fn parts_after(")
+
+
 def image(folder, size):
     """A kernel's Image of that many bytes, which takes as many when it runs."""
     head = bytes(8) + (0).to_bytes(8, "little") + size.to_bytes(8, "little") + (0xA).to_bytes(8, "little") + bytes(24) + b"ARMd" + bytes(4)
@@ -57,7 +61,7 @@ def unlike(folder):
 
 
 def prepare():
-    counter = crates.built("fronts", "rim_release rim_manifest rim_desc rim_chain", [SMALL])
+    counter = crates.built("fronts", "rim_release rim_manifest rim_desc rim_chain", [SMALL], [COUNTED])
     return counter, [measuring(), measuring([NO_FRONT])]
 
 
