@@ -174,17 +174,27 @@ set-cases (x ∷ xs) (suc i) (suc j) y z at = elim (set-cases xs i j y z at) [
   | inr there ↦ inr there
 ]
 
--- where those of one launch are replaced by others, or by none
+-- what is seen of the marks where those of one launch are replaced by others, or by none
+pub marks-set : {X Y : Type 0} (f : X → Y) (marks new : List (Option X)) (n : ℕ) (put : Option X) → new ≡ set marks n put → map (option_map f) new ≡ set (map (option_map f) marks) n (option_map f put)
+marks-set f marks new n put is = ap (map (option_map f)) is ∙ map-set (option_map f) marks n put
+
+-- what is seen of the marks of one launch
+pub marks-at : {X Y : Type 0} (f : X → Y) (marks : List (Option X)) (n : ℕ) → option_map f (option_and_then (λ o. o) (slice_get marks n)) ≡ option_and_then (λ o. o) (slice_get (map (option_map f) marks) n)
+marks-at {X = X} f marks n = own (slice_get marks n) ∙ ap (option_and_then (λ o. o)) (sym (slice_get-map (option_map f) marks n))
+  where
+    own : (at : Option (Option X)) → option_map f (option_and_then (λ o. o) at) ≡ option_and_then (λ o. o) (option_map (option_map f) at)
+    own None = refl
+    own (Some None) = refl
+    own (Some (Some marks)) = refl
+
+-- so each launch still has its own
 pub shared-set : {X : Type 0} (f : X → List Mark) (t : TableView) (plans : List PlanView) (marks new : List (Option X)) (n : ℕ) (put : Option X) → new ≡ set marks n put
     → AreShared t plans (map (option_map f) marks) → ((p : PlanView) → slice_get plans n ≡ Some p → IfSome put (λ o. HaveOwnValues t p (f o))) → AreShared t plans (map (option_map f) new)
-shared-set {X = X} f t plans marks new n put is shared values = λ l p own plan at. elim (set-cases (map (option_map f) marks) n l (option_map f put) (Some own) (ap (λ (os : List (Option (List Mark))). slice_get os l) (sym views) ∙ at)) [
+shared-set {X = X} f t plans marks new n put is shared values = λ l p own plan at. elim (set-cases (map (option_map f) marks) n l (option_map f put) (Some own) (ap (λ (os : List (Option (List Mark))). slice_get os l) (sym (marks-set f marks new n put is)) ∙ at)) [
   | inl here ↦ subst (λ (o : Option (List Mark)). IfSome o (HaveOwnValues t p)) here.1 (if-mapped p put (values p (ap (slice_get plans) (sym here.0) ∙ plan)))
   | inr there ↦ shared l p own plan there
 ]
   where
-    views : map (option_map f) new ≡ set (map (option_map f) marks) n (option_map f put)
-    views = ap (map (option_map f)) is ∙ map-set (option_map f) marks n put
-
     if-mapped : (p : PlanView) (o : Option X) → IfSome o (λ x. HaveOwnValues t p (f x)) → IfSome (option_map f o) (HaveOwnValues t p)
     if-mapped p None h = h
     if-mapped p (Some x) h = h

@@ -1,5 +1,5 @@
 //! The fronts that launches of a run have in common, so that each is chained once.
-ghost use Rattle.std.specs.Prelude.{◌≡◌, ℕ, true, List, map, None, Some, IfOk, IfSome, slice_set, option_map};
+ghost use Rattle.std.specs.Prelude.{◌≡◌, ℕ, true, List, map, None, Some, IfOk, IfSome, slice_set, option_and_then, option_map};
 ghost use Rattle.std.specs.List.{Contains, slice_get};
 ghost use Rattle.page_jobs.specs.Table.{TableView};
 ghost use Rattle.rim_chain.specs.Links.{PlanView};
@@ -97,9 +97,11 @@ impl SharedFronts {
         Some(front)
     }
 
-    /// Takes the marks of a launch, for the job that chains it.
+    /// Takes the marks of a launch, for the job that chains it. `None` where they were taken before, or where there is
+    /// no such launch.
     pub fn take_marks(&mut self, number: usize) -> Option<Vec<Mark>>
         ensures marks { self.new ≡ slice_set self.old number None }
+        ensures taken { option_map (λ own. own.items) result ≡ option_and_then (λ o. o) (slice_get self.old number) }
         ensures shared { (t : TableView) (ps : List PlanView) → AreShared t ps self.old → AreShared t ps self.new }
     {
         replaced(&mut self.marks, number, None)
@@ -163,13 +165,14 @@ fn is_own(plans: &[LaunchPlan], earlier: usize, own: usize, links: usize) -> boo
     }
 }
 
-/// Puts marks in the place of those of a launch.
+/// Puts marks in the place of those of a launch, which it answers.
 fn replaced(
     marks: &mut Vec<Option<Vec<Mark>>>,
     number: usize,
     own: Option<Vec<Mark>>,
 ) -> Option<Vec<Mark>>
-    ensures { marks.new.items ≡ slice_set marks.old.items number own }
+    ensures new { marks.new.items ≡ slice_set marks.old.items number own }
+    ensures taken { result ≡ option_and_then (λ o. o) (slice_get marks.old.items number) }
 {
     if number >= marks.len() {
         return None;

@@ -1,4 +1,4 @@
--- The command line of `rim`, as this project chooses it, in the words of `clap`'s definition for simple
+-- The command line of `rim`, this project's choice, in the words of `clap`'s definition for simple
 -- commands; and what the words of a command line ask for.
 use Rattle.std.specs.Prelude.{◌≡◌, ◌≢◌, ◌≤◌, ◌⊎◌, ⊤, ℕ, Bool, true, false, not, ◌&&◌, pos, List, [], ◌∷◌, Option, Some, None, IfSome, codes, if◌then◌else◌, is_some}
 use Rattle.std.specs.List.{list_all}

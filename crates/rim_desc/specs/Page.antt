@@ -1,4 +1,5 @@
--- Pages and descriptors as the standard lists them: fields at offsets, over zero bytes.
+-- Pages and descriptors as DEN0137 lists its structures, RmiRealmParams and the measurement descriptors among them:
+-- fields at offsets, over zero bytes.
 use Rattle.std.specs.Prelude.{ℕ, ◌+◌, ◌&&◌, Bool, List, [], ◌∷◌, ◌++◌, length, take, drop, replicate, nat_le, nat_lt}
 use Rattle.std.specs.Int.{to_le_bytes, w64}
 use Rattle.std.specs.List.{list_all, list_any}

@@ -1,4 +1,4 @@
--- What a path is of which a part is still to walk.
+-- What a path is of which a part is still to walk. This project's choice.
 use Rattle.std.specs.Prelude.{ℕ, ◌+◌, List, [], length, Option, Some, None}
 use Rattle.std.specs.Borrow.{Bor}
 use Rattle.fdt_tree.specs.Lookup.{between_slashes}

@@ -1,4 +1,4 @@
--- The bytes of a number in cells.
+-- The bytes of a number in one cell or two: Devicetree Specification 0.4, sections 2.2.4 and 2.3.5.
 use Rattle.std.specs.Prelude.{ℕ, List}
 use Rattle.std.specs.Int.{w32, w64, to_be_bytes}
 use Rattle.fdt_tree.specs.declared.edits.memory.Cells.{Cells}

@@ -1,4 +1,4 @@
--- What one scan of a strings block finds out, so that each name is then found in one step.
+-- What one scan of a strings block finds out, so that each name is then found in one step. This project's choice.
 use Rattle.std.specs.Prelude.{ℕ, suc, List, [], ◌∷◌, nat_lt, ◌==◌, if◌then◌else◌}
 use Rattle.fdt_tree.specs.Names.{is_name_character}
 

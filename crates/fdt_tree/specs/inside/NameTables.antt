@@ -1,4 +1,4 @@
--- What the table of names keeps, and when bytes are too many.
+-- What the table of names keeps, and when bytes are too many. This project's choice.
 use Rattle.std.specs.Prelude.{◌≡◌, ◌⊎◌, ℕ, ◌<◌, List, take, drop, Option, Some, None, if◌then◌else◌}
 use Rattle.std.specs.Ordering.{nat_cmp}
 use Rattle.std.specs.Cmp.Lexicographic.{slice_cmp}

@@ -1,4 +1,4 @@
--- What the reader holds between two tokens: the nodes that are open.
+-- What the reader holds between two tokens: the nodes that are open. This project's choice.
 use Rattle.std.specs.Prelude.{ℕ, List, [], ◌∷◌, ◌++◌, length, map, Bool, true, false}
 use Rattle.fdt_tree.specs.declared.reading.place.Place.{Place}
 use Rattle.fdt_tree.specs.declared.reading.structure.OpenNodes.{OpenNodes}

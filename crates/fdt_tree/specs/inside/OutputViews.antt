@@ -1,4 +1,4 @@
--- What has been written of a tree, and how long it is.
+-- What has been written of a tree, and how long it is. This project's choice.
 use Rattle.std.specs.Prelude.{◌≡◌, ℕ, ◌+◌, ◌≤◌, List, ◌++◌, length, map}
 use Rattle.fdt_tree.specs.declared.node.Property.{Property}
 use Rattle.fdt_tree.specs.declared.node.Node.{Node}

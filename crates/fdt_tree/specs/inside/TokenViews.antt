@@ -1,4 +1,4 @@
--- Which token a token in memory is, given the strings block.
+-- Which token a token in memory is, given the strings block. This project's choice.
 use Rattle.std.specs.Prelude.{◌≡◌, ℕ, ◌<◌, List, take, drop, false}
 use Rattle.fdt_tree.specs.declared.reading.lexing.Token.{Token as Read}
 use Rattle.fdt_tree.specs.declared.reading.lexing.Token.TheVariants.{Begin, Property, EndNode, Nop, Finish}

@@ -1,4 +1,4 @@
--- What the program's edits are.
+-- What the program's edits are. This project's choice.
 use Rattle.std.specs.Prelude.{option_map}
 use Rattle.ipa_layout.specs.declared.dtb_edit.DtbEdits.{DtbEdits}
 use Rattle.ipa_layout.specs.DtbEdit.{EditData}

@@ -1,4 +1,4 @@
--- What the program's values stand for while it places a launch.
+-- What the program's values are in the model while it places a launch. This project's choice.
 use Rattle.std.specs.Prelude.{ℕ, List, map, Option, Some, None, Result, Ok, Err}
 use Rattle.std.specs.Global.{Global}
 use Rattle.std.specs.declared.vec.Vec.{Vec}

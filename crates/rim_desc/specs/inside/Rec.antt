@@ -1,4 +1,4 @@
--- What the fields of a REC's parameters keep.
+-- What the fields of a REC's parameters keep. This project's choice.
 use Rattle.std.specs.Prelude.{◌≡◌, ◌-◌, ◌≤◌, ◌++◌, length, take, drop, replicate, refl}
 use Rattle.std.proofs.Common.{arith, sym, ◌∙◌, ap}
 use Rattle.std.proofs.lemmas.List.{length-take-le, take-append-drop}

@@ -1,4 +1,4 @@
--- What the program keeps while it tests steps.
+-- What the program keeps while it tests steps. This project's choice.
 use Rattle.std.specs.Prelude.{◌≡◌, ℕ, ◌<◌, List, length, Bool, false, slice_index_or, if◌then◌else◌}
 use Rattle.rim_launch.specs.declared.step.Step.{Step}
 use Rattle.rim_launch.specs.declared.conditions.StepTarget.{StepTarget}

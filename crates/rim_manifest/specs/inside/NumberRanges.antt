@@ -1,4 +1,4 @@
--- What is read is in its range, whatever value its key has.
+-- What is read is in its range, whatever value its key has. This project's choice.
 use Rattle.std.specs.Prelude.{◌≡◌, ℕ, ◌%◌, ◌^◌, ◌≤◌, ◌<◌, Bool, true, false, ◌&&◌, pos, nat_le, Option, Some, if◌then◌else◌, refl}
 use Rattle.std.proofs.lemmas.Bool.{and_parts, eqb-true, leb-true, ltb-true}
 use lib.Pow.{lt_of_le_ones}

@@ -1,4 +1,4 @@
--- What the type of a command keeps: each number fits in its bits, and a REC has eight registers.
+-- What the type of a command keeps: each number fits in its bits, and a REC has eight registers. This project's choice.
 use Rattle.std.specs.Prelude.{◌≡◌, ℕ, ◌^◌, ◌<◌, List, [], ◌∷◌, Option, Some, None, length}
 use Rattle.std.specs.List.{All}
 use Rattle.rim_desc.specs.declared.command.Command.{Command}

@@ -1,4 +1,4 @@
--- A line word by word, as it grows.
+-- A line word by word, as it grows. This project's choice.
 use Rattle.std.specs.Prelude.{ℕ, List, ◌++◌, codes}
 
 -- a word with the space before it

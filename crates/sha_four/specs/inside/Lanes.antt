@@ -1,4 +1,5 @@
--- Four messages side by side. Each word of the computation is a vector, in which each message has a lane.
+-- Four messages side by side. Each word of the computation is a vector, in which each message has a lane. This
+-- project's choice.
 use Rattle.std.specs.Prelude.{◌≡◌, ℕ, ◌<◌, List, [], ◌∷◌, length, map, slice_index, slice_index_or}
 
 -- a vector of four lanes, of which lane j is f j
