@@ -1,6 +1,6 @@
 //! Reading a whole file.
 
-ghost use Rattle.std.specs.Prelude.{◌≡◌, [], List, ℕ, Ok, Err, IfOk, IfErr, length};
+ghost use Rattle.std.specs.Prelude.{◌≡◌, [], Ok, IfOk, IfErr};
 ghost use Rattle.fdt_tree.specs.Devicetree.{Devicetree};
 ghost use Rattle.refusal.specs.Answer.{Answers};
 ghost use Rattle.fdt_tree.specs.NodeViews.{branch};

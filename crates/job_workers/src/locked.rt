@@ -4,7 +4,7 @@ ghost use Rattle.job_board.specs.declared.job.Event.{Event};
 ghost use Rattle.job_board.specs.declared.job.JobId.{JobId};
 ghost use Rattle.job_board.specs.Board.{Adds, AreValuesOf, CanPutLaunch, CanPutPage, IsBoard};
 ghost use Rattle.job_board.specs.Gives.{Gives};
-ghost use Rattle.job_board.specs.Jobs.{is_out, is_over};
+ghost use Rattle.job_board.specs.Jobs.{is_over};
 ghost use Rattle.job_workers.specs.Run.{IsOfRun, Puts};
 ghost use Rattle.page_jobs.specs.Page.{page_view};
 

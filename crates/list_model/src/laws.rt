@@ -5,7 +5,6 @@ ghost use Rattle.rim_desc.specs.Measurement.{measurement_of};
 ghost use Rattle.rim_desc.specs.Part.{Realm, Rec};
 ghost use Rattle.rim_desc.specs.Realm.{realm_page_of};
 ghost use Rattle.rim_desc.specs.Rec.{RecData, rec_page_of};
-ghost use Rattle.rmm_model.specs.Blocks.{granules};
 ghost use Rattle.rmm_model.specs.Checks.{is_bad_realm};
 ghost use Rattle.rmm_model.specs.Space.{SameTables};
 ghost use Rattle.rmm_model.specs.State.{State, empty_state};

@@ -1,8 +1,7 @@
 //! The work of hashing a page, and what it gives.
-ghost use Rattle.std.specs.Prelude.{◌≡◌, ◌↔◌, IsTrue, length};
+ghost use Rattle.std.specs.Prelude.{◌≡◌, ◌↔◌, IsTrue};
 ghost use Rattle.sha2.specs.Sha256.{sha256};
-ghost use Rattle.rim_desc.specs.Measurement.{measurement_of};
-ghost use Rattle.page_jobs.specs.Page.{contents_of, digest_of, page_view};
+ghost use Rattle.page_jobs.specs.Page.{digest_of, page_view};
 ghost use Rattle.page_jobs.specs.inside.Lanes.{FillsLane};
 
 use crate::page::Page;

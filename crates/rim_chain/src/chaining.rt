@@ -1,6 +1,5 @@
 //! Measurements extended link by link.
 ghost use Rattle.std.specs.Prelude.{◌≡◌, ◌+◌, ◌*◌, ◌^◌, ◌<◌, ◌≤◌, List, length, map, IfSome, None};
-ghost use Rattle.rim_desc.specs.Measurement.{measurement_of};
 ghost use Rattle.rim_desc.specs.Part.{Data, extended_by};
 ghost use Rattle.rim_desc.specs.declared.measurement.Measurement.{Measurement};
 ghost use Rattle.rmm_model.specs.Blocks.{granules, stretches};

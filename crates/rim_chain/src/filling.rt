@@ -1,5 +1,5 @@
 //! Rows of the digests of a launch's pages.
-ghost use Rattle.std.specs.Prelude.{◌≡◌, ◌+◌, ◌^◌, ◌<◌, ◌≤◌, [], length, map, true, false, None, Some, IsTrue, ◌↔◌, option_map};
+ghost use Rattle.std.specs.Prelude.{◌≡◌, ◌+◌, ◌^◌, ◌<◌, ◌≤◌, [], length, map, true, false, Some, IsTrue, ◌↔◌, option_map};
 ghost use Rattle.std.specs.List.{range_with_len};
 ghost use Rattle.page_jobs.specs.Table.{digest_at};
 ghost use Rattle.rim_chain.specs.Links.{key_after, keys_in, keys_of, page_count};

@@ -1,5 +1,5 @@
 //! Laws of chains, proved of the definitions.
-ghost use Rattle.std.specs.Prelude.{◌≡◌, ◌++◌, ℕ, true, List, length, map, take, drop, Ok, Some};
+ghost use Rattle.std.specs.Prelude.{◌≡◌, ◌++◌, ℕ, List, length, map, take, drop, Ok, Some};
 ghost use Rattle.std.specs.List.{All};
 ghost use Rattle.rim_desc.specs.Part.{extended_by};
 ghost use Rattle.rim_desc.specs.declared.measurement.Algo.{Algo};

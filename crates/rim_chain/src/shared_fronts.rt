@@ -1,5 +1,5 @@
 //! The fronts that launches of a run have in common, so that each is chained once.
-ghost use Rattle.std.specs.Prelude.{◌≡◌, ℕ, true, List, map, None, Some, IfOk, IfSome, slice_set, option_and_then, option_map};
+ghost use Rattle.std.specs.Prelude.{◌≡◌, true, List, map, None, Some, IfOk, IfSome, slice_set, option_and_then, option_map};
 ghost use Rattle.std.specs.List.{Contains, slice_get};
 ghost use Rattle.page_jobs.specs.Table.{TableView};
 ghost use Rattle.rim_chain.specs.Links.{PlanView};

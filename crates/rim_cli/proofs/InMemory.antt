@@ -1,5 +1,5 @@
 -- A run of `rim measure manifest.toml` over a manifest in memory.
-use Rattle.std.proofs.Common.{◌≡◌, ℕ, zero, suc, ◌≤◌, Bool, true, false, List, [], ◌∷◌, Some, None, refl, ap, ◌∙◌, subst, sym, arith}
+use Rattle.std.proofs.Common.{◌≡◌, ℕ, zero, suc, ◌≤◌, Bool, true, List, [], ◌∷◌, Some, None, refl, ap, ◌∙◌, subst, sym, arith}
 use Rattle.std.specs.Prelude.{Result, Ok, Err, IsOkAnd, codes, if◌then◌else◌}
 use Rattle.std.specs.Str.{bytes_eq}
 use Rattle.std.proofs.lemmas.Option.{same_Some}

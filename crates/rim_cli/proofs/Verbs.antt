@@ -1,5 +1,5 @@
 -- The subcommand that a request is of.
-use Rattle.std.proofs.Common.{◌≡◌, Bool, true, false, List, ℕ, Some, None, Option, refl, ◌∙◌, sym}
+use Rattle.std.proofs.Common.{◌≡◌, true, false, List, ℕ, Some, None, Option, refl, ◌∙◌, sym}
 use Rattle.std.specs.Prelude.{codes}
 use Rattle.std.specs.Str.{bytes_eq}
 use Rattle.std.proofs.lemmas.Slice.Eq.{bytes_eq-Decides}

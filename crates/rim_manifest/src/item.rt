@@ -3,7 +3,7 @@ ghost use Rattle.std.specs.Prelude.{◌≡◌, IfOk, map};
 ghost use Rattle.toml.specs.Data.{get};
 ghost use Rattle.toml.specs.View.{view};
 ghost use Rattle.rim_manifest.specs.Items.{bootargs_in, edits_of, item_of, kind_of, size_in};
-ghost use Rattle.rim_manifest.specs.Names.{file_at, role_at};
+ghost use Rattle.rim_manifest.specs.Names.{role_at};
 
 use crate::names::{file_number, role};
 use crate::value::{field, number, truth};

@@ -1,10 +1,8 @@
 //! What names what: the names of files, launches and items, and the kinds of items.
-ghost use Rattle.std.specs.Prelude.{◌≡◌, codes, map, not, position};
+ghost use Rattle.std.specs.Prelude.{◌≡◌, map, not, position};
 ghost use Rattle.std.specs.List.{list_any};
-ghost use Rattle.toml.specs.Data.{get};
 ghost use Rattle.toml.specs.View.{view};
 ghost use Rattle.rim_manifest.specs.Names.{asks_for, file_at, has_asked, has_file, is_at_role, is_named, kinds_once, lacks_file, name_of, repeats, role_at, role_count, role_of_word, share_names};
-ghost use Rattle.rim_manifest.specs.Values.{text_in};
 
 use crate::value::{array, text, truth};
 use rim_launch::Role;

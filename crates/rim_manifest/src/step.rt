@@ -1,8 +1,7 @@
 //! Reading steps.
-ghost use Rattle.std.specs.Prelude.{◌≡◌, ◌==◌, ◌||◌, not, codes, length, map, option_map, slice_index, IfOk};
+ghost use Rattle.std.specs.Prelude.{◌≡◌, ◌==◌, ◌||◌, codes, length, map, option_map, IfOk};
 ghost use Rattle.toml.specs.Data.{get};
 ghost use Rattle.toml.specs.View.{view};
-ghost use Rattle.rim_manifest.specs.Names.{is_named};
 ghost use Rattle.rim_manifest.specs.StepTexts.{decimal_number, part_count, is_decimal, is_miscounted, item_number, step_in, step_of, steps_in};
 ghost use Rattle.rim_manifest.specs.Values.{array_at};
 ghost use Rattle.rim_manifest.specs.Words.{after};

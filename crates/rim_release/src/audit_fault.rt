@@ -73,7 +73,7 @@ impl<T: Drop> From<AllocFailed<T>> for AuditFault {
 }
 
 impl AuditFault {
-    ghost use Rattle.std.specs.Prelude.{◌≡◌, ◌≢◌, IfOk, IsErr, OnErr};
+    ghost use Rattle.std.specs.Prelude.{◌≡◌, ◌≢◌, IfOk, OnErr};
 
     /// The fault's word, as a report prints it.
     pub fn kind(&self) -> &'static str

@@ -13,7 +13,7 @@ use page_jobs::{DigestRow, Table};
 use refusal::NoMemory;
 use rim_chain::{Front, LaunchPlan, SharedFronts, chain_from, first_fronts};
 use rim_desc::Measurement;
-use std::alloc::{AllocError, Global};
+use std::alloc::Global;
 
 /// The Realm Initial Measurements of launches by their plans, where a table has the digests of all their pages.
 pub fn chains(

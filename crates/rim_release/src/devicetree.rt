@@ -1,6 +1,6 @@
 //! The devicetree of a launch as it is placed.
 ghost use Rattle.std.specs.Prelude.{◌≡◌, ◌<◌, length, option_map, vec_len, true, IfOk, IfSome};
-ghost use Rattle.std.specs.List.{position_from, slice_get};
+ghost use Rattle.std.specs.List.{slice_get};
 ghost use Rattle.refusal.specs.Answer.{Answers};
 ghost use Rattle.rim_launch.specs.Kinds.{has_role};
 ghost use Rattle.rim_launch.specs.LaunchData.{has_files};

@@ -1,10 +1,10 @@
 //! The different measured pages of a release.
 ghost use Rattle.std.specs.Prelude.{◌≡◌, ◌++◌, ◌≤◌, None, Some, IfOk, OnOk, Ok, Err, Result, length, map, nat_lt, option_map, sum_by, if◌then◌else◌};
-ghost use Rattle.std.specs.List.{All, filter_map, flat_map, range_with_len, slice_get};
+ghost use Rattle.std.specs.List.{All, flat_map, slice_get};
 ghost use Rattle.refusal.specs.Answer.{Answers};
 ghost use Rattle.ipa_layout.specs.inside.LayoutViews.{contents};
 ghost use Rattle.page_jobs.specs.Page.{page_named, page_view};
-ghost use Rattle.page_jobs.specs.Ranges.{keys_before, range_keys};
+ghost use Rattle.page_jobs.specs.Ranges.{range_keys};
 ghost use Rattle.rim_release.specs.Plans.{places_of};
 ghost use Rattle.rim_release.specs.Pages.{edited_at, source_bytes};
 ghost use Rattle.rim_release.specs.inside.Ends.{ends_of, item_ends, launch_ends, step_ends};

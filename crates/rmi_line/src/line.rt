@@ -1,5 +1,5 @@
 //! The line of a command.
-ghost use Rattle.std.specs.Prelude.{◌≡◌, ◌++◌, IfOk, OnOk, codes};
+ghost use Rattle.std.specs.Prelude.{◌≡◌, ◌++◌, IfOk, OnOk};
 ghost use Rattle.std.specs.List.{flat_map};
 ghost use Rattle.rim_desc.specs.declared.command.Command.TheVariants.{DataCreate, Delegate, InitRipas, RealmCreate, RecCreate, RttCreate};
 ghost use Rattle.rmi_line.specs.Line.{algo_word, content_words, line_of};

@@ -1,11 +1,11 @@
 //! A list that is being made.
-ghost use Rattle.std.specs.Prelude.{◌≡◌, ◌+◌, ◌*◌, ◌<◌, ◌≤◌, ◌^◌, [], ◌∷◌, ◌++◌, Bool, false, IfOk, OnOk, Some, None, if◌then◌else◌};
+ghost use Rattle.std.specs.Prelude.{◌≡◌, ◌+◌, ◌*◌, ◌<◌, ◌≤◌, ◌^◌, [], ◌∷◌, ◌++◌, false, IfOk, Some, None, if◌then◌else◌};
 ghost use Rattle.rim_desc.specs.declared.command.Command.TheVariants.{Delegate, RttCreate, InitRipas};
 ghost use Rattle.rmm_model.specs.Blocks.{granules};
 ghost use Rattle.list_model.specs.Entries.{Whole, delegate_all, delegated, delegates, granule, page_entry};
 ghost use Rattle.list_model.specs.inside.Acts.{act_entries, entries_of_act, entries_of_pages, pages_in};
 ghost use Rattle.rmi_list.specs.inside.Acts.{HasRoom, HaveRoom, item_of};
-ghost use Rattle.rmi_list.specs.inside.Drafts.{Grows, Lists, entries_in, entry_in};
+ghost use Rattle.rmi_list.specs.inside.Drafts.{Lists, entry_in};
 
 use crate::fault::ListFault;
 use crate::kept::Kept;

@@ -2,10 +2,9 @@
 ghost use Rattle.std.specs.Prelude.{◌≡◌, ◌∷◌, ◌<◌, ◌≤◌, ◌^◌, ◌&&◌, ◌/◌, ◌==◌};
 ghost use Rattle.rmm_model.specs.Blocks.{span};
 ghost use Rattle.rtt_plan.specs.Entries.{block_level};
-ghost use Rattle.rtt_plan.specs.Places.{AtEntry, IsRegion};
 
 use crate::block::block_level;
-use rmm_model::size::{size_of_level, span_of_level};
+use rmm_model::size::span_of_level;
 
 /// Neighbouring entries of one level in one table, from `base` up to `top`, in bytes of IPA space.
 #[derive(Clone, Copy, Debug, PartialEq, Eq)]

@@ -1,7 +1,6 @@
 //! Reading the header of a flattened devicetree.
 
 ghost use Rattle.std.specs.Prelude.{◌≡◌, ◌+◌, ◌≤◌, length, nat_le, IfOk};
-ghost use Rattle.refusal.specs.Answer.{Matches};
 ghost use Rattle.fdt_tree.specs.Blocks.{BlocksFit, blocks_fit, header_at, header_of, header_size, is_known_version, reserve_block, strings_block, structure_block, word_at};
 
 use crate::fault::FdtFault;

@@ -1,8 +1,8 @@
 //! Reading one token of the structure block.
 
-ghost use Rattle.std.specs.Prelude.{◌≡◌, ◌<◌, ◌≤◌, ℕ, List, length, IfOk, IfSome};
+ghost use Rattle.std.specs.Prelude.{◌≡◌, ◌<◌, ◌≤◌, List, length, IfOk, IfSome};
 ghost use Rattle.fdt_tree.specs.Devicetree.{begin_node};
-ghost use Rattle.fdt_tree.specs.Names.{legal, all_name_characters};
+ghost use Rattle.fdt_tree.specs.Names.{legal};
 ghost use Rattle.refusal.specs.Answer.{Matches};
 ghost use Rattle.fdt_tree.specs.inside.TokenViews.{as_token, FitsPlace};
 ghost use Rattle.fdt_tree.specs.Scanning.{number_at, padded_at, string_at, until_zero, begin_at, property_at, kind_at, token_at};

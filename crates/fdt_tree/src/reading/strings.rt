@@ -2,7 +2,7 @@
 
 ghost use Rattle.std.specs.Prelude.{◌≡◌, length, take, drop, IfOk};
 ghost use Rattle.fdt_tree.specs.Names.{is_name_character};
-ghost use Rattle.fdt_tree.specs.inside.NameRuns.{name_run, name_runs, zero_end};
+ghost use Rattle.fdt_tree.specs.inside.NameRuns.{name_runs, zero_end};
 ghost use Rattle.fdt_tree.specs.Scanning.{name_at};
 ghost use Rattle.refusal.specs.Answer.{Matches};
 

@@ -1,5 +1,5 @@
 -- What contracts see of a plan, and what its type keeps. This project's choice.
-use Rattle.std.specs.Prelude.{ℕ, ◌<◌, ◌≤◌, ◌^◌, List, length}
+use Rattle.std.specs.Prelude.{◌<◌, ◌≤◌, ◌^◌, List, length}
 use Rattle.list_model.specs.Entries.{Entry}
 use Rattle.rmi_list.specs.declared.plan.Plan.TheInside.{Inside}
 use Rattle.rmi_list.specs.inside.Kept.{entries_of}

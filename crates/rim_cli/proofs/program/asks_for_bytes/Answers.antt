@@ -1,4 +1,4 @@
-use Rattle.std.proofs.Common.{map, sym, ◌∙◌}
+use Rattle.std.proofs.Common.{sym, ◌∙◌}
 use Rattle.rim_cli.proofs.Verbs.{each_for_bytes}
 use Rattle.rim_cli.proofs.program.asks_for_bytes.Goals as goal
 

@@ -1,8 +1,5 @@
 use Rattle.std.proofs.Common.{◌≡◌, ◌∙◌, ◌++◌, ℕ, Global, List, Vec, ap, codes, map}
-use Rattle.serde_json.specs.Data.{Data}
-use Rattle.serde_json.specs.View.{view}
 use Rattle.serde_json.specs.Written.{compact_text, has_float}
-use Rattle.rim_release.specs.Json.{json_with, launches_json, report_data}
 use Rattle.rim_release.specs.Report.{seen}
 use Rattle.rim_release.proofs.JsonValues.{no-float}
 use Rattle.rim_release.proofs.json.json_report.Goals as goal

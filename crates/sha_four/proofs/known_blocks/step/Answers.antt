@@ -1,4 +1,4 @@
-use Rattle.std.proofs.Common.{ℕ, slice_index, ap, ◌∙◌}
+use Rattle.std.proofs.Common.{slice_index, ap, ◌∙◌}
 use Rattle.sha2.specs.Sha256.{round, round_constants, schedule}
 use Rattle.known_tail.proofs.KnownBlocks.{round_known, rounds_known, sum_at}
 use Rattle.sha_four.specs.inside.Lanes.{lane}

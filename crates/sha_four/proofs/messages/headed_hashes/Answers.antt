@@ -3,7 +3,7 @@ use Rattle.std.proofs.lemmas.List.{take_all}
 use Rattle.sha2.specs.Sha256.{compress, first_words, initial_hash_256, padding, schedule}
 use Rattle.known_tail.proofs.KnownBlocks.{zeros_sums}
 use Rattle.known_tail.proofs.Messages.{hash_headed}
-use Rattle.sha_four.specs.inside.Lanes.{lane, message}
+use Rattle.sha_four.specs.inside.Lanes.{message}
 use Rattle.sha_four.proofs.FourMessages.{length-message}
 use Rattle.sha_four.proofs.messages.headed_hashes.Goals as goal
 
