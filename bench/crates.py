@@ -39,7 +39,7 @@ def sum_of(name, uses, changes, flags):
     found = hashlib.sha256(repr((kit, uses, list(changes), list(flags))).encode())
     for folder in [os.path.join(top, "crates"), os.path.join(top, "bench", name)]:
         for place, folders, files in os.walk(folder):
-            folders[:] = sorted(each for each in folders if each not in ("out", "must-fail"))
+            folders[:] = sorted(each for each in folders if each not in ("out", "must-fail", "edits"))
             for file in sorted(files):
                 path = os.path.join(place, file)
                 with open(path, "rb") as text:
