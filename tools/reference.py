@@ -6,8 +6,11 @@ It shares no code with rim, is slow, and finds hardly any faults: it is for mani
 refused by `size`, `overlap` or `outside-ram`. Tests take their expected values from it.
 
 usage: reference.py MANIFEST [LAUNCH [dtb]]
+
+tests/run.py imports it.
 """
 import hashlib
+import os
 import struct
 import sys
 import tomllib
@@ -244,6 +247,10 @@ def edited(item, launch, files):
     return write_devicetree(root, boot, reservations)
 
 
+def in_one_region(launch, page):
+    return any(base <= page and page + PAGE <= top for base, top in launch.get("ram", []))
+
+
 def place(launch, files):
     placed, extents = [], []
     for item in launch.get("item", []):
@@ -259,7 +266,7 @@ def place(launch, files):
         end = at + max(size, length if item["kind"] == "kernel" else 0)
         low, high = at // PAGE * PAGE, -(-end // PAGE) * PAGE
         if end > at:
-            if not any(base <= low and high <= top for base, top in launch.get("ram", [])):
+            if not all(in_one_region(launch, page) for page in range(low, high, PAGE)):
                 raise Refused("outside-ram")
             extents.append((low, high))
         pages = (-(-(at + size) // PAGE) - at // PAGE) if size else 0
@@ -321,13 +328,19 @@ def measure(launch, files, seen):
     return digits, listing.lines
 
 
-def main():
-    with open(sys.argv[1], "rb") as file:
+def read_manifest(path, folder="."):
+    """A manifest, and its files by their names. All paths are those of a program that is started in the folder."""
+    with open(os.path.join(folder, path), "rb") as file:
         manifest = tomllib.load(file)
     files = {}
     for entry in manifest.get("file", []):
-        with open(entry["path"], "rb") as file:
+        with open(os.path.join(folder, entry["path"]), "rb") as file:
             files[entry["name"]] = file.read()
+    return manifest, files
+
+
+def main():
+    manifest, files = read_manifest(sys.argv[1])
     if len(sys.argv) > 2:
         launch = next(launch for launch in manifest["launch"] if launch["name"] == sys.argv[2])
         if len(sys.argv) > 3:
@@ -351,4 +364,5 @@ def main():
     print("pages", len(pages))
 
 
-main()
+if __name__ == "__main__":
+    main()

@@ -1,11 +1,9 @@
 //! Files, readers and writers for the runs of the tests.
 use rim_cli::{FreeGate, Opener, run};
-use std::alloc::Global;
 use std::io;
 use std::io::{ErrorKind, Read, Write};
 use std::process::Abort;
 use std::sync::Wait;
-use std::test::Fail;
 use std::thread::Threads;
 
 pub const SMALLEST: &[u8] =
@@ -16,19 +14,15 @@ small sha256 bf97de388b1abb45577017aa8a9a8d1f160889b11df8e5803e2bf9d8a33e788c
 pages 0
 ";
 
-/// One file, `manifest.toml`.
+/// One file of these bytes, at every path.
 #[derive(Drop)]
 pub struct OneFile(pub &'static [u8]);
 
 impl Opener for OneFile {
     type Reader = &'static [u8];
 
-    fn open(&mut self, path: &str) -> Option<&'static [u8]> {
-        if path == "manifest.toml" {
-            Some(self.0)
-        } else {
-            None
-        }
+    fn open(&mut self, _path: &str) -> Option<&'static [u8]> {
+        Some(self.0)
     }
 }
 
@@ -40,85 +34,24 @@ pub struct Ran {
     pub err: Vec<u8>,
 }
 
-/// Runs the program on some words, where `manifest.toml` has these bytes.
-pub fn ran_on(
+/// A run on some words over some files.
+pub fn run_on<O: Opener>(
     rt: &(impl AllocGlobal + Threads + Wait + Sync),
     words: &[&str],
-    manifest: &'static [u8],
+    files: &mut O,
 ) -> Ran {
     let alloc = rt.alloc();
     let mut out = Vec::new(alloc);
     let mut err = Vec::new(alloc);
-    let status = run(
-        rt,
-        alloc,
-        &mut FreeGate,
-        words,
-        &mut OneFile(manifest),
-        &mut out,
-        &mut err,
-    );
+    let status = run(rt, alloc, &mut FreeGate, words, files, &mut out, &mut err);
     Ran { status, out, err }
 }
 
 /// A run ended with this status, and wrote this to standard output and this to standard error. The tests
 /// compare here alone, because each comparison is proved.
 pub fn check(rt: &(impl Abort + AllocGlobal), ran: &Ran, status: u8, out: &[u8], err: &[u8]) {
-    assert_eq!(rt; ran.status, status);
-    assert_eq!(rt; ran.out.as_slice(), out);
-    assert_eq!(rt; ran.err.as_slice(), err);
-}
-
-/// The same of one of many runs, which has a name.
-pub fn check_named(
-    rt: &(impl Abort + AllocGlobal),
-    name: &str,
-    ran: &Ran,
-    status: u8,
-    out: &[u8],
-    err: &[u8],
-) {
-    assert_eq!(rt; ran.out.as_slice(), out, "{name}");
-    assert_eq!(rt; ran.err.as_slice(), err, "{name}");
-    assert_eq!(rt; ran.status, status, "{name}");
-}
-
-/// The manifest and files by their paths.
-#[derive(Drop)]
-pub struct Folder<'a> {
-    pub manifest: &'a [u8],
-    pub files: &'a [(&'static str, &'a [u8])],
-}
-
-impl<'a> Opener for Folder<'a> {
-    type Reader = &'a [u8];
-
-    fn open(&mut self, path: &str) -> Option<&'a [u8]> {
-        if path == "manifest.toml" {
-            return Some(self.manifest);
-        }
-        let found = self.files.iter().find(|(name, _)| *name == path);
-        found.map(|(_, bytes)| *bytes)
-    }
-}
-
-/// A run of `measure manifest.toml` over some files.
-pub fn measured<O: Opener>(rt: &(impl AllocGlobal + Threads + Wait + Sync), files: &mut O) -> Ran {
-    ran_over(rt, "measure", files)
-}
-
-/// A run of a subcommand on `manifest.toml` over some files.
-pub fn ran_over<O: Opener>(
-    rt: &(impl AllocGlobal + Threads + Wait + Sync),
-    subcommand: &str,
-    files: &mut O,
-) -> Ran {
-    let alloc = rt.alloc();
-    let words = ["rim", subcommand, "manifest.toml"];
-    let mut out = Vec::new(alloc);
-    let mut err = Vec::new(alloc);
-    let status = run(rt, alloc, &mut FreeGate, &words, files, &mut out, &mut err);
-    Ran { status, out, err }
+    let found = (ran.status, ran.out.as_slice(), ran.err.as_slice());
+    assert_eq!(rt; found, (status, out, err));
 }
 
 /// A reader that gives 100 bytes of zeros a read, and fails at one of its reads.
@@ -207,18 +140,6 @@ impl Opener for MemorylessFiles {
     }
 }
 
-/// A reader without an end.
-#[derive(Drop)]
-pub struct EndlessFiles;
-
-impl Opener for EndlessFiles {
-    type Reader = io::Repeat;
-
-    fn open(&mut self, _path: &str) -> Option<io::Repeat> {
-        Some(io::repeat(b'#'))
-    }
-}
-
 /// A writer that takes 10 bytes a write, and fails at one of its writes.
 #[derive(Drop)]
 pub struct FailingWriter {
@@ -251,9 +172,4 @@ impl Write for FailingFlush {
     fn flush(&mut self) -> io::Result<()> {
         Err(io::Error::from(ErrorKind::BrokenPipe))
     }
-}
-
-/// Whether some text begins as it should.
-pub fn begins(text: &[u8], start: &str) -> bool {
-    text.starts_with(start.as_bytes())
 }

@@ -1,8 +1,8 @@
 //! Reports made by workers: each is that of one thread, whoever does which job.
-use super::fakes::{Folder, SMALLEST};
-use rim_cli::run;
+use super::fakes::SMALLEST;
+use rim_cli::{Opener, run};
 use rim_release::{
-    FreeGate, Gate, JobId, Release, StartFault, audit_launches, measure_alone, measure_release,
+    FreeGate, Gate, JobId, Outcome, StartFault, audit_report, measure_alone, measure_release,
     read_manifest,
 };
 use std::alloc::Global;
@@ -70,6 +70,23 @@ impl Hold {
             in_vain: AtomicU64::new(0),
         }
     }
+
+    /// How many calls there were before jobs and after jobs, and how often the first job was held in vain.
+    fn calls(&self) -> (u64, u64, u64) {
+        (
+            self.begun.load(Ordering::SeqCst),
+            self.ended.load(Ordering::SeqCst),
+            self.in_vain.load(Ordering::SeqCst),
+        )
+    }
+
+    /// How many pages worker 0 has put, and how many the others.
+    fn pages(&self) -> (u64, u64) {
+        (
+            self.first.load(Ordering::SeqCst),
+            self.others.load(Ordering::SeqCst),
+        )
+    }
 }
 
 impl Gate for Hold {
@@ -100,35 +117,67 @@ impl Gate for Hold {
     }
 }
 
-/// A release, and its one file.
-fn release(alloc: Global, manifest: &[u8]) -> Result<(Release, Vec<Vec<u8>>), Fail> {
+/// The run of this many workers on a manifest, all of whose files are the same.
+fn measured<G: Gate + Sync>(
+    rt: &(impl AllocGlobal + Threads + Wait + Sync),
+    gate: &mut G,
+    manifest: &[u8],
+    workers: usize,
+) -> Result<Outcome, Fail> {
+    let alloc = rt.alloc();
     let release = read_manifest(alloc, manifest)?;
-    let mut bytes = Vec::new(alloc);
-    bytes.extend_from_slice(&NINES)?;
-    let mut files = Vec::new(alloc);
-    files.push(bytes)?;
-    Ok((release, files))
+    let files = vec![in alloc; NINES.to_vec(alloc)?; release.file_count()]?;
+    Ok(measure_release(rt, alloc, gate, &release, &files, workers)?)
+}
+
+/// The report of the same manifest by one thread.
+fn alone(alloc: Global, manifest: &[u8]) -> Result<Vec<u8>, Fail> {
+    let release = read_manifest(alloc, manifest)?;
+    let files = vec![in alloc; NINES.to_vec(alloc)?; release.file_count()]?;
+    Ok(measure_alone(alloc, &release, &files)?)
+}
+
+/// Its audit, in which the measurements are worked out one launch at a time.
+fn audited(alloc: Global, manifest: &[u8]) -> Result<Vec<u8>, Fail> {
+    let release = read_manifest(alloc, manifest)?;
+    let files = vec![in alloc; NINES.to_vec(alloc)?; release.file_count()]?;
+    Ok(audit_report(alloc, &release, &files)?)
+}
+
+/// A run of two workers has done all jobs, and each worker's number of pages is its own.
+fn check_two(rt: &impl Abort, outcome: &Outcome, gate: &Hold) {
+    let found = (outcome.started, outcome.pages, outcome.has_refused);
+    assert_eq!(rt; found, (2, 4, true));
+    assert_eq!(rt; gate.calls(), (JOBS, JOBS, 0));
+    let (first, others) = gate.pages();
+    assert_eq!(rt; outcome.shares.as_slice(), [first, others].as_slice());
+    assert!(rt; first > 0 && others > 0);
 }
 
 #[test]
 fn two_workers_at_a_time(rt: HostRuntime) -> Result<(), Fail> {
-    let alloc = rt.alloc();
-    let (release, files) = release(alloc, LAUNCHES.as_bytes())?;
-    assert_eq!(rt; files.len(), release.file_count());
-    let alone = measure_alone(alloc, &release, &files)?;
     let mut gate = Hold::new();
-    let outcome = measure_release(&rt, alloc, &mut gate, &release, &files, 2)?;
-    assert_eq!(rt; outcome.report.as_slice(), alone.as_slice());
-    assert!(rt; outcome.has_refused);
-    assert_eq!(rt; outcome.started, 2);
-    assert_eq!(rt; outcome.pages, 4);
-    assert_eq!(rt; gate.begun.load(Ordering::SeqCst), JOBS);
-    assert_eq!(rt; gate.ended.load(Ordering::SeqCst), JOBS);
-    assert_eq!(rt; outcome.shares[0], gate.first.load(Ordering::SeqCst));
-    assert_eq!(rt; outcome.shares[1], gate.others.load(Ordering::SeqCst));
-    assert!(rt; outcome.shares[0] > 0 && outcome.shares[1] > 0);
-    assert_eq!(rt; gate.in_vain.load(Ordering::SeqCst), 0);
+    let outcome = measured(&rt, &mut gate, LAUNCHES.as_bytes(), 2)?;
+    check_two(&rt, &outcome, &gate);
+    let report = alone(rt.alloc(), LAUNCHES.as_bytes())?;
+    assert_eq!(rt; outcome.report.as_slice(), report.as_slice());
     Ok(())
+}
+
+/// The launches and their file.
+#[derive(Drop)]
+struct Given;
+
+impl Opener for Given {
+    type Reader = &'static [u8];
+
+    fn open(&mut self, path: &str) -> Option<&'static [u8]> {
+        match path {
+            "manifest.toml" => Some(LAUNCHES.as_bytes()),
+            "f" => Some(&NINES),
+            _ => None,
+        }
+    }
 }
 
 /// The words of a command line say how many workers there are, and all of them call the program's gate.
@@ -136,31 +185,20 @@ fn two_workers_at_a_time(rt: HostRuntime) -> Result<(), Fail> {
 fn workers_of_a_command_line(rt: HostRuntime) {
     let alloc = rt.alloc();
     let mut gate = Hold::new();
-    let mut files = Folder {
-        manifest: LAUNCHES.as_bytes(),
-        files: &[("f", &NINES)],
-    };
     let words = ["rim", "measure", "--workers", "2", "manifest.toml"];
     let mut out = Vec::new(alloc);
     let mut err = Vec::new(alloc);
     let status = run(
-        &rt, alloc, &mut gate, &words, &mut files, &mut out, &mut err,
+        &rt, alloc, &mut gate, &words, &mut Given, &mut out, &mut err,
     );
-    assert_eq!(rt; status, 1);
-    assert_eq!(rt; gate.begun.load(Ordering::SeqCst), JOBS);
-    assert_eq!(rt; gate.ended.load(Ordering::SeqCst), JOBS);
-    assert!(rt; gate.others.load(Ordering::SeqCst) > 0);
-    assert_eq!(rt; gate.in_vain.load(Ordering::SeqCst), 0);
+    assert_eq!(rt; (status, gate.calls()), (1, (JOBS, JOBS, 0)));
+    assert!(rt; gate.pages().1 > 0);
 }
 
 /// A worker is counted where it was started, though there is no page for it.
 #[test]
 fn workers_without_a_page(rt: HostRuntime) -> Result<(), Fail> {
-    let alloc = rt.alloc();
-    let release = read_manifest(alloc, SMALLEST)?;
-    let files = Vec::new(alloc);
-    assert_eq!(rt; files.len(), release.file_count());
-    let outcome = measure_release(&rt, alloc, &mut FreeGate, &release, &files, 2)?;
+    let outcome = measured(&rt, &mut FreeGate, SMALLEST, 2)?;
     assert_eq!(rt; outcome.started, 2);
     Ok(())
 }
@@ -173,41 +211,57 @@ fn after_first_line(text: &[u8]) -> &[u8] {
     }
 }
 
-/// The reports of a release by some numbers of workers are to be that of one thread, with the measurements of an audit,
-/// which are worked out one launch at a time.
-fn check_by_all<R: Threads + Wait + Abort + Sync>(
-    rt: &R,
-    alloc: Global,
+/// The report of this many workers is this one, and each of them has a share.
+fn check_by(
+    rt: &(impl Abort + AllocGlobal + Threads + Wait + Sync),
+    manifest: &[u8],
+    workers: usize,
+    report: &[u8],
+) -> Result<(), Fail> {
+    let outcome = measured(rt, &mut FreeGate, manifest, workers)?;
+    assert_eq!(rt; outcome.report.as_slice(), report);
+    assert_eq!(rt; outcome.shares.len(), workers);
+    Ok(())
+}
+
+/// The reports of a manifest by some numbers of workers are that of one thread, which has the measurements of the audit.
+fn check_by_all(
+    rt: &(impl Abort + AllocGlobal + Threads + Wait + Sync),
     manifest: &[u8],
 ) -> Result<(), Fail> {
-    let (release, files) = release(alloc, manifest)?;
-    assert_eq!(rt; files.len(), release.file_count());
-    let alone = measure_alone(alloc, &release, &files)?;
-    let audit = audit_launches(alloc, &release, &files)?;
-    assert!(rt;
-        after_first_line(alone.as_slice()).starts_with(after_first_line(audit.text.as_slice()))
-    );
+    let report = alone(rt.alloc(), manifest)?;
     for workers in [1, 2, 3, 16, 64] {
-        let outcome = measure_release(rt, alloc, &mut FreeGate, &release, &files, workers)?;
-        assert_eq!(rt; outcome.report.as_slice(), alone.as_slice());
-        assert_eq!(rt; outcome.shares.len(), workers);
+        check_by(rt, manifest, workers, report.as_slice())?;
     }
+    let audit = audited(rt.alloc(), manifest)?;
+    assert!(rt;
+        after_first_line(report.as_slice()).starts_with(after_first_line(audit.as_slice()))
+    );
     Ok(())
 }
 
 #[test]
 fn one_worker_and_many(rt: HostRuntime) -> Result<(), Fail> {
-    check_by_all(&rt, rt.alloc(), LAUNCHES.as_bytes())
+    check_by_all(&rt, LAUNCHES.as_bytes())
+}
+
+/// There are no runs of this many workers.
+fn check_none(
+    rt: &(impl Abort + AllocGlobal + Threads + Wait + Sync),
+    workers: usize,
+) -> Result<(), Fail> {
+    let alloc = rt.alloc();
+    let release = read_manifest(alloc, SMALLEST)?;
+    let files = vec![in alloc; Vec::new(alloc); release.file_count()]?;
+    let answer = measure_release(rt, alloc, &mut FreeGate, &release, &files, workers);
+    assert!(rt; matches!(answer, Err(StartFault::Workers)));
+    Ok(())
 }
 
 #[test]
 fn no_worker_and_too_many(rt: HostRuntime) -> Result<(), Fail> {
-    let alloc = rt.alloc();
-    let (release, files) = release(alloc, LAUNCHES.as_bytes())?;
-    assert_eq!(rt; files.len(), release.file_count());
     for workers in [0, 65, usize::MAX] {
-        let answer = measure_release(&rt, alloc, &mut FreeGate, &release, &files, workers);
-        assert!(rt; matches!(answer, Err(StartFault::Workers)));
+        check_none(&rt, workers)?;
     }
     Ok(())
 }
@@ -244,47 +298,55 @@ impl Gate for Delay {
     }
 }
 
+/// The report of two workers is this one, where the call of this number is late.
+fn check_late(
+    rt: &(impl Abort + AllocGlobal + Threads + Wait + Sync),
+    late: u64,
+    report: &[u8],
+) -> Result<(), Fail> {
+    let calls = AtomicU64::new(0);
+    let mut gate = Delay { calls, late };
+    let outcome = measured(rt, &mut gate, LAUNCHES.as_bytes(), 2)?;
+    assert_eq!(rt; outcome.report.as_slice(), report, "{late}");
+    assert_eq!(rt; gate.calls.load(Ordering::SeqCst), 2 * JOBS);
+    Ok(())
+}
+
 #[test]
 fn each_call_late_in_turn(rt: HostRuntime) -> Result<(), Fail> {
-    let alloc = rt.alloc();
-    let (release, files) = release(alloc, LAUNCHES.as_bytes())?;
-    assert_eq!(rt; files.len(), release.file_count());
-    let alone = measure_alone(alloc, &release, &files)?;
+    let report = alone(rt.alloc(), LAUNCHES.as_bytes())?;
     for late in 0..2 * JOBS {
-        let mut gate = Delay {
-            calls: AtomicU64::new(0),
-            late,
-        };
-        let outcome = measure_release(&rt, alloc, &mut gate, &release, &files, 2)?;
-        assert_eq!(rt; outcome.report.as_slice(), alone.as_slice(), "{late}");
-        assert_eq!(rt; gate.calls.load(Ordering::SeqCst), 2 * JOBS);
+        check_late(&rt, late, report.as_slice())?;
     }
     Ok(())
 }
 
-/// A manifest of this many launches over one file: with both algorithms, three sizes of RAM, one item of two pages that all
-/// have, and one at another page each. So some launches begin alike, with and without the first item.
+/// A launch of this number over one file: by one of both algorithms, with one of three sizes of RAM, an item of two pages that
+/// all have, and one at another page each. So some launches begin alike, with and without the first item.
+fn generated_launch(alloc: Global, n: u64) -> Result<String, Fail> {
+    let algo = if n % 2 == 0 { "sha512" } else { "sha256" };
+    let end = 0x4020_0000_u64.saturating_add((n % 3).saturating_mul(0x10_0000));
+    let at = 0x4001_0000_u64.saturating_add((n / 4).saturating_mul(4096));
+    Ok(format!(in alloc;
+        "[[launch]]\nname = \"l{n}\"\nalgo = \"{algo}\"\ns2sz = 33\nram = [[0x40000000, {end}]]\nitem = [{{ name = \"x\", kind = \"raw\", file = \"f\", at = 0x40000000 }}, {{ name = \"y\", kind = \"raw\", file = \"f\", at = {at} }}]\n"
+    )?)
+}
+
+/// A manifest of this many such launches.
 fn generated(alloc: Global, launches: u64) -> Result<String, Fail> {
     let mut text = String::new(alloc);
     text.push_str("rim_manifest = 1\n[[file]]\nname = \"f\"\npath = \"f\"\n")?;
     for n in 0..launches {
-        let algo = if n % 2 == 0 { "sha512" } else { "sha256" };
-        let end = 0x4020_0000_u64.saturating_add((n % 3).saturating_mul(0x10_0000));
-        let at = 0x4001_0000_u64.saturating_add((n / 4).saturating_mul(4096));
-        let launch = format!(in alloc;
-            "[[launch]]\nname = \"l{n}\"\nalgo = \"{algo}\"\ns2sz = 33\nram = [[0x40000000, {end}]]\nitem = [{{ name = \"x\", kind = \"raw\", file = \"f\", at = 0x40000000 }}, {{ name = \"y\", kind = \"raw\", file = \"f\", at = {at} }}]\n"
-        )?;
-        text.push_str(launch.as_str())?;
+        text.push_str(generated_launch(alloc, n)?.as_str())?;
     }
     Ok(text)
 }
 
 #[test]
 fn generated_releases(rt: HostRuntime) -> Result<(), Fail> {
-    let alloc = rt.alloc();
     for launches in [1, 2, 7, 40] {
-        let text = generated(alloc, launches)?;
-        check_by_all(&rt, alloc, text.as_bytes())?;
+        let text = generated(rt.alloc(), launches)?;
+        check_by_all(&rt, text.as_bytes())?;
     }
     Ok(())
 }
