@@ -1,47 +1,62 @@
-use crate::files::{BEGIN_NODE, END, END_NODE, N, PROP, says, tree_of_words};
+use crate::checks::{
+    Value, check, check_root, check_row, check_values, has_children, only_child_has,
+};
+use crate::files::{BEGIN_NODE, END, END_NODE, N, PROP, file_of_words, tree_of};
 use crate::vectors::{CHOSEN, EMPTY};
-use fdt_tree::{FdtFault, Node, Tree, read};
+use fdt_tree::{FdtFault, Tree};
 use std::alloc::Global;
-use std::test::Fail;
+use std::process::Abort;
 
-// The fault of setting this property in an empty root, which after a fault has no new child or property.
-fn refusal(alloc: Global, path: &[u8], name: &[u8]) -> Result<Option<FdtFault>, Fail> {
-    let mut tree = read(alloc, &EMPTY)?;
-    let fault = tree.set(alloc, path, name, b"").err();
-    let empty = tree.root().children.is_empty() && tree.root().properties.is_empty();
-    if fault.is_some() && !empty {
-        return Err("the tree changed".into());
-    }
-    Ok(fault)
+fn set(rt: &impl Abort, alloc: Global, tree: &mut Tree, path: &[u8], name: &[u8], value: &[u8]) {
+    tree.set(alloc, path, name, value).expect(rt, "it is set");
 }
 
-// A path of `count` nodes.
-fn deep(alloc: Global, count: u32) -> Result<Vec<u8>, Fail> {
-    let mut path = Vec::new(alloc);
-    for _ in 0..count {
-        path.extend_from_slice(b"/n")?;
-    }
-    Ok(path)
+// A path, a name, a value, and the children of the root after the value was set there.
+type NewNode = (
+    &'static [u8],
+    &'static [u8],
+    &'static [u8],
+    &'static [&'static [u8]],
+);
+
+const NEW_NODES: [NewNode; 3] = [
+    (b"/chosen", b"bootargs", b"quiet\0", &[b"chosen"]),
+    (b"/chosen/a/b", b"x", b"1", &[b"chosen"]),
+    (b"/other", b"y", b"2", &[b"chosen", b"other"]),
+];
+
+fn check_new_node(rt: &impl Abort, alloc: Global, tree: &mut Tree, row: &NewNode) {
+    let (path, name, value, children) = row;
+    set(rt, alloc, tree, path, name, value);
+    check(rt, tree.get(path, name) == Some(value), "the value");
+    check(rt, has_children(tree.root(), children), "the children");
 }
 
-// Whether the children have these names.
-fn has_children(node: &Node, names: &[&[u8]]) -> bool {
-    for (child, name) in node.children.iter().zip(names) {
-        if child.name.as_slice() != *name {
-            return false;
-        }
+#[test]
+fn a_node_that_was_not_there(rt: HostRuntime) {
+    let mut tree = tree_of(&rt, rt.alloc(), &EMPTY);
+    for row in &NEW_NODES {
+        check_new_node(&rt, rt.alloc(), &mut tree, row);
     }
-    node.children.len() == names.len()
+    check_values(&rt, &tree, &NEW_VALUES);
 }
 
-// Whether the properties have these names.
-fn has_properties(tree: &Tree, node: &Node, names: &[&[u8]]) -> bool {
-    for (property, name) in node.properties.iter().zip(names) {
-        if property.name.bytes(tree.strings()) != *name {
-            return false;
-        }
-    }
-    node.properties.len() == names.len()
+// The second of them is as it was set.
+const NEW_VALUES: [Value; 1] = [(b"/chosen/a/b", b"x", Some(b"1"))];
+
+const CHANGED_VALUES: [Value; 1] = [(b"/chosen", b"bootargs", Some(b"ro"))];
+
+#[test]
+fn a_property_that_was_there(rt: HostRuntime) {
+    let mut tree = tree_of(&rt, rt.alloc(), &CHOSEN);
+    set(&rt, rt.alloc(), &mut tree, b"/chosen", b"bootargs", b"ro");
+    set(&rt, rt.alloc(), &mut tree, b"/chosen", b"second", b"");
+    check_values(&rt, &tree, &CHANGED_VALUES);
+    check(
+        &rt,
+        only_child_has(&tree, &[b"bootargs", b"second"]),
+        "names",
+    );
 }
 
 // A root with `reg` as 1 and as 2, and the nodes `n` and `n`.
@@ -66,69 +81,43 @@ const TWICE: [u32; 18] = [
     END,
 ];
 
-// Nodes, and their `reg`.
-const MEMORIES: [(&[u8], &[u8]); 3] = [
-    (b"/memory-controller", b"c"),
-    (b"/memory@8", b"8"),
-    (b"/memory", b"m"),
-];
-
-// A root with the cells of addresses and of sizes in these values, and the nodes `memory-controller`
-// and `memory@8`.
-fn cells<'a>(alloc: Global, addresses: &'a [u8; 4], sizes: &'a [u8]) -> Result<Tree, Fail> {
-    let mut tree = read(alloc, &EMPTY)?;
-    tree.set(alloc, b"/", b"#address-cells", addresses)?;
-    tree.set(alloc, b"/", b"#size-cells", sizes)?;
-    for (path, value) in &MEMORIES {
-        tree.set(alloc, path, b"reg", value)?;
+// Whether the values of the root's properties are `new` and `2`.
+fn has_new_and_2(tree: &Tree) -> bool {
+    match tree.root().properties.as_slice() {
+        [first, second] => {
+            first.value.as_slice() == b"new".as_slice()
+                && second.value.as_slice() == b"2".as_slice()
+        }
+        _ => false,
     }
-    Ok(tree)
 }
 
-// A path, a name, a value, and the children of the root after the value was set there.
-const NEW_NODES: [(&[u8], &[u8], &[u8], &[&[u8]]); 3] = [
-    (b"/chosen", b"bootargs", b"quiet\0", &[b"chosen"]),
-    (b"/chosen/a/b", b"x", b"1", &[b"chosen"]),
-    (b"/other", b"y", b"2", &[b"chosen", b"other"]),
-];
-
-#[test]
-fn a_node_that_was_not_there(rt: HostRuntime) -> Result<(), Fail> {
-    let mut tree = read(rt.alloc(), &EMPTY)?;
-    for (path, name, value, children) in &NEW_NODES {
-        tree.set(rt.alloc(), path, name, value)?;
-        assert!(rt; says(&tree, path, name, value), "at {path:?}");
-        assert!(rt; has_children(tree.root(), children), "at {path:?}");
+// Whether the root has two children, of which the first has one property and the second none.
+fn has_one_and_none(tree: &Tree) -> bool {
+    match tree.root().children.as_slice() {
+        [first, second] => first.properties.len() == 1 && second.properties.is_empty(),
+        _ => false,
     }
-    assert!(rt; says(&tree, b"/chosen/a/b", b"x", b"1"));
-    Ok(())
 }
 
 #[test]
-fn a_property_that_was_there(rt: HostRuntime) -> Result<(), Fail> {
-    let mut tree = read(rt.alloc(), &CHOSEN)?;
-    tree.set(rt.alloc(), b"/chosen", b"bootargs", b"ro")?;
-    tree.set(rt.alloc(), b"/chosen", b"second", b"")?;
-    assert!(rt; says(&tree, b"/chosen", b"bootargs", b"ro"));
-    for child in &tree.root().children {
-        assert!(rt; has_properties(&tree, child, &[b"bootargs", b"second"]));
-    }
-    Ok(())
+fn the_first_of_equal_names(rt: HostRuntime) {
+    let bytes = file_of_words(&rt, rt.alloc(), &TWICE, b"reg\0");
+    let mut tree = tree_of(&rt, rt.alloc(), &bytes);
+    set(&rt, rt.alloc(), &mut tree, b"/", b"reg", b"new");
+    set(&rt, rt.alloc(), &mut tree, b"/n", b"x", b"");
+    check(&rt, has_new_and_2(&tree), "values");
+    check(&rt, has_one_and_none(&tree), "children");
 }
 
-#[test]
-fn the_first_of_equal_names(rt: HostRuntime) -> Result<(), Fail> {
-    let mut tree = tree_of_words(rt.alloc(), &TWICE, b"reg\0")?;
-    tree.set(rt.alloc(), b"/", b"reg", b"new")?;
-    tree.set(rt.alloc(), b"/n", b"x", b"")?;
-    let mut values = tree.root().properties.iter().map(|p| p.value.as_slice());
-    assert!(rt; values.next() == Some(b"new".as_slice()));
-    assert!(rt; values.next() == Some(b"2".as_slice()));
-    assert!(rt; values.next().is_none());
-    let mut counts = tree.root().children.iter().map(|n| n.properties.len());
-    assert_eq!(rt; counts.next(), Some(1));
-    assert_eq!(rt; counts.next(), Some(0));
-    Ok(())
+// The fault of setting this property in an empty root, which after a fault has no new child or property.
+fn refusal(rt: &impl Abort, alloc: Global, path: &[u8], name: &[u8]) -> Option<FdtFault> {
+    let mut tree = tree_of(rt, alloc, &EMPTY);
+    let fault = tree.set(alloc, path, name, b"").err();
+    if fault.is_some() {
+        check_root(rt, &tree, 0, 0);
+    }
+    fault
 }
 
 // Paths and names, of which one is not legal.
@@ -146,92 +135,137 @@ const BAD_NAMES: [(&[u8], &[u8]); 11] = [
     (b"/n", b"\x7f"),
 ];
 
+fn check_bad_name(rt: &impl Abort, alloc: Global, path: &[u8], name: &[u8]) {
+    let is_bad = refusal(rt, alloc, path, name) == Some(FdtFault::BadName);
+    assert!(rt; is_bad, "at {path:?}, {name:?}");
+}
+
 #[test]
-fn refusals_of_set(rt: HostRuntime) -> Result<(), Fail> {
-    let alloc = rt.alloc();
-    let bad = Some(FdtFault::BadName);
+fn bad_names(rt: HostRuntime) {
     for (path, name) in &BAD_NAMES {
-        let fault = refusal(alloc, path, name)?;
-        assert_eq!(rt; fault, bad, "at {path:?}, {name:?}");
+        check_bad_name(&rt, rt.alloc(), path, name);
     }
-    let low = deep(alloc, 63)?;
-    let too_low = deep(alloc, 64)?;
-    assert_eq!(rt; refusal(alloc, &low, b"reg")?, None);
-    assert_eq!(rt; refusal(alloc, &too_low, b"reg")?, Some(FdtFault::TooDeep));
-    assert_eq!(rt; refusal(alloc, &too_low, b"a/b")?, bad);
-    Ok(())
+}
+
+// A path of `count` nodes.
+fn deep(rt: &impl Abort, alloc: Global, count: u32) -> Vec<u8> {
+    let mut path = Vec::new(alloc);
+    for _ in 0..count {
+        path.extend_from_slice(b"/n").expect(rt, "memory");
+    }
+    path
+}
+
+// A number of nodes within one another, a name in the lowest one, and the fault.
+type Deep = (u32, &'static [u8], Option<FdtFault>);
+
+const DEPTHS: [Deep; 3] = [
+    (63, b"reg", None),
+    (64, b"reg", Some(FdtFault::TooDeep)),
+    (64, b"a/b", Some(FdtFault::BadName)),
+];
+
+fn check_deep(rt: &impl Abort, alloc: Global, deepest: &Deep, row: usize) {
+    let (depth, name, want) = deepest;
+    let path = deep(rt, alloc, *depth);
+    check_row(rt, refusal(rt, alloc, &path, name) == *want, row);
 }
 
 #[test]
-fn a_memory_node_that_was_not_there(rt: HostRuntime) -> Result<(), Fail> {
-    let mut tree = read(rt.alloc(), &EMPTY)?;
-    tree.set_memory(rt.alloc(), 0x4000_0000, 0x1000_0000)?;
-    assert!(rt; has_children(tree.root(), &[b"memory@40000000"]));
-    assert!(rt; says(&tree, b"/memory@40000000", b"device_type", b"memory\0"));
-    assert!(rt;
-        says(
-            &tree,
-            b"/memory@40000000",
-            b"reg",
-            &[0, 0, 0, 0, 0x40, 0, 0, 0, 0x10, 0, 0, 0]
-        )
-    );
-    for child in &tree.root().children {
-        assert!(rt; has_properties(&tree, child, &[b"device_type", b"reg"]));
+fn depths_of_set(rt: HostRuntime) {
+    for row in 0..DEPTHS.len() {
+        check_deep(&rt, rt.alloc(), &DEPTHS[row], row);
     }
-    tree.set_memory(rt.alloc(), 0, 1)?;
-    assert_eq!(rt; tree.root().children.len(), 1);
-    assert!(rt;
-        says(
-            &tree,
-            b"/memory@40000000",
-            b"reg",
-            &[0, 0, 0, 0, 0, 0, 0, 0, 0, 0, 0, 1]
-        )
-    );
-    Ok(())
+}
+
+const MEMORY: &[u8] = b"/memory@40000000";
+
+// Ranges of memory, a base and a size, that are set in turn where no node exists; the name of the one child after
+// that, and values.
+type NewMemory = (&'static [(u64, u64)], &'static [u8], &'static [Value]);
+
+const NEW_MEMORIES: [NewMemory; 3] = [
+    (
+        &[(0x4000_0000, 0x1000_0000)],
+        b"memory@40000000",
+        &[
+            (MEMORY, b"device_type", Some(b"memory\0")),
+            (
+                MEMORY,
+                b"reg",
+                Some(&[0, 0, 0, 0, 0x40, 0, 0, 0, 0x10, 0, 0, 0]),
+            ),
+        ],
+    ),
+    (
+        &[(0x4000_0000, 0x1000_0000), (0, 1)],
+        b"memory@40000000",
+        &[(MEMORY, b"reg", Some(&[0, 0, 0, 0, 0, 0, 0, 0, 0, 0, 0, 1]))],
+    ),
+    (&[(0, 0xffff_ffff)], b"memory@0", &[]),
+];
+
+// Sets the memory to each of these ranges.
+fn set_all(rt: &impl Abort, alloc: Global, tree: &mut Tree, ranges: &[(u64, u64)]) {
+    for (base, size) in ranges {
+        tree.set_memory(alloc, *base, *size).expect(rt, "it is set");
+    }
+}
+
+fn check_new_memory(rt: &impl Abort, alloc: Global, row: &NewMemory) {
+    let (ranges, name, values) = row;
+    let mut tree = tree_of(rt, alloc, &EMPTY);
+    set_all(rt, alloc, &mut tree, ranges);
+    check(rt, has_children(tree.root(), &[name]), "the child");
+    check(rt, has_memory_names(&tree), "its properties");
+    check_values(rt, &tree, values);
+}
+
+fn has_memory_names(tree: &Tree) -> bool {
+    only_child_has(tree, &[b"device_type", b"reg"])
 }
 
 #[test]
-fn a_memory_node_at_zero(rt: HostRuntime) -> Result<(), Fail> {
-    let mut tree = read(rt.alloc(), &EMPTY)?;
-    tree.set_memory(rt.alloc(), 0, 0xffff_ffff)?;
-    assert!(rt; has_children(tree.root(), &[b"memory@0"]));
-    Ok(())
+fn a_memory_node_that_was_not_there(rt: HostRuntime) {
+    for row in &NEW_MEMORIES {
+        check_new_memory(&rt, rt.alloc(), row);
+    }
 }
+
+// Nodes, and their `reg`.
+const MEMORIES: [(&[u8], &[u8]); 3] = [
+    (b"/memory-controller", b"c"),
+    (b"/memory@8", b"8"),
+    (b"/memory", b"m"),
+];
+
+// A root with the cells of addresses and of sizes in these values, and those nodes.
+fn cells(rt: &impl Abort, alloc: Global, addresses: &[u8; 4], sizes: &[u8]) -> Tree {
+    let mut tree = tree_of(rt, alloc, &EMPTY);
+    set(rt, alloc, &mut tree, b"/", b"#address-cells", addresses);
+    set(rt, alloc, &mut tree, b"/", b"#size-cells", sizes);
+    for (path, value) in &MEMORIES {
+        set(rt, alloc, &mut tree, path, b"reg", value);
+    }
+    tree
+}
+
+const FIRST_MEMORY: [Value; 4] = [
+    (b"/memory-controller", b"reg", Some(b"c")),
+    (b"/memory", b"reg", Some(b"m")),
+    (
+        b"/memory@8",
+        b"reg",
+        Some(&[0x80, 0, 0, 0, 0, 0, 0, 1, 0, 0, 0, 2]),
+    ),
+    (b"/memory@8", b"device_type", None),
+];
 
 #[test]
-fn the_first_memory_node(rt: HostRuntime) -> Result<(), Fail> {
-    let mut tree = cells(rt.alloc(), &[0, 0, 0, 1], &[0, 0, 0, 2])?;
-    tree.set_memory(rt.alloc(), 0x8000_0000, 0x1_0000_0002)?;
-    assert!(rt; says(&tree, b"/memory-controller", b"reg", b"c"));
-    assert!(rt; says(&tree, b"/memory", b"reg", b"m"));
-    assert!(rt;
-        says(
-            &tree,
-            b"/memory@8",
-            b"reg",
-            &[0x80, 0, 0, 0, 0, 0, 0, 1, 0, 0, 0, 2]
-        )
-    );
-    assert!(rt; tree.get(b"/memory@8", b"device_type").is_none());
-    Ok(())
-}
-
-// The fault of a base and a size at these cells, after which the first memory node is as it was.
-fn cells_fault(
-    alloc: Global,
-    addresses: &[u8; 4],
-    sizes: &[u8],
-    base: u64,
-    size: u64,
-) -> Result<Option<FdtFault>, Fail> {
-    let mut tree = cells(alloc, addresses, sizes)?;
-    let fault = tree.set_memory(alloc, base, size).err();
-    if fault.is_some() && tree.get(b"/memory@8", b"reg") != Some(b"8".as_slice()) {
-        return Err("the tree changed".into());
-    }
-    Ok(fault)
+fn the_first_memory_node(rt: HostRuntime) {
+    let mut tree = cells(&rt, rt.alloc(), &ONE, &TWO);
+    set_all(&rt, rt.alloc(), &mut tree, &[(0x8000_0000, 0x1_0000_0002)]);
+    check_values(&rt, &tree, &FIRST_MEMORY);
 }
 
 const ONE: [u8; 4] = [0, 0, 0, 1];
@@ -243,7 +277,9 @@ const LARGE: u64 = 0x1_0000_0000;
 const BAD: Option<FdtFault> = Some(FdtFault::BadCells);
 
 // The cells of addresses and of sizes, a base, a size, and the fault.
-const CELLS: [([u8; 4], &[u8], u64, u64, Option<FdtFault>); 9] = [
+type Cells = ([u8; 4], &'static [u8], u64, u64, Option<FdtFault>);
+
+const CELLS: [Cells; 9] = [
     (ONE, &ONE, 0xffff_ffff, 0xffff_ffff, None),
     (TWO, &TWO, u64::MAX, u64::MAX, None),
     (ONE, &TWO, LARGE, 0, BAD),
@@ -255,15 +291,30 @@ const CELLS: [([u8; 4], &[u8], u64, u64, Option<FdtFault>); 9] = [
     (ONE, &[0, 0, 0, 0, 1], 0, 0, BAD),
 ];
 
-#[test]
-fn refusals_of_set_memory(rt: HostRuntime) -> Result<(), Fail> {
-    let alloc = rt.alloc();
-    let mut tree = read(alloc, &EMPTY)?;
-    assert_eq!(rt; tree.set_memory(alloc, 0, LARGE).err(), BAD);
-    assert!(rt; tree.root().children.is_empty());
-    for (addresses, sizes, base, size, want) in &CELLS {
-        let fault = cells_fault(alloc, addresses, sizes, *base, *size)?;
-        assert_eq!(rt; fault, *want, "at {addresses:?}, {sizes:?}, {base}, {size}");
+// After a fault the first memory node is as it was.
+fn check_cells(rt: &impl Abort, alloc: Global, cell: &Cells, row: usize) {
+    let (addresses, sizes, base, size, want) = cell;
+    let mut tree = cells(rt, alloc, addresses, sizes);
+    check_row(rt, tree.set_memory(alloc, *base, *size).err() == *want, row);
+    if want.is_some() {
+        check_values(rt, &tree, &AS_IT_WAS);
     }
-    Ok(())
+}
+
+const AS_IT_WAS: [Value; 1] = [(b"/memory@8", b"reg", Some(b"8"))];
+
+#[test]
+fn refusals_of_set_memory(rt: HostRuntime) {
+    for row in 0..CELLS.len() {
+        check_cells(&rt, rt.alloc(), &CELLS[row], row);
+    }
+}
+
+// A size of more than 32 bits, where the root has no cells: one of each is meant.
+#[test]
+fn a_memory_too_large_for_an_empty_root(rt: HostRuntime) {
+    let mut tree = tree_of(&rt, rt.alloc(), &EMPTY);
+    let fault = tree.set_memory(rt.alloc(), 0, LARGE).err();
+    check(&rt, fault == BAD, "the fault");
+    check_root(&rt, &tree, 0, 0);
 }

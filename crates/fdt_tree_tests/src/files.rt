@@ -1,8 +1,8 @@
 //! Flattened devicetrees, put together from words.
 
 use fdt_tree::{Tree, read};
-use std::alloc::{AllocError, Global};
-use std::test::Fail;
+use std::alloc::Global;
+use std::process::Abort;
 
 pub const BEGIN_NODE: u32 = 1;
 
@@ -17,26 +17,37 @@ pub const END: u32 = 9;
 /// The name `n`.
 pub const N: u32 = 0x6e00_0000;
 
-pub fn push_word(out: &mut Vec<u8>, word: u32) -> Result<(), AllocError> {
-    out.extend_from_slice(&word.to_be_bytes())
+/// Adds the words, big endian.
+pub fn push_words(rt: &impl Abort, out: &mut Vec<u8>, words: &[u32]) {
+    for word in words {
+        out.extend_from_slice(&word.to_be_bytes())
+            .expect(rt, "memory");
+    }
 }
 
 /// The words, big endian.
-pub fn words(alloc: Global, words: &[u32]) -> Result<Vec<u8>, AllocError> {
+pub fn words(rt: &impl Abort, alloc: Global, words: &[u32]) -> Vec<u8> {
     let mut out = Vec::new(alloc);
-    for word in words {
-        push_word(&mut out, *word)?;
-    }
-    Ok(out)
+    push_words(rt, &mut out, words);
+    out
 }
 
-/// A file with no reservations, this structure block and these strings, and nothing else.
-pub fn file(alloc: Global, block: &[u8], strings: &[u8]) -> Result<Vec<u8>, Fail> {
-    let block_len = u32::try_from(block.len())?;
-    let strings_len = u32::try_from(strings.len())?;
+/// Adds a byte this many times.
+pub fn push_many(rt: &impl Abort, out: &mut Vec<u8>, byte: u8, count: usize) {
+    for _ in 0..count {
+        out.push(byte).expect(rt, "memory");
+    }
+}
+
+pub fn push_bytes(rt: &impl Abort, out: &mut Vec<u8>, bytes: &[u8]) {
+    out.extend_from_slice(bytes).expect(rt, "memory");
+}
+
+/// The header of a file with no reservations, a structure block and strings, and the pair of zeros after it.
+fn header(block_len: u32, strings_len: u32) -> [u32; 14] {
     let strings_at = block_len.saturating_add(56);
     let total = strings_at.saturating_add(strings_len);
-    let header = [
+    [
         0xd00d_feed,
         total,
         56,
@@ -51,48 +62,49 @@ pub fn file(alloc: Global, block: &[u8], strings: &[u8]) -> Result<Vec<u8>, Fail
         0,
         0,
         0,
-    ];
-    let mut out = words(alloc, &header)?;
-    out.extend_from_slice(block)?;
-    out.extend_from_slice(strings)?;
-    Ok(out)
+    ]
 }
 
-/// The same bytes with another word at this byte.
-pub fn with_word(alloc: Global, bytes: &[u8], at: usize, word: u32) -> Result<Vec<u8>, Fail> {
-    let (front, rest) = bytes.split_at_checked(at).ok_or("the word is outside")?;
-    let (_, behind) = rest.split_at_checked(4).ok_or("the word is outside")?;
-    let mut out = front.to_vec(alloc)?;
-    push_word(&mut out, word)?;
-    out.extend_from_slice(behind)?;
-    Ok(out)
+fn length(rt: &impl Abort, bytes: &[u8]) -> u32 {
+    u32::try_from(bytes.len()).expect(rt, "a length")
 }
 
-/// Such a file, its structure block put together from these words.
-pub fn file_of_words(alloc: Global, block: &[u32], strings: &[u8]) -> Result<Vec<u8>, Fail> {
-    let block = words(alloc, block)?;
-    file(alloc, &block, strings)
+/// A file with no reservations, this structure block and these strings, and nothing else.
+pub fn file(rt: &impl Abort, alloc: Global, block: &[u8], strings: &[u8]) -> Vec<u8> {
+    let header = header(length(rt, block), length(rt, strings));
+    let mut out = words(rt, alloc, &header);
+    push_bytes(rt, &mut out, block);
+    push_bytes(rt, &mut out, strings);
+    out
 }
 
-/// The tree of such a file.
-pub fn tree_of_words(alloc: Global, block: &[u32], strings: &[u8]) -> Result<Tree, Fail> {
-    let bytes = file_of_words(alloc, block, strings)?;
-    Ok(read(alloc, &bytes)?)
+/// Puts a word at this byte.
+fn set_word(rt: &impl Abort, bytes: &mut [u8], at: usize, word: u32) {
+    let (_, rest) = bytes.split_at_mut_checked(at).expect(rt, "a word inside");
+    let (place, _) = rest.split_at_mut_checked(4).expect(rt, "a word inside");
+    place.copy_from_slice(&word.to_be_bytes());
 }
 
 /// The same bytes with these changes in turn: a word, and the byte at which it begins.
-pub fn with_words(alloc: Global, bytes: &[u8], changes: &[(usize, u32)]) -> Result<Vec<u8>, Fail> {
-    let mut out = bytes.to_vec(alloc)?;
+pub fn with_words(
+    rt: &impl Abort,
+    alloc: Global,
+    bytes: &[u8],
+    changes: &[(usize, u32)],
+) -> Vec<u8> {
+    let mut out = bytes.to_vec(alloc).expect(rt, "memory");
     for (at, word) in changes {
-        out = with_word(alloc, &out, *at, *word)?;
+        set_word(rt, &mut out, *at, *word);
     }
-    Ok(out)
+    out
 }
 
-/// Whether the property exists and has this value.
-pub fn says(tree: &Tree, path: &[u8], name: &[u8], value: &[u8]) -> bool {
-    match tree.get(path, name) {
-        Some(found) => found == value,
-        None => false,
-    }
+/// Such a file, its structure block put together from these words.
+pub fn file_of_words(rt: &impl Abort, alloc: Global, block: &[u32], strings: &[u8]) -> Vec<u8> {
+    file(rt, alloc, &words(rt, alloc, block), strings)
+}
+
+/// The tree of a file.
+pub fn tree_of(rt: &impl Abort, alloc: Global, bytes: &[u8]) -> Tree {
+    read(alloc, bytes).expect(rt, "a tree")
 }

@@ -1,77 +1,78 @@
+use crate::checks::{
+    Value, check, check_head, check_root, check_row, check_values, has_properties,
+};
 use crate::files::{
-    BEGIN_NODE, END, END_NODE, N, NOP, PROP, file, file_of_words, push_word, says, tree_of_words,
-    with_word, with_words, words,
+    BEGIN_NODE, END, END_NODE, N, NOP, PROP, file, file_of_words, push_many, push_words, tree_of,
+    with_words, words,
 };
 use crate::vectors::{CHOSEN, EMPTY, LATE, SUFFIX};
 use fdt_tree::{FdtFault, Reservation, read};
 use std::alloc::Global;
 use std::process::Abort;
-use std::test::Fail;
 
 fn fault(alloc: Global, bytes: &[u8]) -> Option<FdtFault> {
     read(alloc, bytes).err()
 }
 
-// The fault of a file with these changes.
-fn changed_fault(
-    alloc: Global,
-    bytes: &[u8],
-    changes: &[(usize, u32)],
-) -> Result<Option<FdtFault>, Fail> {
-    let changed = with_words(alloc, bytes, changes)?;
-    Ok(fault(alloc, &changed))
-}
-
-// The fault of a structure block, given the strings.
-fn block_fault(alloc: Global, block: &[u32], strings: &[u8]) -> Result<Option<FdtFault>, Fail> {
-    let bytes = file_of_words(alloc, block, strings)?;
-    Ok(fault(alloc, &bytes))
-}
-
 #[test]
-fn an_empty_root(rt: HostRuntime) -> Result<(), Fail> {
-    let tree = read(rt.alloc(), &EMPTY)?;
-    assert_eq!(rt; tree.boot_cpu(), 0);
-    assert!(rt; tree.reservations().is_empty());
-    assert!(rt; tree.root().name.is_empty());
-    assert!(rt; tree.root().properties.is_empty());
-    assert!(rt; tree.root().children.is_empty());
-    assert_eq!(rt; tree.get(b"/", b"reg"), None);
-    Ok(())
+fn an_empty_root(rt: HostRuntime) {
+    let tree = tree_of(&rt, rt.alloc(), &EMPTY);
+    check_head(&rt, &tree, 0, &[]);
+    check_root(&rt, &tree, 0, 0);
 }
 
-// Paths and names of which nothing is found.
-const NOT_THERE: [(&[u8], &[u8]); 9] = [
-    (b"/", b"bootargs"),
-    (b"", b"bootargs"),
-    (b"chosen", b"bootargs"),
-    (b"/chosen/", b"bootargs"),
-    (b"//chosen", b"bootargs"),
-    (b"/chosen/chosen", b"bootargs"),
-    (b"/chose", b"bootargs"),
-    (b"/chosen", b"bootarg"),
-    (b"/chosen", b""),
+const VALUES_OF_EMPTY: [Value; 1] = [(b"/", b"reg", None)];
+
+const VALUES_OF_CHOSEN: [Value; 10] = [
+    (b"/chosen", b"bootargs", Some(b"quiet\0")),
+    // nothing is found
+    (b"/", b"bootargs", None),
+    (b"", b"bootargs", None),
+    (b"chosen", b"bootargs", None),
+    (b"/chosen/", b"bootargs", None),
+    (b"//chosen", b"bootargs", None),
+    (b"/chosen/chosen", b"bootargs", None),
+    (b"/chose", b"bootargs", None),
+    (b"/chosen", b"bootarg", None),
+    (b"/chosen", b"", None),
 ];
 
-#[test]
-fn a_node_with_a_property(rt: HostRuntime) -> Result<(), Fail> {
-    let tree = read(rt.alloc(), &CHOSEN)?;
-    assert!(rt; says(&tree, b"/chosen", b"bootargs", b"quiet\0"));
-    for (path, name) in &NOT_THERE {
-        assert!(rt; tree.get(path, name).is_none(), "at {path:?}, {name:?}");
-    }
-    Ok(())
+const VALUES_OF_SUFFIX: [Value; 2] = [(b"/", b"reg", Some(b"")), (b"/", b"xreg", None)];
+
+const OVERLAPPED: [Value; 2] = [
+    (b"/chosen", b"chosen", Some(b"quiet\0")),
+    (b"/chosen", b"bootargs", None),
+];
+
+// A file, its changes, and the values after that.
+type Row = (&'static [u8], &'static [(usize, u32)], &'static [Value]);
+
+const ROWS: [Row; 4] = [
+    (&EMPTY, &[], &VALUES_OF_EMPTY),
+    (&CHOSEN, &[], &VALUES_OF_CHOSEN),
+    // the end of another name
+    (&SUFFIX, &[], &VALUES_OF_SUFFIX),
+    // the strings are the name of a node
+    (&CHOSEN, &[(12, 68), (32, 7)], &OVERLAPPED),
+];
+
+fn check_file(rt: &impl Abort, alloc: Global, row: &Row) {
+    let (file, changes, values) = row;
+    let bytes = with_words(rt, alloc, file, changes);
+    check_values(rt, &tree_of(rt, alloc, &bytes), values);
 }
 
 #[test]
-fn the_end_of_another_name(rt: HostRuntime) -> Result<(), Fail> {
-    let tree = read(rt.alloc(), &SUFFIX)?;
-    assert!(rt; says(&tree, b"/", b"reg", b""));
-    assert!(rt; tree.get(b"/", b"xreg").is_none());
-    for property in &tree.root().properties {
-        assert!(rt; property.name.bytes(tree.strings()) == b"reg".as_slice());
+fn values(rt: HostRuntime) {
+    for row in &ROWS {
+        check_file(&rt, rt.alloc(), row);
     }
-    Ok(())
+}
+
+#[test]
+fn the_end_of_another_name(rt: HostRuntime) {
+    let tree = tree_of(&rt, rt.alloc(), &SUFFIX);
+    check(&rt, has_properties(&tree, tree.root(), &[b"reg"]), "names");
 }
 
 // A root with `reg` as 1 and as 2, a node `n` with `reg` as 3 and a node `n` in it, and another with 4.
@@ -107,199 +108,271 @@ const EQUAL_NAMES: [u32; 29] = [
     END,
 ];
 
-#[test]
-fn equal_names(rt: HostRuntime) -> Result<(), Fail> {
-    let tree = tree_of_words(rt.alloc(), &EQUAL_NAMES, b"reg\0reg\0")?;
-    assert!(rt; says(&tree, b"/", b"reg", b"1"));
-    assert!(rt; says(&tree, b"/n", b"reg", b"3"));
-    assert!(rt; tree.get(b"/n/n", b"reg").is_none());
-    Ok(())
+const EQUAL_VALUES: [Value; 3] = [
+    (b"/", b"reg", Some(b"1")),
+    (b"/n", b"reg", Some(b"3")),
+    (b"/n/n", b"reg", None),
+];
+
+const A: u32 = 0x6100_0000;
+
+// Each token after NOPs, and a word after END.
+const NOPS_BEFORE: [u32; 20] = [
+    NOP,
+    NOP,
+    BEGIN_NODE,
+    0,
+    NOP,
+    PROP,
+    4,
+    0,
+    7,
+    NOP,
+    BEGIN_NODE,
+    A,
+    NOP,
+    END_NODE,
+    NOP,
+    END_NODE,
+    NOP,
+    NOP,
+    END,
+    0xffff_ffff,
+];
+
+const NOPS_VALUES: [Value; 1] = [(b"/", b"reg", Some(&[0, 0, 0, 7]))];
+
+// A structure block, its strings, values, and how many properties and children the root has.
+type Block = (
+    &'static [u32],
+    &'static [u8],
+    &'static [Value],
+    usize,
+    usize,
+);
+
+const BLOCKS: [Block; 2] = [
+    (&EQUAL_NAMES, b"reg\0reg\0", &EQUAL_VALUES, 2, 2),
+    (&NOPS_BEFORE, b"reg\0", &NOPS_VALUES, 1, 1),
+];
+
+fn check_values_of(rt: &impl Abort, alloc: Global, row: &Block) {
+    let (block, strings, values, properties, children) = row;
+    let tree = tree_of(rt, alloc, &file_of_words(rt, alloc, block, strings));
+    check_values(rt, &tree, values);
+    check_root(rt, &tree, *properties, *children);
 }
 
 #[test]
-fn a_late_property(rt: HostRuntime) {
-    assert_eq!(rt; fault(rt.alloc(), &LATE), Some(FdtFault::LateProperty));
+fn values_of_blocks(rt: HostRuntime) {
+    for row in &BLOCKS {
+        check_values_of(&rt, rt.alloc(), row);
+    }
 }
 
-// A change of a file: the byte at which a word begins, the word, and the fault that it causes.
-type Change = (usize, u32, Option<FdtFault>);
+// Changes of a file, each a word and the byte at which it begins, and the fault that they cause.
+type Change = (&'static [(usize, u32)], Option<FdtFault>);
 
-const CHANGES_OF_EMPTY: [Change; 37] = [
+const CHANGES_OF_EMPTY: [Change; 39] = [
     // the first check that fails decides
-    (0, 0xd00d_feec, Some(FdtFault::BadMagic)),
-    (0, 0xedfe_0dd0, Some(FdtFault::BadMagic)),
-    (20, 16, Some(FdtFault::BadVersion)),
-    (20, 18, Some(FdtFault::BadVersion)),
-    (24, 18, Some(FdtFault::BadVersion)),
-    (24, 17, None),
-    (24, 0, None),
+    (&[(0, 0xd00d_feec)], Some(FdtFault::BadMagic)),
+    (&[(0, 0xedfe_0dd0)], Some(FdtFault::BadMagic)),
+    (&[(20, 16)], Some(FdtFault::BadVersion)),
+    (&[(20, 18)], Some(FdtFault::BadVersion)),
+    (&[(24, 18)], Some(FdtFault::BadVersion)),
+    (&[(24, 17)], None),
+    (&[(24, 0)], None),
     // totalsize, between the header's and the file's length, with the blocks inside it
-    (4, 39, Some(FdtFault::BadBlock)),
-    (4, 71, Some(FdtFault::BadBlock)),
-    (4, 73, Some(FdtFault::BadBlock)),
-    (4, 0xffff_ffff, Some(FdtFault::BadBlock)),
+    (&[(4, 39)], Some(FdtFault::BadBlock)),
+    (&[(4, 71)], Some(FdtFault::BadBlock)),
+    (&[(4, 73)], Some(FdtFault::BadBlock)),
+    (&[(4, 0xffff_ffff)], Some(FdtFault::BadBlock)),
     // the structure block's place and size
-    (8, 54, Some(FdtFault::BadBlock)),
-    (8, 60, Some(FdtFault::BadBlock)),
-    (8, 0xffff_fffc, Some(FdtFault::BadBlock)),
-    (36, 17, Some(FdtFault::BadBlock)),
-    (36, 0xffff_fff0, Some(FdtFault::BadBlock)),
-    (36, 15, Some(FdtFault::BadToken)),
-    (36, 0, Some(FdtFault::BadToken)),
+    (&[(8, 54)], Some(FdtFault::BadBlock)),
+    (&[(8, 60)], Some(FdtFault::BadBlock)),
+    (&[(8, 0xffff_fffc)], Some(FdtFault::BadBlock)),
+    (&[(36, 17)], Some(FdtFault::BadBlock)),
+    (&[(36, 0xffff_fff0)], Some(FdtFault::BadBlock)),
+    (&[(36, 15)], Some(FdtFault::BadToken)),
+    (&[(36, 0)], Some(FdtFault::BadToken)),
     // the strings block's
-    (12, 73, Some(FdtFault::BadBlock)),
-    (12, 1, None),
-    (32, 1, Some(FdtFault::BadBlock)),
-    (12, 0xffff_ffff, Some(FdtFault::BadBlock)),
+    (&[(12, 73)], Some(FdtFault::BadBlock)),
+    (&[(12, 1)], None),
+    (&[(32, 1)], Some(FdtFault::BadBlock)),
+    (&[(12, 0xffff_ffff)], Some(FdtFault::BadBlock)),
     // the reservations'
-    (16, 44, Some(FdtFault::BadBlock)),
-    (16, 80, Some(FdtFault::BadBlock)),
-    (16, 72, Some(FdtFault::BadReserve)),
-    (16, 0x40, Some(FdtFault::BadReserve)),
+    (&[(16, 44)], Some(FdtFault::BadBlock)),
+    (&[(16, 80)], Some(FdtFault::BadBlock)),
+    (&[(16, 72)], Some(FdtFault::BadReserve)),
+    (&[(16, 0x40)], Some(FdtFault::BadReserve)),
     // the processor that boots is any
-    (28, 0xffff_ffff, None),
+    (&[(28, 0xffff_ffff)], None),
     // tokens
-    (68, 0, Some(FdtFault::BadToken)),
-    (68, BEGIN_NODE, Some(FdtFault::BadToken)),
-    (68, END_NODE, Some(FdtFault::BadToken)),
-    (68, PROP, Some(FdtFault::BadToken)),
-    (68, NOP, Some(FdtFault::BadToken)),
-    (64, END, Some(FdtFault::BadToken)),
-    (56, END, Some(FdtFault::BadToken)),
-    (56, 0x0100_0000, Some(FdtFault::BadToken)),
+    (&[(68, 0)], Some(FdtFault::BadToken)),
+    (&[(68, BEGIN_NODE)], Some(FdtFault::BadToken)),
+    (&[(68, END_NODE)], Some(FdtFault::BadToken)),
+    (&[(68, PROP)], Some(FdtFault::BadToken)),
+    (&[(68, NOP)], Some(FdtFault::BadToken)),
+    (&[(64, END)], Some(FdtFault::BadToken)),
+    (&[(56, END)], Some(FdtFault::BadToken)),
+    (&[(56, 0x0100_0000)], Some(FdtFault::BadToken)),
     // a root with a name, by its first byte; the last of its padding is not looked at
-    (60, 0x6100_0000, Some(FdtFault::BadName)),
-    (60, 0x0061_6161, None),
+    (&[(60, 0x6100_0000)], Some(FdtFault::BadName)),
+    (&[(60, 0x0061_6161)], None),
+    // no reservations, and no token
+    (&[(16, 72), (36, 0)], Some(FdtFault::BadReserve)),
+    // the strings are the whole file
+    (&[(12, 0), (32, 72)], None),
 ];
 
 const CHANGES_OF_SUFFIX: [Change; 14] = [
     // the offset of the property's name
-    (72, 0, None),
-    (72, 3, None),
-    (72, 4, Some(FdtFault::BadName)),
-    (72, 5, Some(FdtFault::BadString)),
-    (72, 0xffff_ffff, Some(FdtFault::BadString)),
+    (&[(72, 0)], None),
+    (&[(72, 3)], None),
+    (&[(72, 4)], Some(FdtFault::BadName)),
+    (&[(72, 5)], Some(FdtFault::BadString)),
+    (&[(72, 0xffff_ffff)], Some(FdtFault::BadString)),
     // the strings block ends before the zero byte
-    (32, 4, Some(FdtFault::BadString)),
-    (32, 0, Some(FdtFault::BadString)),
+    (&[(32, 4)], Some(FdtFault::BadString)),
+    (&[(32, 0)], Some(FdtFault::BadString)),
     // the structure block ends after the token's number, its length and its offset
-    (36, 12, Some(FdtFault::BadToken)),
-    (36, 16, Some(FdtFault::BadToken)),
-    (36, 20, Some(FdtFault::BadToken)),
+    (&[(36, 12)], Some(FdtFault::BadToken)),
+    (&[(36, 16)], Some(FdtFault::BadToken)),
+    (&[(36, 20)], Some(FdtFault::BadToken)),
     // the value's length: 8 bytes are left, the tokens END_NODE and END
-    (68, 8, Some(FdtFault::BadToken)),
-    (68, 9, Some(FdtFault::BadToken)),
-    (68, 0xffff_ffff, Some(FdtFault::BadToken)),
-    (68, 4, Some(FdtFault::BadToken)),
+    (&[(68, 8)], Some(FdtFault::BadToken)),
+    (&[(68, 9)], Some(FdtFault::BadToken)),
+    (&[(68, 0xffff_ffff)], Some(FdtFault::BadToken)),
+    (&[(68, 4)], Some(FdtFault::BadToken)),
 ];
 
-fn check_changes(
-    rt: &impl Abort,
-    alloc: Global,
-    bytes: &[u8],
-    changes: &[Change],
-) -> Result<(), Fail> {
-    for (at, word, want) in changes {
-        let fault = changed_fault(alloc, bytes, &[(*at, *word)])?;
-        assert_eq!(rt; fault, *want, "{word:x} at {at}");
+const LATE_AS_IT_IS: [Change; 1] = [(&[], Some(FdtFault::LateProperty))];
+
+fn check_change(rt: &impl Abort, alloc: Global, bytes: &[u8], change: &Change) {
+    let (changes, want) = change;
+    let changed = with_words(rt, alloc, bytes, changes);
+    assert!(rt; fault(alloc, &changed) == *want, "{changes:?}");
+}
+
+fn check_changes(rt: &impl Abort, alloc: Global, bytes: &[u8], rows: &[Change]) {
+    for row in rows {
+        check_change(rt, alloc, bytes, row);
     }
-    Ok(())
+}
+
+const CHANGED: [(&[u8], &[Change]); 3] = [
+    (&EMPTY, &CHANGES_OF_EMPTY),
+    (&SUFFIX, &CHANGES_OF_SUFFIX),
+    (&LATE, &LATE_AS_IT_IS),
+];
+
+#[test]
+fn changed_words(rt: HostRuntime) {
+    for (bytes, rows) in &CHANGED {
+        check_changes(&rt, rt.alloc(), bytes, rows);
+    }
+}
+
+// The fault of the file's first bytes.
+fn check_cut(rt: &impl Abort, alloc: Global, bytes: &[u8], len: usize, want: FdtFault) {
+    let front = bytes.get(..len).expect(rt, "a length");
+    check_row(rt, fault(alloc, front) == Some(want), len);
 }
 
 #[test]
-fn changed_words(rt: HostRuntime) -> Result<(), Fail> {
-    check_changes(&rt, rt.alloc(), &EMPTY, &CHANGES_OF_EMPTY)?;
-    check_changes(&rt, rt.alloc(), &SUFFIX, &CHANGES_OF_SUFFIX)?;
-    Ok(())
-}
-
-#[test]
-fn a_file_that_is_cut(rt: HostRuntime) -> Result<(), Fail> {
+fn a_file_that_is_cut(rt: HostRuntime) {
     for len in 0..117 {
         let want = if len < 40 {
             FdtFault::Short
         } else {
             FdtFault::BadBlock
         };
-        let front = CHOSEN.get(..len).ok_or("a length")?;
-        assert_eq!(rt; fault(rt.alloc(), front), Some(want), "at {len}");
+        check_cut(&rt, rt.alloc(), &CHOSEN, len, want);
     }
-    Ok(())
 }
 
+// A header in which all is wrong.
+const WRONG: [u32; 10] = [0, 39, 1, 0xffff_ffff, 1, 16, 18, 0, 1, 1];
+
+// Each with all later ones wrong too.
 #[test]
-fn the_first_check_decides(rt: HostRuntime) -> Result<(), Fail> {
-    let alloc = rt.alloc();
-    // each with all later ones wrong too
-    let header = [0, 39, 1, 0xffff_ffff, 1, 16, 18, 0, 1, 1];
-    let short = words(alloc, &header)?;
-    assert_eq!(rt;
-        fault(alloc, &short.as_slice()[..39.min(short.len())]),
-        Some(FdtFault::Short)
-    );
-    assert_eq!(rt; fault(alloc, short.as_slice()), Some(FdtFault::BadMagic));
-    let mut large = with_word(alloc, short.as_slice(), 0, 0xd00d_feed)?;
-    for _ in 0..2_097_113 {
-        large.push(0)?;
-    }
-    assert_eq!(rt; large.len(), 2_097_153);
-    assert_eq!(rt; fault(alloc, large.as_slice()), Some(FdtFault::BadVersion));
-    let within = &large.as_slice()[..2_097_152.min(large.len())];
-    for (bytes, changes, want) in [
-        (large.as_slice(), [(20, 17), (24, 17)], FdtFault::TooLarge),
-        (within, [(20, 17), (24, 17)], FdtFault::BadBlock),
-        // no reservations, and no token
-        (&EMPTY, [(16, 72), (36, 0)], FdtFault::BadReserve),
-    ] {
-        assert_eq!(rt; changed_fault(alloc, bytes, &changes)?, Some(want));
-    }
-    Ok(())
+fn the_first_check_of_a_header_decides(rt: HostRuntime) {
+    let short = words(&rt, rt.alloc(), &WRONG);
+    check_cut(&rt, rt.alloc(), &short, 39, FdtFault::Short);
+    check_cut(&rt, rt.alloc(), &short, 40, FdtFault::BadMagic);
 }
 
+// Such a header with the number at its begin, and 2,097,153 bytes in all.
+fn large(rt: &impl Abort, alloc: Global) -> Vec<u8> {
+    let short = words(rt, alloc, &WRONG);
+    let mut large = with_words(rt, alloc, &short, &[(0, 0xd00d_feed)]);
+    push_many(rt, &mut large, 0, 2_097_113);
+    large
+}
+
+const CHANGES_OF_LARGE: [Change; 2] = [
+    (&[], Some(FdtFault::BadVersion)),
+    (&[(20, 17), (24, 17)], Some(FdtFault::TooLarge)),
+];
+
+// One byte fewer, which are not too many.
+const CHANGES_WITHIN: [Change; 1] = [(&[(20, 17), (24, 17)], Some(FdtFault::BadBlock))];
+
 #[test]
-fn slack(rt: HostRuntime) -> Result<(), Fail> {
-    let alloc = rt.alloc();
+fn the_first_check_of_a_large_file_decides(rt: HostRuntime) {
+    let mut bytes = large(&rt, rt.alloc());
+    check(&rt, bytes.len() == 2_097_153, "2 MiB and a byte");
+    check_changes(&rt, rt.alloc(), &bytes, &CHANGES_OF_LARGE);
+    bytes.truncate(2_097_152);
+    check_changes(&rt, rt.alloc(), &bytes, &CHANGES_WITHIN);
+}
+
+const CHANGES_OF_SLACK: [Change; 3] = [
     // after totalsize, up to the limit
-    let mut bytes = CHOSEN.to_vec(alloc)?;
-    for _ in 0..2_097_035 {
-        bytes.push(0xff)?;
-    }
-    assert_eq!(rt; bytes.len(), 2_097_152);
-    assert_eq!(rt; fault(alloc, bytes.as_slice()), None);
-    let within = (4, 2_097_152);
+    (&[], None),
     // within totalsize, and then within the structure block, after END
-    assert_eq!(rt; changed_fault(alloc, &bytes, &[within])?, None);
-    assert_eq!(rt;
-        changed_fault(alloc, &bytes, &[within, (36, 2_000_000)])?,
-        None
-    );
-    Ok(())
-}
+    (&[(4, 2_097_152)], None),
+    (&[(4, 2_097_152), (36, 2_000_000)], None),
+];
 
 #[test]
-fn blocks_that_overlap(rt: HostRuntime) -> Result<(), Fail> {
-    let alloc = rt.alloc();
-    // the strings are the whole file
-    assert_eq!(rt; changed_fault(alloc, &EMPTY, &[(12, 0), (32, 72)])?, None);
-    // the strings are the name of a node
-    let bytes = with_words(alloc, &CHOSEN, &[(12, 68), (32, 7)])?;
-    let tree = read(alloc, bytes.as_slice())?;
-    assert!(rt; says(&tree, b"/chosen", b"chosen", b"quiet\0"));
-    assert!(rt; tree.get(b"/chosen", b"bootargs").is_none());
-    Ok(())
+fn slack(rt: HostRuntime) {
+    let mut bytes = with_words(&rt, rt.alloc(), &CHOSEN, &[]);
+    push_many(&rt, &mut bytes, 0xff, 2_097_035);
+    check(&rt, bytes.len() == 2_097_152, "2 MiB");
+    check_changes(&rt, rt.alloc(), &bytes, &CHANGES_OF_SLACK);
 }
 
-// They end with two zeros that are tokens and padding.
-#[test]
-fn reservations_in_the_structure_block(rt: HostRuntime) -> Result<(), Fail> {
-    let alloc = rt.alloc();
-    let block = [BEGIN_NODE, 0, PROP, 16, 0, 0, 0, 0, 0, END_NODE, END];
-    let bytes = file_of_words(alloc, &block, b"reg\0")?;
-    let bytes = with_word(alloc, bytes.as_slice(), 16, 72)?;
-    let tree = read(alloc, bytes.as_slice())?;
-    assert_eq!(rt; tree.reservations(), [].as_slice());
-    Ok(())
-}
+// The header, whose reservations are in the structure block; a pair of zeros; a property that ends with two zeros,
+// which are tokens and padding; and `reg`.
+const ZEROS_IN: [u32; 26] = [
+    0xd00d_feed,
+    104,
+    56,
+    100,
+    72,
+    17,
+    16,
+    0,
+    4,
+    44,
+    0,
+    0,
+    0,
+    0,
+    BEGIN_NODE,
+    0,
+    PROP,
+    16,
+    0,
+    0,
+    0,
+    0,
+    0,
+    END_NODE,
+    END,
+    0x7265_6700,
+];
 
 // The header, three reservations and the pair of zeros, and an empty root.
 const RESERVED: [u32; 30] = [
@@ -350,14 +423,22 @@ const RESERVATIONS: [Reservation; 3] = [
     },
 ];
 
+// Words, the processor that boots, and the reservations.
+type Head = (&'static [u32], u32, &'static [Reservation]);
+
+const HEADS: [Head; 2] = [(&RESERVED, 3, &RESERVATIONS), (&ZEROS_IN, 0, &[])];
+
+fn check_reserved(rt: &impl Abort, alloc: Global, row: &Head) {
+    let (block, boot_cpu, reservations) = row;
+    let tree = tree_of(rt, alloc, &words(rt, alloc, block));
+    check_head(rt, &tree, *boot_cpu, reservations);
+}
+
 #[test]
-fn reservations(rt: HostRuntime) -> Result<(), Fail> {
-    let alloc = rt.alloc();
-    let bytes = words(alloc, &RESERVED)?;
-    let tree = read(alloc, bytes.as_slice())?;
-    assert_eq!(rt; tree.boot_cpu(), 3);
-    assert_eq!(rt; tree.reservations(), RESERVATIONS.as_slice());
-    Ok(())
+fn reservations(rt: HostRuntime) {
+    for row in &HEADS {
+        check_reserved(&rt, rt.alloc(), row);
+    }
 }
 
 // The header, an empty root, and the pair of zeros after it.
@@ -383,50 +464,17 @@ const ZEROS_AFTER: [u32; 18] = [
 ];
 
 // The pair of zeros ends where totalsize does; then a byte before that.
-#[test]
-fn reservations_at_the_end(rt: HostRuntime) -> Result<(), Fail> {
-    let alloc = rt.alloc();
-    let bytes = words(alloc, &ZEROS_AFTER)?;
-    assert_eq!(rt; fault(alloc, bytes.as_slice()), None);
-    let cut = changed_fault(alloc, &bytes, &[(4, 71)])?;
-    assert_eq!(rt; cut, Some(FdtFault::BadBlock));
-    let cut = changed_fault(alloc, &bytes, &[(4, 71), (12, 0)])?;
-    assert_eq!(rt; cut, Some(FdtFault::BadReserve));
-    Ok(())
-}
-
-const NOPS_BEFORE: [u32; 20] = [
-    NOP,
-    NOP,
-    BEGIN_NODE,
-    0,
-    NOP,
-    PROP,
-    4,
-    0,
-    7,
-    NOP,
-    BEGIN_NODE,
-    A,
-    NOP,
-    END_NODE,
-    NOP,
-    END_NODE,
-    NOP,
-    NOP,
-    END,
-    0xffff_ffff,
+const CHANGES_OF_ZEROS: [Change; 3] = [
+    (&[], None),
+    (&[(4, 71)], Some(FdtFault::BadBlock)),
+    (&[(4, 71), (12, 0)], Some(FdtFault::BadReserve)),
 ];
 
 #[test]
-fn nops_before_each_token(rt: HostRuntime) -> Result<(), Fail> {
-    let tree = tree_of_words(rt.alloc(), &NOPS_BEFORE, b"reg\0")?;
-    assert!(rt; says(&tree, b"/", b"reg", &[0, 0, 0, 7]));
-    assert_eq!(rt; tree.root().children.len(), 1);
-    Ok(())
+fn reservations_at_the_end(rt: HostRuntime) {
+    let bytes = words(&rt, rt.alloc(), &ZEROS_AFTER);
+    check_changes(&rt, rt.alloc(), &bytes, &CHANGES_OF_ZEROS);
 }
-
-const A: u32 = 0x6100_0000;
 
 // Structure blocks, and their faults.
 const TOKENS: [([u32; 10], FdtFault); 25] = [
@@ -588,54 +636,71 @@ const TOKENS: [([u32; 10], FdtFault); 25] = [
     ),
 ];
 
-#[test]
-fn faults_of_tokens(rt: HostRuntime) -> Result<(), Fail> {
-    // the strings are `reg`, `a/b` and `tail` without its zero byte
-    for (block, want) in &TOKENS {
-        let fault = block_fault(rt.alloc(), block, b"reg\0a/b\0\0tail")?;
-        assert_eq!(rt; fault, Some(*want), "{block:?}");
-    }
-    Ok(())
+// The fault of a structure block, given the strings.
+fn check_block(
+    rt: &impl Abort,
+    alloc: Global,
+    block: &[u32],
+    strings: &[u8],
+    want: Option<FdtFault>,
+) {
+    let bytes = file_of_words(rt, alloc, block, strings);
+    assert!(rt; fault(alloc, &bytes) == want, "{block:?}, {strings:?}");
 }
 
 #[test]
-fn what_names_may_have(rt: HostRuntime) -> Result<(), Fail> {
-    // every letter, in a node's and in a property's name
-    let alloc = rt.alloc();
-    for byte in 1..=255u32 {
-        let legal = byte > 32 && byte < 127 && byte != 47;
-        let want = if legal { None } else { Some(FdtFault::BadName) };
-        let name = byte.wrapping_mul(0x0100_0000);
-        let node = [BEGIN_NODE, 0, BEGIN_NODE, name, END_NODE, END_NODE, END];
-        assert_eq!(rt; block_fault(alloc, &node, b"")?, want, "a node's, {byte}");
-        let property = [BEGIN_NODE, 0, PROP, 0, 0, END_NODE, END];
-        let fault = block_fault(alloc, &property, &name.to_be_bytes())?;
-        assert_eq!(rt; fault, want, "a property's, {byte}");
+fn faults_of_tokens(rt: HostRuntime) {
+    // the strings are `reg`, `a/b` and `tail` without its zero byte
+    for (block, want) in &TOKENS {
+        check_block(&rt, rt.alloc(), block, b"reg\0a/b\0\0tail", Some(*want));
     }
-    Ok(())
+}
+
+const WITH_PROPERTY: [u32; 7] = [BEGIN_NODE, 0, PROP, 0, 0, END_NODE, END];
+
+// A node's and a property's name of one byte.
+fn check_name(rt: &impl Abort, alloc: Global, byte: u32) {
+    let legal = byte > 32 && byte < 127 && byte != 47;
+    let want = if legal { None } else { Some(FdtFault::BadName) };
+    let name = byte.wrapping_mul(0x0100_0000);
+    let node = [BEGIN_NODE, 0, BEGIN_NODE, name, END_NODE, END_NODE, END];
+    check_block(rt, alloc, &node, b"", want);
+    check_block(rt, alloc, &WITH_PROPERTY, &name.to_be_bytes(), want);
+}
+
+#[test]
+fn what_names_may_have(rt: HostRuntime) {
+    for byte in 1..=255u32 {
+        check_name(&rt, rt.alloc(), byte);
+    }
 }
 
 // Nodes within one another to this depth. The deepest one's name has a space in it, where `bad` is true.
-fn deep(alloc: Global, depth: u32, bad: bool) -> Result<Vec<u8>, Fail> {
-    let mut block = words(alloc, &[BEGIN_NODE, 0])?;
+fn deep(rt: &impl Abort, alloc: Global, depth: u32, bad: bool) -> Vec<u8> {
+    let mut block = words(rt, alloc, &[BEGIN_NODE, 0]);
     for level in 2..=depth {
         let name = if bad && level == depth {
             0x6120_0000
         } else {
             0x6100_0000
         };
-        push_word(&mut block, BEGIN_NODE)?;
-        push_word(&mut block, name)?;
+        push_words(rt, &mut block, &[BEGIN_NODE, name]);
     }
+    block
+}
+
+// As many ends.
+fn push_ends(rt: &impl Abort, block: &mut Vec<u8>, depth: u32) {
     for _ in 0..depth {
-        push_word(&mut block, END_NODE)?;
+        push_words(rt, block, &[END_NODE]);
     }
-    push_word(&mut block, END)?;
-    Ok(block)
+    push_words(rt, block, &[END]);
 }
 
 // A depth, whether the deepest name is bad, and the fault.
-const DEPTHS: [(u32, bool, Option<FdtFault>); 5] = [
+type Depth = (u32, bool, Option<FdtFault>);
+
+const DEPTHS: [Depth; 5] = [
     (63, false, None),
     (64, false, None),
     (64, true, Some(FdtFault::BadName)),
@@ -643,13 +708,17 @@ const DEPTHS: [(u32, bool, Option<FdtFault>); 5] = [
     (65, true, Some(FdtFault::BadName)),
 ];
 
+fn check_depth(rt: &impl Abort, alloc: Global, row: &Depth) {
+    let (depth, bad, want) = row;
+    let mut block = deep(rt, alloc, *depth, *bad);
+    push_ends(rt, &mut block, *depth);
+    let bytes = file(rt, alloc, &block, b"");
+    assert!(rt; fault(alloc, &bytes) == *want, "{depth} deep, bad: {bad}");
+}
+
 #[test]
-fn depths(rt: HostRuntime) -> Result<(), Fail> {
-    let alloc = rt.alloc();
-    for (depth, bad, want) in &DEPTHS {
-        let block = deep(alloc, *depth, *bad)?;
-        let bytes = file(alloc, &block, b"")?;
-        assert_eq!(rt; fault(alloc, &bytes), *want, "{depth} deep");
+fn depths(rt: HostRuntime) {
+    for row in &DEPTHS {
+        check_depth(&rt, rt.alloc(), row);
     }
-    Ok(())
 }

@@ -1,8 +1,9 @@
 //! Each fault of a devicetree, as a launch that changes it is refused for it.
-use crate::placements::{CHOSEN, Case, EMPTY, LARGE, What, check_case, files};
+use crate::placements::{Asked, CHOSEN, Case, EMPTY, LARGE, What, check_case, files};
 use fdt_tree::FdtFault;
 use ipa_layout::LayoutFault;
-use std::alloc::{AllocError, Global};
+use std::alloc::Global;
+use std::process::Abort;
 
 /// A root with a node `a`, and after it a property `reg`, where none is allowed. Written out by hand.
 const LATE: [u8; 100] = [
@@ -49,31 +50,43 @@ const ROWS: [Row; 12] = [
     (&EMPTY, 72, &[], 262_136, FdtFault::TooLarge),
 ];
 
-fn devicetree(alloc: Global, row: Row) -> Result<Vec<u8>, AllocError> {
+/// Sets bytes, each at its place.
+fn change(bytes: &mut [u8], changes: &[(usize, u8)]) {
+    for (place, changed) in changes {
+        if let Some(byte) = bytes.get_mut(*place) {
+            *byte = *changed;
+        }
+    }
+}
+
+/// The devicetree of a row.
+fn devicetree(rt: &impl Abort, alloc: Global, row: &Row) -> Vec<u8> {
     let (file, taken, changes, times, _) = row;
-    let mut bytes = Vec::new(alloc);
-    for (at, byte) in file.iter().enumerate().take(taken) {
-        let change = changes.iter().find(|(place, _)| *place == at);
-        bytes.push(change.map_or(*byte, |(_, changed)| *changed))?;
+    let mut bytes = file.to_vec(alloc).expect(rt, "memory");
+    bytes.truncate(*taken);
+    change(&mut bytes, changes);
+    for _ in 0..*times {
+        bytes.extend_from_slice(&BEGIN_A).expect(rt, "memory");
     }
-    for _ in 0..times {
-        bytes.extend_from_slice(&BEGIN_A)?;
-    }
-    Ok(bytes)
+    bytes
+}
+
+const ASKED: [Asked; 1] = [(What::Edited, 0x4000_0000, None)];
+
+fn check_row(rt: &impl Abort, alloc: Global, row: &Row, number: usize) {
+    let bytes = devicetree(rt, alloc, row);
+    let files = files(rt, alloc, &[&[], &[], &bytes]);
+    let case = Case {
+        ram: &LARGE,
+        items: &ASKED,
+        wanted: Err(LayoutFault::Dtb(row.4)),
+    };
+    check_case(rt, alloc, &files, &case, "a devicetree", number);
 }
 
 #[test]
-fn each_fault_of_a_devicetree(rt: HostRuntime) -> Result<(), AllocError> {
-    let alloc = rt.alloc();
-    for (number, row) in ROWS.into_iter().enumerate() {
-        let bytes = devicetree(alloc, row)?;
-        let files = files(alloc, &[&[], &[], &bytes])?;
-        let case = Case {
-            ram: &LARGE,
-            items: &[(What::Edited, 0x4000_0000, None)],
-            wanted: Err(LayoutFault::Dtb(row.4)),
-        };
-        check_case(&rt, alloc, &files, &case, number)?;
+fn each_fault_of_a_devicetree(rt: HostRuntime) {
+    for number in 0..ROWS.len() {
+        check_row(&rt, rt.alloc(), &ROWS[number], number);
     }
-    Ok(())
 }

@@ -1,28 +1,9 @@
 //! Which parts make a launch.
-use ipa_layout::{
-    Bootargs, Config, Edits, Item, ItemKind, Launch, Rec, Region, Step, default_steps,
-};
+use crate::placements::{REC, check};
+use ipa_layout::{Bootargs, Config, Edits, Item, ItemKind, Launch, Region, Step, default_steps};
 use rim_desc::Algo;
-use std::alloc::{AllocError, Global};
-use std::test::Fail;
-
-fn config() -> Config {
-    Config {
-        algo: Algo::Sha256,
-        s2sz: 33,
-        sve: false,
-        pmu: false,
-        sve_vl: 0,
-        num_bps: 0,
-        num_wps: 0,
-        pmu_num_ctrs: 0,
-        rpv: [0; 64],
-        block_level: 2,
-        num_aux: 0,
-        pool_base: 0x8_0000_0000,
-        pool_count: 16_777_216,
-    }
-}
+use std::alloc::Global;
+use std::process::Abort;
 
 fn item(kind: ItemKind) -> Item {
     Item {
@@ -33,47 +14,93 @@ fn item(kind: ItemKind) -> Item {
     }
 }
 
-/// A launch with one region, these kinds of items, one REC and these steps.
-fn launch(alloc: Global, kinds: &[bool], steps: &[Step]) -> Result<Option<Launch>, AllocError> {
-    let region = Region {
-        base: 0x4000_0000,
-        end: 0x4020_0000,
-    };
-    let rec = Rec {
-        pc: None,
-        x: None,
-        runnable: true,
-    };
+/// A kernel, or raw content.
+fn kind(is_kernel: bool) -> ItemKind {
+    if is_kernel {
+        ItemKind::Kernel { file: 0 }
+    } else {
+        ItemKind::Raw { file: 0 }
+    }
+}
+
+fn push(rt: &impl Abort, items: &mut Vec<Item>, item: Item) {
+    items.push(item).expect(rt, "memory");
+}
+
+fn items(rt: &impl Abort, alloc: Global, kinds: &[bool]) -> Vec<Item> {
     let mut items = Vec::new(alloc);
     for is_kernel in kinds {
-        if *is_kernel {
-            items.push(item(ItemKind::Kernel { file: 0 }))?;
-        } else {
-            items.push(item(ItemKind::Raw { file: 0 }))?;
-        }
+        push(rt, &mut items, item(kind(*is_kernel)));
     }
-    let ram = Vec::from_slice(alloc, &[region])?;
-    let recs = Vec::from_slice(alloc, &[rec])?;
-    let steps = Vec::from_slice(alloc, steps)?;
-    Ok(Launch::new(7, config(), ram, items, recs, steps))
+    items
+}
+
+fn steps_of(rt: &impl Abort, alloc: Global, steps: &[Step]) -> Vec<Step> {
+    Vec::from_slice(alloc, steps).expect(rt, "memory")
+}
+
+/// With IPAs of 33 bits.
+const NARROW: Config = Config {
+    algo: Algo::Sha256,
+    s2sz: 33,
+    sve: false,
+    pmu: false,
+    sve_vl: 0,
+    num_bps: 0,
+    num_wps: 0,
+    pmu_num_ctrs: 0,
+    rpv: [0; 64],
+    block_level: 2,
+    num_aux: 0,
+    pool_base: 0x8_0000_0000,
+    pool_count: 16_777_216,
+};
+
+const REGION: Region = Region {
+    base: 0x4000_0000,
+    end: 0x4020_0000,
+};
+
+/// A launch with one region, these kinds of items, one REC and these steps.
+fn launch(rt: &impl Abort, alloc: Global, kinds: &[bool], steps: &[Step]) -> Option<Launch> {
+    let items = items(rt, alloc, kinds);
+    let ram = Vec::from_slice(alloc, &[REGION]).expect(rt, "memory");
+    let recs = Vec::from_slice(alloc, &[REC]).expect(rt, "memory");
+    let steps = steps_of(rt, alloc, steps);
+    Launch::new(7, NARROW, ram, items, recs, steps)
+}
+
+const ALL: [Step; 3] = [Step::Rec(0), Step::Item(0), Step::Ram(0)];
+
+const TWICE: [Step; 4] = [Step::Rec(0), Step::Item(0), Step::Ram(0), Step::Item(0)];
+
+const ALL_OF_TWO: [Step; 4] = [Step::Ram(0), Step::Item(0), Step::Item(1), Step::Rec(0)];
+
+/// Items, of which some are kernels, steps, and whether they make a launch.
+type Row = (&'static [bool], &'static [Step], bool);
+
+const ROWS: [Row; 6] = [
+    // Steps name each part once.
+    (&[false], &ALL, true),
+    (&[false, false], &ALL, false),
+    (&[], &ALL, false),
+    (&[false], &TWICE, false),
+    // One kernel at most.
+    (&[true, false], &ALL_OF_TWO, true),
+    (&[true, true], &ALL_OF_TWO, false),
+];
+
+fn check_launch(rt: &impl Abort, alloc: Global, row: &Row) {
+    let (kinds, steps, makes_one) = row;
+    let made = launch(rt, alloc, kinds, steps);
+    assert!(rt; made.is_some() == *makes_one, "{kinds:?}, {steps:?}");
 }
 
 #[test]
-fn steps_name_each_part_once(rt: HostRuntime) -> Result<(), AllocError> {
-    let alloc = rt.alloc();
-    let all = [Step::Rec(0), Step::Item(0), Step::Ram(0)];
-    let twice = [Step::Rec(0), Step::Item(0), Step::Ram(0), Step::Item(0)];
-    let cases: [(&[bool], &[Step], bool); 4] = [
-        (&[false], &all, true),
-        (&[false, false], &all, false),
-        (&[], &all, false),
-        (&[false], &twice, false),
-    ];
-    for (number, (kinds, steps, makes_one)) in cases.into_iter().enumerate() {
-        let made = launch(alloc, kinds, steps)?;
-        assert_eq!(rt; made.is_some(), makes_one, "case {number}");
+fn parts_make_a_launch(rt: HostRuntime) {
+    for row in &ROWS {
+        check_launch(&rt, rt.alloc(), row);
     }
-    Ok(())
 }
 
 const KINDS_IN_ORDER: [Step; 9] = [
@@ -88,90 +115,103 @@ const KINDS_IN_ORDER: [Step; 9] = [
     Step::Rec(1),
 ];
 
-// Raw content, a devicetree, an initrd, a kernel, and raw content.
-#[test]
-fn default_steps_by_kind(rt: HostRuntime) -> Result<(), Fail> {
-    let alloc = rt.alloc();
+/// A devicetree, and whether it is to have the place of the initrd.
+fn dtb(initrd: bool) -> Item {
     let edits = Edits {
         bootargs: None,
-        initrd: false,
+        initrd,
         memory: false,
     };
+    item(ItemKind::Dtb { file: 0, edits })
+}
+
+/// Raw content, a devicetree, an initrd, a kernel, and raw content.
+fn five_items(rt: &impl Abort, alloc: Global) -> Vec<Item> {
     let mut items = Vec::new(alloc);
-    items.push(item(ItemKind::Raw { file: 0 }))?;
-    items.push(item(ItemKind::Dtb { file: 0, edits }))?;
-    items.push(item(ItemKind::Initrd { file: 0 }))?;
-    items.push(item(ItemKind::Kernel { file: 0 }))?;
-    items.push(item(ItemKind::Raw { file: 0 }))?;
-    let steps = default_steps(alloc, 2, &items, 2)?;
-    assert_eq!(rt; steps.as_slice(), KINDS_IN_ORDER.as_slice());
-    Ok(())
+    push(rt, &mut items, item(ItemKind::Raw { file: 0 }));
+    push(rt, &mut items, dtb(false));
+    push(rt, &mut items, item(ItemKind::Initrd { file: 0 }));
+    push(rt, &mut items, item(ItemKind::Kernel { file: 0 }));
+    push(rt, &mut items, item(ItemKind::Raw { file: 0 }));
+    items
 }
 
 #[test]
-fn one_kernel_at_most(rt: HostRuntime) -> Result<(), AllocError> {
-    let alloc = rt.alloc();
-    let all = [Step::Ram(0), Step::Item(0), Step::Item(1), Step::Rec(0)];
-    for (kinds, makes_one) in [([true, false], true), ([true, true], false)] {
-        let made = launch(alloc, &kinds, &all)?;
-        assert_eq!(rt; made.is_some(), makes_one);
-    }
-    Ok(())
+fn default_steps_by_kind(rt: HostRuntime) {
+    let items = five_items(&rt, rt.alloc());
+    let steps = default_steps(rt.alloc(), 2, &items, 2).expect(&rt, "memory");
+    check(
+        &rt,
+        steps.as_slice() == KINDS_IN_ORDER.as_slice(),
+        "the steps",
+    );
+}
+
+/// A base, an end, and whether they make a region.
+const REGIONS: [(u64, u64, bool); 4] = [
+    (0, 1, true),
+    (4096, 4096, false),
+    (0, 0x7fff_ffff_ffff_ffff, true),
+    (0, 0x8000_0000_0000_0000, false),
+];
+
+fn check_region(rt: &impl Abort, base: u64, end: u64, makes_one: bool) {
+    let made = Region::new(base, end);
+    assert!(rt; made.is_some() == makes_one, "{base:x} to {end:x}");
 }
 
 #[test]
 fn regions_have_addresses(rt: HostRuntime) {
-    let cases = [
-        (0, 1, true),
-        (4096, 4096, false),
-        (0, 0x7fff_ffff_ffff_ffff, true),
-        (0, 0x8000_0000_0000_0000, false),
-    ];
-    for (number, (base, end, makes_one)) in cases.into_iter().enumerate() {
-        let made = Region::new(base, end);
-        assert_eq!(rt; made.is_some(), makes_one, "case {number}");
+    for (base, end, makes_one) in &REGIONS {
+        check_region(&rt, *base, *end, *makes_one);
     }
+}
+
+const END: u64 = 0x8000_0000_0000_0000;
+
+/// An address, a size, and whether they make an item.
+const NUMBERS: [(u64, Option<u64>, bool); 4] = [
+    (0, None, true),
+    (END - 1, Some(END - 1), true),
+    (END, None, false),
+    (0, Some(END), false),
+];
+
+fn check_item(rt: &impl Abort, at: u64, size: Option<u64>, makes_one: bool) {
+    let made = Item::new(ItemKind::Raw { file: 0 }, at, size, true);
+    assert!(rt; made.is_some() == makes_one, "{at:x}, {size:?}");
 }
 
 #[test]
 fn items_have_numbers(rt: HostRuntime) {
-    const END: u64 = 0x8000_0000_0000_0000;
-    let cases = [
-        (0, None, true),
-        (END - 1, Some(END - 1), true),
-        (END, None, false),
-        (0, Some(END), false),
-    ];
-    for (number, (at, size, makes_one)) in cases.into_iter().enumerate() {
-        let made = Item::new(ItemKind::Raw { file: 0 }, at, size, true);
-        assert_eq!(rt; made.is_some(), makes_one, "case {number}");
+    for (at, size, makes_one) in &NUMBERS {
+        check_item(&rt, *at, *size, *makes_one);
     }
 }
 
+/// A launch of a devicetree alone.
+fn check_edits(rt: &impl Abort, alloc: Global, initrd: bool) {
+    let mut items = Vec::new(alloc);
+    push(rt, &mut items, dtb(initrd));
+    let steps = steps_of(rt, alloc, &[Step::Item(0)]);
+    let made = Launch::new(0, NARROW, Vec::new(alloc), items, Vec::new(alloc), steps);
+    check(rt, made.is_some() == !initrd, "only without an initrd");
+}
+
 #[test]
-fn edits_need_their_parts(rt: HostRuntime) -> Result<(), AllocError> {
-    let alloc = rt.alloc();
+fn edits_need_their_parts(rt: HostRuntime) {
     for initrd in [false, true] {
-        let edits = Edits {
-            bootargs: None,
-            initrd,
-            memory: false,
-        };
-        let mut items = Vec::new(alloc);
-        items.push(item(ItemKind::Dtb { file: 0, edits }))?;
-        let steps = Vec::from_slice(alloc, &[Step::Item(0)])?;
-        let made = Launch::new(0, config(), Vec::new(alloc), items, Vec::new(alloc), steps);
-        assert_eq!(rt; made.is_some(), !initrd);
+        check_edits(&rt, rt.alloc(), initrd);
     }
-    Ok(())
+}
+
+fn check_line(rt: &impl Abort, alloc: Global, text: &str, makes_one: bool) {
+    let made = Bootargs::new(String::from_str(alloc, text).expect(rt, "memory"));
+    assert!(rt; made.is_some() == makes_one, "{text:?}");
 }
 
 #[test]
-fn command_lines(rt: HostRuntime) -> Result<(), AllocError> {
-    let alloc = rt.alloc();
-    for (text, makes_one) in [("quiet", true), ("qui\0et", false)] {
-        let made = Bootargs::new(String::from_str(alloc, text)?);
-        assert_eq!(rt; made.is_some(), makes_one);
-    }
-    Ok(())
+fn command_lines(rt: HostRuntime) {
+    check_line(&rt, rt.alloc(), "quiet", true);
+    check_line(&rt, rt.alloc(), "qui\0et", false);
 }

@@ -56,23 +56,35 @@ fn needs_of(alloc: Global, lists: &[&[usize]], pages: usize) -> Result<Vec<Vec<u
     Ok(needs)
 }
 
-/// A core whose launches need the pages listed.
+/// A core of 1 to 64 workers, whose launches need the pages listed.
 fn core_of(
+    rt: &impl Abort,
     alloc: Global,
     workers: usize,
     pages: usize,
     lists: &[&[usize]],
-) -> Result<Core, NoMemory>
-    requires { (1 ≤ workers) × (workers ≤ 64) }
-{
-    let needs = needs_of(alloc, lists, pages)?;
-    Core::new(alloc, workers, pages, needs)
+) -> Core {
+    let needs = needs_of(alloc, lists, pages).expect(rt, "memory");
+    let workers = workers.max(1).min(64);
+    Core::new(alloc, workers, pages, needs).expect(rt, "memory")
 }
 
-/// Offers events in order, each of which is to be answered so.
-fn play(rt: &impl Abort, core: &mut Core, rows: &[(Act, Result<(), CoreFault>)]) {
+fn check(rt: &impl Abort, holds: bool, name: &str) {
+    assert!(rt; holds, "{name}");
+}
+
+/// An event, and its answer.
+type Row = (Act, Result<(), CoreFault>);
+
+/// Offers an event, which is to be answered so.
+fn step(rt: &impl Abort, core: &mut Core, act: Act, answer: Result<(), CoreFault>) {
+    let event = event_of(act);
+    assert!(rt; core.step(&event) == answer, "{event:?}");
+}
+
+/// Offers events in order.
+fn play(rt: &impl Abort, core: &mut Core, rows: &[Row]) {
     for (act, answer) in rows {
-        let event = event_of(*act);
-        assert_eq!(rt; core.step(&event), *answer, "{event:?}");
+        step(rt, core, *act, *answer);
     }
 }

@@ -4,19 +4,26 @@ mod chains;
 mod first_fronts;
 mod plans;
 
-use page_jobs::PageKey;
+ghost use Rattle.rim_chain.specs.Rows.{IsFilled};
+
+use page_jobs::{DigestRow, Page, PageJob, PageKey, Table};
 use rim_chain::{LaunchPlan, Link};
 use rim_desc::{Algo, RealmParams, RecParams, Source, hash, rec_page};
-use std::alloc::{AllocError, Global};
+use std::alloc::Global;
+use std::process::Abort;
 
 const LEAD: u64 = 16;
 
-fn item(alloc: Global) -> Result<Vec<u8>, AllocError> {
+fn check(rt: &impl Abort, holds: bool, name: &str) {
+    assert!(rt; holds, "{name}");
+}
+
+fn item(rt: &impl Abort, alloc: Global) -> Vec<u8> {
     let mut bytes = Vec::new(alloc);
     for i in 0..4097u32 {
-        bytes.push(((7 * i + 3) % 251) as u8)?;
+        bytes.push(((7 * i + 3) % 251) as u8).expect(rt, "memory");
     }
-    Ok(bytes)
+    bytes
 }
 
 fn realm(algo: Algo) -> RealmParams {
@@ -44,26 +51,78 @@ fn first_key(algo: Algo) -> PageKey {
     }
 }
 
-/// The plan of the launch.
-fn plan(alloc: Global, algo: Algo) -> Result<Option<LaunchPlan>, AllocError> {
-    let rec = RecParams::new(1, 0, 0x4000_0010, [7, 0, 0, 0, 0, 0, 0, 0], &[]);
+fn push(rt: &impl Abort, links: &mut Vec<Link>, link: Link) {
+    links.push(link).expect(rt, "memory");
+}
+
+/// A plan of blocks from an address on, two measured pages, pages that are not measured, and a REC.
+fn plan_of(
+    rt: &impl Abort,
+    alloc: Global,
+    realm: RealmParams,
+    blocks: (u64, u64),
+    unmeasured: u64,
+    rec: &[u8],
+) -> LaunchPlan {
     let mut links = Vec::new(alloc);
-    links.push(Link::Blocks {
-        base: 0x4000_0000,
-        size: 4096,
-        count: 2,
-    })?;
-    links.push(Link::Pages {
+    let (base, count) = blocks;
+    push(
+        rt,
+        &mut links,
+        Link::Blocks {
+            base,
+            size: 4096,
+            count,
+        },
+    );
+    push(rt, &mut links, measured(realm.algo));
+    push(
+        rt,
+        &mut links,
+        Link::Unmeasured {
+            ipa: 0x4010_0000,
+            count: unmeasured,
+        },
+    );
+    push(
+        rt,
+        &mut links,
+        Link::Rec {
+            content: hash(realm.algo, rec),
+        },
+    );
+    LaunchPlan::new(realm, links).expect(rt, "the links fit")
+}
+
+/// The two measured pages.
+fn measured(algo: Algo) -> Link {
+    Link::Pages {
         ipa: 0x4000_0000,
         key: first_key(algo),
         count: 2,
-    })?;
-    links.push(Link::Unmeasured {
-        ipa: 0x4010_0000,
-        count: 1,
-    })?;
-    links.push(Link::Rec {
-        content: hash(algo, &rec_page(&rec)),
-    })?;
-    Ok(LaunchPlan::new(realm(algo), links))
+    }
+}
+
+/// The plan of the launch.
+fn plan(rt: &impl Abort, alloc: Global, algo: Algo) -> LaunchPlan {
+    let rec = RecParams::new(1, 0, 0x4000_0010, [7, 0, 0, 0, 0, 0, 0, 0], &[]);
+    plan_of(rt, alloc, realm(algo), (0x4000_0000, 2), 1, &rec_page(&rec))
+}
+
+/// Puts a page's digest into its slot.
+fn put<'a>(rt: &impl Abort, table: &mut Table<'a>, slot: usize, page: Page<'a>) {
+    check(
+        rt,
+        table.fill(slot, PageJob::new(page).run()).is_ok(),
+        "its slot",
+    );
+}
+
+/// A row with the digests of the plan's pages.
+fn filled_row(rt: &impl Abort, alloc: Global, plan: &LaunchPlan, table: &Table) -> DigestRow
+    ensures { IsFilled plan.now result.digests }
+{
+    let mut row = DigestRow::reserve(alloc, plan.pages()).expect(rt, "memory");
+    assert!(rt; plan.fill_row(table, &mut row));
+    row
 }

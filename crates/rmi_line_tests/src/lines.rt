@@ -2,7 +2,6 @@ use rim_desc::{Algo, Command, Measurement, RealmParams, RecParams};
 use rmi_line::print_line;
 use std::alloc::Global;
 use std::process::Abort;
-use std::test::Fail;
 
 const SMALL: RealmParams = RealmParams {
     flags: 0,
@@ -119,18 +118,16 @@ const LINES: [(Command, &str); 12] = [
     (Command::Activate, "activate"),
 ];
 
-fn check(rt: &impl Abort, alloc: Global, command: &Command, line: &str) -> Result<(), Fail> {
-    let printed = print_line(alloc, command)?;
-    assert_eq!(rt; printed.as_slice(), line.as_bytes());
-    Ok(())
+fn check(rt: &impl Abort, alloc: Global, command: &Command, line: &str) {
+    let printed = print_line(alloc, command).expect(rt, "memory");
+    assert!(rt; printed.as_slice() == line.as_bytes(), "{line}");
 }
 
 #[test]
-fn commands_without_recs(rt: HostRuntime) -> Result<(), Fail> {
+fn commands_without_recs(rt: HostRuntime) {
     for (command, line) in &LINES {
-        check(&rt, rt.alloc(), command, line)?;
+        check(&rt, rt.alloc(), command, line);
     }
-    Ok(())
 }
 
 const X: [u64; 8] = [0x10, 0x11, 0x12, 0x13, 0x14, 0x15, 0x16, 0x17];
@@ -156,18 +153,21 @@ const RECS: [(&[u64], &str); 3] = [
     ),
 ];
 
-#[test]
-fn recs(rt: HostRuntime) -> Result<(), Fail> {
-    for (aux, line) in &RECS {
-        if aux.len() > 16 {
-            return Err("more than 16 auxiliary granules".into());
-        }
-        let params = RecParams::new(1, 0x101, 0x4008_0000, X, aux);
-        let command = Command::RecCreate {
-            rec: 0x8_0000_7000,
-            params,
-        };
-        check(&rt, rt.alloc(), &command, line)?;
+fn check_rec(rt: &impl Abort, alloc: Global, aux: &[u64], line: &str) {
+    if aux.len() > 16 {
+        panic!(rt; "more than 16 auxiliary granules");
     }
-    Ok(())
+    let params = RecParams::new(1, 0x101, 0x4008_0000, X, aux);
+    let command = Command::RecCreate {
+        rec: 0x8_0000_7000,
+        params,
+    };
+    check(rt, alloc, &command, line);
+}
+
+#[test]
+fn recs(rt: HostRuntime) {
+    for (aux, line) in &RECS {
+        check_rec(&rt, rt.alloc(), aux, line);
+    }
 }

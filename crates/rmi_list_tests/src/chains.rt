@@ -3,7 +3,7 @@ ghost use Rattle.std.specs.Prelude.{◌≡◌, ◌<◌, length, Ok};
 ghost use Rattle.rim_desc.specs.declared.measurement.Algo.TheVariants.{Sha256};
 ghost use Rattle.rmi_list.specs.Listed.{listed};
 
-use crate::launches::{Parts, WIDE, config, launch_of, placed_of};
+use crate::launches::{Parts, WIDE, check, config, files_of, launch_of, placed_of};
 use ipa_layout::{Placed, PlacedItem};
 use page_jobs::{Blob, DigestRow, Page, PageJob, Table, distinct_pages};
 use rim_chain::{LaunchPlan, chain};
@@ -13,7 +13,6 @@ use rmi_list::{Plan, list};
 use rmm_monitor::Monitor;
 use std::alloc::Global;
 use std::process::Abort;
-use std::test::Fail;
 
 /// A page of an item whose bytes are these.
 fn page_of<'a>(item: &PlacedItem, bytes: &'a [u8], page: u64) -> Option<Page<'a>> {
@@ -24,23 +23,35 @@ fn page_of<'a>(item: &PlacedItem, bytes: &'a [u8], page: u64) -> Option<Page<'a>
     }
 }
 
+/// The page that a command creates, where it is measured.
+fn page_at<'a>(
+    placed: &'a Placed,
+    plan: &Plan,
+    files: &'a [Vec<u8>],
+    index: usize,
+) -> Option<Page<'a>>
+    requires { index < length plan.now }
+{
+    let (number, page) = plan.page_of(index)?;
+    let item = placed.items().get(number)?;
+    page_of(item, placed.bytes(files, item.source), page)
+}
+
 /// The measured pages of a list, each as often as it is created.
 fn pages_of<'a>(
+    rt: &impl Abort,
     alloc: Global,
     placed: &'a Placed,
     plan: &Plan,
     files: &'a [Vec<u8>],
-) -> Result<Vec<Page<'a>>, Fail> {
+) -> Vec<Page<'a>> {
     let mut pages = Vec::new(alloc);
     for index in 0..plan.len() {
-        if let Some((number, page)) = plan.page_of(index)
-            && let Some(item) = placed.items().get(number)
-            && let Some(page) = page_of(item, placed.bytes(files, item.source), page)
-        {
-            pages.push(page)?;
+        if let Some(page) = page_at(placed, plan, files, index) {
+            pages.push(page).expect(rt, "memory");
         }
     }
-    Ok(pages)
+    pages
 }
 
 /// Puts the digest of each page into its slot.
@@ -66,90 +77,85 @@ fn next_content(plan: &Plan, index: usize, rest: &mut &[Measurement]) -> Measure
 
 /// What a monitor holds after the commands of a list, whose measured pages have these digests in order.
 fn followed(
+    rt: &impl Abort,
     alloc: Global,
     launch: &Launch,
     plan: &Plan,
     digests: &[Measurement],
-) -> Result<Option<Measurement>, Fail> {
+) -> Option<Measurement> {
     let mut monitor = Monitor::new(alloc, launch.config().num_aux);
     let mut rest = digests;
     for index in 0..plan.len() {
         let content = next_content(plan, index, &mut rest);
-        if monitor.apply(&plan.command(index, &content)).is_err() {
-            return Err("a command is refused".into());
-        }
+        let answer = monitor.apply(&plan.command(index, &content));
+        check(rt, answer.is_ok(), "a command is taken");
     }
-    Ok(monitor.rim())
+    monitor.rim()
 }
 
 /// The digests of a launch's measured pages in a table, in order, and their chain.
 fn chained(
+    rt: &impl Abort,
     alloc: Global,
     launch: &Launch,
     placed: &Placed,
     commands: &Plan,
     table: &Table,
-) -> Result<(DigestRow, Measurement), Fail>
+) -> (DigestRow, Measurement)
     requires algo { launch.now.config.algo ≡ Sha256 }
     requires list { listed launch.now placed.now ≡ Ok commands.now }
 {
-    let plan = LaunchPlan::read(alloc, Algo::Sha256, launch, placed, commands)?;
-    let mut row = DigestRow::reserve(alloc, plan.pages())?;
+    let plan = LaunchPlan::read(alloc, Algo::Sha256, launch, placed, commands);
+    let plan = plan.expect(rt, "a plan");
+    let mut row = DigestRow::reserve(alloc, plan.pages()).expect(rt, "memory");
     if !plan.fill_row(table, &mut row) {
-        return Err("a page has no digest".into());
+        panic!(rt; "a page has no digest");
     }
     let rim = chain(&plan, &row);
-    Ok((row, rim))
+    (row, rim)
 }
 
-/// The digests of a launch's measured pages, their chain, and what a monitor holds after its list.
-fn both(
+/// The chain of a launch's measured pages is what a monitor holds after its list. They are this many.
+fn check_chain(
+    rt: &impl Abort,
     alloc: Global,
     launch: &Launch,
     placed: &Placed,
     commands: &Plan,
     files: &[Vec<u8>],
-) -> Result<(usize, Measurement, Option<Measurement>), Fail>
+    measured: usize,
+)
     requires algo { launch.now.config.algo ≡ Sha256 }
     requires list { listed launch.now placed.now ≡ Ok commands.now }
 {
-    let mut pages = pages_of(alloc, placed, commands, files)?;
+    let mut pages = pages_of(rt, alloc, placed, commands, files);
     distinct_pages(&mut pages);
-    let mut table = Table::reserve(alloc, &pages)?;
+    let mut table = Table::reserve(alloc, &pages).expect(rt, "memory");
     fill(&mut table);
-    let (row, rim) = chained(alloc, launch, placed, commands, &table)?;
-    let held = followed(alloc, launch, commands, row.digests())?;
-    Ok((row.digests().len(), rim, held))
+    let (row, rim) = chained(rt, alloc, launch, placed, commands, &table);
+    check(rt, row.digests().len() == measured, "how many pages");
+    let held = followed(rt, alloc, launch, commands, row.digests());
+    check(rt, held == Some(rim), "what the monitor holds");
 }
 
-fn check(
-    rt: &impl Abort,
-    alloc: Global,
-    config: &Config,
-    parts: &Parts,
-    measured: usize,
-) -> Result<(), Fail> {
-    let Some(launch) = launch_of(alloc, config, parts)? else {
-        return Err("no launch".into());
-    };
-    let files = Vec::from_array(alloc, [Vec::from_slice(alloc, &[7])?, Vec::new(alloc)])?;
+fn check_row(rt: &impl Abort, alloc: Global, row: &Row) {
+    let (_, config, parts, measured) = row;
+    let launch = launch_of(rt, alloc, config, parts);
+    let files = files_of(rt, alloc);
     if !launch.has_files(files.len()) || launch.config().algo != Algo::Sha256 {
-        return Err("no files".into());
+        panic!(rt; "no files");
     }
-    let placed = placed_of(alloc, &launch, &files)?;
-    let Ok(commands) = list(alloc, &launch, &placed) else {
-        return Err("no list".into());
-    };
-    let (pages, rim, held) = both(alloc, &launch, &placed, &commands, &files)?;
-    assert_eq!(rt; pages, measured);
-    assert_eq!(rt; held, Some(rim));
-    Ok(())
+    let placed = placed_of(rt, alloc, &launch, &files);
+    let commands = list(alloc, &launch, &placed).expect(rt, "a list");
+    check_chain(rt, alloc, &launch, &placed, &commands, &files, *measured);
 }
 
 const GIB: u64 = 0x4000_0000;
 
 /// A configuration, the parts of a launch, and how many measured pages it has.
-const ROWS: [(&str, Config, Parts, usize); 4] = [
+type Row = (&'static str, Config, Parts, usize);
+
+const ROWS: [Row; 4] = [
     (
         "nothing but a realm",
         WIDE,
@@ -209,9 +215,8 @@ const ROWS: [(&str, Config, Parts, usize); 4] = [
 ];
 
 #[test]
-fn chains_are_what_a_monitor_holds(rt: HostRuntime) -> Result<(), Fail> {
-    for (_, config, parts, measured) in &ROWS {
-        check(&rt, rt.alloc(), config, parts, *measured)?;
+fn chains_are_what_a_monitor_holds(rt: HostRuntime) {
+    for row in &ROWS {
+        check_row(&rt, rt.alloc(), row);
     }
-    Ok(())
 }

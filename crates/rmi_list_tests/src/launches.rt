@@ -1,5 +1,5 @@
 //! The launches of the rows.
-ghost use Rattle.std.specs.Prelude.{◌≡◌, IfOk, length, true};
+ghost use Rattle.std.specs.Prelude.{◌≡◌, length, true};
 ghost use Rattle.rim_launch.specs.LaunchData.{has_files};
 ghost use Rattle.rmi_list.specs.Listed.{HasPlace};
 
@@ -7,7 +7,7 @@ use ipa_layout::{Placed, place};
 use rim_launch::{Config, Item, ItemKind, Launch, Rec, Region, Step, default_steps};
 use rmi_list::{ListFault, Plan, list};
 use std::alloc::Global;
-use std::test::Fail;
+use std::process::Abort;
 
 /// A configuration by its width, its least level of a block, its number of auxiliary granules and its number of
 /// granules, with SHA-256 and the defaults of a manifest.
@@ -52,55 +52,75 @@ pub struct Parts {
     pub steps: &'static [Step],
 }
 
-/// The launch with these parts; none where its type refuses them.
-pub fn launch_of(alloc: Global, config: &Config, parts: &Parts) -> Result<Option<Launch>, Fail> {
-    let mut ram = Vec::new(alloc);
-    for (base, end) in parts.ram {
-        if let Some(region) = Region::new(*base, *end) {
-            ram.push(region)?;
-        }
+pub fn check(rt: &impl Abort, holds: bool, name: &str) {
+    assert!(rt; holds, "{name}");
+}
+
+fn regions(rt: &impl Abort, alloc: Global, ram: &[(u64, u64)]) -> Vec<Region> {
+    let mut regions = Vec::new(alloc);
+    for (base, end) in ram {
+        let region = Region::new(*base, *end).expect(rt, "a region");
+        regions.push(region).expect(rt, "memory");
     }
+    regions
+}
+
+fn items(rt: &impl Abort, alloc: Global, parts: &[(u64, u64, bool)]) -> Vec<Item> {
     let mut items = Vec::new(alloc);
-    for (at, size, measured) in parts.items {
+    for (at, size, measured) in parts {
         let file = if *size == 0 { 1 } else { 0 };
-        if let Some(item) = Item::new(ItemKind::Raw { file }, *at, Some(*size), *measured) {
-            items.push(item)?;
-        }
+        let item = Item::new(ItemKind::Raw { file }, *at, Some(*size), *measured);
+        items.push(item.expect(rt, "an item")).expect(rt, "memory");
     }
+    items
+}
+
+fn recs(rt: &impl Abort, alloc: Global, parts: &[bool]) -> Vec<Rec> {
     let mut recs = Vec::new(alloc);
-    for runnable in parts.recs {
-        recs.push(Rec {
+    for runnable in parts {
+        let rec = Rec {
             pc: Some(0x4008_0000),
             x: None,
             runnable: *runnable,
-        })?;
+        };
+        recs.push(rec).expect(rt, "memory");
     }
-    let steps = if parts.steps.is_empty() {
-        default_steps(alloc, ram.len(), &items, recs.len())?
-    } else {
-        Vec::from_slice(alloc, parts.steps)?
-    };
-    Ok(Launch::new(0, *config, ram, items, recs, steps))
+    recs
 }
 
-/// The list of a launch whose first file has one byte, 7, and whose second has none.
-pub fn list_of(alloc: Global, launch: &Launch) -> Result<Result<Plan, ListFault>, Fail> {
-    let bytes = Vec::from_slice(alloc, &[7])?;
-    let files = Vec::from_array(alloc, [bytes, Vec::new(alloc)])?;
+/// The launch with these parts.
+pub fn launch_of(rt: &impl Abort, alloc: Global, config: &Config, parts: &Parts) -> Launch {
+    let ram = regions(rt, alloc, parts.ram);
+    let items = items(rt, alloc, parts.items);
+    let recs = recs(rt, alloc, parts.recs);
+    let steps = if parts.steps.is_empty() {
+        default_steps(alloc, ram.len(), &items, recs.len()).expect(rt, "memory")
+    } else {
+        Vec::from_slice(alloc, parts.steps).expect(rt, "memory")
+    };
+    Launch::new(0, *config, ram, items, recs, steps).expect(rt, "a launch")
+}
+
+/// A file of one byte, 7, and one of none.
+pub fn files_of(rt: &impl Abort, alloc: Global) -> Vec<Vec<u8>> {
+    let bytes = Vec::from_slice(alloc, &[7]).expect(rt, "memory");
+    Vec::from_array(alloc, [bytes, Vec::new(alloc)]).expect(rt, "memory")
+}
+
+/// The list of a launch with these files.
+pub fn list_of(rt: &impl Abort, alloc: Global, launch: &Launch) -> Result<Plan, ListFault> {
+    let files = files_of(rt, alloc);
     if !launch.has_files(files.len()) {
-        return Err("an item's file is missing".into());
+        panic!(rt; "an item's file is missing");
     }
-    let placed = placed_of(alloc, launch, &files)?;
-    Ok(list(alloc, launch, &placed))
+    let placed = placed_of(rt, alloc, launch, &files);
+    list(alloc, launch, &placed)
 }
 
 /// The place of a launch with these files.
-pub fn placed_of(alloc: Global, launch: &Launch, files: &[Vec<u8>]) -> Result<Placed, Fail>
+pub fn placed_of(rt: &impl Abort, alloc: Global, launch: &Launch, files: &[Vec<u8>]) -> Placed
     requires { has_files launch.now (length files.now) ≡ true }
-    ensures { IfOk result (λ placed. HasPlace launch.now placed) }
+    ensures { HasPlace launch.now result }
 {
-    match place(alloc, launch, files) {
-        Ok(placed) => Ok(placed),
-        Err(_) => Err("the launch has no place".into()),
-    }
+    place(alloc, launch, files).expect(rt, "the launch has a place")
 }

@@ -1,47 +1,42 @@
 //! The commands of worked launches, line by line. The granules before the realm are left out but for one row.
-use crate::launches::{CONFIG, Parts, WIDE, launch_of, list_of};
-use rim_desc::Measurement;
+use crate::launches::{CONFIG, Parts, WIDE, check, launch_of, list_of};
+use rim_desc::{Command, Measurement};
 use rim_launch::{Config, Step};
 use rmi_list::{Plan, print_line};
 use std::alloc::Global;
 use std::process::Abort;
-use std::test::Fail;
 
 /// The content that measured pages are given.
 const CONTENT: Measurement = Measurement { bytes: [0xab; 64] };
 
-/// The lines of a plan from a command on, each with a newline.
-fn lines_of(alloc: Global, plan: &Plan, first: usize) -> Result<Vec<u8>, Fail> {
-    let mut text = Vec::new(alloc);
-    for index in first..plan.len() {
-        let line = print_line(alloc, &plan.command(index, &CONTENT))?;
-        text.extend_from_slice(line.as_slice())?;
-        text.push(b'\n')?;
-    }
-    Ok(text)
+/// Adds a command's line and a newline.
+fn push_line(rt: &impl Abort, alloc: Global, text: &mut Vec<u8>, command: &Command) {
+    let line = print_line(alloc, command).expect(rt, "memory");
+    text.extend_from_slice(&line).expect(rt, "memory");
+    text.push(b'\n').expect(rt, "memory");
 }
 
-fn check(
-    rt: &impl Abort,
-    alloc: Global,
-    config: &Config,
-    parts: &Parts,
-    first: usize,
-    lines: &str,
-) -> Result<(), Fail> {
-    let Some(launch) = launch_of(alloc, config, parts)? else {
-        return Err("no launch".into());
-    };
-    let Ok(plan) = list_of(alloc, &launch)? else {
-        return Err("no list".into());
-    };
-    let text = lines_of(alloc, &plan, first)?;
-    assert_eq!(rt; text.as_slice(), lines.as_bytes());
-    Ok(())
+/// The lines of a plan from a command on, each with a newline.
+fn lines_of(rt: &impl Abort, alloc: Global, plan: &Plan, first: usize) -> Vec<u8> {
+    let mut text = Vec::new(alloc);
+    for index in first..plan.len() {
+        push_line(rt, alloc, &mut text, &plan.command(index, &CONTENT));
+    }
+    text
+}
+
+fn check_list(rt: &impl Abort, alloc: Global, row: &Row) {
+    let (name, config, parts, first, lines) = row;
+    let launch = launch_of(rt, alloc, config, parts);
+    let plan = list_of(rt, alloc, &launch).expect(rt, "a list");
+    let text = lines_of(rt, alloc, &plan, *first);
+    check(rt, text.as_slice() == lines.as_bytes(), name);
 }
 
 /// A configuration, the parts of a launch, the number of the first line that is compared, and the lines from it on.
-const ROWS: [(&str, Config, Parts, usize, &str); 8] = [
+type Row = (&'static str, Config, Parts, usize, &'static str);
+
+const ROWS: [Row; 8] = [
     (
         "nothing but a realm",
         CONFIG,
@@ -141,9 +136,8 @@ const ROWS: [(&str, Config, Parts, usize, &str); 8] = [
 ];
 
 #[test]
-fn worked_lists(rt: HostRuntime) -> Result<(), Fail> {
-    for (_, config, parts, first, lines) in &ROWS {
-        check(&rt, rt.alloc(), config, parts, *first, lines)?;
+fn worked_lists(rt: HostRuntime) {
+    for row in &ROWS {
+        check_list(&rt, rt.alloc(), row);
     }
-    Ok(())
 }

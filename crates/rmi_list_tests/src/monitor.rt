@@ -1,6 +1,6 @@
 //! A monitor follows the lists of worked launches: it takes each command, and its Realm Initial Measurement is the fold
 //! over parts that were written by hand.
-use crate::launches::{CONFIG, Parts, WIDE, config, launch_of, list_of};
+use crate::launches::{CONFIG, Parts, WIDE, check, config, launch_of, list_of};
 use rim_desc::{
     Algo, Measurement, data_descriptor, extend, hash, rec_descriptor, ripas_descriptor,
 };
@@ -8,13 +8,12 @@ use rim_launch::{Config, Launch, Step};
 use rmm_monitor::Monitor;
 use std::alloc::Global;
 use std::process::Abort;
-use std::test::Fail;
 
 const CONTENT: Measurement = Measurement { bytes: [0; 64] };
 
 /// Parts of a measurement.
 enum Measured {
-    /// So many blocks of a size in bytes, side by side from an address on.
+    /// An address, and how many blocks of which size in bytes are side by side from there on.
     Blocks(u64, u64, u64),
     /// A page at an IPA, measured or not.
     Page(u64, bool),
@@ -22,25 +21,31 @@ enum Measured {
     Rec,
 }
 
+/// Blocks of a size in bytes, side by side from an address on.
+fn add_blocks(algo: Algo, rim: Measurement, base: u64, count: u64, size: u64) -> Measurement {
+    let mut rim = rim;
+    for number in 0..count {
+        let at = base.saturating_add(number.saturating_mul(size));
+        rim = extend(algo, &ripas_descriptor(&rim, at, at.saturating_add(size)));
+    }
+    rim
+}
+
+/// The page of a runnable REC that begins at 0x40080000.
+fn rec_page() -> [u8; 4096] {
+    let mut page = [0; 4096];
+    page[0] = 1;
+    page[0x202] = 0x08;
+    page[0x203] = 0x40;
+    page
+}
+
 fn add(algo: Algo, rim: Measurement, part: &Measured) -> Measurement {
-    match part {
-        Measured::Blocks(base, count, size) => {
-            let mut rim = rim;
-            for number in 0..*count {
-                let at = base.saturating_add(number.saturating_mul(*size));
-                rim = extend(algo, &ripas_descriptor(&rim, at, at.saturating_add(*size)));
-            }
-            rim
-        }
-        Measured::Page(ipa, true) => extend(algo, &data_descriptor(&rim, *ipa, Some(&CONTENT))),
-        Measured::Page(ipa, false) => extend(algo, &data_descriptor(&rim, *ipa, None)),
-        Measured::Rec => {
-            let mut page = [0; 4096];
-            page[0] = 1;
-            page[0x202] = 0x08;
-            page[0x203] = 0x40;
-            extend(algo, &rec_descriptor(&rim, &hash(algo, &page)))
-        }
+    match *part {
+        Measured::Blocks(base, count, size) => add_blocks(algo, rim, base, count, size),
+        Measured::Page(ipa, true) => extend(algo, &data_descriptor(&rim, ipa, Some(&CONTENT))),
+        Measured::Page(ipa, false) => extend(algo, &data_descriptor(&rim, ipa, None)),
+        Measured::Rec => extend(algo, &rec_descriptor(&rim, &hash(algo, &rec_page()))),
     }
 }
 
@@ -56,39 +61,34 @@ fn rim_of(algo: Algo, s2sz: u8, parts: &[Measured]) -> Measurement {
 }
 
 /// What a monitor holds after the commands of a launch.
-fn followed(alloc: Global, launch: &Launch) -> Result<Option<Measurement>, Fail> {
-    let Ok(plan) = list_of(alloc, launch)? else {
-        return Err("no list".into());
-    };
+fn followed(rt: &impl Abort, alloc: Global, launch: &Launch) -> Option<Measurement> {
+    let plan = list_of(rt, alloc, launch).expect(rt, "a list");
     let mut monitor = Monitor::new(alloc, launch.config().num_aux);
     for index in 0..plan.len() {
-        if monitor.apply(&plan.command(index, &CONTENT)).is_err() {
-            return Err("a command is refused".into());
-        }
+        let answer = monitor.apply(&plan.command(index, &CONTENT));
+        check(rt, answer.is_ok(), "a command is taken");
     }
-    Ok(monitor.rim())
+    monitor.rim()
 }
 
-fn check(
-    rt: &impl Abort,
-    alloc: Global,
-    config: &Config,
-    parts: &Parts,
-    measured: &[Measured],
-) -> Result<(), Fail> {
-    let Some(launch) = launch_of(alloc, config, parts)? else {
-        return Err("no launch".into());
-    };
-    let rim = followed(alloc, &launch)?;
-    assert_eq!(rt; rim, Some(rim_of(Algo::Sha256, config.s2sz, measured)));
-    Ok(())
+fn check_row(rt: &impl Abort, alloc: Global, row: &Row) {
+    let (name, config, parts, measured) = row;
+    let launch = launch_of(rt, alloc, config, parts);
+    let rim = followed(rt, alloc, &launch);
+    check(
+        rt,
+        rim == Some(rim_of(Algo::Sha256, config.s2sz, measured)),
+        name,
+    );
 }
 
 const GIB: u64 = 0x4000_0000;
 
 const MIB_2: u64 = 0x20_0000;
 
-const ROWS: [(&str, Config, Parts, &[Measured]); 10] = [
+type Row = (&'static str, Config, Parts, &'static [Measured]);
+
+const ROWS: [Row; 10] = [
     (
         "one region that ends past 2 MiB",
         CONFIG,
@@ -223,9 +223,8 @@ const ROWS: [(&str, Config, Parts, &[Measured]); 10] = [
 ];
 
 #[test]
-fn monitor_follows(rt: HostRuntime) -> Result<(), Fail> {
-    for (_, config, parts, measured) in &ROWS {
-        check(&rt, rt.alloc(), config, parts, measured)?;
+fn monitor_follows(rt: HostRuntime) {
+    for row in &ROWS {
+        check_row(&rt, rt.alloc(), row);
     }
-    Ok(())
 }

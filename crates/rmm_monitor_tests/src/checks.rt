@@ -4,6 +4,10 @@ use rmm_model::{Kind, Refused};
 use rmm_monitor::Monitor;
 use std::process::Abort;
 
+pub fn check(rt: &impl Abort, holds: bool, name: &str) {
+    assert!(rt; holds, "{name}");
+}
+
 /// Offers a command, which is to be answered so.
 pub fn check_answer(
     rt: &impl Abort,
@@ -11,19 +15,19 @@ pub fn check_answer(
     command: &Command,
     answer: Result<(), Refused>,
 ) {
-    assert_eq!(rt; monitor.apply(command), answer, "{command:?}");
+    assert!(rt; monitor.apply(command) == answer, "{command:?}, {answer:?}");
 }
 
 pub fn check_rim(rt: &impl Abort, monitor: &Monitor, rim: Option<Measurement>) {
-    assert_eq!(rt; monitor.rim(), rim);
+    check(rt, monitor.rim() == rim, "the measurement");
 }
 
 pub fn check_owner_count(rt: &impl Abort, monitor: &Monitor, count: usize) {
-    assert_eq!(rt; monitor.owner_count(), count);
+    check(rt, monitor.owner_count() == count, "how many owners");
 }
 
 pub fn check_owner(rt: &impl Abort, monitor: &Monitor, pa: u64, owner: Option<Kind>) {
-    assert_eq!(rt; monitor.owner(pa), owner, "at {pa:x}");
+    assert!(rt; monitor.owner(pa) == owner, "at {pa:x}");
 }
 
 /// Applies commands, all of which are to be taken.

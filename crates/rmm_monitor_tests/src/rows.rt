@@ -1,9 +1,10 @@
 //! Each check of each command at its edge, with the next check holding too where both can.
-use crate::checks::{check_answer, check_owner_count, check_rim, take_all};
-use crate::worked::{created, worked_params};
+use crate::checks::{check_answer, check_owner_count, check_rim};
+use crate::worked::{PARAMS, created, delegate_all};
 use rim_desc::{Command, Measurement, RealmParams, RecParams};
 use rmm_model::Refused;
 use rmm_monitor::Monitor;
+use std::alloc::Global;
 use std::process::Abort;
 
 /// The start tables of the worked realm.
@@ -19,267 +20,25 @@ const FREE: u64 = 0x9_0000_0000;
 
 const ODD: u64 = 0x9_0000_0800;
 
-/// Offers a command that is to be refused, and leaves the monitor as it was.
-fn refuse(rt: &impl Abort, monitor: &mut Monitor, command: &Command, refused: Refused) {
-    let owners = monitor.owner_count();
-    let rim = monitor.rim();
-    check_answer(rt, monitor, command, Err(refused));
-    check_owner_count(rt, monitor, owners);
-    check_rim(rt, monitor, rim);
+/// A command, in short.
+#[derive(Clone, Copy)]
+enum Act {
+    Delegate(u64),
+    Create(u64, RealmParams),
+    /// The granule of a table, an IPA and a level.
+    Table(u64, u64, u8),
+    Ripas(u64, u64),
+    /// A granule and an IPA.
+    Data(u64, u64),
+    /// A page of which this byte of the content is 1.
+    Measured(u64, u64, usize),
+    /// A granule, flags, an MPIDR and two auxiliary granules.
+    Rec(u64, u64, u64, [u64; 2]),
+    /// A REC of this MPIDR with one auxiliary granule, where the monitor's RECs have two.
+    WithOneAux(u64),
+    Activate,
 }
 
-/// Offers commands, each of which is to be refused so.
-fn refuse_all(rt: &impl Abort, monitor: &mut Monitor, rows: &[(Command, Refused)]) {
-    for (command, refused) in rows {
-        refuse(rt, monitor, command, *refused);
-    }
-}
-
-fn delegate(granule: u64) -> Command {
-    Command::Delegate { granule }
-}
-
-fn table(rtt: u64, ipa: u64, level: u8) -> Command {
-    Command::RttCreate { rtt, ipa, level }
-}
-
-fn ripas(base: u64, top: u64) -> Command {
-    Command::InitRipas { base, top }
-}
-
-fn data(granule: u64, ipa: u64) -> Command {
-    Command::DataCreate {
-        granule,
-        ipa,
-        content: None,
-    }
-}
-
-fn rec(rec: u64, flags: u64, mpidr: u64, aux: [u64; 2]) -> Command {
-    Command::RecCreate {
-        rec,
-        params: RecParams::new(flags, mpidr, 0, [0; 8], &aux),
-    }
-}
-
-/// A REC with one auxiliary granule, where the monitor's RECs have two.
-fn with_one_aux(mpidr: u64) -> Command {
-    Command::RecCreate {
-        rec: FREE,
-        params: RecParams::new(1, mpidr, 0, [0; 8], &[FREE]),
-    }
-}
-
-#[test]
-fn delegate_row(rt: HostRuntime) {
-    let mut monitor = Monitor::new(rt.alloc(), 0);
-    refuse_all(
-        &rt,
-        &mut monitor,
-        &[
-            (delegate(0x800), Refused::Unaligned),
-            (delegate(u64::MAX), Refused::Unaligned),
-        ],
-    );
-    let last = delegate(u64::MAX - 4095);
-    take_all(&rt, &mut monitor, &[delegate(0), delegate(u64::MAX - 4095)]);
-    refuse(&rt, &mut monitor, &last, Refused::NotUndelegated);
-}
-
-fn create(rd: u64, params: RealmParams) -> Command {
-    Command::RealmCreate { rd, params }
-}
-
-#[test]
-fn realm_parameters(rt: HostRuntime) {
-    let mut monitor = Monitor::new(rt.alloc(), 0);
-    let good = worked_params();
-    let wrong = [
-        RealmParams { flags: 1, ..good },
-        RealmParams { flags: 8, ..good },
-        RealmParams { s2sz: 31, ..good },
-        RealmParams { s2sz: 49, ..good },
-        RealmParams { s2sz: 0, ..good },
-        RealmParams { s2sz: 255, ..good },
-        RealmParams { s2sz: 44, ..good },
-        RealmParams {
-            rtt_level_start: 2,
-            ..good
-        },
-        RealmParams {
-            rtt_num_start: 1,
-            ..good
-        },
-        RealmParams {
-            rtt_num_start: 0,
-            ..good
-        },
-        RealmParams {
-            rtt_base: TABLES + 4096,
-            ..good
-        },
-        RealmParams {
-            rtt_base: u64::MAX,
-            ..good
-        },
-    ];
-    for params in wrong {
-        refuse(&rt, &mut monitor, &create(ODD, params), Refused::BadParams);
-    }
-    refuse(&rt, &mut monitor, &create(ODD, good), Refused::Unaligned);
-}
-
-#[test]
-fn realm_granules(rt: HostRuntime) {
-    let mut monitor = Monitor::new(rt.alloc(), 0);
-    let good = worked_params();
-    let last = RealmParams {
-        rtt_base: u64::MAX - 8191,
-        ..good
-    };
-    let none = [
-        (create(FREE, good), Refused::NotDelegated),
-        (create(FREE, last), Refused::NotDelegated),
-    ];
-    refuse_all(&rt, &mut monitor, &none);
-    take_all(&rt, &mut monitor, &[delegate(TABLES), delegate(FREE)]);
-    refuse(
-        &rt,
-        &mut monitor,
-        &create(FREE, good),
-        Refused::NotDelegated,
-    );
-    take_all(&rt, &mut monitor, &[delegate(TABLES + 4096)]);
-    let twice = [
-        (create(TABLES, good), Refused::NotDelegated),
-        (create(TABLES + 4096, good), Refused::NotDelegated),
-    ];
-    refuse_all(&rt, &mut monitor, &twice);
-    take_all(
-        &rt,
-        &mut monitor,
-        &[create(FREE, RealmParams { flags: 6, ..good })],
-    );
-    refuse(
-        &rt,
-        &mut monitor,
-        &create(ODD, RealmParams { flags: 1, ..good }),
-        Refused::State,
-    );
-}
-
-#[test]
-fn rtt_create_row(rt: HostRuntime) {
-    let mut empty = Monitor::new(rt.alloc(), 0);
-    refuse(&rt, &mut empty, &table(ODD, 1, 255), Refused::State);
-    let mut monitor = created(&rt, rt.alloc());
-    for level in [0, 1, 4, 255] {
-        refuse(&rt, &mut monitor, &table(ODD, 1, level), Refused::BadParams);
-    }
-    let rows = [
-        (table(ODD, HALF, 2), Refused::Unaligned),
-        (table(FREE, HALF + 0x20_0000, 2), Refused::Unaligned),
-        (table(FREE, u64::MAX, 3), Refused::Unaligned),
-        (table(FREE, HALF, 3), Refused::OutsideProtected),
-        (
-            table(FREE, u64::MAX - (GIB - 1), 2),
-            Refused::OutsideProtected,
-        ),
-        (table(FREE, HALF - GIB, 3), Refused::WalkLevel),
-        (table(FREE, HALF - GIB, 2), Refused::NotDelegated),
-    ];
-    refuse_all(&rt, &mut monitor, &rows);
-    let commands = [delegate(FREE), table(FREE, HALF - GIB, 2)];
-    take_all(&rt, &mut monitor, &commands);
-    let later = [
-        (table(FREE, HALF - GIB, 2), Refused::WalkLevel),
-        (table(FREE, HALF - GIB, 3), Refused::NotDelegated),
-    ];
-    refuse_all(&rt, &mut monitor, &later);
-    take_all(
-        &rt,
-        &mut monitor,
-        &[Command::Activate, delegate(FREE + 4096)],
-    );
-    take_all(
-        &rt,
-        &mut monitor,
-        &[table(FREE + 4096, HALF - 0x20_0000, 3)],
-    );
-}
-
-#[test]
-fn init_ripas_row(rt: HostRuntime) {
-    let mut empty = Monitor::new(rt.alloc(), 0);
-    refuse(&rt, &mut empty, &ripas(1, 0), Refused::State);
-    let mut monitor = created(&rt, rt.alloc());
-    let rows = [
-        (ripas(1, 1), Refused::BadParams),
-        (ripas(u64::MAX, 0), Refused::BadParams),
-        (ripas(1, u64::MAX), Refused::Unaligned),
-        (ripas(0, HALF + 1), Refused::Unaligned),
-        (ripas(4096, HALF + 4096), Refused::OutsideProtected),
-        (ripas(4096, GIB), Refused::WalkLevel),
-        (ripas(0, 4096), Refused::WalkLevel),
-    ];
-    refuse_all(&rt, &mut monitor, &rows);
-    let commands = [
-        delegate(FREE),
-        table(FREE, 2 * GIB, 2),
-        ripas(HALF - GIB, HALF),
-    ];
-    take_all(&rt, &mut monitor, &commands);
-    let later = [
-        (ripas(2 * GIB, 4 * GIB), Refused::WalkLevel),
-        (ripas(GIB, 3 * GIB), Refused::NotFresh),
-        (ripas(HALF - GIB, HALF), Refused::NotFresh),
-        (ripas(3 * GIB, HALF), Refused::NotFresh),
-        (ripas(HALF - GIB + 4096, HALF), Refused::WalkLevel),
-        (
-            ripas(HALF - GIB + 4096, HALF + 4096),
-            Refused::OutsideProtected,
-        ),
-    ];
-    refuse_all(&rt, &mut monitor, &later);
-    take_all(
-        &rt,
-        &mut monitor,
-        &[ripas(GIB, 2 * GIB), ripas(2 * GIB, 3 * GIB)],
-    );
-    refuse(&rt, &mut monitor, &ripas(0, 2 * GIB), Refused::NotFresh);
-    take_all(&rt, &mut monitor, &[ripas(0, GIB), Command::Activate]);
-    refuse(&rt, &mut monitor, &ripas(1, 0), Refused::State);
-}
-
-/// A run ends with its start table: here each of four covers 512 GiB.
-#[test]
-fn start_tables_part_runs(rt: HostRuntime) {
-    let mut monitor = Monitor::new(rt.alloc(), 0);
-    let params = RealmParams {
-        s2sz: 42,
-        rtt_num_start: 8,
-        ..worked_params()
-    };
-    for index in 0..8 {
-        let granule = TABLES + 4096 * index;
-        take_all(&rt, &mut monitor, &[delegate(granule)]);
-    }
-    let create = Command::RealmCreate { rd: FREE, params };
-    take_all(&rt, &mut monitor, &[delegate(FREE), create]);
-    refuse(
-        &rt,
-        &mut monitor,
-        &ripas(HALF - GIB, HALF + GIB),
-        Refused::WalkLevel,
-    );
-    take_all(
-        &rt,
-        &mut monitor,
-        &[ripas(HALF - GIB, HALF), ripas(HALF, HALF + GIB)],
-    );
-}
-
-/// A page of which one byte of the content is 1.
 fn measured(granule: u64, ipa: u64, index: usize) -> Command {
     let mut bytes = [0; 64];
     bytes[index % 64] = 1;
@@ -290,171 +49,493 @@ fn measured(granule: u64, ipa: u64, index: usize) -> Command {
     }
 }
 
-#[test]
-fn data_parameters(rt: HostRuntime) {
-    let mut monitor = Monitor::new(rt.alloc(), 0);
-    refuse(&rt, &mut monitor, &data(ODD, 1), Refused::State);
-    let mut monitor = created(&rt, rt.alloc());
-    let rows = [
-        (measured(ODD, 1, 32), Refused::BadParams),
-        (data(ODD, HALF), Refused::Unaligned),
-        (data(FREE, HALF + 1), Refused::Unaligned),
-        (data(FREE, HALF), Refused::OutsideProtected),
-        (data(FREE, HALF - 4096), Refused::WalkLevel),
-    ];
-    refuse_all(&rt, &mut monitor, &rows);
-    take_all(&rt, &mut monitor, &[Command::Activate]);
-    refuse(&rt, &mut monitor, &measured(ODD, 1, 32), Refused::State);
-}
-
-#[test]
-fn data_pages(rt: HostRuntime) {
-    let mut monitor = created(&rt, rt.alloc());
-    let base = HALF - GIB;
-    let beside = base + 0x20_0000;
-    let tables = [
-        delegate(FREE),
-        delegate(FREE + 4096),
-        table(FREE, base, 2),
-        ripas(base, beside),
-        table(FREE + 4096, base, 3),
-    ];
-    take_all(&rt, &mut monitor, &tables);
-    let early = [
-        (data(ODD - 0x800, beside), Refused::WalkLevel),
-        (data(FREE, base), Refused::NotDelegated),
-    ];
-    refuse_all(&rt, &mut monitor, &early);
-    let page = [
-        delegate(FREE + 8192),
-        data(FREE + 8192, base),
-        delegate(FREE + 12288),
-        table(FREE + 12288, beside, 3),
-    ];
-    take_all(&rt, &mut monitor, &page);
-    let late = [
-        (data(FREE, base), Refused::Assigned),
-        (data(FREE, beside), Refused::NotRam),
-        (measured(FREE, beside - 4096, 31), Refused::NotDelegated),
-    ];
-    refuse_all(&rt, &mut monitor, &late);
-}
-
-#[test]
-fn rec_parameters(rt: HostRuntime) {
-    let mut monitor = Monitor::new(rt.alloc(), 2);
-    refuse(
-        &rt,
-        &mut monitor,
-        &rec(ODD, 0, 0, [ODD, ODD]),
-        Refused::State,
-    );
-    let mut monitor = created(&rt, rt.alloc());
-    let wrong = [
-        (0, 0),
-        (2, 0),
-        (3, 0),
-        (u64::MAX, 0),
-        (1, 1 << 4),
-        (1, 1 << 7),
-        (1, 1 << 32),
-        (1, 1 << 63),
-        (1, u64::MAX),
-    ];
-    for (flags, mpidr) in wrong {
-        refuse(
-            &rt,
-            &mut monitor,
-            &rec(ODD, flags, mpidr, [ODD, ODD]),
-            Refused::BadParams,
-        );
+fn rec(rec: u64, flags: u64, mpidr: u64, aux: [u64; 2]) -> Command {
+    Command::RecCreate {
+        rec,
+        params: RecParams::new(flags, mpidr, 0, [0; 8], &aux),
     }
 }
 
-#[test]
-fn rec_indices(rt: HostRuntime) {
-    let mut monitor = created(&rt, rt.alloc());
-    let odd = [
-        (rec(ODD, 1, 1, [FREE, FREE]), Refused::Unaligned),
-        (rec(FREE, 1, 1, [FREE, ODD]), Refused::Unaligned),
-    ];
-    refuse_all(&rt, &mut monitor, &odd);
-    for mpidr in [1, 1 << 8, 1 << 16, 1 << 24, 0xffff_ff0f] {
-        refuse(
-            &rt,
-            &mut monitor,
-            &rec(FREE, 1, mpidr, [FREE, FREE]),
-            Refused::RecIndex,
-        );
+fn with_one_aux(mpidr: u64) -> Command {
+    Command::RecCreate {
+        rec: FREE,
+        params: RecParams::new(1, mpidr, 0, [0; 8], &[FREE]),
     }
-    let bare = [
-        (with_one_aux(1), Refused::RecIndex),
-        (with_one_aux(0), Refused::AuxCount),
-    ];
-    refuse_all(&rt, &mut monitor, &bare);
+}
+
+fn command_of(act: &Act) -> Command {
+    match *act {
+        Act::Delegate(granule) => Command::Delegate { granule },
+        Act::Create(rd, params) => Command::RealmCreate { rd, params },
+        Act::Table(rtt, ipa, level) => Command::RttCreate { rtt, ipa, level },
+        Act::Ripas(base, top) => Command::InitRipas { base, top },
+        Act::Data(granule, ipa) => Command::DataCreate {
+            granule,
+            ipa,
+            content: None,
+        },
+        Act::Measured(granule, ipa, index) => measured(granule, ipa, index),
+        Act::Rec(granule, flags, mpidr, aux) => rec(granule, flags, mpidr, aux),
+        Act::WithOneAux(mpidr) => with_one_aux(mpidr),
+        Act::Activate => Command::Activate,
+    }
+}
+
+/// A command, and why it is refused; none where it is taken.
+type Row = (Act, Option<Refused>);
+
+/// Offers a command that is to be refused, and leaves the monitor as it was.
+fn refuse(rt: &impl Abort, monitor: &mut Monitor, command: &Command, refused: Refused) {
+    let owners = monitor.owner_count();
+    let rim = monitor.rim();
+    check_answer(rt, monitor, command, Err(refused));
+    check_owner_count(rt, monitor, owners);
+    check_rim(rt, monitor, rim);
+}
+
+fn offer(rt: &impl Abort, monitor: &mut Monitor, row: &Row) {
+    let (act, refused) = row;
+    let command = command_of(act);
+    match refused {
+        Some(refused) => refuse(rt, monitor, &command, *refused),
+        None => check_answer(rt, monitor, &command, Ok(())),
+    }
+}
+
+fn offer_all(rt: &impl Abort, monitor: &mut Monitor, rows: &[Row]) {
+    for row in rows {
+        offer(rt, monitor, row);
+    }
+}
+
+const DELEGATE: [Row; 5] = [
+    (Act::Delegate(0x800), Some(Refused::Unaligned)),
+    (Act::Delegate(u64::MAX), Some(Refused::Unaligned)),
+    (Act::Delegate(0), None),
+    (Act::Delegate(u64::MAX - 4095), None),
+    (
+        Act::Delegate(u64::MAX - 4095),
+        Some(Refused::NotUndelegated),
+    ),
+];
+
+const REALM_PARAMETERS: [Row; 13] = [
+    (
+        Act::Create(ODD, RealmParams { flags: 1, ..PARAMS }),
+        Some(Refused::BadParams),
+    ),
+    (
+        Act::Create(ODD, RealmParams { flags: 8, ..PARAMS }),
+        Some(Refused::BadParams),
+    ),
+    (
+        Act::Create(ODD, RealmParams { s2sz: 31, ..PARAMS }),
+        Some(Refused::BadParams),
+    ),
+    (
+        Act::Create(ODD, RealmParams { s2sz: 49, ..PARAMS }),
+        Some(Refused::BadParams),
+    ),
+    (
+        Act::Create(ODD, RealmParams { s2sz: 0, ..PARAMS }),
+        Some(Refused::BadParams),
+    ),
+    (
+        Act::Create(
+            ODD,
+            RealmParams {
+                s2sz: 255,
+                ..PARAMS
+            },
+        ),
+        Some(Refused::BadParams),
+    ),
+    (
+        Act::Create(ODD, RealmParams { s2sz: 44, ..PARAMS }),
+        Some(Refused::BadParams),
+    ),
+    (
+        Act::Create(
+            ODD,
+            RealmParams {
+                rtt_level_start: 2,
+                ..PARAMS
+            },
+        ),
+        Some(Refused::BadParams),
+    ),
+    (
+        Act::Create(
+            ODD,
+            RealmParams {
+                rtt_num_start: 1,
+                ..PARAMS
+            },
+        ),
+        Some(Refused::BadParams),
+    ),
+    (
+        Act::Create(
+            ODD,
+            RealmParams {
+                rtt_num_start: 0,
+                ..PARAMS
+            },
+        ),
+        Some(Refused::BadParams),
+    ),
+    (
+        Act::Create(
+            ODD,
+            RealmParams {
+                rtt_base: TABLES + 4096,
+                ..PARAMS
+            },
+        ),
+        Some(Refused::BadParams),
+    ),
+    (
+        Act::Create(
+            ODD,
+            RealmParams {
+                rtt_base: u64::MAX,
+                ..PARAMS
+            },
+        ),
+        Some(Refused::BadParams),
+    ),
+    (Act::Create(ODD, PARAMS), Some(Refused::Unaligned)),
+];
+
+/// The last start tables that there can be.
+const LAST: RealmParams = RealmParams {
+    rtt_base: u64::MAX - 8191,
+    ..PARAMS
+};
+
+const REALM_GRANULES: [Row; 10] = [
+    (Act::Create(FREE, PARAMS), Some(Refused::NotDelegated)),
+    (Act::Create(FREE, LAST), Some(Refused::NotDelegated)),
+    (Act::Delegate(TABLES), None),
+    (Act::Delegate(FREE), None),
+    (Act::Create(FREE, PARAMS), Some(Refused::NotDelegated)),
+    (Act::Delegate(TABLES + 4096), None),
+    (Act::Create(TABLES, PARAMS), Some(Refused::NotDelegated)),
+    (
+        Act::Create(TABLES + 4096, PARAMS),
+        Some(Refused::NotDelegated),
+    ),
+    (Act::Create(FREE, RealmParams { flags: 6, ..PARAMS }), None),
+    (
+        Act::Create(ODD, RealmParams { flags: 1, ..PARAMS }),
+        Some(Refused::State),
+    ),
+];
+
+const NO_REALM: [Row; 3] = [
+    (Act::Table(ODD, 1, 255), Some(Refused::State)),
+    (Act::Ripas(1, 0), Some(Refused::State)),
+    (Act::Data(ODD, 1), Some(Refused::State)),
+];
+
+const RTT_CREATE: [Row; 18] = [
+    (Act::Table(ODD, 1, 0), Some(Refused::BadParams)),
+    (Act::Table(ODD, 1, 1), Some(Refused::BadParams)),
+    (Act::Table(ODD, 1, 4), Some(Refused::BadParams)),
+    (Act::Table(ODD, 1, 255), Some(Refused::BadParams)),
+    (Act::Table(ODD, HALF, 2), Some(Refused::Unaligned)),
+    (
+        Act::Table(FREE, HALF + 0x20_0000, 2),
+        Some(Refused::Unaligned),
+    ),
+    (Act::Table(FREE, u64::MAX, 3), Some(Refused::Unaligned)),
+    (Act::Table(FREE, HALF, 3), Some(Refused::OutsideProtected)),
+    (
+        Act::Table(FREE, u64::MAX - (GIB - 1), 2),
+        Some(Refused::OutsideProtected),
+    ),
+    (Act::Table(FREE, HALF - GIB, 3), Some(Refused::WalkLevel)),
+    (Act::Table(FREE, HALF - GIB, 2), Some(Refused::NotDelegated)),
+    (Act::Delegate(FREE), None),
+    (Act::Table(FREE, HALF - GIB, 2), None),
+    (Act::Table(FREE, HALF - GIB, 2), Some(Refused::WalkLevel)),
+    (Act::Table(FREE, HALF - GIB, 3), Some(Refused::NotDelegated)),
+    (Act::Activate, None),
+    (Act::Delegate(FREE + 4096), None),
+    (Act::Table(FREE + 4096, HALF - 0x20_0000, 3), None),
+];
+
+const INIT_RIPAS: [Row; 22] = [
+    (Act::Ripas(1, 1), Some(Refused::BadParams)),
+    (Act::Ripas(u64::MAX, 0), Some(Refused::BadParams)),
+    (Act::Ripas(1, u64::MAX), Some(Refused::Unaligned)),
+    (Act::Ripas(0, HALF + 1), Some(Refused::Unaligned)),
+    (
+        Act::Ripas(4096, HALF + 4096),
+        Some(Refused::OutsideProtected),
+    ),
+    (Act::Ripas(4096, GIB), Some(Refused::WalkLevel)),
+    (Act::Ripas(0, 4096), Some(Refused::WalkLevel)),
+    (Act::Delegate(FREE), None),
+    (Act::Table(FREE, 2 * GIB, 2), None),
+    (Act::Ripas(HALF - GIB, HALF), None),
+    (Act::Ripas(2 * GIB, 4 * GIB), Some(Refused::WalkLevel)),
+    (Act::Ripas(GIB, 3 * GIB), Some(Refused::NotFresh)),
+    (Act::Ripas(HALF - GIB, HALF), Some(Refused::NotFresh)),
+    (Act::Ripas(3 * GIB, HALF), Some(Refused::NotFresh)),
+    (
+        Act::Ripas(HALF - GIB + 4096, HALF),
+        Some(Refused::WalkLevel),
+    ),
+    (
+        Act::Ripas(HALF - GIB + 4096, HALF + 4096),
+        Some(Refused::OutsideProtected),
+    ),
+    (Act::Ripas(GIB, 2 * GIB), None),
+    (Act::Ripas(2 * GIB, 3 * GIB), None),
+    (Act::Ripas(0, 2 * GIB), Some(Refused::NotFresh)),
+    (Act::Ripas(0, GIB), None),
+    (Act::Activate, None),
+    (Act::Ripas(1, 0), Some(Refused::State)),
+];
+
+/// Four start tables of 512 GiB.
+const FOUR_TABLES: RealmParams = RealmParams {
+    s2sz: 42,
+    rtt_num_start: 8,
+    ..PARAMS
+};
+
+/// A run ends with its start table: here each of four covers 512 GiB.
+const START_TABLES: [Row; 13] = [
+    (Act::Delegate(TABLES), None),
+    (Act::Delegate(TABLES + 0x1000), None),
+    (Act::Delegate(TABLES + 0x2000), None),
+    (Act::Delegate(TABLES + 0x3000), None),
+    (Act::Delegate(TABLES + 0x4000), None),
+    (Act::Delegate(TABLES + 0x5000), None),
+    (Act::Delegate(TABLES + 0x6000), None),
+    (Act::Delegate(TABLES + 0x7000), None),
+    (Act::Delegate(FREE), None),
+    (Act::Create(FREE, FOUR_TABLES), None),
+    (Act::Ripas(HALF - GIB, HALF + GIB), Some(Refused::WalkLevel)),
+    (Act::Ripas(HALF - GIB, HALF), None),
+    (Act::Ripas(HALF, HALF + GIB), None),
+];
+
+const DATA_PARAMETERS: [Row; 7] = [
+    (Act::Measured(ODD, 1, 32), Some(Refused::BadParams)),
+    (Act::Data(ODD, HALF), Some(Refused::Unaligned)),
+    (Act::Data(FREE, HALF + 1), Some(Refused::Unaligned)),
+    (Act::Data(FREE, HALF), Some(Refused::OutsideProtected)),
+    (Act::Data(FREE, HALF - 4096), Some(Refused::WalkLevel)),
+    (Act::Activate, None),
+    (Act::Measured(ODD, 1, 32), Some(Refused::State)),
+];
+
+const BASE: u64 = HALF - GIB;
+
+const BESIDE: u64 = HALF - GIB + 0x20_0000;
+
+const DATA_PAGES: [Row; 14] = [
+    (Act::Delegate(FREE), None),
+    (Act::Delegate(FREE + 4096), None),
+    (Act::Table(FREE, BASE, 2), None),
+    (Act::Ripas(BASE, BESIDE), None),
+    (Act::Table(FREE + 4096, BASE, 3), None),
+    (Act::Data(ODD - 0x800, BESIDE), Some(Refused::WalkLevel)),
+    (Act::Data(FREE, BASE), Some(Refused::NotDelegated)),
+    (Act::Delegate(FREE + 8192), None),
+    (Act::Data(FREE + 8192, BASE), None),
+    (Act::Delegate(FREE + 12288), None),
+    (Act::Table(FREE + 12288, BESIDE, 3), None),
+    (Act::Data(FREE, BASE), Some(Refused::Assigned)),
+    (Act::Data(FREE, BESIDE), Some(Refused::NotRam)),
+    (
+        Act::Measured(FREE, BESIDE - 4096, 31),
+        Some(Refused::NotDelegated),
+    ),
+];
+
+const NO_RECS: [Row; 2] = [
+    (Act::Rec(ODD, 0, 0, [ODD, ODD]), Some(Refused::State)),
+    (Act::Activate, Some(Refused::State)),
+];
+
+const REC_PARAMETERS: [Row; 9] = [
+    (Act::Rec(ODD, 0, 0, [ODD, ODD]), Some(Refused::BadParams)),
+    (Act::Rec(ODD, 2, 0, [ODD, ODD]), Some(Refused::BadParams)),
+    (Act::Rec(ODD, 3, 0, [ODD, ODD]), Some(Refused::BadParams)),
+    (
+        Act::Rec(ODD, u64::MAX, 0, [ODD, ODD]),
+        Some(Refused::BadParams),
+    ),
+    (
+        Act::Rec(ODD, 1, 1 << 4, [ODD, ODD]),
+        Some(Refused::BadParams),
+    ),
+    (
+        Act::Rec(ODD, 1, 1 << 7, [ODD, ODD]),
+        Some(Refused::BadParams),
+    ),
+    (
+        Act::Rec(ODD, 1, 1 << 32, [ODD, ODD]),
+        Some(Refused::BadParams),
+    ),
+    (
+        Act::Rec(ODD, 1, 1 << 63, [ODD, ODD]),
+        Some(Refused::BadParams),
+    ),
+    (
+        Act::Rec(ODD, 1, u64::MAX, [ODD, ODD]),
+        Some(Refused::BadParams),
+    ),
+];
+
+const REC_INDICES: [Row; 9] = [
+    (Act::Rec(ODD, 1, 1, [FREE, FREE]), Some(Refused::Unaligned)),
+    (Act::Rec(FREE, 1, 1, [FREE, ODD]), Some(Refused::Unaligned)),
+    (Act::Rec(FREE, 1, 1, [FREE, FREE]), Some(Refused::RecIndex)),
+    (
+        Act::Rec(FREE, 1, 1 << 8, [FREE, FREE]),
+        Some(Refused::RecIndex),
+    ),
+    (
+        Act::Rec(FREE, 1, 1 << 16, [FREE, FREE]),
+        Some(Refused::RecIndex),
+    ),
+    (
+        Act::Rec(FREE, 1, 1 << 24, [FREE, FREE]),
+        Some(Refused::RecIndex),
+    ),
+    (
+        Act::Rec(FREE, 1, 0xffff_ff0f, [FREE, FREE]),
+        Some(Refused::RecIndex),
+    ),
+    (Act::WithOneAux(1), Some(Refused::RecIndex)),
+    (Act::WithOneAux(0), Some(Refused::AuxCount)),
+];
+
+const SECOND: u64 = FREE + 4096;
+
+const THIRD: u64 = FREE + 8192;
+
+const REC_GRANULES: [Row; 10] = [
+    (Act::Delegate(FREE), None),
+    (Act::Delegate(SECOND), None),
+    (
+        Act::Rec(FREE, 1, 0, [SECOND, THIRD]),
+        Some(Refused::NotDelegated),
+    ),
+    (
+        Act::Rec(THIRD, 1, 0, [FREE, SECOND]),
+        Some(Refused::NotDelegated),
+    ),
+    (
+        Act::Rec(FREE, 1, 0, [SECOND, SECOND]),
+        Some(Refused::NotDelegated),
+    ),
+    (
+        Act::Rec(FREE, 1, 0, [SECOND, FREE]),
+        Some(Refused::NotDelegated),
+    ),
+    (Act::Delegate(THIRD), None),
+    (Act::Rec(FREE, 1, 0, [THIRD, SECOND]), None),
+    (
+        Act::Rec(FREE, 1, 0, [THIRD, SECOND]),
+        Some(Refused::RecIndex),
+    ),
+    (
+        Act::Rec(FREE, 1, 1, [THIRD, SECOND]),
+        Some(Refused::NotDelegated),
+    ),
+];
+
+/// Lists of commands for a monitor without a realm, each after the number of a REC's auxiliary granules.
+const WITHOUT_A_REALM: [(u8, &[Row]); 6] = [
+    (0, &DELEGATE),
+    (0, &REALM_PARAMETERS),
+    (0, &REALM_GRANULES),
+    (0, &NO_REALM),
+    (0, &START_TABLES),
+    (2, &NO_RECS),
+];
+
+/// Lists of commands for the worked realm.
+const OF_A_REALM: [&[Row]; 7] = [
+    &RTT_CREATE,
+    &INIT_RIPAS,
+    &DATA_PARAMETERS,
+    &DATA_PAGES,
+    &REC_PARAMETERS,
+    &REC_INDICES,
+    &REC_GRANULES,
+];
+
+fn check_new(rt: &impl Abort, alloc: Global, num_aux: u8, rows: &[Row]) {
+    let mut monitor = Monitor::new(alloc, num_aux.min(16));
+    offer_all(rt, &mut monitor, rows);
 }
 
 #[test]
-fn rec_granules(rt: HostRuntime) {
-    let mut monitor = created(&rt, rt.alloc());
-    let second = FREE + 4096;
-    let third = FREE + 8192;
-    take_all(&rt, &mut monitor, &[delegate(FREE), delegate(second)]);
-    let early = [
-        (rec(FREE, 1, 0, [second, third]), Refused::NotDelegated),
-        (rec(third, 1, 0, [FREE, second]), Refused::NotDelegated),
-        (rec(FREE, 1, 0, [second, second]), Refused::NotDelegated),
-        (rec(FREE, 1, 0, [second, FREE]), Refused::NotDelegated),
-    ];
-    refuse_all(&rt, &mut monitor, &early);
-    take_all(
-        &rt,
-        &mut monitor,
-        &[delegate(third), rec(FREE, 1, 0, [third, second])],
-    );
-    let late = [
-        (rec(FREE, 1, 0, [third, second]), Refused::RecIndex),
-        (rec(FREE, 1, 1, [third, second]), Refused::NotDelegated),
-    ];
-    refuse_all(&rt, &mut monitor, &late);
+fn without_a_realm(rt: HostRuntime) {
+    for (num_aux, rows) in &WITHOUT_A_REALM {
+        check_new(&rt, rt.alloc(), *num_aux, rows);
+    }
 }
+
+fn check_created(rt: &impl Abort, alloc: Global, rows: &[Row]) {
+    let mut monitor = created(rt, alloc);
+    offer_all(rt, &mut monitor, rows);
+}
+
+#[test]
+fn of_the_worked_realm(rt: HostRuntime) {
+    for rows in &OF_A_REALM {
+        check_created(&rt, rt.alloc(), rows);
+    }
+}
+
+/// A REC of the next index, with granules of its own.
+fn take_rec(rt: &impl Abort, monitor: &mut Monitor, index: u64) {
+    let granule = FREE.saturating_add(index.saturating_mul(3 * 4096));
+    let aux = [granule.saturating_add(4096), granule.saturating_add(8192)];
+    delegate_all(rt, monitor, granule, 3);
+    let mpidr = (index % 16).saturating_add((index / 16).saturating_mul(256));
+    check_answer(rt, monitor, &rec(granule, 1, mpidr, aux), Ok(()));
+}
+
+const AFTER_17: [Row; 2] = [
+    (
+        Act::Rec(FREE, 1, 0x100, [FREE, FREE]),
+        Some(Refused::RecIndex),
+    ),
+    (
+        Act::Rec(FREE, 1, 0x101, [FREE, FREE]),
+        Some(Refused::NotDelegated),
+    ),
+];
 
 /// The sixteenth REC is the last with Aff1 zero.
 #[test]
 fn recs_count_on(rt: HostRuntime) {
     let mut monitor = created(&rt, rt.alloc());
-    for index in 0..17u64 {
-        let granule = FREE + 4096 * 3 * index;
-        let aux = [granule + 4096, granule + 8192];
-        let delegates = [delegate(granule), delegate(aux[0]), delegate(aux[1])];
-        take_all(&rt, &mut monitor, &delegates);
-        let mpidr = index % 16 + 256 * (index / 16);
-        take_all(&rt, &mut monitor, &[rec(granule, 1, mpidr, aux)]);
+    for index in 0..17 {
+        take_rec(&rt, &mut monitor, index);
     }
-    refuse_all(
-        &rt,
-        &mut monitor,
-        &[
-            (rec(FREE, 1, 0x100, [FREE, FREE]), Refused::RecIndex),
-            (rec(FREE, 1, 0x101, [FREE, FREE]), Refused::NotDelegated),
-        ],
-    );
+    offer_all(&rt, &mut monitor, &AFTER_17);
 }
 
+const ACTIVATED: [Row; 2] = [
+    (Act::Activate, Some(Refused::State)),
+    (Act::Rec(ODD, 0, 0, [ODD, ODD]), Some(Refused::State)),
+];
+
 #[test]
-fn activate_row(rt: HostRuntime) {
-    let mut monitor = Monitor::new(rt.alloc(), 2);
-    refuse(&rt, &mut monitor, &Command::Activate, Refused::State);
+fn activation_keeps_the_measurement(rt: HostRuntime) {
     let mut monitor = created(&rt, rt.alloc());
     let rim = monitor.rim();
-    take_all(&rt, &mut monitor, &[Command::Activate]);
+    check_answer(&rt, &mut monitor, &Command::Activate, Ok(()));
     check_rim(&rt, &monitor, rim);
-    refuse_all(
-        &rt,
-        &mut monitor,
-        &[
-            (Command::Activate, Refused::State),
-            (rec(ODD, 0, 0, [ODD, ODD]), Refused::State),
-        ],
-    );
+    offer_all(&rt, &mut monitor, &ACTIVATED);
 }

@@ -31,216 +31,239 @@ const MIXED: [u8; 64] = [
     0xa8, 0x1e, 0x41, 0xeb, 0x99, 0x12, 0xf1, 0xe4, 0xb5, 0xd9, 0xa6, 0x50, 0xe8, 0xf6, 0xcd, 0x5a,
 ];
 
-pub fn worked_params() -> RealmParams {
-    RealmParams {
-        flags: 0,
-        s2sz: 40,
-        sve_vl: 0,
-        num_bps: 0,
-        num_wps: 0,
-        pmu_num_ctrs: 0,
-        rtt_level_start: 1,
-        rtt_num_start: 2,
-        algo: Algo::Sha256,
-        rpv: [0; 64],
-        rtt_base: 0x8_0000_0000,
-    }
-}
+pub const PARAMS: RealmParams = RealmParams {
+    flags: 0,
+    s2sz: 40,
+    sve_vl: 0,
+    num_bps: 0,
+    num_wps: 0,
+    pmu_num_ctrs: 0,
+    rtt_level_start: 1,
+    rtt_num_start: 2,
+    algo: Algo::Sha256,
+    rpv: [0; 64],
+    rtt_base: 0x8_0000_0000,
+};
 
-/// The commands of the worked list up to the realm's creation, and after it.
-fn creation() -> [Command; 4] {
-    [
-        Command::Delegate {
-            granule: 0x8_0000_0000,
-        },
-        Command::Delegate {
-            granule: 0x8_0000_1000,
-        },
-        Command::Delegate {
-            granule: 0x8_0000_2000,
-        },
-        Command::RealmCreate {
-            rd: 0x8_0000_2000,
-            params: worked_params(),
-        },
-    ]
-}
+/// The commands of the worked list up to the realm's creation.
+const CREATION: [Command; 4] = [
+    Command::Delegate {
+        granule: 0x8_0000_0000,
+    },
+    Command::Delegate {
+        granule: 0x8_0000_1000,
+    },
+    Command::Delegate {
+        granule: 0x8_0000_2000,
+    },
+    Command::RealmCreate {
+        rd: 0x8_0000_2000,
+        params: PARAMS,
+    },
+];
 
-fn table_of_level_3() -> Command {
+const TABLE_OF_LEVEL_3: Command = Command::RttCreate {
+    rtt: 0x8_0000_4000,
+    ipa: 0x4000_0000,
+    level: 3,
+};
+
+/// The commands after it: those before the table of level 2, up to the table of level 3, and after that.
+const RAM: [Command; 2] = [
+    Command::InitRipas {
+        base: 0x4000_0000,
+        top: 0xc000_0000,
+    },
+    Command::Delegate {
+        granule: 0x8_0000_3000,
+    },
+];
+
+const TABLES: [Command; 3] = [
     Command::RttCreate {
-        rtt: 0x8_0000_4000,
+        rtt: 0x8_0000_3000,
         ipa: 0x4000_0000,
-        level: 3,
-    }
-}
+        level: 2,
+    },
+    Command::Delegate {
+        granule: 0x8_0000_4000,
+    },
+    TABLE_OF_LEVEL_3,
+];
 
-fn filling() -> [Command; 8] {
-    [
-        Command::InitRipas {
-            base: 0x4000_0000,
-            top: 0xc000_0000,
-        },
-        Command::Delegate {
-            granule: 0x8_0000_3000,
-        },
-        Command::RttCreate {
-            rtt: 0x8_0000_3000,
-            ipa: 0x4000_0000,
-            level: 2,
-        },
-        Command::Delegate {
-            granule: 0x8_0000_4000,
-        },
-        table_of_level_3(),
-        Command::Delegate {
-            granule: 0x8_0000_5000,
-        },
-        Command::DataCreate {
-            granule: 0x8_0000_5000,
-            ipa: 0x4000_0000,
-            content: None,
-        },
-        Command::Activate,
-    ]
+const DATA: [Command; 3] = [
+    Command::Delegate {
+        granule: 0x8_0000_5000,
+    },
+    Command::DataCreate {
+        granule: 0x8_0000_5000,
+        ipa: 0x4000_0000,
+        content: None,
+    },
+    Command::Activate,
+];
+
+/// Applies the commands after the realm's creation.
+fn fill(rt: &impl Abort, monitor: &mut Monitor) {
+    take_all(rt, monitor, &RAM);
+    take_all(rt, monitor, &TABLES);
+    take_all(rt, monitor, &DATA);
 }
 
 /// The worked realm, created.
 pub fn created(rt: &impl Abort, alloc: Global) -> Monitor {
     let mut monitor = Monitor::new(alloc, 2);
-    take_all(rt, &mut monitor, &creation());
+    take_all(rt, &mut monitor, &CREATION);
     monitor
+}
+
+/// The granules of the worked list, and their kinds.
+const OWNERS: [(u64, Option<Kind>); 7] = [
+    (0x8_0000_0000, Some(Kind::Rtt)),
+    (0x8_0000_1000, Some(Kind::Rtt)),
+    (0x8_0000_2000, Some(Kind::Rd)),
+    (0x8_0000_3000, Some(Kind::Rtt)),
+    (0x8_0000_4000, Some(Kind::Rtt)),
+    (0x8_0000_5000, Some(Kind::DataPage)),
+    (0x8_0000_6000, None),
+];
+
+fn check_owners(rt: &impl Abort, monitor: &Monitor, owners: &[(u64, Option<Kind>)]) {
+    for (pa, owner) in owners {
+        check_owner(rt, monitor, *pa, *owner);
+    }
 }
 
 #[test]
 fn worked_list_is_taken(rt: HostRuntime) {
     let mut monitor = Monitor::new(rt.alloc(), 0);
     check_rim(&rt, &monitor, None);
-    take_all(&rt, &mut monitor, &creation());
+    take_all(&rt, &mut monitor, &CREATION);
     check_rim(&rt, &monitor, Some(Measurement { bytes: CREATED }));
-    take_all(&rt, &mut monitor, &filling());
+    fill(&rt, &mut monitor);
     check_rim(&rt, &monitor, Some(Measurement { bytes: WORKED }));
     check_owner_count(&rt, &monitor, 6);
-    let kinds = [
-        Kind::Rtt,
-        Kind::Rtt,
-        Kind::Rd,
-        Kind::Rtt,
-        Kind::Rtt,
-        Kind::DataPage,
-    ];
-    for (index, kind) in kinds.iter().enumerate() {
-        check_owner(
-            &rt,
-            &monitor,
-            0x8_0000_0000 + 4096 * index as u64,
-            Some(*kind),
-        );
-    }
-    check_owner(&rt, &monitor, 0x8_0000_6000, None);
+    check_owners(&rt, &monitor, &OWNERS);
 }
 
 #[test]
 fn level_3_before_level_2(rt: HostRuntime) {
     let mut monitor = Monitor::new(rt.alloc(), 0);
-    let filling = filling();
-    let (first, rest) = filling.as_slice().split_at(2);
-    take_all(&rt, &mut monitor, &creation());
-    take_all(&rt, &mut monitor, first);
-    check_answer(
-        &rt,
-        &mut monitor,
-        &table_of_level_3(),
-        Err(Refused::WalkLevel),
-    );
-    take_all(&rt, &mut monitor, rest);
+    take_all(&rt, &mut monitor, &CREATION);
+    take_all(&rt, &mut monitor, &RAM);
+    let early = Err(Refused::WalkLevel);
+    check_answer(&rt, &mut monitor, &TABLE_OF_LEVEL_3, early);
+    take_all(&rt, &mut monitor, &TABLES);
+    take_all(&rt, &mut monitor, &DATA);
     check_rim(&rt, &monitor, Some(Measurement { bytes: WORKED }));
 }
+
+const AGAIN: Command = Command::Delegate {
+    granule: 0x8_0000_4000,
+};
+
+const IN_TABLE: Command = Command::DataCreate {
+    granule: 0x8_0000_4000,
+    ipa: 0x4000_0000,
+    content: None,
+};
 
 #[test]
 fn granules_have_one_owner(rt: HostRuntime) {
     let mut monitor = Monitor::new(rt.alloc(), 0);
-    let filling = filling();
-    take_all(&rt, &mut monitor, &creation());
-    take_all(&rt, &mut monitor, &filling[..5]);
-    let again = Command::Delegate {
-        granule: 0x8_0000_4000,
-    };
-    check_answer(&rt, &mut monitor, &again, Err(Refused::NotUndelegated));
-    let in_table = Command::DataCreate {
-        granule: 0x8_0000_4000,
-        ipa: 0x4000_0000,
-        content: None,
-    };
-    check_answer(&rt, &mut monitor, &in_table, Err(Refused::NotDelegated));
+    take_all(&rt, &mut monitor, &CREATION);
+    take_all(&rt, &mut monitor, &RAM);
+    take_all(&rt, &mut monitor, &TABLES);
+    check_answer(&rt, &mut monitor, &AGAIN, Err(Refused::NotUndelegated));
+    check_answer(&rt, &mut monitor, &IN_TABLE, Err(Refused::NotDelegated));
     check_owner(&rt, &monitor, 0x8_0000_4000, Some(Kind::Rtt));
     check_owner_count(&rt, &monitor, 5);
+}
+
+const MIXED_PARAMS: RealmParams = RealmParams {
+    flags: 6,
+    s2sz: 33,
+    sve_vl: 1,
+    num_bps: 2,
+    num_wps: 3,
+    pmu_num_ctrs: 4,
+    rtt_level_start: 2,
+    rtt_num_start: 8,
+    algo: Algo::Sha512,
+    rpv: [9; 64],
+    rtt_base: 0x10_0000,
+};
+
+const CONTENT: [u8; 64] = [
+    0x00, 0x01, 0x02, 0x03, 0x04, 0x05, 0x06, 0x07, 0x08, 0x09, 0x0a, 0x0b, 0x0c, 0x0d, 0x0e, 0x0f,
+    0x10, 0x11, 0x12, 0x13, 0x14, 0x15, 0x16, 0x17, 0x18, 0x19, 0x1a, 0x1b, 0x1c, 0x1d, 0x1e, 0x1f,
+    0x20, 0x21, 0x22, 0x23, 0x24, 0x25, 0x26, 0x27, 0x28, 0x29, 0x2a, 0x2b, 0x2c, 0x2d, 0x2e, 0x2f,
+    0x30, 0x31, 0x32, 0x33, 0x34, 0x35, 0x36, 0x37, 0x38, 0x39, 0x3a, 0x3b, 0x3c, 0x3d, 0x3e, 0x3f,
+];
+
+const MIXED_COMMANDS: [Command; 4] = [
+    Command::RealmCreate {
+        rd: 0x10_8000,
+        params: MIXED_PARAMS,
+    },
+    Command::RttCreate {
+        rtt: 0x10_9000,
+        ipa: 0x4000_0000,
+        level: 3,
+    },
+    Command::InitRipas {
+        base: 0x4000_0000,
+        top: 0x4000_2000,
+    },
+    Command::DataCreate {
+        granule: 0x10_a000,
+        ipa: 0x4000_1000,
+        content: Some(Measurement { bytes: CONTENT }),
+    },
+];
+
+/// Delegates granules side by side, from the first on.
+pub fn delegate_all(rt: &impl Abort, monitor: &mut Monitor, first: u64, count: u64) {
+    for index in 0..count {
+        let granule = first.saturating_add(index.saturating_mul(4096));
+        check_answer(rt, monitor, &Command::Delegate { granule }, Ok(()));
+    }
+}
+
+/// The REC of the list.
+fn mixed_rec() -> Command {
+    Command::RecCreate {
+        rec: 0x10_b000,
+        params: RecParams::new(1, 0, 0x4008_0000, [1, 2, 3, 4, 5, 6, 7, 8], &[0x10_c000]),
+    }
 }
 
 #[test]
 fn sha512_with_data_and_rec(rt: HostRuntime) {
     let mut monitor = Monitor::new(rt.alloc(), 1);
-    for index in 0..16 {
-        let granule = 0x10_0000 + 4096 * index;
-        take_all(&rt, &mut monitor, &[Command::Delegate { granule }]);
-    }
-    let params = RealmParams {
-        flags: 6,
-        s2sz: 33,
-        sve_vl: 1,
-        num_bps: 2,
-        num_wps: 3,
-        pmu_num_ctrs: 4,
-        rtt_level_start: 2,
-        rtt_num_start: 8,
-        algo: Algo::Sha512,
-        rpv: [9; 64],
-        rtt_base: 0x10_0000,
-    };
-    let mut bytes = [0; 64];
-    for (index, byte) in bytes.iter_mut().enumerate() {
-        *byte = (index % 64) as u8;
-    }
-    let commands = [
-        Command::RealmCreate {
-            rd: 0x10_8000,
-            params,
-        },
-        Command::RttCreate {
-            rtt: 0x10_9000,
-            ipa: 0x4000_0000,
-            level: 3,
-        },
-        Command::InitRipas {
-            base: 0x4000_0000,
-            top: 0x4000_2000,
-        },
-        Command::DataCreate {
-            granule: 0x10_a000,
-            ipa: 0x4000_1000,
-            content: Some(Measurement { bytes }),
-        },
-        Command::RecCreate {
-            rec: 0x10_b000,
-            params: RecParams::new(1, 0, 0x4008_0000, [1, 2, 3, 4, 5, 6, 7, 8], &[0x10_c000]),
-        },
-        Command::Activate,
-    ];
-    take_all(&rt, &mut monitor, &commands);
+    delegate_all(&rt, &mut monitor, 0x10_0000, 16);
+    take_all(&rt, &mut monitor, &MIXED_COMMANDS);
+    check_answer(&rt, &mut monitor, &mixed_rec(), Ok(()));
+    check_answer(&rt, &mut monitor, &Command::Activate, Ok(()));
     check_rim(&rt, &monitor, Some(Measurement { bytes: MIXED }));
     check_owner(&rt, &monitor, 0x10_b000, Some(Kind::Rec));
     check_owner(&rt, &monitor, 0x10_c000, Some(Kind::RecAux));
 }
 
-/// Applies commands, each of which changes nothing where memory is refused, and is accepted at the next try.
+/// Applies a command, which changes nothing where memory is refused, and is accepted at the next try.
+fn retry(rt: &impl Abort, monitor: &mut Monitor, command: &Command) {
+    let rim = monitor.rim();
+    let owners = monitor.owner_count();
+    if monitor.apply(command) == Err(Refused::NoMemory) {
+        check_rim(rt, monitor, rim);
+        check_owner_count(rt, monitor, owners);
+        check_answer(rt, monitor, command, Ok(()));
+    }
+}
+
 fn retry_all(rt: &impl Abort, monitor: &mut Monitor, commands: &[Command]) {
     for command in commands {
-        let rim = monitor.rim();
-        let owners = monitor.owner_count();
-        if monitor.apply(command) == Err(Refused::NoMemory) {
-            check_rim(rt, monitor, rim);
-            check_owner_count(rt, monitor, owners);
-            check_answer(rt, monitor, command, Ok(()));
-        }
+        retry(rt, monitor, command);
     }
 }
 
@@ -248,8 +271,10 @@ fn retry_all(rt: &impl Abort, monitor: &mut Monitor, commands: &[Command]) {
 #[test]
 fn refused_growth_changes_nothing(rt: HostRuntime) {
     let mut monitor = Monitor::new(rt.alloc(), 0);
-    retry_all(&rt, &mut monitor, &creation());
-    retry_all(&rt, &mut monitor, &filling());
+    retry_all(&rt, &mut monitor, &CREATION);
+    retry_all(&rt, &mut monitor, &RAM);
+    retry_all(&rt, &mut monitor, &TABLES);
+    retry_all(&rt, &mut monitor, &DATA);
     check_rim(&rt, &monitor, Some(Measurement { bytes: WORKED }));
     check_owner_count(&rt, &monitor, 6);
 }

@@ -13,7 +13,7 @@ fn run(base: u64, top: u64, level: u8) -> Act {
 /// Compares a plan from `base` on. There is one place for this, since each comparison is proved.
 fn check_acts(rt: &impl Abort, plan: Result<Vec<Act>, PlanFault>, base: u64, acts: &[Act]) {
     match plan {
-        Ok(made) => assert_eq!(rt; made.as_slice(), acts, "at {base:x}"),
+        Ok(made) => assert!(rt; made.as_slice() == acts, "at {base:x}"),
         Err(fault) => assert!(rt; false, "{fault:?} at {base:x}"),
     }
 }
@@ -32,13 +32,13 @@ fn check_data(rt: &impl Abort, tables: &mut Tables, base: u64, count: u64, acts:
 
 fn check_count(rt: &impl Abort, plan: Result<Vec<Act>, PlanFault>, base: u64, count: usize) {
     match plan {
-        Ok(made) => assert_eq!(rt; made.len(), count, "at {base:x}"),
+        Ok(made) => assert!(rt; made.len() == count, "at {base:x}"),
         Err(fault) => assert!(rt; false, "{fault:?} at {base:x}"),
     }
 }
 
 fn check_refused(rt: &impl Abort, plan: Result<Vec<Act>, PlanFault>, base: u64, fault: PlanFault) {
-    assert_eq!(rt; plan.err(), Some(fault), "at {base:x}");
+    assert!(rt; plan.err() == Some(fault), "at {base:x}");
 }
 
 fn check_fault(rt: &impl Abort, tables: &mut Tables, base: u64, end: u64, fault: PlanFault) {
@@ -60,7 +60,7 @@ fn check_data_fault(rt: &impl Abort, tables: &mut Tables, base: u64, count: u64,
 }
 
 fn check_walk(rt: &impl Abort, tables: &Tables, ipa: u64, level: u8) {
-    assert_eq!(rt; tables.walk_level(ipa), level, "at {ipa:x}");
+    assert!(rt; tables.walk_level(ipa) == level, "at {ipa:x}");
 }
 
 #[test]
@@ -237,20 +237,27 @@ fn entries_of_a_launch(rt: HostRuntime) {
     );
 }
 
+/// The width of IPAs in bits, and the level and the number of their start tables.
+const STARTS: [(u8, Option<(u8, u8)>); 9] = [
+    (31, None),
+    (32, Some((2, 4))),
+    (34, Some((2, 16))),
+    (35, Some((1, 1))),
+    (40, Some((1, 2))),
+    (43, Some((1, 16))),
+    (44, Some((0, 1))),
+    (48, Some((0, 1))),
+    (49, None),
+];
+
+fn check_start(rt: &impl Abort, s2sz: u8, start: Option<(u8, u8)>) {
+    assert!(rt; start_of(s2sz) == start, "{s2sz} bits");
+}
+
 #[test]
 fn start_tables(rt: HostRuntime) {
-    for (s2sz, start) in [
-        (31, None),
-        (32, Some((2, 4))),
-        (34, Some((2, 16))),
-        (35, Some((1, 1))),
-        (40, Some((1, 2))),
-        (43, Some((1, 16))),
-        (44, Some((0, 1))),
-        (48, Some((0, 1))),
-        (49, None),
-    ] {
-        assert_eq!(rt; start_of(s2sz), start, "{s2sz} bits");
+    for (s2sz, start) in &STARTS {
+        check_start(&rt, *s2sz, *start);
     }
 }
 

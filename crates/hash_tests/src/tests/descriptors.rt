@@ -3,6 +3,7 @@ use super::{fill, front};
 use known_tail::sha256_descriptor;
 use sha_four::sha256_descriptors;
 use sha2::{Digest, Sha256};
+use std::process::Abort;
 
 /// A descriptor of 128 pseudo-random bytes and as many zeros, with one byte changed.
 fn descriptor(seed: u32, place: u8, byte: u8) -> [u8; 256] {
@@ -23,11 +24,15 @@ const DIGESTS: [(u32, u8, u8, u64); 7] = [
     (6, 255, 1, 0x5857_9e83_92a8_0be8),
 ];
 
+fn check_front(rt: &impl Abort, seed: u32, place: u8, byte: u8, digest: u64) {
+    let found = sha256_descriptor(&descriptor(seed, place, byte));
+    assert!(rt; front(&found) == digest, "seed {seed}");
+}
+
 #[test]
 fn digests_of_another_program(rt: HostRuntime) {
-    for (seed, place, byte, digest) in DIGESTS {
-        let found = sha256_descriptor(&descriptor(seed, place, byte));
-        assert_eq!(rt; front(&found), digest, "seed {seed}");
+    for (seed, place, byte, digest) in &DIGESTS {
+        check_front(&rt, *seed, *place, *byte, *digest);
     }
 }
 
@@ -61,28 +66,45 @@ fn are_those_of_sha2(four: &[[u8; 256]; 4]) -> bool {
     sha256_descriptors(a, b, c, d) == expected
 }
 
+fn check_four(rt: &impl Abort, seed: u32) {
+    let four = [
+        descriptor(seed, 0, 1),
+        descriptor(seed, 0, 2),
+        descriptor(seed, 0, 3),
+        descriptor(seed, 0, 4),
+    ];
+    assert!(rt; are_those_of_sha2(&four), "seed {seed}");
+}
+
 #[test]
 fn four_tails_of_zeros(rt: HostRuntime) {
     for seed in 0..1000u32 {
-        let four = [
-            descriptor(seed, 0, 1),
-            descriptor(seed, 0, 2),
-            descriptor(seed, 0, 3),
-            descriptor(seed, 0, 4),
-        ];
-        assert!(rt; are_those_of_sha2(&four), "seed {seed}");
+        check_four(&rt, seed);
     }
+}
+
+/// The places of a byte in four tails; the descriptors' first byte where a tail has none.
+const PLACES: [[u8; 4]; 4] = [
+    [128, 0, 0, 0],
+    [0, 160, 0, 0],
+    [0, 0, 200, 0],
+    [0, 0, 0, 255],
+];
+
+fn check_places(rt: &impl Abort, places: [u8; 4]) {
+    let [a, b, c, d] = places;
+    let four = [
+        descriptor(11, a, 9),
+        descriptor(11, b, 9),
+        descriptor(11, c, 9),
+        descriptor(11, d, 9),
+    ];
+    assert!(rt; are_those_of_sha2(&four), "places {places:?}");
 }
 
 #[test]
 fn a_byte_of_one_tail_of_four(rt: HostRuntime) {
-    for places in [
-        [128, 0, 0, 0],
-        [0, 160, 0, 0],
-        [0, 0, 200, 0],
-        [0, 0, 0, 255u8],
-    ] {
-        let four = places.map(|place| descriptor(11, place, 9));
-        assert!(rt; are_those_of_sha2(&four), "places {places:?}");
+    for places in &PLACES {
+        check_places(&rt, *places);
     }
 }

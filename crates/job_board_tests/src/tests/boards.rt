@@ -172,24 +172,30 @@ fn put_page<L: Ledger>(
     }
 }
 
+/// A row with the digests of these pages, as many as the plan has.
+fn row_of(rt: &impl Abort, alloc: Global, plan: &LaunchPlan, offers: &[Offer]) -> DigestRow {
+    let mut row = DigestRow::reserve(alloc, plan.pages()).expect(rt, "memory");
+    for offer in offers {
+        if row.digests().len() < row.room() {
+            row.push(PageJob::new(page_of(*offer)).run().digest);
+        }
+    }
+    row
+}
+
 /// A launch that was chained so.
 fn chain_of<'a>(
     rt: &impl Abort,
     alloc: Global,
     plans: &'a [LaunchPlan],
     launch: Chained<'_>,
-) -> Result<LaunchRim<'a>, NoMemory> {
+) -> LaunchRim<'a> {
     let plan = plans.get(launch.plan).expect(rt, "the plan exists");
-    let mut row = DigestRow::reserve(alloc, plan.pages())?;
-    for offer in launch.row {
-        if row.digests().len() < row.room() {
-            row.push(PageJob::new(page_of(*offer)).run().digest);
-        }
-    }
+    let row = row_of(rt, alloc, plan, launch.row);
     if row.digests().len() != plan.pages() {
         panic!(rt; "the row is filled");
     }
-    Ok(LaunchJob::new(launch.number, plan, row).run())
+    LaunchJob::new(launch.number, plan, row).run()
 }
 
 /// Whether a launch is accepted.
@@ -199,48 +205,50 @@ fn put_launch<L: Ledger>(
     desk: &mut Desk<'_, L>,
     worker: usize,
     launch: Chained<'_>,
-) -> Result<bool, NoMemory> {
-    let rim = chain_of(rt, alloc, desk.plans, launch)?;
+) -> bool {
+    let rim = chain_of(rt, alloc, desk.plans, launch);
     let value = rim.value();
     match desk.board.put_launch(worker, rim) {
-        Ok(()) => Ok(true),
+        Ok(()) => true,
         Err(back) => {
-            assert_eq!(rt; back.value(), value);
-            Ok(false)
+            assert!(rt; back.value() == value, "what is handed back");
+            false
         }
     }
 }
 
-fn ask_one<L: Ledger>(
+/// How many pages are counted in a worker's share.
+fn count_of<L: Ledger>(desk: &Desk<'_, L>, worker: usize) -> Option<u64> {
+    match desk.shares.get(worker) {
+        Some(share) => Some(share.count()),
+        None => None,
+    }
+}
+
+/// Whether the answer is the one that is given.
+fn is_answer<L: Ledger>(
     rt: &impl Abort,
     alloc: Global,
     desk: &mut Desk<'_, L>,
     ask: &Ask<'_>,
-) -> Result<(), NoMemory> {
+) -> bool {
     match *ask {
-        Ask::Take(worker, given) => assert_eq!(rt; take(rt, desk, worker), given, "{ask:?}"),
+        Ask::Take(worker, given) => take(rt, desk, worker) == given,
         Ask::Page(worker, job, offer, is_taken) => {
-            assert_eq!(rt; put_page(rt, desk, worker, job, offer), is_taken, "{ask:?}");
+            put_page(rt, desk, worker, job, offer) == is_taken
         }
         Ask::Launch(worker, launch, is_taken) => {
-            assert_eq!(rt;
-                put_launch(rt, alloc, desk, worker, launch)?,
-                is_taken,
-                "{ask:?}"
-            );
+            put_launch(rt, alloc, desk, worker, launch) == is_taken
         }
-        Ask::Retire(worker, is_retired) => {
-            assert_eq!(rt; desk.board.retire(worker), is_retired, "{ask:?}");
-        }
-        Ask::Share(worker, count) => {
-            assert_eq!(rt;
-                desk.shares.get(worker).map(|share| share.count()),
-                Some(count),
-                "{ask:?}"
-            );
-        }
+        Ask::Retire(worker, is_retired) => desk.board.retire(worker) == is_retired,
+        Ask::Share(worker, count) => count_of(desk, worker) == Some(count),
     }
-    Ok(())
+}
+
+fn ask_all<L: Ledger>(rt: &impl Abort, alloc: Global, desk: &mut Desk<'_, L>, asks: &[Ask<'_>]) {
+    for ask in asks {
+        assert!(rt; is_answer(rt, alloc, desk, ask), "{ask:?}");
+    }
 }
 
 fn play_on<L: Ledger>(
@@ -269,13 +277,12 @@ fn play_on<L: Ledger>(
         shares,
         plans,
     };
-    for ask in asks {
-        ask_one(rt, alloc, &mut desk, ask)?;
-    }
+    ask_all(rt, alloc, &mut desk, asks);
     Ok(())
 }
 
-/// Asks a new board in order. It has pages of the first numbers, and launches that measure pages of these numbers.
+/// Asks a new board of 1 to 64 workers in order. It has pages of the first numbers, and launches that measure pages of
+/// these numbers.
 pub(super) fn play(
     rt: &impl Abort,
     alloc: Global,
@@ -283,9 +290,22 @@ pub(super) fn play(
     pages: usize,
     launches: &[&[usize]],
     asks: &[Ask<'_>],
-) -> Result<(), NoMemory>
-    requires { (1 ≤ workers) × (workers ≤ 64) }
-{
+) {
+    let workers = workers.max(1).min(64);
     let blank = Blank::new(workers as u64);
-    play_on::<Brand>(rt, alloc, blank, workers, pages, launches, asks)
+    let played = play_on::<Brand>(rt, alloc, blank, workers, pages, launches, asks);
+    played.expect(rt, "memory");
+}
+
+/// How many workers, how many pages, the pages that each launch measures, and what is asked.
+pub(super) type Game = (
+    usize,
+    usize,
+    &'static [&'static [usize]],
+    &'static [Ask<'static>],
+);
+
+pub(super) fn play_game(rt: &impl Abort, alloc: Global, game: &Game) {
+    let (workers, pages, launches, asks) = game;
+    play(rt, alloc, *workers, *pages, launches, asks);
 }

@@ -1,8 +1,7 @@
 //! Each fault at its edge, and the first of two that hold.
 use super::Act::{Put, Retire, Take};
-use super::{Act, core_of, play};
+use super::{Row, check, core_of, play};
 use job_board::{CoreFault, JobId, JobState};
-use std::test::Fail;
 
 const PAGE: JobId = JobId::Page(0);
 
@@ -11,9 +10,9 @@ const OTHER: JobId = JobId::Page(1);
 const LAUNCH: JobId = JobId::Launch(0);
 
 /// Beside worker 0 there are worker 1, who holds a page, and worker 2, who is retired. The launch needs both pages.
-const BEFORE: [(Act, Result<(), CoreFault>); 2] = [(Take(1, PAGE), Ok(())), (Retire(2), Ok(()))];
+const BEFORE: [Row; 2] = [(Take(1, PAGE), Ok(())), (Retire(2), Ok(()))];
 
-const REFUSED: [(Act, Result<(), CoreFault>); 24] = [
+const REFUSED: [Row; 24] = [
     (Retire(0), Err(CoreFault::Retired)),
     (Retire(2), Err(CoreFault::Retired)),
     (Retire(3), Err(CoreFault::Retired)),
@@ -43,7 +42,7 @@ const REFUSED: [(Act, Result<(), CoreFault>); 24] = [
     (Take(0, LAUNCH), Err(CoreFault::Early)),
 ];
 
-const DONE: [(Act, Result<(), CoreFault>); 11] = [
+const DONE: [Row; 11] = [
     (Put(1, PAGE), Ok(())),
     (Put(1, PAGE), Err(CoreFault::Stranger)),
     (Take(0, PAGE), Err(CoreFault::Taken)),
@@ -59,12 +58,15 @@ const DONE: [(Act, Result<(), CoreFault>); 11] = [
 ];
 
 #[test]
-fn the_first_fault_is_answered(rt: HostRuntime) -> Result<(), Fail> {
-    let mut core = core_of(rt.alloc(), 3, 2, &[&[0, 1]])?;
+fn the_first_fault_is_answered(rt: HostRuntime) {
+    let mut core = core_of(&rt, rt.alloc(), 3, 2, &[&[0, 1]]);
     play(&rt, &mut core, &BEFORE);
     play(&rt, &mut core, &REFUSED);
-    assert_eq!(rt; core.held(1), Some(PAGE));
+    check(&rt, core.held(1) == Some(PAGE), "worker 1 holds the page");
     play(&rt, &mut core, &DONE);
-    assert_eq!(rt; core.state(PAGE), Some(JobState::Done));
-    Ok(())
+    check(
+        &rt,
+        core.state(PAGE) == Some(JobState::Done),
+        "the page is done",
+    );
 }

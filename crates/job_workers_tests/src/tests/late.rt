@@ -4,12 +4,13 @@ ghost use Rattle.std.specs.List.{All, Contains};
 ghost use Rattle.page_jobs.specs.Table.{keys_of};
 ghost use Rattle.rim_chain.specs.Links.{keys_of as link_keys};
 
+use super::{pages_of, plans_of};
 use job_board::{BoardState, JobId, has_all_keys};
 use job_workers::{Board, Gate, Run, run_workers_on};
-use page_jobs::{Blob, PageKey, Table, distinct_pages};
+use page_jobs::Table;
 use refusal::NoMemory;
-use rim_chain::{LaunchPlan, Link};
-use rim_desc::{Algo, Measurement, RealmParams, Source};
+use rim_chain::LaunchPlan;
+use rim_desc::Measurement;
 use std::alloc::Global;
 use std::marker::Brand;
 use std::process::Abort;
@@ -25,32 +26,6 @@ const STACK: usize = 1 << 20;
 
 /// Two pages.
 const BYTES: [u8; 8192] = [7; 8192];
-
-const REALM: RealmParams = RealmParams {
-    flags: 0,
-    s2sz: 33,
-    sve_vl: 0,
-    num_bps: 0,
-    num_wps: 0,
-    pmu_num_ctrs: 0,
-    rtt_level_start: 2,
-    rtt_num_start: 1,
-    algo: Algo::Sha256,
-    rpv: [0; 64],
-    rtt_base: 0,
-};
-
-/// The link that measures both pages of file 0.
-const BOTH: Link = Link::Pages {
-    ipa: 0x4000_0000,
-    key: PageKey {
-        algo: Algo::Sha256,
-        source: Source::File(0),
-        lead: 0,
-        number: 0,
-    },
-    count: 2,
-};
 
 /// Of two pages and two launches, holds the first page until the second is begun; the second until the first was put, and
 /// for some turns more, in which the worker that put it looks for another job; and the first launch until the second is
@@ -150,17 +125,8 @@ fn is_shared<'a, L: Run + Send + Sync, R: Threads + Wait + Abort + Sync>(
 #[test]
 fn launches_are_shared_where_a_page_is_late(rt: HostRuntime) -> Result<(), Fail> {
     let alloc = rt.alloc();
-    let mut pages = Vec::new(alloc);
-    for number in 0..2 {
-        pages.push(Blob::new(Source::File(0), 0, &BYTES).page(Algo::Sha256, number))?;
-    }
-    distinct_pages(&mut pages);
-    let mut plans = Vec::new(alloc);
-    for _launch in 0..2 {
-        let mut links = Vec::new(alloc);
-        links.push(BOTH)?;
-        plans.push(LaunchPlan::new(REALM, links).expect(&rt, "the link fits"))?;
-    }
+    let pages = pages_of(alloc, &BYTES, 2)?;
+    let plans = plans_of(&rt, alloc, 2, 2);
     let plans = plans.as_slice();
     for _run in 0..20 {
         let table = Table::reserve(alloc, &pages)?;

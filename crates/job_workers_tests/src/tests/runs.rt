@@ -1,17 +1,15 @@
 //! Runs of workers over pages: what is counted, who is started, and what is called around each job.
-ghost use Rattle.std.specs.Prelude.{◌≡◌, [], IfOk, length, map, replicate, None};
+ghost use Rattle.std.specs.Prelude.{◌≡◌, [], length, replicate, None};
 ghost use Rattle.std.specs.List.{All, Contains};
-ghost use Rattle.page_jobs.specs.Key.{IsRising};
-ghost use Rattle.page_jobs.specs.Page.{page_view};
 ghost use Rattle.page_jobs.specs.Table.{keys_of};
 ghost use Rattle.rim_chain.specs.Links.{keys_of as link_keys};
 
+use super::{check, pages_of, plans_of};
 use job_board::{BoardState, JobId, Share, Work, has_all_keys};
 use job_workers::{Board, Gate, Run, run_workers_on};
-use page_jobs::{Blob, Page, PageJob, PageKey, Table, distinct_pages};
+use page_jobs::{Page, PageJob, Table};
 use refusal::NoMemory;
-use rim_chain::{LaunchPlan, Link};
-use rim_desc::{Algo, RealmParams, Source};
+use rim_chain::LaunchPlan;
 use std::alloc::Global;
 use std::marker::Brand;
 use std::process::Abort;
@@ -73,16 +71,18 @@ fn holding(turns: u64) -> Hold {
     }
 }
 
-/// Pages 0 to 6 of these bytes.
-fn pages(alloc: Global) -> Result<Vec<Page<'static>>, NoMemory>
-    ensures { IfOk result (λ pages. IsRising (keys_of (map page_view pages.items))) }
-{
-    let mut pages = Vec::new(alloc);
-    for number in 0..7 {
-        pages.push(Blob::new(Source::File(0), 0, &BYTES).page(Algo::Sha256, number))?;
-    }
-    distinct_pages(&mut pages);
-    Ok(pages)
+/// Compares how many pages worker 0 and the others put.
+fn check_counts(rt: &impl Abort, gate: &Hold, counts: &[u64; 2]) {
+    check(
+        rt,
+        counts[0] == gate.first.load(Ordering::SeqCst),
+        "worker 0",
+    );
+    check(
+        rt,
+        counts[1] == gate.others.load(Ordering::SeqCst),
+        "the others",
+    );
 }
 
 /// Runs workers over the pages of a table. They are to be this many, and to put what the gate counted.
@@ -105,28 +105,32 @@ fn run<L: Run + Send + Sync, R: Threads + Wait + Abort + Sync>(
     let board = Board::new(state);
     let mut counts = [0; 2];
     let tally = run_workers_on(rt, gate, &board, shares, &mut counts, &mut [], stack_size);
-    assert_eq!(rt; tally.pages, 7);
-    assert_eq!(rt; tally.started, started);
-    assert_eq!(rt; counts[0], gate.first.load(Ordering::SeqCst));
-    assert_eq!(rt; counts[1], gate.others.load(Ordering::SeqCst));
+    check(rt, tally.pages == 7, "seven pages");
+    check(rt, tally.started == started, "workers that are started");
+    check_counts(rt, gate, &counts);
     Ok(())
+}
+
+/// Both put pages, and none waited in vain.
+fn check_both(rt: &impl Abort, gate: &Hold) {
+    check(rt, gate.first.load(Ordering::SeqCst) > 0, "worker 0");
+    check(rt, gate.others.load(Ordering::SeqCst) > 0, "the other");
+    check(rt, gate.in_vain.load(Ordering::SeqCst) == 0, "none in vain");
 }
 
 #[test]
 fn two_workers_at_a_time(rt: HostRuntime) -> Result<(), Fail> {
-    let pages = pages(rt.alloc())?;
+    let pages = pages_of(rt.alloc(), &BYTES, 7)?;
     let table = Table::reserve(rt.alloc(), &pages)?;
     let mut gate = holding(100_000_000);
     run::<Brand, HostRuntime>(&rt, rt.alloc(), Blank::new(2), table, &mut gate, STACK, 2)?;
-    assert!(rt; gate.first.load(Ordering::SeqCst) > 0);
-    assert!(rt; gate.others.load(Ordering::SeqCst) > 0);
-    assert_eq!(rt; gate.in_vain.load(Ordering::SeqCst), 0);
+    check_both(&rt, &gate);
     Ok(())
 }
 
 #[test]
 fn no_worker_can_be_started(rt: HostRuntime) -> Result<(), Fail> {
-    let pages = pages(rt.alloc())?;
+    let pages = pages_of(rt.alloc(), &BYTES, 7)?;
     let table = Table::reserve(rt.alloc(), &pages)?;
     let mut gate = holding(0);
     run::<Brand, HostRuntime>(
@@ -138,7 +142,7 @@ fn no_worker_can_be_started(rt: HostRuntime) -> Result<(), Fail> {
         usize::MAX,
         1,
     )?;
-    assert_eq!(rt; gate.first.load(Ordering::SeqCst), 7);
+    check(&rt, gate.first.load(Ordering::SeqCst) == 7, "worker 0");
     Ok(())
 }
 
@@ -153,11 +157,9 @@ fn offer<'a, L: Run>(
     count: u64,
 ) {
     let hashed = PageJob::new(page).run();
-    assert_eq!(rt;
-        board.put_page(rt, worker, 0, hashed, share).is_ok(),
-        is_taken
-    );
-    assert_eq!(rt; share.count(), count);
+    let answer = board.put_page(rt, worker, 0, hashed, share);
+    check(rt, answer.is_ok() == is_taken, "whether it is taken");
+    check(rt, share.count() == count, "the share");
 }
 
 /// Worker 0 puts a page and the launch that measures it. No other worker can put the page, and no page is put twice.
@@ -184,55 +186,36 @@ fn put_once<'a, L: Run>(
         panic!(rt; "the page is free");
     };
     let page = job.page;
-    assert!(rt; matches!(board.take(rt, 0), Work::Busy));
-    assert!(rt; matches!(board.take(rt, 1), Work::Later));
+    check(
+        rt,
+        matches!(board.take(rt, 0), Work::Busy),
+        "worker 0 is busy",
+    );
+    check(
+        rt,
+        matches!(board.take(rt, 1), Work::Later),
+        "worker 1 waits",
+    );
     offer(rt, &board, 1, page, &mut second, false, 0);
     offer(rt, &board, 0, page, &mut first, true, 1);
     offer(rt, &board, 0, page, &mut first, false, 1);
     let Work::Launch(job) = board.take(rt, 0) else {
         panic!(rt; "the launch has its page");
     };
-    assert!(rt; board.put_launch(rt, 0, job.run()).is_ok());
-    assert!(rt; matches!(board.take(rt, 0), Work::Done));
+    check(
+        rt,
+        board.put_launch(rt, 0, job.run()).is_ok(),
+        "the launch is taken",
+    );
+    check(rt, matches!(board.take(rt, 0), Work::Done), "all is done");
     Ok(())
 }
 
-const REALM: RealmParams = RealmParams {
-    flags: 0,
-    s2sz: 33,
-    sve_vl: 0,
-    num_bps: 0,
-    num_wps: 0,
-    pmu_num_ctrs: 0,
-    rtt_level_start: 2,
-    rtt_num_start: 1,
-    algo: Algo::Sha256,
-    rpv: [0; 64],
-    rtt_base: 0,
-};
-
-/// The link that measures the first page of file 0.
-const LINK: Link = Link::Pages {
-    ipa: 0x4000_0000,
-    key: PageKey {
-        algo: Algo::Sha256,
-        source: Source::File(0),
-        lead: 0,
-        number: 0,
-    },
-    count: 1,
-};
-
 #[test]
 fn a_page_and_its_launch_are_put_once(rt: HostRuntime) -> Result<(), Fail> {
-    let mut pages = Vec::new(rt.alloc());
-    pages.push(Blob::new(Source::File(0), 0, &[1, 2, 3]).page(Algo::Sha256, 0))?;
-    distinct_pages(&mut pages);
+    let pages = pages_of(rt.alloc(), &[1, 2, 3], 1)?;
     let table = Table::reserve(rt.alloc(), &pages)?;
-    let mut links = Vec::new(rt.alloc());
-    links.push(LINK)?;
-    let mut plans = Vec::new(rt.alloc());
-    plans.push(LaunchPlan::new(REALM, links).expect(&rt, "the link fits"))?;
+    let plans = plans_of(&rt, rt.alloc(), 1, 1);
     let plans = plans.as_slice();
     if !has_all_keys(&table, plans) {
         panic!(rt; "the launch's page exists");

@@ -1,93 +1,134 @@
 //! Pages and their digests. The digests were computed by Python's hashlib.
-use super::item;
-use page_jobs::{Blob, Page, PageJob, PageKey, distinct_pages, run_four};
-use rim_desc::{Algo, Source};
+use super::{Row, check, counted, digest_of, item, key_of, page_of, pages_of};
+use page_jobs::{Page, PageJob, PageKey, run_four};
+use rim_desc::{Algo, Measurement, Source};
+use std::alloc::Global;
 use std::mem::size_of;
+use std::process::Abort;
 use std::test::Fail;
 
-#[test]
-fn second_page_has_one_byte(rt: HostRuntime) -> Result<(), Fail> {
-    let bytes = item(rt.alloc())?;
-    let item = bytes.as_slice();
-    let blob = Blob::new(Source::File(5), 0, item);
-    assert_eq!(rt;
-        blob.page(Algo::Sha256, 0).bytes().as_slice(),
-        item.get(..4096).expect(&rt, "a whole page")
-    );
-    let page = blob.page(Algo::Sha256, 1).bytes();
-    assert_eq!(rt; page[0], 61);
-    assert!(rt; page[1..].iter().all(|b| *b == 0));
-    let key = PageKey {
-        algo: Algo::Sha256,
-        source: Source::File(5),
-        lead: 0,
-        number: 1,
+fn is_zero(bytes: &[u8]) -> bool {
+    for byte in bytes {
+        if *byte != 0 {
+            return false;
+        }
+    }
+    true
+}
+
+/// Whether the bytes are this many zeros, then this part, and then zeros.
+fn is_laid(bytes: &[u8], zeros: usize, part: &[u8]) -> bool {
+    let Some((front, rest)) = bytes.split_at_checked(zeros) else {
+        return false;
     };
-    assert_eq!(rt; blob.page(Algo::Sha256, 1).key, key);
-    assert_eq!(rt; blob.page(Algo::Sha256, 1).bytes.len(), 1);
+    let Some((middle, rest)) = rest.split_at_checked(part.len()) else {
+        return false;
+    };
+    is_zero(front) && middle == part && is_zero(rest)
+}
+
+/// A page has its key, and its bytes are this many zeros, then this part of the item, and then zeros.
+fn check_page(rt: &impl Abort, item: &[u8], row: &Row, zeros: usize, part: &[u8]) {
+    let page = page_of(item, row);
+    let has_part = page.bytes == part && is_laid(&page.bytes(), zeros, part);
+    assert!(rt; has_part && page.key == key_of(row), "{row:?}");
+}
+
+/// A page of the item, how many zeros are in front, and which bytes of the item are in it, from the first to the first
+/// that is not.
+type OfItem = (Row, usize, usize, usize);
+
+const OF_ITEM: [OfItem; 4] = [
+    ((Algo::Sha256, Source::File(5), 0, 0), 0, 0, 4096),
+    ((Algo::Sha256, Source::File(5), 0, 1), 0, 4096, 4097),
+    ((Algo::Sha512, Source::File(5), 4, 0), 4, 0, 4092),
+    ((Algo::Sha512, Source::File(5), 4, 1), 0, 4092, 4097),
+];
+
+fn check_of_item(rt: &impl Abort, item: &[u8], row: &OfItem) -> Result<(), Fail> {
+    let (page, zeros, from, to) = row;
+    let part = item.get(*from..*to).ok_or("bytes of the item")?;
+    check_page(rt, item, page, *zeros, part);
     Ok(())
 }
 
 #[test]
-fn lead_puts_zeros_in_front(rt: HostRuntime) -> Result<(), Fail> {
-    let bytes = item(rt.alloc())?;
-    let item = bytes.as_slice();
-    assert_eq!(rt; item.len(), 4097);
-    let blob = Blob::new(Source::File(5), 4, item);
-    let page = blob.page(Algo::Sha512, 0).bytes();
-    assert_eq!(rt; &page[..4], [0, 0, 0, 0].as_slice());
-    assert_eq!(rt; &page[4..], item.get(..4092).expect(&rt, "most of a page"));
-    let page = blob.page(Algo::Sha512, 1).bytes();
-    assert_eq!(rt; &page[..5], &item[4092..]);
-    assert!(rt; page[5..].iter().all(|b| *b == 0));
+fn pages_of_the_item(rt: HostRuntime) -> Result<(), Fail> {
+    let item = item(rt.alloc())?;
+    check(&rt, item.get(4096) == Some(&61), "the last byte");
+    for row in &OF_ITEM {
+        check_of_item(&rt, &item, row)?;
+    }
     Ok(())
 }
+
+/// The bytes, a page, how many zeros are in front, and the bytes that are in it.
+type Small = (&'static [u8], Row, usize, &'static [u8]);
+
+const SMALL: [Small; 6] = [
+    (
+        &[9, 8],
+        (Algo::Sha256, Source::File(0), 4095, 0),
+        4095,
+        &[9],
+    ),
+    (&[9, 8], (Algo::Sha256, Source::File(0), 4095, 1), 0, &[8]),
+    (&[9, 8], (Algo::Sha256, Source::File(0), 4095, 2), 0, &[]),
+    (
+        &[9, 8],
+        (Algo::Sha256, Source::File(0), 4095, 1_048_576),
+        0,
+        &[],
+    ),
+    (
+        &[9, 8],
+        (Algo::Sha256, Source::File(0), 4095, (1 << 52) - 1),
+        0,
+        &[],
+    ),
+    (&[], (Algo::Sha256, Source::File(0), 7, 0), 7, &[]),
+];
 
 #[test]
 fn pages_past_the_bytes_are_zero(rt: HostRuntime) {
-    let blob = Blob::new(Source::File(0), 4095, &[9, 8]);
-    assert_eq!(rt; blob.page(Algo::Sha256, 0).bytes()[4095], 9);
-    assert_eq!(rt; blob.page(Algo::Sha256, 1).bytes()[0], 8);
-    for number in [2, 1_048_576, (1 << 52) - 1] {
-        let page = blob.page(Algo::Sha256, number);
-        assert_eq!(rt; page.bytes.len(), 0);
-        assert!(rt; page.bytes().iter().all(|b| *b == 0));
+    for (bytes, page, zeros, part) in &SMALL {
+        check_page(&rt, bytes, page, *zeros, part);
     }
-    let empty = Blob::new(Source::File(0), 7, &[]);
-    assert!(rt; empty.page(Algo::Sha256, 0).bytes().iter().all(|b| *b == 0));
 }
 
-/// Algorithm, lead and number of pages of the item, and the digest of each.
-const DIGESTS: [(Algo, u64, u64, &str); 7] = [
+/// Algorithm, lead and number of pages of the item, and the digest of each, with zeros up to 64 bytes.
+type Digest = (Algo, u16, u64, &'static str);
+
+const DIGESTS: [Digest; 7] = [
     (
         Algo::Sha256,
         0,
         0,
-        "0d356260eaf09e3b3dc81a65b2ad2399aa7c4921c0274bd2cbb54c2a21c46e3b",
+        "0d356260eaf09e3b3dc81a65b2ad2399aa7c4921c0274bd2cbb54c2a21c46e3b0000000000000000000000000000000000000000000000000000000000000000",
     ),
     (
         Algo::Sha256,
         0,
         1,
-        "2faf36c99cd01776e2b7ca3b9c65bb525111c9697a91ce463a75e136f0cb7942",
+        "2faf36c99cd01776e2b7ca3b9c65bb525111c9697a91ce463a75e136f0cb79420000000000000000000000000000000000000000000000000000000000000000",
     ),
     (
         Algo::Sha256,
         4,
         0,
-        "17dfa417e92a58b13bade8724977223be4485ccd3d831ab22e5d0ef29efb2bb4",
+        "17dfa417e92a58b13bade8724977223be4485ccd3d831ab22e5d0ef29efb2bb40000000000000000000000000000000000000000000000000000000000000000",
     ),
     (
         Algo::Sha256,
         4,
         1,
-        "a4663780de907fcca9b7e27e617f2b200b7f33c43fbda67fe97f952f9efa68a3",
+        "a4663780de907fcca9b7e27e617f2b200b7f33c43fbda67fe97f952f9efa68a30000000000000000000000000000000000000000000000000000000000000000",
     ),
     (
         Algo::Sha256,
         4,
         2,
-        "ad7facb2586fc6e966c004d7d1d16b024f5805ff7cb47c7a85dabd8b48892ca7",
+        "ad7facb2586fc6e966c004d7d1d16b024f5805ff7cb47c7a85dabd8b48892ca70000000000000000000000000000000000000000000000000000000000000000",
     ),
     (
         Algo::Sha512,
@@ -103,25 +144,27 @@ const DIGESTS: [(Algo, u64, u64, &str); 7] = [
     ),
 ];
 
+fn check_digest(rt: &impl Abort, alloc: Global, item: &[u8], row: &Digest) -> Result<(), Fail> {
+    let (algo, lead, number, digest) = row;
+    let page = page_of(item, &(*algo, Source::File(0), *lead, *number));
+    let text = hex::encode(alloc, digest_of(page).bytes.as_slice())?;
+    assert!(rt; text.as_str() == *digest, "page {number} at lead {lead}");
+    Ok(())
+}
+
 #[test]
 fn digests(rt: HostRuntime) -> Result<(), Fail> {
     let item = item(rt.alloc())?;
-    for (algo, lead, number, digest) in DIGESTS {
-        let page = Blob::new(Source::File(0), lead, item.as_slice()).page(algo, number);
-        let bytes = PageJob::new(page).run().digest.bytes;
-        let text = hex::encode(rt.alloc(), bytes.as_slice())?;
-        assert_eq!(rt;
-            text.as_str().starts_with(digest),
-            true,
-            "page {number} at lead {lead}"
-        );
-        assert!(rt; bytes[digest.len() / 2..].iter().all(|b| *b == 0));
+    for row in &DIGESTS {
+        check_digest(&rt, rt.alloc(), &item, row)?;
     }
     Ok(())
 }
 
 /// Groups of pages of an item with four pages and one byte: the algorithm and the number of each.
-const GROUPS: [[(Algo, u8); 4]; 5] = [
+type Group = [(Algo, u8); 4];
+
+const GROUPS: [Group; 5] = [
     [
         (Algo::Sha256, 3),
         (Algo::Sha256, 0),
@@ -154,34 +197,50 @@ const GROUPS: [[(Algo, u8); 4]; 5] = [
     ],
 ];
 
-/// Whether a group's digests are those of its pages alone.
-fn are_as_alone(blob: Blob, group: [(Algo, u8); 4]) -> bool {
-    let [a, b, c, d] = group.map(|(algo, number)| blob.page(algo, u64::from(number)));
+fn page_in<'a>(bytes: &'a [u8], place: (Algo, u8)) -> Page<'a> {
+    let (algo, number) = place;
+    page_of(bytes, &(algo, Source::File(0), 0, u64::from(number)))
+}
+
+fn together(pages: [Page; 4]) -> [Measurement; 4] {
+    let [a, b, c, d] = pages;
     let (first, second, third, fourth) = run_four(
         PageJob::new(a),
         PageJob::new(b),
         PageJob::new(c),
         PageJob::new(d),
     );
-    let together = [first.digest, second.digest, third.digest, fourth.digest];
-    together == [a, b, c, d].map(|page| PageJob::new(page).run().digest)
+    [first.digest, second.digest, third.digest, fourth.digest]
+}
+
+fn alone(pages: [Page; 4]) -> [Measurement; 4] {
+    let [a, b, c, d] = pages;
+    [digest_of(a), digest_of(b), digest_of(c), digest_of(d)]
+}
+
+/// A group's digests are those of its pages alone.
+fn check_group(rt: &impl Abort, bytes: &[u8], group: Group) {
+    let [a, b, c, d] = group;
+    let pages = [
+        page_in(bytes, a),
+        page_in(bytes, b),
+        page_in(bytes, c),
+        page_in(bytes, d),
+    ];
+    assert!(rt; together(pages) == alone(pages), "{group:?}");
 }
 
 #[test]
 fn four_pages_together(rt: HostRuntime) -> Result<(), Fail> {
-    let mut bytes = Vec::new(rt.alloc());
-    for i in 0..16_385u32 {
-        bytes.push((i % 251) as u8)?;
-    }
-    let blob = Blob::new(Source::File(0), 0, bytes.as_slice());
-    for (place, group) in GROUPS.into_iter().enumerate() {
-        assert!(rt; are_as_alone(blob, group), "group {place}");
+    let bytes = counted(rt.alloc(), 16_385, 1, 0)?;
+    for group in &GROUPS {
+        check_group(&rt, &bytes, *group);
     }
     Ok(())
 }
 
-/// Algorithms, sources, leads and numbers of pages, mixed and with repeats.
-const MIXED: [(Algo, Source, u8, u16); 14] = [
+/// Pages, mixed and with repeats.
+const MIXED: [Row; 14] = [
     (Algo::Sha512, Source::File(0), 0, 0),
     (Algo::Sha256, Source::Edited(0), 0, 0),
     (Algo::Sha256, Source::File(2), 0, 1),
@@ -198,43 +257,37 @@ const MIXED: [(Algo, Source, u8, u16); 14] = [
     (Algo::Sha256, Source::File(2), 4, 0),
 ];
 
-/// The same in the order of their keys, each once, after the place of each.
-const IN_ORDER: [(usize, Algo, Source, u64, u64); 9] = [
-    (0, Algo::Sha256, Source::File(2), 0, 0),
-    (1, Algo::Sha256, Source::File(2), 0, 1),
-    (2, Algo::Sha256, Source::File(2), 0, 300),
-    (3, Algo::Sha256, Source::File(2), 4, 0),
-    (4, Algo::Sha256, Source::File(10), 0, 0),
-    (5, Algo::Sha256, Source::Edited(0), 0, 0),
-    (6, Algo::Sha256, Source::Edited(1), 0, 0),
-    (7, Algo::Sha512, Source::File(0), 0, 0),
-    (8, Algo::Sha512, Source::Edited(0), 0, 0),
+/// The same in the order of their keys, each once.
+const IN_ORDER: [Row; 9] = [
+    (Algo::Sha256, Source::File(2), 0, 0),
+    (Algo::Sha256, Source::File(2), 0, 1),
+    (Algo::Sha256, Source::File(2), 0, 300),
+    (Algo::Sha256, Source::File(2), 4, 0),
+    (Algo::Sha256, Source::File(10), 0, 0),
+    (Algo::Sha256, Source::Edited(0), 0, 0),
+    (Algo::Sha256, Source::Edited(1), 0, 0),
+    (Algo::Sha512, Source::File(0), 0, 0),
+    (Algo::Sha512, Source::Edited(0), 0, 0),
 ];
+
+fn check_key(rt: &impl Abort, pages: &[Page], place: usize, row: &Row) {
+    let page = pages.get(place).expect(rt, "nine pages");
+    assert!(rt; page.key == key_of(row), "page {place}");
+}
 
 #[test]
 fn mixed_pages_are_sorted_and_distinct(rt: HostRuntime) -> Result<(), Fail> {
     let item = item(rt.alloc())?;
-    let mut pages = Vec::new(rt.alloc());
-    for (algo, source, lead, number) in MIXED {
-        let blob = Blob::new(source, u64::from(lead), item.as_slice());
-        pages.push(blob.page(algo, u64::from(number)))?;
-    }
-    distinct_pages(&mut pages);
-    assert_eq!(rt; pages.len(), 9);
-    for (place, algo, source, lead, number) in IN_ORDER {
-        let key = PageKey {
-            algo,
-            source,
-            lead,
-            number,
-        };
-        assert_eq!(rt; pages.get(place).expect(&rt, "nine pages").key, key);
+    let pages = pages_of(rt.alloc(), &item, &MIXED)?;
+    check(&rt, pages.len() == 9, "nine pages");
+    for place in 0..IN_ORDER.len() {
+        check_key(&rt, &pages, place, &IN_ORDER[place]);
     }
     Ok(())
 }
 
 #[test]
 fn sizes(rt: HostRuntime) {
-    assert!(rt; size_of::<Page>() <= 56);
-    assert!(rt; size_of::<PageKey>() <= 40);
+    check(&rt, size_of::<Page>() <= 56, "a page");
+    check(&rt, size_of::<PageKey>() <= 40, "a key");
 }

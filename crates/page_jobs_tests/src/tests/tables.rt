@@ -1,96 +1,154 @@
 //! Tables and rows.
-use super::item;
-use page_jobs::{Blob, DigestRow, PageJob, PageKey, Table, distinct_pages};
-use rim_desc::{Algo, Source};
+ghost use Rattle.std.specs.Prelude.{map, IfOk};
+ghost use Rattle.page_jobs.specs.Key.{IsRising};
+ghost use Rattle.page_jobs.specs.Page.{page_view};
+ghost use Rattle.page_jobs.specs.Table.{keys_of};
+
+use super::{Row, check, digest_of, item, key_of, page_of, pages_of};
+use page_jobs::{DigestRow, Page, PageJob, PageKey, Table, distinct_pages};
+use rim_desc::{Algo, Measurement, Source};
+use std::alloc::{AllocError, Global};
+use std::process::Abort;
 use std::test::Fail;
+
+fn check_get(rt: &impl Abort, table: &Table, key: &PageKey, digest: Option<Measurement>) {
+    assert!(rt; table.get(key) == digest, "{key:?}");
+}
+
+/// The slot of a key, also where the slot or the next one is guessed.
+fn check_place(rt: &impl Abort, table: &Table, key: &PageKey, slot: usize) {
+    let found = [
+        table.slot_of(key),
+        table.slot_near(slot, key),
+        table.slot_near(slot.saturating_add(1), key),
+    ];
+    assert!(rt; found == [Some(slot); 3], "slot {slot}");
+}
+
+/// Whether a page's digest is accepted.
+fn put<'a>(table: &mut Table<'a>, slot: usize, page: Page<'a>) -> bool {
+    table.fill(slot, PageJob::new(page).run()).is_ok()
+}
+
+/// A page is put into its empty slot, once.
+fn check_slot<'a>(rt: &impl Abort, table: &mut Table<'a>, slot: usize, page: Page<'a>) {
+    check(rt, table.digest(slot).is_none(), "the slot is empty");
+    check_get(rt, table, &page.key, None);
+    check(rt, put(table, slot, page), "a first result is kept");
+    check(rt, !put(table, slot, page), "a second one is handed back");
+    check_get(rt, table, &page.key, Some(digest_of(page)));
+    check_place(rt, table, &page.key, slot);
+}
+
+fn check_missing(rt: &impl Abort, table: &Table, rows: &[Row]) {
+    for row in rows {
+        check_get(rt, table, &key_of(row), None);
+    }
+}
+
+/// Each page of a table is put into its slot. The others are pages that it does not have.
+fn check_table(
+    rt: &impl Abort,
+    alloc: Global,
+    item: &[u8],
+    rows: &[Row],
+    others: &[Row],
+) -> Result<(), Fail> {
+    let pages = pages_of(alloc, item, rows)?;
+    let mut table = Table::reserve(alloc, &pages)?;
+    check(rt, table.pages().len() == rows.len(), "pages");
+    for slot in 0..pages.len() {
+        check_slot(rt, &mut table, slot, pages[slot]);
+    }
+    check_missing(rt, &table, others);
+    Ok(())
+}
+
+/// Pages in the order of their keys.
+const FOUR: [Row; 4] = [
+    (Algo::Sha256, Source::File(0), 0, 0),
+    (Algo::Sha256, Source::File(0), 0, 1),
+    (Algo::Sha256, Source::File(0), 4, 0),
+    (Algo::Sha512, Source::File(0), 0, 0),
+];
+
+const OTHERS: [Row; 2] = [
+    (Algo::Sha512, Source::File(0), 4, 0),
+    (Algo::Sha256, Source::File(0), 0, 2),
+];
+
+const FIRST: [Row; 1] = [(Algo::Sha256, Source::File(0), 0, 0)];
 
 #[test]
 fn digests_are_kept_in_their_slots(rt: HostRuntime) -> Result<(), Fail> {
     let item = item(rt.alloc())?;
-    let blob = Blob::new(Source::File(0), 0, item.as_slice());
-    let led = Blob::new(Source::File(0), 4, item.as_slice());
-    let pages = [
-        blob.page(Algo::Sha256, 0),
-        blob.page(Algo::Sha256, 1),
-        led.page(Algo::Sha256, 0),
-        blob.page(Algo::Sha512, 0),
-    ];
-    let mut table = Table::reserve(rt.alloc(), pages.as_slice())?;
-    assert_eq!(rt; table.pages().len(), 4);
-    for slot in 0..4usize {
-        let page = pages[slot];
-        assert_eq!(rt; table.get(&page.key), None);
-        let hashed = PageJob::new(page).run();
-        let digest = hashed.digest;
-        assert!(rt; table.fill(slot, hashed).is_ok());
-        assert_eq!(rt; table.get(&page.key), Some(digest));
-        assert_eq!(rt; table.slot_of(&page.key), Some(slot));
-        assert_eq!(rt; table.slot_near(slot, &page.key), Some(slot));
-        assert_eq!(rt; table.slot_near(slot + 1, &page.key), Some(slot));
+    check_table(&rt, rt.alloc(), &item, &FOUR, &OTHERS)?;
+    check_table(&rt, rt.alloc(), &[7], &FIRST, &[])?;
+    check_table(&rt, rt.alloc(), &[], &[], &FIRST)
+}
+
+/// A result that is handed back: the slot, the bytes of the item from the first to the first that is not taken, and
+/// their page.
+type Stranger = (usize, usize, usize, Row);
+
+const TWO: [Row; 2] = [
+    (Algo::Sha256, Source::File(0), 0, 0),
+    (Algo::Sha256, Source::File(0), 0, 1),
+];
+
+const STRANGERS: [Stranger; 9] = [
+    // another page's slot
+    (0, 0, 4097, (Algo::Sha256, Source::File(0), 0, 1)),
+    // an equal key, and other bytes or fewer
+    (0, 1, 4097, (Algo::Sha256, Source::File(0), 0, 0)),
+    (0, 0, 4095, (Algo::Sha256, Source::File(0), 0, 0)),
+    // equal bytes, and another source, lead or algorithm
+    (0, 0, 4097, (Algo::Sha256, Source::File(1), 0, 0)),
+    (1, 4096, 4097, (Algo::Sha256, Source::File(0), 4095, 0)),
+    (0, 0, 4097, (Algo::Sha256, Source::Edited(0), 0, 0)),
+    (0, 0, 4097, (Algo::Sha512, Source::File(0), 0, 0)),
+    // no slot
+    (2, 0, 4097, (Algo::Sha256, Source::File(0), 0, 0)),
+    (usize::MAX, 0, 4097, (Algo::Sha256, Source::File(0), 0, 0)),
+];
+
+/// A table without pages has no slot.
+const NO_SLOT: [Stranger; 1] = [(0, 0, 1, (Algo::Sha256, Source::File(0), 0, 0))];
+
+fn check_stranger<'a>(
+    rt: &impl Abort,
+    table: &mut Table<'a>,
+    item: &'a [u8],
+    row: &Stranger,
+) -> Result<(), Fail> {
+    let (slot, from, to, page) = row;
+    let part = item.get(*from..*to).ok_or("bytes of the item")?;
+    let is_kept = put(table, *slot, page_of(part, page));
+    assert!(rt; !is_kept, "slot {slot}, {page:?}");
+    Ok(())
+}
+
+fn check_strangers(
+    rt: &impl Abort,
+    alloc: Global,
+    item: &[u8],
+    rows: &[Row],
+    strangers: &[Stranger],
+) -> Result<(), Fail> {
+    let pages = pages_of(alloc, item, rows)?;
+    let mut table = Table::reserve(alloc, &pages)?;
+    for stranger in strangers {
+        check_stranger(rt, &mut table, item, stranger)?;
     }
-    assert_eq!(rt; table.get(&led.page(Algo::Sha512, 0).key), None);
-    assert_eq!(rt; table.get(&blob.page(Algo::Sha256, 2).key), None);
+    check_missing(rt, &table, rows);
     Ok(())
 }
 
 #[test]
 fn strange_results_are_handed_back(rt: HostRuntime) -> Result<(), Fail> {
-    let bytes = item(rt.alloc())?;
-    let item = bytes.as_slice();
-    assert_eq!(rt; item.len(), 4097);
-    let blob = Blob::new(Source::File(0), 0, item);
-    let first = blob.page(Algo::Sha256, 0);
-    let pages = [first, blob.page(Algo::Sha256, 1)];
-    let shorter = item.get(..4095).expect(&rt, "fewer bytes");
-    let strangers = [
-        // another page's slot
-        (0, blob.page(Algo::Sha256, 1)),
-        // an equal key, and other bytes or fewer
-        (
-            0,
-            Blob::new(Source::File(0), 0, &item[1..]).page(Algo::Sha256, 0),
-        ),
-        (
-            0,
-            Blob::new(Source::File(0), 0, shorter).page(Algo::Sha256, 0),
-        ),
-        // equal bytes, and another source, lead or algorithm
-        (0, Blob::new(Source::File(1), 0, item).page(Algo::Sha256, 0)),
-        (
-            1,
-            Blob::new(Source::File(0), 4095, &item[4096..]).page(Algo::Sha256, 0),
-        ),
-        (
-            0,
-            Blob::new(Source::Edited(0), 0, item).page(Algo::Sha256, 0),
-        ),
-        (0, blob.page(Algo::Sha512, 0)),
-        // no slot
-        (2, blob.page(Algo::Sha256, 0)),
-        (usize::MAX, blob.page(Algo::Sha256, 0)),
-    ];
-    let mut table = Table::reserve(rt.alloc(), pages.as_slice())?;
-    for (slot, page) in strangers {
-        assert!(rt;
-            table.fill(slot, PageJob::new(page).run()).is_err(),
-            "slot {slot}"
-        );
-    }
-    assert_eq!(rt; table.get(&first.key), None);
-    Ok(())
-}
-
-#[test]
-fn second_result_is_handed_back(rt: HostRuntime) -> Result<(), Fail> {
-    let page = Blob::new(Source::File(0), 0, &[7]).page(Algo::Sha256, 0);
-    let pages = [page];
-    let digest = PageJob::new(page).run().digest;
-    let mut table = Table::reserve(rt.alloc(), pages.as_slice())?;
-    assert_eq!(rt; table.digest(0), None);
-    assert!(rt; table.fill(0, PageJob::new(page).run()).is_ok());
-    assert!(rt; table.fill(0, PageJob::new(page).run()).is_err());
-    assert_eq!(rt; table.get(&page.key), Some(digest));
-    Ok(())
+    let item = item(rt.alloc())?;
+    check_strangers(&rt, rt.alloc(), &item, &TWO, &STRANGERS)?;
+    check_strangers(&rt, rt.alloc(), &[7], &[], &NO_SLOT)
 }
 
 /// Slots of a large table that are filled, and slots that are left empty.
@@ -98,62 +156,74 @@ const FILLED: [usize; 5] = [0, 4_096, 4_097, 65_536, 99_999];
 
 const EMPTY: [usize; 4] = [1, 4_095, 65_537, 99_998];
 
+/// 100,000 pages, made from the last to the first.
+fn many_pages(alloc: Global, item: &[u8]) -> Result<Vec<Page<'_>>, AllocError>
+    ensures { IfOk result (λ pages. IsRising (keys_of (map page_view pages.items))) }
+{
+    let mut pages = Vec::new(alloc);
+    for number in 0..100_000u64 {
+        pages.push(page_of(item, &numbered(99_999 - number)))?;
+    }
+    distinct_pages(&mut pages);
+    Ok(pages)
+}
+
+/// A page of the large table.
+fn numbered(number: u64) -> Row {
+    (Algo::Sha256, Source::File(0), 0, number)
+}
+
+fn check_empty(rt: &impl Abort, table: &Table, slot: usize) {
+    let key = key_of(&numbered(slot as u64));
+    check_place(rt, table, &key, slot);
+    check_get(rt, table, &key, None);
+}
+
 #[test]
 fn large_table(rt: HostRuntime) -> Result<(), Fail> {
     let item = item(rt.alloc())?;
-    let blob = Blob::new(Source::File(0), 0, item.as_slice());
-    let mut pages = Vec::new(rt.alloc());
-    for number in 0..100_000u64 {
-        pages.push(blob.page(Algo::Sha256, 99_999 - number))?;
-    }
-    distinct_pages(&mut pages);
-    let mut table = Table::reserve(rt.alloc(), pages.as_slice())?;
-    assert_eq!(rt; table.pages().len(), 100_000);
+    let pages = many_pages(rt.alloc(), &item)?;
+    let mut table = Table::reserve(rt.alloc(), &pages)?;
+    check(&rt, table.pages().len() == 100_000, "pages");
     for slot in FILLED {
-        let page = blob.page(Algo::Sha256, slot as u64);
-        let hashed = PageJob::new(page).run();
-        let digest = hashed.digest;
-        assert!(rt; table.fill(slot, hashed).is_ok(), "slot {slot}");
-        assert_eq!(rt; table.get(&page.key), Some(digest), "slot {slot}");
+        let page = page_of(&item, &numbered(slot as u64));
+        check_slot(&rt, &mut table, slot, page);
     }
     for slot in EMPTY {
-        let key = blob.page(Algo::Sha256, slot as u64).key;
-        assert_eq!(rt; table.slot_of(&key), Some(slot));
-        assert_eq!(rt; table.get(&key), None, "slot {slot}");
+        check_empty(&rt, &table, slot);
     }
     Ok(())
 }
 
-#[test]
-fn empty_table(rt: HostRuntime) -> Result<(), Fail> {
-    let mut table = Table::reserve(rt.alloc(), &[])?;
-    let key = PageKey {
-        algo: Algo::Sha256,
-        source: Source::File(0),
-        lead: 0,
-        number: 0,
-    };
-    assert_eq!(rt; table.get(&key), None);
-    let page = Blob::new(Source::File(0), 0, &[7]).page(Algo::Sha256, 0);
-    assert!(rt; table.fill(0, PageJob::new(page).run()).is_err());
-    Ok(())
+fn check_row(rt: &impl Abort, row: &DigestRow, room: usize, digests: &[Measurement]) {
+    assert!(rt;
+        row.room() == room && row.digests() == digests,
+        "room for {room}"
+    );
 }
 
 #[test]
 fn rows_take_no_more_memory(rt: HostRuntime) -> Result<(), Fail> {
-    let page = Blob::new(Source::File(0), 0, &[7]).page(Algo::Sha256, 0);
-    let digest = PageJob::new(page).run().digest;
+    let digest = digest_of(page_of(&[7], &FIRST[0]));
     let mut row = DigestRow::reserve(rt.alloc(), 2)?;
-    assert_eq!(rt; row.room(), 2);
-    assert_eq!(rt; row.digests().len(), 0);
+    check_row(&rt, &row, 2, &[]);
     row.push(digest);
     row.push(digest);
-    assert_eq!(rt; row.digests(), [digest, digest].as_slice());
+    check_row(&rt, &row, 2, &[digest; 2]);
     row.truncate(1);
-    assert_eq!(rt; row.digests(), [digest].as_slice());
-    assert_eq!(rt; row.room(), 2);
-    assert_eq!(rt; DigestRow::reserve(rt.alloc(), 0)?.digests().len(), 0);
-    assert_eq!(rt; DigestRow::reserve(rt.alloc(), 100_000)?.room(), 100_000);
-    assert!(rt; DigestRow::reserve(rt.alloc(), usize::MAX).is_err());
+    check_row(&rt, &row, 2, &[digest]);
+    Ok(())
+}
+
+#[test]
+fn rows_of_other_sizes(rt: HostRuntime) -> Result<(), Fail> {
+    for room in [0, 100_000] {
+        check_row(&rt, &DigestRow::reserve(rt.alloc(), room)?, room, &[]);
+    }
+    check(
+        &rt,
+        DigestRow::reserve(rt.alloc(), usize::MAX).is_err(),
+        "too large",
+    );
     Ok(())
 }

@@ -1,49 +1,67 @@
 //! Plans: their pages and keys, and which may be.
-use super::{first_key, plan, realm};
+use super::{check, first_key, plan, push, realm};
 use page_jobs::PageKey;
 use rim_chain::{LaunchPlan, Link};
 use rim_desc::Algo;
-use std::test::Fail;
+use std::alloc::Global;
+use std::process::Abort;
 
-#[test]
-fn pages_have_keys_in_their_order(rt: HostRuntime) -> Result<(), Fail> {
-    let mut links = Vec::new(rt.alloc());
-    for lead in [0, 8] {
-        links.push(Link::Unmeasured { ipa: 0, count: 9 })?;
-        links.push(Link::Pages {
-            ipa: 4096,
-            key: PageKey {
-                lead,
-                ..first_key(Algo::Sha512)
-            },
-            count: 2,
-        })?;
+/// Two pages of an item with this lead.
+fn led(lead: u64) -> Link {
+    Link::Pages {
+        ipa: 4096,
+        key: PageKey {
+            lead,
+            ..first_key(Algo::Sha512)
+        },
+        count: 2,
     }
-    let plan = LaunchPlan::new(realm(Algo::Sha512), links).expect(&rt, "the links fit");
-    assert_eq!(rt; plan.pages(), 4);
-    for index in 0..plan.pages() {
-        let key = plan.key(index);
-        assert_eq!(rt; key.lead, 8 * (index / 2) as u64);
-        assert_eq!(rt; key.number, (index % 2) as u64);
-        assert_eq!(rt; key.algo, Algo::Sha512);
-    }
-    Ok(())
+}
+
+/// Pages that are not measured before pages that are, twice.
+fn four_pages(rt: &impl Abort, alloc: Global) -> LaunchPlan {
+    let mut links = Vec::new(alloc);
+    push(rt, &mut links, NINE);
+    push(rt, &mut links, led(0));
+    push(rt, &mut links, NINE);
+    push(rt, &mut links, led(8));
+    LaunchPlan::new(realm(Algo::Sha512), links).expect(rt, "the links fit")
+}
+
+const NINE: Link = Link::Unmeasured { ipa: 0, count: 9 };
+
+fn check_key(rt: &impl Abort, key: &PageKey, index: usize) {
+    let index = index as u64;
+    let place = key.lead == (index / 2).saturating_mul(8) && key.number == index % 2;
+    assert!(rt; place && key.algo == Algo::Sha512, "page {index}");
 }
 
 #[test]
-fn plans_are_compared_by_what_they_hold(rt: HostRuntime) -> Result<(), Fail> {
-    let one = plan(rt.alloc(), Algo::Sha256)?.expect(&rt, "the links fit");
-    let again = plan(rt.alloc(), Algo::Sha256)?.expect(&rt, "the links fit");
-    let other = plan(rt.alloc(), Algo::Sha512)?.expect(&rt, "the links fit");
-    let empty = LaunchPlan::new(realm(Algo::Sha256), Vec::new(rt.alloc())).expect(
+fn pages_have_keys_in_their_order(rt: HostRuntime) {
+    let plan = four_pages(&rt, rt.alloc());
+    check(&rt, plan.pages() == 4, "four pages");
+    for index in 0..plan.pages() {
+        check_key(&rt, &plan.key(index), index);
+    }
+}
+
+#[test]
+fn plans_are_compared_by_what_they_hold(rt: HostRuntime) {
+    let one = plan(&rt, rt.alloc(), Algo::Sha256);
+    check(
         &rt,
-        "no links fit",
+        one.is_same(&plan(&rt, rt.alloc(), Algo::Sha256)),
+        "the same",
     );
-    assert!(rt; one.is_same(&again));
-    assert!(rt; !one.is_same(&other));
-    assert!(rt; !one.is_same(&empty));
-    assert_eq!(rt; empty.pages(), 0);
-    Ok(())
+    check(
+        &rt,
+        !one.is_same(&plan(&rt, rt.alloc(), Algo::Sha512)),
+        "another algorithm",
+    );
+    let empty = LaunchPlan::new(realm(Algo::Sha256), Vec::new(rt.alloc()));
+    let empty = empty.expect(&rt, "no links fit");
+    check(&rt, !one.is_same(&empty), "no links");
+    check(&rt, empty.pages() == 0, "no pages");
 }
 
 /// Links of which an end is 2^64.
@@ -68,12 +86,18 @@ const TOO_FAR: [Link; 4] = [
     },
 ];
 
+fn check_too_far(rt: &impl Abort, alloc: Global, link: Link) {
+    let mut links = Vec::new(alloc);
+    push(rt, &mut links, link);
+    assert!(rt;
+        LaunchPlan::new(realm(Algo::Sha256), links).is_none(),
+        "{link:?}"
+    );
+}
+
 #[test]
-fn links_end_below_2_to_64(rt: HostRuntime) -> Result<(), Fail> {
+fn links_end_below_2_to_64(rt: HostRuntime) {
     for link in TOO_FAR {
-        let mut links = Vec::new(rt.alloc());
-        links.push(link)?;
-        assert!(rt; LaunchPlan::new(realm(Algo::Sha256), links).is_none());
+        check_too_far(&rt, rt.alloc(), link);
     }
-    Ok(())
 }
