@@ -54,7 +54,7 @@ def main():
     waits = sys.argv[1:] == ["--wait"]
     del sys.argv[1:]  # each script would read the words as its own
     say(f"building: {processor()}")
-    subprocess.run([os.path.join(crates.top, "rim"), "--help"], check=True, stdout=subprocess.DEVNULL)
+    subprocess.run([os.path.join(crates.top, "rim"), "--build", "--help"], check=True, stdout=subprocess.DEVNULL)
     for script in BUILDING:
         timed(script, script.prepare)
     if waits:

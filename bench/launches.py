@@ -39,7 +39,7 @@ def least_time(words, runs):
 def main():
     count = int(sys.argv[1]) if len(sys.argv) > 1 else 1024
     runs = int(sys.argv[2]) if len(sys.argv) > 2 else 20
-    subprocess.run([os.path.join(top, "rim"), "--help"], check=True, stdout=subprocess.DEVNULL)
+    subprocess.run([os.path.join(top, "rim"), "--build", "--help"], check=True, stdout=subprocess.DEVNULL)
     with tempfile.NamedTemporaryFile("w", suffix=".toml") as file:
         file.write(manifest(count))
         file.flush()

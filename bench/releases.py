@@ -8,7 +8,7 @@ the kit's `sha2`, and then as many descriptors as the release has. Each run of `
 one that only reads, and the least processor time of each is taken, so that a busy machine changes little. The first ratio
 is that of the whole runs; the second leaves the reading out of the bare loop. WORD picks the releases whose name has it.
 
-`rim` has to be built, by `./rim --help`.
+`rim` has to be built, by `./rim --build --help`.
 """
 import os
 import random

@@ -3,7 +3,7 @@
 
 usage: bench/sizes.py
 
-It runs crates/rim/out/rim, which `./rim --help` builds. Each input is given to it twice: with 8 GB of memory, and with
+It runs crates/rim/out/rim, which `./rim --build --help` builds. Each input is given to it twice: with 8 GB of memory, and with
 256 MB. Not part of the gate.
 """
 import os

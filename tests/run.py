@@ -3,7 +3,7 @@
 
 usage: tests/run.py [--only NAME] [PROGRAM]
 
-PROGRAM is crates/rim/out/rim where it is not given; `./rim --help` builds that. --only picks the runs whose name has NAME.
+PROGRAM is crates/rim/out/rim where it is not given; `./rim --build --help` builds that. --only picks the runs whose name has NAME.
 Each run has a fresh folder with its files, in which the program is started. The folder has a link `examples` to that of the
 repository. The last line is `N passed, M failed`.
 
@@ -256,10 +256,11 @@ def difference(what, expected, found, begins=False):
     """How some bytes differ from those that are expected, as lines."""
     if found == expected or begins and found.startswith(expected):
         return []
-    pairs = list(zip(expected.splitlines(True), found.splitlines(True)))
-    at = next((number for number, (a, b) in enumerate(pairs) if a != b), len(pairs))
-    line = lambda text: repr(b"".join(text.splitlines(True)[at : at + 1]))[1:200]
-    return [f"{what}, line {at + 1}: expected {line(expected)}, found {line(found)}"]
+    at = next((n for n, (a, b) in enumerate(zip(expected, found)) if a != b), min(len(expected), len(found)))
+    start = max(expected.rfind(b"\n", 0, at) + 1, at - 60)
+    part = lambda text: repr(text[start : at + 60])[1:]
+    number = expected.count(b"\n", 0, at) + 1
+    return [f"{what}, byte {at}, in line {number}: expected {part(expected)}, found {part(found)}"]
 
 
 def outcome(program, run, folder, expected):

@@ -3,7 +3,7 @@
 
 usage: tools/failing.py [WORD]
 
-`rim` has to be built, by `./rim --help`, and `cc` has to be there: it makes the library that refuses the calls. WORD picks
+`rim` has to be built, by `./rim --build --help`, and `cc` has to be there: it makes the library that refuses the calls. WORD picks
 the kinds of calls whose name has it. Each command below is run once with no call refused, and then with its first call of a
 kind refused, its second, and so on until no call is left. A run has to end
 

@@ -4,7 +4,7 @@ tools/reference.py. It also gives it directories, missing files and files of the
 
 usage: tools/limits.py [WORD]
 
-`rim` has to be built, by `./rim --help`. WORD picks the cases whose name has it.
+`rim` has to be built, by `./rim --build --help`. WORD picks the cases whose name has it.
 """
 import os
 import subprocess

@@ -4,7 +4,7 @@ where standard error is no terminal; and that `rim dtb` writes its bytes to no t
 
 usage: tools/progress.py
 
-`rim` has to be built, by `./rim --help`.
+`rim` has to be built, by `./rim --build --help`.
 """
 import os
 import pty

@@ -94,7 +94,7 @@ BODIES = [
 
 
 # Tests that take longer than `rt try` waits, whatever the bodies are.
-SLOW = ["faults::endless_reader", "file_order::files_in_their_order"]
+SLOW = ["openings::nothing_after_a_file_too_large"]
 
 
 def keep_module(source, module):

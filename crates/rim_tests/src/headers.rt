@@ -33,28 +33,20 @@ fn instructions(rt: HostRuntime) {
     }
 }
 
-/// A header that has these numbers, and zeros.
-const fn sized(text_offset: u64, image_size: u64) -> Header {
-    Header {
-        code0: 0,
-        code1: 0,
-        text_offset,
-        image_size,
-        flags: 0,
-    }
-}
-
-/// Files that are shorter than a header: text_offset, image_size, the file's length, and by hand: load offset, extent.
-const PLACES: [(u64, u64, u64, u64, u64); 2] = [
-    (0x0000_0800_0000_0000, 0, 0, 524_288, 0),
-    (1, 1, 0, 1, 1),
-];
+/// Files that are shorter than a header: text_offset, image_size, and by hand: load offset, extent.
+const PLACES: [(u64, u64, u64, u64); 2] = [(0x0000_0800_0000_0000, 0, 524_288, 0), (1, 1, 1, 1)];
 
 #[test]
 fn places_and_extents(rt: HostRuntime) {
-    for (text_offset, image_size, file_len, load_offset, extent) in &PLACES {
-        let header = sized(*text_offset, *image_size);
-        let found = (header.load_offset(), header.extent(*file_len));
+    for (text_offset, image_size, load_offset, extent) in &PLACES {
+        let header = Header {
+            code0: 0,
+            code1: 0,
+            text_offset: *text_offset,
+            image_size: *image_size,
+            flags: 0,
+        };
+        let found = (header.load_offset(), header.extent(0));
         assert_eq!(rt; found, (*load_offset, *extent));
     }
 }

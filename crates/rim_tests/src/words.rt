@@ -28,6 +28,7 @@ fn words_that_ask_for_bytes(rt: HostRuntime) {
 #[test]
 fn a_terminal_is_reported(rt: HostRuntime) {
     let mut err = Vec::new(rt.alloc());
-    assert_eq!(rt; report_terminal(&mut err), 3);
-    assert_eq!(rt; err.as_slice(), b"rim: output-is-terminal\n".as_slice());
+    let status = report_terminal(&mut err);
+    let line = b"rim: output-is-terminal\n".as_slice();
+    assert_eq!(rt; (status, err.as_slice()), (3, line));
 }
