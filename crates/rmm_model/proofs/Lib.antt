@@ -8,6 +8,7 @@ pub mod Appends
 pub mod Granules
 pub mod Owners
 pub mod Spaces
+pub mod LastMeets
 pub mod Same
 pub mod Runs
 pub mod Steps

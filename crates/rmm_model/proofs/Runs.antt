@@ -7,7 +7,7 @@ use Rattle.rim_desc.specs.Part.{Part}
 use Rattle.rmm_model.specs.State.{State}
 use Rattle.rmm_model.specs.Effects.{parts}
 use Rattle.rmm_model.specs.Step.{step}
-use Rattle.rmm_model.specs.Run.{accepted, after, parts_of, run, shown, taken, taken_by}
+use Rattle.rmm_model.specs.Run.{accepted, after, parts_of, run, shown}
 
 -- a command that is taken, and then others
 pub run-taken : (s next : State) (c : Command) (cs : List Command) → step s c ≡ Ok next → run s (c ∷ cs) ≡ run next cs
@@ -41,8 +41,3 @@ shown-append s [] ds = refl
 shown-append s (c ∷ cs) ds =
     ap (λ (ps : List Part). parts_of (step s c) (parts s c) ++ ps) (shown-append (after s (step s c)) cs ds)
     ∙ sym (append_assoc (parts_of (step s c) (parts s c)) (shown (after s (step s c)) cs) (shown (run (after s (step s c)) cs) ds))
-
-pub taken-append : (cs ds : List Command) → taken (cs ++ ds) ≡ taken cs ++ taken ds
-unfolding taken
-taken-append [] ds = refl
-taken-append (c ∷ cs) ds = ap (λ gs. taken_by c ++ gs) (taken-append cs ds) ∙ sym (append_assoc (taken_by c) (taken cs) (taken ds))

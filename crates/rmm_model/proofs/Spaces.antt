@@ -1,5 +1,5 @@
 -- What a space has after one more table, range or page.
-use Rattle.std.proofs.Common.{◌≡◌, ℕ, ◌<◌, ◌∙◌, refl, ap, arith, Bool, true, false, cond, max, ◌&&◌, ◌||◌, leb, ltb, eqb, List, [], ◌∷◌}
+use Rattle.std.proofs.Common.{◌≡◌, ℕ, ◌<◌, ◌∙◌, refl, ap, arith, Bool, true, false, ◌&&◌, ◌||◌, leb, ltb, eqb, List, [], ◌∷◌}
 use Rattle.std.specs.Prelude.{None}
 use Rattle.std.specs.declared.cmp.Ordering.{Ordering}
 use Rattle.std.specs.declared.cmp.Ordering.TheVariants.{Less, Equal, Greater}
@@ -11,7 +11,7 @@ use Rattle.std.specs.Ordering.{match_ordering, nat_cmp}
 use Rattle.std.proofs.lemmas.Bool.Decides.{nat_tests}
 use Rattle.std.proofs.lemmas.Map.Lookups.{CmpEqualImpliesEq, exact_unsigned}
 use Rattle.rmm_model.specs.declared.table.Table.{Table}
-use Rattle.rmm_model.specs.Space.{are_some, covers, deeper, has, is_ram, made, overlaps, table_cmp, walk}
+use Rattle.rmm_model.specs.Space.{are_some, has, is_ram, made, overlaps, table_cmp}
 use Rattle.std.proofs.lemmas.Bool.{or_parts}
 use Rattle.rmm_model.proofs.Tests.{list_any-same}
 
@@ -36,7 +36,7 @@ any-insert {K} cmp exact p (x ∷ xs) k = placed (any-insert cmp exact p xs k) (
     placed i Equal at = rw (exact k x at) (or-same (p x) (list_any p xs))
     placed i Greater at = rw i (or-swap (p x) (p k) (list_any p xs))
 
-exact_tables : CmpEqualImpliesEq table_cmp
+pub exact_tables : CmpEqualImpliesEq table_cmp
 exact_tables t u same =
     let level : t.level ≡ u.level = grind (arith, nat_tests) in
     let base : t.base ≡ u.base = grind (arith, nat_tests) in
@@ -53,32 +53,6 @@ made-insert ts t level base = any-insert table_cmp exact_tables (λ u. eqb u.lev
 pub made-contains : (ts : List Table) (t : Table) → list_any (is_at (table_cmp t)) ts ≡ made ts t.level t.base
 made-contains ts t = list_any-same (is_at (table_cmp t)) (λ u. eqb u.level t.level && eqb u.base t.base) ts (λ u. grind (arith, nat_tests))
 
-pub deeper-insert : (ts : List Table) (t : Table) (level base top : ℕ)
-    → deeper (insert_key table_cmp ts t) level base top ≡ (ltb level t.level && (leb base t.base && ltb t.base top)) || deeper ts level base top
-deeper-insert ts t level base top = any-insert table_cmp exact_tables (λ u. ltb level u.level && (leb base u.base && ltb u.base top)) ts t
-
-pub walk-insert : (start : ℕ) (ts : List Table) (t : Table) (x : ℕ)
-    → walk start (insert_key table_cmp ts t) x ≡ cond (covers t x) (max t.level (walk start ts x)) (walk start ts x)
-unfolding walk
-walk-insert start [] t x = refl
-walk-insert start (u ∷ us) t x = placed (walk-insert start us t x) (table_cmp t u) refl
-  where
-    twice : (b : Bool) (l w : ℕ) → cond b (max l w) w ≡ cond b (max l (cond b (max l w) w)) (cond b (max l w) w)
-    twice true l w = omega arith
-    twice false l w = refl
-
-    swap : (a b : Bool) (l m w : ℕ) → cond a (max l (cond b (max m w) w)) (cond b (max m w) w) ≡ cond b (max m (cond a (max l w) w)) (cond a (max l w) w)
-    swap true true l m w = omega arith
-    swap true false l m w = refl
-    swap false true l m w = refl
-    swap false false l m w = refl
-
-    placed : walk start (insert_key table_cmp us t) x ≡ cond (covers t x) (max t.level (walk start us x)) (walk start us x) → (o : Ordering) → table_cmp t u ≡ o
-        → walk start (match_ordering o (t ∷ u ∷ us) (u ∷ us) (u ∷ insert_key table_cmp us t)) x ≡ cond (covers t x) (max t.level (walk start (u ∷ us) x)) (walk start (u ∷ us) x)
-    placed i Less at = refl
-    placed i Equal at = rw (exact_tables t u at) (twice (covers u x) u.level (walk start us x))
-    placed i Greater at = rw i (swap (covers u x) (covers t x) u.level t.level (walk start us x))
-
 -- ---- pages with data
 
 pub has-insert : (xs : List ℕ) (x y : ℕ) → has (insert_key nat_cmp xs x) y ≡ (eqb x y || has xs y)
@@ -86,7 +60,7 @@ has-insert xs x y = any-insert nat_cmp exact_unsigned (λ z. eqb z y) xs x
 
 -- ---- ranges of RAM
 
-any-insert_entry : (p : ℕ × ℕ → Bool) (es : List (ℕ × ℕ)) (k v : ℕ) → lookup (is_at (nat_cmp k)) es ≡ None
+pub any-insert_entry : (p : ℕ × ℕ → Bool) (es : List (ℕ × ℕ)) (k v : ℕ) → lookup (is_at (nat_cmp k)) es ≡ None
     → list_any p (insert_entry nat_cmp es k v) ≡ p (k, v) || list_any p es
 any-insert_entry p [] k v = λ none. refl
 any-insert_entry p (e ∷ es) k v = placed (any-insert_entry p es k v) (nat_cmp k e.0) refl
@@ -101,7 +75,7 @@ any-insert_entry p (e ∷ es) k v = placed (any-insert_entry p es k v) (nat_cmp 
         rw (i others) (or-swap (p e) (p (k, v)) (list_any p es))
 
 -- where no range meets base to top, none begins at base
-none-at : (ram : List (ℕ × ℕ)) (base top : ℕ) → are_some ram ≡ true → base < top → overlaps ram base top ≡ false → lookup (is_at (nat_cmp base)) ram ≡ None
+pub none-at : (ram : List (ℕ × ℕ)) (base top : ℕ) → are_some ram ≡ true → base < top → overlaps ram base top ≡ false → lookup (is_at (nat_cmp base)) ram ≡ None
 none-at [] base top some lt free = refl
 none-at (r ∷ rs) base top some lt free =
     let parts = or_parts (ltb r.0 top && ltb base r.1) (overlaps rs base top) free in

@@ -1,6 +1,7 @@
 pub mod Blocks
 pub mod Start
 pub mod Space
+pub mod Apart
 pub mod Owners
 pub mod State
 pub mod Checks

@@ -2,6 +2,5 @@ pub mod Gifts
 pub mod OneMoreTable
 pub mod DeeperByLevel
 pub mod FirstPasses
-pub mod LastMeets
 pub mod Granules
 pub mod Stretches

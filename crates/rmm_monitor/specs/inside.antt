@@ -1,5 +1,4 @@
 -- What the fields and loops of this crate keep.
-pub mod Apart
 pub mod Owned
 pub mod Monitor
 pub mod Space

@@ -1,5 +1,5 @@
 //! The IPA space of the realm.
-ghost use Rattle.std.specs.Prelude.{◌≡◌, ◌+◌, ◌-◌, ◌%◌, ◌<◌, ◌≤◌, ◌^◌, ◌&&◌, nat_lt, OnOk, OnErr, false};
+ghost use Rattle.std.specs.Prelude.{◌≡◌, ◌+◌, ◌-◌, ◌<◌, ◌≤◌, ◌^◌, ◌&&◌, nat_lt, OnOk, OnErr, false};
 ghost use Rattle.rmm_model.specs.Blocks.{down, span};
 ghost use Rattle.rmm_model.specs.Space.{after_page, after_run, after_table, deeper, empty_space, has, has_table_in, is_ram, made, overlaps, walk};
 ghost use Rattle.rmm_model.specs.Checks.{is_not_fresh};

@@ -1,7 +1,7 @@
 -- What callers see of an IPA space's fields, and what these keep. This project's choice.
 use Rattle.std.specs.Prelude.{◌≡◌, ◌≤◌, ◌^◌, true}
 use Rattle.rmm_model.specs.Space.{ArePlaced, Space}
-use Rattle.rmm_monitor.specs.inside.Apart.{are_apart}
+use Rattle.rmm_model.specs.Apart.{are_apart}
 use Rattle.rmm_monitor.specs.declared.space.IpaSpace.TheInside.{Inside}
 
 abbrev pub shown_space : Inside → Space

@@ -1,5 +1,5 @@
 use Rattle.std.proofs.Common.{arith}
-use Rattle.rmm_monitor.proofs.LastMeets.{apart-insert}
+use Rattle.rmm_model.proofs.LastMeets.{apart-insert}
 use Rattle.rmm_monitor.proofs.space.IpaSpace.add_run.Goals as goal
 
 pub invariant_of-self-2 : goal.invariant_of-self-2

@@ -1,5 +1,5 @@
 use Rattle.std.proofs.Common.{refl}
-use Rattle.rmm_monitor.specs.inside.Apart.{are_apart}
+use Rattle.rmm_model.specs.Apart.{are_apart}
 use Rattle.rmm_monitor.proofs.space.IpaSpace.new.Goals as goal
 
 pub invariant_of-result : goal.invariant_of-result
