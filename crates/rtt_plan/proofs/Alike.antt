@@ -10,9 +10,9 @@ use Rattle.rmm_model.proofs.Same.{append-alike, same-refl, same-sym, same-trans,
 use Rattle.rmm_model.proofs.Tests.{filter-same, list_all-same, list_any-same}
 use Rattle.rtt_plan.specs.declared.act.Act.TheVariants as act
 use Rattle.rtt_plan.specs.declared.run.Run.{Run}
-use Rattle.rtt_plan.specs.Planned.{AgreesWith, Planned, after_data, after_region, data_acts, data_checks, plan_data, plan_region, region_acts, region_checks}
+use Rattle.rtt_plan.specs.Planned.{AgreesWith, Planned, after_data, after_region, data_acts, data_checks, plan_data, plan_region, region_checks}
 use Rattle.rtt_plan.specs.Runs.{runs_of}
-use Rattle.rtt_plan.specs.Missing.{needed, page_acts, page_tables, run_acts, run_tables, table_act, missing}
+use Rattle.rtt_plan.specs.Missing.{needed, page_acts, page_tables, put_page, run_acts, run_tables, table_act, missing}
 
 -- ---- tables
 
@@ -52,7 +52,7 @@ page_acts-alike start [] ts us alike = refl
 page_acts-alike start (x ∷ xs) ts us alike =
     let new : List Table = missing start us 3 x in
     rw (missing-alike start 3 x ts us alike)
-    (ap (λ acts. map table_act new ++ (act.Pages x 1 ∷ acts)) (page_acts-alike start xs (ts ++ new) (us ++ new) (append-alike ts us new alike)))
+    (ap (λ acts. map table_act new ++ put_page x acts) (page_acts-alike start xs (ts ++ new) (us ++ new) (append-alike ts us new alike)))
 
 -- ---- plans
 
@@ -68,12 +68,6 @@ agrees-trans p q r first second = record {
   least_level = first.least_level ∙ second.least_level;
   entries = first.entries ∙ second.entries;
 }
-
-pub region_acts-alike : (p q : Planned) (base end : ℕ) → AgreesWith p q → region_acts p base end ≡ region_acts q base end
-region_acts-alike p q base end agrees =
-    ap (λ start. run_acts start p.space.tables (runs_of base end p.least_level)) agrees.space.start
-    ∙ ap (λ least_level. run_acts q.space.start p.space.tables (runs_of base end least_level)) agrees.least_level
-    ∙ run_acts-alike q.space.start (runs_of base end q.least_level) p.space.tables q.space.tables agrees.space.tables
 
 pub data_acts-alike : (p q : Planned) (base count : ℕ) → AgreesWith p q → data_acts p base count ≡ data_acts q base count
 data_acts-alike p q base count agrees =

@@ -1,10 +1,8 @@
 -- Pages of data that are kept as ranges.
-use Rattle.std.proofs.Common.{◌≡◌, ℕ, zero, suc, ◌+◌, ◌-◌, ◌*◌, ◌/◌, ◌%◌, ◌<◌, ◌≤◌, ◌∙◌, sym, refl, ap, arith, Bool, true, false, ◌&&◌, ◌||◌, leb, ltb, List, [], ◌∷◌, ◌++◌, append_assoc}
+use Rattle.std.proofs.Common.{◌≡◌, ℕ, zero, suc, ◌+◌, ◌-◌, ◌*◌, ◌/◌, ◌%◌, ◌<◌, ◌≤◌, ◌∙◌, sym, refl, ap, arith, Bool, true, false, ◌&&◌, ◌||◌, leb, ltb, List, [], ◌∷◌, ◌++◌}
 use Rattle.std.specs.List.{list_any}
-use Rattle.std.proofs.Math.Nat.{mul-div_cancel}
 use Rattle.std.proofs.lemmas.Bool.{and_parts}
 use Rattle.std.proofs.lemmas.Bool.Decides.{nat_tests}
-use Rattle.std.proofs.lemmas.List.{append-nil}
 use Rattle.rmm_model.specs.Blocks.{granules, is_multiple}
 use Rattle.rmm_model.specs.Space.{has, overlaps}
 use Rattle.rmm_model.proofs.Appends.{has-append}
@@ -78,28 +76,3 @@ pub assigned-overlaps : (ranges : List (ℕ × ℕ)) (count from : ℕ) → are_
     → overlaps ranges from (from + 4096 * count) ≡ list_any (has (pages_of ranges)) (granules count from)
 assigned-overlaps ranges zero from whole at some = absurd (omega arith)
 assigned-overlaps ranges (suc n) from whole at some = sym (any-assigned ranges n from whole at)
-
--- ---- one range more
-
-pages_of-append : (xs ys : List (ℕ × ℕ)) → pages_of (xs ++ ys) ≡ pages_of xs ++ pages_of ys
-pages_of-append [] ys = refl
-pages_of-append (x ∷ xs) ys =
-    ap (λ ps. granules ((x.1 - x.0) / 4096) x.0 ++ ps) (pages_of-append xs ys)
-    ∙ sym (append_assoc (granules ((x.1 - x.0) / 4096) x.0) (pages_of xs) (pages_of ys))
-
-pub assigned-more : (ranges : List (ℕ × ℕ)) (base count : ℕ) → pages_of (ranges ++ (base, base + 4096 * count) ∷ []) ≡ pages_of ranges ++ granules count base
-assigned-more ranges base count =
-    let pos : 0 < 4096 = omega arith in
-    let bytes : base + 4096 * count - base ≡ count * 4096 = omega arith in
-    let number : (base + 4096 * count - base) / 4096 ≡ count = rw bytes (mul-div_cancel count pos) in
-    pages_of-append ranges ((base, base + 4096 * count) ∷ [])
-    ∙ ap (λ ps. pages_of ranges ++ ps) (append-nil (granules ((base + 4096 * count - base) / 4096) base) ∙ ap (λ n. granules n base) number)
-
-pub are_pages-more : (ranges : List (ℕ × ℕ)) (base count : ℕ) → are_pages ranges ≡ true → base % 4096 ≡ 0 → 1 ≤ count
-    → are_pages (ranges ++ (base, base + 4096 * count) ∷ []) ≡ true
-are_pages-more [] base count whole at some =
-    let top : (base + 4096 * count) % 4096 ≡ 0 = omega arith in
-    grind (arith, nat_tests)
-are_pages-more (r ∷ rs) base count whole at some =
-    let parts = and_parts (is_multiple 4096 r.0 && is_multiple 4096 r.1 && ltb r.0 r.1) (are_pages rs) whole in
-    rw (parts.0) (are_pages-more rs base count parts.1 at some)

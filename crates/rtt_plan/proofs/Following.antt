@@ -19,7 +19,7 @@ use Rattle.rtt_plan.proofs.Steps.{at-base, at-next, entries-end, entries-next, e
 
 -- ---- one entry
 
-entry-in-table : (l x : ℕ) → down (size l) x ≡ x → x + size l ≤ down (span l) x + span l
+pub entry-in-table : (l x : ℕ) → down (size l) x ≡ x → x + size l ≤ down (span l) x + span l
 entry-in-table l x at =
     let p : 0 < size l = size-pos l in
     let ps : 0 < span l = span-pos l in
@@ -137,17 +137,12 @@ pub region-blocks : (base end least_level : ℕ) → IsRegion base end → least
     → blocks_of (runs_of base end least_level) ≡ map (block_of base end least_level) (entries base end least_level)
 region-blocks base end least_level region low some = (follow least_level base end least_level (omega arith) region low some).blocks
 
--- ---- what runs make RAM
+-- the blocks of the runs from an entry on are those of the entries from it on
+pub blocks-from : (base end least_level x : ℕ) → IsRegion base end → least_level ≤ 3 → AtEntry base end least_level x
+    → blocks_of (runs_from base end least_level x) ≡ map (block_of base end least_level) (entries_from base end least_level x)
+blocks-from base end least_level x region low at = (follow-from least_level base end least_level end x (omega arith) region low at (omega arith)).blocks
 
-pub runs-to : (least_level x end : ℕ) (rs : List Run) → AreRuns least_level x end rs → x ≤ end
-unfolding AreRuns
-runs-to least_level x end [] runs = omega arith
-runs-to least_level x end (r ∷ rs) runs =
-    let run : IsRun least_level r = runs.0 in
-    let some : r.base < r.top = run.some in
-    let at : r.base ≡ x = runs.1 in
-    let le : r.top ≤ end = runs.2 in
-    omega arith
+-- ---- what runs make RAM
 
 -- the addresses of runs that follow one another are those from the first base to the last top
 pub ram-runs : (least_level x end : ℕ) (rs : List Run) → AreRuns least_level x end rs → (y : ℕ) → is_ram (ranges_of rs) y ≡ (leb x y && ltb y end)

@@ -3,6 +3,8 @@ pub mod Fits
 pub mod Jumps
 pub mod Steps
 pub mod Joins
+pub mod Reaching
+pub mod RunCounts
 pub mod Following
 pub mod Agreeing
 pub mod InTurn
@@ -10,8 +12,11 @@ pub mod Setting
 pub mod Kept
 pub mod Alike
 pub mod Wants
+pub mod Undoing
 pub mod Plans
+pub mod Groups
 pub mod Among
 pub mod Accepted
 pub mod Asking
 pub mod Filled
+pub mod OneMoreRange

@@ -1,13 +1,14 @@
 -- The acts of runs and of pages, one step at a time.
-use Rattle.std.proofs.Common.{◌≡◌, ℕ, suc, ◌+◌, ◌-◌, ◌*◌, ◌<◌, ◌≤◌, ◌∙◌, sym, refl, ap, arith, List, [], ◌∷◌, ◌++◌, map, append_assoc}
+use Rattle.std.proofs.Common.{inl, inr, ◌≡◌, ℕ, ◌+◌, ◌/◌, ◌∙◌, sym, refl, ap, ◌&&◌, eqb, List, [], ◌∷◌, ◌++◌, map, append_assoc}
 use Rattle.std.proofs.lemmas.List.{append-nil}
-use Rattle.rmm_model.specs.Blocks.{granules}
+use Rattle.std.proofs.lemmas.Bool.{cases_Bool}
+use Rattle.rmm_model.specs.Blocks.{span}
 use Rattle.rmm_model.specs.Space.{SameTables}
 use Rattle.rmm_model.specs.declared.table.Table.{Table}
 use Rattle.rtt_plan.specs.declared.act.Act.{Act}
 use Rattle.rtt_plan.specs.declared.act.Act.TheVariants as act
 use Rattle.rtt_plan.specs.declared.run.Run.{Run}
-use Rattle.rtt_plan.specs.Missing.{page_acts, page_tables, run_acts, run_tables, table_act, tables_after, missing}
+use Rattle.rtt_plan.specs.Missing.{page_acts, page_tables, put_page, run_acts, run_tables, table_act, tables_after, missing}
 use Rattle.rtt_plan.proofs.Alike.{page_acts-alike, page_tables-alike, run_acts-alike, run_tables-alike}
 
 -- ---- the tables among acts
@@ -24,12 +25,23 @@ run-tables start (r ∷ rs) ts =
     tables-made ts (missing start ts r.level r.base) (act.Run r.base r.top r.level ∷ run_acts start (ts ++ missing start ts r.level r.base) rs)
     ∙ run-tables start rs (ts ++ missing start ts r.level r.base)
 
+tables-put : (ts : List Table) (x : ℕ) (acts : List Act) → tables_after ts (put_page x acts) ≡ tables_after ts acts
+unfolding tables_after
+tables-put ts x [] = refl
+tables-put ts x (act.Table base level ∷ acts) = refl
+tables-put ts x (act.Run base top level ∷ acts) = refl
+tables-put ts x (act.Pages base count ∷ acts) = elim (cases_Bool (eqb base (x + 4096) && eqb (base / span 3) (x / span 3))) [
+  | inl t ↦ rw t refl
+  | inr f ↦ rw f refl
+]
+
 pub page-tables : (start : ℕ) (pages : List ℕ) (ts : List Table) → tables_after ts (page_acts start ts pages) ≡ page_tables start ts pages
 unfolding tables_after page_acts page_tables
 page-tables start [] ts = refl
 page-tables start (x ∷ xs) ts =
-    tables-made ts (missing start ts 3 x) (act.Pages x 1 ∷ page_acts start (ts ++ missing start ts 3 x) xs)
-    ∙ page-tables start xs (ts ++ missing start ts 3 x)
+    let new : List Table = missing start ts 3 x in
+    let rest : List Act = page_acts start (ts ++ new) xs in
+    tables-made ts new (put_page x rest) ∙ tables-put (ts ++ new) x rest ∙ page-tables start xs (ts ++ new)
 
 -- ---- how far acts have come
 
@@ -61,22 +73,24 @@ planning-run start said whole acts all tables now runs r rs parts alike planning
           ∙ (let h = planning.made_so_far level base in rw parts at h);
     }
 
-pub planning-page : (start : ℕ) (said whole acts : List Act) (all tables now : List Table) (pages : List ℕ) (x : ℕ) (xs : List ℕ)
-    → pages ≡ x ∷ xs → SameTables now (tables ++ missing start tables 3 x)
+-- one group of pages more: `now` are the tables with those that it needs
+pub planning-group : (start : ℕ) (said whole acts : List Act) (all tables now : List Table) (pages left : List ℕ) (x n : ℕ)
+    → page_acts start tables pages ≡ map table_act (missing start tables 3 x) ++ (act.Pages x n ∷ page_acts start (tables ++ missing start tables 3 x) left)
+    → page_tables start tables pages ≡ page_tables start (tables ++ missing start tables 3 x) left
+    → SameTables now (tables ++ missing start tables 3 x)
     → IsPlanning said whole acts (page_acts start tables pages) all (page_tables start tables pages)
-    → IsPlanning said whole ((acts ++ map table_act (missing start tables 3 x)) ++ act.Pages x 1 ∷ [])
-    (page_acts start now xs) all (page_tables start now xs)
-unfolding page_acts page_tables
-planning-page start said whole acts all tables now pages x xs parts alike planning =
+    → IsPlanning said whole ((acts ++ map table_act (missing start tables 3 x)) ++ act.Pages x n ∷ [])
+    (page_acts start now left) all (page_tables start now left)
+planning-group start said whole acts all tables now pages left x n parts made_parts alike planning =
     let new : List Table = missing start tables 3 x in
-    let one : Act = act.Pages x 1 in
-    let rest : List Act = page_acts start (tables ++ new) xs in
+    let one : Act = act.Pages x n in
+    let rest : List Act = page_acts start (tables ++ new) left in
     record {
-      said_so_far = ap (λ more. ((acts ++ map table_act new) ++ one ∷ []) ++ more) (page_acts-alike start xs now (tables ++ new) alike)
+      said_so_far = ap (λ more. ((acts ++ map table_act new) ++ one ∷ []) ++ more) (page_acts-alike start left now (tables ++ new) alike)
           ∙ append_assoc (acts ++ map table_act new) (one ∷ []) rest ∙ append_assoc acts (map table_act new) (one ∷ rest)
-          ∙ ap (λ more. acts ++ more) (sym (ap (page_acts start tables) parts)) ∙ planning.said_so_far;
-      made_so_far = λ level base. page_tables-alike start xs now (tables ++ new) alike level base
-          ∙ (let h = planning.made_so_far level base in rw parts at h);
+          ∙ ap (λ more. acts ++ more) (sym parts) ∙ planning.said_so_far;
+      made_so_far = λ level base. page_tables-alike start left now (tables ++ new) alike level base
+          ∙ (let h = planning.made_so_far level base in rw made_parts at h);
     }
 
 -- nothing is left
@@ -95,16 +109,3 @@ planning-pages_end start said whole acts all tables pages none planning = (
   sym (append-nil acts) ∙ ap (λ more. acts ++ more) (sym (ap (page_acts start tables) none)) ∙ planning.said_so_far,
   λ level base. let h = planning.made_so_far level base in rw none at h,
 )
-
--- the pages that are left
-pub granules-next : (count base index : ℕ) → index < count
-    → granules (count - index) (base + 4096 * index) ≡ (base + 4096 * index) ∷ granules (count - (index + 1)) (base + 4096 * (index + 1))
-unfolding granules
-granules-next count base index h =
-    let e : count - index ≡ suc (count - (index + 1)) = omega arith in
-    let f : base + 4096 * (index + 1) ≡ (base + 4096 * index) + 4096 = omega arith in
-    rw (e, f) refl
-
-pub granules-end : (count base index : ℕ) → count ≤ index → granules (count - index) (base + 4096 * index) ≡ []
-unfolding granules
-granules-end count base index h = let e : count - index ≡ 0 = omega arith in rw e refl

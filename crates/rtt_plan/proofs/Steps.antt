@@ -68,13 +68,5 @@ pub entries-end : (base end least_level x : ℕ) → end ≤ x → entries_from 
 unfolding granules
 entries-end base end least_level x h = let e : (end - x) / 4096 ≡ 0 = (let f : end - x ≡ 0 = omega arith in rw f refl) in rw e refl
 
--- how many entries are left
-pub count-next : (base end least_level x n : ℕ) → IsRegion base end → least_level ≤ 3 → AtEntry base end least_level x → x < end
-    → (n + 1) + length (entries_from base end least_level (x + size (block_level base end least_level x))) ≡ n + length (entries_from base end least_level x)
-count-next base end least_level x n region low at some = omega (arith, ap length (entries-next base end least_level x region low at some))
-
-pub count-some : (base end least_level x : ℕ) → IsRegion base end → least_level ≤ 3 → AtEntry base end least_level x → x < end → 0 < length (entries_from base end least_level x)
-count-some base end least_level x region low at some = omega (arith, ap length (entries-next base end least_level x region low at some))
-
 pub count-end : (base end least_level x : ℕ) → end ≤ x → length (entries_from base end least_level x) ≡ 0
 count-end base end least_level x h = ap length (entries-end base end least_level x h)

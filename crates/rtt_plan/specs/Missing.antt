@@ -1,6 +1,6 @@
 -- The tables that a block needs first. DEN0137, RMI_RTT_CREATE: a table is made below one that was made
 -- before; that tables are made just before the block that needs them is this project's choice.
-use Rattle.std.specs.Prelude.{ℕ, zero, suc, ◌-◌, not, List, [], ◌∷◌, ◌++◌, map}
+use Rattle.std.specs.Prelude.{ℕ, zero, suc, ◌+◌, ◌-◌, ◌/◌, ◌&&◌, ◌==◌, not, List, [], ◌∷◌, ◌++◌, map, if◌then◌else◌}
 use Rattle.std.specs.List.{filter}
 use Rattle.rmm_model.specs.Blocks.{down, span}
 use Rattle.rmm_model.specs.Space.{made}
@@ -41,12 +41,22 @@ run_acts start ts (r ∷ rs) =
     let new = missing start ts r.level r.base in
     map table_act new ++ (act.Run r.base r.top r.level ∷ run_acts start (ts ++ new) rs)
 
--- the acts that put data at some pages: before each page the tables that it needs
+-- a page put in front of acts: it joins pages that begin with the next page, where one level 3 table covers both
+abbrev pub put_page : ℕ → List Act → List Act
+put_page x [] = act.Pages x 1 ∷ []
+put_page x (act.Table base level ∷ acts) = act.Pages x 1 ∷ act.Table base level ∷ acts
+put_page x (act.Run base top level ∷ acts) = act.Pages x 1 ∷ act.Run base top level ∷ acts
+put_page x (act.Pages base count ∷ acts) =
+    if base == x + 4096 && base / span 3 == x / span 3 then act.Pages x (suc count) ∷ acts
+    else act.Pages x 1 ∷ act.Pages base count ∷ acts
+
+-- the acts that put data at some pages: the longest groups of neighbouring pages in one level 3 table, before each the
+-- tables that its pages need
 unfoldable pub page_acts : ℕ → List Table → List ℕ → List Act
 page_acts start ts [] = []
 page_acts start ts (x ∷ xs) =
     let new = missing start ts 3 x in
-    map table_act new ++ (act.Pages x 1 ∷ page_acts start (ts ++ new) xs)
+    map table_act new ++ put_page x (page_acts start (ts ++ new) xs)
 
 -- the tables after some acts
 unfoldable pub tables_after : List Table → List Act → List Table

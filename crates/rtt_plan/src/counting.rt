@@ -3,7 +3,7 @@ ghost use Rattle.std.specs.Prelude.{◌≡◌, ◌+◌, ◌<◌, ◌≤◌, ◌^
 ghost use Rattle.rtt_plan.specs.Entries.{entries};
 ghost use Rattle.rtt_plan.specs.Places.{IsRegion};
 
-use crate::block::block_level;
+use crate::longest::run_from;
 use rmm_model::size::size_of_level;
 
 /// The most entries of a launch.
@@ -23,11 +23,13 @@ pub fn total_entries(before: u64, base: u64, end: u64, least_level: u8) -> Optio
     let mut total = before;
     let mut x = base;
     while x < end {
-        if total == ENTRY_LIMIT {
+        let run = run_from(base, end, least_level, x);
+        let more = (run.top - x) / size_of_level(run.level);
+        if more > ENTRY_LIMIT - total {
             return None;
         }
-        total += 1;
-        x += size_of_level(block_level(base, end, least_level, x));
+        total += more;
+        x = run.top;
     }
     Some(total)
 }

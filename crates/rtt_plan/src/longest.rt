@@ -5,10 +5,11 @@ ghost use Rattle.rtt_plan.specs.Places.{AtEntry, IsRegion};
 ghost use Rattle.rtt_plan.specs.Runs.{runs_from};
 
 use crate::block::block_level;
-use crate::run::{Run, goes_on};
-use rmm_model::size::size_of_level;
+use crate::run::Run;
+use rmm_model::size::{size_of_level, span_of_level, table_base};
 
-/// The first of the runs of the entries from `x` on, in the region from `base` to `end`.
+/// The first of the runs of the entries from `x` on, in the region from `base` to `end`. It ends with its table, or with
+/// the last block of its level that the region has; its entries are not visited.
 pub fn run_from(base: u64, end: u64, least_level: u8, x: u64) -> Run
     requires region { IsRegion base end }
     requires small { end ≤ 2 ^ 47 }
@@ -24,16 +25,10 @@ pub fn run_from(base: u64, end: u64, least_level: u8, x: u64) -> Run
 {
     let level = block_level(base, end, least_level, x);
     let size = size_of_level(level);
-    let mut top = x + size;
-    while top < end {
-        if !goes_on(base, end, least_level, level, x, top) {
-            break;
-        }
-        top += size;
-    }
+    let table_end = table_base(level, x) + span_of_level(level);
     Run {
         base: x,
-        top,
+        top: table_end.min(end / size * size),
         level,
     }
 }

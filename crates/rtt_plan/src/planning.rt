@@ -1,16 +1,18 @@
 //! The acts of a region of RAM, and of pages of data.
-ghost use Rattle.std.specs.Prelude.{◌≡◌, ◌++◌, ◌*◌, ◌+◌, ◌<◌, ◌≤◌, ◌^◌, OnOk};
+ghost use Rattle.std.specs.Prelude.{◌≡◌, ◌++◌, ◌*◌, ◌+◌, ◌%◌, ◌<◌, ◌≤◌, ◌^◌, OnOk};
 ghost use Rattle.rmm_model.specs.Blocks.{granules};
 ghost use Rattle.rmm_model.specs.Space.{SameTables};
 ghost use Rattle.rtt_plan.specs.Places.{IsRegion};
 ghost use Rattle.rtt_plan.specs.Runs.{runs_of};
 ghost use Rattle.rtt_plan.specs.Missing.{page_acts, page_tables, run_acts, run_tables};
+ghost use Rattle.rtt_plan.specs.inside.Undone.{undone};
 
 use crate::act::Act;
 use crate::longest::run_from;
 use crate::missing::push_missing;
 use refusal::NoMemory;
 use rmm_model::Table;
+use rmm_model::size::{span_of_level, table_base};
 use std::collections::BTreeSet;
 
 /// Adds the acts of a region's runs, and the tables among them.
@@ -27,6 +29,7 @@ pub fn push_region(
     requires small { end ≤ 2 ^ 47 }
     requires low { start ≤ least_level }
     requires deep { least_level ≤ 3 }
+    ensures undone { undone acts.new.items tables.new.keys ≡ undone acts.old.items tables.old.keys }
     ensures acts { OnOk result (acts.new.items ≡ acts.old.items ++ run_acts start tables.old.keys (runs_of base end least_level)) }
     ensures tables { OnOk result (SameTables tables.new.keys (run_tables start tables.old.keys (runs_of base end least_level))) }
 {
@@ -44,7 +47,8 @@ pub fn push_region(
     Ok(())
 }
 
-/// Adds the acts of `count` pages from `base` on, and the tables among them.
+/// Adds the acts of `count` pages from `base` on, and the tables among them. The pages of one table are one act, and
+/// are not visited.
 pub fn push_data(
     tables: &mut BTreeSet<Table>,
     acts: &mut Vec<Act>,
@@ -52,18 +56,25 @@ pub fn push_data(
     base: u64,
     count: u64,
 ) -> Result<(), NoMemory>
+    requires whole { base % 4096 ≡ 0 }
     requires small { base + 4096 * count ≤ 2 ^ 47 }
     requires deep { start ≤ 3 }
+    ensures undone { undone acts.new.items tables.new.keys ≡ undone acts.old.items tables.old.keys }
     ensures acts { OnOk result (acts.new.items ≡ acts.old.items ++ page_acts start tables.old.keys (granules count base)) }
     ensures tables { OnOk result (SameTables tables.new.keys (page_tables start tables.old.keys (granules count base))) }
 {
-    for index in 0..count {
-        let page = base + 4096 * index;
+    let mut page = base;
+    let mut left = count;
+    while left > 0 {
         push_missing(tables, acts, start, 3, page)?;
+        let in_table = (table_base(3, page) + span_of_level(3) - page) / 4096;
+        let group = in_table.min(left);
         acts.push(Act::Pages {
             base: page,
-            count: 1,
+            count: group,
         })?;
+        page += 4096 * group;
+        left -= group;
     }
     Ok(())
 }

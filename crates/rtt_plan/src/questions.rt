@@ -1,13 +1,14 @@
 //! Questions to what was planned so far.
-ghost use Rattle.std.specs.Prelude.{◌≡◌, ◌*◌, ◌+◌, ◌%◌, ◌≤◌, ◌<◌, ◌^◌, nat_lt, true};
+ghost use Rattle.std.specs.Prelude.{◌≡◌, ◌*◌, ◌+◌, ◌%◌, ◌≤◌, ◌<◌, ◌^◌, IfNone, IfSome, false, nat_lt, true};
 ghost use Rattle.std.specs.List.{list_all, list_any};
 ghost use Rattle.rmm_model.specs.Blocks.{down, granules, span};
 ghost use Rattle.rmm_model.specs.Space.{ArePlaced, has, is_ram, made, overlaps, walk};
-ghost use Rattle.rtt_plan.specs.inside.PageRanges.{are_pages, pages_of};
+ghost use Rattle.rmm_model.specs.Apart.{are_apart};
+ghost use Rattle.rtt_plan.specs.inside.PageRanges.{IsRamTo, are_pages, pages_of};
 
 use rmm_model::Table;
 use rmm_model::size::table_base;
-use std::collections::BTreeSet;
+use std::collections::{BTreeMap, BTreeSet};
 
 /// Whether the table of a level that covers an IPA is made.
 fn is_made(tables: &BTreeSet<Table>, level: u8, ipa: u64) -> bool
@@ -35,18 +36,29 @@ pub fn walk_level(start: u8, tables: &BTreeSet<Table>, ipa: u64) -> u8
     }
 }
 
-/// Whether some address from `base` on and below `top` is in a range.
-pub fn overlaps(ranges: &[(u64, u64)], base: u64, top: u64) -> bool
-    ensures { result ≡ overlaps ranges.now base top }
+/// Whether some address from `base` on and below `top` is in one of some ranges in order: the last of those that begin
+/// below `top` decides.
+pub fn overlaps(ranges: &BTreeMap<u64, u64>, base: u64, top: u64) -> bool
+    requires { are_apart 0 ranges.now.entries ≡ true }
+    ensures { result ≡ overlaps ranges.now.entries base top }
 {
-    ranges.iter().any(|range| range.0 < top && base < range.1)
+    match ranges.range(..top).next_back() {
+        Some((_, end)) => base < *end,
+        None => false,
+    }
 }
 
-/// Whether an address is RAM.
-fn is_ram(ram: &[(u64, u64)], ipa: u64) -> bool
-    ensures { result ≡ is_ram ram.now ipa }
+/// The end of the range of RAM that holds an address.
+fn ram_end(ram: &BTreeMap<u64, u64>, ipa: u64) -> Option<u64>
+    requires apart { are_apart 0 ram.now.entries ≡ true }
+    requires whole { are_pages ram.now.entries ≡ true }
+    ensures none { IfNone result (is_ram ram.now.entries ipa ≡ false) }
+    ensures some { IfSome result (λ top. IsRamTo ram.now.entries ipa top) }
 {
-    ram.iter().any(|range| range.0 <= ipa && ipa < range.1)
+    match ram.range(..=ipa).next_back() {
+        Some((_, top)) => { if ipa < *top { Some(*top) } else { None } }
+        None => None,
+    }
 }
 
 /// Whether `count` pages from `base` on end past an address.
@@ -56,26 +68,33 @@ pub fn ends_past(end: u64, base: u64, count: u64) -> bool
     base > end || (end - base) / 4096 < count
 }
 
-/// Whether `count` pages from `base` on are all RAM.
-pub fn all_ram(ram: &[(u64, u64)], base: u64, count: u64) -> bool
-    requires { base + 4096 * count ≤ 2 ^ 47 }
-    ensures { result ≡ list_all (is_ram ram.now) (granules count base) }
+/// Whether `count` pages from `base` on are all RAM. It goes from range to range, and no page is visited.
+pub fn all_ram(ram: &BTreeMap<u64, u64>, base: u64, count: u64) -> bool
+    requires apart { are_apart 0 ram.now.entries ≡ true }
+    requires whole { are_pages ram.now.entries ≡ true }
+    requires at { base % 4096 ≡ 0 }
+    requires small { base + 4096 * count ≤ 2 ^ 47 }
+    ensures { result ≡ list_all (is_ram ram.now.entries) (granules count base) }
 {
-    for index in 0..count {
-        if !is_ram(ram, base + 4096 * index) {
-            return false;
+    let end = base + 4096 * count;
+    let mut x = base;
+    while x < end {
+        match ram_end(ram, x) {
+            Some(top) => x = top,
+            None => return false,
         }
     }
     true
 }
 
 /// Whether one of `count` pages from `base` on is in a range of pages. Ranges are compared, and no page is visited.
-pub fn any_assigned(assigned: &[(u64, u64)], base: u64, count: u64) -> bool
-    requires whole { are_pages assigned.now ≡ true }
+pub fn any_assigned(assigned: &BTreeMap<u64, u64>, base: u64, count: u64) -> bool
+    requires apart { are_apart 0 assigned.now.entries ≡ true }
+    requires whole { are_pages assigned.now.entries ≡ true }
     requires at { base % 4096 ≡ 0 }
     requires some { 1 ≤ count }
     requires small { base + 4096 * count ≤ 2 ^ 47 }
-    ensures { result ≡ list_any (has (pages_of assigned.now)) (granules count base) }
+    ensures { result ≡ list_any (has (pages_of assigned.now.entries)) (granules count base) }
 {
     overlaps(assigned, base, base + 4096 * count)
 }

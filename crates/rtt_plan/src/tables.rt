@@ -1,5 +1,7 @@
 //! What was planned so far.
-ghost use Rattle.std.specs.Prelude.{◌≡◌, ◌++◌, ◌∷◌, [], ◌*◌, ◌+◌, ◌<◌, ◌≤◌, ◌^◌, Err, IfOk, IsOk, OnErr, OnOk, true};
+ghost use Rattle.std.specs.Prelude.{◌≡◌, ◌*◌, ◌+◌, ◌%◌, ◌<◌, ◌≤◌, ◌^◌, Err, IfOk, IsOk, OnErr, OnOk, true};
+ghost use Rattle.std.specs.BTreeMap.{insert_entry};
+ghost use Rattle.std.specs.Ordering.{nat_cmp};
 ghost use Rattle.refusal.specs.Answer.{Answers};
 ghost use Rattle.rmm_model.specs.Blocks.{granules};
 ghost use Rattle.rmm_model.specs.Space.{SameTables, walk};
@@ -8,23 +10,25 @@ ghost use Rattle.rtt_plan.specs.Places.{IsRegion};
 ghost use Rattle.rtt_plan.specs.Planned.{AgreesWith, after_data, after_region, nothing_planned, plan_data, plan_region};
 ghost use Rattle.rtt_plan.specs.Runs.{runs_of};
 ghost use Rattle.rtt_plan.specs.Missing.{page_acts, page_tables, run_acts, run_tables};
+ghost use Rattle.rtt_plan.specs.inside.PageRanges.{with_pages};
 
 use crate::act::Act;
 use crate::counting::total_entries;
 use crate::fault::PlanFault;
+use crate::missing::take_back;
 use crate::planning::{push_data, push_region};
 use crate::questions::{all_ram, any_assigned, ends_past, overlaps, walk_level};
 use refusal::NoMemory;
 use rmm_model::Table;
 use rmm_model::start::{protected_end, start_level};
 use std::alloc::Global;
-use std::collections::BTreeSet;
+use std::collections::{BTreeMap, BTreeSet};
 use std::marker::Model;
 
 /// The tables, the RAM and the pages of data that were planned so far for one realm.
 ///
-/// A table is looked up in the logarithm of their number. RAM and pages of data are one range for each call, and these
-/// are searched whole.
+/// RAM and pages of data are one range for each call, by address. A table and a range are looked up in the logarithm of
+/// their number, and no page is visited.
 #[derive(Drop)]
 pub struct Tables {
     alloc: Global,
@@ -33,8 +37,8 @@ pub struct Tables {
     least_level: u8,
     entries: u64,
     tables: BTreeSet<Table>,
-    ram: Vec<(u64, u64)>,
-    assigned: Vec<(u64, u64)>,
+    ram: BTreeMap<u64, u64>,
+    assigned: BTreeMap<u64, u64>,
 }
 
 impl Model for Tables {
@@ -65,8 +69,8 @@ impl Tables {
             least_level: block_level.max(start),
             entries: 0,
             tables: BTreeSet::new(alloc),
-            ram: Vec::new(alloc),
-            assigned: Vec::new(alloc),
+            ram: BTreeMap::new(alloc),
+            assigned: BTreeMap::new(alloc),
         }
     }
 
@@ -114,9 +118,9 @@ impl Tables {
         Ok(acts)
     }
 
-    /// The acts that give `count` pages from `base` on data: each page in rising order, and before it
-    /// the tables that it needs. NoMemory comes after all other faults, and after a fault the plan is
-    /// as before.
+    /// The acts that give `count` pages from `base` on data, in rising order: the longest groups of pages
+    /// in one level 3 table, and before each group the tables that it needs. NoMemory comes after all
+    /// other faults, and after a fault the plan is as before.
     #[tactic(auto, unfolding(crate::specs::Planned::plan_data))]
     pub fn data_pages(&mut self, base: u64, count: u64) -> Result<Vec<Act>, PlanFault>
         requires { 1 ≤ count }
@@ -156,7 +160,7 @@ impl Tables {
 fn add_region(
     alloc: Global,
     tables: &mut BTreeSet<Table>,
-    ram: &mut Vec<(u64, u64)>,
+    ram: &mut BTreeMap<u64, u64>,
     start: u8,
     least_level: u8,
     base: u64,
@@ -169,16 +173,18 @@ fn add_region(
     requires deep { least_level ≤ 3 }
     ensures acts { IfOk result (λ acts. acts.items ≡ run_acts start tables.old.keys (runs_of base end least_level)) }
     ensures tables { OnOk result (SameTables tables.new.keys (run_tables start tables.old.keys (runs_of base end least_level))) }
-    ensures ram { OnOk result (ram.new.items ≡ ram.old.items ++ (base, end) ∷ []) }
+    ensures ram { OnOk result (ram.new.entries ≡ insert_entry nat_cmp ram.old.entries base end) }
     ensures tables_kept { OnErr result (tables.new.keys ≡ tables.old.keys) }
-    ensures ram_kept { OnErr result (ram.new.items ≡ ram.old.items) }
+    ensures ram_kept { OnErr result (ram.new.entries ≡ ram.old.entries) }
 {
-    let mut more = tables.clone()?;
     let mut acts = Vec::new(alloc);
-    push_region(&mut more, &mut acts, start, least_level, base, end)?;
-    ram.push((base, end))?;
-    *tables = more;
-    Ok(acts)
+    if push_region(tables, &mut acts, start, least_level, base, end).is_ok()
+        && ram.insert(base, end).is_ok()
+    {
+        return Ok(acts);
+    }
+    take_back(tables, acts);
+    Err(NoMemory)
 }
 
 /// The acts of `count` pages from `base` on. The tables among them and the range of the pages are added;
@@ -186,23 +192,26 @@ fn add_region(
 fn add_data(
     alloc: Global,
     tables: &mut BTreeSet<Table>,
-    assigned: &mut Vec<(u64, u64)>,
+    assigned: &mut BTreeMap<u64, u64>,
     start: u8,
     base: u64,
     count: u64,
 ) -> Result<Vec<Act>, NoMemory>
+    requires whole { base % 4096 ≡ 0 }
     requires small { base + 4096 * count ≤ 2 ^ 47 }
     requires deep { start ≤ 3 }
     ensures acts { IfOk result (λ acts. acts.items ≡ page_acts start tables.old.keys (granules count base)) }
     ensures tables { OnOk result (SameTables tables.new.keys (page_tables start tables.old.keys (granules count base))) }
-    ensures assigned { OnOk result (assigned.new.items ≡ assigned.old.items ++ (base, base + 4096 * count) ∷ []) }
+    ensures assigned { OnOk result (assigned.new.entries ≡ with_pages assigned.old.entries base count) }
     ensures tables_kept { OnErr result (tables.new.keys ≡ tables.old.keys) }
-    ensures assigned_kept { OnErr result (assigned.new.items ≡ assigned.old.items) }
+    ensures assigned_kept { OnErr result (assigned.new.entries ≡ assigned.old.entries) }
 {
-    let mut more = tables.clone()?;
     let mut acts = Vec::new(alloc);
-    push_data(&mut more, &mut acts, start, base, count)?;
-    assigned.push((base, base + 4096 * count))?;
-    *tables = more;
-    Ok(acts)
+    if push_data(tables, &mut acts, start, base, count).is_ok()
+        && assigned.insert(base, base + 4096 * count).is_ok()
+    {
+        return Ok(acts);
+    }
+    take_back(tables, acts);
+    Err(NoMemory)
 }

@@ -287,8 +287,40 @@ fn most_pages(rt: HostRuntime) {
     let mut tables = Tables::new(rt.alloc(), 33, 2);
     check_count(&rt, tables.ripas_runs(0, 0x1_0000_0000), 0, 4);
     for base in [0, 0x8000_0000] {
-        check_count(&rt, tables.data_pages(base, 524_288), base, 1024 + 524_288);
+        check_count(&rt, tables.data_pages(base, 524_288), base, 1024 + 1024);
     }
     check_data_fault(&rt, &mut tables, 0x7fff_f000, 1, PlanFault::DataTwice);
     check_data_fault(&rt, &mut tables, 0, 1_048_576, PlanFault::DataTwice);
+}
+
+/// The acts of pages that two level 3 tables cover.
+const OVER_TWO_TABLES: [Act; 4] = [
+    Act::Table {
+        base: 0x4000_0000,
+        level: 3,
+    },
+    Act::Pages {
+        base: 0x4010_0000,
+        count: 256,
+    },
+    Act::Table {
+        base: 0x4020_0000,
+        level: 3,
+    },
+    Act::Pages {
+        base: 0x4020_0000,
+        count: 512,
+    },
+];
+
+#[test]
+fn pages_over_two_tables(rt: HostRuntime) {
+    let mut tables = Tables::new(rt.alloc(), 33, 2);
+    check_count(
+        &rt,
+        tables.ripas_runs(0x4000_0000, 0x4060_0000),
+        0x4000_0000,
+        1,
+    );
+    check_data(&rt, &mut tables, 0x4010_0000, 768, &OVER_TWO_TABLES);
 }

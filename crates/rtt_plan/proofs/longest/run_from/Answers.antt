@@ -1,18 +1,15 @@
-use Rattle.std.proofs.Common.{◌∙◌, sym}
-use Rattle.rtt_plan.proofs.Joins.{closed-apart, closed-end, grow-more, grow-start}
+use Rattle.std.proofs.Common.{sym}
+use Rattle.rtt_plan.proofs.Reaching.{IsLongest, longest}
 use Rattle.rtt_plan.proofs.longest.run_from.Goals as goal
 
-pub loop-top-init : goal.loop-top-init
-loop-top-init c =
-    grow-start _ _ _ _ _ _ c.requires.region c.requires.low c.requires.at c.requires.some c.block_level-level.ensures.value c.size_of_level-size.ensures.value
+reached : (c : goal.After-min) → IsLongest c.args.base c.args.end c.args.least_level c.args.x c.block_level-level.result c.min.result
+reached c = longest _ _ _ _ _ _ c.requires.region c.requires.low c.requires.at c.requires.some (sym c.block_level-level.ensures.value) (cc)
 
-pub loop-top-preserved : goal.loop-top-preserved
-loop-top-preserved c =
-    grow-more _ _ _ _ _ c.requires.region c.requires.low c.loop-top.invariant c.loop-top-test.true c.size_of_level-size.ensures.value (sym c.if-not-goes_on.false ∙ c.goes_on.ensures)
+pub returns-clause-runs : goal.returns-clause-runs
+returns-clause-runs c = (reached c).runs
 
-pub returns-after-loop-top-clause-runs : goal.returns-after-loop-top-clause-runs
-returns-after-loop-top-clause-runs c = closed-end _ _ _ _ c.loop-top.invariant c.loop-top-test.false
+pub returns-clause-next : goal.returns-clause-next
+returns-clause-next c = (reached c).next
 
-pub returns-then-not-goes_on-clause-runs : goal.returns-then-not-goes_on-clause-runs
-returns-then-not-goes_on-clause-runs c =
-    closed-apart _ _ _ _ c.requires.region c.requires.low c.loop-top.invariant c.loop-top-test.true (sym c.if-not-goes_on.true ∙ c.goes_on.ensures)
+pub returns-clause-grows : goal.returns-clause-grows
+returns-clause-grows c = (reached c).grows

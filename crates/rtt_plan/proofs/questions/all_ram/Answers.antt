@@ -1,17 +1,17 @@
-use Rattle.std.proofs.Common.{◌∙◌, sym, ap}
-use Rattle.std.specs.List.{list_all}
-use Rattle.rmm_model.specs.Space.{is_ram}
-use Rattle.rtt_plan.proofs.Asking.{all-next, all-stop}
-use Rattle.rtt_plan.proofs.Plans.{granules-end, granules-next}
+use Rattle.std.proofs.Common.{◌+◌, ◌*◌, ◌∙◌, arith, sym}
+use Rattle.rtt_plan.proofs.Asking.{all-end, all-ram_to, all-stop}
 use Rattle.rtt_plan.proofs.questions.all_ram.Goals as goal
 
-pub returns-then-not-is_ram : goal.returns-then-not-is_ram
-returns-then-not-is_ram c =
-    sym (all-stop (is_ram c.args.ram.now) _ _ _ (granules-next _ _ _ c.loop-index-test.true) (sym c.is_ram.ensures ∙ c.if-not-is_ram.true)) ∙ c.loop-index.invariant
+pub loop-x-preserved : goal.loop-x-preserved
+loop-x-preserved c = record {
+  at = c.in-Some.ensures.some.whole;
+  left = sym (all-ram_to c.args.ram.now.entries (c.args.base + 4096 * c.args.count) c.loop-x.x c.in-Some.top c.loop-x.invariant.at c.in-Some.ensures.some) ∙ c.loop-x.invariant.left;
+}
 
-pub loop-index-preserved : goal.loop-index-preserved
-loop-index-preserved c =
-    sym (all-next (is_ram c.args.ram.now) _ _ _ (granules-next _ _ _ c.loop-index-test.true) (sym c.is_ram.ensures ∙ c.if-not-is_ram.false)) ∙ c.loop-index.invariant
+pub returns-in-None : goal.returns-in-None
+returns-in-None c =
+    sym (all-stop c.args.ram.now.entries (c.args.base + 4096 * c.args.count) c.loop-x.x c.loop-x.invariant.at (omega (arith, c.requires.at)) c.loop-x-test.true c.in-None.ensures.none)
+    ∙ c.loop-x.invariant.left
 
 pub returns : goal.returns
-returns c = sym (ap (list_all (is_ram c.args.ram.now)) (granules-end _ _ _ c.loop-index-test.false)) ∙ c.loop-index.invariant
+returns c = sym (all-end c.args.ram.now.entries (c.args.base + 4096 * c.args.count) c.loop-x.x c.loop-x-test.false) ∙ c.loop-x.invariant.left
