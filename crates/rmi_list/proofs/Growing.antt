@@ -1,19 +1,19 @@
 -- How a list grows, entry by entry.
-use Rattle.std.proofs.Common.{inl, inr, ◌≡◌, ℕ, zero, suc, ◌+◌, ◌-◌, ◌*◌, ◌<◌, ◌≤◌, ◌∙◌, sym, refl, ap, subst, arith, Bool, List, [], ◌∷◌, ◌++◌, ◌⊎◌, append_assoc, length}
+use Rattle.std.proofs.Common.{inl, inr, ◌≡◌, ℕ, zero, suc, ◌+◌, ◌-◌, ◌<◌, ◌≤◌, ◌∙◌, sym, refl, ap, subst, arith, List, [], ◌∷◌, ◌++◌, ◌⊎◌, append_assoc, length}
 use Rattle.std.specs.Prelude.{slice_index_or}
 use Rattle.std.proofs.lemmas.List.{append-nil}
 use Rattle.std.proofs.Math.ListN.{drop}
 use Rattle.rim_desc.specs.declared.command.Command.TheVariants.{Delegate}
 use Rattle.rmm_model.specs.Blocks.{granules}
 use Rattle.rtt_plan.specs.declared.act.Act.{Act}
-use Rattle.list_model.specs.Entries.{Entry, Whole, delegate_all, delegated, granule, page_entry}
-use Rattle.list_model.specs.inside.Acts.{ItemOf, act_entries, entries_of_act, entries_of_pages, pages_in}
-use Rattle.list_model.proofs.Counting.{count-append, count-page}
+use Rattle.list_model.specs.Entries.{Entry, Whole, delegate_all, delegated, granule}
+use Rattle.list_model.specs.inside.Acts.{ItemOf, act_entries, entries_of_act, pages_in}
+use Rattle.list_model.proofs.Counting.{count-append}
 use Rattle.rmi_list.specs.declared.draft.Draft.{Draft}
 use Rattle.rmi_list.specs.declared.fault.ListFault.{ListFault}
 use Rattle.rmi_list.specs.declared.fault.ListFault.TheVariants as fault
 use Rattle.rmi_list.specs.inside.Acts.{HasRoom, HaveRoom}
-use Rattle.rmi_list.specs.inside.Drafts.{Grows, InPool, entries_in}
+use Rattle.rmi_list.specs.inside.Drafts.{AreSpans, Grows, InPool, entries_in}
 
 abbrev pub pool_of : Draft → ℕ
 pool_of d = d.launch.now.config.pool_base
@@ -29,9 +29,10 @@ pub record Going (old now : Draft) (all rest : List Entry) : Type 0 where
   pub entries : entries_in now ++ rest ≡ entries_in old ++ all
   pub taken : now.taken + delegated rest ≡ old.taken + delegated all
   pub pool : InPool old → InPool now
+  pub spans : AreSpans old → AreSpans now
 
 pub going-starts : (d : Draft) (all : List Entry) → Going d d all all
-going-starts d all = record { launch = refl; placed = refl; tables = refl; num_recs = refl; entries = refl; taken = refl; pool = λ within. within }
+going-starts d all = record { launch = refl; placed = refl; tables = refl; num_recs = refl; entries = refl; taken = refl; pool = λ within. within; spans = λ all. all }
 
 pub going-ends : (old now : Draft) (all rest : List Entry) → Going old now all rest → rest ≡ [] → Grows old now all
 going-ends old now all rest going none =
@@ -45,6 +46,7 @@ going-ends old now all rest going none =
       entries = sym (append-nil (entries_in now)) ∙ over.entries;
       taken = omega arith;
       pool = over.pool;
+      spans = over.spans;
     }
 
 -- one round: it adds some entries of the pool that the list has, and those after them begin at the next granule
@@ -67,6 +69,7 @@ going-on old now next all rest here later going split grows =
       entries = ap (λ xs. xs ++ later next.taken) grown.entries ∙ append_assoc (entries_in now) es (later next.taken) ∙ ap (λ xs. entries_in now ++ xs) (sym parts) ∙ going.entries;
       taken = omega arith;
       pool = λ within. grown.pool (going.pool within);
+      spans = λ all. grown.spans (going.spans all);
     }
 
 -- what is refused for some entries
@@ -110,31 +113,6 @@ unfolding granules
 no-granules count i x le = let e : count - i ≡ 0 = omega arith in rw e refl
 
 -- ---- pages of an item
-
-abbrev pub page_here : Draft → Bool → ℕ → ℕ → ℕ → ℕ → List Entry
-page_here now measured item x k pool = Whole (Delegate (granule pool now.taken)) ∷ page_entry measured (granule pool now.taken) x item k ∷ []
-
--- the pages that are left, in a loop over `count` of them
-abbrev pub pages_left : Draft → Bool → ℕ → ℕ → ℕ → ℕ → ℕ → ℕ → List Entry
-pages_left old measured item first base count i taken = entries_of_pages (pool_of old) taken measured item (first + i) (granules (count - i) (base + 4096 * i))
-
-pub next-page : (pool taken : ℕ) (measured : Bool) (item first base count i : ℕ) → i < count
-    → entries_of_pages pool taken measured item (first + i) (granules (count - i) (base + 4096 * i))
-    ≡ (Whole (Delegate (granule pool taken)) ∷ page_entry measured (granule pool taken) (base + 4096 * i) item (first + i) ∷ [])
-    ++ entries_of_pages pool (taken + delegated (Whole (Delegate (granule pool taken)) ∷ page_entry measured (granule pool taken) (base + 4096 * i) item (first + i) ∷ []))
-    measured item (first + (i + 1)) (granules (count - (i + 1)) (base + 4096 * (i + 1)))
-unfolding granules entries_of_pages
-next-page pool taken measured item first base count i lt =
-    let e : count - i ≡ suc (count - (i + 1)) = omega arith in
-    let f : base + 4096 * (i + 1) ≡ base + 4096 * i + 4096 = omega arith in
-    let g : first + (i + 1) ≡ first + i + 1 = omega arith in
-    let one : delegated (Whole (Delegate (granule pool taken)) ∷ page_entry measured (granule pool taken) (base + 4096 * i) item (first + i) ∷ []) ≡ 1 =
-    ap (λ (n : ℕ). suc n) (count-page measured (granule pool taken) (base + 4096 * i) item (first + i) []) in
-    rw (one, e, f, g) refl
-
-pub no-pages : (pool taken : ℕ) (measured : Bool) (item k count i x : ℕ) → count ≤ i → entries_of_pages pool taken measured item k (granules (count - i) x) ≡ []
-unfolding entries_of_pages
-no-pages pool taken measured item k count i x le = rw (no-granules count i x le) refl
 
 -- ---- acts
 

@@ -8,3 +8,4 @@ pub mod Alike
 pub mod Beginning
 pub mod Listable
 pub mod Listing
+pub mod Spans

@@ -1,6 +1,6 @@
 -- The list of a launch, step by step.
 use Rattle.std.proofs.Common.{inl, inr, ◌≡◌, ◌+◌, ◌<◌, ◌≤◌, ◌∙◌, sym, refl, ap, arith, true, false, List, [], ◌∷◌, ◌++◌, ◌⊎◌, append_assoc, length}
-use Rattle.std.specs.Prelude.{Ok, Err, IfOk, IfErr, Result, nat_lt}
+use Rattle.std.specs.Prelude.{Ok, Err, IfOk, IfErr, IsOk, Result, nat_lt}
 use Rattle.std.proofs.lemmas.Bool.Decides.{nat_tests}
 use Rattle.refusal.specs.Answer.{Answers, with_front}
 use Rattle.rim_desc.specs.declared.command.Command.TheVariants.{Activate}
@@ -12,7 +12,8 @@ use Rattle.rmi_list.specs.declared.draft.Draft.{Draft}
 use Rattle.rmi_list.specs.declared.fault.ListFault.{ListFault}
 use Rattle.rmi_list.specs.declared.fault.ListFault.TheVariants as fault
 use Rattle.rmi_list.specs.Listed.{Listing, Progress, list_step, list_steps, listed, opening, opening_entries, rec_limit}
-use Rattle.rmi_list.specs.inside.Drafts.{Grows, InPool, Makes, entries_in, progress_of}
+use Rattle.rmi_list.specs.inside.Drafts.{AreSpans, Grows, InPool, Makes, entries_in, progress_of}
+use Rattle.list_model.proofs.Counting.{count-append}
 use Rattle.rmi_list.proofs.Alike.{steps-alike}
 use Rattle.rmi_list.proofs.Growing.{Refuses}
 
@@ -25,7 +26,16 @@ pub record IsListing (l : LaunchData) (p : PlacedData) (d : Draft) (rest : List 
   pub launch : d.launch.now ≡ l
   pub placed : d.placed.now ≡ p
   pub pool : InPool d
+  pub counted : delegated (entries_in d) ≡ d.taken
+  pub spans : AreSpans d
   pub listed : listed l p ≡ with_front (entries_in d) (list_steps l p (progress_of d) rest)
+
+-- a draft of this launch whose entries so far are not kept
+pub record IsChecking (l : LaunchData) (p : PlacedData) (d : Draft) (rest : List Step) : Type 0 where
+  pub launch : d.launch.now ≡ l
+  pub placed : d.placed.now ≡ p
+  pub pool : InPool d
+  pub listed : (es : List Entry) × (listed l p ≡ with_front es (list_steps l p (progress_of d) rest))
 
 -- ---- its begin
 
@@ -45,14 +55,14 @@ begin-refused l p e few (inr full) =
     inr (rw off (rw on (rw full.0 refl)))
 
 pub listing-begins : (l : LaunchData) (p : PlacedData) (d : Draft) → length p.recs ≤ 512 → d.launch.now ≡ l → d.placed.now ≡ p → entries_in d ≡ opening_entries l.config
-    → progress_of d ≡ opening l.config → InPool d → IsListing l p d l.steps
+    → progress_of d ≡ opening l.config → InPool d → AreSpans d → IsListing l p d l.steps
 unfolding listed
-listing-begins l p d few launch placed entries progress within =
+listing-begins l p d few launch placed entries progress within spans =
     let off : nat_lt rec_limit (length p.recs) ≡ false = grind (arith, nat_tests) in
     let taken : d.taken ≡ delegated (opening_entries l.config) = ap (λ (w : Progress). w.taken) progress in
     let size : d.launch.now.config.pool_count ≡ l.config.pool_count = ap (λ (m : LaunchData). m.config.pool_count) launch in
     let room : nat_lt l.config.pool_count (0 + delegated (opening_entries l.config)) ≡ false = grind (arith, nat_tests) in
-    record { launch = launch; placed = placed; pool = within; listed = rw (off, room) (rw (entries, progress) refl) }
+    record { launch = launch; placed = placed; pool = within; counted = ap delegated entries ∙ sym taken; spans = spans; listed = rw (off, room) (rw (entries, progress) refl) }
 
 -- ---- its steps
 
@@ -73,6 +83,12 @@ listing-goes-on l p d e s ss listing made =
       launch = ap (λ (m : _). m.now) makes.launch ∙ listing.launch;
       placed = ap (λ (m : _). m.now) makes.placed ∙ listing.placed;
       pool = makes.pool;
+      counted = (let all : delegated (entries_in e) ≡ delegated (entries_in d ++ done.entries) = ap delegated makes.entries in
+          let both : delegated (entries_in d ++ done.entries) ≡ delegated (entries_in d) + delegated done.entries = count-append (entries_in d) done.entries in
+          let before : delegated (entries_in d) ≡ d.taken = listing.counted in
+          let more : e.taken ≡ d.taken + delegated done.entries = makes.taken in
+          omega arith);
+      spans = makes.spans listing.spans;
       listed = listing.listed ∙ rw at (front-front (entries_in d) done.entries (list_steps l p done.next ss)
           ∙ ap (λ es. with_front es (list_steps l p done.next ss)) (sym makes.entries)
           ∙ ap (with_front (entries_in e)) (sym (steps-alike l p ss (progress_of e) done.next makes.progress)));
@@ -85,11 +101,64 @@ listing-refused l p d s ss e listing (inl memory) = inl memory
 listing-refused l p d s ss e listing (inr at) =
     inr (listing.listed ∙ rw (sym (same-step l p d s listing.launch listing.placed) ∙ at) refl)
 
+-- ---- where no entries are kept
+
+pub checking-begins : (l : LaunchData) (p : PlacedData) (d : Draft) (rest : List Step) → IsListing l p d rest → IsChecking l p d rest
+checking-begins l p d rest listing =
+    record { launch = listing.launch; placed = listing.placed; pool = listing.pool; listed = (entries_in d, listing.listed) }
+
+-- a step is made, and then the entries of the draft e are dropped, which gives f
+pub checking-goes-on : (l : LaunchData) (p : PlacedData) (d e f : Draft) (s : Step) (ss : List Step) → IsChecking l p d (s ∷ ss)
+    → (done : Listing) × (list_step d.launch.now d.placed.now (progress_of d) s ≡ Ok done) × Makes d e done
+    → f.launch ≡ e.launch → f.placed ≡ e.placed → progress_of f ≡ progress_of e → IsChecking l p f ss
+unfolding list_steps
+checking-goes-on l p d e f s ss checking made launch placed progress =
+    let done : Listing = made.0 in
+    let at : list_step l p (progress_of d) s ≡ Ok done = sym (same-step l p d s checking.launch checking.placed) ∙ made.1 in
+    let makes : Makes d e done = made.2 in
+    let front : List Entry = checking.listed.0 in
+    let same : f.launch.now ≡ l = ap (λ (m : _). m.now) (launch ∙ makes.launch) ∙ checking.launch in
+    record {
+      launch = same;
+      placed = ap (λ (m : _). m.now) (placed ∙ makes.placed) ∙ checking.placed;
+      pool = (let config : f.launch ≡ e.launch = launch in
+          let taken : f.taken ≡ e.taken = ap (λ (w : Progress). w.taken) progress in
+          let before : InPool e = makes.pool in
+          rw (taken, config) before);
+      listed = (
+        front ++ done.entries,
+        checking.listed.1 ∙ rw at (front-front front done.entries (list_steps l p done.next ss)
+            ∙ ap (with_front (front ++ done.entries)) (sym (ap (λ (w : Progress). list_steps l p w ss) progress ∙ steps-alike l p ss (progress_of e) done.next makes.progress))),
+      );
+    }
+
+pub checking-refused : (l : LaunchData) (p : PlacedData) (d : Draft) (s : Step) (ss : List Step) (e : ListFault) → IsChecking l p d (s ∷ ss)
+    → (e ≡ fault.NoMemory) ⊎ (list_step d.launch.now d.placed.now (progress_of d) s ≡ Err e) → (e ≡ fault.NoMemory) ⊎ (listed l p ≡ Err e)
+unfolding list_steps
+checking-refused l p d s ss e checking (inl memory) = inl memory
+checking-refused l p d s ss e checking (inr at) =
+    inr (checking.listed.1 ∙ rw (sym (same-step l p d s checking.launch checking.placed) ∙ at) refl)
+
+pub checking-ends : (l : LaunchData) (p : PlacedData) (d : Draft) → IsChecking l p d [] → IsOk (listed l p)
+unfolding list_steps
+checking-ends l p d checking = rw (checking.listed.1) refl
+
 -- ---- its end
 
 pub listing-ends : (l : LaunchData) (p : PlacedData) (d e : Draft) → IsListing l p d [] → Grows d e (Whole Activate ∷ []) → listed l p ≡ Ok (entries_in e)
 unfolding list_steps
 listing-ends l p d e listing grows = listing.listed ∙ ap (λ es. Ok es) (sym grows.entries)
+
+-- the entries of a whole list are few enough to be numbered
+pub listing-counted : (l : LaunchData) (p : PlacedData) (d e : Draft) → IsListing l p d [] → Grows d e (Whole Activate ∷ [])
+    → (delegated (entries_in e) ≤ e.launch.now.config.pool_count) × AreSpans e
+listing-counted l p d e listing grows =
+    let all : delegated (entries_in e) ≡ delegated (entries_in d ++ Whole Activate ∷ []) = ap delegated grows.entries in
+    let both : delegated (entries_in d ++ Whole Activate ∷ []) ≡ delegated (entries_in d) + 0 = count-append (entries_in d) (Whole Activate ∷ []) in
+    let before : delegated (entries_in d) ≡ d.taken = listing.counted in
+    let more : e.taken ≡ d.taken + 0 = grows.taken in
+    let within : e.taken ≤ e.launch.now.config.pool_count = grows.pool listing.pool in
+    (omega arith, grows.spans listing.spans)
 
 -- the end takes no granule, so it is refused only where memory is
 pub end-refused : (l : LaunchData) (p : PlacedData) (d : Draft) (e : ListFault) → IsListing l p d [] → Refuses d e (Whole Activate ∷ []) → e ≡ fault.NoMemory

@@ -1,5 +1,5 @@
 -- A step of the code makes the listing of the step's definition.
-use Rattle.std.proofs.Common.{inl, inr, ◌≡◌, ℕ, zero, suc, ◌+◌, ◌*◌, ◌<◌, ◌≤◌, ◌^◌, ◌∙◌, sym, refl, ap, subst, arith, Bool, true, false, not, ltb, eqb, List, [], ◌∷◌, ◌++◌, ◌⊎◌, append_assoc, length, map}
+use Rattle.std.proofs.Common.{inl, inr, ◌≡◌, ℕ, zero, suc, ◌+◌, ◌*◌, ◌/◌, ◌<◌, ◌≤◌, ◌^◌, ◌∙◌, sym, refl, ap, subst, arith, Bool, true, false, not, ◌&&◌, ltb, eqb, List, [], ◌∷◌, ◌++◌, ◌⊎◌, append_assoc, length, map}
 use Rattle.std.specs.Prelude.{Ok, Err, Option, Some, None, Result, nat_lt, slice_index_or}
 use Rattle.std.specs.List.{slice_get}
 use Rattle.std.proofs.lemmas.Bool.Decides.{nat_tests}
@@ -8,9 +8,10 @@ use Rattle.std.proofs.lemmas.Option.{slice_get-get_or}
 use Rattle.refusal.specs.Checks.{Check, unless_refused}
 use Rattle.rim_desc.specs.Rec.{RecData}
 use Rattle.rim_desc.specs.declared.command.Command.TheVariants.{Delegate, RecCreate}
-use Rattle.rmm_model.specs.Blocks.{granules}
+use Rattle.std.proofs.lemmas.Bool.{cases_Bool}
+use Rattle.rmm_model.specs.Blocks.{granules, span}
 use Rattle.rmm_model.specs.declared.table.Table.{Table}
-use Rattle.rtt_plan.specs.Missing.{missing, page_acts, table_act}
+use Rattle.rtt_plan.specs.Missing.{missing, page_acts, put_page, table_act}
 use Rattle.rtt_plan.specs.Planned.{AgreesWith, Planned, after_data, after_region, data_acts, data_checks, plan_data, plan_region, region_acts, region_checks}
 use Rattle.rtt_plan.specs.Runs.{runs_of}
 use Rattle.rtt_plan.specs.declared.act.Act.{Act}
@@ -35,7 +36,7 @@ use Rattle.rmi_list.specs.RecParams.{rec_params}
 use Rattle.rmi_list.specs.inside.Acts.{HaveRoom}
 use Rattle.rmi_list.specs.declared.kept.Kept.TheVariants as kept
 use Rattle.rmi_list.specs.inside.Kept.{rec_entry}
-use Rattle.rmi_list.specs.inside.Drafts.{Continues, Grows, InPool, Lists, Makes, entries_in, entry_in, progress_of}
+use Rattle.rmi_list.specs.inside.Drafts.{Continues, Grows, InPool, Lists, Makes, entries_in, kept_in, progress_of}
 use Rattle.rmi_list.proofs.Checking.{is-done, passed-front, plan-refused, refused-front}
 use Rattle.rmi_list.proofs.Growing.{Refuses, pool_of}
 
@@ -51,13 +52,31 @@ unfolding HaveRoom
 tables-room item k [] acts room = room
 tables-room item k (t ∷ ts) acts room = let e : k + 0 ≡ k = omega arith in (tt, rw e (tables-room item k ts acts room))
 
+room-put : (item : Bool × ℕ) (k x : ℕ) (acts : List Act) → k + 1 ≤ 2 ^ 32 → x + 4096 ≤ 2 ^ 47 → HaveRoom (Some item) (k + 1) acts → HaveRoom (Some item) k (put_page x acts)
+unfolding HaveRoom
+room-put item k x [] few low room = ((omega arith, omega arith), room)
+room-put item k x (act.Table base level ∷ acts) few low room = ((omega arith, omega arith), room)
+room-put item k x (act.Run base top level ∷ acts) few low room = ((omega arith, omega arith), room)
+room-put item k x (act.Pages base count ∷ acts) few low room = elim (cases_Bool (eqb base (x + 4096) && eqb (base / span 3) (x / span 3))) [
+  | inl t ↦ rw t
+      (let e : base ≡ x + 4096 = grind (arith, nat_tests) in
+      let here : (k + 1 + count ≤ 2 ^ 32) × (base + 4096 * count ≤ 2 ^ 47) = room.0 in
+      let number : k + 1 + count ≤ 2 ^ 32 = here.0 in
+      let address : base + 4096 * count ≤ 2 ^ 47 = here.1 in
+      let f : k + suc count ≡ k + 1 + count = omega arith in
+      ((omega arith, omega arith), rw f (room.1)))
+  | inr f ↦ rw f ((omega arith, omega arith), room)
+]
+
 pub pages-room : (item : Bool × ℕ) (start count k x : ℕ) (ts : List Table) → k + count ≤ 2 ^ 32 → x + 4096 * count ≤ 2 ^ 47
     → HaveRoom (Some item) k (page_acts start ts (granules count x))
 unfolding HaveRoom page_acts granules
 pages-room item start zero k x ts few low = tt
 pages-room item start (suc count) k x ts few low =
-    tables-room item k (missing start ts 3 x) (act.Pages x 1 ∷ page_acts start (ts ++ missing start ts 3 x) (granules count (x + 4096)))
-    ((omega arith, omega arith), pages-room item start count (k + 1) (x + 4096) (ts ++ missing start ts 3 x) (omega arith) (omega arith))
+    let new : List Table = missing start ts 3 x in
+    let rest : List Act = page_acts start (ts ++ new) (granules count (x + 4096)) in
+    tables-room item k new (put_page x rest)
+    (room-put item k x rest (omega arith) (omega arith) (pages-room item start count (k + 1) (x + 4096) (ts ++ new) (omega arith) (omega arith)))
 
 -- ---- a step that the planner takes
 
@@ -80,8 +99,10 @@ planned-continues old new t after checks a ok es (Ok u) within passed agrees gro
         launch = grows.launch;
         placed = grows.placed;
         entries = grows.entries;
+        taken = grows.taken;
         progress = record { plan = rw grows.tables agrees; taken = grows.taken; num_recs = grows.num_recs };
         pool = size;
+        spans = grows.spans;
       },
     )
 planned-continues old new t after checks a ok es (Err e) within passed agrees (inl memory) = inl memory
@@ -154,7 +175,7 @@ unfolding list_item
 item-idle old number item within none = rw none (
   record { entries = []; next = progress_of old },
   refl,
-  record { launch = refl; placed = refl; entries = sym (append-nil (entries_in old)); progress = record { plan = agrees-refl old.tables; taken = refl; num_recs = refl }; pool = within },
+  record { launch = refl; placed = refl; entries = sym (append-nil (entries_in old)); taken = omega arith; progress = record { plan = agrees-refl old.tables; taken = refl; num_recs = refl }; pool = within; spans = λ all. all },
 )
 
 -- ---- RECs
@@ -172,6 +193,7 @@ grows-then a b d es fs first second =
       entries = second.entries ∙ ap (λ xs. xs ++ fs) first.entries ∙ append_assoc (entries_in a) es fs;
       taken = omega arith;
       pool = λ within. second.pool (first.pool within);
+      spans = λ all. second.spans (first.spans all);
     }
 
 -- what is refused for a part of some entries is refused for all of them
@@ -260,8 +282,10 @@ rec-makes old new number r within order on grown =
         launch = grows.launch;
         placed = grows.placed;
         entries = grows.entries;
+        taken = grows.taken;
         progress = record { plan = rw grows.tables (agrees-refl old.tables); taken = grows.taken; num_recs = ap (λ (n : ℕ). n + 1) grows.num_recs };
         pool = size;
+        spans = grows.spans;
       },
     )
 
@@ -281,7 +305,7 @@ named-rec pool num_aux n number o r at = rw at refl
 
 -- the REC itself, by its number among the launch's RECs
 pub rec-same : (old now : Draft) (n number : ℕ) (r : PlacedRec) → now.launch ≡ old.launch → now.placed ≡ old.placed → n ≡ old.taken
-    → slice_get old.placed.now.recs number ≡ Some r → entry_in now (kept.RecCreate n number) ∷ [] ≡ rec_itself old number r
+    → slice_get old.placed.now.recs number ≡ Some r → kept_in now (kept.RecCreate n number) ≡ rec_itself old number r
 rec-same old now n number r launch placed at own =
     let found : slice_get now.placed.now.recs number ≡ Some r = ap (λ (p : _). slice_get p.now.recs number) placed ∙ own in
     ap (λ e. e ∷ []) (named-rec (pool_of now) now.launch.now.config.num_aux n number (slice_get now.placed.now.recs number) r found
@@ -295,7 +319,7 @@ pub nothing-named : {A : Type 0} (old : Draft) (list : A → Result Listing List
 nothing-named old list o within none = rw none (
   record { entries = []; next = progress_of old },
   refl,
-  record { launch = refl; placed = refl; entries = sym (append-nil (entries_in old)); progress = record { plan = agrees-refl old.tables; taken = refl; num_recs = refl }; pool = within },
+  record { launch = refl; placed = refl; entries = sym (append-nil (entries_in old)); taken = omega arith; progress = record { plan = agrees-refl old.tables; taken = refl; num_recs = refl }; pool = within; spans = λ all. all },
 )
 
 -- what a number names, as a look-up found it

@@ -1,6 +1,6 @@
 -- The commands that a host gives the monitor to build the realm of a launch, or the first reason why it has no such list.
 -- The order of the commands, of the granules and of the reasons is this project's choice.
-use Rattle.std.specs.Prelude.{ℕ, ◌+◌, ◌==◌, not, nat_lt, List, [], ◌∷◌, ◌++◌, map, length, Option, Some, None, Result, Ok, if◌then◌else◌}
+use Rattle.std.specs.Prelude.{◌≡◌, ◌⊎◌, ℕ, ◌+◌, ◌==◌, not, nat_lt, List, [], ◌∷◌, ◌++◌, map, length, Option, Some, None, Result, Ok, Err, if◌then◌else◌}
 use Rattle.std.specs.List.{slice_get}
 use Rattle.refusal.specs.Answer.{◌>>=◌, with_front}
 use Rattle.refusal.specs.Checks.{Check, unless_refused}
@@ -121,3 +121,7 @@ listed l p = unless_refused (opening_checks l.config p.recs) (opening_entries l.
 -- the launch has its place, with some files: what a call asks that lists it
 abbrev pub HasPlace : LaunchData → PlacedData → Type 0
 HasPlace l p = (files : List (List ℕ)) × IsPlaced l files p
+
+-- why a launch has no list; want of memory may come before it
+abbrev pub IsRefusal : LaunchData → PlacedData → ListFault → Type 0
+IsRefusal l p e = (e ≡ NoMemory) ⊎ (listed l p ≡ Err e)

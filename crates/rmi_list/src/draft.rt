@@ -1,11 +1,12 @@
 //! A list that is being made.
-ghost use Rattle.std.specs.Prelude.{◌≡◌, ◌+◌, ◌*◌, ◌<◌, ◌≤◌, ◌^◌, [], ◌∷◌, ◌++◌, false, IfOk, Some, None, if◌then◌else◌};
+ghost use Rattle.std.specs.Prelude.{◌≡◌, ◌+◌, ◌*◌, ◌<◌, ◌≤◌, ◌^◌, [], ◌∷◌, IfOk, Some, None};
 ghost use Rattle.rim_desc.specs.declared.command.Command.TheVariants.{Delegate, RttCreate, InitRipas};
 ghost use Rattle.rmm_model.specs.Blocks.{granules};
-ghost use Rattle.list_model.specs.Entries.{Whole, delegate_all, delegated, delegates, granule, page_entry};
+ghost use Rattle.list_model.specs.Entries.{Whole, delegate_all, delegated, granule};
 ghost use Rattle.list_model.specs.inside.Acts.{act_entries, entries_of_act, entries_of_pages, pages_in};
 ghost use Rattle.rmi_list.specs.inside.Acts.{HasRoom, HaveRoom, item_of};
-ghost use Rattle.rmi_list.specs.inside.Drafts.{Lists, entry_in};
+ghost use Rattle.rmi_list.specs.inside.Kept.{IsSpan};
+ghost use Rattle.rmi_list.specs.inside.Drafts.{Lists, kept_in};
 
 use crate::fault::ListFault;
 use crate::kept::Kept;
@@ -37,8 +38,9 @@ pub struct ItemPages {
 impl<'a> Draft<'a> {
     /// Lists a command that takes no granule of the pool by itself.
     pub fn push(&mut self, kept: Kept) -> Result<(), ListFault>
-        requires { delegates (entry_in self.old kept) ≡ false }
-        ensures { Lists self.old self.new result (entry_in self.old kept ∷ []) }
+        requires none { delegated (kept_in self.old kept) ≡ 0 }
+        requires span { IsSpan kept }
+        ensures { Lists self.old self.new result (kept_in self.old kept) }
     {
         self.kept.push(kept)?;
         Ok(())
@@ -83,35 +85,32 @@ impl<'a> Draft<'a> {
         })
     }
 
-    /// Lists page `page` of an item, in the next granule.
-    fn page(&mut self, ipa: u64, item: ItemPages, page: u64) -> Result<(), ListFault>
-        requires { page < 2 ^ 32 }
-        ensures { let g = granule self.old.launch.now.config.pool_base self.old.taken in
-            Lists self.old self.new result (Whole (Delegate g) ∷ page_entry item.measured g ipa item.number page ∷ []) }
-    {
-        let granule = self.delegate()?;
-        self.push(if item.measured {
-            Kept::Page {
-                granule,
-                ipa,
-                item: item.number,
-                page: page as u32,
-            }
-        } else {
-            Kept::Unmeasured { granule, ipa }
-        })
-    }
-
-    /// Lists `count` pages of an item, from its page `first` and the IPA `base` on.
+    /// Lists `count` pages of an item, from its page `first` and the IPA `base` on, each in the next granule.
     fn pages(&mut self, base: u64, count: u64, item: ItemPages, first: u64) -> Result<(), ListFault>
         requires few { first + count ≤ 2 ^ 32 }
         requires low { base + 4096 * count ≤ 2 ^ 47 }
         ensures { let pool = self.old.launch.now.config.pool_base in
             Lists self.old self.new result (entries_of_pages pool self.old.taken item.measured item.number first (granules count base)) }
     {
-        for index in 0..count {
-            self.page(base + 4096 * index, item, first + index)?;
+        if count == 0 {
+            return Ok(());
         }
+        let most = self.launch.config().pool_count;
+        if self.taken > most {
+            return Err(ListFault::PoolEnd);
+        }
+        if most - self.taken < count {
+            return Err(ListFault::PoolEnd);
+        }
+        self.kept.push(Kept::Pages {
+            granule: self.taken as u32,
+            ipa: base,
+            item: item.number,
+            measured: item.measured,
+            page: first as u32,
+            count,
+        })?;
+        self.taken += count;
         Ok(())
     }
 

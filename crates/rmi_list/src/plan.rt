@@ -1,17 +1,23 @@
 //! The list of a launch.
-ghost use Rattle.std.specs.Prelude.{◌≡◌, ◌+◌, ◌<◌, ◌≤◌, ◌^◌, ◌⊎◌, ◌∷◌, [], ◌++◌, length, take, Some, option_map, option_and_then, slice_get, IfOk, IfErr};
+ghost use Rattle.std.specs.Prelude.{◌≡◌, ℕ, List, ◌+◌, ◌-◌, ◌*◌, ◌<◌, ◌≤◌, ◌^◌, ◌⊎◌, slice_index, length, take, Some, option_map, option_and_then, slice_get, IfOk, IfErr, IsOk, Err};
 ghost use Rattle.refusal.specs.Answer.{Answers};
 ghost use Rattle.rmm_model.specs.Blocks.{granules};
 ghost use Rattle.list_model.specs.Entries.{Whole, command_of, delegated, granule, page_of};
-ghost use Rattle.rmi_list.specs.Listed.{HasPlace, listed, opening, opening_entries};
+ghost use Rattle.rmi_list.specs.Listed.{HasPlace, IsRefusal, listed, opening, opening_entries};
 ghost use Rattle.rmi_list.specs.declared.fault.ListFault.{ListFault};
-ghost use Rattle.rmi_list.specs.inside.Drafts.{InPool, entries_in, progress_of};
-ghost use Rattle.rmi_list.specs.inside.Kept.{rec_entry};
+ghost use Rattle.rmi_list.specs.inside.Drafts.{AreSpans, InPool, entries_in, progress_of};
+ghost use Rattle.rmi_list.specs.inside.Kept.{IsCommandAt, IsPageAt, IsSpan, commands_in, entries_of_kept, rec_entry};
+ghost use Rattle.rmi_list.specs.inside.Plans.{AreStarts};
+ghost use Rattle.list_model.specs.inside.Acts.{entries_of_pages};
+ghost use Rattle.std.specs.List.{All, sum_by};
+ghost use Rattle.rim_desc.specs.declared.realm.RealmParams.{RealmParams};
+ghost use Rattle.ipa_layout.specs.declared.rec.PlacedRec.{PlacedRec};
 
 use crate::draft::Draft;
 use crate::fault::ListFault;
 use crate::kept::Kept;
 use ipa_layout::{Placed, PlacedRec};
+use refusal::NoMemory;
 use rim_desc::{Command, Measurement, RealmParams, RecParams, rec_mpidr};
 use rim_launch::{Launch, realm_params};
 use rmm_model::start::start_count;
@@ -28,13 +34,15 @@ const MOST_AUX: usize = 16;
 /// The commands that a host gives the monitor to build a launch's realm. The contents of measured pages are open:
 /// they are handed in where a command is asked for.
 ///
-/// It keeps one entry for each command.
+/// It keeps spans: the commands of neighbouring pages are one, and each other command is one. `starts` has for each span how
+/// many commands come before it, and at last how many there are in all.
 #[derive(Drop)]
 pub struct Plan {
     params: RealmParams,
     num_aux: u8,
     recs: Vec<PlacedRec>,
     kept: Vec<Kept>,
+    starts: Vec<usize>,
 }
 
 impl Model for Plan {
@@ -67,6 +75,24 @@ pub fn list(alloc: Global, launch: &Launch, placed: &Placed) -> Result<Plan, Lis
     Plan::of(alloc, draft)
 }
 
+/// Whether a launch that has its place has a list of commands; or the first reason why it has none, as `list` answers it. No
+/// list is kept: the commands of a step are dropped before the next step.
+pub fn check<'a>(alloc: Global, launch: &'a Launch, placed: &'a Placed) -> Result<(), ListFault>
+    requires { HasPlace launch.now placed.now }
+    ensures list { IfOk result (λ done. IsOk (listed launch.now placed.now)) }
+    ensures fault { IfErr result (IsRefusal launch.now placed.now) }
+{
+    if placed.recs().len() > MOST_RECS {
+        return Err(ListFault::TooManyRecs);
+    }
+    let mut draft = open(alloc, launch, placed)?;
+    for step in launch.steps() {
+        draft.step(step)?;
+        draft.kept.clear();
+    }
+    Ok(())
+}
+
 /// The list's begin: the granules of the start tables and of the realm descriptor, and the realm.
 fn open<'a>(alloc: Global, launch: &'a Launch, placed: &'a Placed) -> Result<Draft<'a>, ListFault>
     ensures launch { IfOk result (λ d. d.launch.now ≡ launch.now) }
@@ -74,6 +100,7 @@ fn open<'a>(alloc: Global, launch: &'a Launch, placed: &'a Placed) -> Result<Dra
     ensures entries { IfOk result (λ d. entries_in d ≡ opening_entries launch.now.config) }
     ensures progress { IfOk result (λ d. progress_of d ≡ opening launch.now.config) }
     ensures pool { IfOk result InPool }
+    ensures spans { IfOk result AreSpans }
     ensures fault { IfErr result (λ e. (e ≡ ListFault.NoMemory) ⊎ ((e ≡ ListFault.PoolEnd) × (launch.now.config.pool_count < delegated (opening_entries launch.now.config)))) }
 {
     let config = launch.config();
@@ -94,15 +121,19 @@ fn open<'a>(alloc: Global, launch: &'a Launch, placed: &'a Placed) -> Result<Dra
 impl Plan {
     /// The plan of a list that was made.
     fn of<'a>(alloc: Global, draft: Draft<'a>) -> Result<Plan, ListFault>
-        requires { length draft.placed.now.recs ≤ 512 }
+        requires recs { length draft.placed.now.recs ≤ 512 }
+        requires few { delegated (entries_in draft) ≤ 2 ^ 32 }
+        requires spans { All IsSpan draft.kept.items }
         ensures plan { IfOk result (λ plan. plan ≡ entries_in draft.entry) }
         ensures fault { IfErr result (λ e. e ≡ ListFault.NoMemory) }
     {
+        let starts = number(alloc, &draft.kept)?;
         Ok(Plan {
             params: realm_params(draft.launch),
             num_aux: draft.launch.config().num_aux,
             recs: Vec::from_slice(alloc, draft.placed.recs())?,
             kept: draft.kept,
+            starts,
         })
     }
 
@@ -110,7 +141,7 @@ impl Plan {
     pub fn len(&self) -> usize
         ensures { result ≡ length self.now }
     {
-        self.kept.len()
+        self.starts[self.kept.len()]
     }
 
     /// The number of the item and of its page, where a command creates a measured page.
@@ -118,10 +149,8 @@ impl Plan {
         requires { index < length self.now }
         ensures { result ≡ option_and_then page_of (slice_get self.now index) }
     {
-        match self.kept[index] {
-            Kept::Page { item, page, .. } => Some((item as usize, page as u64)),
-            _ => None,
-        }
+        let at = span_at(&self.starts, index);
+        page_in(&self.kept[at], index - self.starts[at])
     }
 
     /// A command of the list. Where it creates a measured page, the page's content is this measurement; others do not use it.
@@ -129,35 +158,164 @@ impl Plan {
         requires { index < length self.now }
         ensures { option_map (command_of (λ item page. content.now)) (slice_get self.now index) ≡ Some result }
     {
-        let pool = self.params.rtt_base;
-        match self.kept[index] {
-            Kept::Delegate { granule } => Command::Delegate {
-                granule: granule_at(pool, granule as u64),
-            },
-            Kept::RealmCreate { rd } => Command::RealmCreate {
-                rd: granule_at(pool, rd as u64),
-                params: self.params,
-            },
-            Kept::RttCreate { rtt, ipa, level } => Command::RttCreate {
-                rtt: granule_at(pool, rtt as u64),
-                ipa,
-                level,
-            },
-            Kept::InitRipas { base, top } => Command::InitRipas { base, top },
-            Kept::Page { granule, ipa, .. } => Command::DataCreate {
-                granule: granule_at(pool, granule as u64),
-                ipa,
-                content: Some(*content),
-            },
-            Kept::Unmeasured { granule, ipa } => Command::DataCreate {
-                granule: granule_at(pool, granule as u64),
-                ipa,
-                content: None,
-            },
-            Kept::RecCreate { rec, number } => {
-                rec_create(pool, self.num_aux, self.recs.as_slice(), rec, number)
+        let at = span_at(&self.starts, index);
+        command_in(
+            self.params,
+            self.num_aux,
+            self.recs.as_slice(),
+            &self.kept[at],
+            index - self.starts[at],
+            content,
+        )
+    }
+}
+
+/// A command of a span.
+fn command_in(
+    params: RealmParams,
+    num_aux: u8,
+    recs: &[PlacedRec],
+    kept: &Kept,
+    offset: usize,
+    content: &Measurement,
+) -> Command
+    requires low { params.rtt_base < 2 ^ 48 }
+    requires aux { num_aux ≤ 16 }
+    requires few { length recs.now ≤ 512 }
+    requires span { IsSpan kept.now }
+    requires within { offset < commands_in kept.now }
+    ensures { IsCommandAt content.now (entries_of_kept params num_aux recs.now kept.now) offset result }
+{
+    let pool = params.rtt_base;
+    match *kept {
+        Kept::Delegate { granule } => Command::Delegate {
+            granule: granule_at(pool, granule as u64),
+        },
+        Kept::RealmCreate { rd } => Command::RealmCreate {
+            rd: granule_at(pool, rd as u64),
+            params,
+        },
+        Kept::RttCreate { rtt, ipa, level } => Command::RttCreate {
+            rtt: granule_at(pool, rtt as u64),
+            ipa,
+            level,
+        },
+        Kept::InitRipas { base, top } => Command::InitRipas { base, top },
+        Kept::Pages {
+            granule,
+            ipa,
+            measured,
+            ..
+        } => page_command(pool, granule, ipa, measured, offset, content),
+        Kept::RecCreate { rec, number } => rec_create(pool, num_aux, recs, rec, number),
+        Kept::Activate => Command::Activate,
+    }
+}
+
+/// How many commands a span has.
+fn commands_in(kept: &Kept) -> usize
+    requires { commands_in kept.now < 2 ^ 64 }
+    ensures { result ≡ commands_in kept.now }
+{
+    match *kept {
+        Kept::Pages { count, .. } => 2 * count as usize,
+        _ => 1,
+    }
+}
+
+/// How many commands come before each span, and how many there are in all.
+fn number(alloc: Global, kept: &[Kept]) -> Result<Vec<usize>, NoMemory>
+    requires { sum_by commands_in kept.now < 2 ^ 64 }
+    ensures { IfOk result (λ starts. AreStarts kept.now starts.items) }
+{
+    let mut starts = Vec::new(alloc);
+    let mut len = 0;
+    starts.push(len)?;
+    for kept in kept {
+        len += commands_in(kept);
+        starts.push(len)?;
+    }
+    Ok(starts)
+}
+
+/// The span of a command, by binary search: the last that begins at it or before.
+fn span_at(starts: &[usize], index: usize) -> usize
+    requires some { 1 ≤ length starts.now }
+    requires first { slice_index starts.now 0 ≡ 0 }
+    requires last { index < slice_index starts.now (length starts.now - 1) }
+    ensures inside { result + 1 < length starts.now }
+    ensures from { slice_index starts.now result ≤ index }
+    ensures below { index < slice_index starts.now (result + 1) }
+{
+    let mut low = 0;
+    let mut high = starts.len() - 1;
+    while high - low > 1 {
+        let middle = low + (high - low) / 2;
+        if starts[middle] <= index {
+            low = middle;
+        } else {
+            high = middle;
+        }
+    }
+    low
+}
+
+/// The number of the item and of its page, where a command of a span creates a measured page.
+fn page_in(kept: &Kept, offset: usize) -> Option<(usize, u64)>
+    requires { offset < commands_in kept.now }
+    ensures { IsPageAt kept.now offset result }
+{
+    match *kept {
+        Kept::Pages {
+            item,
+            measured,
+            page,
+            ..
+        } => {
+            if !measured {
+                return None;
             }
-            Kept::Activate => Command::Activate,
+            if offset % 2 == 0 {
+                return None;
+            }
+            Some((item as usize, page as u64 + (offset / 2) as u64))
+        }
+        _ => None,
+    }
+}
+
+/// A command of a span of pages: a granule is delegated, or it becomes a page.
+fn page_command(
+    pool: u64,
+    granule: u32,
+    ipa: u64,
+    measured: bool,
+    offset: usize,
+    content: &Measurement,
+) -> Command
+    requires low { pool < 2 ^ 48 }
+    requires few { offset < 2 ^ 33 }
+    requires ipa { ipa ≤ 2 ^ 47 }
+    ensures { (item page count : ℕ) → offset < 2 * count
+        → IsCommandAt content.now (entries_of_pages pool granule measured item page (granules count ipa)) offset result }
+{
+    let page = (offset / 2) as u64;
+    let granule = granule_at(pool, granule as u64 + page);
+    if offset % 2 == 0 {
+        return Command::Delegate { granule };
+    }
+    let ipa = ipa + 4096 * page;
+    if measured {
+        Command::DataCreate {
+            granule,
+            ipa,
+            content: Some(*content),
+        }
+    } else {
+        Command::DataCreate {
+            granule,
+            ipa,
+            content: None,
         }
     }
 }

@@ -141,3 +141,73 @@ fn worked_lists(rt: HostRuntime) {
         check_list(&rt, rt.alloc(), row);
     }
 }
+
+/// Pages over two tables.
+const OVER_TWO_TABLES: Parts = Parts {
+    ram: &[(0x4000_0000, 0x4060_0000)],
+    items: &[(0x4010_0000, 0x30_0000, true)],
+    recs: &[],
+    steps: &[],
+};
+
+/// Numbers of commands of its list, and the commands.
+const COMMANDS: [(usize, Command); 3] = [
+    (
+        10,
+        Command::InitRipas {
+            base: 0x4000_0000,
+            top: 0x4060_0000,
+        },
+    ),
+    (
+        526,
+        Command::RttCreate {
+            rtt: 0x8_0010_a000,
+            ipa: 0x4020_0000,
+            level: 3,
+        },
+    ),
+    (1551, Command::Activate),
+];
+
+/// Numbers of commands of its list, and the item and the page that they create.
+const PAGES: [(usize, Option<(usize, u64)>); 3] = [
+    (13, None),
+    (14, Some((0, 0))),
+    (1550, Some((0, 767))),
+];
+
+fn check_command(rt: &impl Abort, plan: &Plan, row: &(usize, Command)) {
+    let (index, command) = row;
+    if *index < plan.len() {
+        check(rt, plan.command(*index, &CONTENT) == *command, "a command");
+    }
+}
+
+fn check_commands(rt: &impl Abort, plan: &Plan) {
+    for row in &COMMANDS {
+        check_command(rt, plan, row);
+    }
+}
+
+fn check_page(rt: &impl Abort, plan: &Plan, row: &(usize, Option<(usize, u64)>)) {
+    let (index, page) = row;
+    if *index < plan.len() {
+        check(rt, plan.page_of(*index) == *page, "a page");
+    }
+}
+
+fn check_pages(rt: &impl Abort, plan: &Plan) {
+    for row in &PAGES {
+        check_page(rt, plan, row);
+    }
+}
+
+#[test]
+fn pages_over_two_tables(rt: HostRuntime) {
+    let launch = launch_of(&rt, rt.alloc(), &CONFIG, &OVER_TWO_TABLES);
+    let plan = list_of(&rt, rt.alloc(), &launch).expect(&rt, "a list");
+    check(&rt, plan.len() == 1552, "how many commands");
+    check_commands(&rt, &plan);
+    check_pages(&rt, &plan);
+}

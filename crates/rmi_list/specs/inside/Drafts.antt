@@ -1,6 +1,6 @@
 -- How a list grows, command by command and step by step. This project's choice.
 use Rattle.std.specs.Prelude.{◌≡◌, ◌⊎◌, ℕ, ◌+◌, ◌<◌, ◌≤◌, List, ◌++◌, Some, Result, Ok, Err}
-use Rattle.std.specs.List.{slice_get}
+use Rattle.std.specs.List.{All, slice_get}
 use Rattle.rtt_plan.specs.Planned.{AgreesWith}
 use Rattle.list_model.specs.Entries.{Entry, delegated}
 use Rattle.rim_launch.specs.Realm.{realm_params}
@@ -10,14 +10,14 @@ use Rattle.rmi_list.specs.declared.draft.Draft.{Draft}
 use Rattle.rmi_list.specs.declared.fault.ListFault.{ListFault}
 use Rattle.rmi_list.specs.declared.fault.ListFault.TheVariants as fault
 use Rattle.rmi_list.specs.declared.kept.Kept.{Kept}
-use Rattle.rmi_list.specs.inside.Kept.{entries_of, entry_of}
+use Rattle.rmi_list.specs.inside.Kept.{IsSpan, entries_of, entries_of_kept}
 
 -- the entries of the commands that were listed
 abbrev pub entries_in : Draft → List Entry
 entries_in d = entries_of (realm_params d.launch.now.config) d.launch.now.config.num_aux d.placed.now.recs d.kept.items
 
-abbrev pub entry_in : Draft → Kept → Entry
-entry_in d k = entry_of (realm_params d.launch.now.config) d.launch.now.config.num_aux d.placed.now.recs k
+abbrev pub kept_in : Draft → Kept → List Entry
+kept_in d k = entries_of_kept (realm_params d.launch.now.config) d.launch.now.config.num_aux d.placed.now.recs k
 
 -- how far it is
 abbrev pub progress_of : Draft → Progress
@@ -26,6 +26,10 @@ progress_of d = record { plan = d.tables; taken = d.taken; num_recs = d.num_recs
 -- no more granules were taken than the pool has
 abbrev pub InPool : Draft → Type 0
 InPool d = d.taken ≤ d.launch.now.config.pool_count
+
+-- the spans that are kept can be numbered
+abbrev pub AreSpans : Draft → Type 0
+AreSpans d = All IsSpan d.kept.items
 
 -- some entries were added, with the granules that they take, and nothing else has changed
 pub record Grows (old new : Draft) (es : List Entry) : Type 0 where
@@ -36,6 +40,7 @@ pub record Grows (old new : Draft) (es : List Entry) : Type 0 where
   pub entries : entries_in new ≡ entries_in old ++ es
   pub taken : new.taken ≡ old.taken + delegated es
   pub pool : InPool old → InPool new
+  pub spans : AreSpans old → AreSpans new
 
 -- some entries were added, or memory was refused, or the pool has too few granules for them
 abbrev pub Lists : {U : Type 0} → Draft → Draft → Result U ListFault → List Entry → Type 0
@@ -55,8 +60,10 @@ pub record Makes (old new : Draft) (done : Listing) : Type 0 where
   pub launch : new.launch ≡ old.launch
   pub placed : new.placed ≡ old.placed
   pub entries : entries_in new ≡ entries_in old ++ done.entries
+  pub taken : new.taken ≡ old.taken + delegated done.entries
   pub progress : SameProgress (progress_of new) done.next
   pub pool : InPool new
+  pub spans : AreSpans old → AreSpans new
 
 -- the listing that a definition answers was made; or memory was refused, or the definition's refusal was answered
 abbrev pub Continues : {U : Type 0} → Draft → Draft → Result U ListFault → Result Listing ListFault → Type 0

@@ -1,10 +1,13 @@
 -- What the kept commands of a list say. This project's choice.
-use Rattle.std.specs.Prelude.{ℕ, ◌+◌, List, map, Option, Some, None}
-use Rattle.std.specs.List.{slice_get}
-use Rattle.rim_desc.specs.declared.command.Command.TheVariants.{Delegate, RealmCreate, RttCreate, InitRipas, DataCreate, RecCreate, Activate}
+use Rattle.std.specs.Prelude.{◌≡◌, ℕ, ◌+◌, ◌*◌, ◌^◌, ◌≤◌, List, [], ◌∷◌, Option, Some, None, option_and_then, option_map}
+use Rattle.std.specs.List.{flat_map, slice_get}
+use Rattle.rim_desc.specs.declared.command.Command.{Command}
+use Rattle.rim_desc.specs.declared.command.Command.TheVariants.{Delegate, RealmCreate, RttCreate, InitRipas, RecCreate, Activate}
+use Rattle.rim_desc.specs.declared.measurement.Measurement.{Measurement}
 use Rattle.rim_desc.specs.declared.realm.RealmParams.{RealmParams}
 use Rattle.rmm_model.specs.Blocks.{granules}
-use Rattle.list_model.specs.Entries.{Entry, Page, Whole, granule}
+use Rattle.list_model.specs.Entries.{Entry, Whole, command_of, granule, page_of}
+use Rattle.list_model.specs.inside.Acts.{entries_of_pages}
 use Rattle.ipa_layout.specs.declared.rec.PlacedRec.{PlacedRec}
 use Rattle.rmi_list.specs.RecParams.{rec_params}
 use Rattle.rmi_list.specs.declared.kept.Kept.{Kept}
@@ -16,16 +19,40 @@ rec_entry pool num_aux n number None = Whole Activate
 rec_entry pool num_aux n number (Some r) =
     Whole (RecCreate (granule pool n) (rec_params number r (granules num_aux (granule pool (n + 1)))))
 
--- the entry of a kept command, with what is kept beside the list; the start tables are the pool's first granules
-abbrev pub entry_of : RealmParams → ℕ → List PlacedRec → Kept → Entry
-entry_of params num_aux recs (kept.Delegate n) = Whole (Delegate (granule params.rtt_base n))
-entry_of params num_aux recs (kept.RealmCreate n) = Whole (RealmCreate (granule params.rtt_base n) params)
-entry_of params num_aux recs (kept.RttCreate n ipa level) = Whole (RttCreate (granule params.rtt_base n) ipa level)
-entry_of params num_aux recs (kept.InitRipas base top) = Whole (InitRipas base top)
-entry_of params num_aux recs (kept.Page n ipa item page) = Page (granule params.rtt_base n) ipa item page
-entry_of params num_aux recs (kept.Unmeasured n ipa) = Whole (DataCreate (granule params.rtt_base n) ipa None)
-entry_of params num_aux recs (kept.RecCreate n number) = rec_entry params.rtt_base num_aux n number (slice_get recs number)
-entry_of params num_aux recs kept.Activate = Whole Activate
+-- the entries of a kept span, with what is kept beside the list; the start tables are the pool's first granules
+abbrev pub entries_of_kept : RealmParams → ℕ → List PlacedRec → Kept → List Entry
+entries_of_kept params num_aux recs (kept.Delegate n) = Whole (Delegate (granule params.rtt_base n)) ∷ []
+entries_of_kept params num_aux recs (kept.RealmCreate n) = Whole (RealmCreate (granule params.rtt_base n) params) ∷ []
+entries_of_kept params num_aux recs (kept.RttCreate n ipa level) = Whole (RttCreate (granule params.rtt_base n) ipa level) ∷ []
+entries_of_kept params num_aux recs (kept.InitRipas base top) = Whole (InitRipas base top) ∷ []
+entries_of_kept params num_aux recs (kept.Pages n ipa item measured page count) = entries_of_pages params.rtt_base n measured item page (granules count ipa)
+entries_of_kept params num_aux recs (kept.RecCreate n number) = rec_entry params.rtt_base num_aux n number (slice_get recs number) ∷ []
+entries_of_kept params num_aux recs kept.Activate = Whole Activate ∷ []
 
 abbrev pub entries_of : RealmParams → ℕ → List PlacedRec → List Kept → List Entry
-entries_of params num_aux recs kept = map (entry_of params num_aux recs) kept
+entries_of params num_aux recs kept = flat_map (entries_of_kept params num_aux recs) kept
+
+-- how many commands a span has
+abbrev pub commands_in : Kept → ℕ
+commands_in (kept.Delegate n) = 1
+commands_in (kept.RealmCreate n) = 1
+commands_in (kept.RttCreate n ipa level) = 1
+commands_in (kept.InitRipas base top) = 1
+commands_in (kept.Pages n ipa item measured page count) = 2 * count
+commands_in (kept.RecCreate n number) = 1
+commands_in kept.Activate = 1
+
+-- the pages of a span have an IPA of 47 bits, and its commands are few enough to be numbered
+abbrev pub IsSpan : Kept → Type 0
+IsSpan (kept.Pages n ipa item measured page count) = (count ≤ 2 ^ 32) × (ipa ≤ 2 ^ 47) × (page + count ≤ 2 ^ 32)
+IsSpan k = Unit {0}
+
+-- the command at an index of some entries, where each measured page has this content
+abbrev pub IsCommandAt : Measurement → List Entry → ℕ → Command → Type 0
+IsCommandAt content entries index c = option_map (command_of (λ item page. content)) (slice_get entries index) ≡ Some c
+
+-- the item and the page of the command at an index of a span, where it creates a measured page; what is kept beside the list
+-- has no part in it
+abbrev pub IsPageAt : Kept → ℕ → Option (ℕ × ℕ) → Type 0
+IsPageAt kept index page = (params : RealmParams) (num_aux : ℕ) (recs : List PlacedRec)
+    → page ≡ option_and_then page_of (slice_get (entries_of_kept params num_aux recs kept) index)

@@ -1,12 +1,14 @@
-use Rattle.std.proofs.Common.{inl, inr, ◌+◌, ◌∙◌, ap, subst, arith, drop, slice_index_or}
+use Rattle.std.proofs.Common.{inl, inr, ◌≤◌, ◌+◌, ◌∙◌, ap, subst, arith, drop, slice_index_or}
 use Rattle.std.proofs.lemmas.List.{drop_all}
 use Rattle.std.proofs.lemmas.Result.{err_from_is_err_and}
 use Rattle.rim_launch.specs.declared.step.Step.TheVariants.{Ram}
 use Rattle.ipa_layout.specs.Layout.{PlacedData}
+use Rattle.list_model.specs.Entries.{delegated}
+use Rattle.rmi_list.specs.inside.Drafts.{entries_in}
 use Rattle.rmi_list.proofs.Listing.{IsListing}
 use Rattle.rmi_list.proofs.Growing.{drop-at}
 use Rattle.rmi_list.proofs.Listable.{are-listable}
-use Rattle.rmi_list.proofs.Listing.{begin-refused, end-refused, listing-begins, listing-ends, listing-goes-on, listing-refused, plan-answered, too-many}
+use Rattle.rmi_list.proofs.Listing.{begin-refused, end-refused, listing-begins, listing-counted, listing-ends, listing-goes-on, listing-refused, plan-answered, too-many}
 use Rattle.rmi_list.proofs.plan.list.Goals as goal
 
 pub returns-then-recs-gt-MOST_RECS : goal.returns-then-recs-gt-MOST_RECS
@@ -21,7 +23,7 @@ pub loop-step-init : goal.loop-step-init
 loop-step-init c =
     let opened = c.in_ok-draft.ensures in
     rw c.steps-step-items.ensures.value (listing-begins c.args.launch.now c.args.placed.now c.in_ok-draft.draft (rw (← c.recs.ensures) c.if-recs-gt-MOST_RECS.false)
-    opened.launch opened.placed opened.entries opened.progress opened.pool)
+    opened.launch opened.placed opened.entries opened.progress opened.pool opened.spans)
 
 pub step-requires-clause-pool : goal.step-requires-clause-pool
 step-requires-clause-pool c = c.loop-step.invariant.pool
@@ -53,8 +55,20 @@ returns-in_err-push c =
     let over = subst (IsListing c.args.launch.now c.args.placed.now c.loop-step.draft) (drop_all c.loop-step.step-index c.steps-step-items.result.now (omega arith)) c.loop-step.invariant in
     rw (p.1, p.2) (inl (end-refused c.args.launch.now c.args.placed.now c.loop-step.draft c.in_err-push.field-0.0 over c.in_err-push.ensures))
 
-pub of-requires : goal.of-requires
-of-requires c =
+pub of-requires-clause-few : goal.of-requires-clause-few
+of-requires-clause-few c =
+    let over = subst (IsListing c.args.launch.now c.args.placed.now c.loop-step.draft) (drop_all c.loop-step.step-index c.steps-step-items.result.now (omega arith)) c.loop-step.invariant in
+    let counted = listing-counted c.args.launch.now c.args.placed.now c.loop-step.draft c.push.new.self over c.in_ok-push.ensures in
+    let few : delegated (entries_in c.push.new.self) ≤ c.push.new.self.launch.now.config.pool_count = counted.0 in
+    omega (arith, few, c.push.new.self.launch.now.config.pool_fits)
+
+pub of-requires-clause-spans : goal.of-requires-clause-spans
+of-requires-clause-spans c =
+    let over = subst (IsListing c.args.launch.now c.args.placed.now c.loop-step.draft) (drop_all c.loop-step.step-index c.steps-step-items.result.now (omega arith)) c.loop-step.invariant in
+    (listing-counted c.args.launch.now c.args.placed.now c.loop-step.draft c.push.new.self over c.in_ok-push.ensures).1
+
+pub of-requires-clause-recs : goal.of-requires-clause-recs
+of-requires-clause-recs c =
     let placed = ap (λ (p : _). p.now.recs) c.in_ok-push.ensures.placed ∙ ap (λ (p : PlacedData). p.recs) c.loop-step.invariant.placed in
     rw (placed, ← c.recs.ensures) c.if-recs-gt-MOST_RECS.false
 

@@ -31,6 +31,11 @@ returns-clause-entries c =
     let grows = first-grows _ _ _ _ _ _ _ c.config-config.ensures.value c.start_count.ensures.value refl c.in_ok-delegate_all.ensures c.in_ok-rd.ensures.lists c.in_ok-rd.ensures.value c.in_ok-push.ensures in
     grows.entries ∙ rw c.new-2.ensures.items refl
 
+pub returns-clause-spans : goal.returns-clause-spans
+returns-clause-spans c =
+    let grows = first-grows _ _ _ _ _ _ _ c.config-config.ensures.value c.start_count.ensures.value refl c.in_ok-delegate_all.ensures c.in_ok-rd.ensures.lists c.in_ok-rd.ensures.value c.in_ok-push.ensures in
+    grows.spans (rw c.new-2.ensures.items (λ k d lt. absurd (omega arith)))
+
 pub returns-clause-progress : goal.returns-clause-progress
 returns-clause-progress c =
     let grows = first-grows _ _ _ _ _ _ _ c.config-config.ensures.value c.start_count.ensures.value refl c.in_ok-delegate_all.ensures c.in_ok-rd.ensures.lists c.in_ok-rd.ensures.value c.in_ok-push.ensures in

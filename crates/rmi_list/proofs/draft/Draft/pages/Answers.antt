@@ -1,33 +1,62 @@
-use Rattle.std.proofs.Common.{◌≡◌, ◌-◌, ◌+◌, ◌*◌, arith}
-use Rattle.std.proofs.lemmas.Result.{err_from_is_err_and}
-use Rattle.rmi_list.proofs.Growing.{going-ends, going-on, going-refused, going-starts, next-page, no-pages, page_here, pages_left}
+use Rattle.std.proofs.Common.{inr, ℕ, ◌≡◌, ◌+◌, [], ap, arith, refl, sym}
+use Rattle.std.proofs.lemmas.List.{append-nil}
+use Rattle.rmm_model.specs.Blocks.{granules}
+use Rattle.list_model.specs.Entries.{delegated}
+use Rattle.list_model.specs.inside.Acts.{entries_of_pages}
+use Rattle.rmi_list.specs.inside.Drafts.{entries_in}
+use Rattle.rmi_list.proofs.Growing.{pool_of}
+use Rattle.rmi_list.proofs.Spans.{granules-of_pages, no-page, one-more, spans-more}
+use Rattle.rim_launch.specs.Realm.{realm_params}
+use Rattle.rim_launch.specs.declared.config.Config.{Config}
 use Rattle.rmi_list.proofs.draft.Draft.pages.Goals as goal
 
-pub loop-index-init : goal.loop-index-init
-loop-index-init c =
-    let e : c.args.count - 0 ≡ c.args.count = omega arith in
-    let f : c.args.first + 0 ≡ c.args.first = omega arith in
-    let g : c.args.base + 4096 * 0 ≡ c.args.base = omega arith in
-    rw (e, f, g) (going-starts _ _)
-
-pub returns-in_err-page : goal.returns-in_err-page
-returns-in_err-page c =
-    let p = err_from_is_err_and c.from_residual.result c.from_residual.ensures.1 in
+pub returns-then-count-eq0 : goal.returns-then-count-eq0
+returns-then-count-eq0 c =
+    let d = c.args.self.now in
     let i = c.args.item in
-    let x = c.args.base + 4096 * c.loop-index.index in
-    let k = c.args.first + c.loop-index.index in
-    rw (p.1, p.2) (going-refused c.args.self.now c.loop-index.self _ _ (page_here c.loop-index.self i.measured i.number x k)
-    (pages_left c.args.self.now i.measured i.number c.args.first c.args.base c.args.count (c.loop-index.index + 1)) c.in_err-page.field-0.0
-    c.loop-index.invariant (next-page _ _ i.measured i.number c.args.first c.args.base c.args.count c.loop-index.index c.loop-index-test.true) c.in_err-page.ensures)
+    let none : entries_of_pages (pool_of d) d.taken i.measured i.number c.args.first (granules c.args.count c.args.base) ≡ [] =
+    no-page (pool_of d) d.taken i.measured i.number c.args.first c.args.count c.args.base c.if-count-eq0.true in
+    rw none (record {
+      launch = refl;
+      placed = refl;
+      tables = refl;
+      num_recs = refl;
+      entries = sym (append-nil (entries_in d));
+      taken = omega arith;
+      pool = λ within. within;
+      spans = λ all. all;
+    })
 
-pub loop-index-preserved : goal.loop-index-preserved
-loop-index-preserved c =
+pub returns-then-self-most : goal.returns-then-self-most
+returns-then-self-most c =
+    let d = c.args.self.now in
     let i = c.args.item in
-    let x = c.args.base + 4096 * c.loop-index.index in
-    let k = c.args.first + c.loop-index.index in
-    going-on c.args.self.now c.loop-index.self c.page.new.self _ _ (page_here c.loop-index.self i.measured i.number x k)
-    (pages_left c.args.self.now i.measured i.number c.args.first c.args.base c.args.count (c.loop-index.index + 1))
-    c.loop-index.invariant (next-page _ _ i.measured i.number c.args.first c.args.base c.args.count c.loop-index.index c.loop-index-test.true) c.in_ok-page.ensures
+    let number : delegated (entries_of_pages (pool_of d) d.taken i.measured i.number c.args.first (granules c.args.count c.args.base)) ≡ c.args.count =
+    granules-of_pages (pool_of d) i.measured i.number c.args.count d.taken c.args.first c.args.base in
+    let most : c.config-most.result.pool_count ≡ d.launch.now.config.pool_count = ap (λ (k : Config). k.pool_count) c.config-most.ensures.value in
+    inr (refl, omega arith)
+
+pub returns-then-most-self : goal.returns-then-most-self
+returns-then-most-self c =
+    let d = c.args.self.now in
+    let i = c.args.item in
+    let number : delegated (entries_of_pages (pool_of d) d.taken i.measured i.number c.args.first (granules c.args.count c.args.base)) ≡ c.args.count =
+    granules-of_pages (pool_of d) i.measured i.number c.args.count d.taken c.args.first c.args.base in
+    let most : c.config-most.result.pool_count ≡ d.launch.now.config.pool_count = ap (λ (k : Config). k.pool_count) c.config-most.ensures.value in
+    inr (refl, omega arith)
 
 pub returns : goal.returns
-returns c = going-ends _ _ _ _ c.loop-index.invariant (no-pages _ _ _ _ _ c.args.count c.loop-index.index _ (omega arith))
+returns c =
+    let d = c.args.self.now in
+    let i = c.args.item in
+    let most : c.config-most.result.pool_count ≡ d.launch.now.config.pool_count = ap (λ (k : Config). k.pool_count) c.config-most.ensures.value in
+    record {
+      launch = refl;
+      placed = refl;
+      tables = refl;
+      num_recs = refl;
+      entries = one-more (realm_params d.launch.now.config) d.launch.now.config.num_aux d.placed.now.recs d.kept.items c.push.new.self.items _ c.in_ok-push.ensures.items;
+      taken = ap (λ (n : ℕ). d.taken + n) (sym (granules-of_pages (pool_of d) i.measured i.number c.args.count d.taken c.args.first c.args.base));
+      pool = λ within. omega arith;
+      spans = λ all. spans-more d.kept.items c.push.new.self.items _ c.in_ok-push.ensures.items (omega arith, omega (arith, c.requires.low), omega arith) all;
+    }

@@ -1,4 +1,12 @@
+use Rattle.std.proofs.Common.{arith}
+use Rattle.rim_launch.specs.Realm.{realm_params}
+use Rattle.rmi_list.proofs.Spans.{few-of}
 use Rattle.rmi_list.proofs.plan.Plan.of.Goals as goal
+
+pub number-requires : goal.number-requires
+number-requires c =
+    let d = c.args.draft in
+    rw c.deref.ensures.value (omega (arith, d.kept.ok, d.kept.small, c.requires.few, few-of (realm_params d.launch.now.config) d.launch.now.config.num_aux d.placed.now.recs d.kept.items))
 
 pub invariant_of-result : goal.invariant_of-result
 invariant_of-result c =
@@ -6,5 +14,7 @@ invariant_of-result c =
     record {
       pool = rw c.realm_params.ensures config.pool_low;
       aux = rw c.config.ensures.value config.aux;
-      few = rw (c.in_ok-from_slice.ensures.items, c.recs.ensures) c.requires;
+      few = rw (c.in_ok-from_slice.ensures.items, c.recs.ensures) c.requires.recs;
+      starts = rw c.deref.ensures.value at c.in_ok-starts.ensures;
+      spans = c.requires.spans;
     }

@@ -1,0 +1,5 @@
+use Rattle.rmi_list.proofs.Spans.{table-lists}
+use Rattle.rmi_list.proofs.draft.Draft.table.Goals as goal
+
+pub returns : goal.returns
+returns c = table-lists c.args.self.now c.delegate.new.self c.push.new.self c.push.result c.in_ok-rtt.rtt c.args.base c.args.level c.in_ok-rtt.ensures.lists c.in_ok-rtt.ensures.value c.push.ensures
