@@ -1,6 +1,6 @@
 -- What a launch that has a list has: regions that can be read, links that fit, and not too many pages.
-use Rattle.std.proofs.Common.{inl, inr, ◌≡◌, ℕ, ◌+◌, ◌-◌, ◌*◌, ◌^◌, ◌<◌, ◌≤◌, ◌∙◌, ap, subst, arith, true, false, not, eqb, List, [], ◌∷◌, ◌++◌, length}
-use Rattle.std.specs.Prelude.{Option, Ok, None, Some, max}
+use Rattle.std.proofs.Common.{inl, inr, ◌≡◌, ℕ, ◌+◌, ◌-◌, ◌*◌, ◌^◌, ◌<◌, ◌≤◌, ◌∙◌, refl, ap, subst, arith, true, false, not, eqb, List, [], ◌∷◌, ◌++◌, length}
+use Rattle.std.specs.Prelude.{Option, Result, Ok, Err, IsOk, None, Some, max}
 use Rattle.std.specs.List.{All, flat_map, slice_get}
 use Rattle.std.proofs.Math.Nat.{pow-le-pow_right}
 use Rattle.std.proofs.lemmas.Bool.{cases_Bool, ltb-false, or_parts}
@@ -206,7 +206,7 @@ steps-read l p (st ∷ ss) w entries most is_bounded room at =
       few = omega arith;
     }
 
-pub launch-readable : (l : LaunchData) (p : PlacedData) (entries : List Entry) → listed l p ≡ Ok entries
+launch-readable : (l : LaunchData) (p : PlacedData) (entries : List Entry) → listed l p ≡ Ok entries
     → IsReadableLaunch l p l.steps 16777216
 unfolding listed
 launch-readable l p entries at =
@@ -221,3 +221,11 @@ launch-readable l p entries at =
     let count : c.pool_count ≤ 16777216 = c.pool_fits.1 in
     let is_bounded : IsBounded c (opening c) = record { protected_end = pow-le-pow_right low width; pool = omega arith } in
     steps-read l p l.steps (opening c) (second.0) 16777216 is_bounded (omega arith) (second.1)
+
+-- the same of a launch of which it is known that it has a list
+pub listed-readable : (l : LaunchData) (p : PlacedData) → IsOk (listed l p) → IsReadableLaunch l p l.steps 16777216
+listed-readable l p is = let list = value-of (listed l p) is in launch-readable l p (list.0) (list.1)
+  where
+    value-of : {T E : Type 0} (r : Result T E) → IsOk r → (x : T) × (r ≡ Ok x)
+    value-of (Ok x) = λ is. (x, refl)
+    value-of (Err e) = λ is. absurd (cc)

@@ -1,5 +1,5 @@
 //! The plan of a launch that has its place.
-ghost use Rattle.std.specs.Prelude.{◌≡◌, [], ◌++◌, ◌^◌, ◌<◌, ◌≤◌, length, map, Some, Ok, IfOk, OnErr, OnOk};
+ghost use Rattle.std.specs.Prelude.{◌≡◌, [], ◌++◌, ◌^◌, ◌<◌, ◌≤◌, length, map, Some, Ok, IfOk, IsOk, OnErr, OnOk};
 ghost use Rattle.std.specs.List.{All, flat_map, slice_get};
 ghost use Rattle.rim_desc.specs.Measurement.{measurement_of};
 ghost use Rattle.rim_desc.specs.Rec.{rec_page_of};
@@ -25,7 +25,7 @@ use rtt_plan::{Run, run_from};
 use std::alloc::Global;
 
 impl LaunchPlan {
-    /// The plan of a launch that has its place and a list of commands. It has no page's digest yet.
+    /// The plan of a launch that has its place and this list of commands. It has no page's digest yet.
     pub fn read(
         alloc: Global,
         algo: Algo,
@@ -35,6 +35,23 @@ impl LaunchPlan {
     ) -> Result<LaunchPlan, NoMemory>
         requires algo { algo ≡ launch.now.config.algo }
         requires list { listed launch.now placed.now ≡ Ok _list.now }
+        ensures read { IfOk result (λ p. IsReadOf launch.now placed.now p) }
+        // A launch without steps takes no memory.
+        ensures growth { OnErr result (0 < length launch.now.steps) }
+    {
+        LaunchPlan::of_launch(alloc, algo, launch, placed)
+    }
+
+    /// The plan of a launch that has its place and a list of commands, which is not needed: that there is one was found by
+    /// `rmi_list::check`.
+    pub fn of_launch(
+        alloc: Global,
+        algo: Algo,
+        launch: &Launch,
+        placed: &Placed,
+    ) -> Result<LaunchPlan, NoMemory>
+        requires algo { algo ≡ launch.now.config.algo }
+        requires list { IsOk (listed launch.now placed.now) }
         ensures read { IfOk result (λ p. IsReadOf launch.now placed.now p) }
         // A launch without steps takes no memory.
         ensures growth { OnErr result (0 < length launch.now.steps) }

@@ -13,7 +13,7 @@ use refusal::NoMemory;
 use rim_chain::LaunchPlan;
 use rim_launch::Launch;
 use rim_manifest::Release;
-use rmi_list::list;
+use rmi_list::check;
 use std::alloc::Global;
 
 /// The launches of a release: where the items of each are, or why it is refused; and what is measured of those that are
@@ -52,8 +52,8 @@ fn accept(
     ensures plan { IfOk result (λ found. IsReadOf launch.now found.0 found.1) }
 {
     let placed = place(alloc, launch, files)?;
-    let list = list(alloc, launch, &placed)?;
-    let plan = LaunchPlan::read(alloc, launch.config().algo, launch, &placed, &list)?;
+    check(alloc, launch, &placed)?;
+    let plan = LaunchPlan::of_launch(alloc, launch.config().algo, launch, &placed)?;
     Ok((placed, plan))
 }
 
