@@ -66,8 +66,16 @@ impl<'a> Table<'a> {
         if !self.is_page(slot, &hashed.page) || self.digests[slot].is_some() {
             return Err(hashed);
         }
-        self.digests[slot] = Some(hashed.digest);
+        self.keep(slot, hashed);
         Ok(())
+    }
+
+    /// Keeps a digest in the slot of its page, which is empty. Nothing is compared.
+    pub fn keep(&mut self, slot: usize, hashed: Hashed<'a>)
+        requires { CanFill self.old slot (page_view hashed.page) }
+        ensures { self.new ≡ with_digest self.old slot hashed.entry.digest }
+    {
+        self.digests[slot] = Some(hashed.digest);
     }
 
     /// The slot of the page that has a key.

@@ -2,6 +2,7 @@ pub mod Extending
 pub mod Keys
 pub mod LinkByLink
 pub mod Fitting
+pub mod Begins
 pub mod KnownFronts
 pub mod FrontValues
 pub mod Readable

@@ -2,7 +2,7 @@
 use Rattle.std.proofs.Common.{◌≡◌, ℕ, zero, suc, ◌+◌, ◌<◌, ◌≤◌, ◌∙◌, sym, refl, ap, arith, Bool, true, false, ◌&&◌, List, [], ◌∷◌, ◌++◌, length, map, take, drop, get_or, append_assoc}
 use Rattle.std.specs.Prelude.{◌↔◌, Some, None, is_some}
 use Rattle.std.specs.List.{range_with_len}
-use Rattle.std.proofs.lemmas.List.{drop_at, get_or-map, length-map, map-append, map_push, take_at, take_more}
+use Rattle.std.proofs.lemmas.List.{drop_at, length-map, map-append, map_push, take_at}
 use Rattle.std.proofs.lemmas.List.Folds.{list_all-append, list_all_at}
 use Rattle.std.proofs.lemmas.List.FromFn.{get_or-map-range_with_len, length-map-range_with_len, map-range_with_len_more}
 use Rattle.rim_desc.specs.declared.measurement.Measurement.{Measurement}
@@ -12,7 +12,6 @@ use Rattle.rim_chain.specs.Links.{key_after, keys_in, keys_of, page_count}
 use Rattle.rim_chain.specs.Rows.{IsRowOf, has_all}
 use Rattle.rim_chain.specs.declared.link.Link.{Link}
 use Rattle.rim_chain.specs.inside.Filling.{AreAdded}
-use Rattle.rim_chain.proofs.Keys.{keys-next, length-keys_in}
 use Rattle.rim_chain.proofs.LinkByLink.{keys-taken, keys-within}
 
 -- ---- one key more
@@ -37,28 +36,6 @@ missing-at t key n count inside none =
     let size : length keys ≡ count = length-map-range_with_len (key_after key) 0 count in
     let at : get_or keys n key ≡ key_after key n = get_or-map-range_with_len (key_after key) 0 count n n key inside (omega arith) in
     list_all_at (λ k. is_some (digest_at t k)) keys n key (omega arith) (ap (λ k. is_some (digest_at t k)) at ∙ sym (ap is_some none))
-
-pub row-more : (t : TableView) (key : PageKey) (n : ℕ) (digests : List Measurement) (d : Measurement) → n < length digests → Some (get_or digests n d) ≡ digest_at t (key_after key n)
-    → IsRowOf t (map (key_after key) (range_with_len 0 n)) (take n digests)
-    → IsRowOf t (map (key_after key) (range_with_len 0 (n + 1))) (take (n + 1) digests)
-row-more t key n digests d inside at row =
-    let keys : List PageKey = map (key_after key) (range_with_len 0 n) in
-    ap (map (digest_at t)) (keys-longer key n)
-    ∙ (map_push (digest_at t) keys (key_after key n)
-    ∙ (ap (λ xs. xs ++ digest_at t (key_after key n) ∷ []) row
-    ∙ (ap (λ o. map (λ m. Some m) (take n digests) ++ o ∷ []) (sym at)
-    ∙ sym (ap (map (λ m. Some m)) (take_more digests n d inside) ∙ map_push (λ m. Some m) (take n digests) (get_or digests n d)))))
-
--- a row has at each place the digest of its key
-pub row-at : (t : TableView) (key : PageKey) (n : ℕ) (digests : List Measurement) (d : Measurement) → n < length digests
-    → IsRowOf t (map (key_after key) (range_with_len 0 (length digests))) digests → digest_at t (key_after key n) ≡ Some (get_or digests n d)
-row-at t key n digests d inside row =
-    let keys : List PageKey = map (key_after key) (range_with_len 0 (length digests)) in
-    let size : length keys ≡ length digests = length-map-range_with_len (key_after key) 0 (length digests) in
-    let at : get_or keys n key ≡ key_after key n = get_or-map-range_with_len (key_after key) 0 (length digests) n n key inside (omega arith) in
-    ap (digest_at t) (sym at)
-    ∙ (sym (get_or-map (digest_at t) keys n key None (omega arith))
-    ∙ (ap (λ xs. get_or xs n None) row ∙ get_or-map (λ m. Some m) digests n d None inside))
 
 -- ---- link by link
 
@@ -120,11 +97,3 @@ row-parts t front back own others count = (cut, join)
 
     join : IsRowOf t front own × IsRowOf t back others → IsRowOf t (front ++ back) (own ++ others)
     join rows = left ∙ (ap (λ xs. xs ++ map (digest_at t) back) rows.0 ∙ (ap (λ xs. map (λ m. Some m) own ++ xs) rows.1 ∙ sym right))
-
--- the row of the links that are left is that of the first of them, and that of the others
-pub row-left : (t : TableView) (links : List Link) (i : ℕ) (d : Link) (digests own others : List Measurement) → i < length links → digests ≡ own ++ others
-    → length own ≡ page_count (get_or links i d)
-    → IsRowOf t (keys_of (drop i links)) digests ↔ (IsRowOf t (keys_in (get_or links i d)) own × IsRowOf t (keys_of (drop (i + 1) links)) others)
-row-left t links i d digests own others inside split count =
-    rw (keys-next links i d inside, split)
-    (row-parts t (keys_in (get_or links i d)) (keys_of (drop (i + 1) links)) own others (length-keys_in (get_or links i d) ∙ sym count))

@@ -1,5 +1,5 @@
 -- Which links a plan may have. This project's choice.
-use Rattle.std.specs.Prelude.{◌+◌, ◌*◌, ◌^◌, ◌<◌, ⊤, List, length}
+use Rattle.std.specs.Prelude.{◌≡◌, ◌+◌, ◌*◌, ◌^◌, ◌<◌, ⊤, List, length}
 use Rattle.std.specs.List.{All}
 use Rattle.rim_chain.specs.Links.{keys_of}
 use Rattle.rim_chain.specs.declared.link.Link.{Link}
@@ -12,6 +12,13 @@ IsFitting (link.Pages ipa key count) = (ipa + 4096 * count < 2 ^ 64) × (key.num
 IsFitting (link.Unmeasured ipa count) = ipa + 4096 * count < 2 ^ 64
 IsFitting (link.Rec content) = ⊤
 
--- links that fit, with a number of measured pages that has 64 bits
+-- a link's pages are the first ones of their item
+abbrev pub BeginsItem : Link → Type 0
+BeginsItem (link.Blocks base size count) = ⊤
+BeginsItem (link.Pages ipa key count) = key.number ≡ 0
+BeginsItem (link.Unmeasured ipa count) = ⊤
+BeginsItem (link.Rec content) = ⊤
+
+-- links that fit, whose pages are the first ones of their items, with a number of measured pages that has 64 bits
 abbrev pub AreFitting : List Link → Type 0
-AreFitting links = All IsFitting links × (length (keys_of links) < 2 ^ 64)
+AreFitting links = All IsFitting links × All BeginsItem links × (length (keys_of links) < 2 ^ 64)

@@ -3,24 +3,34 @@ use crate::plan::LaunchPlan;
 use crate::siblings::Head;
 use refusal::NoMemory;
 use std::alloc::Global;
+use std::cmp::Reverse;
+use std::collections::BinaryHeap;
 
-/// A launch, and the earlier one from whose front it goes on, after this many links.
+/// A launch, and the earlier one from whose front it goes on.
 #[derive(Clone, Copy, Debug, PartialEq, Eq, PartialOrd, Ord)]
 struct Follower {
     launch: usize,
-    links: usize,
     number: usize,
 }
 
-/// Launches that go on from no other, the longest first; then those whose front is chained, as that comes about. So
-/// fronts are chained early, and few launches are chained without theirs.
+/// A launch that may be chained, and how many parts the longest way has that begins with it.
+#[derive(Clone, Copy, Debug, PartialEq, Eq, PartialOrd, Ord)]
+struct Candidate {
+    parts: u64,
+    /// Of two with as long a way the one with the least number comes first.
+    number: Reverse<usize>,
+}
+
+/// Launches of which no front is still to be chained, the one with the longest way first. A way is a launch, one that goes
+/// on from it, one that goes on from that, and so on: no number of workers chains it in less time. So launches that others
+/// wait for are chained early, and few are chained without their fronts.
 #[derive(Drop)]
 pub(crate) struct ChainOrder {
-    launches: Vec<usize>,
-    /// How many of them were passed.
-    passed: usize,
-    /// The other launches, by the one that each goes on from, and with the most left to chain first.
+    /// Of each launch, how many parts its longest way has.
+    ways: Vec<u64>,
+    /// The launches that go on from others, by the one that each goes on from.
     followers: Vec<Follower>,
+    candidates: BinaryHeap<Candidate>,
 }
 
 impl ChainOrder {
@@ -29,53 +39,91 @@ impl ChainOrder {
         plans: &[LaunchPlan],
         heads: &[Option<Head>],
     ) -> Result<ChainOrder, NoMemory> {
-        let mut launches = Vec::with_capacity(alloc, plans.len())?;
-        let mut followers = Vec::with_capacity(alloc, plans.len())?;
-        for number in 0..plans.len() {
-            match heads.get(number) {
-                Some(Some(Head { launch, links })) => followers.push(Follower {
-                    launch: *launch,
-                    links: *links,
-                    number,
-                })?,
-                _ => launches.push(number)?,
-            }
-        }
-        launches.sort_unstable_by(|a, b| parts_of(plans, *b).cmp(&parts_of(plans, *a)));
-        followers.sort_unstable();
+        let followers = followers_of(alloc, heads)?;
+        let ways = ways_of(alloc, plans, heads)?;
+        // Each launch is offered when it is ready, and again when the launch that it goes on from is chained.
+        let candidates = BinaryHeap::with_capacity(alloc, 2 * plans.len())?;
         Ok(ChainOrder {
-            launches,
-            passed: 0,
+            ways,
             followers,
+            candidates,
         })
     }
 
-    /// The launch that had best be chained next.
-    pub(crate) fn next(&self) -> Option<usize> {
-        self.launches.get(self.passed).copied()
+    /// Offers a launch, where room was reserved for it.
+    pub(crate) fn offer(&mut self, number: usize) {
+        let (Some(parts), true) = (self.ways.get(number).copied(), self.has_room()) else {
+            return;
+        };
+        let _ = self.candidates.push(Candidate {
+            parts,
+            number: Reverse(number),
+        });
     }
 
-    /// Passes that launch.
-    pub(crate) fn pass(&mut self) {
-        self.passed = self.passed.saturating_add(1);
+    fn has_room(&self) -> bool {
+        self.candidates.len() < self.candidates.capacity()
     }
 
-    /// Adds the launches that go on from one that was chained.
-    pub(crate) fn add_followers(&mut self, launch: usize) {
+    /// Offers the launches that go on from one that was chained.
+    pub(crate) fn offer_followers(&mut self, launch: usize) {
         let from = self
             .followers
             .partition_point(|other| other.launch < launch);
         for at in from..self.followers.len() {
-            let follower = self.followers[at];
-            if follower.launch != launch || self.launches.len() >= self.launches.capacity() {
-                return;
+            match self.followers.get(at).copied() {
+                Some(follower) if follower.launch == launch => self.offer(follower.number),
+                _ => return,
             }
-            self.launches.push_reserved(follower.number);
         }
+    }
+
+    /// Takes the launch that had best be chained next.
+    pub(crate) fn next(&mut self) -> Option<usize> {
+        let candidate = self.candidates.pop()?;
+        Some(candidate.number.0)
     }
 }
 
-/// How many parts a launch measures after its realm.
-fn parts_of(plans: &[LaunchPlan], number: usize) -> u64 {
-    plans.get(number).map_or(0, |plan| plan.parts_after(0))
+/// The launches that go on from others, by the one that each goes on from.
+fn followers_of(alloc: Global, heads: &[Option<Head>]) -> Result<Vec<Follower>, NoMemory> {
+    let mut followers = Vec::with_capacity(alloc, heads.len())?;
+    for number in 0..heads.len() {
+        if let Some(head) = heads[number] {
+            followers.push(Follower {
+                launch: head.launch,
+                number,
+            })?;
+        }
+    }
+    followers.sort_unstable();
+    Ok(followers)
+}
+
+/// Of each launch, how many parts its longest way has. Whoever goes on from a launch has a greater number.
+fn ways_of(
+    alloc: Global,
+    plans: &[LaunchPlan],
+    heads: &[Option<Head>],
+) -> Result<Vec<u64>, NoMemory> {
+    let mut ways = vec![in alloc; 0; plans.len()]?;
+    for number in (0..plans.len()).rev() {
+        let head = heads.get(number).copied().flatten();
+        let links = head.map_or(0, |head| head.links);
+        let way = plans[number]
+            .parts_after(links)
+            .saturating_add(ways[number]);
+        ways[number] = way;
+        if let Some(head) = head {
+            raise(&mut ways, head.launch, way);
+        }
+    }
+    Ok(ways)
+}
+
+/// Notes a way that goes on from a launch, where it has no longer one.
+fn raise(ways: &mut [u64], launch: usize, way: u64) {
+    if let Some(longest) = ways.get_mut(launch) {
+        *longest = way.max(*longest);
+    }
 }

@@ -1,5 +1,5 @@
 //! Rows of the digests of a launch's pages.
-ghost use Rattle.std.specs.Prelude.{◌≡◌, ◌+◌, ◌^◌, ◌<◌, ◌≤◌, [], length, map, true, false, Some, IsTrue, ◌↔◌, option_map};
+ghost use Rattle.std.specs.Prelude.{◌≡◌, ◌+◌, ◌^◌, ◌<◌, ◌≤◌, [], length, map, true, false, option_map};
 ghost use Rattle.std.specs.List.{range_with_len};
 ghost use Rattle.page_jobs.specs.Table.{digest_at};
 ghost use Rattle.rim_chain.specs.Links.{key_after, keys_in, keys_of, page_count};
@@ -30,24 +30,6 @@ impl LaunchPlan {
                 row.truncate(0);
                 return false;
             }
-        }
-        true
-    }
-
-    /// Whether a row has just the digests that a table has for the plan's pages, in order.
-    pub fn is_row(&self, table: &Table, row: &DigestRow) -> bool
-        ensures { IsTrue result ↔ IsRowOf table.now (keys_of self.now.links) row.now.digests }
-    {
-        let mut digests = row.digests();
-        if digests.len() != self.pages() {
-            return false;
-        }
-        for link in self.links() {
-            let (own, others) = digests.split_at(page_count(link) as usize);
-            if !are_digests(table, link, own) {
-                return false;
-            }
-            digests = others;
         }
         true
     }
@@ -96,12 +78,6 @@ fn digest_near(table: &Table, guess: usize, key: &PageKey) -> Option<(Measuremen
     Some((digest, slot))
 }
 
-fn is_same_digest(a: &Measurement, b: &Measurement) -> bool
-    ensures { IsTrue result ↔ (a.now ≡ b.now) }
-{
-    *a == *b
-}
-
 /// The key of the page n pages after another in the same item.
 fn key_after(key: &PageKey, n: u64) -> PageKey
     requires { key.now.number + n < 2 ^ 64 }
@@ -111,34 +87,4 @@ fn key_after(key: &PageKey, n: u64) -> PageKey
         number: key.number + n,
         ..*key
     }
-}
-
-/// Whether these are the digests that a table has for a link's pages.
-fn are_digests(table: &Table, link: &Link, digests: &[Measurement]) -> bool
-    requires fits { IsFitting link.now }
-    requires count { length digests.now ≡ page_count link.now }
-    ensures { IsTrue result ↔ IsRowOf table.now (keys_in link.now) digests.now }
-{
-    match link {
-        Link::Pages { key, .. } => are_pages(table, key, digests),
-        _ => true,
-    }
-}
-
-/// Whether these are the digests that a table has for as many pages of an item, from the one that has the key on.
-fn are_pages(table: &Table, key: &PageKey, digests: &[Measurement]) -> bool
-    requires { key.now.number + length digests.now < 2 ^ 64 }
-    ensures { IsTrue result ↔ IsRowOf table.now (map (key_after key.now) (range_with_len 0 (length digests.now))) digests.now }
-{
-    let mut slot = 0;
-    for number in 0..digests.len() {
-        let Some((digest, at)) = digest_near(table, slot, &key_after(key, number as u64)) else {
-            return false;
-        };
-        if !is_same_digest(&digest, &digests[number]) {
-            return false;
-        }
-        slot = at.saturating_add(1);
-    }
-    true
 }

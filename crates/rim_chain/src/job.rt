@@ -125,27 +125,6 @@ impl<'a> LaunchRim<'a> {
         self.number
     }
 
-    /// Its plan.
-    pub fn plan(&self) -> &'a LaunchPlan
-        ensures { result.now ≡ self.now.job.plan }
-    {
-        self.plan
-    }
-
-    /// The row with the digests of its pages.
-    pub fn row(&self) -> &DigestRow
-        ensures { result.now ≡ self.now.job.row }
-    {
-        &self.row
-    }
-
-    /// The row, to be filled for another launch.
-    pub fn into_row(self) -> DigestRow
-        ensures { result ≡ self.entry.job.row }
-    {
-        self.row
-    }
-
     /// Its marks, where it has some, each with the value of the launch's front up to it, where the chain came to it.
     pub fn into_marks(self) -> Option<Vec<Mark>>
         ensures { IfSome result (λ marks. AreFronts self.entry.job.plan self.entry.job.row.digests marks.items) }

@@ -5,7 +5,7 @@ ghost use Rattle.rim_chain.specs.Fronts.{HaveFront};
 ghost use Rattle.rim_chain.specs.Links.{keys_in, keys_of, page_count};
 ghost use Rattle.rim_chain.specs.inside.Counted.{AreLinks};
 ghost use Rattle.rim_chain.specs.inside.UnderWay.{IsEmpty};
-ghost use Rattle.rim_chain.specs.Fitting.{AreFitting, IsFitting};
+ghost use Rattle.rim_chain.specs.Fitting.{AreFitting, BeginsItem, IsFitting};
 
 use crate::link::Link;
 use page_jobs::PageKey;
@@ -34,8 +34,8 @@ impl Model for LaunchPlan {
 }
 
 impl LaunchPlan {
-    /// A plan of these parts, or `None` where the end of a link's addresses or page numbers, or the number of measured
-    /// pages, is 2^64 or more.
+    /// A plan of these parts, or `None` where a link of pages does not begin with the first page of its item, or the end of
+    /// a link's addresses or page numbers, or the number of measured pages, is 2^64 or more.
     pub fn new(params: RealmParams, links: Vec<Link>) -> Option<LaunchPlan>
         ensures valid { IsSome result ↔ AreFitting links.items }
         ensures value { IfSome result (λ p. p ≡ record { params = params; links = links.items }) }
@@ -84,8 +84,8 @@ impl LaunchPlan {
         self.params
     }
 
-    /// What follows the realm.
-    pub(crate) fn links(&self) -> &[Link]
+    /// What follows the realm. The pages of a link are the first ones of their item.
+    pub fn links(&self) -> &[Link]
         ensures links { result.now ≡ self.now.links }
         ensures kept { AreLinks self.now.links (length (keys_of self.now.links)) }
     {
@@ -194,6 +194,9 @@ fn checked_pages(links: &[Link]) -> Option<usize>
         if !is_fitting(link) {
             return None;
         }
+        if !begins_item(link) {
+            return None;
+        }
         let Some(more) = pages.checked_add(page_count(link)) else {
             return None;
         };
@@ -212,6 +215,16 @@ fn is_fitting(link: &Link) -> bool
         }
         Link::Unmeasured { ipa, count } => ends_within(*ipa, 4096, *count),
         Link::Rec { .. } => true,
+    }
+}
+
+/// Whether a link's pages are the first ones of their item.
+fn begins_item(link: &Link) -> bool
+    ensures { IsTrue result ↔ BeginsItem link.now }
+{
+    match link {
+        Link::Pages { key, .. } => key.number == 0,
+        _ => true,
     }
 }
 

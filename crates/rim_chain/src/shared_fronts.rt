@@ -113,19 +113,35 @@ impl SharedFronts {
         ensures shared { (t : TableView) (ps : List PlanView) (p : PlanView) → slice_get ps number ≡ Some p → IfSome marks (λ own. HaveOwnValues t p own.items) → AreShared t ps self.old → AreShared t ps self.new }
     {
         let _old = replaced(&mut self.marks, number, marks);
-        self.order.add_followers(number);
+        self.order.offer_followers(number);
     }
 
-    /// The launch that had best be chained next: one that goes on from no other, or one whose front is chained.
-    pub fn next(&self) -> Option<usize> {
-        self.order.next()
-    }
-
-    /// Passes that launch.
-    pub fn pass(&mut self)
+    /// Notes that the pages of a launch are hashed. Where it goes on from no other, or its front is chained, it may be
+    /// chained now; else that is noted when its front is chained.
+    pub fn note_ready(&mut self, number: usize)
         ensures { self.new ≡ self.old }
     {
-        self.order.pass();
+        if self.is_front_known(number) {
+            self.order.offer(number);
+        }
+    }
+
+    /// Whether a launch goes on from no other, or its front is chained.
+    fn is_front_known(&self, number: usize) -> bool {
+        let Some(Some(head)) = self.heads.get(number) else {
+            return true;
+        };
+        let Some(marks) = marks_at(self.marks.as_slice(), head.launch) else {
+            return false;
+        };
+        marked_front(marks, head.links).is_some()
+    }
+
+    /// Takes the launch that had best be chained next, of those that were noted and may be chained.
+    pub fn next(&mut self) -> Option<usize>
+        ensures { self.new ≡ self.old }
+    {
+        self.order.next()
     }
 }
 

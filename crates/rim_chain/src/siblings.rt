@@ -1,5 +1,5 @@
 //! Which launches begin alike. Whatever is found here, each launch chains to the same value.
-ghost use Rattle.std.specs.Prelude.{◌≡◌, IfOk, IfSome, None};
+ghost use Rattle.std.specs.Prelude.{IfOk, IfSome, None};
 ghost use Rattle.std.specs.List.{All};
 ghost use Rattle.rim_chain.specs.inside.Marks.{HaveNoValues};
 

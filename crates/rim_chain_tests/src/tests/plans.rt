@@ -86,7 +86,7 @@ const TOO_FAR: [Link; 4] = [
     },
 ];
 
-fn check_too_far(rt: &impl Abort, alloc: Global, link: Link) {
+fn check_refused(rt: &impl Abort, alloc: Global, link: Link) {
     let mut links = Vec::new(alloc);
     push(rt, &mut links, link);
     assert!(rt;
@@ -98,6 +98,20 @@ fn check_too_far(rt: &impl Abort, alloc: Global, link: Link) {
 #[test]
 fn links_end_below_2_to_64(rt: HostRuntime) {
     for link in TOO_FAR {
-        check_too_far(&rt, rt.alloc(), link);
+        check_refused(&rt, rt.alloc(), link);
     }
+}
+
+#[test]
+fn a_link_begins_with_the_first_page_of_its_item(rt: HostRuntime) {
+    let key = PageKey {
+        number: 1,
+        ..first_key(Algo::Sha256)
+    };
+    let link = Link::Pages {
+        ipa: 0,
+        key,
+        count: 1,
+    };
+    check_refused(&rt, rt.alloc(), link);
 }

@@ -1,4 +1,5 @@
 use Rattle.std.proofs.Common.{arith}
+use Rattle.rim_chain.proofs.Begins.{steps-begin}
 use Rattle.rim_chain.proofs.Readable.{listed-readable, least-low}
 use Rattle.rim_chain.proofs.ReadParts.{read-of}
 use Rattle.rim_chain.proofs.plan.LaunchPlan.of_launch.Goals as goal
@@ -17,8 +18,9 @@ pub of_links-requires : goal.of_links-requires
 of_links-requires c =
     let fit = (listed-readable c.args.launch.now c.args.placed.now c.requires.list).fit in
     let links = rw (c.new-links.ensures.items, c.steps.ensures.value) at c.in_ok-push_steps.ensures.links in
+    let begin = steps-begin c.args.launch.now c.args.placed.now c.args.launch.now.steps in
     let count = rw (c.as_slice.ensures.value, links) at c.pages_of-pages.ensures in
-    rw links (record { fit = fit; pages = count })
+    rw links (record { fit = fit; begin = begin; pages = count })
 
 pub returns-clause-read : goal.returns-clause-read
 returns-clause-read c =
