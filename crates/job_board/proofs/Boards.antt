@@ -73,6 +73,10 @@ ready_filled b l p k plan ready =
     list_all-from_AllPass (λ key. is_some (digest_at b.table key)) (keys_of p.links) (λ i d lt.
     digest_there b.table b.core.pages (get_or b.core.needs l []) (get_or (keys_of p.links) i d) (k.needs l p plan i d lt) k.filled ready)
 
+-- a launch that is held is ready
+pub held_filled : (b : BoardView) (w l : ℕ) (p : PlanView) → IsBoard b → slice_get b.plans l ≡ Some p → slice_get b.core.launches l ≡ Some (Held w) → has_all b.table (keys_of p.links) ≡ true
+held_filled b w l p k plan held = ready_filled b l p k plan (history_ready b.core b.history k.history l (ap is_given held))
+
 -- a launch with a value is done, so it is ready
 given_done : (o : Option JobState) (r : Option (Option Measurement)) (m : Measurement) → option_map is_some r ≡ option_map is_done o → r ≡ Some (Some m) → is_given o ≡ true
 given_done None r m same at = let e = sym same ∙ ap (option_map is_some) at in cc

@@ -14,3 +14,13 @@ pub mod Boards
 pub mod BoardRows
 pub mod Fresh
 pub mod Ends
+pub mod Prefixed
+pub mod Indexed
+pub mod Waiting
+pub mod Needed
+pub mod Listing
+pub mod Lined
+pub mod Slots
+pub mod Grouped
+pub mod OwnNeeds
+pub mod OwnRows

@@ -1,13 +1,13 @@
 -- What a core counts and marks is right after each step.
-use Rattle.std.proofs.Common.{min, ◌≡◌, ℕ, zero, suc, ◌+◌, ◌-◌, ◌<◌, ◌≤◌, Bool, true, false, cond, eqb, ◌&&◌, List, [], ◌∷◌, length, get_or, set, map, replicate, Option, Some, None, Result, Ok, Err, refl, sym, ap, ◌∙◌, subst, arith, inl, inr}
-use Rattle.std.specs.Prelude.{◌==◌, ◌⊎◌, IfSome, OnErr}
+use Rattle.std.proofs.Common.{min, ◌≡◌, ℕ, zero, suc, ◌+◌, ◌-◌, ◌<◌, ◌≤◌, Bool, true, false, cond, eqb, ◌&&◌, List, [], ◌∷◌, length, set, map, replicate, Option, Some, None, Result, Ok, Err, refl, sym, ap, ◌∙◌, subst, arith}
+use Rattle.std.specs.Prelude.{◌==◌, IfSome, OnErr}
 use Rattle.refusal.specs.Answer.{Matches}
 use Rattle.job_board.specs.declared.job.CoreFault.{CoreFault}
-use Rattle.std.specs.List.{count_by, list_all, range_with_len, slice_get}
-use Rattle.std.proofs.lemmas.List.{get_or_read, length-replicate}
+use Rattle.std.specs.List.{count_by, list_all, slice_get}
+use Rattle.std.proofs.lemmas.List.{length-replicate}
 use Rattle.std.proofs.lemmas.List.Sums.{sum_by-cons}
 use Rattle.std.proofs.lemmas.Option.{same_Some}
-use Rattle.std.proofs.lemmas.Bool.{and_parts, cases_lt}
+use Rattle.std.proofs.lemmas.Bool.{and_parts}
 use Rattle.std.proofs.lemmas.Bool.Decides.{nat_tests}
 use Rattle.job_board.specs.declared.job.JobId.{JobId}
 use Rattle.job_board.specs.declared.job.JobId.TheVariants.{Page, Launch}
@@ -15,14 +15,13 @@ use Rattle.job_board.specs.declared.job.JobState.{JobState}
 use Rattle.job_board.specs.declared.job.JobState.TheVariants.{Free, Held, Done}
 use Rattle.job_board.specs.declared.job.Event.{Event}
 use Rattle.job_board.specs.declared.job.Event.TheVariants.{Take, Put, Retire}
-use Rattle.job_board.specs.Jobs.{CoreState, IsCore, NeedsWithin, freed, held_count, is_done, is_free, is_over, is_page_done, is_ready, opening, state_of, with_page, with_launch}
+use Rattle.job_board.specs.Jobs.{CoreState, IsCore, NeedsWithin, freed, held_count, is_done, is_free, is_over, opening, state_of, with_page, with_launch}
 use Rattle.job_board.specs.Step.{core_step}
 use Rattle.job_board.specs.inside.Notes.{held_of}
-use Rattle.job_board.specs.inside.Marks.{Marks, Passed, lowered_launch, lowered_page}
+use Rattle.job_board.specs.inside.Marks.{Marks, Passed, lowered_page}
 use Rattle.job_board.proofs.Counting.{bit, sum_by-slice_set, sum_by-replicate_zero, sum-freed_done}
 use Rattle.job_board.proofs.OneJob.{slice_get-set_other, slice_get-set_same}
 use Rattle.job_board.proofs.Noted.{released_none, released_one}
-use Rattle.job_board.proofs.Ready.{stays_done}
 use Rattle.job_board.proofs.Kept as kept
 
 -- what every core keeps stays so
@@ -37,7 +36,7 @@ core_next s t e is c = record {
 -- ---- free pages
 
 -- a place that is free after another one was made so was free before
-not_free_at : (xs : List JobState) (j k : ℕ) (x y : JobState) (b : Bool) → eqb k j ≡ b → slice_get xs j ≡ Some x → is_free y ≡ false → slice_get (set xs j y) k ≡ Some Free → slice_get xs k ≡ Some Free
+pub not_free_at : (xs : List JobState) (j k : ℕ) (x y : JobState) (b : Bool) → eqb k j ≡ b → slice_get xs j ≡ Some x → is_free y ≡ false → slice_get (set xs j y) k ≡ Some Free → slice_get xs k ≡ Some Free
 not_free_at xs j k x y true is at taken free =
     let same : k ≡ j = grind (arith, nat_tests) in
     let now : slice_get (set xs j y) k ≡ Some y = ap (slice_get (set xs j y)) same ∙ slice_get-set_same xs j x y at in
@@ -50,10 +49,9 @@ passed_set : (n : ℕ) (xs : List JobState) (j : ℕ) (x y : JobState) → slice
 passed_set n xs j x y at taken before = λ k lt free. before k lt (not_free_at xs j k x y (eqb k j) refl at taken free)
 
 -- a job that is made so, and not free
-passed_job : (f g : ℕ) (s : CoreState) (job : JobId) (x y : JobState) → state_of s job ≡ Some x → is_free y ≡ false
-    → Passed f s.pages × Passed g s.launches → Passed f (with_page job y s.pages) × Passed g (with_launch job y s.launches)
-passed_job f g s (Page j) x y at taken before = (passed_set f s.pages j x y at taken before.0, before.1)
-passed_job f g s (Launch l) x y at taken before = (before.0, passed_set g s.launches l x y at taken before.1)
+passed_job : (f : ℕ) (s : CoreState) (job : JobId) (x y : JobState) → state_of s job ≡ Some x → is_free y ≡ false → Passed f s.pages → Passed f (with_page job y s.pages)
+passed_job f s (Page j) x y at taken before = passed_set f s.pages j x y at taken before
+passed_job f s (Launch l) x y at taken before = before
 
 -- a job that is free again
 passed_freed : (n : ℕ) (xs : List JobState) (j : ℕ) → Passed n xs → Passed (min n j) (set xs j Free)
@@ -67,15 +65,14 @@ abbrev pub HeldIs : CoreState → ℕ → Option JobId → Type 0
 HeldIs s w None = held_count s w ≡ 0
 HeldIs s w (Some job) = (state_of s job ≡ Some (Held w)) × (held_count s w ≡ 1)
 
-passed_released : (f g : ℕ) (s : CoreState) (w : ℕ) (held : Option JobId) → HeldIs s w held
-    → Passed f s.pages × Passed g s.launches → Passed (lowered_page f held) (map (freed w) s.pages) × Passed (lowered_launch g held) (map (freed w) s.launches)
-passed_released f g s w None h before = subst (λ (v : CoreState). Passed f v.pages × Passed g v.launches) (released_none s w h) before
-passed_released f g s w (Some (Page j)) h before =
+passed_released : (f : ℕ) (s : CoreState) (w : ℕ) (held : Option JobId) → HeldIs s w held → Passed f s.pages → Passed (lowered_page f held) (map (freed w) s.pages)
+passed_released f s w None h before = subst (λ (v : CoreState). Passed f v.pages) (released_none s w h) before
+passed_released f s w (Some (Page j)) h before =
     let one : held_count s w ≤ 1 = omega (arith, h.1) in
-    subst (λ (v : CoreState). Passed (min f j) v.pages × Passed g v.launches) (released_one s w (Page j) h.0 one) (passed_freed f s.pages j before.0, before.1)
-passed_released f g s w (Some (Launch l)) h before =
+    subst (λ (v : CoreState). Passed (min f j) v.pages) (released_one s w (Page j) h.0 one) (passed_freed f s.pages j before)
+passed_released f s w (Some (Launch l)) h before =
     let one : held_count s w ≤ 1 = omega (arith, h.1) in
-    subst (λ (v : CoreState). Passed f v.pages × Passed (min g l) v.launches) (released_one s w (Launch l) h.0 one) (before.0, passed_freed g s.launches l before.1)
+    subst (λ (v : CoreState). Passed f v.pages) (released_one s w (Launch l) h.0 one) before
 
 -- ---- jobs done
 
@@ -125,38 +122,32 @@ none_left xs left is =
 -- ---- the marks
 
 -- what was seen to be done stays done
-marks_next : (f g p q f' g' p' q' : ℕ) (seen : List ℕ) (s t : CoreState) (e : Event) → core_step s e ≡ Ok t
-    → Marks f g p q seen s
-    → Passed f' t.pages × Passed g' t.launches
+marks_next : (f p q f' p' q' : ℕ) (s t : CoreState) (e : Event) → core_step s e ≡ Ok t
+    → Marks f p q s
+    → Passed f' t.pages
     → p' + count_by is_done t.pages ≡ length t.pages
     → q' + count_by is_done t.launches ≡ length t.launches
-    → Marks f' g' p' q' seen t
-marks_next f g p q f' g' p' q' seen s t e is m free pages launches = record {
+    → Marks f' p' q' t
+marks_next f p q f' p' q' s t e is m free pages launches = record {
   free = free;
   pages = pages;
   launches = launches;
-  size = m.size ∙ sym (kept.launches s t e is);
-  within = λ l. subst (λ (ns : List (List ℕ)). get_or seen l 0 ≤ length (get_or ns l [])) (sym (kept.needs s t e is)) (m.within l);
-  done = λ l k lt.
-      let here : is_page_done t.pages (get_or (get_or s.needs l []) k 0) ≡ true =
-      subst (λ (v : CoreState). is_page_done v.pages (get_or (get_or s.needs l []) k 0) ≡ true) (kept.next_is s t e is) (stays_done s e (get_or (get_or s.needs l []) k 0) (kept.accepted s t e is) (m.done l k lt)) in
-      subst (λ (ns : List (List ℕ)). is_page_done t.pages (get_or (get_or ns l []) k 0) ≡ true) (sym (kept.needs s t e is)) here;
 }
 
-pub marks_take : (f g p q : ℕ) (seen : List ℕ) (s t : CoreState) (w : ℕ) (job : JobId) → core_step s (Take w job) ≡ Ok t → Marks f g p q seen s → Marks f g p q seen t
-marks_take f g p q seen s t w job is m =
+pub marks_take : (f p q : ℕ) (s t : CoreState) (w : ℕ) (job : JobId) → core_step s (Take w job) ≡ Ok t → Marks f p q s → Marks f p q t
+marks_take f p q s t w job is m =
     let gives = kept.take_says s t w job is in
     let pages = ap (λ (v : CoreState). count_by is_done v.pages) gives.2 ∙ pages_same s job Free (Held w) gives.0 refl in
     let launches = ap (λ (v : CoreState). count_by is_done v.launches) gives.2 ∙ launches_same s job Free (Held w) gives.0 refl in
-    marks_next f g p q f g p q seen s t (Take w job) is m
-    (subst (λ (v : CoreState). Passed f v.pages × Passed g v.launches) (sym gives.2) (passed_job f g s job Free (Held w) gives.0 refl m.free))
+    marks_next f p q f p q s t (Take w job) is m
+    (subst (λ (v : CoreState). Passed f v.pages) (sym gives.2) (passed_job f s job Free (Held w) gives.0 refl m.free))
     (omega (arith, pages, m.pages, kept.pages s t (Take w job) is))
     (omega (arith, launches, m.launches, kept.launches s t (Take w job) is))
 
-passed_put : (f g : ℕ) (s t : CoreState) (w : ℕ) (job : JobId) → core_step s (Put w job) ≡ Ok t → Passed f s.pages × Passed g s.launches → Passed f t.pages × Passed g t.launches
-passed_put f g s t w job is before =
+passed_put : (f : ℕ) (s t : CoreState) (w : ℕ) (job : JobId) → core_step s (Put w job) ≡ Ok t → Passed f s.pages → Passed f t.pages
+passed_put f s t w job is before =
     let gives = kept.put_says s t w job is in
-    subst (λ (v : CoreState). Passed f v.pages × Passed g v.launches) (sym gives.2) (passed_job f g s job (Held w) Done gives.1 refl before)
+    subst (λ (v : CoreState). Passed f v.pages) (sym gives.2) (passed_job f s job (Held w) Done gives.1 refl before)
 
 -- a page is put, and one page fewer is left
 put_page_left : (p : ℕ) (s t : CoreState) (w j : ℕ) → core_step s (Put w (Page j)) ≡ Ok t → p + count_by is_done s.pages ≡ length s.pages
@@ -167,13 +158,13 @@ put_page_left p s t w j is left =
     ap (λ (v : CoreState). count_by is_done v.pages) gives.2 ∙ omega (arith, sum_by-slice_set (λ z. cond (is_done z) 1 0) s.pages j (Held w) Done gives.1) in
     (more, omega (arith, more, left, done-le t.pages, kept.pages s t (Put w (Page j)) is))
 
-pub marks_put_page : (f g p q : ℕ) (seen : List ℕ) (s t : CoreState) (w j : ℕ) → core_step s (Put w (Page j)) ≡ Ok t → Marks f g p q seen s → (1 ≤ p) × Marks f g (p - 1) q seen t
-marks_put_page f g p q seen s t w j is m =
+pub marks_put_page : (f p q : ℕ) (s t : CoreState) (w j : ℕ) → core_step s (Put w (Page j)) ≡ Ok t → Marks f p q s → (1 ≤ p) × Marks f (p - 1) q t
+marks_put_page f p q s t w j is m =
     let gives = kept.put_says s t w (Page j) is in
     let left = put_page_left p s t w j is m.pages in
     let launches = ap (λ (v : CoreState). count_by is_done v.launches) gives.2 in (
       left.1,
-      marks_next f g p q f g (p - 1) q seen s t (Put w (Page j)) is m (passed_put f g s t w (Page j) is m.free)
+      marks_next f p q f (p - 1) q s t (Put w (Page j)) is m (passed_put f s t w (Page j) is m.free)
           (omega (arith, left.0, left.1, m.pages, kept.pages s t (Put w (Page j)) is))
           (omega (arith, launches, m.launches, kept.launches s t (Put w (Page j)) is)),
     )
@@ -186,36 +177,36 @@ put_launch_left q s t w l is left =
     ap (λ (v : CoreState). count_by is_done v.launches) gives.2 ∙ omega (arith, sum_by-slice_set (λ z. cond (is_done z) 1 0) s.launches l (Held w) Done gives.1) in
     (more, omega (arith, more, left, done-le t.launches, kept.launches s t (Put w (Launch l)) is))
 
-pub marks_put_launch : (f g p q : ℕ) (seen : List ℕ) (s t : CoreState) (w l : ℕ) → core_step s (Put w (Launch l)) ≡ Ok t → Marks f g p q seen s → (1 ≤ q) × Marks f g p (q - 1) seen t
-marks_put_launch f g p q seen s t w l is m =
+pub marks_put_launch : (f p q : ℕ) (s t : CoreState) (w l : ℕ) → core_step s (Put w (Launch l)) ≡ Ok t → Marks f p q s → (1 ≤ q) × Marks f p (q - 1) t
+marks_put_launch f p q s t w l is m =
     let gives = kept.put_says s t w (Launch l) is in
     let left = put_launch_left q s t w l is m.launches in
     let pages = ap (λ (v : CoreState). count_by is_done v.pages) gives.2 in (
       left.1,
-      marks_next f g p q f g p (q - 1) seen s t (Put w (Launch l)) is m (passed_put f g s t w (Launch l) is m.free)
+      marks_next f p q f p (q - 1) s t (Put w (Launch l)) is m (passed_put f s t w (Launch l) is m.free)
           (omega (arith, pages, m.pages, kept.pages s t (Put w (Launch l)) is))
           (omega (arith, left.0, left.1, m.launches, kept.launches s t (Put w (Launch l)) is)),
     )
 
 -- all is done where nothing is left
-pub finished_then : (f g p q : ℕ) (seen : List ℕ) (s : CoreState) → Marks f g p q seen s → (p == 0) ≡ true → (q == 0) ≡ is_over s
-finished_then f g p q seen s m none =
+pub finished_then : (f p q : ℕ) (s : CoreState) → Marks f p q s → (p == 0) ≡ true → (q == 0) ≡ is_over s
+finished_then f p q s m none =
     let pages : list_all is_done s.pages ≡ true = sym (none_left s.pages p m.pages) ∙ none in
     none_left s.launches q m.launches ∙ ap (λ (b : Bool). b && list_all is_done s.launches) (sym pages)
 
-pub finished_else : (f g p q : ℕ) (seen : List ℕ) (s : CoreState) → Marks f g p q seen s → (p == 0) ≡ false → false ≡ is_over s
-finished_else f g p q seen s m some =
+pub finished_else : (f p q : ℕ) (s : CoreState) → Marks f p q s → (p == 0) ≡ false → false ≡ is_over s
+finished_else f p q s m some =
     let pages : list_all is_done s.pages ≡ false = sym (none_left s.pages p m.pages) ∙ some in
     ap (λ (b : Bool). b && list_all is_done s.launches) (sym pages)
 
-pub marks_retire : (f g p q : ℕ) (seen : List ℕ) (s t : CoreState) (w : ℕ) (held : Option JobId) → core_step s (Retire w) ≡ Ok t → HeldIs s w held
-    → Marks f g p q seen s → Marks (lowered_page f held) (lowered_launch g held) p q seen t
-marks_retire f g p q seen s t w held is h m =
+pub marks_retire : (f p q : ℕ) (s t : CoreState) (w : ℕ) (held : Option JobId) → core_step s (Retire w) ≡ Ok t → HeldIs s w held
+    → Marks f p q s → Marks (lowered_page f held) p q t
+marks_retire f p q s t w held is h m =
     let gives = (kept.retire_says s t w is).1 in
     let pages = ap (λ (v : CoreState). count_by is_done v.pages) gives ∙ sum-freed_done w s.pages in
     let launches = ap (λ (v : CoreState). count_by is_done v.launches) gives ∙ sum-freed_done w s.launches in
-    marks_next f g p q (lowered_page f held) (lowered_launch g held) p q seen s t (Retire w) is m
-    (subst (λ (v : CoreState). Passed (lowered_page f held) v.pages × Passed (lowered_launch g held) v.launches) (sym gives) (passed_released f g s w held h m.free))
+    marks_next f p q (lowered_page f held) p q s t (Retire w) is m
+    (subst (λ (v : CoreState). Passed (lowered_page f held) v.pages) (sym gives) (passed_released f s w held h m.free))
     (omega (arith, pages, m.pages, kept.pages s t (Retire w) is))
     (omega (arith, launches, m.launches, kept.launches s t (Retire w) is))
 
@@ -224,19 +215,11 @@ marks_retire f g p q seen s t w held is h m =
 none_done : (n : ℕ) → n + count_by is_done (replicate n Free) ≡ length (replicate n Free)
 none_done n = omega (arith, sum_by-replicate_zero (λ x. cond (is_done x) 1 0) n Free refl, length-replicate n Free)
 
-zeros : (n l : ℕ) → get_or (replicate n 0) l 0 ≡ zero
-zeros zero l = refl
-zeros (suc n) zero = refl
-zeros (suc n) (suc l) = zeros n l
-
-pub marks_fresh : (workers pages : ℕ) (needs : List (List ℕ)) → Marks 0 0 pages (length needs) (replicate (length needs) 0) (opening workers pages needs)
+pub marks_fresh : (workers pages : ℕ) (needs : List (List ℕ)) → Marks 0 pages (length needs) (opening workers pages needs)
 marks_fresh workers pages needs = record {
-  free = (λ j lt. absurd (omega (arith, lt)), λ j lt. absurd (omega (arith, lt)));
+  free = λ j lt. absurd (omega (arith, lt));
   pages = none_done pages;
   launches = none_done (length needs);
-  size = length-replicate (length needs) 0 ∙ sym (length-replicate (length needs) Free);
-  within = λ l. omega (arith, zeros (length needs) l);
-  done = λ l k lt. absurd (omega (arith, lt, zeros (length needs) l));
 }
 
 pub core_fresh : (workers pages : ℕ) (needs : List (List ℕ)) → 1 ≤ workers → workers ≤ 64 → NeedsWithin needs pages → IsCore (opening workers pages needs)
@@ -250,67 +233,11 @@ core_fresh (suc n) pages needs some few within = record {
 
 -- ---- a take
 
-pub taken_kept : {U : Type 0} (f g p q : ℕ) (seen : List ℕ) (s t : CoreState) (w : ℕ) (job : JobId) (r : Result U CoreFault) → Matches (λ u. t) r (core_step s (Take w job)) → OnErr r (t ≡ s)
-    → IsCore s × Marks f g p q seen s → IsCore t × Marks f g p q seen t
-taken_kept f g p q seen s t w job (Ok u) is same m = (core_next s t (Take w job) is m.0, marks_take f g p q seen s t w job is m.1)
-taken_kept f g p q seen s t w job (Err e) is same m = subst (λ (u : CoreState). IsCore u × Marks f g p q seen u) (sym same) m
+pub taken_kept : {U : Type 0} (f p q : ℕ) (s t : CoreState) (w : ℕ) (job : JobId) (r : Result U CoreFault) → Matches (λ u. t) r (core_step s (Take w job)) → OnErr r (t ≡ s)
+    → IsCore s × Marks f p q s → IsCore t × Marks f p q t
+taken_kept f p q s t w job (Ok u) is same m = (core_next s t (Take w job) is m.0, marks_take f p q s t w job is m.1)
+taken_kept f p q s t w job (Err e) is same m = subst (λ (u : CoreState). IsCore u × Marks f p q u) (sym same) m
 
 pub held_is_job : (s : CoreState) (w : ℕ) (held : Option JobId) → IfSome held (λ job. state_of s job ≡ Some (Held w)) → held_count s w ≡ held_of held → HeldIs s w held
 held_is_job s w None at count = count
 held_is_job s w (Some job) at count = (at, count)
-
--- ---- what a launch needs
-
--- the needs before a place are done: all are where the place is past the last one
-pub ready_at : (f : ℕ → Bool) (ps : List ℕ) (n : ℕ) → n ≤ length ps → ((k : ℕ) → k < n → f (get_or ps k 0) ≡ true) → (n < length ps → f (get_or ps n 0) ≡ false) → (n == length ps) ≡ list_all f ps
-ready_at f [] zero le done stops = refl
-ready_at f [] (suc n) le done stops = absurd (omega (arith, le))
-ready_at f (p ∷ ps) zero le done stops =
-    let here : f p ≡ false = stops (omega arith) in
-    let some : (0 == suc (length ps)) ≡ false = grind (arith, nat_tests) in
-    some ∙ ap (λ (b : Bool). b && list_all f ps) (sym here)
-ready_at f (p ∷ ps) (suc n) le done stops =
-    let here : f p ≡ true = done 0 (omega arith) in
-    let le' : n ≤ length ps = omega (arith, le) in
-    let rest = ready_at f ps n le' (λ k lt. done (suc k) (let lt' : suc k < suc n = omega (arith, lt) in lt')) (λ lt. stops (let lt' : suc n < suc (length ps) = omega (arith, lt) in lt')) in
-    let same : (suc n == suc (length ps)) ≡ (n == length ps) = grind (arith, nat_tests) in
-    same ∙ (rest ∙ ap (λ (b : Bool). b && list_all f ps) (sym here))
-
--- a launch whose needs are done as far as was seen, and from there to a place
-pub ready_here : (f g p q : ℕ) (seen : List ℕ) (s : CoreState) (l : ℕ) (needed : List ℕ) (states : List JobState) (from end : ℕ) → Marks f g p q seen s → l < length seen
-    → needed ≡ get_or s.needs l [] → states ≡ s.pages → from ≡ get_or seen l from
-    → (from ≤ end) × (end ≤ length needed)
-    → ((k : ℕ) → from ≤ k → k < end → is_page_done states (get_or needed k 0) ≡ true)
-    → (end < length needed → is_page_done states (get_or needed end 0) ≡ false)
-    → (end == length needed) ≡ is_ready s (Launch l)
-ready_here f g p q seen s l needed states from end m lt needs pages start within done stops =
-    ready_at (is_page_done states) needed end within.1 before stops ∙ (ap (λ (ns : List ℕ). list_all (is_page_done states) ns) needs ∙ ap (λ (xs : List JobState). list_all (is_page_done xs) (get_or s.needs l [])) pages)
-  where
-    seen_here : from ≡ get_or seen l 0
-    seen_here = get_or_read seen l from lt start 0
-
-    before_at : (k : ℕ) → k < end → (k < from) ⊎ (from ≤ k) → is_page_done states (get_or needed k 0) ≡ true
-    before_at k lt_end (inl low) =
-        let there : is_page_done s.pages (get_or (get_or s.needs l []) k 0) ≡ true = m.done l k (omega (arith, low, seen_here)) in
-        ap (λ (xs : List JobState). is_page_done xs (get_or needed k 0)) pages ∙ (ap (λ (ns : List ℕ). is_page_done s.pages (get_or ns k 0)) needs ∙ there)
-    before_at k lt_end (inr high) = done k high lt_end
-
-    before : (k : ℕ) → k < end → is_page_done states (get_or needed k 0) ≡ true
-    before k lt_end = before_at k lt_end (cases_lt k from)
-
--- that all pages are done, asked by number
-pub all_by_number : (states : List JobState) → list_all (is_page_done states) (range_with_len 0 (length states)) ≡ list_all is_done states
-all_by_number states = from (is_page_done states) states 0 (λ k. let same : 0 + k ≡ k = omega arith in ap (is_page_done states) same)
-  where
-    from : (f : ℕ → Bool) (xs : List JobState) (a : ℕ) → ((k : ℕ) → f (a + k) ≡ is_page_done xs k) → list_all f (range_with_len a (length xs)) ≡ list_all is_done xs
-    from f [] a same = refl
-    from f (x ∷ xs) a same =
-        let at : a ≡ a + 0 = omega arith in
-        let first : f a ≡ is_done x = ap f at ∙ same 0 in
-        let rest = from f xs (a + 1) (λ k. let next : a + 1 + k ≡ a + suc k = omega arith in ap f next ∙ same (suc k)) in
-        ap (λ (b : Bool). b && list_all f (range_with_len (a + 1) (length xs))) first ∙ ap (λ (b : Bool). is_done x && b) rest
-
--- a launch that needs all pages, where as many are left
-pub all_ready : (f g p q : ℕ) (seen : List ℕ) (s : CoreState) (l : ℕ) → Marks f g p q seen s → get_or s.needs l [] ≡ range_with_len 0 (length s.pages) → (p == 0) ≡ is_ready s (Launch l)
-all_ready f g p q seen s l m all =
-    none_left s.pages p m.pages ∙ (sym (all_by_number s.pages) ∙ ap (λ (ns : List ℕ). list_all (is_page_done s.pages) ns) (sym all))

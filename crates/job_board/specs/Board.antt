@@ -27,6 +27,16 @@ pub record BoardView : Type 0 where
 abbrev pub IsNeeded : TableView → List ℕ → PageKey → Type 0
 IsNeeded t needed key = (j : ℕ) × (slot_of t.pages key ≡ Some j) × Contains needed j
 
+-- a page that is needed is the page of one of these keys
+abbrev pub IsOwnPage : TableView → List PageKey → ℕ → Type 0
+IsOwnPage t keys j = (key : PageKey) × Contains keys key × (slot_of t.pages key ≡ Some j)
+
+-- each launch needs just the pages of its own plan
+pub record NeedsOwn (t : TableView) (plans : List PlanView) (needs : List (List ℕ)) : Type 0 where
+  pub size : length needs ≡ length plans
+  pub all : (l : ℕ) (p : PlanView) → slice_get plans l ≡ Some p → All (IsNeeded t (slice_index_or needs l [])) (keys_of p.links)
+  pub only : (l : ℕ) (p : PlanView) → slice_get plans l ≡ Some p → All (IsOwnPage t (keys_of p.links)) (slice_index_or needs l [])
+
 -- The core is what its history leaves; just the slots of pages that are done are filled, and as many are done as the
 -- book says; each launch needs all pages of its plan; and just the launches that are done have a value, which is what
 -- their own plan chains to.
@@ -40,6 +50,10 @@ pub record IsBoard (b : BoardView) : Type 0 where
   pub needs : (l : ℕ) (p : PlanView) → slice_get b.plans l ≡ Some p → All (IsNeeded b.table (slice_index_or b.core.needs l [])) (keys_of p.links)
   pub given : map is_some b.results ≡ map is_done b.core.launches
   pub own : (l : ℕ) (p : PlanView) (m : Measurement) → slice_get b.plans l ≡ Some p → slice_get b.results l ≡ Some (Some m) → m.bytes ≡ value_in b.table p
+
+-- a board has the pages and the plans of its run
+abbrev pub IsOfRun : List PageView → List PlanView → BoardView → Type 0
+IsOfRun pages plans b = (b.table.pages ≡ pages) × (b.plans ≡ plans)
 
 -- the values are what the plans chain to, with the digests of all these pages
 pub record AreValuesOf (pages : List PageView) (plans : List PlanView) (values : List Measurement) : Type 0 where

@@ -1,6 +1,5 @@
 -- What a take may answer, and what it makes of a board. This project's choice.
 use Rattle.std.specs.Prelude.{◌≡◌, ◌≢◌, ℕ, ◌<◌, true, false, ◌⊎◌, Some, slice_get}
-use Rattle.page_jobs.specs.Page.{page_view}
 use Rattle.rim_chain.specs.Links.{keys_of}
 use Rattle.rim_chain.specs.Rows.{IsRowOf}
 use Rattle.job_board.specs.declared.job.JobId.TheVariants.{Page, Launch}
@@ -11,10 +10,10 @@ use Rattle.job_board.specs.declared.work.Work.TheVariants as work
 use Rattle.job_board.specs.Jobs.{held_count, is_out, is_over, is_ready}
 use Rattle.job_board.specs.Board.{Adds, BoardView, SameRest}
 
-abbrev pub Gives : BoardView → ℕ → Work → BoardView → Type 0
+abbrev pub Gives : {L : Type 0} → BoardView → ℕ → Work L → BoardView → Type 0
 -- a free page, which the worker then holds
-Gives old w (work.Page j job) new =
-    Adds old (Take w (Page j)) new × SameRest old new × (slice_get old.table.pages j ≡ Some (page_view job.page))
+Gives old w (work.Page task) new =
+    Adds old (Take w (Page task.number)) new × SameRest old new × (slice_get old.table.pages task.number ≡ Some task.page)
 -- a free ready launch, which the worker then holds, with the digests of all its pages
 Gives old w (work.Launch job) new =
     Adds old (Take w (Launch job.number)) new × SameRest old new × (slice_get old.plans job.number ≡ Some job.plan) × IsRowOf old.table (keys_of job.plan.links) job.row.digests

@@ -3,6 +3,7 @@ pub mod Step
 pub mod Events
 pub mod Values
 pub mod History
+pub mod Tasks
 pub mod Board
 pub mod Gives
 pub mod inside

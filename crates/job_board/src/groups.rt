@@ -30,6 +30,11 @@ impl Groups {
         }
     }
 
+    /// Whether a worker is within a group, whose pages it has hashed side by side.
+    pub(crate) fn is_within(&self, worker: usize) -> bool {
+        self.next.get(worker).is_some_and(|next| next % LANES != 0)
+    }
+
     /// Notes the page that a worker was given.
     pub(crate) fn note(&mut self, worker: usize, page: usize) {
         if let Some(next) = self.next.get_mut(worker) {

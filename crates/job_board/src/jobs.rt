@@ -1,15 +1,17 @@
 //! How each job is, and what each event makes of it.
-ghost use Rattle.std.specs.Prelude.{◌≡◌, [], false, length, IfNone, IfOk, IfSome, OnErr, Some, slice_index_or};
-ghost use Rattle.std.specs.List.{range_with_len};
+ghost use Rattle.std.specs.Prelude.{◌≡◌, ℕ, false, length, true, IfNone, IfOk, IfSome, OnErr, Some, slice_get};
 ghost use Rattle.refusal.specs.Answer.{Matches};
 ghost use Rattle.job_board.specs.declared.job.Event.{Event};
-ghost use Rattle.job_board.specs.Jobs.{held_count, is_free, is_out, is_ready, opening, state_of, with_job, with_launch, with_page};
+ghost use Rattle.job_board.specs.Jobs.{held_count, is_done, is_free, is_out, is_ready, opening, state_of, with_job, with_launch, with_page};
 ghost use Rattle.job_board.specs.Step.{core_step, job_is};
-ghost use Rattle.job_board.specs.inside.Needs.{needs_of};
+ghost use Rattle.job_board.specs.inside.Lines.{passed_over};
+ghost use Rattle.job_board.specs.inside.Needs.{AreNeeds, needs_of};
 ghost use Rattle.job_board.specs.inside.Notes.{IsJob, Moves, held_of, released};
 
 use crate::job::{CoreFault, JobId, JobState};
+use crate::line::{first_ready, free_in, launch_at};
 use crate::needs::Needs;
+use crate::prefixes::{Cursor, all_left, note_done};
 use refusal::NoMemory;
 use std::alloc::Global;
 use std::marker::Model;
@@ -23,19 +25,29 @@ pub(crate) struct Jobs {
     needs: Needs,
     /// What each worker holds.
     holding: Vec<Option<JobId>>,
+    /// How far each group of pages is done.
+    cursors: Vec<Cursor>,
+    /// Of each launch, how many of its prefixes are not done.
+    left: Vec<usize>,
+    /// The launches that wait for nothing, in the order in which that came to be.
+    ready: Vec<usize>,
+    /// None before this place in their line is free.
+    ready_from: usize,
 }
 
 impl Model for Jobs {
-    ghost use Rattle.std.specs.Prelude.{length};
     ghost use Rattle.job_board.specs.Jobs.{CoreState};
-    ghost use Rattle.job_board.specs.inside.Needs.{needs_of};
+    ghost use Rattle.job_board.specs.inside.Needs.{groups_of, needs_of};
+    ghost use Rattle.std.specs.Prelude.{◌≡◌, length, vec_capacity};
+    ghost use Rattle.job_board.specs.inside.Lines.{IsLine, IsPassed};
     ghost use Rattle.job_board.specs.inside.Notes.{Notes};
+    ghost use Rattle.job_board.specs.inside.Prefixes.{IsIndex, Waits};
 
     ghost Value = { CoreState };
 
-    ghost view = { λ c. record { retired = c.retired.items; pages = c.pages.items; launches = c.launches.items; needs = needs_of (length c.pages.items) c.needs } };
+    ghost view = { λ c. record { retired = c.retired.items; pages = c.pages.items; launches = c.launches.items; needs = needs_of c.needs } };
 
-    ghost invariant = { λ c. Notes c.holding.items (record { retired = c.retired.items; pages = c.pages.items; launches = c.launches.items; needs = needs_of (length c.pages.items) c.needs }) };
+    ghost invariant = { λ c. Notes c.holding.items (record { retired = c.retired.items; pages = c.pages.items; launches = c.launches.items; needs = needs_of c.needs }) × Waits c.pages.items (groups_of c.needs) c.cursors.items c.left.items × IsIndex (needs_of c.needs) (groups_of c.needs) × IsLine c.left.items c.ready.items (vec_capacity c.ready) × IsPassed c.launches.items c.ready.items c.ready_from × (length c.left.items ≡ length c.launches.items) };
 }
 
 impl Jobs {
@@ -46,25 +58,31 @@ impl Jobs {
         pages: usize,
         needs: Needs,
     ) -> Result<Jobs, NoMemory>
-        ensures { IfOk result (λ c. c ≡ opening workers pages (needs_of pages needs)) }
+        requires { AreNeeds pages needs }
+        ensures { IfOk result (λ c. c ≡ opening workers pages (needs_of needs)) }
     {
         let retired = vec![in alloc; false; workers]?;
         let pages = vec![in alloc; JobState::Free; pages]?;
         let launches = vec![in alloc; JobState::Free; needs.launches()]?;
         let holding = vec![in alloc; None; workers]?;
+        let cursors = vec![in alloc; Cursor { done: 0, met: 0 }; needs.groups().len()]?;
+        let left = all_left(alloc, needs.groups(), needs.launches())?;
+        let ready = first_ready(alloc, &left)?;
         Ok(Jobs {
             retired,
             pages,
             launches,
             needs,
             holding,
+            cursors,
+            left,
+            ready,
+            ready_from: 0,
         })
     }
 
-    /// Takes a job, or answers the first fault that holds and changes nothing. Whether the job is ready is known to
-    /// the caller, who has marks for it.
-    pub(crate) fn take(&mut self, worker: usize, job: JobId, ready: bool) -> Result<(), CoreFault>
-        requires { ready ≡ is_ready self.old job }
+    /// Takes a job, or answers the first fault that holds and changes nothing.
+    pub(crate) fn take(&mut self, worker: usize, job: JobId) -> Result<(), CoreFault>
         ensures step { Matches (λ u. self.new) result (core_step self.old (Event.Take worker job)) }
         ensures same { OnErr result (self.new ≡ self.old) }
     {
@@ -80,7 +98,7 @@ impl Jobs {
         if !matches!(state, JobState::Free) {
             return Err(CoreFault::Taken);
         }
-        if !ready {
+        if !self.is_ready(job) {
             return Err(CoreFault::Early);
         }
         self.write(worker, job, JobState::Held(worker), Some(job));
@@ -98,7 +116,7 @@ impl Jobs {
         match self.state(job) {
             None => Err(CoreFault::NoSuchJob),
             Some(JobState::Held(holder)) if holder == worker => {
-                self.write(worker, job, JobState::Done, None);
+                self.finish(worker, job);
                 Ok(())
             }
             Some(_) => Err(CoreFault::Stranger),
@@ -129,20 +147,44 @@ impl Jobs {
         }
     }
 
-    /// Writes how a job is, and what a worker then holds.
+    /// A job that a worker holds is done.
+    fn finish(&mut self, worker: usize, job: JobId)
+        requires known { is_out self.old worker ≡ false }
+        requires held { state_of self.old job ≡ Some (JobState.Held worker) }
+        ensures { self.new ≡ with_job self.old job JobState.Done }
+    {
+        let Jobs {
+            pages,
+            launches,
+            needs,
+            holding,
+            cursors,
+            left,
+            ready,
+            ..
+        } = self;
+        set_job(pages, launches, job, JobState::Done);
+        holding[worker] = None;
+        note_done(needs.groups(), pages, job, cursors, left, ready);
+    }
+
+    /// Writes how a job is that is not done then either, and what a worker then holds.
     fn write(&mut self, worker: usize, job: JobId, state: JobState, held: Option<JobId>)
         requires known { is_out self.old worker ≡ false }
         requires moves { Moves self.old worker job state held }
+        requires open { is_done state ≡ false }
         ensures { self.new ≡ with_job self.old job state }
     {
         let Jobs {
             pages,
             launches,
             holding,
+            ready_from,
             ..
         } = self;
         set_job(pages, launches, job, state);
         holding[worker] = held;
+        *ready_from = passed_over(*ready_from, job, state);
     }
 }
 
@@ -196,12 +238,54 @@ impl Jobs {
         self.launches.as_slice()
     }
 
-    /// The pages that are listed for a launch, or `None` where it needs all.
-    pub(crate) fn needs(&self, launch: usize) -> Option<&[usize]>
-        ensures listed { IfSome result (λ list. list.now ≡ slice_index_or self.now.needs launch []) }
-        ensures all { IfNone result (slice_index_or self.now.needs launch [] ≡ range_with_len 0 (length self.now.pages)) }
+    /// Whether all pages that a job needs are done.
+    pub(crate) fn is_ready(&self, job: JobId) -> bool
+        ensures { result ≡ is_ready self.now job }
     {
-        self.needs.listed(launch)
+        match job {
+            JobId::Page(_) => true,
+            JobId::Launch(launch) => self.is_launch_ready(launch),
+        }
+    }
+
+    /// A launch that is free and of which all pages are done, or `None` where none is. A launch that was passed over is not
+    /// looked at again, unless a retirement frees one.
+    pub(crate) fn ready_launch(&mut self) -> Option<usize>
+        ensures same { self.new ≡ self.old }
+        ensures some { IfSome result (λ launch. (slice_get self.old.launches launch ≡ Some JobState.Free) × (is_ready self.old (JobId.Launch launch) ≡ true)) }
+        ensures none { IfNone result ((launch : ℕ) → slice_get self.old.launches launch ≡ Some JobState.Free → is_ready self.old (JobId.Launch launch) ≡ false) }
+    {
+        let Jobs {
+            launches,
+            ready,
+            ready_from,
+            ..
+        } = self;
+        let from = free_in(launches, ready, *ready_from);
+        *ready_from = from;
+        launch_at(ready, from)
+    }
+
+    /// A launch of the line of those that came to be ready, by its place there.
+    pub(crate) fn in_line(&self, place: usize) -> Option<usize> {
+        launch_at(&self.ready, place)
+    }
+
+    /// Whether all pages that a launch needs are done: it waits for none of its prefixes.
+    fn is_launch_ready(&self, launch: usize) -> bool
+        ensures { result ≡ is_ready self.now (JobId.Launch launch) }
+    {
+        self.left.get(launch).copied().unwrap_or(0) == 0
+    }
+}
+
+/// How many of a line are passed over, where a job is made so: none, where a launch is free again.
+fn passed_over(from: usize, job: JobId, state: JobState) -> usize
+    ensures { result ≡ passed_over from job state }
+{
+    match (job, state) {
+        (JobId::Launch(_), JobState::Free) => 0,
+        _ => from,
     }
 }
 

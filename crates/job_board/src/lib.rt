@@ -2,21 +2,29 @@
 #![tactic(auto)]
 
 mod closing;
+mod grouping;
 mod groups;
 pub mod job;
 mod jobs;
 pub mod known;
 pub mod laws;
+mod line;
 pub mod machine;
 mod needs;
+mod own_needs;
+mod prefixes;
 mod rows;
+pub mod run;
 pub mod share;
 pub mod state;
+pub mod task;
 pub mod work;
 
 pub use job::{CoreFault, Event, JobId, JobState};
 pub use known::has_all_keys;
 pub use machine::Core;
+pub use run::Run;
 pub use share::Share;
 pub use state::BoardState;
+pub use task::{ChainedLaunch, HashedPage, LaunchTask, PageTask};
 pub use work::Work;

@@ -1,10 +1,10 @@
 //! The core: how each job is, with marks that make it quick to find a free one.
-ghost use Rattle.std.specs.Prelude.{◌≡◌, ◌≢◌, ◌<◌, ◌≤◌, [], ℕ, false, length, map, true, IfNone, IfOk, IfSome, IsTrue, ◌↔◌, OnErr, Some, slice_get, slice_index_or};
+ghost use Rattle.std.specs.Prelude.{◌≡◌, ◌≢◌, ◌<◌, ◌≤◌, ℕ, false, length, map, true, IfNone, IfOk, IfSome, IsTrue, ◌↔◌, OnErr, Some, slice_get};
 ghost use Rattle.refusal.specs.Answer.{Matches};
-ghost use Rattle.job_board.specs.Jobs.{IsCore, NeedsWithin, held_count, is_out, is_over, is_page_done, is_ready, opening, state_of};
+ghost use Rattle.job_board.specs.Jobs.{IsCore, NeedsWithin, held_count, is_out, is_over, is_ready, opening, state_of};
 ghost use Rattle.job_board.specs.Step.{core_step};
-ghost use Rattle.job_board.specs.inside.Marks.{lowered_launch, lowered_page};
-ghost use Rattle.job_board.specs.inside.Needs.{needs_of};
+ghost use Rattle.job_board.specs.inside.Marks.{lowered_page};
+ghost use Rattle.job_board.specs.inside.Needs.{AreNeeds, needs_of};
 
 use crate::job::{CoreFault, Event, JobId, JobState};
 use crate::jobs::Jobs;
@@ -19,14 +19,10 @@ pub struct Core {
     jobs: Jobs,
     /// No page below this one is free.
     pages_from: usize,
-    /// No launch below this one is free.
-    launches_from: usize,
     /// How many pages are not done.
     pages_left: usize,
     /// How many launches are not done.
     launches_left: usize,
-    /// Of each launch, how many of its needs, from the first on, were seen to be done.
-    seen: Vec<usize>,
 }
 
 impl Model for Core {
@@ -37,7 +33,7 @@ impl Model for Core {
 
     ghost view = { λ c. c.jobs };
 
-    ghost invariant = { λ c. IsCore c.jobs × Marks c.pages_from c.launches_from c.pages_left c.launches_left c.seen.items c.jobs };
+    ghost invariant = { λ c. IsCore c.jobs × Marks c.pages_from c.pages_left c.launches_left c.jobs };
 }
 
 impl Core {
@@ -53,7 +49,8 @@ impl Core {
         requires needs { NeedsWithin (map (λ v. v.items) needs.items) pages }
         ensures { IfOk result (λ c. c ≡ opening workers pages (map (λ v. v.items) needs.items)) }
     {
-        Core::with_needs(alloc, workers, pages, Needs::Listed(needs))
+        let needs = Needs::listed(alloc, pages, needs)?;
+        Core::with_needs(alloc, workers, pages, needs)
     }
 
     /// A core of 1 to 64 workers and this many pages, and of launches with these needs.
@@ -64,19 +61,16 @@ impl Core {
         needs: Needs,
     ) -> Result<Core, NoMemory>
         requires workers { (1 ≤ workers) × (workers ≤ 64) }
-        requires needs { NeedsWithin (needs_of pages needs) pages }
-        ensures { IfOk result (λ c. c ≡ opening workers pages (needs_of pages needs)) }
+        requires needs { AreNeeds pages needs }
+        ensures { IfOk result (λ c. c ≡ opening workers pages (needs_of needs)) }
     {
         let launches = needs.launches();
-        let seen = vec![in alloc; 0; launches]?;
         let jobs = Jobs::new(alloc, workers, pages, needs)?;
         Ok(Core {
             jobs,
             pages_from: 0,
-            launches_from: 0,
             pages_left: pages,
             launches_left: launches,
-            seen,
         })
     }
 
@@ -96,8 +90,7 @@ impl Core {
         ensures step { Matches (λ u. self.new) result (core_step self.old (Event.Take worker job)) }
         ensures same { OnErr result (self.new ≡ self.old) }
     {
-        let ready = self.is_ready(job);
-        self.jobs.take(worker, job, ready)
+        self.jobs.take(worker, job)
     }
 
     fn put(&mut self, worker: usize, job: JobId) -> Result<(), CoreFault>
@@ -123,7 +116,6 @@ impl Core {
             return Err(fault);
         }
         self.pages_from = lowered_page(self.pages_from, held);
-        self.launches_from = lowered_launch(self.launches_from, held);
         Ok(())
     }
 }
@@ -194,69 +186,27 @@ impl Core {
         page
     }
 
-    /// A launch that is free and of which all pages are done, or `None` where none is. A need that was seen to be done
-    /// is not looked at again, and neither are launches before the first free one, unless a retirement frees one.
+    /// A launch that is free and of which all pages are done, or `None` where none is. A launch that was passed over is not
+    /// looked at again, unless a retirement frees one.
     pub fn ready_launch(&mut self) -> Option<usize>
         ensures same { self.new ≡ self.old }
         ensures some { IfSome result (λ launch. (slice_get self.old.launches launch ≡ Some JobState.Free) × (is_ready self.old (JobId.Launch launch) ≡ true)) }
         ensures none { IfNone result ((launch : ℕ) → slice_get self.old.launches launch ≡ Some JobState.Free → is_ready self.old (JobId.Launch launch) ≡ false) }
     {
-        let from = self.free_launch_from();
-        for launch in from..self.launches() {
-            if self.is_open(launch) {
-                return Some(launch);
-            }
-        }
-        None
+        self.jobs.ready_launch()
+    }
+
+    /// A launch of which all pages are done, by its place in the order in which that came to be.
+    pub(crate) fn in_line(&self, place: usize) -> Option<usize> {
+        self.jobs.in_line(place)
     }
 
     /// Whether a launch is free and all pages that it needs are done.
-    pub(crate) fn is_open(&mut self, launch: usize) -> bool
-        ensures same { self.new ≡ self.old }
-        ensures open { IsTrue result ↔ ((slice_get self.old.launches launch ≡ Some JobState.Free) × (is_ready self.old (JobId.Launch launch) ≡ true)) }
+    pub(crate) fn is_open(&self, launch: usize) -> bool
+        ensures { IsTrue result ↔ ((slice_get self.now.launches launch ≡ Some JobState.Free) × (is_ready self.now (JobId.Launch launch) ≡ true)) }
     {
         let job = JobId::Launch(launch);
-        self.jobs.is_free(job) && self.is_ready(job)
-    }
-
-    /// A launch below which none is free.
-    fn free_launch_from(&mut self) -> usize
-        ensures same { self.new ≡ self.old }
-        ensures passed { (launch : ℕ) → launch < result → slice_get self.old.launches launch ≢ Some JobState.Free }
-    {
-        let launches = self.jobs.launches();
-        let from = free_at(launches, self.launches_from).unwrap_or(launches.len());
-        self.launches_from = from;
-        from
-    }
-
-    /// Whether all pages that a job needs are done.
-    fn is_ready(&mut self, job: JobId) -> bool
-        ensures same { self.new ≡ self.old }
-        ensures ready { result ≡ is_ready self.old job }
-    {
-        match job {
-            JobId::Page(_) => true,
-            JobId::Launch(launch) => self.is_launch_ready(launch),
-        }
-    }
-
-    /// Whether all pages that a launch needs are done. Where it needs all pages, none may be left. A launch that does not
-    /// exist needs no page.
-    fn is_launch_ready(&mut self, launch: usize) -> bool
-        ensures same { self.new ≡ self.old }
-        ensures ready { result ≡ is_ready self.old (JobId.Launch launch) }
-    {
-        let Some(needed) = self.jobs.needs(launch) else {
-            return self.pages_left == 0;
-        };
-        if launch >= self.seen.len() {
-            return true;
-        }
-        let done = done_from(self.jobs.pages(), needed, self.seen[launch]);
-        let is_ready = done == needed.len();
-        self.seen[launch] = done;
-        is_ready
+        self.jobs.is_free(job) && self.jobs.is_ready(job)
     }
 }
 
@@ -266,16 +216,6 @@ fn lowered_page(from: usize, held: Option<JobId>) -> usize
 {
     match held {
         Some(JobId::Page(page)) => from.min(page),
-        _ => from,
-    }
-}
-
-/// How many launches are passed over, where what a worker held is free again.
-fn lowered_launch(from: usize, held: Option<JobId>) -> usize
-    ensures { result ≡ lowered_launch from held }
-{
-    match held {
-        Some(JobId::Launch(launch)) => from.min(launch),
         _ => from,
     }
 }
@@ -292,25 +232,4 @@ fn free_at(states: &[JobState], from: usize) -> Option<usize>
         }
     }
     None
-}
-
-/// How many needs are done, from the first on, where as many as are given were done before.
-fn done_from(states: &[JobState], needed: &[usize], from: usize) -> usize
-    requires { from ≤ length needed.now }
-    ensures within { (from ≤ result) × (result ≤ length needed.now) }
-    ensures done { (k : ℕ) → from ≤ k → k < result → is_page_done states.now (slice_index_or needed.now k 0) ≡ true }
-    ensures stops { result < length needed.now → is_page_done states.now (slice_index_or needed.now result 0) ≡ false }
-{
-    for k in from..needed.len() {
-        if !is_done_in(states, needed[k]) {
-            return k;
-        }
-    }
-    needed.len()
-}
-
-fn is_done_in(states: &[JobState], page: usize) -> bool
-    ensures { result ≡ is_page_done states.now page }
-{
-    matches!(states.get(page), Some(JobState::Done))
 }

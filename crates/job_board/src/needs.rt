@@ -1,40 +1,84 @@
 //! Which pages each launch needs.
-ghost use Rattle.std.specs.Prelude.{◌≡◌, ℕ, [], length, IfNone, IfSome, slice_index_or};
-ghost use Rattle.std.specs.List.{range_with_len};
-ghost use Rattle.job_board.specs.inside.Needs.{needs_of};
+ghost use Rattle.std.specs.Prelude.{◌≡◌, ◌<◌, ◌∷◌, ◌++◌, ℕ, List, [], length, map, IfOk, OnOk};
+ghost use Rattle.std.specs.List.{All};
+ghost use Rattle.job_board.specs.Jobs.{NeedsWithin};
+ghost use Rattle.job_board.specs.inside.Needs.{AreNeeds, groups_of, needs_of};
+ghost use Rattle.job_board.specs.inside.Prefixes.{IsListed};
 
-/// Which pages each launch needs.
+use crate::prefixes::{PageGroup, Prefix};
+use refusal::NoMemory;
+use std::alloc::Global;
+
+/// Which pages each launch needs. They are kept in groups.
 #[derive(Drop)]
 pub(crate) enum Needs {
-    /// Each of this many launches needs all pages.
-    AllPages(usize),
-    /// Each launch needs the pages that are listed for it.
-    Listed(Vec<Vec<usize>>),
+    /// Each launch needs the pages that are listed for it, and the groups have the same.
+    Listed(Vec<Vec<usize>>, Vec<PageGroup>),
+    /// Each of this many launches needs the first pages of groups.
+    Prefixes(usize, Vec<PageGroup>),
 }
 
 impl Needs {
     /// How many launches there are.
     pub(crate) fn launches(&self) -> usize
-        ensures { (pages : ℕ) → result ≡ length (needs_of pages self.now) }
+        ensures { result ≡ length (needs_of self.now) }
     {
         match self {
-            Needs::AllPages(launches) => *launches,
-            Needs::Listed(lists) => lists.len(),
+            Needs::Listed(lists, _) => lists.len(),
+            Needs::Prefixes(launches, _) => *launches,
         }
     }
 
-    /// The pages that are listed for a launch, or `None` where it needs all.
-    pub(crate) fn listed(&self, launch: usize) -> Option<&[usize]>
-        ensures listed { IfSome result (λ list. (pages : ℕ) → list.now ≡ slice_index_or (needs_of pages self.now) launch []) }
-        ensures all { IfNone result ((pages : ℕ) → slice_index_or (needs_of pages self.now) launch [] ≡ range_with_len 0 pages) }
+    pub(crate) fn groups(&self) -> &[PageGroup]
+        ensures { result.now ≡ groups_of self.now }
     {
         match self {
-            Needs::AllPages(launches) if launch < *launches => None,
-            Needs::AllPages(_) => Some(&[]),
-            Needs::Listed(lists) => match lists.get(launch) {
-                Some(list) => Some(list.as_slice()),
-                None => Some(&[]),
-            },
+            Needs::Listed(_, groups) => groups.as_slice(),
+            Needs::Prefixes(_, groups) => groups.as_slice(),
         }
     }
+
+    /// Each launch needs the pages that are listed for it.
+    pub(crate) fn listed(
+        alloc: Global,
+        pages: usize,
+        lists: Vec<Vec<usize>>,
+    ) -> Result<Needs, NoMemory>
+        requires { NeedsWithin (map (λ v. v.items) lists.items) pages }
+        ensures same { IfOk result (λ n. needs_of n ≡ map (λ v. v.items) lists.items) }
+        ensures needs { IfOk result (λ n. AreNeeds pages n) }
+    {
+        let mut groups = single_pages(alloc, pages)?;
+        for launch in 0..lists.len() {
+            add_list(&mut groups, launch, &lists[launch])?;
+        }
+        Ok(Needs::Listed(lists, groups))
+    }
+}
+
+/// A group for each page, which no launch needs.
+fn single_pages(alloc: Global, pages: usize) -> Result<Vec<PageGroup>, NoMemory>
+    ensures { IfOk result (λ groups. IsListed pages groups.items []) }
+{
+    let mut groups = Vec::with_capacity(alloc, pages)?;
+    for first in 0..pages {
+        groups.push(PageGroup {
+            first,
+            count: 1,
+            prefixes: Vec::new(alloc),
+        })?;
+    }
+    Ok(groups)
+}
+
+/// Adds what a launch needs, the next one after those that were added.
+fn add_list(groups: &mut [PageGroup], launch: usize, list: &[usize]) -> Result<(), NoMemory>
+    requires within { All (λ page. page < length groups.old) list.now }
+    ensures { OnOk result ((lists : List (List ℕ)) → length lists ≡ launch → IsListed (length groups.old) groups.old lists → IsListed (length groups.old) groups.new (lists ++ list.now ∷ [])) }
+{
+    for page in list {
+        let group = &mut groups[*page];
+        group.prefixes.push(Prefix { launch, count: 1 })?;
+    }
+    Ok(())
 }

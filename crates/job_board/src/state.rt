@@ -1,10 +1,10 @@
 //! A board's state: what each call makes of it.
 ghost use Rattle.std.specs.Prelude.{◌≡◌, ◌≢◌, ◌<◌, ◌≤◌, ◌+◌, ◌⊎◌, ◌↔◌, [], false, true, ℕ, length, map, replicate, sum, vec_len, IfErr, IfNone, IfOk, IfSome, IsTrue, None, OnOk, Some, slice_get, slice_set, vec_capacity};
-ghost use Rattle.std.specs.List.{All, Contains, range_with_len};
+ghost use Rattle.std.specs.List.{All, Contains};
 ghost use Rattle.job_board.specs.declared.job.Event.{Event};
 ghost use Rattle.job_board.specs.declared.job.JobId.{JobId};
 ghost use Rattle.job_board.specs.declared.job.JobState.{JobState};
-ghost use Rattle.job_board.specs.Board.{Adds, AreValuesOf, CanPutLaunch, CanPutPage, IsBoard, SameRest};
+ghost use Rattle.job_board.specs.Board.{Adds, AreValuesOf, CanPutLaunch, CanPutPage, IsBoard, IsOfRun, NeedsOwn, SameRest};
 ghost use Rattle.job_board.specs.Gives.{Gives};
 ghost use Rattle.job_board.specs.Jobs.{held_count, is_out, is_over, is_ready, opening, state_of};
 ghost use Rattle.page_jobs.specs.Page.{page_view};
@@ -16,23 +16,26 @@ use crate::closing::{add_up, copy_values, write_counts};
 use crate::groups::Groups;
 use crate::job::{Event, JobId, JobState};
 use crate::machine::Core;
-use crate::needs::Needs;
+use crate::own_needs::own_needs;
 use crate::rows::{free_row, plan_at, rows_of, spare_rows, take_row};
+use crate::run::Run;
 use crate::share::{Share, cut};
+use crate::task::{ChainedLaunch, HashedPage, LaunchTask, PageTask};
 use crate::work::Work;
-use page_jobs::{DigestRow, Hashed, Page, PageJob, Table};
+use page_jobs::{DigestRow, Page, Table};
 use refusal::NoMemory;
-use rim_chain::{LaunchJob, LaunchPlan, LaunchRim, SharedFronts};
+use rim_chain::{LaunchJob, LaunchPlan, SharedFronts};
 use rim_desc::Measurement;
 use std::alloc::Global;
 use std::marker::Model;
-use std::sync::ledger::{Blank, Book, Ledger};
+use std::sync::ledger::{Blank, Book};
 
 /// The core and its history, the table, the plans, the rows, the values of launches and of the fronts that launches
-/// have in common, which page each worker had best hash next, and the ledger's book. Its type says that the core is what its history leaves, that each filled
-/// slot, each value and each front is its own job's, and that as many pages are done as the book says.
+/// have in common, which page each worker had best hash next, and the ledger's book. Its type says that the core is what its
+/// history leaves, that each filled slot, each value and each front is its own job's, that as many pages are done as the book
+/// says, and that pages and plans are those of its run.
 #[derive(Drop)]
-pub struct BoardState<'a, L: Ledger> {
+pub struct BoardState<'a, L: Run> {
     core: Core,
     history: Vec<Event>,
     table: Table<'a>,
@@ -41,13 +44,15 @@ pub struct BoardState<'a, L: Ledger> {
     spare: Vec<DigestRow>,
     results: Vec<Option<Measurement>>,
     fronts: SharedFronts,
+    /// How many launches were noted when they came to be ready.
+    noted: usize,
     groups: Groups,
     book: Book<L>,
 }
 
-impl<'a, L: Ledger> Model for BoardState<'a, L> {
+impl<'a, L: Run> Model for BoardState<'a, L> {
     ghost use Rattle.std.specs.Prelude.{◌≤◌, vec_capacity};
-    ghost use Rattle.job_board.specs.Board.{BoardView, IsBoard};
+    ghost use Rattle.job_board.specs.Board.{BoardView, IsBoard, IsOfRun};
     ghost use Rattle.job_board.specs.History.{most_events};
     ghost use Rattle.job_board.specs.inside.Rows.{HasRows};
     ghost use Rattle.rim_chain.specs.SharedFronts.{AreShared};
@@ -56,29 +61,28 @@ impl<'a, L: Ledger> Model for BoardState<'a, L> {
 
     ghost view = { λ b. record { core = b.core; history = b.history.items; table = b.table; plans = b.plans.now; results = b.results.items; book = b.book.total } };
 
-    ghost invariant = { λ b. IsBoard (record { core = b.core; history = b.history.items; table = b.table; plans = b.plans.now; results = b.results.items; book = b.book.total }) × (most_events b.core ≤ vec_capacity b.history) × HasRows b.core b.plans.now b.rows.items b.spare.items × AreShared b.table b.plans.now b.fronts };
+    ghost invariant = { λ b. IsBoard (record { core = b.core; history = b.history.items; table = b.table; plans = b.plans.now; results = b.results.items; book = b.book.total }) × (most_events b.core ≤ vec_capacity b.history) × HasRows b.core b.plans.now b.rows.items b.spare.items × AreShared b.table b.plans.now b.fronts × IsOfRun L.pages L.plans (record { core = b.core; history = b.history.items; table = b.table; plans = b.plans.now; results = b.results.items; book = b.book.total }) };
 }
 
-impl<'a, L: Ledger> BoardState<'a, L> {
+impl<'a, L: Run> BoardState<'a, L> {
     /// Puts a page that a worker holds, and counts it in the worker's share. The page is handed back, and nothing is
-    /// changed, where the worker does not hold that job or the page is not that job's.
+    /// changed, where the worker does not hold its job.
     pub fn put_page(
         &mut self,
         worker: usize,
-        page: usize,
-        hashed: Hashed<'a>,
+        page: HashedPage<'a, L>,
         share: &mut Share<L>,
-    ) -> Result<(), Hashed<'a>>
-        ensures board { IsBoard self.old }
+    ) -> Result<(), HashedPage<'a, L>>
+        ensures board { IsBoard self.old × IsOfRun L.pages L.plans self.old }
         ensures fresh { share.old ≤ self.old.book }
-        ensures can { OnOk result (CanPutPage self.old worker page (page_view hashed.entry.page)) }
-        ensures event { OnOk result (Adds self.old (Event.Put worker (JobId.Page page)) self.new) }
-        ensures table { OnOk result (self.new.table ≡ with_digest self.old.table page hashed.entry.digest) }
+        ensures can { OnOk result (CanPutPage self.old worker page.entry.number page.entry.page) }
+        ensures event { OnOk result (Adds self.old (Event.Put worker (JobId.Page page.entry.number)) self.new) }
+        ensures table { OnOk result (self.new.table ≡ with_digest self.old.table page.entry.number page.entry.digest) }
         ensures same { OnOk result ((self.new.plans ≡ self.old.plans) × (self.new.results ≡ self.old.results)) }
         ensures book { OnOk result (self.new.book ≡ self.old.book + 1) }
         ensures share { OnOk result (share.new ≡ share.old + 1) }
-        ensures err { IfErr result (λ h. (h ≡ hashed.entry) × (self.new ≡ self.old) × (share.new ≡ share.old)) }
-        ensures refused { IfErr result (λ h. ¬ CanPutPage self.old worker page (page_view hashed.entry.page)) }
+        ensures err { IfErr result (λ p. (p ≡ page.entry) × (self.new ≡ self.old) × (share.new ≡ share.old)) }
+        ensures refused { IfErr result (λ p. ¬ CanPutPage self.old worker page.entry.number page.entry.page) }
     {
         let BoardState {
             core,
@@ -89,19 +93,15 @@ impl<'a, L: Ledger> BoardState<'a, L> {
         } = self;
         let Share { count, part, .. } = share;
         book.audit(part);
+        let number = page.number();
         let event = Event::Put {
             worker,
-            job: JobId::Page(page),
+            job: JobId::Page(number),
         };
-        if !table.is_page(page, &hashed.page) {
-            return Err(hashed);
-        }
         let Ok(()) = core.step(&event) else {
-            return Err(hashed);
+            return Err(page);
         };
-        let Ok(()) = table.fill(page, hashed) else {
-            unreachable!()
-        };
+        table.keep(number, page.into_hashed());
         history.push_reserved(event);
         book.add(part, 1);
         *count += 1;
@@ -109,37 +109,40 @@ impl<'a, L: Ledger> BoardState<'a, L> {
     }
 
     /// Puts a launch that a worker holds, with its value. It is handed back, and nothing is changed, where the worker
-    /// does not hold that job, or its number, plan or row are not that job's.
-    pub fn put_launch(&mut self, worker: usize, rim: LaunchRim<'a>) -> Result<(), LaunchRim<'a>>
-        ensures board { IsBoard self.old }
-        ensures can { OnOk result (CanPutLaunch self.old worker rim.entry.job.number rim.entry.job.plan rim.entry.job.row.digests) }
-        ensures event { OnOk result (Adds self.old (Event.Put worker (JobId.Launch rim.entry.job.number)) self.new) }
-        ensures results { OnOk result (self.new.results ≡ slice_set self.old.results rim.entry.job.number (Some rim.entry.value)) }
-        ensures own { OnOk result (rim.entry.value.bytes ≡ value_in self.old.table rim.entry.job.plan) }
+    /// does not hold its job.
+    pub fn put_launch(
+        &mut self,
+        worker: usize,
+        launch: ChainedLaunch<'a, L>,
+    ) -> Result<(), ChainedLaunch<'a, L>>
+        ensures board { IsBoard self.old × IsOfRun L.pages L.plans self.old }
+        ensures can { OnOk result (CanPutLaunch self.old worker launch.entry.job.number launch.entry.job.plan launch.entry.job.row.digests) }
+        ensures event { OnOk result (Adds self.old (Event.Put worker (JobId.Launch launch.entry.job.number)) self.new) }
+        ensures results { OnOk result (self.new.results ≡ slice_set self.old.results launch.entry.job.number (Some launch.entry.value)) }
+        ensures own { OnOk result (launch.entry.value.bytes ≡ value_in self.old.table launch.entry.job.plan) }
         ensures same { OnOk result ((self.new.table ≡ self.old.table) × (self.new.plans ≡ self.old.plans) × (self.new.book ≡ self.old.book)) }
-        ensures err { IfErr result (λ r. (r ≡ rim.entry) × (self.new ≡ self.old)) }
-        ensures refused { IfErr result (λ r. ¬ CanPutLaunch self.old worker rim.entry.job.number rim.entry.job.plan rim.entry.job.row.digests) }
+        ensures err { IfErr result (λ l. (l ≡ launch.entry) × (self.new ≡ self.old)) }
+        ensures refused { IfErr result (λ l. ¬ CanPutLaunch self.old worker launch.entry.job.number launch.entry.job.plan launch.entry.job.row.digests) }
     {
         let BoardState {
             core,
             history,
             table,
-            plans,
             results,
             fronts,
             ..
         } = self;
-        let number = rim.number();
-        if !is_plan(plans, number, rim.plan()) || !rim.plan().is_row(table, rim.row()) {
-            return Err(rim);
-        }
+        // Each filled slot of a table has the digest of its own page.
+        let _pages = table.pages();
+        let number = launch.number();
         let event = Event::Put {
             worker,
             job: JobId::Launch(number),
         };
         let Ok(()) = core.step(&event) else {
-            return Err(rim);
+            return Err(launch);
         };
+        let rim = launch.into_rim();
         history.push_reserved(event);
         results[number] = Some(rim.value());
         fronts.keep(number, rim.into_marks());
@@ -149,7 +152,7 @@ impl<'a, L: Ledger> BoardState<'a, L> {
     /// Retires a worker, whose job is then free. False, and nothing is changed, for worker 0 and for workers that are
     /// retired or unknown.
     pub fn retire(&mut self, worker: usize) -> bool
-        ensures board { IsBoard self.old }
+        ensures board { IsBoard self.old × IsOfRun L.pages L.plans self.old }
         ensures yes { result ≡ true → Adds self.old (Event.Retire worker) self.new × SameRest self.old self.new }
         ensures no { result ≡ false → (self.new ≡ self.old) × ((worker ≡ 0) ⊎ (is_out self.old.core worker ≡ true)) }
     {
@@ -171,10 +174,10 @@ impl<'a, L: Ledger> BoardState<'a, L> {
     }
 }
 
-impl<'a, L: Ledger> BoardState<'a, L> {
+impl<'a, L: Run> BoardState<'a, L> {
     /// A free job that is ready, or why none is given. Its event is added, and the row of a launch is filled.
-    pub fn take(&mut self, worker: usize) -> Work<'a>
-        ensures board { IsBoard self.old }
+    pub fn take(&mut self, worker: usize) -> Work<'a, L>
+        ensures board { IsBoard self.old × IsOfRun L.pages L.plans self.old }
         ensures gives { Gives self.old worker result self.new }
     {
         if self.core.is_out(worker) || self.core.is_finished() {
@@ -183,13 +186,69 @@ impl<'a, L: Ledger> BoardState<'a, L> {
         if self.core.held(worker).is_some() {
             return Work::Busy;
         }
-        if let Some(page) = self.next_page(worker) {
-            return Work::Page(page, self.give_page(worker, page));
+        if let Some(number) = self.preferred_launch(worker) {
+            return Work::Launch(self.give_launch(worker, number));
         }
-        if let Some(number) = self.next_launch() {
+        if let Some(page) = self.next_page(worker) {
+            return Work::Page(self.give_page(worker, page));
+        }
+        if let Some(number) = self.core.ready_launch() {
             return Work::Launch(self.give_launch(worker, number));
         }
         Work::Later
+    }
+
+    /// A free launch that is ready and had best be chained before more pages are hashed, if one is known. A worker within a
+    /// group of pages puts these first, since launches wait for what it has hashed.
+    fn preferred_launch(&mut self, worker: usize) -> Option<usize>
+        ensures same { self.new ≡ self.old }
+        ensures some { IfSome result (λ l. (slice_get self.old.core.launches l ≡ Some JobState.Free) × (is_ready self.old.core (JobId.Launch l) ≡ true)) }
+    {
+        if self.has_page_ahead(worker) {
+            return None;
+        }
+        self.note_ready_launches();
+        self.next_open_launch()
+    }
+
+    /// Whether a worker is within a group of pages, the next of which is free.
+    fn has_page_ahead(&self, worker: usize) -> bool {
+        let next = JobId::Page(self.groups.wish(worker));
+        self.groups.is_within(worker) && matches!(self.core.state(next), Some(JobState::Free))
+    }
+
+    /// Notes the launches that came to be ready since this was called last.
+    fn note_ready_launches(&mut self)
+        ensures { self.new ≡ self.old }
+    {
+        let BoardState {
+            core,
+            fronts,
+            noted,
+            ..
+        } = self;
+        for _ in 0..core.launches() {
+            let Some(number) = core.in_line(*noted) else {
+                return;
+            };
+            fronts.note_ready(number);
+            *noted = noted.saturating_add(1);
+        }
+    }
+
+    /// The launch that had best be chained next, if one was noted. Others that were noted and are no longer free are passed.
+    fn next_open_launch(&mut self) -> Option<usize>
+        ensures same { self.new ≡ self.old }
+        ensures some { IfSome result (λ l. (slice_get self.old.core.launches l ≡ Some JobState.Free) × (is_ready self.old.core (JobId.Launch l) ≡ true)) }
+    {
+        let BoardState { core, fronts, .. } = self;
+        for _ in 0..2 * core.launches() {
+            let number = fronts.next()?;
+            if core.is_open(number) {
+                return Some(number);
+            }
+        }
+        None
     }
 
     /// A free page: the one that the worker had best hash next, if that is one.
@@ -205,34 +264,15 @@ impl<'a, L: Ledger> BoardState<'a, L> {
         Some(page)
     }
 
-    /// A free launch that is ready: the one that had best be chained next, if that is one.
-    fn next_launch(&mut self) -> Option<usize>
-        ensures same { self.new ≡ self.old }
-        ensures some { IfSome result (λ l. (slice_get self.old.core.launches l ≡ Some JobState.Free) × (is_ready self.old.core (JobId.Launch l) ≡ true)) }
-        ensures none { IfNone result ((l : ℕ) → slice_get self.old.core.launches l ≡ Some JobState.Free → is_ready self.old.core (JobId.Launch l) ≡ false) }
-    {
-        let BoardState { core, fronts, .. } = self;
-        let first = core.ready_launch()?;
-        for _ in 0..core.launches() {
-            let Some(number) = fronts.next() else {
-                return Some(first);
-            };
-            fronts.pass();
-            if core.is_open(number) {
-                return Some(number);
-            }
-        }
-        Some(first)
-    }
-
     /// Gives a free page to a worker that holds no job.
-    fn give_page(&mut self, worker: usize, page: usize) -> PageJob<'a>
+    fn give_page(&mut self, worker: usize, page: usize) -> PageTask<'a, L>
         requires known { is_out self.old.core worker ≡ false }
         requires idle { held_count self.old.core worker ≡ 0 }
         requires free { state_of self.old.core (JobId.Page page) ≡ Some JobState.Free }
         ensures event { Adds self.old (Event.Take worker (JobId.Page page)) self.new }
         ensures rest { SameRest self.old self.new }
-        ensures page { slice_get self.old.table.pages page ≡ Some (page_view result.page) }
+        ensures number { result.number ≡ page }
+        ensures page { slice_get self.old.table.pages page ≡ Some result.page }
     {
         let BoardState {
             core,
@@ -248,11 +288,14 @@ impl<'a, L: Ledger> BoardState<'a, L> {
             unreachable!()
         };
         history.push_reserved(event);
-        PageJob::new(page_at(table.pages(), page))
+        let Some(task) = PageTask::new(table.pages(), page) else {
+            unreachable!()
+        };
+        task
     }
 
     /// Gives a free launch that is ready to a worker that holds no job.
-    fn give_launch(&mut self, worker: usize, number: usize) -> LaunchJob<'a>
+    fn give_launch(&mut self, worker: usize, number: usize) -> LaunchTask<'a, L>
         requires known { is_out self.old.core worker ≡ false }
         requires idle { held_count self.old.core worker ≡ 0 }
         requires free { state_of self.old.core (JobId.Launch number) ≡ Some JobState.Free }
@@ -287,14 +330,17 @@ impl<'a, L: Ledger> BoardState<'a, L> {
         if !plan.fill_row(table, &mut row) {
             unreachable!()
         }
+        // Each filled slot of a table has the digest of its own page.
+        let _pages = table.pages();
         let head = fronts.front(plans, number);
-        LaunchJob::new(number, plan, row).going_on(head, fronts.take_marks(number))
+        let job = LaunchJob::new(number, plan, row);
+        LaunchTask::new(job.going_on(head, fronts.take_marks(number)))
     }
 }
 
-impl<'a, L: Ledger> BoardState<'a, L> {
-    /// A board of 1 to 64 workers, all of whose jobs are to be done, and a share for each worker. Each launch needs all
-    /// pages. It takes all memory that the board's calls need; the table is dropped where that is refused.
+impl<'a, L: Run> BoardState<'a, L> {
+    /// A board of 1 to 64 workers, all of whose jobs are to be done, and a share for each worker. Each launch needs just the
+    /// pages of its own plan. It takes all memory that the board's calls need; the table is dropped where that is refused.
     pub fn new(
         alloc: Global,
         blank: Blank,
@@ -304,17 +350,21 @@ impl<'a, L: Ledger> BoardState<'a, L> {
     ) -> Result<(BoardState<'a, L>, Vec<Share<L>>), NoMemory>
         requires name { blank.name ≡ L.name }
         requires parts { (blank.parts ≡ L.parts) × (blank.parts ≡ workers) }
+        requires pages { table.pages ≡ L.pages }
+        requires plans { plans.now ≡ L.plans }
         requires workers { (1 ≤ workers) × (workers ≤ 64) }
         requires empty { table.digests ≡ replicate (length table.pages) None }
         requires keys { All (λ p. All (Contains (page_keys table.pages)) (keys_of p.links)) plans.now }
-        ensures core { IfOk result (λ r. r.0.core ≡ opening workers (length table.entry.pages) (replicate (length plans.now) (range_with_len 0 (length table.entry.pages)))) }
+        ensures core { IfOk result (λ r. r.0.core ≡ opening workers (length table.entry.pages) r.0.core.needs) }
+        ensures needs { IfOk result (λ r. NeedsOwn table.entry plans.now r.0.core.needs) }
         ensures rest { IfOk result (λ r. (r.0.history ≡ []) × (r.0.table ≡ table.entry) × (r.0.plans ≡ plans.now) × (r.0.results ≡ replicate (length plans.now) None) × (r.0.book ≡ 0)) }
         ensures shares { IfOk result (λ r. r.1.items ≡ replicate workers 0) }
     {
         let (book, part) = blank.open::<L>();
         let shares = cut(alloc, part, workers)?;
         let pages = table.pages().len();
-        let core = Core::with_needs(alloc, workers, pages, Needs::AllPages(plans.len()))?;
+        let needs = own_needs(alloc, &table, plans)?;
+        let core = Core::with_needs(alloc, workers, pages, needs)?;
         let history = room_for(alloc, 2 * (pages + plans.len()) + 2 * workers)?;
         let rows = rows_of(alloc, plans)?;
         let spare = spare_rows(alloc, plans, workers)?;
@@ -331,6 +381,7 @@ impl<'a, L: Ledger> BoardState<'a, L> {
                 spare,
                 results,
                 fronts,
+                noted: 0,
                 groups,
                 book,
             },
@@ -339,16 +390,16 @@ impl<'a, L: Ledger> BoardState<'a, L> {
     }
 }
 
-impl<'a, L: Ledger> BoardState<'a, L> {
+impl<'a, L: Run> BoardState<'a, L> {
     /// The pages of its table, which are lent. Page `j` is the one of job `j`.
     pub fn pages(&self) -> &'a [Page<'a>]
-        ensures { map page_view result.now ≡ self.now.table.pages }
+        ensures { map page_view result.now ≡ L.pages }
     {
         self.table.pages()
     }
 }
 
-impl<'a, L: Ledger> BoardState<'a, L> {
+impl<'a, L: Run> BoardState<'a, L> {
     /// Ends a run, all of whose jobs are done: writes how many pages each worker has put, and the value of each launch in
     /// the order of the plans. The answer is the number of pages, to which the workers' numbers add up.
     pub fn close(
@@ -360,13 +411,13 @@ impl<'a, L: Ledger> BoardState<'a, L> {
         requires whole { vec_len shares ≡ L.parts }
         requires some { 0 < vec_len shares }
         requires counts { length counts.old ≡ vec_len shares }
-        requires values { length values.old ≡ length self.old.plans }
+        requires values { length values.old ≡ length L.plans }
         requires over { is_over self.old.core ≡ true }
         ensures same { self.new ≡ self.old }
         ensures counts { counts.new ≡ shares.items }
-        ensures pages { result ≡ length self.old.table.pages }
+        ensures pages { result ≡ length L.pages }
         ensures sum { sum counts.new ≡ result }
-        ensures values { AreValuesOf self.old.table.pages self.old.plans values.new }
+        ensures values { AreValuesOf L.pages L.plans values.new }
     {
         write_counts(&shares, counts);
         let BoardState {
@@ -398,19 +449,4 @@ fn free_of(core: &Core, page: usize, other: usize) -> usize
         Some(JobState::Free) => page,
         _ => other,
     }
-}
-
-/// Whether this is the plan of a number.
-fn is_plan(plans: &[LaunchPlan], number: usize, plan: &LaunchPlan) -> bool
-    ensures { IsTrue result ↔ (slice_get plans.now number ≡ Some plan.now) }
-{
-    number < plans.len() && plans[number].is_same(plan)
-}
-
-/// The page of a number.
-fn page_at<'a>(pages: &[Page<'a>], number: usize) -> Page<'a>
-    requires { number < length pages.now }
-    ensures { slice_get (map page_view pages.now) number ≡ Some (page_view result) }
-{
-    pages[number]
 }

@@ -1,14 +1,14 @@
 //! What a worker is given.
-use page_jobs::PageJob;
-use rim_chain::LaunchJob;
+use crate::run::Run;
+use crate::task::{LaunchTask, PageTask};
 
 /// A job, or why none is given.
 #[derive(Drop)]
-pub enum Work<'a> {
-    /// A page to hash, and its number.
-    Page(usize, PageJob<'a>),
+pub enum Work<'a, L: Run> {
+    /// A page to hash.
+    Page(PageTask<'a, L>),
     /// A launch to chain.
-    Launch(LaunchJob<'a>),
+    Launch(LaunchTask<'a, L>),
     /// Nothing that is free is ready, and something is not done.
     Later,
     /// The worker holds a job.

@@ -1,10 +1,23 @@
 -- How a core keeps what each launch needs. This project's choice.
-use Rattle.std.specs.Prelude.{ℕ, List, map, replicate}
+use Rattle.std.specs.Prelude.{ℕ, List, length, map}
 use Rattle.std.specs.List.{range_with_len}
 use Rattle.job_board.specs.declared.needs.Needs.{Needs}
-use Rattle.job_board.specs.declared.needs.Needs.TheVariants.{AllPages, Listed}
+use Rattle.job_board.specs.declared.needs.Needs.TheVariants.{Listed, Prefixes}
+use Rattle.job_board.specs.declared.prefixes.PageGroup.{PageGroup}
+use Rattle.job_board.specs.Jobs.{NeedsWithin}
+use Rattle.job_board.specs.inside.Prefixes.{AreGroups, IsIndex, prefix_needs}
 
--- the numbers of the pages that each launch needs, where there are as many pages
-abbrev pub needs_of : ℕ → Needs → List (List ℕ)
-needs_of pages (AllPages launches) = replicate launches (range_with_len 0 pages)
-needs_of pages (Listed lists) = map (λ v. v.items) lists.items
+-- the numbers of the pages that each launch needs
+abbrev pub needs_of : Needs → List (List ℕ)
+needs_of (Listed lists groups) = map (λ v. v.items) lists.items
+needs_of (Prefixes launches groups) = map (prefix_needs groups.items) (range_with_len 0 launches)
+
+abbrev pub groups_of : Needs → List PageGroup
+groups_of (Listed lists groups) = groups.items
+groups_of (Prefixes launches groups) = groups.items
+
+-- needs of pages among so many, which are kept in groups
+pub record AreNeeds (pages : ℕ) (n : Needs) : Type 0 where
+  pub within : NeedsWithin (needs_of n) pages
+  pub groups : AreGroups pages (length (needs_of n)) (groups_of n)
+  pub index : IsIndex (needs_of n) (groups_of n)

@@ -1,38 +1,22 @@
 //! What is asked of a board, and what it answers. Page n is the page of file n, which has n + 1 bytes.
-ghost use Rattle.std.specs.Prelude.{◌≡◌, ◌≤◌, map, IfOk};
+ghost use Rattle.std.specs.Prelude.{◌≡◌, ◌≤◌, length, map, replicate, IfOk, None};
+ghost use Rattle.std.specs.List.{All, Contains};
 ghost use Rattle.page_jobs.specs.Key.{IsRising};
 ghost use Rattle.page_jobs.specs.Page.{page_view};
 ghost use Rattle.page_jobs.specs.Table.{keys_of as page_keys};
+ghost use Rattle.rim_chain.specs.Links.{keys_of};
 
-use job_board::{BoardState, Share, Work, has_all_keys};
-use page_jobs::{Blob, DigestRow, Page, PageJob, PageKey, Table, distinct_pages};
+use job_board::{BoardState, ChainedLaunch, PageTask, Run, Share, Work, has_all_keys};
+use page_jobs::{Blob, Page, PageKey, Table, distinct_pages};
 use refusal::NoMemory;
-use rim_chain::{LaunchJob, LaunchPlan, LaunchRim, Link};
+use rim_chain::{LaunchPlan, Link};
 use rim_desc::{Algo, RealmParams, Source};
 use std::alloc::Global;
 use std::marker::Brand;
 use std::process::Abort;
-use std::sync::ledger::{Blank, Ledger};
+use std::sync::ledger::Blank;
 
 const ONES: [u8; 64] = [1; 64];
-
-const TWOS: [u8; 64] = [2; 64];
-
-/// A page, by its number.
-#[derive(Clone, Copy, Debug)]
-pub(super) enum Offer {
-    Own(usize),
-    /// It has the key of the page of this number, and other bytes.
-    Forged(usize),
-}
-
-/// A launch that was chained: the number it has, the plan of this number, and a row with the digests of these pages.
-#[derive(Clone, Copy, Debug)]
-pub(super) struct Chained<'a> {
-    pub(super) number: usize,
-    pub(super) plan: usize,
-    pub(super) row: &'a [Offer],
-}
 
 /// What a take gives.
 #[derive(Clone, Copy, Debug, PartialEq, Eq)]
@@ -46,23 +30,19 @@ pub(super) enum Given {
 
 /// What is asked of a board by a worker, and what is answered.
 #[derive(Clone, Copy, Debug)]
-pub(super) enum Ask<'a> {
+pub(super) enum Ask {
     Take(usize, Given),
-    /// A put of a page as the job of a number, and whether it is accepted.
-    Page(usize, usize, Offer, bool),
-    /// A put of a launch, and whether it is accepted.
-    Launch(usize, Chained<'a>, bool),
+    /// A put of the page of a number, and whether it is accepted.
+    Page(usize, usize, bool),
+    /// A put of the launch of a number, as it was taken last, and whether it is accepted.
+    Launch(usize, usize, bool),
     Retire(usize, bool),
     /// The share of the worker.
     Share(usize, u64),
 }
 
-fn page_of(offer: Offer) -> Page<'static> {
-    let (number, bytes) = match offer {
-        Offer::Own(number) => (number, &ONES),
-        Offer::Forged(number) => (number, &TWOS),
-    };
-    let (bytes, _) = bytes.split_at(number.min(63) + 1);
+fn page_of(number: usize) -> Page<'static> {
+    let (bytes, _) = ONES.split_at(number.min(63) + 1);
     Blob::new(Source::File(number), 0, bytes).page(Algo::Sha256, 0)
 }
 
@@ -72,7 +52,7 @@ fn pages_of(alloc: Global, count: usize) -> Result<Vec<Page<'static>>, NoMemory>
 {
     let mut pages = Vec::new(alloc);
     for number in 0..count {
-        pages.push(page_of(Offer::Own(number)))?;
+        pages.push(page_of(number))?;
     }
     distinct_pages(&mut pages);
     Ok(pages)
@@ -123,36 +103,37 @@ fn plans_of(
     Ok(plans)
 }
 
-/// A board, the shares of its workers, and its plans.
+/// A board, the shares of its workers, and each launch that was taken, chained.
 #[derive(Drop)]
-struct Desk<'a, L: Ledger> {
+struct Desk<'a, L: Run> {
     board: BoardState<'a, L>,
     shares: Vec<Share<L>>,
-    plans: &'a [LaunchPlan],
+    chained: Vec<Option<ChainedLaunch<'a, L>>>,
 }
 
-/// Takes, and compares what is given.
-fn take<L: Ledger>(rt: &impl Abort, desk: &mut Desk<'_, L>, worker: usize) -> Given {
+/// Takes, and chains a launch that is given.
+fn take<L: Run>(rt: &impl Abort, desk: &mut Desk<'_, L>, worker: usize) -> Given {
     match desk.board.take(worker) {
-        Work::Page(number, job) => {
-            assert!(rt; job.page.is_same(&page_of(Offer::Own(number))));
-            Given::Page(number)
+        Work::Page(task) => Given::Page(task.number()),
+        Work::Launch(task) => {
+            let number = task.number();
+            keep(rt, desk, task.run());
+            Given::Launch(number)
         }
-        Work::Launch(job) => Given::Launch(job.number()),
         Work::Later => Given::Later,
         Work::Busy => Given::Busy,
         Work::Done => Given::Done,
     }
 }
 
+/// Keeps a launch that was chained.
+fn keep<'a, L: Run>(rt: &impl Abort, desk: &mut Desk<'a, L>, launch: ChainedLaunch<'a, L>) {
+    let place = desk.chained.get_mut(launch.number());
+    *place.expect(rt, "the launch exists") = Some(launch);
+}
+
 /// Whether a page is accepted. It is counted in the worker's share, or in that of worker 0 where the worker has none.
-fn put_page<L: Ledger>(
-    rt: &impl Abort,
-    desk: &mut Desk<'_, L>,
-    worker: usize,
-    job: usize,
-    offer: Offer,
-) -> bool {
+fn put_page<L: Run>(rt: &impl Abort, desk: &mut Desk<'_, L>, worker: usize, number: usize) -> bool {
     let place = if worker < desk.shares.len() {
         worker
     } else {
@@ -162,63 +143,42 @@ fn put_page<L: Ledger>(
         .shares
         .get_mut(place)
         .expect(rt, "worker 0 has a share");
-    let hashed = PageJob::new(page_of(offer)).run();
-    match desk.board.put_page(worker, job, hashed, share) {
+    let Some(task) = PageTask::new(desk.board.pages(), number) else {
+        panic!(rt; "the page exists");
+    };
+    match desk.board.put_page(worker, task.run(), share) {
         Ok(()) => true,
         Err(back) => {
-            assert!(rt; back.page.is_same(&page_of(offer)));
+            assert!(rt; back.number() == number, "what is handed back");
             false
         }
     }
 }
 
-/// A row with the digests of these pages, as many as the plan has.
-fn row_of(rt: &impl Abort, alloc: Global, plan: &LaunchPlan, offers: &[Offer]) -> DigestRow {
-    let mut row = DigestRow::reserve(alloc, plan.pages()).expect(rt, "memory");
-    for offer in offers {
-        if row.digests().len() < row.room() {
-            row.push(PageJob::new(page_of(*offer)).run().digest);
-        }
-    }
-    row
-}
-
-/// A launch that was chained so.
-fn chain_of<'a>(
+/// Whether a launch that was taken before is accepted.
+fn put_launch<L: Run>(
     rt: &impl Abort,
-    alloc: Global,
-    plans: &'a [LaunchPlan],
-    launch: Chained<'_>,
-) -> LaunchRim<'a> {
-    let plan = plans.get(launch.plan).expect(rt, "the plan exists");
-    let row = row_of(rt, alloc, plan, launch.row);
-    if row.digests().len() != plan.pages() {
-        panic!(rt; "the row is filled");
-    }
-    LaunchJob::new(launch.number, plan, row).run()
-}
-
-/// Whether a launch is accepted.
-fn put_launch<L: Ledger>(
-    rt: &impl Abort,
-    alloc: Global,
     desk: &mut Desk<'_, L>,
     worker: usize,
-    launch: Chained<'_>,
+    number: usize,
 ) -> bool {
-    let rim = chain_of(rt, alloc, desk.plans, launch);
-    let value = rim.value();
-    match desk.board.put_launch(worker, rim) {
+    let place = desk.chained.get_mut(number);
+    let Some(launch) = place.expect(rt, "the launch exists").take() else {
+        panic!(rt; "the launch was taken");
+    };
+    let value = launch.value();
+    match desk.board.put_launch(worker, launch) {
         Ok(()) => true,
         Err(back) => {
             assert!(rt; back.value() == value, "what is handed back");
+            keep(rt, desk, back);
             false
         }
     }
 }
 
 /// How many pages are counted in a worker's share.
-fn count_of<L: Ledger>(desk: &Desk<'_, L>, worker: usize) -> Option<u64> {
+fn count_of<L: Run>(desk: &Desk<'_, L>, worker: usize) -> Option<u64> {
     match desk.shares.get(worker) {
         Some(share) => Some(share.count()),
         None => None,
@@ -226,58 +186,51 @@ fn count_of<L: Ledger>(desk: &Desk<'_, L>, worker: usize) -> Option<u64> {
 }
 
 /// Whether the answer is the one that is given.
-fn is_answer<L: Ledger>(
-    rt: &impl Abort,
-    alloc: Global,
-    desk: &mut Desk<'_, L>,
-    ask: &Ask<'_>,
-) -> bool {
+fn is_answer<L: Run>(rt: &impl Abort, desk: &mut Desk<'_, L>, ask: &Ask) -> bool {
     match *ask {
         Ask::Take(worker, given) => take(rt, desk, worker) == given,
-        Ask::Page(worker, job, offer, is_taken) => {
-            put_page(rt, desk, worker, job, offer) == is_taken
-        }
-        Ask::Launch(worker, launch, is_taken) => {
-            put_launch(rt, alloc, desk, worker, launch) == is_taken
-        }
+        Ask::Page(worker, number, is_taken) => put_page(rt, desk, worker, number) == is_taken,
+        Ask::Launch(worker, number, is_taken) => put_launch(rt, desk, worker, number) == is_taken,
         Ask::Retire(worker, is_retired) => desk.board.retire(worker) == is_retired,
         Ask::Share(worker, count) => count_of(desk, worker) == Some(count),
     }
 }
 
-fn ask_all<L: Ledger>(rt: &impl Abort, alloc: Global, desk: &mut Desk<'_, L>, asks: &[Ask<'_>]) {
+fn ask_all<L: Run>(rt: &impl Abort, desk: &mut Desk<'_, L>, asks: &[Ask]) {
     for ask in asks {
-        assert!(rt; is_answer(rt, alloc, desk, ask), "{ask:?}");
+        assert!(rt; is_answer(rt, desk, ask), "{ask:?}");
     }
 }
 
-fn play_on<L: Ledger>(
+/// Asks a new board over a table and plans.
+fn play_on<'a, L: Run>(
     rt: &impl Abort,
     alloc: Global,
     blank: Blank,
     workers: usize,
-    pages: usize,
-    launches: &[&[usize]],
-    asks: &[Ask<'_>],
+    table: Table<'a>,
+    plans: &'a [LaunchPlan],
+    asks: &[Ask],
 ) -> Result<(), NoMemory>
     requires name { blank.name ≡ L.name }
     requires parts { (blank.parts ≡ L.parts) × (blank.parts ≡ workers) }
+    requires pages { table.pages ≡ L.pages }
+    requires plans { plans.now ≡ L.plans }
     requires workers { (1 ≤ workers) × (workers ≤ 64) }
+    requires keys { All (λ p. All (Contains (page_keys table.pages)) (keys_of p.links)) plans.now }
+    requires empty { table.digests ≡ replicate (length table.pages) None }
 {
-    let pages = pages_of(alloc, pages)?;
-    let owned = plans_of(rt, alloc, launches)?;
-    let plans = owned.as_slice();
-    let table = Table::reserve(alloc, &pages)?;
-    if !has_all_keys(&table, plans) {
-        panic!(rt; "all pages of the launches exist");
-    }
     let (board, shares) = BoardState::<L>::new(alloc, blank, workers, table, plans)?;
+    let mut chained = Vec::with_capacity(alloc, plans.len())?;
+    for _launch in plans {
+        chained.push(None)?;
+    }
     let mut desk = Desk {
         board,
         shares,
-        plans,
+        chained,
     };
-    ask_all(rt, alloc, &mut desk, asks);
+    ask_all(rt, &mut desk, asks);
     Ok(())
 }
 
@@ -289,21 +242,23 @@ pub(super) fn play(
     workers: usize,
     pages: usize,
     launches: &[&[usize]],
-    asks: &[Ask<'_>],
+    asks: &[Ask],
 ) {
     let workers = workers.max(1).min(64);
+    let pages = pages_of(alloc, pages).expect(rt, "memory");
+    let owned = plans_of(rt, alloc, launches).expect(rt, "memory");
+    let plans = owned.as_slice();
+    let table = Table::reserve(alloc, &pages).expect(rt, "memory");
+    if !has_all_keys(&table, plans) {
+        panic!(rt; "all pages of the launches exist");
+    }
     let blank = Blank::new(workers as u64);
-    let played = play_on::<Brand>(rt, alloc, blank, workers, pages, launches, asks);
+    let played = play_on::<Brand>(rt, alloc, blank, workers, table, plans, asks);
     played.expect(rt, "memory");
 }
 
 /// How many workers, how many pages, the pages that each launch measures, and what is asked.
-pub(super) type Game = (
-    usize,
-    usize,
-    &'static [&'static [usize]],
-    &'static [Ask<'static>],
-);
+pub(super) type Game = (usize, usize, &'static [&'static [usize]], &'static [Ask]);
 
 pub(super) fn play_game(rt: &impl Abort, alloc: Global, game: &Game) {
     let (workers, pages, launches, asks) = game;

@@ -1,55 +1,68 @@
 //! The least and the largest boards.
 use super::boards::Ask::{Launch, Page, Retire, Take};
-use super::boards::{Ask, Chained, Game, Given, Offer, play, play_game};
+use super::boards::{Ask, Game, Given, play, play_game};
 use std::alloc::Global;
 use std::process::Abort;
 
 /// A board without jobs.
-const NO_JOBS: [Ask<'static>; 4] = [
-    Take(0, Given::Done),
-    Take(1, Given::Done),
-    Page(0, 0, Offer::Own(0), false),
-    Retire(0, false),
-];
+const NO_JOBS: [Ask; 3] = [Take(0, Given::Done), Take(1, Given::Done), Retire(0, false)];
 
 /// The launch measures no page.
-const OF_NONE: Chained<'static> = Chained {
-    number: 0,
-    plan: 0,
-    row: &[],
-};
-
-const NO_PAGES: [Ask<'static>; 5] = [
-    Launch(0, OF_NONE, false),
+const NO_PAGES: [Ask; 4] = [
     Take(0, Given::Launch(0)),
     Take(0, Given::Busy),
-    Launch(0, OF_NONE, true),
+    Launch(0, 0, true),
     Take(0, Given::Done),
 ];
 
-const OF_ONE: Chained<'static> = Chained {
-    number: 0,
-    plan: 0,
-    row: &[Offer::Own(1)],
-};
-
-/// Each launch waits for all pages, also for those that it does not measure.
-const AFTER_ALL: [Ask<'static>; 9] = [
+/// A launch waits for its own pages, and not for those that it does not measure.
+const OWN_PAGE: [Ask; 8] = [
     Take(0, Given::Page(0)),
     Take(1, Given::Page(1)),
-    Page(1, 1, Offer::Own(1), true),
-    Take(1, Given::Later),
-    Launch(1, OF_ONE, false),
-    Page(0, 0, Offer::Own(0), true),
+    Page(1, 1, true),
     Take(1, Given::Launch(0)),
-    Launch(1, OF_ONE, true),
+    Launch(1, 0, true),
+    Take(1, Given::Later),
+    Page(0, 0, true),
+    Take(1, Given::Done),
+];
+
+/// As many pages as are hashed side by side, and more.
+const FIVE: [usize; 5] = [0, 1, 2, 3, 4];
+
+/// A launch that is ready is given before more pages, but not to a worker within a group of pages that it hashed side by
+/// side.
+const READY_FIRST: [Ask; 9] = [
+    Take(0, Given::Page(0)),
+    Take(1, Given::Page(4)),
+    Page(1, 4, true),
+    Page(0, 0, true),
+    Take(0, Given::Page(1)),
+    Page(0, 1, true),
+    Take(2, Given::Launch(1)),
+    Launch(2, 1, true),
+    Take(2, Given::Page(2)),
+];
+
+/// The last group of pages is not whole. Of the launches that are ready then, the one with the most to chain is first.
+const LONGEST_FIRST: [Ask; 9] = [
+    Take(0, Given::Page(0)),
+    Page(0, 0, true),
+    Take(0, Given::Page(1)),
+    Page(0, 1, true),
+    Take(0, Given::Launch(1)),
+    Launch(0, 1, true),
+    Take(0, Given::Launch(0)),
+    Launch(0, 0, true),
     Take(0, Given::Done),
 ];
 
-const GAMES: [Game; 3] = [
+const GAMES: [Game; 5] = [
     (1, 0, &[], &NO_JOBS),
     (1, 0, &[&[]], &NO_PAGES),
-    (2, 2, &[&[1]], &AFTER_ALL),
+    (2, 2, &[&[1]], &OWN_PAGE),
+    (3, 5, &[&FIVE, &[4]], &READY_FIRST),
+    (1, 2, &[&[0], &[1, 0]], &LONGEST_FIRST),
 ];
 
 #[test]
@@ -80,16 +93,16 @@ fn after(page: usize, pages: usize) -> Given {
 }
 
 /// What worker 0 asks for each page: that it is accepted, and the next one.
-fn work_at(number: usize, pages: usize) -> Ask<'static> {
+fn work_at(number: usize, pages: usize) -> Ask {
     let page = number / 2;
     if number % 2 == 0 {
-        Page(0, page, Offer::Own(page), true)
+        Page(0, page, true)
     } else {
         Take(0, after(page, pages))
     }
 }
 
-fn ask_at(number: usize, workers: usize) -> Ask<'static> {
+fn ask_at(number: usize, workers: usize) -> Ask {
     if number < workers {
         Take(number, Given::Page(page_after(number, workers)))
     } else if number == workers {
@@ -102,7 +115,7 @@ fn ask_at(number: usize, workers: usize) -> Ask<'static> {
 }
 
 /// Each of this many workers takes a page, and all but worker 0 retire. Worker 0 works all pages.
-fn asks_of(rt: &impl Abort, alloc: Global, workers: usize) -> Vec<Ask<'static>> {
+fn asks_of(rt: &impl Abort, alloc: Global, workers: usize) -> Vec<Ask> {
     let mut asks = Vec::new(alloc);
     for number in 0..workers.saturating_mul(4) {
         asks.push(ask_at(number, workers)).expect(rt, "memory");

@@ -9,10 +9,10 @@ pub returns-then-self-eq0 : goal.returns-then-self-eq0
 returns-then-self-eq0 c =
     let i = c.self.inside in
     let none = eq-eqb i.pages_left 0 c.if-self-eq0.true in
-    subst (λ (u : CoreState). (i.launches_left == 0) ≡ is_over u) c.self.view_is (finished_then i.pages_from i.launches_from i.pages_left i.launches_left i.seen.items i.jobs c.self.invariant.1 none)
+    subst (λ (u : CoreState). (i.launches_left == 0) ≡ is_over u) c.self.view_is (finished_then i.pages_from i.pages_left i.launches_left i.jobs c.self.invariant.1 none)
 
 pub returns-else-self-eq0 : goal.returns-else-self-eq0
 returns-else-self-eq0 c =
     let i = c.self.inside in
     let some = ne_eqb i.pages_left 0 c.if-self-eq0.false in
-    some ∙ subst (λ (u : CoreState). false ≡ is_over u) c.self.view_is (finished_else i.pages_from i.launches_from i.pages_left i.launches_left i.seen.items i.jobs c.self.invariant.1 some)
+    some ∙ subst (λ (u : CoreState). false ≡ is_over u) c.self.view_is (finished_else i.pages_from i.pages_left i.launches_left i.jobs c.self.invariant.1 some)

@@ -2,7 +2,8 @@ use Rattle.std.proofs.Common.{◌≡◌, ◌∙◌, List, Option, ap, arith, len
 use Rattle.std.specs.List.{slice_get}
 use Rattle.std.proofs.lemmas.List.{length-map}
 use Rattle.rim_desc.specs.declared.measurement.Measurement.{Measurement}
-use Rattle.page_jobs.specs.Page.{page_view}
+use Rattle.page_jobs.specs.Page.{PageView, page_view}
+use Rattle.rim_chain.specs.Links.{PlanView}
 use Rattle.job_board.specs.Board.{AreValuesOf, BoardView}
 use Rattle.job_board.specs.Jobs.{is_over}
 use Rattle.job_board.proofs.Boards.{results_are}
@@ -13,7 +14,7 @@ pub copy_values-requires-clause-size : goal.copy_values-requires-clause-size
 copy_values-requires-clause-size g c =
     let i = c.self.inside in
     let b : BoardView = record { core = i.core; history = i.history.items; table = i.table; plans = i.plans.now; results = i.results.items; book = i.book.total } in
-    omega (arith, ap (λ (v : BoardView). length v.plans) c.self.view_is, c.requires.values, c.self.invariant.0.plans, results_are b c.self.invariant.0, ap length c.deref-2.ensures.value)
+    omega (arith, ap length c.self.invariant.4.1, c.requires.values, c.self.invariant.0.plans, results_are b c.self.invariant.0, ap length c.deref-2.ensures.value)
 
 pub copy_values-requires-clause-all : goal.copy_values-requires-clause-all
 copy_values-requires-clause-all g c =
@@ -35,4 +36,5 @@ returns-clause-values g c =
     let b : BoardView = record { core = i.core; history = i.history.items; table = i.table; plans = i.plans.now; results = i.results.items; book = i.book.total } in
     let over : is_over b.core ≡ true = subst (λ (v : BoardView). is_over v.core ≡ true) (sym c.self.view_is) c.requires.over in
     let own = over_values b c.copy_values.new.values c.self.invariant.0 c.pages.ensures.table over (c.copy_values.ensures ∙ c.deref-2.ensures.value) in
-    subst (λ (v : BoardView). AreValuesOf v.table.pages v.plans c.copy_values.new.values) c.self.view_is own
+    subst (λ (pages : List PageView). AreValuesOf pages g.L.Run.plans c.copy_values.new.values) c.self.invariant.4.0
+    (subst (λ (plans : List PlanView). AreValuesOf i.table.pages plans c.copy_values.new.values) c.self.invariant.4.1 own)

@@ -1,5 +1,10 @@
-use Rattle.std.proofs.Common.{◌≡◌, ◌∙◌, Ok, arith, false, refl, sym, true}
+use Rattle.std.proofs.Common.{◌≡◌, ◌∙◌, List, Ok, Some, ap, arith, false, refl, subst, sym, true}
+use Rattle.std.specs.List.{slice_get}
 use Rattle.std.proofs.lemmas.Option.{slice_get_within}
+use Rattle.page_jobs.specs.Page.{PageView}
+use Rattle.rim_chain.specs.Links.{PlanView, keys_of}
+use Rattle.job_board.specs.Tasks.{IsOwnRow}
+use Rattle.job_board.proofs.OwnRows.{own_row}
 use Rattle.job_board.specs.declared.job.Event.TheVariants.{Take}
 use Rattle.job_board.specs.declared.job.JobId.TheVariants.{Launch}
 use Rattle.job_board.specs.declared.job.JobState.TheVariants.{Free}
@@ -46,7 +51,7 @@ pub going_on-requires : goal.going_on-requires
 going_on-requires g c =
     let i = c.self.inside in
     let known = c.front-head.ensures i.table c.plan_at-plan.result.now c.self.invariant.3 c.plan_at-plan.ensures in
-    rw c.new.ensures (own-head i.table c.plan_at-plan.result.now c.fill_row.new.row.digests c.front-head.result (c.fill_row.ensures.filled c.if-not-fill_row.false) known)
+    rw c.new-job.ensures (own-head i.table c.plan_at-plan.result.now c.fill_row.new.row.digests c.front-head.result (c.fill_row.ensures.filled c.if-not-fill_row.false) known)
 
 pub invariant_of-self : goal.invariant_of-self
 invariant_of-self g c =
@@ -58,4 +63,14 @@ invariant_of-self g c =
       omega (arith, most, c.self.invariant.1, c.push_reserved.ensures.capacity),
       rw c.take_row.ensures.rest (rows_take_launch i.core c.step.new.self i.plans.now i.rows.items i.spare.items c.args.worker c.args.number c.self.invariant.2 step),
       c.take_marks.ensures.shared i.table i.plans.now c.self.invariant.3,
+      c.self.invariant.4,
     )
+
+pub new-requires : goal.new-requires
+new-requires g c =
+    let i = c.self.inside in
+    let p = c.plan_at-plan.result.now in
+    let digests = c.fill_row.new.row.digests in
+    let plan : slice_get g.L.Run.plans c.args.number ≡ Some p = ap (λ (plans : List PlanView). slice_get plans c.args.number) (sym c.self.invariant.4.1) ∙ c.plan_at-plan.ensures in
+    let row = own_row i.table c.pages-pages.ensures.table (keys_of p.links) digests (c.fill_row.ensures.filled c.if-not-fill_row.false) in
+    rw (c.going_on.ensures, c.new-job.ensures) (plan, subst (λ (pages : List PageView). IsOwnRow pages (keys_of p.links) digests) c.self.invariant.4.0 row)

@@ -1,4 +1,4 @@
-use Rattle.std.proofs.Common.{◌≡◌, Ok, ap, arith, length, refl}
+use Rattle.std.proofs.Common.{◌≡◌, ◌<◌, Ok, ap, arith, false, length, refl, true}
 use Rattle.std.proofs.lemmas.List.{length-map}
 use Rattle.std.proofs.lemmas.Option.{slice_get_within}
 use Rattle.page_jobs.specs.Page.{page_view}
@@ -20,12 +20,14 @@ push_reserved-requires g c =
     let room = history_room i.core c.step.new.self i.history.items (Take c.args.worker (Page c.args.page)) c.self.invariant.0.history step in
     omega (arith, room, c.self.invariant.1)
 
-pub page_at-requires : goal.page_at-requires
-page_at-requires g c =
+pub unreachable-requires-in_default-new : goal.unreachable-requires-in_default-new
+unreachable-requires-in_default-new g c =
     let i = c.self.inside in
     let step : core_step i.core (Take c.args.worker (Page c.args.page)) ≡ Ok c.step.new.self = c.in-Ok.ensures.step in
     let within = slice_get_within i.core.pages c.args.page Free (take_says i.core c.step.new.self c.args.worker (Page c.args.page) step).0 in
-    omega (arith, within, c.self.invariant.0.slots, ap length c.pages.ensures.pages, length-map c.pages.result.now page_view)
+    let lt : c.args.page < length c.pages.result.now = omega (arith, within, c.self.invariant.0.slots, ap length c.pages.ensures.pages, length-map c.pages.result.now page_view) in
+    let impossible : false ≡ true = c.in_default-new.ensures.there.1 lt in
+    cc
 
 pub invariant_of-self : goal.invariant_of-self
 invariant_of-self g c =
@@ -37,4 +39,5 @@ invariant_of-self g c =
       omega (arith, most, c.self.invariant.1, c.push_reserved.ensures.capacity),
       rows_take_page i.core c.step.new.self i.plans.now i.rows.items i.spare.items c.args.worker c.args.page c.self.invariant.2 step,
       c.self.invariant.3,
+      c.self.invariant.4,
     )

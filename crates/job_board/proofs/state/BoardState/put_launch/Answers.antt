@@ -1,21 +1,44 @@
-use Rattle.std.proofs.Common.{◌≡◌, Ok, arith}
-use Rattle.std.proofs.Common.{Some, ap, subst, sym, ◌∙◌}
+use Rattle.std.proofs.Common.{◌≡◌, ◌∙◌, ℕ, List, Ok, Some, ap, arith, subst, sym, true}
+use Rattle.std.specs.Prelude.{IfSome}
 use Rattle.std.specs.List.{slice_get}
+use Rattle.rim_desc.specs.declared.measurement.Measurement.{Measurement}
+use Rattle.rim_chain.specs.Fronts.{AreFronts}
 use Rattle.std.proofs.lemmas.Option.{slice_get_within}
-use Rattle.page_jobs.specs.Row.{RowView}
-use Rattle.rim_chain.specs.Links.{PlanView, keys_of}
+use Rattle.page_jobs.specs.Page.{PageView}
+use Rattle.page_jobs.specs.Table.{IsTable}
+use Rattle.rim_chain.specs.Jobs.{JobView, RimView}
+use Rattle.rim_chain.specs.Links.{PlanView, chain_of, keys_of}
 use Rattle.rim_chain.specs.Rows.{IsRowOf, value_in}
 use Rattle.job_board.specs.declared.job.Event.TheVariants.{Put}
 use Rattle.job_board.specs.declared.job.JobId.TheVariants.{Launch}
 use Rattle.job_board.specs.declared.job.JobState.TheVariants.{Held}
-use Rattle.job_board.specs.Board.{BoardView}
+use Rattle.job_board.specs.Board.{BoardView, CanPutLaunch, IsBoard}
+use Rattle.job_board.specs.Jobs.{CoreState, is_out, state_of}
 use Rattle.job_board.specs.Step.{core_step}
+use Rattle.job_board.specs.Tasks.{IsOwnLaunch, IsOwnRow}
 use Rattle.job_board.proofs.Histories.{history_room, same_most}
-use Rattle.job_board.proofs.Boards.{board_put_launch, results_are, value_is}
+use Rattle.job_board.proofs.Boards.{board_put_launch, held_filled, results_are, value_is}
 use Rattle.job_board.proofs.Kept.{put_says}
 use Rattle.job_board.proofs.BoardRows.{rows_put_launch}
+use Rattle.job_board.proofs.OwnRows.{row_of_own}
 use Rattle.rim_chain.proofs.KnownFronts.{own-marks}
 use Rattle.job_board.proofs.state.BoardState.put_launch.Goals as goal
+
+-- what is known of a launch that was put
+record IsPut (b : BoardView) (w : ℕ) (job : JobView) : Type 0 where
+  held : slice_get b.core.launches job.number ≡ Some (Held w)
+  plan : slice_get b.plans job.number ≡ Some job.plan
+  row : IsRowOf b.table (keys_of job.plan.links) job.row.digests
+
+is_put : (b : BoardView) (t : CoreState) (w : ℕ) (job : JobView) → IsBoard b → IsTable b.table → core_step b.core (Put w (Launch job.number)) ≡ Ok t
+    → slice_get b.plans job.number ≡ Some job.plan → IsOwnRow b.table.pages (keys_of job.plan.links) job.row.digests → IsPut b w job
+is_put b t w job board table step plan own =
+    let held = (put_says b.core t w (Launch job.number) step).1 in
+    record {
+      held = held;
+      plan = plan;
+      row = row_of_own b.table table (keys_of job.plan.links) job.row.digests own (held_filled b w job.number job.plan board plan held);
+    }
 
 pub push_reserved-requires : goal.push_reserved-requires
 push_reserved-requires g c =
@@ -35,27 +58,43 @@ index_mut-requires g c =
 pub invariant_of-self-2 : goal.invariant_of-self-2
 invariant_of-self-2 g c =
     let i = c.self.inside in
+    let n = c.number-number.result in
+    let job = c.args.launch.job in
     let b : BoardView = record { core = i.core; history = i.history.items; table = i.table; plans = i.plans.now; results = i.results.items; book = i.book.total } in
-    let step : core_step i.core (Put c.args.worker (Launch c.number-number.result)) ≡ Ok c.step.new.self = c.in-Ok.ensures.step in
-    let most = same_most i.core c.step.new.self (Put c.args.worker (Launch c.number-number.result)) step in
-    let number = c.number-number.ensures in
-    let p = c.args.rim.job.plan in
-    let row : IsRowOf i.table (keys_of p.links) c.args.rim.job.row.digests =
-    subst (λ (r : RowView). IsRowOf i.table (keys_of p.links) r.digests) c.row.ensures (subst (λ (q : PlanView). IsRowOf i.table (keys_of q.links) c.row.result.now.digests) c.plan-else-not-is_plan.ensures (c.is_row.ensures.0 c.if-not-is_row.false)) in
-    let plan : slice_get i.plans.now c.number-number.result ≡ Some p = c.is_plan.ensures.0 c.if-not-is_plan.false ∙ ap (λ (q : PlanView). Some q) c.plan.ensures in
-    let value : c.value.result.bytes ≡ value_in i.table p = c.value.ensures.own ∙ value_is i.table p c.args.rim.job.row.digests row in (
-      rw c.push_reserved.ensures.items (board_put_launch b c.step.new.self c.args.worker c.number-number.result p c.value.result c.self.invariant.0 step plan value),
+    let step : core_step i.core (Put c.args.worker (Launch n)) ≡ Ok c.step.new.self = c.in-Ok.ensures.step in
+    let most = same_most i.core c.step.new.self (Put c.args.worker (Launch n)) step in
+    let number : n ≡ job.number = c.number-number.ensures in
+    let plan : slice_get i.plans.now job.number ≡ Some job.plan = ap (λ (plans : List PlanView). slice_get plans job.number) c.self.invariant.4.1 ∙ c.into_rim-rim.ensures.own.0 in
+    let own : IsOwnRow i.table.pages (keys_of job.plan.links) job.row.digests = subst (λ (pages : List PageView). IsOwnRow pages (keys_of job.plan.links) job.row.digests) (sym c.self.invariant.4.0) c.into_rim-rim.ensures.own.1 in
+    let put = is_put b c.step.new.self c.args.worker job c.self.invariant.0 c.pages-pages.ensures.table (rw (← number) step) plan own in
+    let at : slice_get i.plans.now n ≡ Some job.plan = ap (slice_get i.plans.now) number ∙ plan in
+    let value : c.value.result.bytes ≡ value_in i.table job.plan =
+    c.value.ensures.own ∙ (ap (λ (r : RimView). chain_of r.job.plan r.job.row.digests) c.into_rim-rim.ensures.rim ∙ value_is i.table job.plan job.row.digests put.row) in (
+      rw c.push_reserved.ensures.items (board_put_launch b c.step.new.self c.args.worker n job.plan c.value.result c.self.invariant.0 step at value),
       omega (arith, most, c.self.invariant.1, c.push_reserved.ensures.capacity),
-      rows_put_launch i.core c.step.new.self i.plans.now i.rows.items i.spare.items c.args.worker c.number-number.result c.self.invariant.2 step,
-      c.keep.ensures.shared i.table i.plans.now p plan (own-marks (λ v. v.items) i.table p c.args.rim.job.row.digests c.into_marks.result row c.into_marks.ensures) c.self.invariant.3,
+      rows_put_launch i.core c.step.new.self i.plans.now i.rows.items i.spare.items c.args.worker n c.self.invariant.2 step,
+      c.keep.ensures.shared i.table i.plans.now job.plan at (own-marks (λ v. v.items) i.table job.plan job.row.digests c.into_marks.result put.row (subst (λ (r : RimView). IfSome c.into_marks.result (λ marks. AreFronts r.job.plan r.job.row.digests marks.items)) c.into_rim-rim.ensures.rim c.into_marks.ensures)) c.self.invariant.3,
+      c.self.invariant.4,
     )
+
+pub returns-clause-can : goal.returns-clause-can
+returns-clause-can g c =
+    let i = c.self.inside in
+    let n = c.number-number.result in
+    let job = c.args.launch.job in
+    let b : BoardView = record { core = i.core; history = i.history.items; table = i.table; plans = i.plans.now; results = i.results.items; book = i.book.total } in
+    let step : core_step i.core (Put c.args.worker (Launch n)) ≡ Ok c.step.new.self = c.in-Ok.ensures.step in
+    let number : n ≡ job.number = c.number-number.ensures in
+    let plan : slice_get i.plans.now job.number ≡ Some job.plan = ap (λ (plans : List PlanView). slice_get plans job.number) c.self.invariant.4.1 ∙ c.into_rim-rim.ensures.own.0 in
+    let own : IsOwnRow i.table.pages (keys_of job.plan.links) job.row.digests = subst (λ (pages : List PageView). IsOwnRow pages (keys_of job.plan.links) job.row.digests) (sym c.self.invariant.4.0) c.into_rim-rim.ensures.own.1 in
+    let put = is_put b c.step.new.self c.args.worker job c.self.invariant.0 c.pages-pages.ensures.table (rw (← number) step) plan own in
+    let was = put_says i.core c.step.new.self c.args.worker (Launch n) step in
+    subst (λ (v : BoardView). CanPutLaunch v c.args.worker job.number job.plan job.row.digests) c.self.view_is (was.0, put.held, put.plan, put.row)
 
 pub returns-clause-own : goal.returns-clause-own
 returns-clause-own g c =
-    let i = c.self.inside in
-    let number = c.number-number.ensures in
-    let p = c.args.rim.job.plan in
-    let row : IsRowOf i.table (keys_of p.links) c.args.rim.job.row.digests =
-    subst (λ (r : RowView). IsRowOf i.table (keys_of p.links) r.digests) c.row.ensures (subst (λ (q : PlanView). IsRowOf i.table (keys_of q.links) c.row.result.now.digests) c.plan-else-not-is_plan.ensures (c.is_row.ensures.0 c.if-not-is_row.false)) in
-    let value : c.value.result.bytes ≡ value_in i.table p = c.value.ensures.own ∙ value_is i.table p c.args.rim.job.row.digests row in
-    ap (λ m. m.bytes) (sym c.value.ensures.value) ∙ subst (λ (v : BoardView). c.value.result.bytes ≡ value_in v.table p) c.self.view_is value
+    let job = c.args.launch.job in
+    let can = returns-clause-can g c in
+    ap (λ (m : Measurement). m.bytes) (sym (c.value.ensures.value ∙ ap (λ (r : RimView). r.value) c.into_rim-rim.ensures.rim))
+    ∙ (c.value.ensures.own
+    ∙ (ap (λ (r : RimView). chain_of r.job.plan r.job.row.digests) c.into_rim-rim.ensures.rim ∙ value_is c.args.self.now.table job.plan job.row.digests can.3))

@@ -1,7 +1,6 @@
-use Rattle.std.proofs.Common.{◌≡◌, ◌+◌, Ok, arith}
-use Rattle.std.proofs.Common.{Some, rules}
+use Rattle.std.proofs.Common.{◌≡◌, ◌+◌, ◌∙◌, List, Ok, Some, ap, arith, sym}
 use Rattle.std.specs.List.{slice_get}
-use Rattle.page_jobs.specs.Page.{page_view}
+use Rattle.page_jobs.specs.Page.{PageView, page_view}
 use Rattle.job_board.specs.declared.job.Event.TheVariants.{Put}
 use Rattle.job_board.specs.declared.job.JobId.TheVariants.{Page}
 use Rattle.job_board.specs.Board.{BoardView}
@@ -13,31 +12,38 @@ use Rattle.job_board.proofs.BoardRows.{rows_put_page}
 use Rattle.rim_chain.proofs.KnownFronts.{shared-filled}
 use Rattle.job_board.proofs.state.BoardState.put_page.Goals as goal
 
-pub unreachable-requires : goal.unreachable-requires
-unreachable-requires g c =
+pub keep-requires : goal.keep-requires
+keep-requires g c =
     let i = c.self.inside in
-    let step : core_step i.core (Put c.args.worker (Page c.args.page)) ≡ Ok c.step.new.self = c.in-Ok.ensures.step in
-    let was = put_says i.core c.step.new.self c.args.worker (Page c.args.page) step in
-    let slot : slice_get i.table.pages c.args.page ≡ Some (page_view c.args.hashed.page) = search rules in
-    c.in_default-fill.ensures.err.2 (slot, slot_empty i.table.digests i.core.pages c.args.worker c.args.page c.self.invariant.0.filled was.1)
+    let n = c.number-number.result in
+    let step : core_step i.core (Put c.args.worker (Page n)) ≡ Ok c.step.new.self = c.in-Ok.ensures.step in
+    let was = put_says i.core c.step.new.self c.args.worker (Page n) step in
+    let own : slice_get i.table.pages n ≡ Some (page_view c.into_hashed.result.page) =
+    ap (λ (pages : List PageView). slice_get pages n) c.self.invariant.4.0
+    ∙ (ap (slice_get g.L.Run.pages) c.number-number.ensures ∙ (c.into_hashed.ensures.own ∙ ap (λ (p : PageView). Some p) (sym c.into_hashed.ensures.page))) in
+    (own, slot_empty i.table.digests i.core.pages c.args.worker n c.self.invariant.0.filled was.1)
 
 pub push_reserved-requires : goal.push_reserved-requires
 push_reserved-requires g c =
     let i = c.self.inside in
-    let step : core_step i.core (Put c.args.worker (Page c.args.page)) ≡ Ok c.step.new.self = c.in-Ok.ensures.step in
-    let room = history_room i.core c.step.new.self i.history.items (Put c.args.worker (Page c.args.page)) c.self.invariant.0.history step in
+    let n = c.number-number.result in
+    let step : core_step i.core (Put c.args.worker (Page n)) ≡ Ok c.step.new.self = c.in-Ok.ensures.step in
+    let room = history_room i.core c.step.new.self i.history.items (Put c.args.worker (Page n)) c.self.invariant.0.history step in
     omega (arith, room, c.self.invariant.1)
 
 pub invariant_of-self-2 : goal.invariant_of-self-2
 invariant_of-self-2 g c =
     let i = c.self.inside in
+    let n = c.number-number.result in
+    let d = c.into_hashed.result.digest in
     let b : BoardView = record { core = i.core; history = i.history.items; table = i.table; plans = i.plans.now; results = i.results.items; book = i.book.total } in
-    let step : core_step i.core (Put c.args.worker (Page c.args.page)) ≡ Ok c.step.new.self = c.in-Ok.ensures.step in
-    let was = put_says i.core c.step.new.self c.args.worker (Page c.args.page) step in
-    let most = same_most i.core c.step.new.self (Put c.args.worker (Page c.args.page)) step in
+    let step : core_step i.core (Put c.args.worker (Page n)) ≡ Ok c.step.new.self = c.in-Ok.ensures.step in
+    let was = put_says i.core c.step.new.self c.args.worker (Page n) step in
+    let most = same_most i.core c.step.new.self (Put c.args.worker (Page n)) step in
     let book : c.add.new.self.total ≡ b.book + 1 = omega (arith, c.add.ensures.total, c.audit.ensures.total) in (
-      rw (c.push_reserved.ensures.items, c.in-Ok-fill.ensures.ok.1, book) (board_put_page b c.step.new.self c.args.worker c.args.page c.args.hashed.digest c.self.invariant.0 step),
+      rw (c.push_reserved.ensures.items, c.keep.ensures, book) (board_put_page b c.step.new.self c.args.worker n d c.self.invariant.0 step),
       omega (arith, most, c.self.invariant.1, c.push_reserved.ensures.capacity),
-      rows_put_page i.core c.step.new.self i.plans.now i.rows.items i.spare.items c.args.worker c.args.page c.self.invariant.2 step,
-      rw c.in-Ok-fill.ensures.ok.1 (shared-filled i.table i.plans.now i.fronts c.args.page c.args.hashed.digest (slot_empty i.table.digests i.core.pages c.args.worker c.args.page c.self.invariant.0.filled was.1) c.self.invariant.3),
+      rows_put_page i.core c.step.new.self i.plans.now i.rows.items i.spare.items c.args.worker n c.self.invariant.2 step,
+      rw c.keep.ensures (shared-filled i.table i.plans.now i.fronts n d (slot_empty i.table.digests i.core.pages c.args.worker n c.self.invariant.0.filled was.1) c.self.invariant.3),
+      rw c.keep.ensures c.self.invariant.4,
     )

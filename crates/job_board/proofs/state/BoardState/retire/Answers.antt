@@ -37,4 +37,5 @@ invariant_of-self-2 g c =
       omega (arith, most, c.self.invariant.1, c.push_reserved.ensures.capacity),
       rows_after i.core c.step.new.self i.plans.now i.rows.items c.free_row.new.rows.items i.spare.items c.free_row.new.spare.items c.args.worker c.held-held.result c.self.invariant.2 holds c.free_row.ensures step,
       c.self.invariant.3,
+      c.self.invariant.4,
     )

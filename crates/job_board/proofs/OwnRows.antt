@@ -1,0 +1,67 @@
+-- Rows of a table's digests, and rows of the digests of a run's own pages.
+use Rattle.std.proofs.Common.{◌≡◌, ℕ, zero, suc, ◌<◌, Bool, true, false, List, [], ◌∷◌, length, map, Option, Some, None, is_some, refl, sym, ap, ◌∙◌, subst, arith}
+use Rattle.std.specs.Prelude.{option_and_then, option_map}
+use Rattle.std.specs.List.{list_all, slice_get}
+use Rattle.std.proofs.lemmas.Bool.{and_parts}
+use Rattle.std.proofs.lemmas.Option.{same_Some, slice_get_within}
+use Rattle.rim_desc.specs.declared.measurement.Measurement.{Measurement}
+use Rattle.page_jobs.specs.Page.{PageView, digest_of}
+use Rattle.page_jobs.specs.Table.{IsTable, TableView, digest_at, digest_in, slot_of}
+use Rattle.page_jobs.specs.declared.page.PageKey.{PageKey}
+use Rattle.rim_chain.specs.Rows.{IsRowOf, has_all}
+use Rattle.job_board.specs.Tasks.{IsOwnRow, digest_among}
+
+page_there : (pages : List PageView) (k : ℕ) → k < length pages → (p : PageView) × (slice_get pages k ≡ Some p)
+page_there [] k lt = absurd (omega (arith, lt))
+page_there (p ∷ pages) zero lt = (p, refl)
+page_there (p ∷ pages) (suc k) lt = page_there pages k (omega (arith, lt))
+
+same_bytes : (m d : Measurement) → m.bytes ≡ d.bytes → m ≡ d
+same_bytes m d same = ap (λ bytes. let n : Measurement = record { bytes = bytes } in n) same
+
+module _ (t : TableView) (table : IsTable t) where
+  slot_own : (j : ℕ) (d : Measurement) → digest_in t j ≡ Some d → option_map digest_of (slice_get t.pages j) ≡ Some d.bytes
+  slot_own j d at = by (slice_get t.digests j) refl at
+    where
+      by : (o : Option (Option Measurement)) → slice_get t.digests j ≡ o → option_and_then (λ slot. slot) o ≡ Some d → option_map digest_of (slice_get t.pages j) ≡ Some d.bytes
+      by None is none = cc
+      by (Some None) is none = cc
+      by (Some (Some m)) is some =
+          let within = slice_get_within t.digests j (Some m) is in
+          let there = page_there t.pages j (omega (arith, within, table.size)) in
+          let own = table.own j there.0 m there.1 is in
+          let same : m ≡ d = same_Some m d some in
+          ap (option_map digest_of) there.1 ∙ ap (λ bytes. Some bytes) (sym own ∙ ap (λ (n : Measurement). n.bytes) same)
+
+  key_own : (key : PageKey) (d : Measurement) → digest_at t key ≡ Some d → digest_among t.pages key ≡ Some d.bytes
+  key_own key d at = by (slot_of t.pages key) at
+    where
+      by : (o : Option ℕ) → option_and_then (digest_in t) o ≡ Some d → option_map digest_of (option_and_then (slice_get t.pages) o) ≡ Some d.bytes
+      by None none = cc
+      by (Some j) at = slot_own j d at
+
+  key_row : (key : PageKey) (d : Measurement) → digest_among t.pages key ≡ Some d.bytes → is_some (digest_at t key) ≡ true → digest_at t key ≡ Some d
+  key_row key d own some = by (digest_at t key) refl some
+    where
+      by : (o : Option Measurement) → digest_at t key ≡ o → is_some o ≡ true → o ≡ Some d
+      by None at none = cc
+      by (Some m) at is = ap (λ n. Some n) (same_bytes m d (same_Some m.bytes d.bytes (sym (key_own key m at) ∙ own)))
+
+  pub own_row : (keys : List PageKey) (digests : List Measurement) → IsRowOf t keys digests → IsOwnRow t.pages keys digests
+  own_row [] [] row = refl
+  own_row [] (d ∷ digests) row = cc
+  own_row (key ∷ keys) [] row = cc
+  own_row (key ∷ keys) (d ∷ digests) row =
+      let here : digest_at t key ≡ Some d = cc in
+      let rest : map (digest_at t) keys ≡ map (λ e. Some e) digests = cc in
+      rw (key_own key d here, own_row keys digests rest) refl
+
+  pub row_of_own : (keys : List PageKey) (digests : List Measurement) → IsOwnRow t.pages keys digests → has_all t keys ≡ true → IsRowOf t keys digests
+  row_of_own [] [] own all = refl
+  row_of_own [] (d ∷ digests) own all = cc
+  row_of_own (key ∷ keys) [] own all = cc
+  row_of_own (key ∷ keys) (d ∷ digests) own all =
+      let parts = and_parts (is_some (digest_at t key)) (has_all t keys) all in
+      let here : digest_among t.pages key ≡ Some d.bytes = cc in
+      let rest : map (digest_among t.pages) keys ≡ map (λ (e : Measurement). Some e.bytes) digests = cc in
+      rw (key_row key d here parts.0, row_of_own keys digests rest parts.1) refl

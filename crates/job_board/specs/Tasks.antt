@@ -1,0 +1,31 @@
+-- The jobs of a run's own pages and launches. This project's choice.
+use Rattle.std.specs.Prelude.{◌≡◌, ℕ, List, map, Option, Some, option_and_then, option_map, slice_get}
+use Rattle.rim_desc.specs.declared.measurement.Measurement.{Measurement}
+use Rattle.page_jobs.specs.Page.{PageView, digest_of}
+use Rattle.page_jobs.specs.Table.{slot_of}
+use Rattle.page_jobs.specs.declared.page.PageKey.{PageKey}
+use Rattle.rim_chain.specs.Jobs.{JobView}
+use Rattle.rim_chain.specs.Links.{PlanView, keys_of}
+
+-- the digest of the page that has a key, where one of these pages has it
+abbrev pub digest_among : List PageView → PageKey → Option (List ℕ)
+digest_among pages key = option_map digest_of (option_and_then (slice_get pages) (slot_of pages key))
+
+-- the digests are those of the pages that have the keys, in order
+abbrev pub IsOwnRow : List PageView → List PageKey → List Measurement → Type 0
+IsOwnRow pages keys digests = map (digest_among pages) keys ≡ map (λ d. Some d.bytes) digests
+
+-- a page that is to be hashed, and its number among those of its run
+pub record PageTaskView : Type 0 where
+  pub number : ℕ
+  pub page : PageView
+
+-- the same with the page's digest
+pub record HashedView : Type 0 where
+  pub number : ℕ
+  pub page : PageView
+  pub digest : Measurement
+
+-- a launch's number, plan and row belong together, and to a run with these pages and plans
+abbrev pub IsOwnLaunch : List PageView → List PlanView → JobView → Type 0
+IsOwnLaunch pages plans job = (slice_get plans job.number ≡ Some job.plan) × IsOwnRow pages (keys_of job.plan.links) job.row.digests
