@@ -1,8 +1,9 @@
 //! Pages that a worker hashes before they are given to it.
-ghost use Rattle.std.specs.Prelude.{◌≡◌, IfSome, length};
+ghost use Rattle.std.specs.Prelude.{◌≡◌, IfSome, map};
 ghost use Rattle.page_jobs.specs.Page.{page_view};
 
-use page_jobs::{Hashed, LANES, Page, PageJob, run_four};
+use job_board::{HashedPage, PageTask, Run};
+use page_jobs::{LANES, Page};
 
 /// The pages of a run, which are lent, and those that were hashed last beside another.
 ///
@@ -10,62 +11,80 @@ use page_jobs::{Hashed, LANES, Page, PageJob, run_four};
 /// it the others next. What was hashed ahead is put when its own job is given. Where another worker is given that job, it
 /// hashes the page anew.
 #[derive(Drop)]
-pub(crate) struct Ahead<'a> {
+pub(crate) struct Ahead<'a, L: Run> {
     pages: &'a [Page<'a>],
-    hashed: [Option<Hashed<'a>>; LANES - 1],
+    second: Option<HashedPage<'a, L>>,
+    third: Option<HashedPage<'a, L>>,
+    fourth: Option<HashedPage<'a, L>>,
+    ghost own: { map page_view pages.now ≡ L.pages },
 }
 
-impl<'a> Ahead<'a> {
-    /// No page was hashed ahead of any of these.
-    pub(crate) fn new(pages: &'a [Page<'a>]) -> Ahead<'a> {
+impl<'a, L: Run> Ahead<'a, L> {
+    /// No page was hashed ahead of any of these, which are those of the run.
+    pub(crate) fn new(pages: &'a [Page<'a>]) -> Ahead<'a, L>
+        requires { map page_view pages.now ≡ L.pages }
+    {
         Ahead {
             pages,
-            hashed: [None, None, None],
+            second: None,
+            third: None,
+            fourth: None,
         }
     }
 
-    /// Hashes a page that was given, unless that was done ahead. The page with this number is the job's.
-    pub(crate) fn run(&mut self, number: usize, job: PageJob<'a>) -> Hashed<'a>
-        ensures { page_view result.page ≡ page_view job.entry.page }
+    /// Hashes a page that was given, unless that was done ahead.
+    pub(crate) fn run(&mut self, task: PageTask<'a, L>) -> HashedPage<'a, L>
+        ensures { result.number ≡ task.entry.number }
     {
-        if let Some(hashed) = self.take(&job.page) {
+        if let Some(hashed) = self.take(task.number()) {
             return hashed;
         }
-        let Some(group) = self.group(number) else {
-            return job.run();
+        let Some((b, c, d)) = self.group(task.number()) else {
+            return task.run();
         };
-        let (hashed, second, third, fourth) = run_four(
-            job,
-            PageJob::new(group[1]),
-            PageJob::new(group[2]),
-            PageJob::new(group[3]),
-        );
-        self.hashed = [Some(second), Some(third), Some(fourth)];
+        let (hashed, second, third, fourth) = task.run_with(b, c, d);
+        self.second = Some(second);
+        self.third = Some(third);
+        self.fourth = Some(fourth);
         hashed
     }
 
     /// What was hashed ahead for a page.
-    fn take(&mut self, page: &Page) -> Option<Hashed<'a>>
-        ensures { IfSome result (λ h. page_view h.page ≡ page_view page.now) }
+    fn take(&mut self, number: usize) -> Option<HashedPage<'a, L>>
+        ensures { IfSome result (λ page. page.number ≡ number) }
     {
-        for slot in &mut self.hashed {
-            if let Some(hashed) = slot
-                && hashed.page.is_same(page)
-            {
-                return slot.take();
-            }
+        if let Some(page) = taken(&mut self.second, number) {
+            return Some(page);
         }
-        None
+        if let Some(page) = taken(&mut self.third, number) {
+            return Some(page);
+        }
+        taken(&mut self.fourth, number)
     }
 
-    /// The pages of a group, by the number of its first one; or `None` for other numbers, and where the group is not whole.
-    fn group(&self, number: usize) -> Option<&'a [Page<'a>]>
-        ensures { IfSome result (λ group. length group.now ≡ 4) }
-    {
-        if number % LANES != 0 {
+    /// The other pages of a group, by the number of its first one; or `None` for other numbers, and where the group is not
+    /// whole.
+    fn group(&self, first: usize) -> Option<(PageTask<'a, L>, PageTask<'a, L>, PageTask<'a, L>)> {
+        if first % LANES != 0 {
             return None;
         }
-        let rest = self.pages.get(number..)?;
-        rest.get(..LANES)
+        let last = first.checked_add(3)?;
+        let fourth = PageTask::new(self.pages, last)?;
+        let third = PageTask::new(self.pages, last - 1)?;
+        let second = PageTask::new(self.pages, last - 2)?;
+        Some((second, third, fourth))
+    }
+}
+
+/// Takes a page of this number from a place.
+fn taken<'a, L: Run>(
+    place: &mut Option<HashedPage<'a, L>>,
+    number: usize,
+) -> Option<HashedPage<'a, L>>
+    ensures { IfSome result (λ page. page.number ≡ number) }
+{
+    match place {
+        Some(page) if page.number() == number => place.take(),
+        _ => None,
     }
 }

@@ -1,33 +1,31 @@
 //! The board: its state under a lock, for workers in threads of their own.
-ghost use Rattle.std.specs.Prelude.{◌≡◌, ◌≤◌, ◌+◌, IfErr, OnOk, map};
+ghost use Rattle.std.specs.Prelude.{◌≡◌, ◌≢◌, ◌≤◌, ◌+◌, IfErr, OnOk, map};
 ghost use Rattle.job_board.specs.declared.job.Event.{Event};
 ghost use Rattle.job_board.specs.declared.job.JobId.{JobId};
-ghost use Rattle.job_board.specs.Board.{BoardView, CanPutLaunch, CanPutPage, IsBoard};
+ghost use Rattle.job_board.specs.declared.work.Work.{Work};
+ghost use Rattle.job_board.specs.Board.{BoardView, CanPutLaunch, CanPutPage, IsBoard, IsOfRun};
 ghost use Rattle.job_board.specs.Gives.{Gives};
-ghost use Rattle.job_workers.specs.Run.{IsOfRun, Puts};
+ghost use Rattle.job_workers.specs.Puts.{Puts};
 ghost use Rattle.page_jobs.specs.Page.{page_view};
 
-use crate::locked::Locked;
-use crate::run::Run;
-use job_board::{BoardState, Share, Work};
-use page_jobs::{Hashed, Page};
-use rim_chain::LaunchRim;
-use std::sync::{Mutex, MutexGuard, Wait};
+use job_board::{BoardState, ChainedLaunch, HashedPage, Run, Share, Work};
+use page_jobs::Page;
+use std::sync::{Condvar, Mutex, MutexGuard, Wait};
 
-/// A board's state under its lock. Each call is one critical section; what it says of the state is of the one that it
-/// found there.
+/// A board's state under its lock, and where workers sleep until it changes. What a call says of the state is of the one
+/// that it found there, in one critical section.
 #[derive(Drop)]
 pub struct Board<'a, L: Run> {
-    state: Mutex<Locked<'a, L>>,
+    state: Mutex<BoardState<'a, L>>,
+    changed: Condvar,
 }
 
 impl<'a, L: Run> Board<'a, L> {
     /// Puts a state under a lock.
-    pub fn new(state: BoardState<'a, L>) -> Board<'a, L>
-        requires { IsOfRun L.pages L.plans state }
-    {
+    pub fn new(state: BoardState<'a, L>) -> Board<'a, L> {
         Board {
-            state: Mutex::new(Locked::new(state)),
+            state: Mutex::new(state),
+            changed: Condvar::new(),
         }
     }
 
@@ -38,51 +36,74 @@ impl<'a, L: Run> Board<'a, L> {
         self.state.lock(rt).pages()
     }
 
-    /// A free job that is ready, or why none is given.
-    pub fn take(&self, rt: &impl Wait, worker: usize) -> Work<'a>
-        ensures { (found : BoardView) × (left : BoardView) × IsBoard found × IsOfRun L.pages L.plans found × Gives found worker result left }
+    /// A free job that is ready, or why none is given. Where nothing that is free is ready, the worker sleeps. Each put and
+    /// each retirement that is accepted wakes all that sleep.
+    pub fn take(&self, rt: &impl Wait, worker: usize) -> Work<'a, L>
+        ensures found { (found : BoardView) × (left : BoardView) × IsBoard found
+            × IsOfRun L.pages L.plans found × Gives found worker result left }
+        ensures waited { result ≢ Work.Later }
     {
-        self.state.lock(rt).take(worker)
+        let mut state = self.state.lock(rt);
+        for _ in rt.forever() {
+            let given = state.take(worker);
+            if !matches!(given, Work::Later) {
+                return given;
+            }
+            state = self.changed.wait(rt, state);
+        }
+        unreachable!()
     }
 
     /// Puts a page that a worker holds, and counts it in the worker's share. It is handed back just where the worker does
-    /// not hold that job or the page is not that job's. The book that was found had counted what the share has.
+    /// not hold its job. The book that was found had counted what the share has.
     pub fn put_page(
         &self,
         rt: &impl Wait,
         worker: usize,
-        page: usize,
-        hashed: Hashed<'a>,
+        page: HashedPage<'a, L>,
         share: &mut Share<L>,
-    ) -> Result<(), Hashed<'a>>
-        ensures found { (found : BoardView) × (left : BoardView) × IsBoard found × IsOfRun L.pages L.plans found × (share.old ≤ found.book) × Puts (CanPutPage found worker page (page_view hashed.entry.page)) found (Event.Put worker (JobId.Page page)) left result }
+    ) -> Result<(), HashedPage<'a, L>>
+        ensures found { (found : BoardView) × (left : BoardView) × IsBoard found × IsOfRun L.pages L.plans found × (share.old ≤ found.book)
+            × Puts (CanPutPage found worker page.entry.number page.entry.page) found (Event.Put worker (JobId.Page page.entry.number)) left result }
         ensures share { OnOk result (share.new ≡ share.old + 1) }
-        ensures err { IfErr result (λ h. (h ≡ hashed.entry) × (share.new ≡ share.old)) }
+        ensures err { IfErr result (λ p. (p ≡ page.entry) × (share.new ≡ share.old)) }
     {
-        self.state.lock(rt).put_page(worker, page, hashed, share)
+        let answer = self.state.lock(rt).put_page(worker, page, share);
+        if answer.is_ok() {
+            self.changed.notify_all();
+        }
+        answer
     }
 
-    /// Puts a launch that a worker holds. It is handed back just where the worker does not hold that job, or its number,
-    /// plan or row are not that job's.
+    /// Puts a launch that a worker holds. It is handed back just where the worker does not hold its job.
     pub fn put_launch(
         &self,
         rt: &impl Wait,
         worker: usize,
-        rim: LaunchRim<'a>,
-    ) -> Result<(), LaunchRim<'a>>
-        ensures found { (found : BoardView) × (left : BoardView) × IsBoard found × IsOfRun L.pages L.plans found × Puts (CanPutLaunch found worker rim.entry.job.number rim.entry.job.plan rim.entry.job.row.digests) found (Event.Put worker (JobId.Launch rim.entry.job.number)) left result }
-        ensures err { IfErr result (λ r. r ≡ rim.entry) }
+        launch: ChainedLaunch<'a, L>,
+    ) -> Result<(), ChainedLaunch<'a, L>>
+        ensures found { (found : BoardView) × (left : BoardView) × IsBoard found × IsOfRun L.pages L.plans found
+            × Puts (CanPutLaunch found worker launch.entry.job.number launch.entry.job.plan launch.entry.job.row.digests) found (Event.Put worker (JobId.Launch launch.entry.job.number)) left result }
+        ensures err { IfErr result (λ l. l ≡ launch.entry) }
     {
-        self.state.lock(rt).put_launch(worker, rim)
+        let answer = self.state.lock(rt).put_launch(worker, launch);
+        if answer.is_ok() {
+            self.changed.notify_all();
+        }
+        answer
     }
 
-    /// Retires a worker.
+    /// Retires a worker. What it holds is then free.
     pub(crate) fn retire(&self, rt: &impl Wait, worker: usize) -> bool {
-        self.state.lock(rt).retire(worker)
+        let is_retired = self.state.lock(rt).retire(worker);
+        if is_retired {
+            self.changed.notify_all();
+        }
+        is_retired
     }
 
     /// The state, as long as the answer is kept.
-    pub(crate) fn lock<'b>(&'b self, rt: &impl Wait) -> MutexGuard<'b, Locked<'a, L>> {
+    pub(crate) fn lock<'b>(&'b self, rt: &impl Wait) -> MutexGuard<'b, BoardState<'a, L>> {
         self.state.lock(rt)
     }
 }

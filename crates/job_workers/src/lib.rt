@@ -4,12 +4,9 @@
 mod ahead;
 pub mod board;
 pub mod gate;
-mod locked;
-pub mod run;
 mod worker;
 pub mod workers;
 
 pub use board::Board;
 pub use gate::{FreeGate, Gate};
-pub use run::Run;
 pub use workers::{Tally, run_workers, run_workers_on};

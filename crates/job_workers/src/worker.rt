@@ -2,15 +2,12 @@
 use crate::ahead::Ahead;
 use crate::board::Board;
 use crate::gate::Gate;
-use crate::run::Run;
-use job_board::{JobId, Share, Work};
+use job_board::{JobId, Run, Share, Work};
 use std::sync::Wait;
-use std::thread;
 
-/// How often a worker looks again where nothing that is free is ready.
-const TURNS: u32 = 1000;
-
-/// Takes jobs, runs them with no lock held and puts them, until none is given.
+/// Takes jobs, runs them with no lock held and puts them, until none is given. A worker that ends retires. So a job
+/// that it still holds is free for those that sleep, and wakes them. It holds one where a put was handed back, or where the
+/// job was taken before the run.
 pub(crate) fn work<'a, L: Run, G: Gate, R: Wait>(
     rt: &R,
     gate: &G,
@@ -21,24 +18,12 @@ pub(crate) fn work<'a, L: Run, G: Gate, R: Wait>(
     share.note_start();
     let mut ahead = Ahead::new(board.pages(rt));
     for _ in rt.forever() {
-        let given = take_soon(rt, board, worker);
-        if !run_job(rt, gate, board, worker, share, &mut ahead, given) {
-            return;
-        }
-    }
-}
-
-/// A job, or why none is given. Where nothing that is free is ready, it looks again for a while: launches are ready when
-/// other workers have put the last pages, which takes them microseconds.
-fn take_soon<'a, L: Run, R: Wait>(rt: &R, board: &Board<'a, L>, worker: usize) -> Work<'a> {
-    for _turn in 0..TURNS {
         let given = board.take(rt, worker);
-        if !matches!(given, Work::Later) {
-            return given;
+        if !run_job(rt, gate, board, worker, share, &mut ahead, given) {
+            break;
         }
-        thread::yield_now();
     }
-    Work::Later
+    board.retire(rt, worker);
 }
 
 /// Runs a job that was taken and puts it, or answers false where none was given. A result that is handed back is dropped.
@@ -48,23 +33,24 @@ pub(crate) fn run_job<'a, L: Run, G: Gate, R: Wait>(
     board: &Board<'a, L>,
     worker: usize,
     share: &mut Share<L>,
-    ahead: &mut Ahead<'a>,
-    given: Work<'a>,
+    ahead: &mut Ahead<'a, L>,
+    given: Work<'a, L>,
 ) -> bool {
     match given {
-        Work::Page(page, job) => {
-            gate.before(worker, JobId::Page(page));
-            let hashed = ahead.run(page, job);
-            let _ = board.put_page(rt, worker, page, hashed, share);
-            gate.after(worker, JobId::Page(page));
+        Work::Page(task) => {
+            let job = JobId::Page(task.number());
+            gate.before(worker, job);
+            let page = ahead.run(task);
+            let _ = board.put_page(rt, worker, page, share);
+            gate.after(worker, job);
             true
         }
-        Work::Launch(job) => {
-            let launch = JobId::Launch(job.number());
-            gate.before(worker, launch);
-            let rim = job.run();
-            let _ = board.put_launch(rt, worker, rim);
-            gate.after(worker, launch);
+        Work::Launch(task) => {
+            let job = JobId::Launch(task.number());
+            gate.before(worker, job);
+            let launch = task.run();
+            let _ = board.put_launch(rt, worker, launch);
+            gate.after(worker, job);
             true
         }
         Work::Later | Work::Busy | Work::Done => false,

@@ -5,9 +5,8 @@ ghost use Rattle.job_board.specs.Board.{AreValuesOf};
 use crate::ahead::Ahead;
 use crate::board::Board;
 use crate::gate::Gate;
-use crate::run::Run;
 use crate::worker::{run_job, work};
-use job_board::{Share, Work};
+use job_board::{Run, Share, Work};
 use rim_desc::Measurement;
 use std::sync::Wait;
 use std::thread;
@@ -27,9 +26,9 @@ pub struct Tally {
 /// started is gone without. Writes how many pages each worker has put, and the value of each launch in the order of the
 /// plans.
 ///
-/// Launches need all pages. A worker that finds no page free looks again for a while and then ends. A second round of
-/// workers takes what was left by those of the first. After these the other workers are retired, and worker 0 does what is
-/// left, until a take finds all jobs done. What is written is read under the same lock.
+/// A launch is ready when its own pages are done. A worker that finds nothing ready sleeps until a put or a retirement is
+/// accepted. When all workers have ended, the others are retired, and worker 0 does what is left, until a take finds all
+/// jobs done. What is written is read under the same lock.
 ///
 /// The gate is borrowed to be changed, and no clause says what it is after the run. So a caller whose own contract says
 /// that the gate is as it was has started no worker.
@@ -74,7 +73,6 @@ pub fn run_workers_on<L: Run + Send + Sync, G: Gate + Sync, R: Threads + Wait + 
 {
     let gate = &*gate;
     let mut shares = shares;
-    round(rt, gate, board, &mut shares, stack_size);
     round(rt, gate, board, &mut shares, stack_size);
     let started = started(&shares);
     retire_others(rt, board, shares.len());
@@ -131,7 +129,7 @@ fn started<L: Run>(shares: &[Share<L>]) -> usize
     started
 }
 
-/// Retires workers 1 and up.
+/// Retires workers 1 and up: those that were started have done so, and the others hold no job.
 fn retire_others<L: Run>(rt: &impl Wait, board: &Board<'_, L>, workers: usize) {
     for worker in 1..workers {
         board.retire(rt, worker);

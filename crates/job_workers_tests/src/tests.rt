@@ -1,17 +1,28 @@
 mod late;
+mod own_pages;
 mod runs;
 
-ghost use Rattle.std.specs.Prelude.{map, IfOk};
+ghost use Rattle.std.specs.Prelude.{◌≡◌, length, map, replicate, IfOk, None};
+ghost use Rattle.std.specs.List.{All, Contains};
 ghost use Rattle.page_jobs.specs.Key.{IsRising};
 ghost use Rattle.page_jobs.specs.Page.{page_view};
 ghost use Rattle.page_jobs.specs.Table.{keys_of};
+ghost use Rattle.rim_chain.specs.Links.{keys_of as link_keys};
 
-use page_jobs::{Blob, Page, PageKey, distinct_pages};
+use job_board::{BoardState, Run};
+use job_workers::{Board, Gate, run_workers_on};
+use page_jobs::{Blob, Page, PageKey, Table, distinct_pages};
 use refusal::NoMemory;
 use rim_chain::{LaunchPlan, Link};
-use rim_desc::{Algo, RealmParams, Source};
+use rim_desc::{Algo, Measurement, RealmParams, Source};
 use std::alloc::Global;
 use std::process::Abort;
+use std::sync::Wait;
+use std::sync::ledger::Blank;
+use std::thread::Threads;
+
+/// The stack of each worker that is to be started.
+const STACK: usize = 1 << 20;
 
 fn check(rt: &impl Abort, holds: bool, name: &str) {
     assert!(rt; holds, "{name}");
@@ -44,29 +55,54 @@ const REALM: RealmParams = RealmParams {
     rtt_base: 0,
 };
 
-/// The plan of a launch that measures the first pages of file 0.
-fn plan_of(rt: &impl Abort, alloc: Global, count: u64) -> LaunchPlan {
+/// The plan of a launch that measures the first pages of a file.
+fn plan_of(rt: &impl Abort, alloc: Global, file: usize, count: u64) -> LaunchPlan {
+    let key = PageKey {
+        algo: Algo::Sha256,
+        source: Source::File(file),
+        lead: 0,
+        number: 0,
+    };
     let link = Link::Pages {
         ipa: 0x4000_0000,
-        key: FIRST,
+        key,
         count,
     };
     let links = Vec::from_slice(alloc, &[link]).expect(rt, "memory");
     LaunchPlan::new(REALM, links).expect(rt, "the link fits")
 }
 
-const FIRST: PageKey = PageKey {
-    algo: Algo::Sha256,
-    source: Source::File(0),
-    lead: 0,
-    number: 0,
-};
-
-/// The plans of this many launches.
+/// The plans of this many launches, all of which measure the first pages of file 0.
 fn plans_of(rt: &impl Abort, alloc: Global, launches: usize, count: u64) -> Vec<LaunchPlan> {
     let mut plans = Vec::new(alloc);
     for _launch in 0..launches {
-        plans.push(plan_of(rt, alloc, count)).expect(rt, "memory");
+        plans
+            .push(plan_of(rt, alloc, 0, count))
+            .expect(rt, "memory");
     }
     plans
+}
+
+/// Runs two workers over the pages of a table and over plans, and answers the launches' values.
+fn run_two<'a, L: Run + Send + Sync, G: Gate + Sync, R: Threads + Wait + Sync>(
+    rt: &R,
+    alloc: Global,
+    blank: Blank,
+    table: Table<'a>,
+    plans: &'a [LaunchPlan],
+    gate: &mut G,
+) -> Result<Vec<Measurement>, NoMemory>
+    requires name { blank.name ≡ L.name }
+    requires parts { (blank.parts ≡ L.parts) × (blank.parts ≡ 2) }
+    requires pages { table.pages ≡ L.pages }
+    requires plans { plans.now ≡ L.plans }
+    requires keys { All (λ p. All (Contains (keys_of table.pages)) (link_keys p.links)) plans.now }
+    requires empty { table.digests ≡ replicate (length table.pages) None }
+{
+    let mut counts = [0; 2];
+    let mut values = vec![in alloc; Measurement { bytes: [0; 64] }; plans.len()]?;
+    let (state, shares) = BoardState::<L>::new(alloc, blank, 2, table, plans)?;
+    let board = Board::new(state);
+    run_workers_on(rt, gate, &board, shares, &mut counts, &mut values, STACK);
+    Ok(values)
 }

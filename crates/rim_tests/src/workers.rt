@@ -46,11 +46,12 @@ const NINES: [u8; 8192] = [9; 8192];
 /// How many jobs there are: four pages and three launches.
 const JOBS: u64 = 7;
 
-/// Holds the first job until a page was put, for a number of turns. It counts the calls before jobs, and those after jobs
-/// and after pages, for worker 0 and for the others.
+/// Holds the first page until another was put, for a number of turns. It counts the calls before jobs and pages, and those
+/// after jobs and after pages, for worker 0 and for the others.
 #[derive(Drop)]
 struct Hold {
     begun: AtomicU64,
+    pages_begun: AtomicU64,
     ended: AtomicU64,
     first: AtomicU64,
     others: AtomicU64,
@@ -64,6 +65,7 @@ impl Hold {
     fn new() -> Hold {
         Hold {
             begun: AtomicU64::new(0),
+            pages_begun: AtomicU64::new(0),
             ended: AtomicU64::new(0),
             first: AtomicU64::new(0),
             others: AtomicU64::new(0),
@@ -71,7 +73,7 @@ impl Hold {
         }
     }
 
-    /// How many calls there were before jobs and after jobs, and how often the first job was held in vain.
+    /// How many calls there were before jobs and after jobs, and how often the first page was held in vain.
     fn calls(&self) -> (u64, u64, u64) {
         (
             self.begun.load(Ordering::SeqCst),
@@ -90,12 +92,17 @@ impl Hold {
 }
 
 impl Gate for Hold {
-    fn before(&self, _worker: usize, _job: JobId) {
-        if self.begun.fetch_add(1, Ordering::SeqCst) > 0 {
+    fn before(&self, _worker: usize, job: JobId) {
+        self.begun.fetch_add(1, Ordering::SeqCst);
+        let JobId::Page(_) = job else {
+            return;
+        };
+        if self.pages_begun.fetch_add(1, Ordering::SeqCst) > 0 {
             return;
         }
         for _turn in 0..TURNS {
-            if self.ended.load(Ordering::SeqCst) > 0 {
+            let (first, others) = self.pages();
+            if first > 0 || others > 0 {
                 return;
             }
             thread::yield_now();

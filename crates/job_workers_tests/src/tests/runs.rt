@@ -4,10 +4,10 @@ ghost use Rattle.std.specs.List.{All, Contains};
 ghost use Rattle.page_jobs.specs.Table.{keys_of};
 ghost use Rattle.rim_chain.specs.Links.{keys_of as link_keys};
 
-use super::{check, pages_of, plans_of};
-use job_board::{BoardState, JobId, Share, Work, has_all_keys};
-use job_workers::{Board, Gate, Run, run_workers_on};
-use page_jobs::{Page, PageJob, Table};
+use super::{STACK, check, pages_of, plans_of};
+use job_board::{BoardState, JobId, PageTask, Run, Share, Work, has_all_keys};
+use job_workers::{Board, FreeGate, Gate, run_workers_on};
+use page_jobs::Table;
 use refusal::NoMemory;
 use rim_chain::LaunchPlan;
 use std::alloc::Global;
@@ -22,9 +22,6 @@ use std::thread::Threads;
 
 /// Six pages of the same byte, and one that ends early.
 const BYTES: [u8; 25_000] = [7; 25_000];
-
-/// The workers' stacks where they are to be started.
-const STACK: usize = 1 << 20;
 
 /// Holds the first page until another was put, for a number of turns; and counts the pages that worker 0 and the others
 /// put.
@@ -146,18 +143,60 @@ fn no_worker_can_be_started(rt: HostRuntime) -> Result<(), Fail> {
     Ok(())
 }
 
-/// A page is offered under the lock; it is to be taken or handed back so, and then the share is to be this.
-fn offer<'a, L: Run>(
+/// Worker 1 has taken the one page before the run. In the run it is given no job, so it retires. Worker 0 sleeps until
+/// then, and puts the page.
+fn run_after_take<L: Run + Send + Sync, R: Threads + Wait + Abort + Sync>(
+    rt: &R,
+    alloc: Global,
+    blank: Blank,
+    table: Table,
+) -> Result<(), NoMemory>
+    requires name { blank.name ≡ L.name }
+    requires parts { (blank.parts ≡ L.parts) × (blank.parts ≡ 2) }
+    requires pages { table.pages ≡ L.pages }
+    requires plans { [] ≡ L.plans }
+    requires empty { table.digests ≡ replicate (length table.pages) None }
+{
+    let (state, shares) = BoardState::<L>::new(alloc, blank, 2, table, &[])?;
+    let board = Board::new(state);
+    let Work::Page(_task) = board.take(rt, 1) else {
+        panic!(rt; "the page is free");
+    };
+    let mut counts = [0; 2];
+    run_workers_on(
+        rt,
+        &mut FreeGate,
+        &board,
+        shares,
+        &mut counts,
+        &mut [],
+        STACK,
+    );
+    check(rt, counts == [1, 0], "worker 0 puts the page");
+    Ok(())
+}
+
+#[test]
+fn a_worker_that_holds_a_job_retires(rt: HostRuntime) -> Result<(), Fail> {
+    let pages = pages_of(rt.alloc(), &BYTES, 1)?;
+    let table = Table::reserve(rt.alloc(), &pages)?;
+    run_after_take::<Brand, HostRuntime>(&rt, rt.alloc(), Blank::new(2), table)?;
+    Ok(())
+}
+
+/// The first page is offered under the lock; it is to be taken or handed back so, and then the share is to be this.
+fn offer<L: Run>(
     rt: &(impl Wait + Abort),
-    board: &Board<'a, L>,
+    board: &Board<'_, L>,
     worker: usize,
-    page: Page<'a>,
     share: &mut Share<L>,
     is_taken: bool,
     count: u64,
 ) {
-    let hashed = PageJob::new(page).run();
-    let answer = board.put_page(rt, worker, 0, hashed, share);
+    let Some(task) = PageTask::new(board.pages(rt), 0) else {
+        panic!(rt; "the page exists");
+    };
+    let answer = board.put_page(rt, worker, task.run(), share);
     check(rt, answer.is_ok() == is_taken, "whether it is taken");
     check(rt, share.count() == count, "the share");
 }
@@ -182,29 +221,24 @@ fn put_once<'a, L: Run>(
         panic!(rt; "there are two shares");
     };
     let board = Board::new(state);
-    let Work::Page(0, job) = board.take(rt, 0) else {
+    let Work::Page(task) = board.take(rt, 0) else {
         panic!(rt; "the page is free");
     };
-    let page = job.page;
+    check(rt, task.number() == 0, "page 0");
     check(
         rt,
         matches!(board.take(rt, 0), Work::Busy),
         "worker 0 is busy",
     );
-    check(
-        rt,
-        matches!(board.take(rt, 1), Work::Later),
-        "worker 1 waits",
-    );
-    offer(rt, &board, 1, page, &mut second, false, 0);
-    offer(rt, &board, 0, page, &mut first, true, 1);
-    offer(rt, &board, 0, page, &mut first, false, 1);
-    let Work::Launch(job) = board.take(rt, 0) else {
+    offer(rt, &board, 1, &mut second, false, 0);
+    offer(rt, &board, 0, &mut first, true, 1);
+    offer(rt, &board, 0, &mut first, false, 1);
+    let Work::Launch(task) = board.take(rt, 0) else {
         panic!(rt; "the launch has its page");
     };
     check(
         rt,
-        board.put_launch(rt, 0, job.run()).is_ok(),
+        board.put_launch(rt, 0, task.run()).is_ok(),
         "the launch is taken",
     );
     check(rt, matches!(board.take(rt, 0), Work::Done), "all is done");
