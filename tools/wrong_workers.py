@@ -21,7 +21,7 @@ BODIES = [
     (
         "results of launches are dropped",
         "job_board/src/state.rt",
-        [("        if !is_plan(plans, number, rim.plan())", "        if number < plans.len() {\n            return Ok(());\n        }\n        if !is_plan(plans, number, rim.plan())")],
+        [("        let number = launch.number();\n", "        let number = launch.number();\n        if number < results.len() {\n            return Ok(());\n        }\n")],
         "job_board_tests",
     ),
     (
@@ -29,14 +29,14 @@ BODIES = [
         "job_workers/src/worker.rt",
         [
             (
-                "        let given = take_soon(rt, board, worker);\n",
+                "        let given = board.take(rt, worker);\n",
                 "        let mut state = board.lock(rt);\n        let given = state.take(worker);\n"
-                "        match &given {\n            Work::Page(page, _) => gate.before(worker, JobId::Page(*page)),\n"
-                "            Work::Launch(job) => gate.before(worker, JobId::Launch(job.number())),\n            _ => {}\n        }\n"
+                "        match &given {\n            Work::Page(task) => gate.before(worker, JobId::Page(task.number())),\n"
+                "            Work::Launch(task) => gate.before(worker, JobId::Launch(task.number())),\n            _ => {}\n        }\n"
                 "        drop(state);\n",
             ),
-            ("            gate.before(worker, JobId::Page(page));\n", ""),
-            ("            gate.before(worker, launch);\n", ""),
+            ("            gate.before(worker, job);\n            let page =", "            let page ="),
+            ("            gate.before(worker, job);\n            let launch =", "            let launch ="),
         ],
         "job_workers_tests",
     ),
@@ -50,9 +50,36 @@ BODIES = [
         "job_workers_tests",
     ),
     (
-        "a worker looks once for a job",
+        "a worker that finds nothing ends",
+        "job_workers/src/board.rt",
+        [("            state = self.changed.wait(rt, state);\n", "            return given;\n")],
+        "job_workers_tests",
+    ),
+    (
+        "a page's put wakes nobody",
+        "job_workers/src/board.rt",
+        [("put_page(worker, page, share);\n        if answer.is_ok() {\n", "put_page(worker, page, share);\n        if false {\n")],
+        "job_workers_tests",
+    ),
+    (
+        "a launch's put wakes nobody",
+        "job_workers/src/board.rt",
+        [("put_launch(worker, launch);\n        if answer.is_ok() {\n", "put_launch(worker, launch);\n        if false {\n")],
+        "job_workers_tests",
+    ),
+    (
+        "a worker that ends keeps its job",
         "job_workers/src/worker.rt",
-        [("const TURNS: u32 = 1000;", "const TURNS: u32 = 1;")],
+        [("    board.retire(rt, worker);\n", "")],
+        "job_workers_tests",
+    ),
+    (
+        "a barrier",
+        "job_board/src/machine.rt",
+        [
+            ("        self.jobs.ready_launch()\n", "        if self.pages_left > 0 {\n            return None;\n        }\n        self.jobs.ready_launch()\n"),
+            ("        self.jobs.is_free(job) && self.jobs.is_ready(job)\n", "        self.jobs.is_free(job) && self.jobs.is_ready(job) && self.pages_left == 0\n"),
+        ],
         "job_workers_tests",
     ),
     (
