@@ -1,4 +1,4 @@
-//! The order in which the launches of a run had best be chained. No value depends on it.
+//! The order in which the launches of a run are to be chained. No value depends on it.
 use crate::plan::LaunchPlan;
 use crate::siblings::Head;
 use refusal::NoMemory;
@@ -78,7 +78,12 @@ impl ChainOrder {
         }
     }
 
-    /// Takes the launch that had best be chained next.
+    /// How many launches were offered and not taken.
+    pub(crate) fn waiting(&self) -> usize {
+        self.candidates.len()
+    }
+
+    /// Takes the launch that is to be chained next.
     pub(crate) fn next(&mut self) -> Option<usize> {
         let candidate = self.candidates.pop()?;
         Some(candidate.number.0)

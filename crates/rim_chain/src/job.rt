@@ -1,14 +1,17 @@
 //! The work of chaining a launch, and what it gives.
-ghost use Rattle.std.specs.Prelude.{◌≡◌, IfSome};
+ghost use Rattle.std.specs.Prelude.{◌≡◌, true, IfSome};
+ghost use Rattle.rim_desc.specs.declared.measurement.Algo.TheVariants as algo;
 ghost use Rattle.rim_chain.specs.Fronts.{AreFronts, IsFront};
 ghost use Rattle.rim_chain.specs.Links.{chain_of};
 ghost use Rattle.rim_chain.specs.Rows.{IsFilled};
+ghost use Rattle.rim_chain.specs.inside.UnderWay.{chains_to};
 
 use crate::chaining::chain_from;
 use crate::front::{Front, Mark};
 use crate::plan::LaunchPlan;
+use crate::under_way::{Chain, side_by_side};
 use page_jobs::DigestRow;
-use rim_desc::Measurement;
+use rim_desc::{Algo, Measurement};
 use std::marker::Model;
 
 /// A launch that is to be chained: its number, its plan, lent, and a row with the digests of its pages. It may have a
@@ -46,7 +49,7 @@ pub struct LaunchRim<'a> {
 }
 
 impl<'a> Model for LaunchRim<'a> {
-    ghost use Rattle.std.specs.Prelude.{◌≡◌, IfSome};
+    ghost use Rattle.std.specs.Prelude.{◌≡◌, true, IfSome};
     ghost use Rattle.rim_chain.specs.Fronts.{AreFronts};
     ghost use Rattle.rim_chain.specs.Jobs.{RimView};
     ghost use Rattle.rim_chain.specs.Links.{chain_of};
@@ -117,7 +120,98 @@ impl<'a> LaunchJob<'a> {
     }
 }
 
+impl<'a> LaunchJob<'a> {
+    /// Whether the launch is by SHA-256, goes on from no front and keeps no values. Such launches can be chained side by side.
+    pub fn is_alone(&self) -> bool
+        ensures { result ≡ true → self.now.plan.params.algo ≡ algo.Sha256 }
+    {
+        self.plan.params().algo == Algo::Sha256 && self.head.is_none() && has_no_marks(&self.marks)
+    }
+
+    /// Chains four launches side by side, which takes less than half the time. Fronts are not gone on from, and no values are
+    /// kept at marks.
+    pub fn run_with(
+        self,
+        b: LaunchJob<'a>,
+        c: LaunchJob<'a>,
+        d: LaunchJob<'a>,
+    ) -> (LaunchRim<'a>, LaunchRim<'a>, LaunchRim<'a>, LaunchRim<'a>)
+        requires first { self.plan.params.algo ≡ algo.Sha256 }
+        requires second { b.plan.params.algo ≡ algo.Sha256 }
+        requires third { c.plan.params.algo ≡ algo.Sha256 }
+        requires fourth { d.plan.params.algo ≡ algo.Sha256 }
+        ensures first { result.0.job ≡ self.entry }
+        ensures second { result.1.job ≡ b.entry }
+        ensures third { result.2.job ≡ c.entry }
+        ensures fourth { result.3.job ≡ d.entry }
+    {
+        let parts = (self.parts().min(b.parts())).min(c.parts().min(d.parts()));
+        let (first, second, third, fourth) = side_by_side(
+            self.chain(),
+            b.chain(),
+            c.chain(),
+            d.chain(),
+            parts,
+        );
+        (
+            self.known(first),
+            b.known(second),
+            c.known(third),
+            d.known(fourth),
+        )
+    }
+
+    /// The chain of the launch, of which nothing is done.
+    fn chain(&self) -> Chain<'_>
+        ensures algo { result.algo ≡ self.now.plan.params.algo }
+        ensures value { chains_to result ≡ chain_of self.now.plan self.now.row.digests }
+    {
+        Chain::new(self.plan, &self.row, self.plan.links().len())
+    }
+
+    /// How many parts it has after the realm. It is a measure of the work alone.
+    fn parts(&self) -> u64 {
+        self.plan.parts_after(0)
+    }
+
+    /// The launch with its measurement, which is known.
+    pub fn known(self, value: Measurement) -> LaunchRim<'a>
+        requires { value.bytes ≡ chain_of self.plan self.row.digests }
+        ensures { result ≡ record { job = self.entry; value = value } }
+    {
+        LaunchRim {
+            number: self.number,
+            plan: self.plan,
+            row: self.row,
+            value,
+            marks: None,
+        }
+    }
+
+    /// The row, to be filled for another launch.
+    pub fn into_row(self) -> DigestRow
+        ensures { result ≡ self.entry.row }
+    {
+        self.row
+    }
+}
+
+/// Whether no marks were handed out, or none of them.
+fn has_no_marks(marks: &Option<Vec<Mark>>) -> bool {
+    match marks {
+        Some(marks) => marks.is_empty(),
+        None => true,
+    }
+}
+
 impl<'a> LaunchRim<'a> {
+    /// The row, to be filled for another launch.
+    pub fn into_row(self) -> DigestRow
+        ensures { result ≡ self.entry.job.row }
+    {
+        self.row
+    }
+
     /// The number of the launch.
     pub fn number(&self) -> usize
         ensures { result ≡ self.now.job.number }

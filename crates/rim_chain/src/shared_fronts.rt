@@ -137,7 +137,32 @@ impl SharedFronts {
         marked_front(marks, head.links).is_some()
     }
 
-    /// Takes the launch that had best be chained next, of those that were noted and may be chained.
+    /// How many launches were noted, may be chained and were not taken from here.
+    pub fn waiting(&self) -> usize {
+        self.order.waiting()
+    }
+
+    /// Takes the launch that is to be chained next, where it goes on from no other and no other goes on from it.
+    pub fn next_alone(&mut self) -> Option<usize>
+        ensures { self.new ≡ self.old }
+    {
+        let number = self.order.next()?;
+        if self.is_alone(number) {
+            return Some(number);
+        }
+        self.order.offer(number);
+        None
+    }
+
+    /// Whether a launch goes on from no other, and no other goes on from it.
+    fn is_alone(&self, number: usize) -> bool {
+        let Some(None) = self.heads.get(number) else {
+            return false;
+        };
+        marks_at(self.marks.as_slice(), number).is_some_and(|marks| marks.is_empty())
+    }
+
+    /// Takes the launch that is to be chained next, of those that were noted and may be chained.
     pub fn next(&mut self) -> Option<usize>
         ensures { self.new ≡ self.old }
     {
