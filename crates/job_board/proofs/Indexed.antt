@@ -1,4 +1,4 @@
--- A launch is ready just where none of its prefixes is left.
+-- A launch is ready exactly where none of its prefixes is left.
 use Rattle.std.proofs.Common.{◌≡◌, ℕ, zero, suc, ◌+◌, ◌<◌, ◌≤◌, Bool, true, false, cond, ◌&&◌, List, [], ◌∷◌, ◌++◌, length, get_or, drop, map, replicate, Some, refl, sym, ap, ◌∙◌, subst, arith, inl, inr}
 use Rattle.std.specs.Prelude.{◌==◌, ◌⊎◌, if◌then◌else◌}
 use Rattle.std.specs.List.{flat_map, list_all, range_with_len, slice_get}
@@ -87,7 +87,7 @@ ready_groups pages l (g ∷ gs) (c ∷ cs) size within at =
     ∙ (ap (λ (b : Bool). list_all (is_page_done pages) (group_needs l g) && b) rest
     ∙ sym (list_all-append (is_page_done pages) (group_needs l g) (prefix_needs gs l))))
 
--- a launch waits for nothing just where it is ready
+-- a launch waits for nothing exactly where it is ready
 pub ready_index : (s : CoreState) (gs : List PageGroup) (cs : List Cursor) (lefts : List ℕ) (l : ℕ) → Waits s.pages gs cs lefts → IsIndex s.needs gs
     → (get_or lefts l 0 == 0) ≡ is_ready s (Launch l)
 ready_index s gs cs lefts l w index =

@@ -1,15 +1,17 @@
 -- Rows of a table's digests, and rows of the digests of a run's own pages.
-use Rattle.std.proofs.Common.{◌≡◌, ℕ, zero, suc, ◌<◌, Bool, true, false, List, [], ◌∷◌, length, map, Option, Some, None, is_some, refl, sym, ap, ◌∙◌, subst, arith}
+use Rattle.std.proofs.Common.{◌≡◌, ℕ, zero, suc, ◌<◌, true, List, [], ◌∷◌, length, map, Option, Some, None, is_some, refl, sym, ap, ◌∙◌, subst, arith}
 use Rattle.std.specs.Prelude.{option_and_then, option_map}
-use Rattle.std.specs.List.{list_all, slice_get}
+use Rattle.std.specs.List.{slice_get}
 use Rattle.std.proofs.lemmas.Bool.{and_parts}
 use Rattle.std.proofs.lemmas.Option.{same_Some, slice_get_within}
 use Rattle.rim_desc.specs.declared.measurement.Measurement.{Measurement}
 use Rattle.page_jobs.specs.Page.{PageView, digest_of}
 use Rattle.page_jobs.specs.Table.{IsTable, TableView, digest_at, digest_in, slot_of}
 use Rattle.page_jobs.specs.declared.page.PageKey.{PageKey}
+use Rattle.rim_chain.specs.Jobs.{JobView}
+use Rattle.rim_chain.specs.Links.{PlanView, chain_of, keys_of}
 use Rattle.rim_chain.specs.Rows.{IsRowOf, has_all}
-use Rattle.job_board.specs.Tasks.{IsOwnRow, digest_among}
+use Rattle.job_board.specs.Tasks.{IsOwnLaunch, IsOwnRow, IsOwnValue, digest_among}
 
 page_there : (pages : List PageView) (k : ℕ) → k < length pages → (p : PageView) × (slice_get pages k ≡ Some p)
 page_there [] k lt = absurd (omega (arith, lt))
@@ -65,3 +67,26 @@ module _ (t : TableView) (table : IsTable t) where
       let here : digest_among t.pages key ≡ Some d.bytes = cc in
       let rest : map (digest_among t.pages) keys ≡ map (λ (e : Measurement). Some e.bytes) digests = cc in
       rw (key_row key d here parts.0, row_of_own keys digests rest parts.1) refl
+
+-- ---- what a launch of a run chains to
+
+pub same_rows : (pages : List PageView) (keys : List PageKey) (ds es : List Measurement) → IsOwnRow pages keys ds → IsOwnRow pages keys es → ds ≡ es
+same_rows pages [] [] [] a b = refl
+same_rows pages [] [] (e ∷ es) a b = cc
+same_rows pages [] (d ∷ ds) es a b = cc
+same_rows pages (key ∷ keys) [] es a b = cc
+same_rows pages (key ∷ keys) (d ∷ ds) [] a b = cc
+same_rows pages (key ∷ keys) (d ∷ ds) (e ∷ es) a b =
+    let first : digest_among pages key ≡ Some d.bytes = cc in
+    let second : digest_among pages key ≡ Some e.bytes = cc in
+    let rest : map (digest_among pages) keys ≡ map (λ (m : Measurement). Some m.bytes) ds = cc in
+    let others : map (digest_among pages) keys ≡ map (λ (m : Measurement). Some m.bytes) es = cc in
+    let here : d ≡ e = same_bytes d e (same_Some d.bytes e.bytes (sym first ∙ second)) in
+    rw (here, same_rows pages keys ds es rest others) refl
+
+pub own_value : (pages : List PageView) (plans : List PlanView) (job : JobView) (value : Measurement) → IsOwnLaunch pages plans job → value.bytes ≡ chain_of job.plan job.row.digests
+    → IsOwnValue pages plans job.number value
+own_value pages plans job value own chained = λ p digests at row.
+    let same : job.plan ≡ p = same_Some job.plan p (sym own.0 ∙ at) in
+    let rows : job.row.digests ≡ digests = same_rows pages (keys_of p.links) job.row.digests digests (subst (λ (q : PlanView). IsOwnRow pages (keys_of q.links) job.row.digests) same own.1) row in
+    chained ∙ (ap (λ (q : PlanView). chain_of q job.row.digests) same ∙ ap (chain_of p) rows)

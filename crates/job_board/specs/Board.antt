@@ -5,6 +5,7 @@ use Rattle.rim_desc.specs.declared.measurement.Measurement.{Measurement}
 use Rattle.page_jobs.specs.Page.{PageView}
 use Rattle.page_jobs.specs.Table.{IsTable, TableView, slot_of}
 use Rattle.page_jobs.specs.declared.page.PageKey.{PageKey}
+use Rattle.rim_chain.specs.Jobs.{JobView}
 use Rattle.rim_chain.specs.Links.{PlanView, keys_of}
 use Rattle.rim_chain.specs.Rows.{IsFull, IsRowOf, value_in}
 use Rattle.job_board.specs.declared.job.JobId.TheVariants.{Page, Launch}
@@ -82,3 +83,6 @@ CanPutPage b w j p = (is_out b.core w ≡ false) × (state_of b.core (Page j) �
 -- the worker holds this launch's job, and number, plan and row are the job's
 abbrev pub CanPutLaunch : BoardView → ℕ → ℕ → PlanView → List Measurement → Type 0
 CanPutLaunch b w l p row = (is_out b.core w ≡ false) × (state_of b.core (Launch l) ≡ Some (Held w)) × (slice_get b.plans l ≡ Some p) × IsRowOf b.table (keys_of p.links) row
+
+abbrev pub CanPutJob : BoardView → ℕ → JobView → Type 0
+CanPutJob b w job = CanPutLaunch b w job.number job.plan job.row.digests

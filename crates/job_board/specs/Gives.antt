@@ -1,13 +1,12 @@
 -- What a take may answer, and what it makes of a board. This project's choice.
-use Rattle.std.specs.Prelude.{◌≡◌, ◌≢◌, ℕ, ◌<◌, true, false, ◌⊎◌, Some, slice_get}
+use Rattle.std.specs.Prelude.{◌≡◌, ℕ, ◌<◌, true, false, ◌⊎◌, Some, slice_get}
 use Rattle.rim_chain.specs.Links.{keys_of}
 use Rattle.rim_chain.specs.Rows.{IsRowOf}
 use Rattle.job_board.specs.declared.job.JobId.TheVariants.{Page, Launch}
-use Rattle.job_board.specs.declared.job.JobState.TheVariants.{Free}
 use Rattle.job_board.specs.declared.job.Event.TheVariants.{Take}
 use Rattle.job_board.specs.declared.work.Work.{Work}
 use Rattle.job_board.specs.declared.work.Work.TheVariants as work
-use Rattle.job_board.specs.Jobs.{held_count, is_out, is_over, is_ready}
+use Rattle.job_board.specs.Jobs.{NoneFree, NoneOpen, held_count, is_out, is_over}
 use Rattle.job_board.specs.Board.{Adds, BoardView, SameRest}
 
 abbrev pub Gives : {L : Type 0} → BoardView → ℕ → Work L → BoardView → Type 0
@@ -20,6 +19,6 @@ Gives old w (work.Launch job) new =
 -- nothing that is free is ready, and something is not done
 Gives old w work.Later new =
     (new ≡ old) × (is_out old.core w ≡ false) × (held_count old.core w ≡ 0) × (is_over old.core ≡ false)
-    × ((j : ℕ) → slice_get old.core.pages j ≢ Some Free) × ((l : ℕ) → slice_get old.core.launches l ≡ Some Free → is_ready old.core (Launch l) ≡ false)
+    × NoneFree old.core.pages × NoneOpen old.core
 Gives old w work.Busy new = (new ≡ old) × (is_out old.core w ≡ false) × (0 < held_count old.core w)
 Gives old w work.Done new = (new ≡ old) × ((is_out old.core w ≡ true) ⊎ (is_over old.core ≡ true))

@@ -1,6 +1,6 @@
 -- Jobs and workers. This project's choice: each page to be hashed and each launch to be chained is a job. A
 -- job is free, held by one worker, or done. A launch needs some pages.
-use Rattle.std.specs.Prelude.{◌≡◌, ℕ, ◌+◌, ◌<◌, ◌≤◌, Bool, true, false, ◌==◌, ◌&&◌, if◌then◌else◌, List, [], length, map, replicate, Option, unwrap_or, count_by, slice_get, slice_set, slice_index_or}
+use Rattle.std.specs.Prelude.{◌≡◌, ◌≢◌, ℕ, ◌+◌, ◌<◌, ◌≤◌, Bool, true, false, ◌==◌, ◌&&◌, if◌then◌else◌, List, [], length, map, replicate, Option, Some, unwrap_or, count_by, slice_get, slice_set, slice_index_or}
 use Rattle.std.specs.List.{All, list_all}
 use Rattle.job_board.specs.declared.job.JobId.{JobId}
 use Rattle.job_board.specs.declared.job.JobId.TheVariants.{Page, Launch}
@@ -58,6 +58,18 @@ is_page_done pages p = is_done (slice_index_or pages p Free)
 abbrev pub is_ready : CoreState → JobId → Bool
 is_ready s (Page j) = true
 is_ready s (Launch l) = list_all (is_page_done s.pages) (slice_index_or s.needs l [])
+
+-- a launch is free and ready
+abbrev pub IsOpen : CoreState → ℕ → Type 0
+IsOpen s l = (slice_get s.launches l ≡ Some Free) × (is_ready s (Launch l) ≡ true)
+
+-- no launch that is free is ready
+abbrev pub NoneOpen : CoreState → Type 0
+NoneOpen s = (l : ℕ) → slice_get s.launches l ≡ Some Free → is_ready s (Launch l) ≡ false
+
+-- none of some jobs is free
+abbrev pub NoneFree : List JobState → Type 0
+NoneFree states = (j : ℕ) → slice_get states j ≢ Some Free
 
 abbrev pub pages_done : CoreState → ℕ
 pages_done s = count_by is_done s.pages

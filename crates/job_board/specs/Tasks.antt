@@ -5,7 +5,7 @@ use Rattle.page_jobs.specs.Page.{PageView, digest_of}
 use Rattle.page_jobs.specs.Table.{slot_of}
 use Rattle.page_jobs.specs.declared.page.PageKey.{PageKey}
 use Rattle.rim_chain.specs.Jobs.{JobView}
-use Rattle.rim_chain.specs.Links.{PlanView, keys_of}
+use Rattle.rim_chain.specs.Links.{PlanView, chain_of, keys_of}
 
 -- the digest of the page that has a key, where one of these pages has it
 abbrev pub digest_among : List PageView → PageKey → Option (List ℕ)
@@ -29,3 +29,8 @@ pub record HashedView : Type 0 where
 -- a launch's number, plan and row belong together, and to a run with these pages and plans
 abbrev pub IsOwnLaunch : List PageView → List PlanView → JobView → Type 0
 IsOwnLaunch pages plans job = (slice_get plans job.number ≡ Some job.plan) × IsOwnRow pages (keys_of job.plan.links) job.row.digests
+
+-- what the launch of a number chains to, with the digests of its own pages
+abbrev pub IsOwnValue : List PageView → List PlanView → ℕ → Measurement → Type 0
+IsOwnValue pages plans l value = (p : PlanView) (digests : List Measurement) → slice_get plans l ≡ Some p
+    → IsOwnRow pages (keys_of p.links) digests → value.bytes ≡ chain_of p digests

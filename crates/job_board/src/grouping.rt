@@ -1,8 +1,8 @@
 //! Groups of pages, from what launches need in the order of its pages.
-ghost use Rattle.std.specs.Prelude.{◌≡◌, ◌≢◌, ◌-◌, ◌++◌, ◌∷◌, [], ℕ, List, true, false, length, IfOk, OnOk, Some, slice_get};
+ghost use Rattle.std.specs.Prelude.{◌≡◌, ◌-◌, true, false, IfOk, OnOk};
 ghost use Rattle.job_board.specs.declared.grouping.Stretch.{Stretch};
 ghost use Rattle.job_board.specs.declared.prefixes.PageGroup.{PageGroup};
-ghost use Rattle.job_board.specs.inside.Grouping.{AreStretches, Comes, IsGrouped};
+ghost use Rattle.job_board.specs.inside.Grouping.{AddsStretch, AreGroupsOf, LastBegins, NoneBegins};
 
 use crate::prefixes::{PageGroup, Prefix};
 use refusal::NoMemory;
@@ -18,7 +18,7 @@ pub(crate) struct Stretch {
 
 /// The groups of stretches that are in the order of their pages.
 pub(crate) fn grouped(alloc: Global, stretches: &[Stretch]) -> Result<Vec<PageGroup>, NoMemory>
-    ensures { IfOk result (λ groups. (pages launches : ℕ) → AreStretches pages launches stretches.now → IsGrouped pages launches stretches.now groups.items) }
+    ensures { IfOk result (λ groups. AreGroupsOf stretches.now groups.items) }
 {
     let mut groups = Vec::new(alloc);
     for stretch in stretches {
@@ -29,7 +29,7 @@ pub(crate) fn grouped(alloc: Global, stretches: &[Stretch]) -> Result<Vec<PageGr
 
 /// Adds a stretch that comes after those that were added.
 fn add_stretch(alloc: Global, groups: &mut Vec<PageGroup>, stretch: Stretch) -> Result<(), NoMemory>
-    ensures { OnOk result ((pages launches : ℕ) (before : List Stretch) → Comes pages launches before stretch → IsGrouped pages launches before groups.old.items → IsGrouped pages launches (before ++ stretch ∷ []) groups.new.items) }
+    ensures { OnOk result (AddsStretch groups.old.items stretch groups.new.items) }
 {
     if begins_last(groups, stretch.first) {
         return extend_last(groups, stretch);
@@ -39,8 +39,8 @@ fn add_stretch(alloc: Global, groups: &mut Vec<PageGroup>, stretch: Stretch) -> 
 
 /// Whether the last group begins with a page.
 fn begins_last(groups: &[PageGroup], first: usize) -> bool
-    ensures yes { result ≡ true → (g : PageGroup) × (slice_get groups.now (length groups.now - 1) ≡ Some g) × (g.first ≡ first) }
-    ensures no { result ≡ false → (g : PageGroup) → slice_get groups.now (length groups.now - 1) ≡ Some g → g.first ≢ first }
+    ensures yes { result ≡ true → LastBegins groups.now first }
+    ensures no { result ≡ false → NoneBegins groups.now first }
 {
     let count = groups.len();
     if count == 0 {
@@ -52,8 +52,8 @@ fn begins_last(groups: &[PageGroup], first: usize) -> bool
 
 /// Adds a stretch to the last group, which begins with its first page.
 fn extend_last(groups: &mut [PageGroup], stretch: Stretch) -> Result<(), NoMemory>
-    requires { (g : PageGroup) × (slice_get groups.old (length groups.old - 1) ≡ Some g) × (g.first ≡ stretch.first) }
-    ensures { OnOk result ((pages launches : ℕ) (before : List Stretch) → Comes pages launches before stretch → IsGrouped pages launches before groups.old → IsGrouped pages launches (before ++ stretch ∷ []) groups.new) }
+    requires { LastBegins groups.old stretch.first }
+    ensures { OnOk result (AddsStretch groups.old stretch groups.new) }
 {
     let last = groups.len() - 1;
     let group = &mut groups[last];
@@ -67,8 +67,8 @@ fn extend_last(groups: &mut [PageGroup], stretch: Stretch) -> Result<(), NoMemor
 
 /// Adds a group with a stretch with whose first page no other begins.
 fn add_group(alloc: Global, groups: &mut Vec<PageGroup>, stretch: Stretch) -> Result<(), NoMemory>
-    requires { (g : PageGroup) → slice_get groups.old.items (length groups.old.items - 1) ≡ Some g → g.first ≢ stretch.first }
-    ensures { OnOk result ((pages launches : ℕ) (before : List Stretch) → Comes pages launches before stretch → IsGrouped pages launches before groups.old.items → IsGrouped pages launches (before ++ stretch ∷ []) groups.new.items) }
+    requires { NoneBegins groups.old.items stretch.first }
+    ensures { OnOk result (AddsStretch groups.old.items stretch groups.new.items) }
 {
     let mut prefixes = Vec::new(alloc);
     prefixes.push(Prefix {

@@ -1,4 +1,4 @@
-//! Which page a worker had best be given next.
+//! Which page a worker is to be given next.
 
 use page_jobs::LANES;
 use refusal::NoMemory;
@@ -21,7 +21,7 @@ impl Groups {
         Ok(Groups { next, begin: 0 })
     }
 
-    /// The page that a worker had best be given: the one after its last in the same group, or else the first of a group
+    /// The page that a worker is to be given: the one after its last in the same group, or else the first of a group
     /// that was given to none.
     pub(crate) fn wish(&self, worker: usize) -> usize {
         match self.next.get(worker) {

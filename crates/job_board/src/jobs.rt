@@ -1,8 +1,8 @@
 //! How each job is, and what each event makes of it.
-ghost use Rattle.std.specs.Prelude.{◌≡◌, ℕ, false, length, true, IfNone, IfOk, IfSome, OnErr, Some, slice_get};
+ghost use Rattle.std.specs.Prelude.{◌≡◌, false, length, true, IfNone, IfOk, IfSome, OnErr, Some};
 ghost use Rattle.refusal.specs.Answer.{Matches};
 ghost use Rattle.job_board.specs.declared.job.Event.{Event};
-ghost use Rattle.job_board.specs.Jobs.{held_count, is_done, is_free, is_out, is_ready, opening, state_of, with_job, with_launch, with_page};
+ghost use Rattle.job_board.specs.Jobs.{IsOpen, NoneOpen, held_count, is_done, is_free, is_out, is_ready, opening, state_of, with_job, with_launch, with_page};
 ghost use Rattle.job_board.specs.Step.{core_step, job_is};
 ghost use Rattle.job_board.specs.inside.Lines.{passed_over};
 ghost use Rattle.job_board.specs.inside.Needs.{AreNeeds, needs_of};
@@ -252,8 +252,8 @@ impl Jobs {
     /// looked at again, unless a retirement frees one.
     pub(crate) fn ready_launch(&mut self) -> Option<usize>
         ensures same { self.new ≡ self.old }
-        ensures some { IfSome result (λ launch. (slice_get self.old.launches launch ≡ Some JobState.Free) × (is_ready self.old (JobId.Launch launch) ≡ true)) }
-        ensures none { IfNone result ((launch : ℕ) → slice_get self.old.launches launch ≡ Some JobState.Free → is_ready self.old (JobId.Launch launch) ≡ false) }
+        ensures some { IfSome result (IsOpen self.old) }
+        ensures none { IfNone result (NoneOpen self.old) }
     {
         let Jobs {
             launches,

@@ -1,7 +1,7 @@
 //! The line of launches that wait for nothing, in the order in which that came to be.
 ghost use Rattle.std.specs.Prelude.{◌≡◌, ◌≢◌, ◌<◌, ◌≤◌, ◌-◌, ◌++◌, ℕ, List, true, false, length, IfOk, Some, slice_get, slice_index, slice_set, vec_capacity};
 ghost use Rattle.job_board.specs.declared.job.JobState.{JobState};
-ghost use Rattle.job_board.specs.inside.Lines.{IsLine};
+ghost use Rattle.job_board.specs.inside.Lines.{IsFreeAt, IsLine};
 
 use crate::job::JobState;
 use refusal::NoMemory;
@@ -39,8 +39,8 @@ pub(crate) fn wait_less(left: &mut [usize], launch: usize, ready: &mut Vec<usize
 pub(crate) fn free_in(launches: &[JobState], ready: &[usize], from: usize) -> usize
     requires { from ≤ length ready.now }
     ensures within { (from ≤ result) × (result ≤ length ready.now) }
-    ensures passed { (i : ℕ) → from ≤ i → i < result → slice_get launches.now (slice_index ready.now i) ≢ Some JobState.Free }
-    ensures free { result < length ready.now → slice_get launches.now (slice_index ready.now result) ≡ Some JobState.Free }
+    ensures passed { (i : ℕ) → from ≤ i → i < result → ¬ IsFreeAt launches.now ready.now i }
+    ensures free { result < length ready.now → IsFreeAt launches.now ready.now result }
 {
     for i in from..ready.len() {
         if is_free_at(launches, ready[i]) {

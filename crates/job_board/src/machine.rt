@@ -1,7 +1,7 @@
 //! The core: how each job is, with marks that make it quick to find a free one.
-ghost use Rattle.std.specs.Prelude.{◌≡◌, ◌≢◌, ◌<◌, ◌≤◌, ℕ, false, length, map, true, IfNone, IfOk, IfSome, IsTrue, ◌↔◌, OnErr, Some, slice_get};
+ghost use Rattle.std.specs.Prelude.{◌≡◌, ◌≢◌, ◌<◌, ◌≤◌, ℕ, length, map, IfNone, IfOk, IfSome, IsTrue, ◌↔◌, OnErr, Some, slice_get};
 ghost use Rattle.refusal.specs.Answer.{Matches};
-ghost use Rattle.job_board.specs.Jobs.{IsCore, NeedsWithin, held_count, is_out, is_over, is_ready, opening, state_of};
+ghost use Rattle.job_board.specs.Jobs.{IsCore, IsOpen, NeedsWithin, NoneFree, NoneOpen, held_count, is_out, is_over, is_ready, opening, state_of};
 ghost use Rattle.job_board.specs.Step.{core_step};
 ghost use Rattle.job_board.specs.inside.Marks.{lowered_page};
 ghost use Rattle.job_board.specs.inside.Needs.{AreNeeds, needs_of};
@@ -178,7 +178,7 @@ impl Core {
     pub fn free_page(&mut self) -> Option<usize>
         ensures same { self.new ≡ self.old }
         ensures some { IfSome result (λ page. slice_get self.old.pages page ≡ Some JobState.Free) }
-        ensures none { IfNone result ((page : ℕ) → slice_get self.old.pages page ≢ Some JobState.Free) }
+        ensures none { IfNone result (NoneFree self.old.pages) }
     {
         let pages = self.jobs.pages();
         let page = free_at(pages, self.pages_from);
@@ -190,8 +190,8 @@ impl Core {
     /// looked at again, unless a retirement frees one.
     pub fn ready_launch(&mut self) -> Option<usize>
         ensures same { self.new ≡ self.old }
-        ensures some { IfSome result (λ launch. (slice_get self.old.launches launch ≡ Some JobState.Free) × (is_ready self.old (JobId.Launch launch) ≡ true)) }
-        ensures none { IfNone result ((launch : ℕ) → slice_get self.old.launches launch ≡ Some JobState.Free → is_ready self.old (JobId.Launch launch) ≡ false) }
+        ensures some { IfSome result (IsOpen self.old) }
+        ensures none { IfNone result (NoneOpen self.old) }
     {
         self.jobs.ready_launch()
     }
@@ -203,7 +203,7 @@ impl Core {
 
     /// Whether a launch is free and all pages that it needs are done.
     pub(crate) fn is_open(&self, launch: usize) -> bool
-        ensures { IsTrue result ↔ ((slice_get self.now.launches launch ≡ Some JobState.Free) × (is_ready self.now (JobId.Launch launch) ≡ true)) }
+        ensures { IsTrue result ↔ IsOpen self.now launch }
     {
         let job = JobId::Launch(launch);
         self.jobs.is_free(job) && self.jobs.is_ready(job)

@@ -1,9 +1,9 @@
 //! Which pages each launch needs.
-ghost use Rattle.std.specs.Prelude.{◌≡◌, ◌<◌, ◌∷◌, ◌++◌, ℕ, List, [], length, map, IfOk, OnOk};
+ghost use Rattle.std.specs.Prelude.{◌≡◌, ◌<◌, List, [], length, map, IfOk, OnOk};
 ghost use Rattle.std.specs.List.{All};
 ghost use Rattle.job_board.specs.Jobs.{NeedsWithin};
 ghost use Rattle.job_board.specs.inside.Needs.{AreNeeds, groups_of, needs_of};
-ghost use Rattle.job_board.specs.inside.Prefixes.{IsListed};
+ghost use Rattle.job_board.specs.inside.Prefixes.{AddsList, IsListed};
 
 use crate::prefixes::{PageGroup, Prefix};
 use refusal::NoMemory;
@@ -74,7 +74,7 @@ fn single_pages(alloc: Global, pages: usize) -> Result<Vec<PageGroup>, NoMemory>
 /// Adds what a launch needs, the next one after those that were added.
 fn add_list(groups: &mut [PageGroup], launch: usize, list: &[usize]) -> Result<(), NoMemory>
     requires within { All (λ page. page < length groups.old) list.now }
-    ensures { OnOk result ((lists : List (List ℕ)) → length lists ≡ launch → IsListed (length groups.old) groups.old lists → IsListed (length groups.old) groups.new (lists ++ list.now ∷ [])) }
+    ensures { OnOk result (AddsList groups.old launch list.now groups.new) }
 {
     for page in list {
         let group = &mut groups[*page];

@@ -81,7 +81,7 @@ fn push_link(
     push_pages(stretches, table.slot_of(key), *count as usize, launch)
 }
 
-/// Adds a stretch of so many pages from a slot on, if it has pages.
+/// Adds the stretch of this many pages from a slot on, if it has pages.
 fn push_pages(
     stretches: &mut Vec<Stretch>,
     slot: Option<usize>,

@@ -1,11 +1,11 @@
 //! What launches wait for: the first pages of groups, where a group has pages with numbers in a row.
-ghost use Rattle.std.specs.Prelude.{◌≡◌, ◌<◌, ◌≤◌, ◌+◌, ◌^◌, ◌++◌, ℕ, List, true, false, length, drop, IfOk, IfSome, Some, slice_get, slice_index, vec_capacity};
+ghost use Rattle.std.specs.Prelude.{◌≡◌, ◌<◌, ◌≤◌, ◌+◌, ◌^◌, ◌++◌, ℕ, List, true, false, length, drop, IfOk, IfSome, Some, slice_index, vec_capacity};
 ghost use Rattle.job_board.specs.declared.job.JobState.{JobState};
 ghost use Rattle.job_board.specs.declared.prefixes.PageGroup.{PageGroup};
 ghost use Rattle.job_board.specs.declared.prefixes.Prefix.{Prefix};
 ghost use Rattle.job_board.specs.Jobs.{is_page_done};
 ghost use Rattle.job_board.specs.inside.Lines.{IsLine};
-ghost use Rattle.job_board.specs.inside.Prefixes.{AreApart, AreGroups, AreRising, HasPut, HasPutJob, Waits, all_of, count_of, IsIn};
+ghost use Rattle.job_board.specs.inside.Prefixes.{AreApart, AreFewer, AreGroups, AreMet, AreNamed, AreRising, AreStill, HasPut, HasPutJob, OfOwnGroup, Waits, all_of, count_of};
 
 use crate::job::{JobId, JobState};
 use crate::line::wait_less;
@@ -37,7 +37,7 @@ pub(crate) struct Cursor {
 /// The group that has a page, if one has.
 fn group_of(groups: &[PageGroup], page: usize) -> Option<usize>
     requires { AreApart groups.now }
-    ensures own { (k : ℕ) (g : PageGroup) → slice_get groups.now k ≡ Some g → IsIn g page → result ≡ Some k }
+    ensures own { OfOwnGroup groups.now page (λ k. result ≡ Some k) }
     ensures there { IfSome result (λ k. k < length groups.now) }
 {
     groups_up_to(groups, page).checked_sub(1)
@@ -47,7 +47,7 @@ fn group_of(groups: &[PageGroup], page: usize) -> Option<usize>
 fn groups_up_to(groups: &[PageGroup], page: usize) -> usize
     requires { AreApart groups.now }
     ensures bound { result ≤ length groups.now }
-    ensures last { (k : ℕ) (g : PageGroup) → slice_get groups.now k ≡ Some g → IsIn g page → k + 1 ≡ result }
+    ensures last { OfOwnGroup groups.now page (λ k. k + 1 ≡ result) }
 {
     groups.partition_point(|group| group.first <= page)
 }
@@ -78,14 +78,14 @@ fn meet(
     ready: &mut Vec<usize>,
 ) -> usize
     requires from { from ≤ length prefixes.now }
-    requires named { (k : ℕ) (q : Prefix) → slice_get prefixes.now k ≡ Some q → q.launch < length left.old }
+    requires named { AreNamed prefixes.now (length left.old) }
     requires counted { (l : ℕ) → count_of l (drop from prefixes.now) ≤ slice_index left.old l }
     requires rising { AreRising prefixes.now }
     requires line { IsLine left.old ready.old.items (vec_capacity ready.old) }
     ensures within { (from ≤ result) × (result ≤ length prefixes.now) }
-    ensures met { (k : ℕ) (q : Prefix) → from ≤ k → k < result → slice_get prefixes.now k ≡ Some q → q.count ≤ done }
-    ensures open { (k : ℕ) (q : Prefix) → result ≤ k → slice_get prefixes.now k ≡ Some q → done < q.count }
-    ensures left { (l : ℕ) → slice_index left.new l + count_of l (drop from prefixes.now) ≡ slice_index left.old l + count_of l (drop result prefixes.now) }
+    ensures met { AreMet prefixes.now done from result }
+    ensures open { AreStill prefixes.now done result }
+    ensures left { AreFewer prefixes.now from result left.old left.new }
     ensures line { IsLine left.new ready.new.items (vec_capacity ready.new) }
     ensures grows { (more : List ℕ) × (ready.new.items ≡ ready.old.items ++ more) }
 {
@@ -148,7 +148,7 @@ pub(crate) fn note_done(
 
 /// Counts for each launch the prefixes of a group that are its own.
 fn count_group(prefixes: &[Prefix], left: &mut [usize])
-    requires named { (k : ℕ) (q : Prefix) → slice_get prefixes.now k ≡ Some q → q.launch < length left.old }
+    requires named { AreNamed prefixes.now (length left.old) }
     requires few { (l : ℕ) → slice_index left.old l + count_of l prefixes.now < 2 ^ 64 }
     ensures { (l : ℕ) → slice_index left.new l ≡ slice_index left.old l + count_of l prefixes.now }
 {

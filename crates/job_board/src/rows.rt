@@ -54,6 +54,23 @@ pub(crate) fn spare_rows(
     Ok(rows)
 }
 
+/// Empty rows for the launches that workers are lent, three for each worker; none for few launches, of
+/// which none is lent.
+pub(crate) fn lent_rows(
+    alloc: Global,
+    plans: &[LaunchPlan],
+    workers: usize,
+) -> Result<Vec<DigestRow>, NoMemory>
+    requires { workers ≤ 64 }
+{
+    let count = if plans.len() < 4 * workers {
+        0
+    } else {
+        3 * workers
+    };
+    spare_rows(alloc, plans, count)
+}
+
 /// The plan of a number.
 pub(crate) fn plan_at<'a>(plans: &'a [LaunchPlan], number: usize) -> &'a LaunchPlan
     requires { number < length plans.now }

@@ -1,12 +1,13 @@
 //! A board's state: what each call makes of it.
-ghost use Rattle.std.specs.Prelude.{◌≡◌, ◌≢◌, ◌<◌, ◌≤◌, ◌+◌, ◌⊎◌, ◌↔◌, [], false, true, ℕ, length, map, replicate, sum, vec_len, IfErr, IfNone, IfOk, IfSome, IsTrue, None, OnOk, Some, slice_get, slice_set, vec_capacity};
+ghost use Rattle.std.specs.Prelude.{◌≡◌, ◌<◌, ◌≤◌, ◌+◌, ◌⊎◌, [], false, true, length, map, replicate, sum, vec_len, IfErr, IfNone, IfOk, IfSome, None, OnOk, Some, slice_get, slice_set, vec_capacity};
 ghost use Rattle.std.specs.List.{All, Contains};
 ghost use Rattle.job_board.specs.declared.job.Event.{Event};
 ghost use Rattle.job_board.specs.declared.job.JobId.{JobId};
 ghost use Rattle.job_board.specs.declared.job.JobState.{JobState};
-ghost use Rattle.job_board.specs.Board.{Adds, AreValuesOf, CanPutLaunch, CanPutPage, IsBoard, IsOfRun, NeedsOwn, SameRest};
+ghost use Rattle.job_board.specs.Board.{Adds, AreValuesOf, CanPutJob, CanPutPage, IsBoard, IsOfRun, NeedsOwn, SameRest};
 ghost use Rattle.job_board.specs.Gives.{Gives};
-ghost use Rattle.job_board.specs.Jobs.{held_count, is_out, is_over, is_ready, opening, state_of};
+ghost use Rattle.job_board.specs.Jobs.{IsOpen, NoneFree, held_count, is_out, is_over, is_ready, opening, state_of};
+ghost use Rattle.rim_desc.specs.declared.measurement.Algo.TheVariants as algo;
 ghost use Rattle.page_jobs.specs.Page.{page_view};
 ghost use Rattle.page_jobs.specs.Table.{keys_of as page_keys, with_digest};
 ghost use Rattle.rim_chain.specs.Links.{keys_of};
@@ -15,9 +16,10 @@ ghost use Rattle.rim_chain.specs.Rows.{IsRowOf, value_in};
 use crate::closing::{add_up, copy_values, write_counts};
 use crate::groups::Groups;
 use crate::job::{Event, JobId, JobState};
+use crate::lending::Lending;
 use crate::machine::Core;
 use crate::own_needs::own_needs;
-use crate::rows::{free_row, plan_at, rows_of, spare_rows, take_row};
+use crate::rows::{free_row, lent_rows, plan_at, rows_of, spare_rows, take_row};
 use crate::run::Run;
 use crate::share::{Share, cut};
 use crate::task::{ChainedLaunch, HashedPage, LaunchTask, PageTask};
@@ -31,7 +33,7 @@ use std::marker::Model;
 use std::sync::ledger::{Blank, Book};
 
 /// The core and its history, the table, the plans, the rows, the values of launches and of the fronts that launches
-/// have in common, which page each worker had best hash next, and the ledger's book. Its type says that the core is what its
+/// have in common, which page and which launch each worker is given first, and the ledger's book. Its type says that the core is what its
 /// history leaves, that each filled slot, each value and each front is its own job's, that as many pages are done as the book
 /// says, and that pages and plans are those of its run.
 #[derive(Drop)]
@@ -47,6 +49,7 @@ pub struct BoardState<'a, L: Run> {
     /// How many launches were noted when they came to be ready.
     noted: usize,
     groups: Groups,
+    lending: Lending,
     book: Book<L>,
 }
 
@@ -116,13 +119,13 @@ impl<'a, L: Run> BoardState<'a, L> {
         launch: ChainedLaunch<'a, L>,
     ) -> Result<(), ChainedLaunch<'a, L>>
         ensures board { IsBoard self.old × IsOfRun L.pages L.plans self.old }
-        ensures can { OnOk result (CanPutLaunch self.old worker launch.entry.job.number launch.entry.job.plan launch.entry.job.row.digests) }
+        ensures can { OnOk result (CanPutJob self.old worker launch.entry.job) }
         ensures event { OnOk result (Adds self.old (Event.Put worker (JobId.Launch launch.entry.job.number)) self.new) }
         ensures results { OnOk result (self.new.results ≡ slice_set self.old.results launch.entry.job.number (Some launch.entry.value)) }
         ensures own { OnOk result (launch.entry.value.bytes ≡ value_in self.old.table launch.entry.job.plan) }
         ensures same { OnOk result ((self.new.table ≡ self.old.table) × (self.new.plans ≡ self.old.plans) × (self.new.book ≡ self.old.book)) }
         ensures err { IfErr result (λ l. (l ≡ launch.entry) × (self.new ≡ self.old)) }
-        ensures refused { IfErr result (λ l. ¬ CanPutLaunch self.old worker launch.entry.job.number launch.entry.job.plan launch.entry.job.row.digests) }
+        ensures refused { IfErr result (λ l. ¬ CanPutJob self.old worker launch.entry.job) }
     {
         let BoardState {
             core,
@@ -198,17 +201,33 @@ impl<'a, L: Run> BoardState<'a, L> {
         Work::Later
     }
 
-    /// A free launch that is ready and had best be chained before more pages are hashed, if one is known. A worker within a
-    /// group of pages puts these first, since launches wait for what it has hashed.
+    /// A free launch that is ready and is to be chained before more pages are hashed, if one is known. A worker within a
+    /// group of pages puts these first, since launches wait for what it has hashed. Where launches are lent, they wait for more
+    /// of them as long as pages are left.
     fn preferred_launch(&mut self, worker: usize) -> Option<usize>
         ensures same { self.new ≡ self.old }
-        ensures some { IfSome result (λ l. (slice_get self.old.core.launches l ≡ Some JobState.Free) × (is_ready self.old.core (JobId.Launch l) ≡ true)) }
+        ensures some { IfSome result (IsOpen self.old.core) }
     {
         if self.has_page_ahead(worker) {
             return None;
         }
+        if let Some(number) = self.lent_launch(worker) {
+            return Some(number);
+        }
         self.note_ready_launches();
+        if self.lending.waits(self.fronts.waiting()) && self.core.free_page().is_some() {
+            return None;
+        }
         self.next_open_launch()
+    }
+
+    /// A free launch that a worker was lent, which it has chained.
+    fn lent_launch(&mut self, worker: usize) -> Option<usize>
+        ensures same { self.new ≡ self.old }
+        ensures some { IfSome result (IsOpen self.old.core) }
+    {
+        let BoardState { core, lending, .. } = self;
+        lending.next(core, worker)
     }
 
     /// Whether a worker is within a group of pages, the next of which is free.
@@ -236,10 +255,10 @@ impl<'a, L: Run> BoardState<'a, L> {
         }
     }
 
-    /// The launch that had best be chained next, if one was noted. Others that were noted and are no longer free are passed.
+    /// The launch that is to be chained next, if one was noted. Others that were noted and are no longer free are passed.
     fn next_open_launch(&mut self) -> Option<usize>
         ensures same { self.new ≡ self.old }
-        ensures some { IfSome result (λ l. (slice_get self.old.core.launches l ≡ Some JobState.Free) × (is_ready self.old.core (JobId.Launch l) ≡ true)) }
+        ensures some { IfSome result (IsOpen self.old.core) }
     {
         let BoardState { core, fronts, .. } = self;
         for _ in 0..2 * core.launches() {
@@ -251,11 +270,11 @@ impl<'a, L: Run> BoardState<'a, L> {
         None
     }
 
-    /// A free page: the one that the worker had best hash next, if that is one.
+    /// A free page: the one that the worker is to hash next, if that is one.
     fn next_page(&mut self, worker: usize) -> Option<usize>
         ensures same { self.new ≡ self.old }
         ensures some { IfSome result (λ page. slice_get self.old.core.pages page ≡ Some JobState.Free) }
-        ensures none { IfNone result ((page : ℕ) → slice_get self.old.core.pages page ≢ Some JobState.Free) }
+        ensures none { IfNone result (NoneFree self.old.core.pages) }
     {
         let BoardState { core, groups, .. } = self;
         let first = core.free_page()?;
@@ -371,6 +390,7 @@ impl<'a, L: Run> BoardState<'a, L> {
         let results = vec![in alloc; None; plans.len()]?;
         let fronts = SharedFronts::new(alloc, plans)?;
         let groups = Groups::new(alloc, workers)?;
+        let lending = Lending::new(alloc, workers, lent_rows(alloc, plans, workers)?)?;
         Ok((
             BoardState {
                 core,
@@ -383,10 +403,61 @@ impl<'a, L: Run> BoardState<'a, L> {
                 fronts,
                 noted: 0,
                 groups,
+                lending,
                 book,
             },
             shares,
         ))
+    }
+}
+
+impl<'a, L: Run> BoardState<'a, L> {
+    /// A row for a launch that is lent to a worker, if one is left.
+    pub fn lend_row(&mut self) -> Option<DigestRow>
+        ensures { self.new ≡ self.old }
+    {
+        self.lending.row()
+    }
+
+    /// Lends a worker a launch that is ready, to be chained beside one that it has taken. It is not taken by that, and is best
+    /// given to this worker later. The row is handed back where no launch is lent: where too few are left for the other
+    /// workers, or the row has no room for the next.
+    pub fn lend(&mut self, worker: usize, row: DigestRow) -> Result<LaunchTask<'a, L>, DigestRow>
+        ensures same { self.new ≡ self.old }
+        ensures alone { IfOk result (λ task. task.plan.params.algo ≡ algo.Sha256) }
+    {
+        let Some(number) = self.next_to_lend() else {
+            return Err(row);
+        };
+        let BoardState {
+            table,
+            plans,
+            lending,
+            ..
+        } = self;
+        lending.note(worker, number);
+        lent_task(table, plans, number, row)
+    }
+
+    /// The launch that is to be lent next, if more are left for the other workers.
+    fn next_to_lend(&mut self) -> Option<usize>
+        ensures { self.new ≡ self.old }
+    {
+        let BoardState {
+            core,
+            fronts,
+            lending,
+            ..
+        } = self;
+        if !lending.is_enough(fronts.waiting()) {
+            return None;
+        }
+        let number = fronts.next_alone()?;
+        if core.is_open(number) {
+            Some(number)
+        } else {
+            None
+        }
     }
 }
 
@@ -449,4 +520,33 @@ fn free_of(core: &Core, page: usize, other: usize) -> usize
         Some(JobState::Free) => page,
         _ => other,
     }
+}
+
+/// The job of a launch whose pages all have digests, in a row that has room for it; or the row, for others.
+fn lent_task<'a, L: Run>(
+    table: &Table<'a>,
+    plans: &'a [LaunchPlan],
+    number: usize,
+    row: DigestRow,
+) -> Result<LaunchTask<'a, L>, DigestRow>
+    requires pages { table.now.pages ≡ L.pages }
+    requires plans { plans.now ≡ L.plans }
+    ensures alone { IfOk result (λ task. task.plan.params.algo ≡ algo.Sha256) }
+{
+    let mut row = row;
+    row.truncate(0);
+    if number >= plans.len() {
+        return Err(row);
+    }
+    let plan = plan_at(plans, number);
+    if plan.pages() > row.room() || !plan.fill_row(table, &mut row) {
+        return Err(row);
+    }
+    // Each filled slot of a table has the digest of its own page.
+    let _pages = table.pages();
+    let job = LaunchJob::new(number, plan, row);
+    if !job.is_alone() {
+        return Err(job.into_row());
+    }
+    Ok(LaunchTask::new(job))
 }

@@ -1,12 +1,13 @@
 //! The jobs that a board gives, and what comes of them. Their types say that they are of its own run: so nothing is compared
 //! when they are put.
-ghost use Rattle.std.specs.Prelude.{◌≡◌, ◌<◌, ◌↔◌, length, map, slice_get, IfSome, IsSome, Some};
-ghost use Rattle.page_jobs.specs.Page.{digest_of, page_view};
+ghost use Rattle.std.specs.Prelude.{◌≡◌, ◌<◌, ◌↔◌, length, map, slice_get, true, IfSome, IsSome, Some};
+ghost use Rattle.rim_desc.specs.declared.measurement.Algo.TheVariants as algo;
+ghost use Rattle.page_jobs.specs.Page.{page_view};
 ghost use Rattle.rim_chain.specs.Links.{chain_of};
 ghost use Rattle.job_board.specs.Tasks.{IsOwnLaunch};
 
 use crate::run::Run;
-use page_jobs::{Hashed, Page, PageJob, run_four};
+use page_jobs::{DigestRow, Hashed, Page, PageJob, run_four};
 use rim_chain::{LaunchJob, LaunchRim};
 use rim_desc::Measurement;
 use std::marker::{Model, PhantomData};
@@ -85,6 +86,34 @@ impl<'a, L: Run> Model for ChainedLaunch<'a, L> {
     ghost view = { λ c. c.rim };
 
     ghost invariant = { λ c. IsOwnLaunch L.pages L.plans c.rim.job };
+}
+
+/// The measurement of a launch of a run, by its number.
+#[derive(Drop)]
+pub struct OwnValue<L: Run> {
+    number: usize,
+    value: Measurement,
+    run: PhantomData<L>,
+}
+
+impl<L: Run> Model for OwnValue<L> {
+    ghost use Rattle.std.specs.Prelude.{ℕ};
+    ghost use Rattle.job_board.specs.Tasks.{IsOwnValue};
+
+    ghost Value = { ℕ };
+
+    ghost view = { λ v. v.number };
+
+    ghost invariant = { λ v. IsOwnValue L.pages L.plans v.number v.value };
+}
+
+impl<L: Run> OwnValue<L> {
+    /// The number of the launch among those of the run.
+    pub fn number(&self) -> usize
+        ensures { result ≡ self.now }
+    {
+        self.number
+    }
 }
 
 impl<'a, L: Run> PageTask<'a, L> {
@@ -210,7 +239,87 @@ impl<'a, L: Run> LaunchTask<'a, L> {
     }
 }
 
+impl<'a, L: Run> LaunchTask<'a, L> {
+    /// Whether the launch can be chained side by side with others.
+    pub fn is_alone(&self) -> bool
+        ensures { result ≡ true → self.now.plan.params.algo ≡ algo.Sha256 }
+    {
+        self.job.is_alone()
+    }
+
+    /// Chains the launch and three others side by side, which takes less than half the time.
+    pub fn run_with(
+        self,
+        b: LaunchTask<'a, L>,
+        c: LaunchTask<'a, L>,
+        d: LaunchTask<'a, L>,
+    ) -> (
+        ChainedLaunch<'a, L>,
+        ChainedLaunch<'a, L>,
+        ChainedLaunch<'a, L>,
+        ChainedLaunch<'a, L>,
+    )
+        requires first { self.plan.params.algo ≡ algo.Sha256 }
+        requires second { b.plan.params.algo ≡ algo.Sha256 }
+        requires third { c.plan.params.algo ≡ algo.Sha256 }
+        requires fourth { d.plan.params.algo ≡ algo.Sha256 }
+        ensures { result.0.job ≡ self.entry }
+    {
+        let (first, second, third, fourth) = self.job.run_with(b.job, c.job, d.job);
+        (
+            ChainedLaunch {
+                rim: first,
+                run: PhantomData,
+            },
+            ChainedLaunch {
+                rim: second,
+                run: PhantomData,
+            },
+            ChainedLaunch {
+                rim: third,
+                run: PhantomData,
+            },
+            ChainedLaunch {
+                rim: fourth,
+                run: PhantomData,
+            },
+        )
+    }
+
+    /// The launch with its measurement, which was found before.
+    pub fn known(self, value: OwnValue<L>) -> ChainedLaunch<'a, L>
+        requires { value ≡ self.number }
+        ensures { result.job ≡ self.entry }
+    {
+        ChainedLaunch {
+            rim: self.job.known(value.value),
+            run: PhantomData,
+        }
+    }
+
+    /// The row, to be filled for another launch.
+    pub fn into_row(self) -> DigestRow {
+        self.job.into_row()
+    }
+}
+
 impl<'a, L: Run> ChainedLaunch<'a, L> {
+    /// The measurement alone, by the launch's number; and the row, to be filled for another launch.
+    pub fn into_parts(self) -> (OwnValue<L>, DigestRow)
+        ensures { result.0 ≡ self.entry.job.number }
+    {
+        let number = self.rim.number();
+        let value = self.rim.value();
+        (
+            OwnValue {
+                number,
+                value,
+                run: PhantomData,
+            },
+            self.rim.into_row(),
+        )
+    }
+
     /// The number of the launch among those of the run.
     pub fn number(&self) -> usize
         ensures { result ≡ self.now.job.number }

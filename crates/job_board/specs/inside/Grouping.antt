@@ -1,5 +1,5 @@
 -- Groups of pages, from what launches need in the order of its pages. This project's choice.
-use Rattle.std.specs.Prelude.{◌≡◌, ℕ, ◌+◌, ◌<◌, ◌≤◌, Bool, ◌==◌, ◌⊎◌, if◌then◌else◌, List, [], Some, count_by, slice_get}
+use Rattle.std.specs.Prelude.{◌≡◌, ◌≢◌, ℕ, ◌+◌, ◌-◌, ◌<◌, ◌≤◌, Bool, ◌==◌, ◌⊎◌, if◌then◌else◌, List, [], ◌∷◌, ◌++◌, length, Some, count_by, slice_get}
 use Rattle.std.specs.List.{flat_map, list_all, range_with_len}
 use Rattle.job_board.specs.declared.grouping.Stretch.{Stretch}
 use Rattle.job_board.specs.declared.prefixes.PageGroup.{PageGroup}
@@ -32,3 +32,25 @@ pub record IsGrouped (pages launches : ℕ) (ss : List Stretch) (gs : List PageG
   pub origin : (k : ℕ) (g : PageGroup) → slice_get gs k ≡ Some g → (i : ℕ) × (a : Stretch) × (slice_get ss i ≡ Some a) × (a.first ≡ g.first) × (a.count ≡ g.count) × (0 < a.count)
   pub counted : (l : ℕ) → all_of l gs ≡ count_by (λ s. s.launch == l) ss
   pub index : (l : ℕ) (f : ℕ → Bool) → list_all f (prefix_needs gs l) ≡ list_all f (flat_map (own_pages l) ss)
+
+-- ---- as code makes them
+
+-- groups with just these stretches, where these are in the order of their pages
+abbrev pub AreGroupsOf : List Stretch → List PageGroup → Type 0
+AreGroupsOf ss gs = (pages launches : ℕ) → AreStretches pages launches ss → IsGrouped pages launches ss gs
+
+-- a stretch was added that comes after the others
+abbrev pub AddsStretch : List PageGroup → Stretch → List PageGroup → Type 0
+AddsStretch old s new = (pages launches : ℕ) (before : List Stretch) → Comes pages launches before s
+    → IsGrouped pages launches before old → IsGrouped pages launches (before ++ s ∷ []) new
+
+abbrev pub IsLast : List PageGroup → PageGroup → Type 0
+IsLast gs g = slice_get gs (length gs - 1) ≡ Some g
+
+-- the last group begins with a page
+abbrev pub LastBegins : List PageGroup → ℕ → Type 0
+LastBegins gs first = (g : PageGroup) × IsLast gs g × (g.first ≡ first)
+
+-- the last group begins with another page, or no group is there
+abbrev pub NoneBegins : List PageGroup → ℕ → Type 0
+NoneBegins gs first = (g : PageGroup) → IsLast gs g → g.first ≢ first

@@ -12,6 +12,10 @@ pub record IsLine (lefts ready : List ℕ) (room : ℕ) : Type 0 where
   pub only : All (λ l. slice_index lefts l ≡ 0) ready
   pub room_left : length ready + count_by (nat_lt 0) lefts ≤ room
 
+-- the launch at a place of a line is free
+abbrev pub IsFreeAt : List JobState → List ℕ → ℕ → Type 0
+IsFreeAt launches ready i = slice_get launches (slice_index ready i) ≡ Some Free
+
 -- the first ones of a line, as many as were passed over, are not free
 pub record IsPassed (launches : List JobState) (ready : List ℕ) (from : ℕ) : Type 0 where
   pub within : from ≤ length ready

@@ -16,7 +16,7 @@ abbrev pub groups_of : Needs → List PageGroup
 groups_of (Listed lists groups) = groups.items
 groups_of (Prefixes launches groups) = groups.items
 
--- needs of pages among so many, which are kept in groups
+-- needs of pages with numbers below one, which are kept in groups
 pub record AreNeeds (pages : ℕ) (n : Needs) : Type 0 where
   pub within : NeedsWithin (needs_of n) pages
   pub groups : AreGroups pages (length (needs_of n)) (groups_of n)

@@ -1,5 +1,5 @@
 -- What launches wait for: the first pages of groups. This project's choice.
-use Rattle.std.specs.Prelude.{◌≡◌, ℕ, ◌+◌, ◌<◌, ◌≤◌, ◌^◌, Bool, true, false, ◌==◌, if◌then◌else◌, List, [], ◌∷◌, length, drop, Some, count_by, sum_by, slice_get, slice_index, slice_index_or, slice_set}
+use Rattle.std.specs.Prelude.{◌≡◌, ℕ, ◌+◌, ◌<◌, ◌≤◌, ◌^◌, Bool, true, false, ◌==◌, if◌then◌else◌, List, [], ◌∷◌, ◌++◌, length, drop, Some, count_by, sum_by, slice_get, slice_index, slice_index_or, slice_set}
 use Rattle.std.specs.List.{flat_map, list_all, range_with_len}
 use Rattle.job_board.specs.declared.job.JobId.{JobId}
 use Rattle.job_board.specs.declared.job.JobId.TheVariants.{Page, Launch}
@@ -40,7 +40,7 @@ count_of l qs = count_by (λ q. q.launch == l) qs
 abbrev pub all_of : ℕ → List PageGroup → ℕ
 all_of l gs = sum_by (λ g. count_of l g.prefixes.items) gs
 
--- a group among so many pages, for so many launches
+-- a group of pages and its launches, with numbers below these
 pub record IsGroup (pages launches : ℕ) (g : PageGroup) : Type 0 where
   pub within : g.first + g.count ≤ pages
   pub named : (k : ℕ) (q : Prefix) → slice_get g.prefixes.items k ≡ Some q → (q.launch < launches) × (0 < q.count) × (q.count ≤ g.count)
@@ -51,7 +51,27 @@ pub record AreGroups (pages launches : ℕ) (gs : List PageGroup) : Type 0 where
   pub each : (i : ℕ) (g : PageGroup) → slice_get gs i ≡ Some g → IsGroup pages launches g
   pub few : (l : ℕ) → all_of l gs < 2 ^ 64
 
+-- what is said of the number of the group that has a page, if one has
+abbrev pub OfOwnGroup : List PageGroup → ℕ → (ℕ → Type 0) → Type 0
+OfOwnGroup gs page Said = (k : ℕ) (g : PageGroup) → slice_get gs k ≡ Some g → IsIn g page → Said k
+
+-- prefixes of launches with numbers below one
+abbrev pub AreNamed : List Prefix → ℕ → Type 0
+AreNamed qs launches = (k : ℕ) (q : Prefix) → slice_get qs k ≡ Some q → q.launch < launches
+
 -- ---- how far groups are done
+
+-- the prefixes from one place up to another have no more pages than are done
+abbrev pub AreMet : List Prefix → ℕ → ℕ → ℕ → Type 0
+AreMet qs done from to = (k : ℕ) (q : Prefix) → from ≤ k → k < to → slice_get qs k ≡ Some q → q.count ≤ done
+
+-- those from a place on have more
+abbrev pub AreStill : List Prefix → ℕ → ℕ → Type 0
+AreStill qs done from = (k : ℕ) (q : Prefix) → from ≤ k → slice_get qs k ≡ Some q → done < q.count
+
+-- each launch waits for as many fewer as it has prefixes from one place up to another
+abbrev pub AreFewer : List Prefix → ℕ → ℕ → List ℕ → List ℕ → Type 0
+AreFewer qs from to old new = (l : ℕ) → slice_index new l + count_of l (drop from qs) ≡ slice_index old l + count_of l (drop to qs)
 
 -- how many of a launch's prefixes are not done
 abbrev pub left_of : ℕ → List PageGroup → List Cursor → ℕ
@@ -94,3 +114,8 @@ pub record IsListed (pages : ℕ) (gs : List PageGroup) (lists : List (List ℕ)
   pub named : (k i : ℕ) (g : PageGroup) (q : Prefix) → slice_get gs k ≡ Some g → slice_get g.prefixes.items i ≡ Some q → (q.launch < length lists) × (q.count ≡ 1)
   pub counted : (l : ℕ) → all_of l gs ≡ length (slice_index_or lists l [])
   pub index : IsIndex lists gs
+
+-- what one launch more needs was added, the next one after those that were added
+abbrev pub AddsList : List PageGroup → ℕ → List ℕ → List PageGroup → Type 0
+AddsList old launch list new = (lists : List (List ℕ)) → length lists ≡ launch → IsListed (length old) old lists
+    → IsListed (length old) new (lists ++ list ∷ [])

@@ -1,4 +1,4 @@
-use Rattle.std.proofs.Common.{◌≡◌, ◌∙◌, ℕ, List, Ok, Some, ap, arith, subst, sym, true}
+use Rattle.std.proofs.Common.{◌≡◌, ◌∙◌, ℕ, List, Ok, Some, ap, arith, subst, sym}
 use Rattle.std.specs.Prelude.{IfSome}
 use Rattle.std.specs.List.{slice_get}
 use Rattle.rim_desc.specs.declared.measurement.Measurement.{Measurement}
@@ -13,9 +13,9 @@ use Rattle.job_board.specs.declared.job.Event.TheVariants.{Put}
 use Rattle.job_board.specs.declared.job.JobId.TheVariants.{Launch}
 use Rattle.job_board.specs.declared.job.JobState.TheVariants.{Held}
 use Rattle.job_board.specs.Board.{BoardView, CanPutLaunch, IsBoard}
-use Rattle.job_board.specs.Jobs.{CoreState, is_out, state_of}
+use Rattle.job_board.specs.Jobs.{CoreState}
 use Rattle.job_board.specs.Step.{core_step}
-use Rattle.job_board.specs.Tasks.{IsOwnLaunch, IsOwnRow}
+use Rattle.job_board.specs.Tasks.{IsOwnRow}
 use Rattle.job_board.proofs.Histories.{history_room, same_most}
 use Rattle.job_board.proofs.Boards.{board_put_launch, held_filled, results_are, value_is}
 use Rattle.job_board.proofs.Kept.{put_says}
