@@ -1,5 +1,6 @@
 //! The board: its state under a lock, for workers in threads of their own.
-ghost use Rattle.std.specs.Prelude.{◌≡◌, ◌≢◌, ◌≤◌, ◌+◌, IfErr, OnOk, map};
+ghost use Rattle.std.specs.Prelude.{◌≡◌, ◌≢◌, ◌≤◌, ◌+◌, IfErr, IfOk, OnOk, map};
+ghost use Rattle.rim_desc.specs.declared.measurement.Algo.TheVariants as algo;
 ghost use Rattle.job_board.specs.declared.job.Event.{Event};
 ghost use Rattle.job_board.specs.declared.job.JobId.{JobId};
 ghost use Rattle.job_board.specs.declared.work.Work.{Work};
@@ -8,8 +9,8 @@ ghost use Rattle.job_board.specs.Gives.{Gives};
 ghost use Rattle.job_workers.specs.Puts.{Puts};
 ghost use Rattle.page_jobs.specs.Page.{page_view};
 
-use job_board::{BoardState, ChainedLaunch, HashedPage, Run, Share, Work};
-use page_jobs::Page;
+use job_board::{BoardState, ChainedLaunch, HashedPage, LaunchTask, Run, Share, Work};
+use page_jobs::{DigestRow, Page};
 use std::sync::{Condvar, Mutex, MutexGuard, Wait};
 
 /// A board's state under its lock, and where workers sleep until it changes. What a call says of the state is of the one
@@ -54,7 +55,7 @@ impl<'a, L: Run> Board<'a, L> {
         unreachable!()
     }
 
-    /// Puts a page that a worker holds, and counts it in the worker's share. It is handed back just where the worker does
+    /// Puts a page that a worker holds, and counts it in the worker's share. It is handed back exactly where the worker does
     /// not hold its job. The book that was found had counted what the share has.
     pub fn put_page(
         &self,
@@ -75,7 +76,7 @@ impl<'a, L: Run> Board<'a, L> {
         answer
     }
 
-    /// Puts a launch that a worker holds. It is handed back just where the worker does not hold its job.
+    /// Puts a launch that a worker holds. It is handed back exactly where the worker does not hold its job.
     pub fn put_launch(
         &self,
         rt: &impl Wait,
@@ -91,6 +92,23 @@ impl<'a, L: Run> Board<'a, L> {
             self.changed.notify_all();
         }
         answer
+    }
+
+    /// A row for a launch that is lent to a worker, if one is left.
+    pub(crate) fn lend_row(&self, rt: &impl Wait) -> Option<DigestRow> {
+        self.state.lock(rt).lend_row()
+    }
+
+    /// Lends a worker a launch that is ready, to be chained beside one that it has taken; or hands the row back.
+    pub(crate) fn lend(
+        &self,
+        rt: &impl Wait,
+        worker: usize,
+        row: DigestRow,
+    ) -> Result<LaunchTask<'a, L>, DigestRow>
+        ensures { IfOk result (λ task. task.plan.params.algo ≡ algo.Sha256) }
+    {
+        self.state.lock(rt).lend(worker, row)
     }
 
     /// Retires a worker. What it holds is then free.

@@ -2,6 +2,7 @@
 #![tactic(auto)]
 
 mod ahead;
+mod beside;
 pub mod board;
 pub mod gate;
 mod worker;

@@ -1,9 +1,26 @@
 //! What a worker does.
 use crate::ahead::Ahead;
+use crate::beside::Beside;
 use crate::board::Board;
 use crate::gate::Gate;
 use job_board::{JobId, Run, Share, Work};
 use std::sync::Wait;
+
+/// The pages and launches that a worker has done before they are given to it.
+#[derive(Drop)]
+pub(crate) struct Early<'a, L: Run> {
+    pages: Ahead<'a, L>,
+    launches: Beside<L>,
+}
+
+impl<'a, L: Run> Early<'a, L> {
+    pub(crate) fn new(rt: &impl Wait, board: &Board<'a, L>) -> Early<'a, L> {
+        Early {
+            pages: Ahead::new(board.pages(rt)),
+            launches: Beside::new(rt, board),
+        }
+    }
+}
 
 /// Takes jobs, runs them with no lock held and puts them, until none is given. A worker that ends retires. So a job
 /// that it still holds is free for those that sleep, and wakes them. It holds one where a put was handed back, or where the
@@ -16,10 +33,10 @@ pub(crate) fn work<'a, L: Run, G: Gate, R: Wait>(
     share: &mut Share<L>,
 ) {
     share.note_start();
-    let mut ahead = Ahead::new(board.pages(rt));
+    let mut early = Early::new(rt, board);
     for _ in rt.forever() {
         let given = board.take(rt, worker);
-        if !run_job(rt, gate, board, worker, share, &mut ahead, given) {
+        if !run_job(rt, gate, board, worker, share, &mut early, given) {
             break;
         }
     }
@@ -33,14 +50,14 @@ pub(crate) fn run_job<'a, L: Run, G: Gate, R: Wait>(
     board: &Board<'a, L>,
     worker: usize,
     share: &mut Share<L>,
-    ahead: &mut Ahead<'a, L>,
+    early: &mut Early<'a, L>,
     given: Work<'a, L>,
 ) -> bool {
     match given {
         Work::Page(task) => {
             let job = JobId::Page(task.number());
             gate.before(worker, job);
-            let page = ahead.run(task);
+            let page = early.pages.run(task);
             let _ = board.put_page(rt, worker, page, share);
             gate.after(worker, job);
             true
@@ -48,7 +65,7 @@ pub(crate) fn run_job<'a, L: Run, G: Gate, R: Wait>(
         Work::Launch(task) => {
             let job = JobId::Launch(task.number());
             gate.before(worker, job);
-            let launch = task.run();
+            let launch = early.launches.run(rt, board, worker, task);
             let _ = board.put_launch(rt, worker, launch);
             gate.after(worker, job);
             true

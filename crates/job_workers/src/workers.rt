@@ -2,10 +2,9 @@
 ghost use Rattle.std.specs.Prelude.{◌≡◌, ◌≤◌, ◌<◌, length, sum, vec_len};
 ghost use Rattle.job_board.specs.Board.{AreValuesOf};
 
-use crate::ahead::Ahead;
 use crate::board::Board;
 use crate::gate::Gate;
-use crate::worker::{run_job, work};
+use crate::worker::{Early, run_job, work};
 use job_board::{Run, Share, Work};
 use rim_desc::Measurement;
 use std::sync::Wait;
@@ -154,7 +153,7 @@ fn finish<'a, L: Run, G: Gate, R: Wait>(
     ensures values { AreValuesOf L.pages L.plans values.new }
 {
     let mut shares = shares;
-    let mut ahead = Ahead::new(board.pages(rt));
+    let mut early = Early::new(rt, board);
     for _ in rt.forever() {
         let mut state = board.lock(rt);
         let given = state.take(0);
@@ -162,7 +161,7 @@ fn finish<'a, L: Run, G: Gate, R: Wait>(
             return state.close(shares, counts, values);
         }
         drop(state);
-        run_job(rt, gate, board, 0, &mut shares[0], &mut ahead, given);
+        run_job(rt, gate, board, 0, &mut shares[0], &mut early, given);
     }
     unreachable!()
 }

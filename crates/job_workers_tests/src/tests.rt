@@ -1,8 +1,9 @@
+mod beside;
 mod late;
 mod own_pages;
 mod runs;
 
-ghost use Rattle.std.specs.Prelude.{◌≡◌, length, map, replicate, IfOk, None};
+ghost use Rattle.std.specs.Prelude.{◌≡◌, ◌≤◌, length, map, replicate, IfOk, None};
 ghost use Rattle.std.specs.List.{All, Contains};
 ghost use Rattle.page_jobs.specs.Key.{IsRising};
 ghost use Rattle.page_jobs.specs.Page.{page_view};
@@ -57,17 +58,18 @@ const REALM: RealmParams = RealmParams {
 
 /// The plan of a launch that measures the first pages of a file.
 fn plan_of(rt: &impl Abort, alloc: Global, file: usize, count: u64) -> LaunchPlan {
+    plan_at(rt, alloc, 0x4000_0000, file, count)
+}
+
+/// The same at an address.
+fn plan_at(rt: &impl Abort, alloc: Global, ipa: u64, file: usize, count: u64) -> LaunchPlan {
     let key = PageKey {
         algo: Algo::Sha256,
         source: Source::File(file),
         lead: 0,
         number: 0,
     };
-    let link = Link::Pages {
-        ipa: 0x4000_0000,
-        key,
-        count,
-    };
+    let link = Link::Pages { ipa, key, count };
     let links = Vec::from_slice(alloc, &[link]).expect(rt, "memory");
     LaunchPlan::new(REALM, links).expect(rt, "the link fits")
 }
@@ -99,9 +101,30 @@ fn run_two<'a, L: Run + Send + Sync, G: Gate + Sync, R: Threads + Wait + Sync>(
     requires keys { All (λ p. All (Contains (keys_of table.pages)) (link_keys p.links)) plans.now }
     requires empty { table.digests ≡ replicate (length table.pages) None }
 {
-    let mut counts = [0; 2];
+    run_by::<L, G, R>(rt, alloc, blank, 2, table, plans, gate)
+}
+
+/// The same by this many workers.
+fn run_by<'a, L: Run + Send + Sync, G: Gate + Sync, R: Threads + Wait + Sync>(
+    rt: &R,
+    alloc: Global,
+    blank: Blank,
+    workers: usize,
+    table: Table<'a>,
+    plans: &'a [LaunchPlan],
+    gate: &mut G,
+) -> Result<Vec<Measurement>, NoMemory>
+    requires name { blank.name ≡ L.name }
+    requires parts { (blank.parts ≡ L.parts) × (blank.parts ≡ workers) }
+    requires workers { (1 ≤ workers) × (workers ≤ 64) }
+    requires pages { table.pages ≡ L.pages }
+    requires plans { plans.now ≡ L.plans }
+    requires keys { All (λ p. All (Contains (keys_of table.pages)) (link_keys p.links)) plans.now }
+    requires empty { table.digests ≡ replicate (length table.pages) None }
+{
+    let mut counts = vec![in alloc; 0; workers]?;
     let mut values = vec![in alloc; Measurement { bytes: [0; 64] }; plans.len()]?;
-    let (state, shares) = BoardState::<L>::new(alloc, blank, 2, table, plans)?;
+    let (state, shares) = BoardState::<L>::new(alloc, blank, workers, table, plans)?;
     let board = Board::new(state);
     run_workers_on(rt, gate, &board, shares, &mut counts, &mut values, STACK);
     Ok(values)

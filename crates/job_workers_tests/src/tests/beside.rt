@@ -1,0 +1,82 @@
+//! Runs in which a worker chains launches beside others.
+use super::{check, pages_of, plan_at, run_by};
+use job_board::has_all_keys;
+use job_workers::FreeGate;
+use page_jobs::{DigestRow, Page, PageJob, Table};
+use refusal::NoMemory;
+use rim_chain::{LaunchPlan, chain};
+use rim_desc::Measurement;
+use std::alloc::Global;
+use std::marker::Brand;
+use std::process::Abort;
+use std::sync::ledger::Blank;
+use std::test::Fail;
+
+/// Three pages.
+const BYTES: [u8; 12_288] = [7; 12_288];
+
+/// Launches with nothing in common but pages: they measure one to three of these, each at addresses of its own.
+const LAUNCHES: u64 = 19;
+
+fn plans(rt: &impl Abort, alloc: Global) -> Vec<LaunchPlan> {
+    let mut plans = Vec::new(alloc);
+    for number in 0..LAUNCHES {
+        let ipa = 0x4000_0000 + number * 0x10_0000;
+        let plan = plan_at(rt, alloc, ipa, 0, number % 3 + 1);
+        plans.push(plan).expect(rt, "memory");
+    }
+    plans
+}
+
+/// What a launch chains to, with the digests of the first pages.
+fn chained(rt: &impl Abort, alloc: Global, plan: &LaunchPlan, pages: &[Page]) -> Measurement {
+    let mut row = DigestRow::reserve(alloc, plan.pages()).expect(rt, "memory");
+    for page in pages {
+        if row.digests().len() < row.room() {
+            row.push(PageJob::new(*page).run().digest);
+        }
+    }
+    if row.digests().len() != plan.pages() {
+        panic!(rt; "the row is filled");
+    }
+    chain(plan, &row)
+}
+
+fn check_values(
+    rt: &impl Abort,
+    alloc: Global,
+    plans: &[LaunchPlan],
+    pages: &[Page],
+    values: &[Measurement],
+) {
+    check(rt, values.len() == plans.len(), "as many values");
+    for (plan, value) in plans.iter().zip(values) {
+        assert!(rt; chained(rt, alloc, plan, pages) == *value);
+    }
+}
+
+/// One worker chains four launches at a time as long as enough are left; of nineteen workers none is lent any.
+#[test]
+fn launches_are_chained_beside_others(rt: HostRuntime) -> Result<(), Fail> {
+    let alloc = rt.alloc();
+    let pages = pages_of(alloc, &BYTES, 3)?;
+    let plans = plans(&rt, alloc);
+    let plans = plans.as_slice();
+    for workers in [1, 2, 19] {
+        let table = Table::reserve(alloc, &pages)?;
+        if !has_all_keys(&table, plans) {
+            panic!(rt; "the launches' pages exist");
+        }
+        let values = run_by::<Brand, FreeGate, HostRuntime>(
+            &rt,
+            alloc,
+            Blank::new(workers as u64),
+            workers,
+            table,
+            plans,
+            &mut FreeGate,
+        )?;
+        check_values(&rt, alloc, plans, &pages, values.as_slice());
+    }
+    Ok(())
+}
