@@ -5,6 +5,7 @@ use Rattle.std.specs.Int.{w32, from_be_bytes}
 use Rattle.fdt_tree.specs.declared.fault.FdtFault.{FdtFault}
 use Rattle.fdt_tree.specs.declared.fault.FdtFault.TheVariants.{Short, BadMagic, BadVersion, TooLarge, BadBlock}
 use Rattle.fdt_tree.specs.declared.reading.header.Header.{Header}
+use Rattle.fdt_tree.specs.declared.reading.header.TheConstants.{HEADER_SIZE, MAGIC, SIZE_LIMIT, VERSION}
 
 -- the number that begins at this byte
 abbrev pub word_at : ℕ → List ℕ → ℕ
@@ -24,22 +25,9 @@ header_of bytes = record {
   size_dt_struct = word_at 36 bytes;
 }
 
--- the number that each devicetree begins with
-abbrev pub magic_number : ℕ
-magic_number = 0xd00dfeed
-
--- The most bytes of a devicetree, 2 MiB, as Linux has it for arm64: Documentation/arch/arm64/booting.rst, "Setup the
--- device tree".
-abbrev pub size_limit : ℕ
-size_limit = 2 ^ 21
-
--- the size of the header in bytes
-abbrev pub header_size : ℕ
-header_size = 40
-
 -- The header and the blocks are within totalsize, and totalsize is within the bytes. Blocks may overlap.
 pub record BlocksFit (h : Header) (len : ℕ) : Type 0 where
-  pub own : header_size ≤ h.totalsize
+  pub own : HEADER_SIZE ≤ h.totalsize
   pub whole : h.totalsize ≤ len
   pub structure_aligned : h.off_dt_struct % 4 ≡ 0
   pub reserve_aligned : h.off_mem_rsvmap % 8 ≡ 0
@@ -50,11 +38,11 @@ pub record BlocksFit (h : Header) (len : ℕ) : Type 0 where
 -- the bytes begin with this header
 pub record HasHeader (bytes : List ℕ) (h : Header) : Type 0 where
   pub fields : h ≡ header_of bytes
-  pub long : header_size ≤ length bytes
-  pub magic : word_at 0 bytes ≡ magic_number
+  pub long : HEADER_SIZE ≤ length bytes
+  pub magic : word_at 0 bytes ≡ MAGIC
   pub version : h.version ≡ 17
   pub compatible : h.last_comp_version ≤ 17
-  pub small : length bytes ≤ size_limit
+  pub small : length bytes ≤ SIZE_LIMIT
   pub blocks : BlocksFit h (length bytes)
 
 -- the blocks
@@ -71,21 +59,21 @@ strings_block h bytes = take h.size_dt_strings (drop h.off_dt_strings bytes)
 
 abbrev pub blocks_fit : Header → ℕ → Bool
 blocks_fit h len =
-    nat_le header_size h.totalsize && nat_le h.totalsize len
+    nat_le HEADER_SIZE h.totalsize && nat_le h.totalsize len
     && (h.off_dt_struct % 4 == 0) && (h.off_mem_rsvmap % 8 == 0) && nat_le h.off_mem_rsvmap h.totalsize
     && nat_le (h.off_dt_struct + h.size_dt_struct) h.totalsize
     && nat_le (h.off_dt_strings + h.size_dt_strings) h.totalsize
 
 abbrev pub is_known_version : Header → Bool
-is_known_version h = (h.version == 17) && nat_le h.last_comp_version 17
+is_known_version h = (h.version == VERSION) && nat_le h.last_comp_version VERSION
 
 -- the header, or the first check that fails
 unfoldable pub header_at : List ℕ → Result Header FdtFault
 header_at bytes =
-    if nat_lt (length bytes) header_size then Err Short
-    else (if word_at 0 bytes == magic_number then
+    if nat_lt (length bytes) HEADER_SIZE then Err Short
+    else (if word_at 0 bytes == MAGIC then
     (if is_known_version (header_of bytes) then
-    (if nat_lt size_limit (length bytes) then Err TooLarge
+    (if nat_lt SIZE_LIMIT (length bytes) then Err TooLarge
     else (if blocks_fit (header_of bytes) (length bytes) then Ok (header_of bytes) else Err BadBlock))
     else Err BadVersion)
     else Err BadMagic)

@@ -3,10 +3,6 @@
 use Rattle.std.specs.Prelude.{ℕ, ◌-◌, ◌%◌, List, [], ◌∷◌, ◌++◌, map}
 use Rattle.fdt_tree.specs.declared.tree.Reservation.{Reservation}
 
--- the most nodes from the root to a node, both counted: none is deeper. This project's choice
-abbrev pub depth_limit : ℕ
-depth_limit = 64
-
 -- how many bytes pad n bytes to a multiple of 4
 abbrev pub padding_of : ℕ → ℕ
 padding_of n = (4 - n % 4) % 4
@@ -50,29 +46,14 @@ pub record Devicetree : Type 0 where
   pub boot_cpu : ℕ
   pub root : Root
 
--- The tokens of a structure block: FDT_BEGIN_NODE, FDT_PROP, FDT_END_NODE, FDT_NOP and FDT_END.
+-- The tokens of a structure block: FDT_BEGIN_NODE, FDT_PROP, FDT_END_NODE, FDT_NOP and FDT_END. Their numbers are
+-- constants of `reading/lexing.rt`.
 pub data Token : Type 0 where
   begin_node : List ℕ → Token
   property : PropertyData → Token
   end_node : Token
   nop : Token
   finish : Token
-
--- the numbers of the tokens (5.4.1)
-abbrev pub FDT_BEGIN_NODE : ℕ
-FDT_BEGIN_NODE = 1
-
-abbrev pub FDT_END_NODE : ℕ
-FDT_END_NODE = 2
-
-abbrev pub FDT_PROP : ℕ
-FDT_PROP = 3
-
-abbrev pub FDT_NOP : ℕ
-FDT_NOP = 4
-
-abbrev pub FDT_END : ℕ
-FDT_END = 9
 
 -- the tokens of nodes, without any NOP: a node's properties come before its children
 abbrev pub tokens : Nodes → List Token

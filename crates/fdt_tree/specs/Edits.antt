@@ -4,10 +4,11 @@ use Rattle.std.specs.Prelude.{ℕ, List, [], ◌∷◌, length, Bool, true, Opti
 use Rattle.std.specs.Str.{bytes_eq}
 use Rattle.fdt_tree.specs.declared.fault.FdtFault.{FdtFault}
 use Rattle.fdt_tree.specs.declared.fault.FdtFault.TheVariants.{BadName, TooDeep}
-use Rattle.fdt_tree.specs.Devicetree.{Branch, Devicetree, Nodes, PropertyData, Root, bare, branch_of_root, depth_limit, node, none}
+use Rattle.fdt_tree.specs.Devicetree.{Branch, Devicetree, Nodes, PropertyData, Root, bare, branch_of_root, node, none}
 use Rattle.fdt_tree.specs.Names.{legal}
 use Rattle.fdt_tree.specs.Lookup.{names_on}
 use Rattle.refusal.specs.Answer.{◌>>=◌}
+use Rattle.fdt_tree.specs.declared.reading.lexing.TheConstants.{DEPTH_LIMIT}
 
 -- the first property of the name gets the value; where none has the name, one is added at the end
 abbrev pub with_value : List ℕ → List ℕ → List PropertyData → List PropertyData
@@ -50,7 +51,7 @@ with_root t b = record t { root = root_in b }
 -- the names of the path and of the property are legal, and no node is made deeper than the limit
 abbrev pub check_names : List (List ℕ) → List ℕ → Result (Unit {0}) FdtFault
 check_names names name =
-    if all_legal names then (if legal name then (if nat_lt (length names) depth_limit then Ok tt else Err TooDeep) else Err BadName)
+    if all_legal names then (if legal name then (if nat_lt (length names) DEPTH_LIMIT then Ok tt else Err TooDeep) else Err BadName)
     else Err BadName
 
 abbrev pub path_names : Option (List (List ℕ)) → Result (List (List ℕ)) FdtFault

@@ -1,8 +1,9 @@
 -- Which bytes spell a structure block: Devicetree Specification 0.4, section 5.4.
 use Rattle.std.specs.Prelude.{◌≡◌, ℕ, ◌+◌, ◌^◌, ◌<◌, List, [], ◌∷◌, ◌++◌, length, drop}
 use Rattle.std.specs.Int.{w32, to_be_bytes}
-use Rattle.fdt_tree.specs.Devicetree.{FDT_BEGIN_NODE, FDT_END, FDT_END_NODE, FDT_NOP, FDT_PROP, Root, Token, begin_node, end_node, finish, nop, padding_of, property, root_tokens}
+use Rattle.fdt_tree.specs.Devicetree.{Root, Token, begin_node, end_node, finish, nop, padding_of, property, root_tokens}
 use Rattle.fdt_tree.specs.Names.{AreLegal, IsLegal}
+use Rattle.fdt_tree.specs.declared.reading.lexing.TheConstants.{FDT_BEGIN_NODE, FDT_END, FDT_END_NODE, FDT_NOP, FDT_PROP}
 
 -- Any bytes that pad n bytes to a multiple of 4. The specification requires zeros. Like other readers, this
 -- one does not look at them.

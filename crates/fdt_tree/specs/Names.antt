@@ -2,7 +2,8 @@
 -- property names (2.2.4). Devicetrees in use have others too, so this project accepts every visible ASCII
 -- character except `/`, which separates the names of a path.
 use Rattle.std.specs.Prelude.{ℕ, ◌+◌, ◌<◌, List, [], ◌∷◌, length, Bool, true, false, nat_lt, ◌==◌, ◌&&◌, not, cond, IsTrue}
-use Rattle.fdt_tree.specs.Devicetree.{Nodes, PropertyData, depth_limit, node, none}
+use Rattle.fdt_tree.specs.Devicetree.{Nodes, PropertyData, node, none}
+use Rattle.fdt_tree.specs.declared.reading.lexing.TheConstants.{DEPTH_LIMIT}
 
 abbrev pub is_name_character : ℕ → Bool
 is_name_character c = nat_lt 32 c && nat_lt c 127 && not (c == 47)
@@ -24,4 +25,4 @@ AreLegal (e ∷ es) = IsTrue (legal e.name) × AreLegal es
 abbrev pub IsLegal : ℕ → Nodes → Type 0
 IsLegal depth none = Unit {0}
 IsLegal depth (node name properties children next) =
-    (depth < depth_limit) × IsTrue (legal name) × AreLegal properties × IsLegal (depth + 1) children × IsLegal depth next
+    (depth < DEPTH_LIMIT) × IsTrue (legal name) × AreLegal properties × IsLegal (depth + 1) children × IsLegal depth next

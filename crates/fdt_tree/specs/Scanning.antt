@@ -7,8 +7,9 @@ use Rattle.fdt_tree.specs.declared.fault.FdtFault.{FdtFault}
 use Rattle.fdt_tree.specs.declared.fault.FdtFault.TheVariants.{BadToken, BadName, BadString, LateProperty, TooDeep}
 use Rattle.fdt_tree.specs.declared.reading.place.Place.{Place}
 use Rattle.refusal.specs.Answer.{◌>>=◌}
-use Rattle.fdt_tree.specs.Devicetree.{FDT_BEGIN_NODE, FDT_END, FDT_END_NODE, FDT_NOP, FDT_PROP, Token, begin_node, depth_limit, end_node, finish, nop, padding_of, property}
+use Rattle.fdt_tree.specs.Devicetree.{Token, begin_node, end_node, finish, nop, padding_of, property}
 use Rattle.fdt_tree.specs.Names.{legal}
+use Rattle.fdt_tree.specs.declared.reading.lexing.TheConstants.{DEPTH_LIMIT, FDT_BEGIN_NODE, FDT_END, FDT_END_NODE, FDT_NOP, FDT_PROP}
 
 -- before the root
 abbrev pub start : Place
@@ -52,7 +53,7 @@ unfoldable pub begin_at : Place → List ℕ → Result (Token × List ℕ) FdtF
 begin_at p bytes = do
   name ← string_at BadToken bytes
   text ← padded_at (length name + 1) bytes
-  if legal_at p name then (if nat_lt p.depth depth_limit then Ok (begin_node name, text.1) else Err TooDeep) else Err BadName
+  if legal_at p name then (if nat_lt p.depth DEPTH_LIMIT then Ok (begin_node name, text.1) else Err TooDeep) else Err BadName
 
 -- the name of a property: the text at this offset in the strings block, which may be the end of a longer name
 unfoldable pub name_at : List ℕ → ℕ → Result (List ℕ) FdtFault

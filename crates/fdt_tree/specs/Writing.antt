@@ -6,9 +6,10 @@ use Rattle.std.specs.Str.{bytes_eq}
 use Rattle.fdt_tree.specs.declared.fault.FdtFault.{FdtFault}
 use Rattle.fdt_tree.specs.declared.fault.FdtFault.TheVariants.{TooLarge}
 use Rattle.fdt_tree.specs.declared.tree.Reservation.{Reservation}
-use Rattle.fdt_tree.specs.Devicetree.{Devicetree, FDT_BEGIN_NODE, FDT_END, FDT_END_NODE, FDT_NOP, FDT_PROP, Token, begin_node, end_node, finish, nop, padding_of, property, root_tokens}
-use Rattle.fdt_tree.specs.Blocks.{header_size, magic_number, size_limit}
+use Rattle.fdt_tree.specs.Devicetree.{Devicetree, Token, begin_node, end_node, finish, nop, padding_of, property, root_tokens}
 use Rattle.fdt_tree.specs.Reservations.{pair_text}
+use Rattle.fdt_tree.specs.declared.reading.header.TheConstants.{HEADER_SIZE, LAST_COMP_VERSION, MAGIC, SIZE_LIMIT, VERSION}
+use Rattle.fdt_tree.specs.declared.reading.lexing.TheConstants.{FDT_BEGIN_NODE, FDT_END, FDT_END_NODE, FDT_NOP, FDT_PROP}
 
 -- ---- the strings: each name once, in the order of first use
 
@@ -74,14 +75,14 @@ reservations_text (r ∷ rs) = pair_text r ++ reservations_text rs
 -- reservations begin.
 abbrev pub places_text : ℕ → ℕ → ℕ → List ℕ
 places_text reserve structure strings =
-    to_be_bytes w32 magic_number ++ (to_be_bytes w32 (header_size + reserve + structure + strings)
-    ++ (to_be_bytes w32 (header_size + reserve) ++ (to_be_bytes w32 (header_size + reserve + structure) ++ to_be_bytes w32 header_size)))
+    to_be_bytes w32 MAGIC ++ (to_be_bytes w32 (HEADER_SIZE + reserve + structure + strings)
+    ++ (to_be_bytes w32 (HEADER_SIZE + reserve) ++ (to_be_bytes w32 (HEADER_SIZE + reserve + structure) ++ to_be_bytes w32 HEADER_SIZE)))
 
 -- The second half: version 17, which a reader of version 16 can read, the processor that boots, and the
 -- lengths.
 abbrev pub versions_text : ℕ → ℕ → ℕ → List ℕ
 versions_text structure strings boot_cpu =
-    to_be_bytes w32 17 ++ (to_be_bytes w32 16 ++ (to_be_bytes w32 boot_cpu ++ (to_be_bytes w32 strings ++ to_be_bytes w32 structure)))
+    to_be_bytes w32 VERSION ++ (to_be_bytes w32 LAST_COMP_VERSION ++ (to_be_bytes w32 boot_cpu ++ (to_be_bytes w32 strings ++ to_be_bytes w32 structure)))
 
 abbrev pub header_text : ℕ → ℕ → ℕ → ℕ → List ℕ
 header_text reserve structure strings boot_cpu = places_text reserve structure strings ++ versions_text structure strings boot_cpu
@@ -97,4 +98,4 @@ written t =
 
 -- the file of a tree, unless it would be longer than a devicetree may be
 abbrev pub file_of : Devicetree → Result (List ℕ) FdtFault
-file_of t = if nat_lt size_limit (length (written t)) then Err TooLarge else Ok (written t)
+file_of t = if nat_lt SIZE_LIMIT (length (written t)) then Err TooLarge else Ok (written t)

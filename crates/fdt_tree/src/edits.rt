@@ -15,7 +15,7 @@ pub mod memory;
 use crate::fault::FdtFault;
 use crate::lookup::slash_in;
 use crate::node::{Name, Node, Property};
-use crate::reading::lexing::{MAX_DEPTH, is_legal};
+use crate::reading::lexing::{DEPTH_LIMIT, is_legal};
 use crate::reading::structure::new_node;
 use std::alloc::{AllocError, Global};
 
@@ -138,7 +138,7 @@ pub fn check_names(names: Option<&[u8]>, name: &[u8]) -> Result<(), FdtFault>
     if !is_legal(name) {
         return Err(FdtFault::BadName);
     }
-    if count >= MAX_DEPTH {
+    if count >= DEPTH_LIMIT {
         return Err(FdtFault::TooDeep);
     }
     Ok(())

@@ -9,6 +9,7 @@ ghost use Rattle.fdt_tree.specs.Reading.{Spells, refusal_of};
 ghost use Rattle.fdt_tree.specs.TreeAt.{tree_at};
 ghost use Rattle.fdt_tree.specs.Wholeness.{IsWhole};
 ghost use Rattle.fdt_tree.specs.Writing.{written};
+ghost use Rattle.fdt_tree.specs.declared.reading.header.TheConstants.{SIZE_LIMIT};
 
 /// The same bytes spell at most one devicetree.
 pub fn one_tree()
@@ -39,5 +40,5 @@ pub fn first_fault()
 /// file may be. Each tree in memory is whole, so [`Tree::write`](crate::Tree::write) promises the same.
 pub fn written_is_spelled()
     ensures { (t : Devicetree) (z : List ℕ) → IsWhole t → t.boot_cpu < 2 ^ 32
-        → length (written t ++ z) ≤ 2 ^ 21 → Spells (written t ++ z) t }
+        → length (written t ++ z) ≤ SIZE_LIMIT → Spells (written t ++ z) t }
 {}

@@ -15,5 +15,6 @@ pub use crate::laws::{
     first_fault, one_tree, refused_or_spelled, tree_at_is_spelled, written_is_spelled,
 };
 pub use crate::node::{Name, Node, Property};
+pub use crate::reading::header::SIZE_LIMIT;
 pub use crate::reading::read;
 pub use crate::tree::{Reservation, Tree};

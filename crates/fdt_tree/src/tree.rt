@@ -3,6 +3,7 @@
 ghost use Rattle.std.specs.Prelude.{◌^◌, ◌≡◌, []};
 ghost use Rattle.fdt_tree.specs.NodeViews.{branch};
 ghost use Rattle.fdt_tree.specs.Wholeness.{IsWhole, IsWhole-prop, tree_in};
+ghost use Rattle.fdt_tree.specs.declared.reading.header.TheConstants.{SIZE_LIMIT};
 
 use crate::edits::memory::{put_memory, reg_of};
 use crate::edits::{check_names, names_on, put_below};
@@ -148,9 +149,9 @@ impl Tree {
     pub fn write(&self, alloc: Global) -> Result<Vec<u8>, FdtFault>
         ensures exact { Answers FdtFault.NoMemory (λ v. v.items) result (file_of (devicetree_of self.now)) }
         // The bytes spell this tree again, whatever follows them.
-        ensures again { IfOk result (λ v. (z : List ℕ) → length (v.items ++ z) ≤ 2 ^ 21
+        ensures again { IfOk result (λ v. (z : List ℕ) → length (v.items ++ z) ≤ SIZE_LIMIT
             → Spells (v.items ++ z) (devicetree_of self.now)) }
-        ensures within { IfOk result (λ v. length v.items ≤ 2 ^ 21) }
+        ensures within { IfOk result (λ v. length v.items ≤ SIZE_LIMIT) }
     {
         written(alloc, &self.contents)
     }

@@ -2,8 +2,7 @@
 
 ghost use Rattle.std.specs.Prelude.{◌^◌, ◌≡◌, ◌+◌, ◌++◌, ◌∷◌, [], ◌≤◌, ℕ, List, length, IfOk, IfErr, OnOk, Ok, Err, if◌then◌else◌};
 ghost use Rattle.std.specs.Int.{w32, w64, to_be_bytes};
-ghost use Rattle.fdt_tree.specs.Blocks.{header_size};
-ghost use Rattle.fdt_tree.specs.Devicetree.{property, begin_node, end_node, FDT_END};
+ghost use Rattle.fdt_tree.specs.Devicetree.{property, begin_node, end_node};
 ghost use Rattle.fdt_tree.specs.NodeViews.{property_data, branch};
 ghost use Rattle.fdt_tree.specs.Reservations.{pair_text};
 ghost use Rattle.fdt_tree.specs.Writing.{padding_after, begin_text, property_text, text_after, names_after, strings_text, reservations_text, places_text, versions_text, file_text, written};
@@ -11,13 +10,15 @@ ghost use Rattle.fdt_tree.specs.inside.NameTables.{HasNames, TooMuch};
 ghost use Rattle.fdt_tree.specs.Wholeness.{IsWhole, tree_in};
 ghost use Rattle.fdt_tree.specs.Reading.{Spells};
 ghost use Rattle.fdt_tree.specs.inside.OutputViews.{AreLengths, HasTokens, size_of, tokens_of_properties, tokens_of_nodes};
+ghost use Rattle.fdt_tree.specs.declared.reading.header.TheConstants.{HEADER_SIZE, SIZE_LIMIT};
+ghost use Rattle.fdt_tree.specs.declared.reading.lexing.TheConstants.{FDT_END};
 
 pub mod names;
 
 use crate::fault::FdtFault;
 use crate::node::{Node, Property};
-use crate::reading::header::{HEADER_LEN, LAST_COMP_VERSION, MAGIC, MAX_LEN, VERSION};
-use crate::reading::lexing::{BEGIN_NODE, END, END_NODE, PROP};
+use crate::reading::header::{HEADER_SIZE, LAST_COMP_VERSION, MAGIC, SIZE_LIMIT, VERSION};
+use crate::reading::lexing::{FDT_BEGIN_NODE, FDT_END, FDT_END_NODE, FDT_PROP};
 use crate::tree::{Contents, Reservation};
 use crate::writing::names::NameTable;
 use std::alloc::{AllocError, Global};
@@ -50,7 +51,7 @@ fn put_padding(out: &mut Vec<u8>, len: usize) -> Result<(), AllocError>
 fn put_begin(out: &mut Vec<u8>, name: &[u8]) -> Result<(), AllocError>
     ensures { OnOk result (out.new.items ≡ out.old.items ++ begin_text name.now) }
 {
-    put_word(out, BEGIN_NODE)?;
+    put_word(out, FDT_BEGIN_NODE)?;
     out.extend_from_slice(name)?;
     out.push(0)?;
     put_padding(out, name.len() + 1)
@@ -60,7 +61,7 @@ fn put_text(out: &mut Vec<u8>, offset: u32, len: u32, value: &[u8]) -> Result<()
     requires { len ≡ length value.now }
     ensures { OnOk result (out.new.items ≡ out.old.items ++ property_text offset value.now) }
 {
-    put_word(out, PROP)?;
+    put_word(out, FDT_PROP)?;
     put_word(out, len)?;
     put_word(out, offset)?;
     out.extend_from_slice(value)?;
@@ -79,7 +80,7 @@ fn put_property(
         → IfErr result (λ e. TooMuch e (size_of names (property (property_data strings.now pair.now) ∷ []))) }
 {
     let value = pair.value.as_slice();
-    if value.len() > MAX_LEN {
+    if value.len() > SIZE_LIMIT {
         return Err(FdtFault::TooLarge);
     }
     let offset = out.names.offset_of(alloc, strings, &pair.name)?;
@@ -98,7 +99,7 @@ fn put_node_end(out: &mut Output) -> Result<(), AllocError>
     ensures { (strings : List ℕ) (names : List (List ℕ)) → HasNames strings out.old.names names
         → OnOk result (HasTokens strings out.old out.new names (end_node ∷ [])) }
 {
-    put_word(&mut out.structure, END_NODE)
+    put_word(&mut out.structure, FDT_END_NODE)
 }
 
 /// Appends the token that begins a node, and its properties.
@@ -150,7 +151,7 @@ fn output_of(alloc: Global, strings: &[u8], root: &Node) -> Result<Output, FdtFa
         names: NameTable::new(alloc),
     };
     put_node(alloc, &mut out, strings, root)?;
-    put_word(&mut out.structure, END)?;
+    put_word(&mut out.structure, FDT_END)?;
     Ok(out)
 }
 
@@ -192,17 +193,17 @@ pub struct Lengths {
 
 /// Appends the magic number, the whole length, and where the blocks begin.
 fn put_places(out: &mut Vec<u8>, lengths: Lengths) -> Result<(), AllocError>
-    requires { header_size + lengths.reserve + lengths.structure + lengths.strings ≤ 2 ^ 21 }
+    requires { HEADER_SIZE + lengths.reserve + lengths.structure + lengths.strings ≤ SIZE_LIMIT }
     ensures { OnOk result (out.new.items ≡ out.old.items
         ++ places_text lengths.reserve lengths.structure lengths.strings) }
 {
-    let structure_at = HEADER_LEN as u32 + lengths.reserve;
+    let structure_at = HEADER_SIZE as u32 + lengths.reserve;
     let strings_at = structure_at + lengths.structure;
     put_word(out, MAGIC)?;
     put_word(out, strings_at + lengths.strings)?;
     put_word(out, structure_at)?;
     put_word(out, strings_at)?;
-    put_word(out, HEADER_LEN as u32)?;
+    put_word(out, HEADER_SIZE as u32)?;
     Ok(())
 }
 
@@ -223,17 +224,17 @@ fn put_versions(out: &mut Vec<u8>, lengths: Lengths, boot_cpu: u32) -> Result<()
 fn lengths_of(reservations: &[Reservation], out: &Output) -> Result<Lengths, FdtFault>
     ensures lengths { IfOk result (λ l. AreLengths l (length (reservations_text reservations.now))
         (length out.now.structure.items) (length out.now.names.strings.items)) }
-    ensures refused { IfErr result (λ e. TooMuch e (header_size + length (reservations_text reservations.now)
+    ensures refused { IfErr result (λ e. TooMuch e (HEADER_SIZE + length (reservations_text reservations.now)
         + length out.now.structure.items + length out.now.names.strings.items)) }
 {
     let reserve = reservations.len().saturating_mul(16).saturating_add(16);
     let structure = out.structure.len();
     let strings = out.names.strings.len();
     let total = reserve
-        .saturating_add(HEADER_LEN)
+        .saturating_add(HEADER_SIZE)
         .saturating_add(structure)
         .saturating_add(strings);
-    if total > MAX_LEN {
+    if total > SIZE_LIMIT {
         return Err(FdtFault::TooLarge);
     }
     Ok(Lengths {
@@ -252,7 +253,7 @@ fn assembled(
 ) -> Result<Vec<u8>, FdtFault>
     ensures done { IfOk result (λ v. v.items ≡ file_text boot_cpu (reservations_text reservations.now)
         out.now.structure.items out.now.names.strings.items) }
-    ensures within { IfOk result (λ v. length v.items ≤ 2 ^ 21) }
+    ensures within { IfOk result (λ v. length v.items ≤ SIZE_LIMIT) }
     ensures refused { IfErr result (λ e. TooMuch e (length (file_text boot_cpu
         (reservations_text reservations.now) out.now.structure.items out.now.names.strings.items))) }
 {
@@ -271,9 +272,9 @@ pub fn written(alloc: Global, contents: &Contents) -> Result<Vec<u8>, FdtFault>
     requires whole { IsWhole (tree_in contents.now) }
     requires unnamed { (branch contents.now.strings.items contents.now.root).name ≡ [] }
     ensures done { IfOk result (λ v. v.items ≡ written (tree_in contents.now)) }
-    ensures again { IfOk result (λ v. (z : List ℕ) → length (v.items ++ z) ≤ 2 ^ 21
+    ensures again { IfOk result (λ v. (z : List ℕ) → length (v.items ++ z) ≤ SIZE_LIMIT
         → Spells (v.items ++ z) (tree_in contents.now)) }
-    ensures within { IfOk result (λ v. length v.items ≤ 2 ^ 21) }
+    ensures within { IfOk result (λ v. length v.items ≤ SIZE_LIMIT) }
     ensures refused { IfErr result (λ e. TooMuch e (length (written (tree_in contents.now)))) }
 {
     let out = output_of(alloc, &contents.strings, &contents.root)?;

@@ -12,18 +12,19 @@ use Rattle.ipa_layout.specs.declared.fault.LayoutFault.{LayoutFault}
 use Rattle.ipa_layout.specs.declared.fault.LayoutFault.TheVariants.{Kernel}
 use Rattle.rim_launch.specs.declared.item.Role.TheVariants as role
 use Rattle.rim_launch.specs.Kinds.{has_role}
+use Rattle.rim_desc.specs.declared.page.TheConstants.{PAGE_SIZE}
 
 -- how many bytes after the start of a page an address is
 abbrev pub lead_of : ℕ → ℕ
-lead_of address = address % 4096
+lead_of address = address % PAGE_SIZE
 
 -- the number of the page that holds an address
 abbrev pub first_page : ℕ → ℕ
-first_page address = address / 4096
+first_page address = address / PAGE_SIZE
 
 -- the number of the first page that begins at an address or after it
 abbrev pub end_page : ℕ → ℕ
-end_page address = (address + 4095) / 4096
+end_page address = (address + (PAGE_SIZE - 1)) / PAGE_SIZE
 
 -- how many pages these bytes touch: those from the first byte's page to the last byte's
 abbrev pub page_count_of : ℕ → ℕ → ℕ

@@ -3,10 +3,11 @@
 use Rattle.std.specs.Prelude.{ℕ, ◌+◌, ◌*◌, List, Bool, ◌&&◌, nat_le}
 use Rattle.std.specs.List.{list_all, list_any, range_with_len}
 use Rattle.rim_launch.specs.declared.item.Region.{Region}
+use Rattle.rim_desc.specs.declared.page.TheConstants.{PAGE_SIZE}
 
 -- whether a region holds the page of this number wholly
 abbrev pub holds : ℕ → Region → Bool
-holds page r = nat_le r.base (4096 * page) && nat_le (4096 * page + 4096) r.end
+holds page r = nat_le r.base (PAGE_SIZE * page) && nat_le (PAGE_SIZE * page + PAGE_SIZE) r.end
 
 -- whether some region does
 abbrev pub is_held : List Region → ℕ → Bool

@@ -1,12 +1,14 @@
 //! The extent that is asked for an item, and the extent that it has.
 ghost use Rattle.std.specs.Prelude.{◌≡◌, ◌^◌, ◌<◌, IfOk};
-ghost use Rattle.ipa_layout.specs.Extent.{lead_of, page_count_of, size_of, wanted_of};
+ghost use Rattle.ipa_layout.specs.Extent.{end_page, first_page, lead_of, page_count_of, size_of, wanted_of};
+ghost use Rattle.rim_desc.specs.declared.page.TheConstants.{PAGE_SIZE};
 
 use crate::fault::LayoutFault;
+use rim_desc::{GRANULE_SIZE, PAGE_SIZE};
 use rim_launch::{Item, Role};
 
-/// The size of a page in bytes.
-pub const PAGE: u64 = 4096;
+/// The bytes of a page, among addresses that may be past 2^64.
+const PAGE: u128 = PAGE_SIZE as u128;
 
 /// Where an item is. All numbers are in bytes.
 #[derive(Clone, Copy, Debug, PartialEq, Eq)]
@@ -43,9 +45,9 @@ pub struct WantedExtent {
 /// How many bytes after the start of a page an address is.
 pub fn lead(address: u64) -> u64
     ensures exact { result ≡ lead_of address }
-    ensures inside { result < 4096 }
+    ensures inside { result < PAGE_SIZE }
 {
-    address % PAGE
+    address % GRANULE_SIZE
 }
 
 /// How many pages `size` bytes from `address` on touch.
@@ -56,8 +58,24 @@ pub fn page_count(address: u128, size: u64) -> u64
     if size == 0 {
         return 0;
     }
-    let last = (address + u128::from(size) - 1) / 4096;
-    (last + 1 - address / 4096) as u64
+    let last = (address + u128::from(size) - 1) / PAGE;
+    (last + 1 - address / PAGE) as u64
+}
+
+/// The number of the page that has an address.
+pub fn first_page(address: u128) -> u64
+    requires { address < 2 ^ 66 }
+    ensures { result ≡ first_page address }
+{
+    (address / PAGE) as u64
+}
+
+/// The number of the first page that begins at an address or after it.
+pub fn end_page(address: u128) -> u64
+    requires { address < 2 ^ 66 }
+    ensures { result ≡ end_page address }
+{
+    ((address + (PAGE - 1)) / PAGE) as u64
 }
 
 /// The size of an item with this many bytes.

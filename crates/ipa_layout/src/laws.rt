@@ -5,6 +5,8 @@ ghost use Rattle.ipa_layout.specs.declared.placed.PlacedItem.{PlacedItem};
 ghost use Rattle.rim_launch.specs.LaunchData.{LaunchData};
 ghost use Rattle.ipa_layout.specs.Layout.{IsPlaced, PlacedData};
 ghost use Rattle.ipa_layout.specs.Laws.{HasPage, IsItem, IsSourceOf, page_end, page_total};
+ghost use Rattle.rim_desc.specs.declared.page.TheConstants.{PAGE_SIZE};
+ghost use Rattle.ipa_layout.specs.declared.item_check.TheConstants.{PAGE_LIMIT};
 
 /// A placed launch has the launch's number, and as many items and RECs as the launch.
 pub fn parts_of_a_placed_launch()
@@ -22,7 +24,7 @@ pub fn parts_of_a_placed_launch()
 pub fn each_placed_item()
     ensures lead { (l : LaunchData) (files : List (List ℕ)) (p : PlacedData) → IsPlaced l files p
         → (number : ℕ) (item : Item) (i : PlacedItem) → IsItem l p number item i
-        → i.lead ≡ i.address % 4096 }
+        → i.lead ≡ i.address % PAGE_SIZE }
     ensures source { (l : LaunchData) (files : List (List ℕ)) (p : PlacedData) → IsPlaced l files p
         → (number : ℕ) (item : Item) (i : PlacedItem) → IsItem l p number item i
         → IsSourceOf l p item i.source }
@@ -31,13 +33,13 @@ pub fn each_placed_item()
         → i.measured ≡ item.measured }
     ensures end { (l : LaunchData) (files : List (List ℕ)) (p : PlacedData) → IsPlaced l files p
         → (number : ℕ) (item : Item) (i : PlacedItem) → IsItem l p number item i
-        → 4096 * page_end i ≤ 2 ^ 64 }
+        → PAGE_SIZE * page_end i ≤ 2 ^ 64 }
 {}
 
 /// All items of a placed launch have at most 1,048,576 pages together.
 pub fn pages_of_a_placed_launch()
     ensures { (l : LaunchData) (files : List (List ℕ)) (p : PlacedData) → IsPlaced l files p
-        → page_total p ≤ 1048576 }
+        → page_total p ≤ PAGE_LIMIT }
 {}
 
 /// No page is a page of two items.

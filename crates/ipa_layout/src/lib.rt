@@ -15,6 +15,7 @@ mod placed;
 mod rec;
 
 pub use fault::LayoutFault;
+pub use item_check::PAGE_LIMIT;
 pub use laws::{
     each_placed_item, pages_are_apart, pages_of_a_placed_launch, parts_of_a_placed_launch,
 };

@@ -2,6 +2,7 @@
 ghost use Rattle.std.specs.Prelude.{◌≡◌, ◌-◌, ◌≤◌, ◌<◌, ◌^◌, find};
 ghost use Rattle.ipa_layout.specs.Memory.{all_held, holds};
 
+use rim_desc::GRANULE_SIZE;
 use rim_launch::Region;
 
 /// Whether a region holds a page wholly.
@@ -9,7 +10,7 @@ fn holds(page: u64, region: &Region) -> bool
     requires { page < 2 ^ 52 }
     ensures { result ≡ holds page region.now }
 {
-    region.base <= 4096 * page && 4096 * page + 4095 < region.end
+    region.base <= GRANULE_SIZE * page && GRANULE_SIZE * page + (GRANULE_SIZE - 1) < region.end
 }
 
 /// The first region that holds a page wholly.
@@ -31,7 +32,7 @@ pub fn all_held(ram: &[Region], first: u64, end: u64) -> bool
         let Some(region) = holder(ram, page) else {
             return false;
         };
-        page = end.min(region.end / 4096);
+        page = end.min(region.end / GRANULE_SIZE);
     }
     true
 }

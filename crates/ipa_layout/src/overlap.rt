@@ -4,8 +4,9 @@ ghost use Rattle.std.specs.List.{list_any};
 ghost use Rattle.ipa_layout.specs.Overlap.{any_overlap, checked_all, gib_span, is_too_far, overlaps};
 ghost use Rattle.ipa_layout.specs.Extent.{end_page};
 
-use crate::extent::Extent;
+use crate::extent::{Extent, end_page};
 use crate::fault::LayoutFault;
+use rim_desc::GRANULE_SIZE;
 
 /// The bytes of a GiB.
 const GIB: u128 = 0x4000_0000;
@@ -14,14 +15,17 @@ const GIB: u128 = 0x4000_0000;
 pub fn overlaps(a: &Extent, b: &Extent) -> bool
     ensures { result ≡ overlaps a.now b.now }
 {
-    a.len != 0 && b.len != 0 && a.address / 4096 < end_page(b) && b.address / 4096 < end_page(a)
+    a.len != 0
+        && b.len != 0
+        && a.address / GRANULE_SIZE < end_of(b)
+        && b.address / GRANULE_SIZE < end_of(a)
 }
 
 /// The number of the first page after an item's extent.
-fn end_page(a: &Extent) -> u64
+fn end_of(a: &Extent) -> u64
     ensures { result ≡ end_page (a.now.address + a.now.len) }
 {
-    ((u128::from(a.address) + u128::from(a.len) + 4095) / 4096) as u64
+    end_page(u128::from(a.address) + u128::from(a.len))
 }
 
 /// Whether an item's rounded extent overlaps one of some others.

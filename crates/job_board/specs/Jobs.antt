@@ -6,6 +6,7 @@ use Rattle.job_board.specs.declared.job.JobId.{JobId}
 use Rattle.job_board.specs.declared.job.JobId.TheVariants.{Page, Launch}
 use Rattle.job_board.specs.declared.job.JobState.{JobState}
 use Rattle.job_board.specs.declared.job.JobState.TheVariants.{Free, Held, Done}
+use Rattle.job_board.specs.declared.machine.TheConstants.{WORKER_LIMIT}
 
 -- which workers are retired, how each job is, and the pages that each launch needs
 pub record CoreState : Type 0 where
@@ -106,9 +107,9 @@ without_worker s w =
 abbrev pub NeedsWithin : List (List ℕ) → ℕ → Type 0
 NeedsWithin needs pages = All (All (λ p. p < pages)) needs
 
--- what every core keeps: worker 0 is not retired, there are 1 to 64 workers, and all needs are numbers of pages
+-- what every core keeps: worker 0 is not retired, there are 1 to WORKER_LIMIT workers, and all needs are numbers of pages
 pub record IsCore (s : CoreState) : Type 0 where
   pub first : is_out s 0 ≡ false
-  pub workers : length s.retired ≤ 64
+  pub workers : length s.retired ≤ WORKER_LIMIT
   pub launches : length s.launches ≡ length s.needs
   pub needs : NeedsWithin s.needs (length s.pages)

@@ -3,12 +3,9 @@ ghost use Rattle.std.specs.Prelude.{IfSome};
 ghost use Rattle.job_board.specs.Jobs.{IsOpen};
 
 use crate::machine::Core;
-use page_jobs::DigestRow;
+use page_jobs::{DigestRow, LANES};
 use refusal::NoMemory;
 use std::alloc::Global;
-
-/// How many launches are chained side by side.
-const LANES: usize = 4;
 
 /// Of each worker the launches that it was lent, which are best given to it; and rows for lent launches. What is said
 /// here is a wish: the board gives a launch that was lent to another worker where no other is left.

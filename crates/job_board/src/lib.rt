@@ -23,7 +23,7 @@ pub mod work;
 
 pub use job::{CoreFault, Event, JobId, JobState};
 pub use known::has_all_keys;
-pub use machine::Core;
+pub use machine::{Core, WORKER_LIMIT};
 pub use run::Run;
 pub use share::Share;
 pub use state::BoardState;

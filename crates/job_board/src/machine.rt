@@ -5,6 +5,7 @@ ghost use Rattle.job_board.specs.Jobs.{IsCore, IsOpen, NeedsWithin, NoneFree, No
 ghost use Rattle.job_board.specs.Step.{core_step};
 ghost use Rattle.job_board.specs.inside.Marks.{lowered_page};
 ghost use Rattle.job_board.specs.inside.Needs.{AreNeeds, needs_of};
+ghost use Rattle.job_board.specs.declared.machine.TheConstants.{WORKER_LIMIT};
 
 use crate::job::{CoreFault, Event, JobId, JobState};
 use crate::jobs::Jobs;
@@ -12,6 +13,9 @@ use crate::needs::Needs;
 use refusal::NoMemory;
 use std::alloc::Global;
 use std::marker::Model;
+
+/// The most workers of a run: 64. This project's choice.
+pub const WORKER_LIMIT: usize = 64;
 
 /// The workers and the jobs of a run, and which pages each launch needs. Worker 0 never retires.
 #[derive(Drop)]
@@ -45,7 +49,7 @@ impl Core {
         pages: usize,
         needs: Vec<Vec<usize>>,
     ) -> Result<Core, NoMemory>
-        requires workers { (1 ≤ workers) × (workers ≤ 64) }
+        requires workers { (1 ≤ workers) × (workers ≤ WORKER_LIMIT) }
         requires needs { NeedsWithin (map (λ v. v.items) needs.items) pages }
         ensures { IfOk result (λ c. c ≡ opening workers pages (map (λ v. v.items) needs.items)) }
     {
@@ -60,7 +64,7 @@ impl Core {
         pages: usize,
         needs: Needs,
     ) -> Result<Core, NoMemory>
-        requires workers { (1 ≤ workers) × (workers ≤ 64) }
+        requires workers { (1 ≤ workers) × (workers ≤ WORKER_LIMIT) }
         requires needs { AreNeeds pages needs }
         ensures { IfOk result (λ c. c ≡ opening workers pages (needs_of needs)) }
     {

@@ -3,6 +3,7 @@ ghost use Rattle.std.specs.Prelude.{◌≡◌, ◌<◌, ◌≤◌, ℕ, length, 
 ghost use Rattle.job_board.specs.inside.Rows.{FitsRows, FreesRow, HasRoom};
 ghost use Rattle.page_jobs.specs.Row.{RowView};
 ghost use Rattle.rim_chain.specs.Links.{PlanView, keys_of};
+ghost use Rattle.job_board.specs.declared.machine.TheConstants.{WORKER_LIMIT};
 
 use crate::job::JobId;
 use page_jobs::DigestRow;
@@ -61,7 +62,7 @@ pub(crate) fn lent_rows(
     plans: &[LaunchPlan],
     workers: usize,
 ) -> Result<Vec<DigestRow>, NoMemory>
-    requires { workers ≤ 64 }
+    requires { workers ≤ WORKER_LIMIT }
 {
     let count = if plans.len() < 4 * workers {
         0

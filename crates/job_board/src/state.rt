@@ -12,6 +12,7 @@ ghost use Rattle.page_jobs.specs.Page.{page_view};
 ghost use Rattle.page_jobs.specs.Table.{keys_of as page_keys, with_digest};
 ghost use Rattle.rim_chain.specs.Links.{keys_of};
 ghost use Rattle.rim_chain.specs.Rows.{IsRowOf, value_in};
+ghost use Rattle.job_board.specs.declared.machine.TheConstants.{WORKER_LIMIT};
 
 use crate::closing::{add_up, copy_values, write_counts};
 use crate::groups::Groups;
@@ -371,7 +372,7 @@ impl<'a, L: Run> BoardState<'a, L> {
         requires parts { (blank.parts ≡ L.parts) × (blank.parts ≡ workers) }
         requires pages { table.pages ≡ L.pages }
         requires plans { plans.now ≡ L.plans }
-        requires workers { (1 ≤ workers) × (workers ≤ 64) }
+        requires workers { (1 ≤ workers) × (workers ≤ WORKER_LIMIT) }
         requires empty { table.digests ≡ replicate (length table.pages) None }
         requires keys { All (λ p. All (Contains (page_keys table.pages)) (keys_of p.links)) plans.now }
         ensures core { IfOk result (λ r. r.0.core ≡ opening workers (length table.entry.pages) r.0.core.needs) }

@@ -15,6 +15,7 @@ use Rattle.rtt_plan.specs.Missing.{missing}
 use Rattle.rtt_plan.specs.Planned.{Planned}
 use Rattle.rtt_plan.specs.Runs.{runs_of}
 use Rattle.rtt_plan.specs.declared.run.Run.{Run}
+use Rattle.rim_desc.specs.declared.page.TheConstants.{PAGE_SIZE}
 
 -- the measurement of each page of each item, by the item's number and the page's
 abbrev pub Contents : Type 0
@@ -43,7 +44,7 @@ page_of (Page granule ipa item page) = Some (item, page)
 
 -- granule n of the pool that begins at an address
 abbrev pub granule : ℕ → ℕ → ℕ
-granule pool n = pool + 4096 * n
+granule pool n = pool + PAGE_SIZE * n
 
 abbrev pub delegates : Entry → Bool
 delegates (Whole (Delegate granule)) = true

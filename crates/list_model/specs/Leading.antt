@@ -12,6 +12,8 @@ use Rattle.rmm_model.specs.Owners.{kind_of}
 use Rattle.rmm_model.specs.Run.{accepted, run, shown}
 use Rattle.rtt_plan.specs.Planned.{Planned}
 use Rattle.list_model.specs.Entries.{granule}
+use Rattle.rim_desc.specs.declared.page.TheConstants.{PAGE_SIZE}
+use Rattle.rim_desc.specs.declared.rec.TheConstants.{REC_LIMIT}
 
 -- what does not change while a realm is built
 pub record Build : Type 0 where
@@ -38,7 +40,7 @@ pub record IsBuilt (b : Build) (w : Built) (s : State) : Type 0 where
   pub space : SameSpace s.space w.space
   pub some : are_some s.space.ram ≡ true
   pub some_built : are_some w.space.ram ≡ true
-  pub pool : b.pool % 4096 ≡ 0
+  pub pool : b.pool % PAGE_SIZE ≡ 0
   pub free : (g : ℕ) → granule b.pool w.taken ≤ g → kind_of s.owners g ≡ None
 
 -- commands that are all taken, measure these parts, and lead to what is built then
@@ -64,7 +66,7 @@ with_rec b w = record w { taken = w.taken + (b.num_aux + 1); num_recs = w.num_re
 pub record IsNextRec (b : Build) (w : Built) (r : RecData) : Type 0 where
   pub runnable : r.flags ≡ 1
   pub number : r.mpidr ≡ rec_mpidr_of w.num_recs
-  pub few : w.num_recs < 512
+  pub few : w.num_recs < REC_LIMIT
   pub aux : r.aux ≡ granules b.num_aux (granule b.pool (w.taken + 1))
 
 -- what was planned is built, with the next granule of the pool and the number of RECs

@@ -9,6 +9,7 @@ use Rattle.rmm_model.specs.Blocks.{size}
 use Rattle.rmm_model.specs.Checks.{is_bad_content}
 use Rattle.rtt_plan.specs.Entries.{block_level, entries}
 use Rattle.list_model.specs.Entries.{Contents}
+use Rattle.rim_desc.specs.declared.page.TheConstants.{PAGE_SIZE}
 
 -- the parts of a region of RAM: one for each of its largest blocks
 abbrev pub block_parts : ℕ → ℕ → ℕ → List Part
@@ -23,7 +24,7 @@ page_part measured contents item x page = Data x (option_map (λ m. m.bytes) (co
 
 -- the parts of an item: one for each of its pages, which begin at an address
 abbrev pub page_parts : Bool → Contents → ℕ → ℕ → ℕ → List Part
-page_parts measured contents item base count = map (λ page. page_part measured contents item (base + 4096 * page) page) (range_with_len 0 count)
+page_parts measured contents item base count = map (λ page. page_part measured contents item (base + PAGE_SIZE * page) page) (range_with_len 0 count)
 
 -- contents that are digests of an algorithm: none has a byte past the digest that is not zero
 abbrev pub AreContents : Algo → Contents → Type 0

@@ -17,11 +17,12 @@ ghost use Rattle.list_model.specs.Entries.{Contents, commands_of, delegated, ite
 ghost use Rattle.list_model.specs.Leading.{Build, Built, IsBuilt, IsNextRec, Leads, opened, planned, with_rec};
 ghost use Rattle.list_model.specs.Parts.{AreContents, block_parts, page_parts};
 ghost use Rattle.list_model.specs.inside.Acts.{ItemOf, act_entries};
+ghost use Rattle.rim_desc.specs.declared.page.TheConstants.{PAGE_SIZE};
 
 /// The realm: a monitor that has done nothing takes the delegations of its start tables and of the realm descriptor, and
 /// the realm. It measures the realm's page.
 pub fn the_realm_is_created()
-    ensures { (contents : Contents) (b : Build) → is_bad_realm b.params ≡ false → b.params.rtt_base ≡ b.pool → b.pool % 4096 ≡ 0
+    ensures { (contents : Contents) (b : Build) → is_bad_realm b.params ≡ false → b.params.rtt_base ≡ b.pool → b.pool % PAGE_SIZE ≡ 0
         → Leads b (opened b.params) (empty_state b.num_aux) (commands_of contents (realm_entries b.pool b.params)) (Realm (realm_page_of b.params) ∷ []) }
 {}
 

@@ -7,6 +7,7 @@ use Rattle.rim_desc.specs.declared.source.Source.{Source}
 use Rattle.page_jobs.specs.Lent.{front_of, lent_of}
 use Rattle.page_jobs.specs.declared.page.PageKey.{PageKey}
 use Rattle.page_jobs.specs.declared.page.Page.{Page}
+use Rattle.rim_desc.specs.declared.page.TheConstants.{PAGE_SIZE}
 
 -- a page is its key and the bytes of its item that fall in it; two pages are equal where both are
 pub record PageView : Type 0 where
@@ -33,7 +34,7 @@ IsPageOf items p = p ≡ page_named items p.key
 
 -- the 4096 bytes of a page: zeros in front, the item's bytes, and zeros after them
 abbrev pub contents_of : PageView → List ℕ
-contents_of p = with_part (zeros 4096) (front_of p.key.lead p.key.number) p.bytes
+contents_of p = with_part (zeros PAGE_SIZE) (front_of p.key.lead p.key.number) p.bytes
 
 -- the measurement of a page
 abbrev pub digest_of : PageView → List ℕ

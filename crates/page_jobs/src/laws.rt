@@ -8,10 +8,11 @@ ghost use Rattle.page_jobs.specs.Key.{IsRising, key_cmp, next_key, rising_keys};
 ghost use Rattle.page_jobs.specs.Page.{IsPageOf, PageView, contents_of, page_named, page_of};
 ghost use Rattle.page_jobs.specs.Table.{keys_of, slot_of};
 ghost use Rattle.page_jobs.specs.declared.page.PageKey.{PageKey};
+ghost use Rattle.rim_desc.specs.declared.page.TheConstants.{PAGE_SIZE};
 
 /// The 4096 bytes of page k of an item are those that its definition says.
 pub fn contents_are_page_bytes()
-    ensures { (algo : Algo) (source : Source) (lead k : ℕ) (item : List ℕ) → lead < 4096 → contents_of (page_of algo source lead item k) ≡ page_bytes lead item k }
+    ensures { (algo : Algo) (source : Source) (lead k : ℕ) (item : List ℕ) → lead < PAGE_SIZE → contents_of (page_of algo source lead item k) ≡ page_bytes lead item k }
 {}
 
 /// Where each source has its item's bytes, pages of these items are one page if they have one key, and a

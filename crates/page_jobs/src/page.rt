@@ -2,9 +2,10 @@
 ghost use Rattle.std.specs.Prelude.{◌≡◌, ◌+◌, ◌^◌, ◌<◌, ◌≤◌, ◌↔◌, IsTrue, length};
 ghost use Rattle.rim_desc.specs.PageBytes.{page_bytes};
 ghost use Rattle.page_jobs.specs.Lent.{front_of, lent_of};
+ghost use Rattle.rim_desc.specs.declared.page.TheConstants.{PAGE_SIZE};
 
 use rim_desc::page::{put, zero_page};
-use rim_desc::{Algo, PAGE_SIZE, Source};
+use rim_desc::{Algo, GRANULE_SIZE, PAGE_SIZE, Source};
 
 /// What distinguishes a page from all others. Keys are ordered by their fields, in this order.
 #[derive(Clone, Copy, Debug, PartialEq, Eq, PartialOrd, Ord)]
@@ -27,7 +28,7 @@ pub struct Blob<'a> {
     pub source: Source,
     /// The offset of the first byte in its page, in bytes.
     pub lead: u64,
-    pub ghost inside: { lead < 4096 },
+    pub ghost inside: { lead < PAGE_SIZE },
 }
 
 /// A page of 4096 bytes. An item's first page begins with as many zeros as the lead, and zeros fill what
@@ -37,7 +38,7 @@ pub struct Page<'a> {
     pub key: PageKey,
     /// The bytes of the item that fall in the page, lent.
     pub bytes: &'a [u8],
-    pub ghost fits: { front_of key.lead key.number + length bytes.now ≤ 4096 },
+    pub ghost fits: { front_of key.lead key.number + length bytes.now ≤ PAGE_SIZE },
 }
 
 impl<'a> Blob<'a> {
@@ -45,7 +46,7 @@ impl<'a> Blob<'a> {
 
     /// The bytes of a source, which begin `lead` bytes after the start of a page.
     pub fn new(source: Source, lead: u64, bytes: &'a [u8]) -> Blob<'a>
-        requires { lead < 4096 }
+        requires { lead < PAGE_SIZE }
         ensures source { result.source ≡ source }
         ensures lead { result.lead ≡ lead }
         ensures bytes { result.bytes ≡ bytes.entry }
@@ -86,11 +87,11 @@ fn front(lead: u64, number: u64) -> usize
 
 /// The bytes of an item that fall in one of its pages.
 fn lent_bytes<'a>(bytes: &'a [u8], lead: u64, number: u64) -> &'a [u8]
-    requires lead { lead < 4096 }
+    requires lead { lead < PAGE_SIZE }
     requires number { number < 2 ^ 52 }
     ensures { result.now ≡ lent_of lead bytes.now number }
 {
-    let start = (4096 * number).saturating_sub(lead);
+    let start = (GRANULE_SIZE * number).saturating_sub(lead);
     let start = start.min(bytes.len() as u64) as usize;
     let (_, rest) = bytes.split_at(start);
     let room = PAGE_SIZE - front(lead, number);

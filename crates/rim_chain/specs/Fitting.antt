@@ -4,12 +4,13 @@ use Rattle.std.specs.List.{All}
 use Rattle.rim_chain.specs.Links.{keys_of}
 use Rattle.rim_chain.specs.declared.link.Link.{Link}
 use Rattle.rim_chain.specs.declared.link.Link.TheVariants as link
+use Rattle.rim_desc.specs.declared.page.TheConstants.{PAGE_SIZE}
 
 -- the end of a link's addresses and of its page numbers has 64 bits
 abbrev pub IsFitting : Link → Type 0
 IsFitting (link.Blocks base size count) = base + count * size < 2 ^ 64
-IsFitting (link.Pages ipa key count) = (ipa + 4096 * count < 2 ^ 64) × (key.number + count < 2 ^ 64)
-IsFitting (link.Unmeasured ipa count) = ipa + 4096 * count < 2 ^ 64
+IsFitting (link.Pages ipa key count) = (ipa + PAGE_SIZE * count < 2 ^ 64) × (key.number + count < 2 ^ 64)
+IsFitting (link.Unmeasured ipa count) = ipa + PAGE_SIZE * count < 2 ^ 64
 IsFitting (link.Rec content) = ⊤
 
 -- a link's pages are the first ones of their item

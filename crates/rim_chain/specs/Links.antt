@@ -11,6 +11,7 @@ use Rattle.rmm_model.specs.Effects.{ripas_parts}
 use Rattle.page_jobs.specs.declared.page.PageKey.{PageKey}
 use Rattle.rim_chain.specs.declared.link.Link.{Link}
 use Rattle.rim_chain.specs.declared.link.Link.TheVariants as link
+use Rattle.rim_desc.specs.declared.page.TheConstants.{PAGE_SIZE}
 
 -- a launch's realm, and what is measured after it, in order
 pub record PlanView : Type 0 where
@@ -42,7 +43,7 @@ page_count (link.Rec content) = 0
 -- pages from an IPA on, with their digests
 unfoldable pub pages_with : ℕ → List Measurement → List Part
 pages_with ipa [] = []
-pages_with ipa (digest ∷ digests) = Data ipa (Some digest.bytes) ∷ pages_with (ipa + 4096) digests
+pages_with ipa (digest ∷ digests) = Data ipa (Some digest.bytes) ∷ pages_with (ipa + PAGE_SIZE) digests
 
 -- the parts of a link, with the digests of its pages
 abbrev pub link_parts : Link → List Measurement → List Part

@@ -9,13 +9,15 @@ ghost use Rattle.rim_chain.specs.Links.{chain_of, link_parts, page_count, pages_
 ghost use Rattle.rim_chain.specs.Rows.{IsFilled};
 ghost use Rattle.rim_chain.specs.Fitting.{IsFitting};
 ghost use Rattle.rim_chain.specs.inside.Places.{IsPlace};
+ghost use Rattle.rim_desc.specs.declared.page.TheConstants.{PAGE_SIZE};
 
 use crate::front::{Front, Mark};
 use crate::link::Link;
 use crate::plan::{LaunchPlan, page_count};
 use page_jobs::DigestRow;
 use rim_desc::{
-    Algo, Measurement, data_descriptor, extend, hash, realm_page, rec_descriptor, ripas_descriptor,
+    Algo, GRANULE_SIZE, Measurement, data_descriptor, extend, hash, realm_page, rec_descriptor,
+    ripas_descriptor,
 };
 
 /// A measurement extended once for each of `count` blocks of `size` bytes, from `base` on, that become RAM.
@@ -35,28 +37,28 @@ fn extended_by_blocks(algo: Algo, rim: Measurement, base: u64, size: u64, count:
 
 /// A measurement extended by pages from an IPA on, with these digests.
 fn extended_by_pages(algo: Algo, rim: Measurement, ipa: u64, digests: &[Measurement]) -> Measurement
-    requires { ipa + 4096 * length digests.now < 2 ^ 64 }
+    requires { ipa + PAGE_SIZE * length digests.now < 2 ^ 64 }
     ensures { result.bytes ≡ extended_by algo rim.bytes (pages_with ipa digests.now) }
 {
     let mut rim = rim;
     let mut next = ipa;
     for digest in digests {
         rim = extend(algo, &data_descriptor(&rim, next, Some(digest)));
-        next += 4096;
+        next += GRANULE_SIZE;
     }
     rim
 }
 
 /// A measurement extended by pages from an IPA on, of which the contents are not measured.
 fn extended_by_unmeasured(algo: Algo, rim: Measurement, ipa: u64, count: u64) -> Measurement
-    requires { ipa + 4096 * count < 2 ^ 64 }
+    requires { ipa + PAGE_SIZE * count < 2 ^ 64 }
     ensures { result.bytes ≡ extended_by algo rim.bytes (map (λ x. Data x None) (granules count ipa)) }
 {
     let mut rim = rim;
     let mut next = ipa;
     for _ in 0..count {
         rim = extend(algo, &data_descriptor(&rim, next, None));
-        next += 4096;
+        next += GRANULE_SIZE;
     }
     rim
 }

@@ -9,7 +9,7 @@ ghost use Rattle.rim_chain.specs.Fitting.{AreFitting, BeginsItem, IsFitting};
 
 use crate::link::Link;
 use page_jobs::PageKey;
-use rim_desc::RealmParams;
+use rim_desc::{GRANULE_SIZE, RealmParams};
 use std::cmp::Ordering;
 use std::marker::Model;
 
@@ -211,9 +211,9 @@ fn is_fitting(link: &Link) -> bool
     match link {
         Link::Blocks { base, size, count } => ends_within(*base, *size, *count),
         Link::Pages { ipa, key, count } => {
-            ends_within(*ipa, 4096, *count) && key.number.checked_add(*count).is_some()
+            ends_within(*ipa, GRANULE_SIZE, *count) && key.number.checked_add(*count).is_some()
         }
-        Link::Unmeasured { ipa, count } => ends_within(*ipa, 4096, *count),
+        Link::Unmeasured { ipa, count } => ends_within(*ipa, GRANULE_SIZE, *count),
         Link::Rec { .. } => true,
     }
 }

@@ -7,13 +7,10 @@ use crate::front::Front;
 use crate::plan::LaunchPlan;
 use crate::shared_fronts::SharedFronts;
 use crate::under_way::{Chain, side_by_side};
-use page_jobs::{DigestRow, Table};
+use page_jobs::{DigestRow, LANES, Table};
 use refusal::NoMemory;
 use rim_desc::{Algo, Measurement};
 use std::alloc::Global;
-
-/// How many launches are chained side by side.
-const LANES: usize = 4;
 
 /// A launch that goes on from no other, and its front up to where another first parts from it, or all of it.
 #[derive(Clone, Copy, Debug, PartialEq, Eq)]

@@ -14,8 +14,8 @@ use crate::link::Link;
 use crate::plan::{LaunchPlan, page_count, part_count};
 use page_jobs::DigestRow;
 use rim_desc::{
-    Algo, DESCRIPTOR_SIZE, Measurement, data_descriptor, extend, extend_four, rec_descriptor,
-    ripas_descriptor,
+    Algo, DESCRIPTOR_SIZE, GRANULE_SIZE, Measurement, data_descriptor, extend, extend_four,
+    rec_descriptor, ripas_descriptor,
 };
 use std::marker::Model;
 
@@ -87,7 +87,7 @@ impl<'a> Chain<'a> {
             Link::Pages { ipa, key, count } if count > 0 => {
                 let (digest, digests) = self.digests.split_first()?;
                 self.rest = Link::Pages {
-                    ipa: ipa + 4096,
+                    ipa: ipa + GRANULE_SIZE,
                     key,
                     count: count - 1,
                 };
@@ -96,7 +96,7 @@ impl<'a> Chain<'a> {
             }
             Link::Unmeasured { ipa, count } if count > 0 => {
                 self.rest = Link::Unmeasured {
-                    ipa: ipa + 4096,
+                    ipa: ipa + GRANULE_SIZE,
                     count: count - 1,
                 };
                 Some(data_descriptor(&self.value, ipa, None))

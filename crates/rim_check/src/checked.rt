@@ -2,12 +2,13 @@
 
 use crate::line::Quoted;
 use crate::manifest::Readable;
+use rim_desc::PAGE_SIZE;
 use rim_launch::{Item, Launch, Role};
 use std::alloc::Global;
 use std::fmt;
 
-/// The size of a page in bytes.
-pub const PAGE: u128 = 4096;
+/// The bytes of a page, among addresses that may be past 2^64.
+pub const PAGE: u128 = PAGE_SIZE as u128;
 
 /// A launch that is checked, by its number in the manifest; and the files of its release.
 #[derive(Clone, Copy)]

@@ -3,16 +3,11 @@
 use crate::checked::{Asked, CheckedLaunch, PAGE};
 use crate::line::Line;
 use arm64_image::ImageFault;
-use ipa_layout::LayoutFault;
+use fdt_tree::SIZE_LIMIT;
+use ipa_layout::{LayoutFault, PAGE_LIMIT};
 use rim_launch::{Item, Region, Role};
 use std::fmt;
 use std::fmt::Write;
-
-/// The most bytes of a devicetree.
-const MOST_DTB: u64 = 2_097_152;
-
-/// The most pages of a launch.
-const MOST_PAGES: u128 = 1_048_576;
 
 /// The first address that no item may have.
 const END: u128 = 0x1_0000_0000_0000_0000;
@@ -60,10 +55,10 @@ fn devicetree(line: &mut Line, checked: &CheckedLaunch) -> fmt::Result {
     };
     let name = checked.name(number);
     match checked.asked(item) {
-        Some(Asked { size, .. }) if size > MOST_DTB => {
+        Some(Asked { size, .. }) if size > SIZE_LIMIT as u64 => {
             write!(
                 line,
-                "item {name}: size {size}, expected at most {MOST_DTB}"
+                "item {name}: size {size}, expected at most {SIZE_LIMIT}"
             )
         }
         _ => write!(
@@ -113,10 +108,10 @@ fn size(line: &mut Line, checked: &CheckedLaunch) -> fmt::Result {
             pages = pages.saturating_add(asked.page_count());
             least = if asked.is_known { least } else { "at least " };
         }
-        if pages > MOST_PAGES {
+        if pages > u128::from(PAGE_LIMIT) {
             return write!(
                 line,
-                "with item {} the launch has {least}{pages} pages, expected at most {MOST_PAGES}",
+                "with item {} the launch has {least}{pages} pages, expected at most {PAGE_LIMIT}",
                 checked.name(number)
             );
         }
@@ -147,7 +142,7 @@ fn edited_size(line: &mut Line, checked: &CheckedLaunch) -> fmt::Result {
         ),
         None => write!(
             line,
-            "with item {name}, edited, the launch has too many pages, expected at most {MOST_PAGES}"
+            "with item {name}, edited, the launch has too many pages, expected at most {PAGE_LIMIT}"
         ),
     }
 }

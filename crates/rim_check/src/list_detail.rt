@@ -4,17 +4,12 @@ use crate::checked::{CheckedLaunch, PAGE};
 use crate::line::{Line, shown};
 use crate::walk::{Walk, first_page};
 use ipa_layout::{LayoutFault, Placed, place};
+use rim_desc::REC_LIMIT;
 use rim_launch::Step;
 use rmi_list::ListFault;
-use rtt_plan::PlanFault;
+use rtt_plan::{ENTRY_LIMIT, PlanFault};
 use std::fmt;
 use std::fmt::Write;
-
-/// The most RECs of a list.
-const MOST_RECS: usize = 512;
-
-/// The most entries of a launch.
-const MOST_ENTRIES: u64 = 4_194_304;
 
 /// Writes which step is at fault, with its numbers. Where that cannot be found out it writes nothing.
 pub(crate) fn list_detail(
@@ -24,7 +19,7 @@ pub(crate) fn list_detail(
 ) -> fmt::Result {
     if fault == ListFault::TooManyRecs {
         let count = checked.launch.recs().len();
-        return write!(line, "{count} RECs, expected at most {MOST_RECS}");
+        return write!(line, "{count} RECs, expected at most {REC_LIMIT}");
     }
     if !checked.launch.has_files(checked.files.len()) {
         return Ok(());
@@ -108,7 +103,7 @@ fn plan_fault(
         PlanFault::NotRam => write!(line, "has a page that is not RAM yet"),
         PlanFault::DataTwice => write!(line, "has a page that has data already"),
         PlanFault::TooManyEntries => {
-            write!(line, "gives the launch more than {MOST_ENTRIES} entries")
+            write!(line, "gives the launch more than {ENTRY_LIMIT} entries")
         }
         PlanFault::NoMemory => Err(fmt::Error),
     }

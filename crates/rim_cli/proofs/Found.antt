@@ -4,13 +4,14 @@ use Rattle.std.proofs.lemmas.Bool.{eqb-true}
 use Rattle.std.proofs.lemmas.List.{nil_from_length}
 use Rattle.std.proofs.lemmas.Option.{same_Some}
 use Rattle.rim_check.specs.Lines.{AddsLine, Saying, SayInTurn, file_said}
-use Rattle.rim_cli.specs.Files.{AreRead, IfFile, IsFileFault, IsRead, Known, file_limit}
+use Rattle.rim_cli.specs.Files.{AreRead, IfFile, IsFileFault, IsRead, Known}
 use Rattle.rim_cli.specs.Status.{word_of}
 use Rattle.rim_cli.specs.Unread.{AreUnread, IsUnread}
 use Rattle.rim_cli.specs.inside.Found.{AreFound}
 use Rattle.rim_cli.specs.declared.fault.Fault.{Fault}
 use Rattle.rim_cli.specs.declared.fault.Fault.TheVariants.{Manifest, NoSuchLaunch, Start, Refused, NoDevicetree, Show, FileUnreadable, FileTooLarge, OutputIsTerminal, OutputFailed, NoMemory}
 use Rattle.rim_cli.proofs.Reading.{of_bytes, read_next}
+use Rattle.rim_cli.specs.declared.file.TheConstants.{FILE_LIMIT}
 
 -- a fault of a file that is no want of memory is why the file cannot be read
 pub unread_said : (known : Known) (path : List ℕ) (fault : Fault) → IsFileFault known fault → (fault ≡ NoMemory → ⊥) → IsUnread known path (file_said path (word_of fault))
@@ -31,8 +32,8 @@ kept_after : (held : List ℕ → Known) (paths : List (List ℕ)) (i : ℕ) (sa
     → AreUnread held (take i paths) said → slice_get paths i ≡ Some path → IsRead (held path) file → AreUnread held (take (suc i) paths) said
 kept_after held [] i said path file before here read = cc
 kept_after held (p ∷ ps) zero said path file before here read =
-    let fits = of_bytes (held path) file (λ bytes. length bytes ≤ file_limit) read read.0 in
-    inl (subst (λ q. IfFile (held q) (λ bytes. length bytes ≤ file_limit)) (sym (same_Some _ _ here)) fits, before)
+    let fits = of_bytes (held path) file (λ bytes. length bytes ≤ FILE_LIMIT) read read.0 in
+    inl (subst (λ q. IfFile (held q) (λ bytes. length bytes ≤ FILE_LIMIT)) (sym (same_Some _ _ here)) fits, before)
 kept_after held (p ∷ ps) (suc i) said path file (inl both) here read = inl (both.0, kept_after held ps i said path file both.1 here read)
 kept_after held (p ∷ ps) (suc i) said path file (inr front) here read = inr (record {
   first = front.first;

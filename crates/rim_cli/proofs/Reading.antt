@@ -3,9 +3,10 @@ use Rattle.std.proofs.Common.{◌≡◌, ℕ, zero, suc, ◌+◌, ◌<◌, ◌�
 use Rattle.std.specs.Prelude.{IfSome}
 use Rattle.std.proofs.lemmas.List.{length-take, take_all}
 use Rattle.std.proofs.lemmas.Option.{same_Some}
-use Rattle.rim_cli.specs.Files.{AreRead, IfFile, IsFileFault, IsFirstFault, IsRead, Known, file_limit}
+use Rattle.rim_cli.specs.Files.{AreRead, IfFile, IsFileFault, IsFirstFault, IsRead, Known}
 use Rattle.rim_cli.specs.declared.fault.Fault.{Fault}
 use Rattle.rim_cli.specs.declared.fault.Fault.TheVariants.{Manifest, NoSuchLaunch, Start, Refused, NoDevicetree, Show, FileUnreadable, FileTooLarge, OutputIsTerminal, OutputFailed, NoMemory}
+use Rattle.rim_cli.specs.declared.file.TheConstants.{FILE_LIMIT}
 
 -- fewer bytes than the limit allows are all bytes
 pub all_read : (o : Option (List ℕ)) (n : ℕ) (bytes : List ℕ) → IfSome (option_map (take n) o) (λ xs. bytes ≡ [] ++ xs)
@@ -17,7 +18,7 @@ all_read (Some xs) n bytes read few =
 
 -- what is known of a path is known of what was read of the reader that was opened there
 pub read_there : (known : Known) (o : Option (List ℕ)) (bytes : List ℕ) → IfFile known (λ held. o ≡ Some held)
-    → length bytes ≤ file_limit → IfSome o (λ held. bytes ≡ held) → IsRead known bytes
+    → length bytes ≤ FILE_LIMIT → IfSome o (λ held. bytes ≡ held) → IsRead known bytes
 read_there None o bytes opened limit whole = (limit, tt)
 read_there (Some None) o bytes opened limit whole = absurd opened
 read_there (Some (Some held)) o bytes opened limit whole =
@@ -71,4 +72,4 @@ pub first_fault : (held : List ℕ → Known) (paths : List (List ℕ)) (i : ℕ
 first_fault held [] i files path fault before here is = cc
 first_fault held (p ∷ ps) zero files path fault before here is = inl (subst (λ q. IsFileFault (held q) fault) (sym (same_Some _ _ here)) is)
 first_fault held (p ∷ ps) (suc i) [] path fault before here is = absurd before
-first_fault held (p ∷ ps) (suc i) (f ∷ fs) path fault before here is = inr (of_bytes (held p) f (λ bytes. length bytes ≤ file_limit) before.0 before.0.0, first_fault held ps i fs path fault before.1 here is)
+first_fault held (p ∷ ps) (suc i) (f ∷ fs) path fault before here is = inr (of_bytes (held p) f (λ bytes. length bytes ≤ FILE_LIMIT) before.0 before.0.0, first_fault held ps i fs path fault before.1 here is)

@@ -18,6 +18,7 @@ use Rattle.rim_cli.specs.declared.words.Format.{Format}
 use Rattle.rim_cli.specs.declared.words.Format.TheVariants as format
 use Rattle.rim_cli.specs.declared.words.Request.{Request}
 use Rattle.rim_cli.specs.declared.words.Request.TheVariants.{Measure, List as Lists, Audit, Check, Dtb, Image, Fdt}
+use Rattle.job_board.specs.declared.machine.TheConstants.{WORKER_LIMIT}
 
 -- an operand that has to be given, with a name that usage texts show
 abbrev pub operand_rule : Text → Rule
@@ -28,7 +29,7 @@ abbrev pub workers_rule : Rule
 workers_rule = record (new_rule (codes "workers")) {
   long = Some (codes "workers");
   value_names = 1;
-  parser = Some (parser.Signed (pos 1) (pos 64));
+  parser = Some (parser.Signed (pos 1) (pos WORKER_LIMIT));
 }
 
 -- `--format FORMAT`. This definition takes any text there, since `clap` holds the texts of a choice by reference; a
@@ -74,7 +75,7 @@ rim = on_top (λ s. record s { has_version = true; subcommand_required = true; d
 -- the number of workers, 4 where none is given: in words that `clap` takes it is from 1 to 64
 abbrev pub CountsWorkers : Option Text → ℕ → Type 0
 CountsWorkers None n = n ≡ 4
-CountsWorkers (Some text) n = (n ≡ digits_value 10 (without_leading_plus text)) × (1 ≤ n) × (n ≤ 64)
+CountsWorkers (Some text) n = (n ≡ digits_value 10 (without_leading_plus text)) × (1 ≤ n) × (n ≤ WORKER_LIMIT)
 
 -- a request for a report has 1 to 64 workers
 abbrev pub HasCrew : Request → Type 0
@@ -135,7 +136,7 @@ HasOperand id rows = is_some (first_of id rows) ≡ true
 -- what holds of the matches of `measure` where `clap` takes the words
 abbrev pub IsMeasure : Text → List Row → Type 0
 IsMeasure name rows = (name ≡ codes "measure") × HasOperand (codes "manifest") rows
-    × IfSome (first_of (codes "workers") rows) (λ text. IsSignedIn (pos 1) (pos 64) text)
+    × IfSome (first_of (codes "workers") rows) (λ text. IsSignedIn (pos 1) (pos WORKER_LIMIT) text)
 
 -- the same of a subcommand about one launch
 abbrev pub IsOfLaunch : Text → Text → List Row → Type 0

@@ -2,10 +2,7 @@
 use Rattle.std.specs.Prelude.{◌≡◌, ◌⊎◌, ◌<◌, ◌≤◌, ℕ, List, [], ◌∷◌, Option, Some, IfSome, IsSomeAnd, length}
 use Rattle.rim_cli.specs.declared.fault.Fault.{Fault}
 use Rattle.rim_cli.specs.declared.fault.Fault.TheVariants.{FileUnreadable, FileTooLarge, NoMemory}
-
--- the most bytes that a file may have
-abbrev pub file_limit : ℕ
-file_limit = 268435456
+use Rattle.rim_cli.specs.declared.file.TheConstants.{FILE_LIMIT}
 
 -- what is known of a path: nothing; that no file can be opened there, `Some None`; or the bytes of the file there
 abbrev pub Known : Type 0
@@ -18,13 +15,13 @@ IfFile known P = IfSome known (λ file. IsSomeAnd file P)
 -- a fault of reading a file of which this is known
 abbrev pub IsFileFault : Known → Fault → Type 0
 IsFileFault known FileUnreadable = Unit {0}
-IsFileFault known FileTooLarge = IfFile known (λ bytes. file_limit < length bytes)
+IsFileFault known FileTooLarge = IfFile known (λ bytes. FILE_LIMIT < length bytes)
 IsFileFault known NoMemory = Unit {0}
 IsFileFault known _ = ⊥
 
 -- these are all bytes of a file of which this is known
 abbrev pub IsRead : Known → List ℕ → Type 0
-IsRead known bytes = (length bytes ≤ file_limit) × IfSome known (λ file. file ≡ Some bytes)
+IsRead known bytes = (length bytes ≤ FILE_LIMIT) × IfSome known (λ file. file ≡ Some bytes)
 
 -- the bytes that were read of the files at these paths, one by one
 abbrev pub AreRead : (List ℕ → Known) → List (List ℕ) → List (List ℕ) → Type 0
@@ -36,4 +33,4 @@ AreRead held _ _ = ⊥
 abbrev pub IsFirstFault : (List ℕ → Known) → List (List ℕ) → Fault → Type 0
 IsFirstFault held [] fault = ⊥
 IsFirstFault held (path ∷ paths) fault = IsFileFault (held path) fault
-    ⊎ (IfFile (held path) (λ bytes. length bytes ≤ file_limit) × IsFirstFault held paths fault)
+    ⊎ (IfFile (held path) (λ bytes. length bytes ≤ FILE_LIMIT) × IsFirstFault held paths fault)

@@ -2,8 +2,9 @@
 use Rattle.std.specs.Prelude.{◌≡◌, ◌⊎◌, ◌≤◌, ℕ, List, [], ◌∷◌, length}
 use Rattle.rim_check.specs.Lines.{Saying, file_said}
 use Rattle.rim_cli.specs.declared.fault.Fault.TheVariants.{FileUnreadable, FileTooLarge}
-use Rattle.rim_cli.specs.Files.{IfFile, IsFileFault, Known, file_limit}
+use Rattle.rim_cli.specs.Files.{IfFile, IsFileFault, Known}
 use Rattle.rim_cli.specs.Status.{word_of}
+use Rattle.rim_cli.specs.declared.file.TheConstants.{FILE_LIMIT}
 
 -- what is said of the file at a path, of which this is known: its path and the word of why it cannot be read
 abbrev pub IsUnread : Known → List ℕ → Saying → Type 0
@@ -20,5 +21,5 @@ pub record IsUnreadFirst (known : Known) (path : List ℕ) (Follows : List Sayin
 -- what is said of the files at these paths that cannot be read, in turn: each other file has at most as many bytes as the limit
 abbrev pub AreUnread : (List ℕ → Known) → List (List ℕ) → List Saying → Type 0
 AreUnread held [] said = said ≡ []
-AreUnread held (path ∷ paths) said = (IfFile (held path) (λ bytes. length bytes ≤ file_limit) × AreUnread held paths said)
+AreUnread held (path ∷ paths) said = (IfFile (held path) (λ bytes. length bytes ≤ FILE_LIMIT) × AreUnread held paths said)
     ⊎ IsUnreadFirst (held path) path (AreUnread held paths) said

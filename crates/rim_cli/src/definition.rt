@@ -5,6 +5,7 @@ ghost use Rattle.clap.specs.declared.builder.command.Command.TheViews.{out-Comma
 ghost use Rattle.rim_cli.specs.Command.{audit, check, dtb, fdt, format_rule, image, list, measure, operand_rule, rim, with_launch, with_operand, workers_rule};
 
 use clap::{Arg, Command};
+use job_board::WORKER_LIMIT;
 use std::alloc::{AllocError, Global};
 
 const VERSION: &str = "0.1.0";
@@ -223,7 +224,7 @@ fn workers_arg<'a>(alloc: Global) -> Arg<'a>
     Arg::new(alloc, "workers")
         .long("workers")
         .value_name("N")
-        .value_parser(clap::value_parser!(u8).range(1..=64))
+        .value_parser(clap::value_parser!(u8).range(1..=WORKER_LIMIT as i64))
         .help("Threads that hash pages and chain launches, 1 to 64; 4 where not given")
 }
 

@@ -1,6 +1,7 @@
 //! Files, opened by their paths and read whole.
 ghost use Rattle.std.specs.Prelude.{◌≡◌, ◌≤◌, ℕ, IfErr, IfOk, IfSome, List, None, Some, length, map, option_map, vec_len};
-ghost use Rattle.rim_cli.specs.Files.{AreRead, IfFile, IsFileFault, IsFirstFault, IsRead, Known, file_limit};
+ghost use Rattle.rim_cli.specs.Files.{AreRead, IfFile, IsFileFault, IsFirstFault, IsRead, Known};
+ghost use Rattle.rim_cli.specs.declared.file.TheConstants.{FILE_LIMIT};
 
 use crate::fault::Fault;
 use crate::patient::Patient;
@@ -8,7 +9,7 @@ use rim_release::{Files, Release};
 use std::alloc::Global;
 use std::io::{ErrorKind, Read};
 
-/// The most bytes that a file may have.
+/// The most bytes that a file may have: 256 MiB. This project's choice.
 pub const FILE_LIMIT: u64 = 268_435_456;
 
 /// What opens files by their paths.
@@ -56,7 +57,7 @@ pub fn read_file<O: Opener>(alloc: Global, opener: &mut O, path: &str) -> Result
 
 /// All bytes of a reader, of which one more than the limit is read at the most.
 fn read_whole<R: Read + Drop>(alloc: Global, reader: R) -> Result<Vec<u8>, Fault>
-    ensures limit { IfOk result (λ bytes. length bytes.items ≤ file_limit) }
+    ensures limit { IfOk result (λ bytes. length bytes.items ≤ FILE_LIMIT) }
     ensures fault { IfErr result (IsFileFault (option_map Some (R.remaining reader))) }
     ensures whole { IfOk result (λ bytes. IfSome (R.remaining reader) (λ held. bytes.items ≡ held)) }
 {

@@ -4,6 +4,7 @@ ghost use Rattle.clap.specs.Values.{IsSignedIn};
 ghost use Rattle.clap.specs.Words.{HasKind, Kinds, first_of, found_of, kind_of, rows_of, subcommand_of};
 ghost use Rattle.rim_cli.specs.declared.words.CommandFault.TheVariants as fault;
 ghost use Rattle.rim_cli.specs.Command.{CountsWorkers, HasCrew, IsEntered, IsRefusalOf, ReadsRequest, ReadsRow, format_of, is_taken, mistakes_of, rim};
+ghost use Rattle.job_board.specs.declared.machine.TheConstants.{WORKER_LIMIT};
 
 use crate::definition::rim_command;
 use clap::ArgMatches;
@@ -165,7 +166,7 @@ fn value<'a>(given: &ArgMatches<'a>, id: &str) -> Option<&'a str>
 
 /// The number of workers, 4 where none is given.
 fn workers(given: &ArgMatches) -> u8
-    requires { IfSome (first_of (codes "workers") (rows_of (found_of given.now))) (λ text. IsSignedIn (pos 1) (pos 64) text) }
+    requires { IfSome (first_of (codes "workers") (rows_of (found_of given.now))) (λ text. IsSignedIn (pos 1) (pos WORKER_LIMIT) text) }
     ensures { CountsWorkers (first_of (codes "workers") (rows_of (found_of given.now))) result }
 {
     match value(given, "workers") {
@@ -196,7 +197,7 @@ fn unknown_format(alloc: Global) -> Result<CommandFault, AllocError>
 
 /// The number from 1 to 64 that a text writes.
 fn number_of(text: &str) -> u8
-    requires { IsSignedIn (pos 1) (pos 64) text.now }
+    requires { IsSignedIn (pos 1) (pos WORKER_LIMIT) text.now }
     ensures { CountsWorkers (Some text.now) result }
 {
     text.parse::<u8>().unwrap()

@@ -1,7 +1,8 @@
--- Measurement descriptors, 256 bytes each. DEN0137, RmmMeasurementDescriptorData,
+-- Measurement descriptors. DEN0137, RmmMeasurementDescriptorData,
 -- RmmMeasurementDescriptorRec and RmmMeasurementDescriptorRipas.
 use Rattle.std.specs.Prelude.{ℕ, List, [], ◌∷◌, ◌++◌, Option, Some, None}
 use Rattle.rim_desc.specs.Page.{Field, byte, bytes, word, with_fields, zeros}
+use Rattle.rim_desc.specs.declared.descriptor.TheConstants.{DESCRIPTOR_SIZE}
 
 -- what each descriptor begins with: its type, its length and the present measurement
 abbrev pub heading : ℕ → List ℕ → List Field
@@ -22,10 +23,10 @@ abbrev pub ripas_fields : List ℕ → ℕ → ℕ → List Field
 ripas_fields rim base top = heading 2 rim ++ (word 0x50 base ∷ word 0x58 top ∷ [])
 
 unfoldable pub data_descriptor_of : List ℕ → ℕ → Option (List ℕ) → List ℕ
-data_descriptor_of rim ipa content = with_fields (zeros 256) (data_fields rim ipa content)
+data_descriptor_of rim ipa content = with_fields (zeros DESCRIPTOR_SIZE) (data_fields rim ipa content)
 
 unfoldable pub rec_descriptor_of : List ℕ → List ℕ → List ℕ
-rec_descriptor_of rim content = with_fields (zeros 256) (rec_descriptor_fields rim content)
+rec_descriptor_of rim content = with_fields (zeros DESCRIPTOR_SIZE) (rec_descriptor_fields rim content)
 
 unfoldable pub ripas_descriptor_of : List ℕ → ℕ → ℕ → List ℕ
-ripas_descriptor_of rim base top = with_fields (zeros 256) (ripas_fields rim base top)
+ripas_descriptor_of rim base top = with_fields (zeros DESCRIPTOR_SIZE) (ripas_fields rim base top)

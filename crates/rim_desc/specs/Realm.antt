@@ -3,6 +3,7 @@
 use Rattle.std.specs.Prelude.{ℕ, List, [], ◌∷◌}
 use Rattle.rim_desc.specs.Page.{Field, byte, word, with_fields, zeros}
 use Rattle.rim_desc.specs.Measurement.{algo_value}
+use Rattle.rim_desc.specs.declared.page.TheConstants.{PAGE_SIZE}
 use Rattle.rim_desc.specs.declared.realm.RealmParams.{RealmParams}
 
 -- the fields that are measured
@@ -12,4 +13,4 @@ realm_fields p = word 0x0 p.flags ∷ byte 0x8 p.s2sz ∷ byte 0x10 p.sve_vl ∷
 
 -- the page: a byte at no listed offset is zero
 unfoldable pub realm_page_of : RealmParams → List ℕ
-realm_page_of p = with_fields (zeros 4096) (realm_fields p)
+realm_page_of p = with_fields (zeros PAGE_SIZE) (realm_fields p)

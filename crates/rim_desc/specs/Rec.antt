@@ -2,6 +2,7 @@
 -- that are measured: the MPIDR and the auxiliary granules are not among them.
 use Rattle.std.specs.Prelude.{ℕ, ◌+◌, ◌*◌, ◌/◌, ◌%◌, List, [], ◌∷◌, slice_index}
 use Rattle.rim_desc.specs.Page.{Field, word, with_fields, zeros}
+use Rattle.rim_desc.specs.declared.page.TheConstants.{PAGE_SIZE}
 
 -- what a caller sees of a REC's parameters
 pub record RecData : Type 0 where
@@ -23,7 +24,7 @@ rec_fields r = word 0x0 r.flags ∷ word 0x200 r.pc
 
 -- the page: a byte at no listed offset is zero
 unfoldable pub rec_page_of : RecData → List ℕ
-rec_page_of r = with_fields (zeros 4096) (rec_fields r)
+rec_page_of r = with_fields (zeros PAGE_SIZE) (rec_fields r)
 
 -- The MPIDR of REC n: Aff0 is n mod 16 in bits 3:0, and Aff1, from bit 8 on, counts the sixteens.
 -- DEN0137, RmiRecMpidr, with the RECs of a realm created in the order of their index.

@@ -1,6 +1,6 @@
 //! Measurements.
 ghost use Rattle.std.specs.Prelude.{◌≡◌, ◌++◌};
-ghost use Rattle.rim_desc.specs.Measurement.{measurement_of};
+ghost use Rattle.rim_desc.specs.Measurement.{algo_word, measurement_of};
 ghost use Rattle.rim_desc.specs.Page.{zeros};
 ghost use Rattle.rim_desc.specs.declared.measurement.Algo.TheVariants as algo;
 
@@ -16,6 +16,18 @@ pub enum Algo {
     Sha256,
     /// SHA-512 of FIPS 180-4; its number is 1.
     Sha512,
+}
+
+impl Algo {
+    /// The word of the algorithm in manifests, reports and listings. This project's choice.
+    pub fn word(self) -> &'static str
+        ensures { result.now ≡ algo_word self }
+    {
+        match self {
+            Algo::Sha256 => "sha256",
+            Algo::Sha512 => "sha512",
+        }
+    }
 }
 
 /// A measurement: 64 bytes, of which a SHA-256 digest takes the first 32 and leaves zeros after it.

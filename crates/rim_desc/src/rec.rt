@@ -1,16 +1,20 @@
 //! The parameters of a REC.
 ghost use Rattle.std.specs.Prelude.{◌≡◌, ◌<◌, ◌≤◌, length};
 ghost use Rattle.rim_desc.specs.Rec.{rec_mpidr_of, rec_page_of};
+ghost use Rattle.rim_desc.specs.declared.rec.TheConstants.{AUX_LIMIT, REC_LIMIT};
 
 use crate::page::{PAGE_SIZE, put, zero_page};
 use std::marker::Model;
 
-/// The most auxiliary granules that a REC may have.
+/// The most auxiliary granules that a REC may have: 16 (DEN0137, RmiRecParams).
 pub const AUX_LIMIT: usize = 16;
+
+/// The most RECs of a realm: 512. This project's choice.
+pub const REC_LIMIT: usize = 512;
 
 /// The parameters of a REC (DEN0137, RmiRecParams).
 ///
-/// It has at most 16 auxiliary granules, and zeros in the places of those that it has not.
+/// It has at most [`AUX_LIMIT`] auxiliary granules, and zeros in the places of those that it has not.
 /// Measured are the flags, `pc` and x0 to x7.
 #[derive(Clone, Copy, Debug, PartialEq, Eq)]
 pub struct RecParams {
@@ -28,13 +32,14 @@ impl Model for RecParams {
 
     ghost Value = { RecData };
 
+    ghost use Rattle.rim_desc.specs.declared.rec.TheConstants.{AUX_LIMIT};
     ghost use Rattle.rim_desc.specs.inside.Rec.{IsWellFormed, fields_again};
 
     ghost view = { λ r. record { flags = r.flags; mpidr = r.mpidr; pc = r.pc; gprs = r.gprs; aux = take r.num_aux r.aux } };
 
     ghost invariant = { IsWellFormed };
 
-    ghost inverse = { λ d. record { flags = d.flags; mpidr = d.mpidr; pc = d.pc; gprs = d.gprs; num_aux = length d.aux; aux = d.aux ++ replicate (16 - length d.aux) 0 } };
+    ghost inverse = { λ d. record { flags = d.flags; mpidr = d.mpidr; pc = d.pc; gprs = d.gprs; num_aux = length d.aux; aux = d.aux ++ replicate (AUX_LIMIT - length d.aux) 0 } };
 
     ghost inverse_ok = { fields_again };
 }
@@ -42,7 +47,7 @@ impl Model for RecParams {
 impl RecParams {
     /// The parameters of a REC with these auxiliary granules, by address.
     pub fn new(flags: u64, mpidr: u64, pc: u64, gprs: [u64; 8], aux: &[u64]) -> RecParams
-        requires { length aux.now ≤ 16 }
+        requires { length aux.now ≤ AUX_LIMIT }
         ensures { result ≡ record { flags = flags; mpidr = mpidr; pc = pc; gprs = gprs; aux = aux.now } }
     {
         let mut places = [0; AUX_LIMIT];
@@ -85,10 +90,10 @@ impl RecParams {
         &self.gprs
     }
 
-    /// The number of auxiliary granules, at most 16.
+    /// The number of auxiliary granules.
     pub fn num_aux(&self) -> u8
         ensures count { result ≡ length self.now.aux }
-        ensures most { result ≤ 16 }
+        ensures most { result ≤ AUX_LIMIT }
     {
         self.num_aux
     }
@@ -122,7 +127,7 @@ pub fn rec_page(params: &RecParams) -> [u8; PAGE_SIZE]
 
 /// The MPIDR of the REC with an index: Aff0 counts to 16, and Aff1 counts the sixteens.
 pub fn rec_mpidr(index: usize) -> u64
-    requires { index < 512 }
+    requires { index < REC_LIMIT }
     ensures { result ≡ rec_mpidr_of index }
 {
     (index % 16 + 256 * (index / 16)) as u64

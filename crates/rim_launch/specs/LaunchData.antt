@@ -9,6 +9,7 @@ use Rattle.rim_launch.specs.declared.rec.Rec.{Rec}
 use Rattle.rim_launch.specs.declared.step.Step.{Step}
 use Rattle.rim_launch.specs.Kinds.{file_of, once_each, edits_possible}
 use Rattle.rim_launch.specs.Steps.{steps_complete}
+use Rattle.rim_launch.specs.declared.launch.TheConstants.{ITEM_LIMIT, NAMED_REC_LIMIT, REGION_LIMIT}
 
 pub record LaunchData : Type 0 where
   -- its number in the release
@@ -19,9 +20,8 @@ pub record LaunchData : Type 0 where
   pub recs : List Rec
   pub steps : List Step
 
--- at most 64 regions, 64 items and 1,024 RECs
 abbrev pub within_limits : LaunchData → Bool
-within_limits l = nat_le (length l.ram) 64 && nat_le (length l.items) 64 && nat_le (length l.recs) 1024
+within_limits l = nat_le (length l.ram) REGION_LIMIT && nat_le (length l.items) ITEM_LIMIT && nat_le (length l.recs) NAMED_REC_LIMIT
 
 abbrev pub steps_fit : LaunchData → Bool
 steps_fit l = steps_complete (length l.ram) (length l.items) (length l.recs) l.steps

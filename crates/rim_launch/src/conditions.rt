@@ -5,8 +5,10 @@ ghost use Rattle.rim_launch.specs.Kinds.{count_of, edits_possible, needs_initrd,
 ghost use Rattle.rim_launch.specs.Steps.{names_something, number_of, each_once, steps_complete};
 ghost use Rattle.rim_launch.specs.inside.StepViews.{AreMarks, IsNext};
 ghost use Rattle.rim_launch.specs.declared.step.Step.{Step};
+ghost use Rattle.rim_launch.specs.declared.launch.TheConstants.{NAMED_REC_LIMIT};
 
 use crate::item::{Item, Region, Role};
+use crate::launch::NAMED_REC_LIMIT;
 use crate::step::Step;
 
 /// How many items have a role.
@@ -55,9 +57,6 @@ fn names_something(num_regions: usize, num_items: usize, num_recs: usize, step: 
         Step::Rec(number) => *number < num_recs,
     }
 }
-
-/// The most regions, items or RECs of a launch.
-const MOST_PARTS: usize = 1024;
 
 /// What a step is for: a region, an item or a REC.
 #[derive(Clone, Copy, Debug, PartialEq, Eq)]
@@ -115,10 +114,10 @@ fn all_marked(named: &[bool]) -> bool
 /// Whether each number below `count` is named by exactly one step for this target. The steps are
 /// read once.
 fn each_once(target: StepTarget, steps: &[Step], count: usize) -> bool
-    requires { count ≤ 1024 }
+    requires { count ≤ NAMED_REC_LIMIT }
     ensures { result ≡ each_once target steps.now count }
 {
-    let mut named = [false; MOST_PARTS];
+    let mut named = [false; NAMED_REC_LIMIT];
     for step in steps {
         if !mark_step(&mut named, target, count, step) {
             return false;
@@ -135,7 +134,7 @@ fn all_name_something(num_regions: usize, num_items: usize, num_recs: usize, ste
 
 /// Whether each step names what the launch has, and each region, item and REC is named by exactly one.
 pub fn steps_complete(num_regions: usize, num_items: usize, num_recs: usize, steps: &[Step]) -> bool
-    requires { (num_regions ≤ 1024) × (num_items ≤ 1024) × (num_recs ≤ 1024) }
+    requires { (num_regions ≤ NAMED_REC_LIMIT) × (num_items ≤ NAMED_REC_LIMIT) × (num_recs ≤ NAMED_REC_LIMIT) }
     ensures { result ≡ steps_complete num_regions num_items num_recs steps.now }
 {
     all_name_something(num_regions, num_items, num_recs, steps)

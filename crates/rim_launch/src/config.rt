@@ -1,8 +1,13 @@
 //! The configuration of a launch.
 ghost use Rattle.std.specs.Prelude.{◌≡◌, ◌%◌, ◌<◌, ◌≤◌, ◌^◌, true};
 ghost use Rattle.rmm_model.specs.Start.{is_width};
+ghost use Rattle.rim_desc.specs.declared.rec.TheConstants.{AUX_LIMIT};
+ghost use Rattle.rim_launch.specs.declared.config.TheConstants.{POOL_LIMIT};
 
 use rim_desc::Algo;
+
+/// The most granules of a pool: 16,777,216. This project's choice.
+pub const POOL_LIMIT: u64 = 16_777_216;
 
 /// What a launch says of its realm, of the monitor that it is measured for and of the pool that its
 /// granules are taken from. Each value is in its range. The ranges are this project's choice, but for the
@@ -30,16 +35,16 @@ pub struct Config {
     pub rpv: [u8; 64],
     /// The lowest level of a block of RAM, 0 to 3.
     pub block_level: u8,
-    /// The number of auxiliary granules of a REC, 0 to 16.
+    /// The number of auxiliary granules of a REC, at most [`rim_desc::AUX_LIMIT`].
     pub num_aux: u8,
     /// The physical address of the pool's first granule, a multiple of 64 KiB below 2^48.
     pub pool_base: u64,
-    /// How many granules the pool has, 1 to 16,777,216.
+    /// How many granules the pool has, 1 to [`POOL_LIMIT`].
     pub pool_count: u64,
     pub ghost width: { is_width s2sz ≡ true },
     pub ghost level: { block_level ≤ 3 },
-    pub ghost aux: { num_aux ≤ 16 },
+    pub ghost aux: { num_aux ≤ AUX_LIMIT },
     pub ghost pool_aligned: { pool_base % 65536 ≡ 0 },
     pub ghost pool_low: { pool_base < 2 ^ 48 },
-    pub ghost pool_fits: { (1 ≤ pool_count) × (pool_count ≤ 16777216) },
+    pub ghost pool_fits: { (1 ≤ pool_count) × (pool_count ≤ POOL_LIMIT) },
 }

@@ -1,5 +1,6 @@
 //! Launches.
 ghost use Rattle.std.specs.Prelude.{◌≡◌, ◌&&◌, nat_le, length};
+ghost use Rattle.rim_launch.specs.declared.launch.TheConstants.{ITEM_LIMIT, NAMED_REC_LIMIT, REGION_LIMIT};
 
 use crate::conditions::{edits_possible, once_each, steps_complete};
 use crate::config::Config;
@@ -8,13 +9,14 @@ use crate::rec::Rec;
 use crate::step::Step;
 use std::marker::Model;
 
-/// The most regions and the most items of a launch.
-const MOST_REGIONS: usize = 64;
+/// The most regions of a launch: 64. This project's choice, as are the next two.
+pub const REGION_LIMIT: usize = 64;
 
-const MOST_ITEMS: usize = 64;
+/// The most items of a launch: 64.
+pub const ITEM_LIMIT: usize = 64;
 
-/// The most RECs of a launch.
-const MOST_RECS: usize = 1024;
+/// The most RECs that a launch may name: 1,024. A list takes fewer.
+pub const NAMED_REC_LIMIT: usize = 1024;
 
 /// A launch: what a realm is made of, and in which order.
 ///
@@ -135,7 +137,7 @@ impl Launch {
 
 /// Whether the regions, the items and the RECs are no more than a launch may have.
 fn within_limits(ram: &[Region], items: &[Item], recs: &[Rec]) -> bool
-    ensures { result ≡ (nat_le (length ram.now) 64 && nat_le (length items.now) 64 && nat_le (length recs.now) 1024) }
+    ensures { result ≡ (nat_le (length ram.now) REGION_LIMIT && nat_le (length items.now) ITEM_LIMIT && nat_le (length recs.now) NAMED_REC_LIMIT) }
 {
-    ram.len() <= MOST_REGIONS && items.len() <= MOST_ITEMS && recs.len() <= MOST_RECS
+    ram.len() <= REGION_LIMIT && items.len() <= ITEM_LIMIT && recs.len() <= NAMED_REC_LIMIT
 }

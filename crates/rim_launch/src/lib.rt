@@ -10,9 +10,9 @@ mod realm;
 mod rec;
 mod step;
 
-pub use config::Config;
+pub use config::{Config, POOL_LIMIT};
 pub use item::{Bootargs, Edits, Item, ItemKind, Region, Role};
-pub use launch::Launch;
+pub use launch::{ITEM_LIMIT, Launch, NAMED_REC_LIMIT, REGION_LIMIT};
 pub use realm::realm_params;
 pub use rec::Rec;
 pub use step::{Step, default_steps};

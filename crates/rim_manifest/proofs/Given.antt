@@ -22,7 +22,7 @@ use Rattle.rim_manifest.specs.declared.form.Presence.{Presence}
 use Rattle.rim_manifest.specs.declared.form.Presence.TheVariants.{Required, Optional}
 use Rattle.rim_manifest.specs.Faults.{fault_if, lowest}
 use Rattle.rim_manifest.specs.Forms.{is_pool_base, is_range, is_range_pair, is_table, items_in, items_list}
-use Rattle.rim_manifest.specs.Given.{EachGives, FillsWord, GivesBootargs, GivesBytes, GivesFile, GivesItem, GivesKind, GivesNumber, GivesPath, GivesRec, GivesRegion, GivesSize, GivesSteps, GivesTruth, GivesWord, GivesWords, IsGiven, SpellsWord, algorithm_text, role_text}
+use Rattle.rim_manifest.specs.Given.{EachGives, FillsWord, GivesBootargs, GivesBytes, GivesFile, GivesItem, GivesKind, GivesNumber, GivesPath, GivesRec, GivesRegion, GivesSize, GivesSteps, GivesTruth, GivesWord, GivesWords, IsGiven, SpellsWord, role_text}
 use Rattle.rim_manifest.specs.Launches.{ReleaseData, config_of, items_of, ram_of, recs_of, launch_of, launches_from, rec_of, region_in, region_of}
 use Rattle.rim_manifest.specs.Values.{algorithm_in, array_at, base_in, digits_in, number_in, text_in, truth_in, whole_in, word_at, word_in, words_in}
 use Rattle.rim_manifest.specs.Words.{are_digits, hex_number, is_word, word_of}
@@ -43,6 +43,7 @@ use Rattle.rim_manifest.proofs.Faultless.{all_tables, both, each_value, empty_pa
 use Rattle.rim_manifest.proofs.Lookups.{file_of-kind, found_there, role_of-kind}
 use Rattle.rim_manifest.proofs.Lowest.{none_noted}
 use Rattle.rim_manifest.proofs.Regions.{reads_as}
+use Rattle.rim_desc.specs.Measurement.{algo_word}
 
 -- ---- the value at a key
 
@@ -75,13 +76,13 @@ text_there key (Some d) e = absurd (true≢false (sym (good_value form.Name d e)
 
 -- one of the two words
 algorithm_is : (s : List ℕ) (b c : Bool) → bytes_eq s (codes "sha512") ≡ b → bytes_eq s (codes "sha256") ≡ c → (c || b) ≡ true
-    → s ≡ algorithm_text (cond b Sha512 Sha256)
+    → s ≡ algo_word (cond b Sha512 Sha256)
 algorithm_is s true c long short e = (bytes_eq-Decides s (codes "sha512")).0 long
 algorithm_is s false true long short e = (bytes_eq-Decides s (codes "sha256")).0 short
 algorithm_is s false false long short e = cc
 
 algorithm_there : (key : List ℕ) (o : Option Data) → cell_faults (record { key = key; form = form.Algorithm; presence = Required }) o ≡ []
-    → o ≡ Some (string (algorithm_text (algorithm_in o)))
+    → o ≡ Some (string (algo_word (algorithm_in o)))
 algorithm_there key None e = cc
 algorithm_there key (Some (string s)) e =
     ap (λ t. Some (string t)) (algorithm_is s (bytes_eq s (codes "sha512")) (bytes_eq s (codes "sha256")) refl refl (good_value form.Algorithm (string s) e).within)

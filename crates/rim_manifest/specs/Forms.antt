@@ -11,6 +11,9 @@ use Rattle.rim_manifest.specs.declared.form.Presence.{Presence}
 use Rattle.rim_manifest.specs.declared.form.Presence.TheVariants.{Required, Optional}
 use Rattle.rim_launch.specs.Texts.{has_no_zero}
 use Rattle.rim_manifest.specs.Words.{is_word}
+use Rattle.rim_desc.specs.Measurement.{algo_word}
+use Rattle.rim_desc.specs.declared.measurement.Algo.TheVariants.{Sha256, Sha512}
+use Rattle.rim_manifest.specs.declared.form.TheConstants.{NAME_LIMIT}
 
 -- the values of an array
 abbrev pub items_list : Items → List Data
@@ -37,7 +40,7 @@ is_name_byte b = (nat_le 65 b && nat_le b 90) || (nat_le 97 b && nat_le b 122) |
 
 -- 1 to 64 such characters
 abbrev pub is_name : List ℕ → Bool
-is_name text = nat_le 1 (length text) && nat_le (length text) 64 && list_all is_name_byte text
+is_name text = nat_le 1 (length text) && nat_le (length text) NAME_LIMIT && list_all is_name_byte text
 
 abbrev pub is_table : Data → Bool
 is_table d = is_some (as_table d)
@@ -76,6 +79,10 @@ abbrev pub is_base : ℤ → Bool
 is_base (pos n) = is_pool_base n
 is_base (negsuc n) = false
 
+-- a text is the word of an algorithm
+abbrev pub is_algorithm : List ℕ → Bool
+is_algorithm s = bytes_eq s (algo_word Sha256) || bytes_eq s (algo_word Sha512)
+
 -- the word of an item's kind
 abbrev pub is_item_kind : List ℕ → Bool
 is_item_kind s = bytes_eq s (codes "kernel") || bytes_eq s (codes "initrd") || bytes_eq s (codes "dtb") || bytes_eq s (codes "raw")
@@ -113,7 +120,7 @@ is_over _ _ = false
 -- whether a value that is of a form's kind is in the form's range
 abbrev pub is_within : Form → Data → Bool
 is_within form.Name (string s) = is_name s
-is_within form.Algorithm (string s) = bytes_eq s (codes "sha256") || bytes_eq s (codes "sha512")
+is_within form.Algorithm (string s) = is_algorithm s
 is_within (form.Digits count) (string s) = (length s == count) && list_all is_hex_digit s
 is_within (form.Number low high) (integer z) = int_le low z && int_le z high
 is_within form.PoolBase (integer z) = is_base z

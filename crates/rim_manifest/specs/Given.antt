@@ -6,7 +6,6 @@ use Rattle.hex.specs.Hex.{decode_sized}
 use Rattle.toml.specs.Data.{Data, string, integer, boolean, at, get}
 use Rattle.rim_desc.specs.Page.{zeros}
 use Rattle.rim_desc.specs.declared.measurement.Algo.{Algo}
-use Rattle.rim_desc.specs.declared.measurement.Algo.TheVariants.{Sha256, Sha512}
 use Rattle.rim_launch.specs.Kinds.{file_of, role_of}
 use Rattle.rim_launch.specs.LaunchData.{LaunchData}
 use Rattle.rim_launch.specs.Steps.{default_steps}
@@ -25,11 +24,8 @@ use Rattle.rim_launch.specs.declared.item.Role.TheVariants.{Kernel, Initrd, Dtb,
 use Rattle.rim_launch.specs.declared.rec.Rec.{Rec}
 use Rattle.rim_manifest.specs.Launches.{NamedData}
 use Rattle.rim_manifest.specs.Values.{array_at}
-
--- the word of a hash algorithm
-abbrev pub algorithm_text : Algo → List ℕ
-algorithm_text Sha256 = codes "sha256"
-algorithm_text Sha512 = codes "sha512"
+use Rattle.rim_desc.specs.Measurement.{algo_word}
+use Rattle.rim_launch.specs.declared.config.TheConstants.{POOL_LIMIT}
 
 -- a number, or the default of its key
 abbrev pub GivesNumber : ℕ → Option Data → ℕ → Type 0
@@ -162,7 +158,7 @@ GivesSteps items (Some d) l = EachGives (GivesStep items) (items_of d) l.steps
 -- the launch has what its table gives
 pub record IsGiven (files : List Data) (d : Data) (l : NamedData) : Type 0 where
   pub name : get (codes "name") d ≡ Some (string l.name)
-  pub algo : get (codes "algo") d ≡ Some (string (algorithm_text l.launch.config.algo))
+  pub algo : get (codes "algo") d ≡ Some (string (algo_word l.launch.config.algo))
   pub s2sz : get (codes "s2sz") d ≡ Some (integer (pos l.launch.config.s2sz))
   pub sve : GivesTruth false (get (codes "sve") d) l.launch.config.sve
   pub pmu : GivesTruth false (get (codes "pmu") d) l.launch.config.pmu
@@ -174,7 +170,7 @@ pub record IsGiven (files : List Data) (d : Data) (l : NamedData) : Type 0 where
   pub block_level : GivesNumber 2 (get (codes "block_level") d) l.launch.config.block_level
   pub num_aux : GivesNumber 0 (get (codes "num_aux") d) l.launch.config.num_aux
   pub pool_base : GivesNumber 0x800000000 (get (codes "pool_base") d) l.launch.config.pool_base
-  pub pool_count : GivesNumber 16777216 (get (codes "pool_count") d) l.launch.config.pool_count
+  pub pool_count : GivesNumber POOL_LIMIT (get (codes "pool_count") d) l.launch.config.pool_count
   pub ram : EachGives GivesRegion (array_at (codes "ram") d) l.launch.ram
   pub items : EachGives (GivesItem files) (array_at (codes "item") d) l.launch.items
   pub recs : EachGives GivesRec (array_at (codes "rec") d) l.launch.recs

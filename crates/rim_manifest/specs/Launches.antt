@@ -12,6 +12,9 @@ use Rattle.rim_manifest.specs.Items.{item_of}
 use Rattle.rim_manifest.specs.StepTexts.{steps_in}
 use Rattle.rim_manifest.specs.Values.{algorithm_in, array_at, base_in, digits_in, number_in, text_in, truth_in, whole_in, word_in, words_in}
 use Rattle.rim_manifest.specs.inside.NumberRanges.{base_aligned, base_low, number_from, number_to, number_within, region_if}
+use Rattle.rim_desc.specs.declared.rec.TheConstants.{AUX_LIMIT}
+use Rattle.rim_launch.specs.declared.config.TheConstants.{POOL_LIMIT}
+use Rattle.rmm_model.specs.declared.start.TheConstants.{LEAST_WIDTH, MOST_WIDTH}
 
 -- a launch and its name, as clauses see them
 pub record NamedData : Type 0 where
@@ -31,7 +34,7 @@ AreNumbered r = (i : ℕ) (l : NamedData) → slice_get r.launches i ≡ Some l 
 unfoldable pub config_of : Data → Config
 config_of d = record {
   algo = algorithm_in (get (codes "algo") d);
-  s2sz = number_in 32 48 32 (get (codes "s2sz") d);
+  s2sz = number_in LEAST_WIDTH MOST_WIDTH LEAST_WIDTH (get (codes "s2sz") d);
   sve = truth_in false (get (codes "sve") d);
   pmu = truth_in false (get (codes "pmu") d);
   sve_vl = number_in 0 255 0 (get (codes "sve_vl") d);
@@ -40,15 +43,15 @@ config_of d = record {
   pmu_num_ctrs = number_in 0 255 0 (get (codes "pmu_num_ctrs") d);
   rpv = digits_in (get (codes "rpv") d);
   block_level = number_in 0 3 2 (get (codes "block_level") d);
-  num_aux = number_in 0 16 0 (get (codes "num_aux") d);
+  num_aux = number_in 0 AUX_LIMIT 0 (get (codes "num_aux") d);
   pool_base = base_in (get (codes "pool_base") d);
-  pool_count = number_in 1 16777216 16777216 (get (codes "pool_count") d);
-  width = number_within 32 48 32 (get (codes "s2sz") d) refl;
+  pool_count = number_in 1 POOL_LIMIT POOL_LIMIT (get (codes "pool_count") d);
+  width = number_within LEAST_WIDTH MOST_WIDTH LEAST_WIDTH (get (codes "s2sz") d) refl;
   level = number_to 0 3 2 (get (codes "block_level") d) refl;
-  aux = number_to 0 16 0 (get (codes "num_aux") d) refl;
+  aux = number_to 0 AUX_LIMIT 0 (get (codes "num_aux") d) refl;
   pool_aligned = base_aligned (get (codes "pool_base") d);
   pool_low = base_low (get (codes "pool_base") d);
-  pool_fits = (number_from 1 16777216 16777216 (get (codes "pool_count") d) refl, number_to 1 16777216 16777216 (get (codes "pool_count") d) refl);
+  pool_fits = (number_from 1 POOL_LIMIT POOL_LIMIT (get (codes "pool_count") d) refl, number_to 1 POOL_LIMIT POOL_LIMIT (get (codes "pool_count") d) refl);
 }
 
 -- the region of two addresses

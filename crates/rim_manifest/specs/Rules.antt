@@ -6,6 +6,11 @@ use Rattle.rim_manifest.specs.declared.form.Form.{Form}
 use Rattle.rim_manifest.specs.declared.form.Form.TheVariants as form
 use Rattle.rim_manifest.specs.declared.form.Presence.{Presence}
 use Rattle.rim_manifest.specs.declared.form.Presence.TheVariants.{Required, Optional}
+use Rattle.rim_desc.specs.declared.rec.TheConstants.{AUX_LIMIT}
+use Rattle.rim_launch.specs.declared.config.TheConstants.{POOL_LIMIT}
+use Rattle.rmm_model.specs.declared.start.TheConstants.{LEAST_WIDTH, MOST_WIDTH}
+use Rattle.rim_launch.specs.declared.launch.TheConstants.{ITEM_LIMIT, NAMED_REC_LIMIT, REGION_LIMIT}
+use Rattle.rim_manifest.specs.declared.rules.TheConstants.{FILE_COUNT_LIMIT, LAUNCH_LIMIT}
 
 pub record Rule : Type 0 where
   pub key : List ℕ
@@ -23,8 +28,8 @@ rule key form presence = record { key = key; form = form; presence = presence }
 abbrev pub top_rules : List Rule
 top_rules =
     rule (codes "rim_manifest") form.Version Required
-    ∷ rule (codes "launch") (form.Tables 1024) Optional
-    ∷ rule (codes "file") (form.Tables 64) Optional ∷ []
+    ∷ rule (codes "launch") (form.Tables LAUNCH_LIMIT) Optional
+    ∷ rule (codes "file") (form.Tables FILE_COUNT_LIMIT) Optional ∷ []
 
 -- the keys of a file
 abbrev pub file_rules : List Rule
@@ -37,7 +42,7 @@ abbrev pub launch_rules : List Rule
 launch_rules =
     rule (codes "name") form.Name Required
     ∷ rule (codes "algo") form.Algorithm Required
-    ∷ rule (codes "s2sz") (form.Number (pos 32) (pos 48)) Required
+    ∷ rule (codes "s2sz") (form.Number (pos LEAST_WIDTH) (pos MOST_WIDTH)) Required
     ∷ rule (codes "sve") form.Truth Optional
     ∷ rule (codes "pmu") form.Truth Optional
     ∷ rule (codes "sve_vl") (form.Number (pos 0) (pos 255)) Optional
@@ -46,12 +51,12 @@ launch_rules =
     ∷ rule (codes "pmu_num_ctrs") (form.Number (pos 0) (pos 255)) Optional
     ∷ rule (codes "rpv") (form.Digits 128) Optional
     ∷ rule (codes "block_level") (form.Number (pos 0) (pos 3)) Optional
-    ∷ rule (codes "num_aux") (form.Number (pos 0) (pos 16)) Optional
+    ∷ rule (codes "num_aux") (form.Number (pos 0) (pos AUX_LIMIT)) Optional
     ∷ rule (codes "pool_base") form.PoolBase Optional
-    ∷ rule (codes "pool_count") (form.Number (pos 1) (pos 16777216)) Optional
-    ∷ rule (codes "ram") (form.Regions 64) Optional
-    ∷ rule (codes "item") (form.Tables 64) Optional
-    ∷ rule (codes "rec") (form.Tables 1024) Optional
+    ∷ rule (codes "pool_count") (form.Number (pos 1) (pos POOL_LIMIT)) Optional
+    ∷ rule (codes "ram") (form.Regions REGION_LIMIT) Optional
+    ∷ rule (codes "item") (form.Tables ITEM_LIMIT) Optional
+    ∷ rule (codes "rec") (form.Tables NAMED_REC_LIMIT) Optional
     ∷ rule (codes "steps") form.Texts Optional ∷ []
 
 -- the keys of an item that is no devicetree

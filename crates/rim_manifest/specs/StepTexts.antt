@@ -11,6 +11,7 @@ use Rattle.rim_manifest.specs.Forms.{items_of}
 use Rattle.rim_manifest.specs.Names.{is_named}
 use Rattle.rim_manifest.specs.Values.{array_at, text_in}
 use Rattle.rim_manifest.specs.Words.{after, are_digits}
+use Rattle.rim_launch.specs.declared.launch.TheConstants.{REGION_LIMIT}
 
 -- decimal digits without a leading zero; up to four, since no launch has 10,000 regions or RECs
 abbrev pub is_decimal : List ℕ → Bool
@@ -38,7 +39,7 @@ step_of items text =
 
 -- the step that a text reads as: a text that spells none, as the step of a region that no launch has
 abbrev pub step_in : List Data → Data → Step
-step_in items d = unwrap_or (step_of items (text_in (Some d))) (step.Ram 64)
+step_in items d = unwrap_or (step_of items (text_in (Some d))) (step.Ram REGION_LIMIT)
 
 -- the steps of a launch of n regions, these items and m RECs, where the tables of its items are these
 abbrev pub steps_in : ℕ → List Data → List Item → ℕ → Option Data → List Step

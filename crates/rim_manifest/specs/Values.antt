@@ -10,6 +10,7 @@ use Rattle.rim_manifest.specs.Words.{word_of}
 use Rattle.rim_desc.specs.Page.{zeros}
 use Rattle.rim_desc.specs.declared.measurement.Algo.{Algo}
 use Rattle.rim_desc.specs.declared.measurement.Algo.TheVariants.{Sha256, Sha512}
+use Rattle.rim_desc.specs.Measurement.{algo_word}
 
 -- the text at a key, or no text
 abbrev pub text_in : Option Data → List ℕ
@@ -59,7 +60,7 @@ words_in (Some d) = Some (word_at d 0 ∷ word_at d 1 ∷ word_at d 2 ∷ word_a
 words_in None = None
 
 abbrev pub algorithm_in : Option Data → Algo
-algorithm_in (Some (string s)) = if bytes_eq s (codes "sha512") then Sha512 else Sha256
+algorithm_in (Some (string s)) = if bytes_eq s (algo_word Sha512) then Sha512 else Sha256
 algorithm_in _ = Sha256
 
 -- the 64 bytes that the digits at a key spell, or zeros

@@ -5,6 +5,7 @@ ghost use Rattle.rim_manifest.specs.Faults.{kind_of, lower};
 
 use refusal::NoMemory;
 use std::alloc::AllocError;
+use std::fmt;
 use thiserror::Error;
 
 /// Why a manifest is refused. Of the faults that hold anywhere in it the first of this list is
@@ -12,37 +13,26 @@ use thiserror::Error;
 #[derive(Clone, Copy, Debug, PartialEq, Eq, Error)]
 pub enum ManifestFault {
     /// The bytes are not UTF-8, or are no TOML document.
-    #[error("syntax")]
     Syntax,
     /// `rim_manifest` is not given or is not the whole number 1.
-    #[error("version")]
     Version,
     /// A known key holds another kind of value.
-    #[error("wrong-kind")]
     WrongKind,
     /// A table has a key that its format does not list.
-    #[error("unknown-key")]
     UnknownKey,
     /// A required key is not given, or a devicetree asks for an initrd or for RAM that the launch has not.
-    #[error("missing-key")]
     MissingKey,
     /// A list is longer than its limit.
-    #[error("limit")]
     Limit,
     /// A value is outside its range or form.
-    #[error("range")]
     Range,
     /// Two files, two launches or two items of a launch share a name, or two items a kind other than raw.
-    #[error("two-names")]
     TwoNames,
     /// An item's `file` names no file.
-    #[error("no-such-file")]
     NoSuchFile,
     /// A text of `steps` is no step, or the steps do not name each thing once.
-    #[error("bad-step")]
     BadStep,
     /// The allocator refused a growth.
-    #[error("no-memory")]
     NoMemory,
 }
 
@@ -80,6 +70,12 @@ impl ManifestFault {
             ManifestFault::BadStep => "bad-step",
             ManifestFault::NoMemory => "no-memory",
         }
+    }
+}
+
+impl fmt::Display for ManifestFault {
+    fn fmt<W: fmt::Write>(&self, f: &mut fmt::Formatter<W>) -> fmt::Result {
+        f.write_str(self.kind())
     }
 }
 

@@ -5,13 +5,14 @@ ghost use Rattle.hex.specs.Hex.{is_hex_digit};
 ghost use Rattle.toml.specs.View.{view};
 ghost use Rattle.rim_launch.specs.Texts.{has_no_zero};
 ghost use Rattle.rim_manifest.specs.Words.{is_word};
-ghost use Rattle.rim_manifest.specs.Forms.{has_kind, is_base, is_integer, is_item_kind, is_name, is_name_byte, is_over, is_pair, is_range, is_range_pair, is_required, is_table, is_text, is_within, is_word_kind};
+ghost use Rattle.rim_manifest.specs.Forms.{has_kind, is_algorithm, is_base, is_integer, is_item_kind, is_name, is_name_byte, is_over, is_pair, is_range, is_range_pair, is_required, is_table, is_text, is_within, is_word_kind};
 
 use crate::word::is_word;
+use rim_desc::Algo;
 use toml::Value;
 
-/// How many characters a name may have.
-const LONGEST_NAME: usize = 64;
+/// The most characters of a name: 64. This project's choice.
+pub const NAME_LIMIT: usize = 64;
 
 /// What a key may hold.
 #[derive(Clone, Copy, Debug)]
@@ -111,13 +112,20 @@ pub fn is_over(form: Form, value: &Value) -> bool
     }
 }
 
+/// Whether a text is the word of an algorithm.
+fn is_algorithm(text: &str) -> bool
+    ensures { result ≡ is_algorithm text.now }
+{
+    text == Algo::Sha256.word() || text == Algo::Sha512.word()
+}
+
 /// Whether a value that is of a form's kind is in the form's range.
 pub fn is_within(form: Form, value: &Value) -> bool
     ensures { result ≡ is_within form (view value.now) }
 {
     match (form, value) {
         (Form::Name, Value::String(text)) => is_name(text.as_str()),
-        (Form::Algorithm, Value::String(text)) => matches!(text.as_str(), "sha256" | "sha512"),
+        (Form::Algorithm, Value::String(text)) => is_algorithm(text.as_str()),
         (Form::Digits { count }, Value::String(text)) => text.len() == count
             && are_digits(text.as_bytes()),
         (Form::Number { low, high }, Value::Integer(x)) => low <= *x && *x <= high,
@@ -135,7 +143,7 @@ pub fn is_within(form: Form, value: &Value) -> bool
 fn is_name(text: &str) -> bool
     ensures { result ≡ is_name text.now }
 {
-    1 <= text.len() && text.len() <= LONGEST_NAME && are_name_bytes(text.as_bytes())
+    1 <= text.len() && text.len() <= NAME_LIMIT && are_name_bytes(text.as_bytes())
 }
 
 fn are_tables(items: &[Value]) -> bool

@@ -11,13 +11,12 @@ use crate::rec::read_recs;
 use crate::region::read_regions;
 use crate::step::read_steps;
 use crate::value::{algorithm, array, byte, digits, number, pool_base, text, truth};
-use rim_launch::{Config, Launch};
+use rim_desc::AUX_LIMIT;
+use rim_launch::{Config, Launch, POOL_LIMIT};
+use rmm_model::start::{LEAST_WIDTH, MOST_WIDTH};
 use std::alloc::Global;
 use std::marker::Model;
 use toml::Value;
-
-/// The most granules of a pool.
-const MOST_GRANULES: u64 = 16_777_216;
 
 /// A launch of a release, with the name that the manifest gives it.
 #[derive(Drop)]
@@ -76,7 +75,7 @@ fn read_config(table: &Value) -> Config
 {
     Config {
         algo: algorithm(table, "algo"),
-        s2sz: byte(table, "s2sz", 32, 48, 32),
+        s2sz: byte(table, "s2sz", LEAST_WIDTH, MOST_WIDTH, LEAST_WIDTH),
         sve: truth(table, "sve", false),
         pmu: truth(table, "pmu", false),
         sve_vl: byte(table, "sve_vl", 0, 255, 0),
@@ -85,8 +84,8 @@ fn read_config(table: &Value) -> Config
         pmu_num_ctrs: byte(table, "pmu_num_ctrs", 0, 255, 0),
         rpv: digits(table, "rpv"),
         block_level: byte(table, "block_level", 0, 3, 2),
-        num_aux: byte(table, "num_aux", 0, 16, 0),
+        num_aux: byte(table, "num_aux", 0, AUX_LIMIT as u8, 0),
         pool_base: pool_base(table, "pool_base"),
-        pool_count: number(table, "pool_count", 1, MOST_GRANULES, MOST_GRANULES),
+        pool_count: number(table, "pool_count", 1, POOL_LIMIT, POOL_LIMIT),
     }
 }

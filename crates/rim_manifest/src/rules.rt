@@ -2,12 +2,27 @@
 //! and the two are proved equal where these are used.
 use crate::form::Presence::{Optional, Required};
 use crate::form::{Form, Rule};
+use rim_desc::AUX_LIMIT;
+use rim_launch::{ITEM_LIMIT, NAMED_REC_LIMIT, POOL_LIMIT, REGION_LIMIT};
+use rmm_model::start::{LEAST_WIDTH, MOST_WIDTH};
+
+/// The most launches of a manifest: 1,024. This project's choice, as is the next.
+pub const LAUNCH_LIMIT: usize = 1024;
+
+/// The most files of a manifest: 64.
+pub const FILE_COUNT_LIMIT: usize = 64;
 
 /// The keys at the top.
 pub const TOP_RULES: [Rule; 3] = [
     ("rim_manifest", Form::Version, Required),
-    ("launch", Form::Tables { most: 1024 }, Optional),
-    ("file", Form::Tables { most: 64 }, Optional),
+    ("launch", Form::Tables { most: LAUNCH_LIMIT }, Optional),
+    (
+        "file",
+        Form::Tables {
+            most: FILE_COUNT_LIMIT,
+        },
+        Optional,
+    ),
 ];
 
 /// The keys of a file.
@@ -20,7 +35,14 @@ pub const FILE_RULES: [Rule; 2] = [
 pub const LAUNCH_RULES: [Rule; 18] = [
     ("name", Form::Name, Required),
     ("algo", Form::Algorithm, Required),
-    ("s2sz", Form::Number { low: 32, high: 48 }, Required),
+    (
+        "s2sz",
+        Form::Number {
+            low: LEAST_WIDTH as i64,
+            high: MOST_WIDTH as i64,
+        },
+        Required,
+    ),
     ("sve", Form::Truth, Optional),
     ("pmu", Form::Truth, Optional),
     ("sve_vl", Form::Number { low: 0, high: 255 }, Optional),
@@ -29,19 +51,32 @@ pub const LAUNCH_RULES: [Rule; 18] = [
     ("pmu_num_ctrs", Form::Number { low: 0, high: 255 }, Optional),
     ("rpv", Form::Digits { count: 128 }, Optional),
     ("block_level", Form::Number { low: 0, high: 3 }, Optional),
-    ("num_aux", Form::Number { low: 0, high: 16 }, Optional),
+    (
+        "num_aux",
+        Form::Number {
+            low: 0,
+            high: AUX_LIMIT as i64,
+        },
+        Optional,
+    ),
     ("pool_base", Form::PoolBase, Optional),
     (
         "pool_count",
         Form::Number {
             low: 1,
-            high: 16_777_216,
+            high: POOL_LIMIT as i64,
         },
         Optional,
     ),
-    ("ram", Form::Regions { most: 64 }, Optional),
-    ("item", Form::Tables { most: 64 }, Optional),
-    ("rec", Form::Tables { most: 1024 }, Optional),
+    ("ram", Form::Regions { most: REGION_LIMIT }, Optional),
+    ("item", Form::Tables { most: ITEM_LIMIT }, Optional),
+    (
+        "rec",
+        Form::Tables {
+            most: NAMED_REC_LIMIT,
+        },
+        Optional,
+    ),
     ("steps", Form::Texts, Optional),
 ];
 

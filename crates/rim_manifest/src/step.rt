@@ -10,15 +10,12 @@ use crate::names::position_of;
 use crate::value::{array, field, items};
 use crate::word::{after, are_digits, spelled};
 use refusal::NoMemory;
-use rim_launch::{Item, Rec, Region, Step, default_steps};
+use rim_launch::{Item, REGION_LIMIT, Rec, Region, Step, default_steps};
 use std::alloc::{AllocError, Global};
 use toml::Value;
 
 /// The most digits of a number in a step: no launch has 10,000 regions or RECs.
 const MOST_DIGITS: usize = 4;
-
-/// A region that no launch has.
-const NO_REGION: usize = 64;
 
 /// Reads the steps of a launch that has these regions, items and RECs. A text that spells no step reads as the
 /// step of a region that no launch has.
@@ -49,9 +46,9 @@ pub fn step(tables: &[Value], text: &Value) -> Step
 {
     match text {
         Value::String(text) => spelled_step(tables, text.as_bytes()).unwrap_or(Step::Ram(
-            NO_REGION,
+            REGION_LIMIT,
         )),
-        _ => Step::Ram(NO_REGION),
+        _ => Step::Ram(REGION_LIMIT),
     }
 }
 

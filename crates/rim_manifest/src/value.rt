@@ -99,7 +99,7 @@ pub fn algorithm(table: &Value, key: &str) -> Algo
     ensures { result ≡ algorithm_in (get key.now (view table.now)) }
 {
     match field(table, key) {
-        Some(Value::String(text)) if text.as_str() == "sha512" => Algo::Sha512,
+        Some(Value::String(text)) if text.as_str() == Algo::Sha512.word() => Algo::Sha512,
         _ => Algo::Sha256,
     }
 }

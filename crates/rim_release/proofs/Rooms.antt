@@ -21,7 +21,7 @@ use Rattle.page_jobs.specs.Table.{TableView}
 use Rattle.rim_chain.specs.Links.{PlanView, chain_of, parts_of}
 use Rattle.rim_chain.specs.Rows.{value_in}
 use Rattle.rim_manifest.specs.Launches.{NamedData}
-use Rattle.rim_release.specs.Report.{algo_word, digest_bytes, line_with, report_with, rim_text}
+use Rattle.rim_release.specs.Report.{spaced_word, digest_bytes, line_with, report_with, rim_text}
 use Rattle.rim_release.specs.inside.Chains.{outcomes_of}
 use Rattle.rim_release.specs.inside.Lines.{lines_with}
 use Rattle.rim_release.specs.declared.audit_fault.AuditFault.{AuditFault}
@@ -69,8 +69,8 @@ digest-size Sha512 some other a b = a ∙ sym b
 
 text-size : (algo : Algo) (some other : List ℕ) → length some ≡ 64 → length other ≡ 64 → length (rim_text algo some) ≡ length (rim_text algo other)
 text-size algo some other a b =
-    let one = length-append (algo_word algo) (encode_lower (digest_bytes algo some)) in
-    let two = length-append (algo_word algo) (encode_lower (digest_bytes algo other)) in
+    let one = length-append (spaced_word algo) (encode_lower (digest_bytes algo some)) in
+    let two = length-append (spaced_word algo) (encode_lower (digest_bytes algo other)) in
     omega (arith, one, two, length-encode_with lower_digits (digest_bytes algo some), length-encode_with lower_digits (digest_bytes algo other), digest-size algo some other a b)
 
 line-size : (l : NamedData) (some other : List ℕ) → length some ≡ 64 → length other ≡ 64 → length (line_with l (Ok some)) ≡ length (line_with l (Ok other))

@@ -15,6 +15,7 @@ use Rattle.ipa_layout.specs.declared.placed.PlacedItem.{PlacedItem}
 use Rattle.rmi_list.specs.Measured.{contents, page_base, step_parts}
 use Rattle.rim_release.specs.Accepted.{accepted_of}
 use Rattle.rim_release.specs.declared.audit_fault.AuditFault.{AuditFault}
+use Rattle.rim_desc.specs.declared.page.TheConstants.{PAGE_SIZE}
 
 -- which item of a launch is its devicetree, if it has one
 abbrev pub devicetree_number : LaunchData → Option ℕ
@@ -31,7 +32,7 @@ devicetree_of l files = accepted_of l files >>= λ p. Ok (devicetree_in l files 
 -- the measured parts of an item that has these bytes, page by page
 abbrev pub parts_of_bytes : Algo → PlacedItem → List ℕ → List Part
 parts_of_bytes algo item bytes =
-    map (λ k. Data (page_base item + 4096 * k) (if item.measured then Some (measurement_of algo (page_bytes item.lead bytes k)) else None)) (range_with_len 0 item.pages)
+    map (λ k. Data (page_base item + PAGE_SIZE * k) (if item.measured then Some (measurement_of algo (page_bytes item.lead bytes k)) else None)) (range_with_len 0 item.pages)
 
 -- what the step of the devicetree adds to the launch's measured parts is measured of these bytes
 pub record IsMeasuredDevicetree (files : List (List ℕ)) (l : LaunchData) (p : PlacedData) (bytes : List ℕ) : Type 0 where

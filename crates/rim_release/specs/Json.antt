@@ -5,16 +5,12 @@ use Rattle.serde_json.specs.Data.{Data, array, member, Members, no_members, numb
 use Rattle.serde_json.specs.View.{items_of}
 use Rattle.serde_json.specs.Written.{compact_text}
 use Rattle.rim_desc.specs.declared.measurement.Algo.{Algo}
-use Rattle.rim_desc.specs.declared.measurement.Algo.TheVariants.{Sha256, Sha512}
 use Rattle.rim_manifest.specs.Launches.{NamedData}
 use Rattle.rim_release.specs.AuditFaults.{audit_kind_of}
 use Rattle.rim_release.specs.Pages.{page_keys}
 use Rattle.rim_release.specs.Report.{digest_bytes, outcomes_for}
 use Rattle.rim_release.specs.declared.audit_fault.AuditFault.{AuditFault}
-
-abbrev pub algo_name : Algo → List ℕ
-algo_name Sha256 = codes "sha256"
-algo_name Sha512 = codes "sha512"
+use Rattle.rim_desc.specs.Measurement.{algo_word}
 
 -- what came of a launch: the measurement with two lower case hexadecimal digits for each byte of the digest, or why it is refused
 abbrev pub outcome_member : Algo → Result (List ℕ) AuditFault → Members
@@ -24,7 +20,7 @@ outcome_member algo (Err fault) = member (codes "refused") (string (audit_kind_o
 -- a launch of which this came; members are in the order of their keys
 unfoldable pub launch_json : NamedData → Result (List ℕ) AuditFault → Data
 launch_json l outcome =
-    object (member (codes "algorithm") (string (algo_name l.launch.config.algo)) (member (codes "name") (string l.name) (outcome_member l.launch.config.algo outcome)))
+    object (member (codes "algorithm") (string (algo_word l.launch.config.algo)) (member (codes "name") (string l.name) (outcome_member l.launch.config.algo outcome)))
 
 -- each launch with what came of it
 abbrev pub launches_json : List NamedData → List (Result (List ℕ) AuditFault) → List Data

@@ -14,10 +14,6 @@ use Rattle.rim_release.specs.Accepted.{accepted_of}
 use Rattle.rim_release.specs.Plans.{places_of}
 use Rattle.rim_release.specs.declared.audit_fault.AuditFault.{AuditFault}
 
--- the most different measured pages of a release
-abbrev pub page_limit : ℕ
-page_limit = 1048576
-
 -- the keys of the measured pages of a launch that is accepted; one that is refused has none
 abbrev pub keys_at : LaunchData → Result PlacedData AuditFault → List PageKey
 keys_at l (Ok p) = measured_keys l p

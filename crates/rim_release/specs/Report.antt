@@ -10,15 +10,17 @@ use Rattle.rim_desc.specs.declared.measurement.Algo.TheVariants.{Sha256, Sha512}
 use Rattle.rim_manifest.specs.Launches.{NamedData}
 use Rattle.rim_release.specs.Accepted.{accepted_of, rim_for}
 use Rattle.rim_release.specs.AuditFaults.{audit_kind_of}
-use Rattle.rim_release.specs.Pages.{page_keys, page_limit}
+use Rattle.rim_release.specs.Pages.{page_keys}
 use Rattle.rim_release.specs.declared.audit_fault.AuditFault.{AuditFault}
 use Rattle.rim_release.specs.declared.fault.StartFault.{StartFault}
 use Rattle.rim_release.specs.declared.fault.StartFault.TheVariants.{TooManyPages, Workers}
+use Rattle.rim_release.specs.declared.pages.TheConstants.{DISTINCT_LIMIT}
+use Rattle.rim_desc.specs.Measurement.{algo_word}
+use Rattle.job_board.specs.declared.machine.TheConstants.{WORKER_LIMIT}
 
 -- the word of an algorithm, between spaces
-abbrev pub algo_word : Algo → List ℕ
-algo_word Sha256 = codes " sha256 "
-algo_word Sha512 = codes " sha512 "
+abbrev pub spaced_word : Algo → List ℕ
+spaced_word algo = codes " " ++ (algo_word algo ++ codes " ")
 
 -- the bytes of a measurement that are a digest
 abbrev pub digest_bytes : Algo → List ℕ → List ℕ
@@ -27,7 +29,7 @@ digest_bytes Sha512 rim = rim
 
 -- a measurement: its algorithm, and two lower case hexadecimal digits for each byte of the digest
 abbrev pub rim_text : Algo → List ℕ → List ℕ
-rim_text algo rim = algo_word algo ++ encode_lower (digest_bytes algo rim)
+rim_text algo rim = spaced_word algo ++ encode_lower (digest_bytes algo rim)
 
 -- what came of a launch, with the bytes of its measurement
 abbrev pub seen : Result Measurement AuditFault → Result (List ℕ) AuditFault
@@ -63,7 +65,7 @@ report_of files ls = report_with (lines_of files ls) (length (page_keys files ls
 
 -- a text about launches, unless these have too many different measured pages
 abbrev pub unless_too_many : List (List ℕ) → List NamedData → List ℕ → Result (List ℕ) StartFault
-unless_too_many files ls text = if nat_lt page_limit (length (page_keys files ls)) then Err TooManyPages else Ok text
+unless_too_many files ls text = if nat_lt DISTINCT_LIMIT (length (page_keys files ls)) then Err TooManyPages else Ok text
 
 -- the report, unless there are too many
 abbrev pub measured_of : List (List ℕ) → List NamedData → Result (List ℕ) StartFault
@@ -71,7 +73,7 @@ measured_of files ls = unless_too_many files ls (report_of files ls)
 
 -- whether a run may have this many workers
 abbrev pub is_crew : ℕ → Bool
-is_crew workers = nat_le 1 workers && nat_le workers 64
+is_crew workers = nat_le 1 workers && nat_le workers WORKER_LIMIT
 
 -- the report that a run of this many workers makes
 abbrev pub started_of : ℕ → List (List ℕ) → List NamedData → Result (List ℕ) StartFault

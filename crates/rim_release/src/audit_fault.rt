@@ -10,19 +10,17 @@ use refusal::NoMemory;
 use rmi_list::ListFault;
 use rtt_plan::PlanFault;
 use std::alloc::{AllocError, AllocFailed};
+use std::fmt;
 use thiserror::Error;
 
 /// Why a launch is refused: the first refusal of its layout, else of its list of commands.
 #[derive(Clone, Copy, Debug, PartialEq, Eq, Error)]
 pub enum AuditFault {
     /// It cannot be laid out. It is never `NoMemory`.
-    #[error("{}", layout_kind(*.0))]
     Layout(LayoutFault),
     /// It has no list of commands. It is never `NoMemory`.
-    #[error("{}", list_kind(*.0))]
     List(ListFault),
     /// The allocator refused a growth.
-    #[error("no-memory")]
     NoMemory,
 }
 
@@ -96,6 +94,12 @@ impl AuditFault {
             AuditFault::Layout(_) => Ok(self),
             AuditFault::List(_) => Ok(self),
         }
+    }
+}
+
+impl fmt::Display for AuditFault {
+    fn fmt<W: fmt::Write>(&self, f: &mut fmt::Formatter<W>) -> fmt::Result {
+        f.write_str(self.kind())
     }
 }
 

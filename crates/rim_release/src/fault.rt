@@ -5,19 +5,17 @@ ghost use Rattle.rim_release.specs.declared.fault.StartFault.TheVariants as star
 
 use refusal::NoMemory;
 use std::alloc::AllocError;
+use std::fmt;
 use thiserror::Error;
 
 /// Why the measuring of a release does not start.
 #[derive(Clone, Copy, Debug, PartialEq, Eq, Error)]
 pub enum StartFault {
     /// The number of workers is not 1 to 64.
-    #[error("workers")]
     Workers,
     /// The launches that are accepted have more than 1,048,576 different measured pages.
-    #[error("too-many-pages")]
     TooManyPages,
     /// The allocator refused a growth.
-    #[error("no-memory")]
     NoMemory,
 }
 
@@ -47,5 +45,11 @@ impl StartFault {
             StartFault::TooManyPages => "too-many-pages",
             StartFault::NoMemory => "no-memory",
         }
+    }
+}
+
+impl fmt::Display for StartFault {
+    fn fmt<W: fmt::Write>(&self, f: &mut fmt::Formatter<W>) -> fmt::Result {
+        f.write_str(self.kind())
     }
 }

@@ -1,13 +1,13 @@
 //! The report of a release as JSON.
 ghost use Rattle.std.specs.Prelude.{◌≡◌, IfOk, map};
 ghost use Rattle.serde_json.specs.View.{view};
-ghost use Rattle.rim_release.specs.Json.{algo_name, json_with, launch_json, launches_json, report_data};
+ghost use Rattle.rim_release.specs.Json.{json_with, launch_json, launches_json, report_data};
 ghost use Rattle.rim_release.specs.Report.{seen};
 
 use crate::audit_fault::AuditFault;
 use crate::report::digest;
 use refusal::NoMemory;
-use rim_desc::{Algo, Measurement};
+use rim_desc::Measurement;
 use rim_manifest::NamedLaunch;
 use serde_json::{Value, json};
 use std::alloc::{AllocError, Global};
@@ -71,19 +71,9 @@ fn launch_value(
     match outcome {
         Ok(rim) => {
             let digits = hex::encode(alloc, digest(algo, rim))?;
-            json!(in alloc; {"algorithm": algo_name(algo), "name": launch.name(), "rim": digits})
+            json!(in alloc; {"algorithm": algo.word(), "name": launch.name(), "rim": digits})
         }
         Err(fault) =>
-            json!(in alloc; {"algorithm": algo_name(algo), "name": launch.name(), "refused": fault.kind()}),
-    }
-}
-
-/// The name of an algorithm.
-fn algo_name(algo: Algo) -> &'static str
-    ensures { result.now ≡ algo_name algo }
-{
-    match algo {
-        Algo::Sha256 => "sha256",
-        Algo::Sha512 => "sha512",
+            json!(in alloc; {"algorithm": algo.word(), "name": launch.name(), "refused": fault.kind()}),
     }
 }

@@ -10,6 +10,7 @@ ghost use Rattle.rim_release.specs.Pages.{edited_at, source_bytes};
 ghost use Rattle.rim_release.specs.inside.Ends.{ends_of, item_ends, launch_ends, step_ends};
 ghost use Rattle.rim_chain.specs.Keys.{key_at};
 ghost use Rattle.rim_release.specs.inside.Sources.{IsUsable, pages_of};
+ghost use Rattle.rim_release.specs.declared.pages.TheConstants.{DISTINCT_LIMIT};
 
 use crate::audit_fault::AuditFault;
 use crate::fault::StartFault;
@@ -21,8 +22,8 @@ use rim_launch::{Launch, Step};
 use rim_manifest::{NamedLaunch, Release};
 use std::alloc::{AllocError, Global};
 
-/// The most different measured pages of a release.
-const MOST_PAGES: u64 = 1_048_576;
+/// The most different measured pages of a release: 1,048,576. This project's choice.
+pub(crate) const DISTINCT_LIMIT: u64 = 1_048_576;
 
 /// The different measured pages of the launches that are accepted, in the order of their keys. No byte is copied, and no
 /// page is looked at twice, however many launches measure it.
@@ -134,11 +135,11 @@ fn item_end(algo: Algo, item: &PlacedItem) -> PageKey
 
 /// How many pages some ranges have, unless these are too many.
 fn page_count(ranges: &[KeyRange]) -> Option<usize>
-    ensures { let count = sum_by (λ r. r.count) ranges.now in result ≡ (if nat_lt 1048576 count then None else Some count) }
+    ensures { let count = sum_by (λ r. r.count) ranges.now in result ≡ (if nat_lt DISTINCT_LIMIT count then None else Some count) }
 {
     let mut count = 0;
     for range in ranges {
-        if MOST_PAGES - count < range.count {
+        if DISTINCT_LIMIT - count < range.count {
             return None;
         }
         count += range.count;

@@ -10,6 +10,7 @@ ghost use Rattle.page_jobs.specs.Table.{keys_of as page_keys_of};
 ghost use Rattle.rim_chain.specs.Links.{keys_of};
 ghost use Rattle.rim_release.specs.Pages.{page_keys};
 ghost use Rattle.rim_release.specs.Report.{has_refused, is_crew, outcomes_for, seen, started_of};
+ghost use Rattle.job_board.specs.declared.machine.TheConstants.{WORKER_LIMIT};
 
 use crate::audit_fault::AuditFault;
 use crate::fault::StartFault;
@@ -17,7 +18,7 @@ use crate::measure::{Files, has_refused};
 use crate::pages::pages;
 use crate::prepare::prepare;
 use crate::sheet::{Sheet, unknown_rims};
-use job_board::{BoardState, Run};
+use job_board::{BoardState, Run, WORKER_LIMIT};
 use job_workers::{Board, Gate, run_workers};
 use page_jobs::{Page, Table};
 use refusal::NoMemory;
@@ -76,7 +77,7 @@ pub fn measure_release<G: Gate + Sync, R: Threads + Wait + Sync>(
     ensures started { IfOk result (λ o. (1 ≤ o.started) × (o.started ≤ workers)) }
     ensures unstarted { OnErr result (gate.new ≡ gate.old) }
 {
-    if !(1..=64).contains(&workers) {
+    if !(1..=WORKER_LIMIT).contains(&workers) {
         return Err(StartFault::Workers);
     }
     let launches = release.all_launches();
@@ -118,7 +119,7 @@ fn run<'a, L: Run + Send + Sync, G: Gate + Sync, R: Threads + Wait + Sync>(
 ) -> Result<Counted, NoMemory>
     requires name { blank.name ≡ L.name }
     requires parts { (blank.parts ≡ L.parts) × (blank.parts ≡ workers) }
-    requires workers { (1 ≤ workers) × (workers ≤ 64) }
+    requires workers { (1 ≤ workers) × (workers ≤ WORKER_LIMIT) }
     requires pages { map page_view pages.now ≡ L.pages }
     requires plans { plans.now ≡ L.plans }
     requires rising { IsRising (page_keys_of (map page_view pages.now)) }

@@ -1,6 +1,6 @@
 //! The report of what came of each launch of a release.
 ghost use Rattle.std.specs.Prelude.{◌≡◌, ◌≤◌, ◌++◌, IfOk, OnErr, OnOk, length, vec_capacity};
-ghost use Rattle.rim_release.specs.Report.{algo_word, digest_bytes, outcome_text, report_with, rim_text, seen};
+ghost use Rattle.rim_release.specs.Report.{digest_bytes, outcome_text, report_with, rim_text, seen};
 ghost use Rattle.rim_release.specs.inside.Lines.{HasNoRoom, line_with_outcome, lines_with};
 
 use crate::audit_fault::AuditFault;
@@ -108,19 +108,11 @@ pub fn push_rim(text: &mut Vec<u8>, algo: Algo, rim: &Measurement) -> Result<(),
     let Ok(()) = hex::encode_to_slice(digest, &mut digits[..size]) else {
         unreachable!()
     };
-    text.extend_from_slice(algo_word(algo))?;
+    text.push(b' ')?;
+    text.extend_from_slice(algo.word().as_bytes())?;
+    text.push(b' ')?;
     text.extend_from_slice(&digits[..size])?;
     Ok(())
-}
-
-/// The word of an algorithm, between spaces.
-fn algo_word(algo: Algo) -> &'static [u8]
-    ensures { result.now ≡ algo_word algo }
-{
-    match algo {
-        Algo::Sha256 => b" sha256 ",
-        Algo::Sha512 => b" sha512 ",
-    }
 }
 
 /// The bytes of a measurement that are a digest of its algorithm.

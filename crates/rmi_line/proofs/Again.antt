@@ -22,9 +22,10 @@ use Rattle.rim_desc.specs.declared.measurement.Algo.{Algo}
 use Rattle.rim_desc.specs.declared.measurement.Algo.TheVariants.{Sha256, Sha512}
 use Rattle.rim_desc.specs.declared.measurement.Measurement.{Measurement}
 use Rattle.rim_desc.specs.declared.realm.RealmParams.{RealmParams}
-use Rattle.rmi_line.specs.Line.{algo_word, content_words, line_of, realm_words, rec_words, words_of}
+use Rattle.rmi_line.specs.Line.{content_words, line_of, realm_words, rec_words, words_of}
 use Rattle.rmi_line.specs.inside.Typed.{FitBytes, FitWords, IsTyped, content_bytes}
 use Rattle.rmi_line.proofs.Spaces.{line_of-split}
+use Rattle.rim_desc.specs.Measurement.{algo_word}
 
 -- ---- what words say
 

@@ -16,7 +16,8 @@ use Rattle.rim_desc.specs.declared.command.Command.TheVariants.{Delegate, RealmC
 use Rattle.rim_desc.specs.declared.measurement.Algo.{Algo}
 use Rattle.rim_desc.specs.declared.measurement.Algo.TheVariants.{Sha256, Sha512}
 use Rattle.rim_desc.specs.declared.measurement.Measurement.{Measurement}
-use Rattle.rmi_line.specs.Line.{algo_word, content_words, line_of, words_of}
+use Rattle.rmi_line.specs.Line.{content_words, line_of, words_of}
+use Rattle.rim_desc.specs.Measurement.{algo_word}
 
 -- whether a byte is neither a space nor a newline
 abbrev pub is_inner : ℕ → Bool

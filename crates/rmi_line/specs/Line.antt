@@ -11,14 +11,9 @@ use Rattle.rim_desc.specs.Rec.{RecData}
 use Rattle.rim_desc.specs.declared.command.Command.{Command}
 use Rattle.rim_desc.specs.declared.command.Command.TheVariants.{Delegate, RealmCreate, RttCreate, InitRipas, DataCreate, RecCreate, Activate}
 use Rattle.rim_desc.specs.declared.measurement.Algo.{Algo}
-use Rattle.rim_desc.specs.declared.measurement.Algo.TheVariants.{Sha256, Sha512}
 use Rattle.rim_desc.specs.declared.measurement.Measurement.{Measurement}
 use Rattle.rim_desc.specs.declared.realm.RealmParams.{RealmParams}
-
--- a hash algorithm
-abbrev pub algo_word : Algo → List ℕ
-algo_word Sha256 = codes "sha256"
-algo_word Sha512 = codes "sha512"
+use Rattle.rim_desc.specs.Measurement.{algo_word}
 
 -- the parameters of a realm
 abbrev pub realm_words : RealmParams → List (List ℕ)

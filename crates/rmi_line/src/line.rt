@@ -2,12 +2,13 @@
 ghost use Rattle.std.specs.Prelude.{◌≡◌, ◌++◌, IfOk, OnOk};
 ghost use Rattle.std.specs.List.{flat_map};
 ghost use Rattle.rim_desc.specs.declared.command.Command.TheVariants.{DataCreate, Delegate, InitRipas, RealmCreate, RecCreate, RttCreate};
-ghost use Rattle.rmi_line.specs.Line.{algo_word, content_words, line_of};
+ghost use Rattle.rmi_line.specs.Line.{content_words, line_of};
 ghost use Rattle.rmi_line.specs.inside.Words.{spaced};
+ghost use Rattle.rim_desc.specs.Measurement.{algo_word};
 
 use crate::words::{push_address, push_addresses, push_bytes, push_number, push_word};
 use refusal::NoMemory;
-use rim_desc::{Algo, Command, Measurement, RealmParams, RecParams};
+use rim_desc::{Command, Measurement, RealmParams, RecParams};
 use std::alloc::Global;
 
 /// The line of a command, without its newline: the command's name and its other words, parted by one space.
@@ -57,7 +58,7 @@ fn realm_create(alloc: Global, rd: u64, params: &RealmParams) -> Result<Vec<u8>,
     push_number(&mut line, params.rtt_level_start)?;
     push_number(&mut line, params.rtt_num_start)?;
     push_number(&mut line, params.s2sz)?;
-    push_word(&mut line, algo_word(params.algo))?;
+    push_word(&mut line, params.algo.word().as_bytes())?;
     push_address(&mut line, params.flags)?;
     push_number(&mut line, params.sve_vl)?;
     push_number(&mut line, params.num_bps)?;
@@ -65,15 +66,6 @@ fn realm_create(alloc: Global, rd: u64, params: &RealmParams) -> Result<Vec<u8>,
     push_number(&mut line, params.pmu_num_ctrs)?;
     push_bytes(&mut line, &params.rpv)?;
     Ok(line)
-}
-
-fn algo_word(algo: Algo) -> &'static [u8]
-    ensures { result.now ≡ algo_word algo }
-{
-    match algo {
-        Algo::Sha256 => b"sha256",
-        Algo::Sha512 => b"sha512",
-    }
 }
 
 #[tactic(auto, unfolding(crate::specs::Line::line_of))]

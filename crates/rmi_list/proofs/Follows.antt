@@ -46,11 +46,12 @@ use Rattle.ipa_layout.specs.declared.rec.PlacedRec.{PlacedRec}
 use Rattle.rmi_list.specs.declared.fault.ListFault.{ListFault}
 use Rattle.rmi_list.specs.declared.fault.ListFault.TheVariants as fault
 use Rattle.rmi_list.specs.Following.{IsFollowed}
-use Rattle.rmi_list.specs.Listed.{Listing, Progress, list_item, list_named, list_rec, list_region, list_step, list_steps, listed, opening, opening_checks, opening_entries, plan_checks, pool_check, rec_limit}
+use Rattle.rmi_list.specs.Listed.{Listing, Progress, list_item, list_named, list_rec, list_region, list_step, list_steps, listed, opening, opening_checks, opening_entries, plan_checks, pool_check}
 use Rattle.rmi_list.specs.Measured.{least_level, measured, of_named, page_base, rec_part, step_parts}
 use Rattle.rmi_list.specs.RecParams.{rec_params}
 use Rattle.rmi_list.proofs.Checking.{bound, fronted, is-done, plan-off}
 use Rattle.rmi_list.proofs.Params.{good-realm}
+use Rattle.rim_desc.specs.declared.rec.TheConstants.{REC_LIMIT}
 
 -- ---- what was listed is built
 
@@ -256,7 +257,7 @@ list-is-followed l p contents entries good at =
     let checks : List (Check ListFault) = opening_checks c p.recs in
     let first = bound (unless_refused checks (opening_entries c)) _ entries at in
     let opened : opening_entries c ≡ first.0 = is-done checks (opening_entries c) (first.0) (first.1) in
-    let many : nat_lt rec_limit (length p.recs) ≡ false = off-at checks 0 fault.NoMemory (none-holds checks (opening_entries c) (first.0) (first.1)) in
+    let many : nat_lt REC_LIMIT (length p.recs) ≡ false = off-at checks 0 fault.NoMemory (none-holds checks (opening_entries c) (first.0) (first.1)) in
     let second = fronted (first.0) (list_steps l p (opening c) l.steps) entries (first.2) in
     let others : List Entry = second.0 in
     let here = opened-listed c contents in

@@ -11,11 +11,12 @@ use Rattle.ipa_layout.specs.Layout.{PlacedData}
 use Rattle.rmi_list.specs.declared.draft.Draft.{Draft}
 use Rattle.rmi_list.specs.declared.fault.ListFault.{ListFault}
 use Rattle.rmi_list.specs.declared.fault.ListFault.TheVariants as fault
-use Rattle.rmi_list.specs.Listed.{Listing, Progress, list_step, list_steps, listed, opening, opening_entries, rec_limit}
+use Rattle.rmi_list.specs.Listed.{Listing, Progress, list_step, list_steps, listed, opening, opening_entries}
 use Rattle.rmi_list.specs.inside.Drafts.{AreSpans, Grows, InPool, Makes, entries_in, progress_of}
 use Rattle.list_model.proofs.Counting.{count-append}
 use Rattle.rmi_list.proofs.Alike.{steps-alike}
 use Rattle.rmi_list.proofs.Growing.{Refuses}
+use Rattle.rim_desc.specs.declared.rec.TheConstants.{REC_LIMIT}
 
 front-front : {A E : Type 0} (xs ys : List A) (r : Result (List A) E) → with_front xs (with_front ys r) ≡ with_front (xs ++ ys) r
 front-front xs ys (Ok zs) = ap (λ all. Ok all) (sym (append_assoc xs ys zs))
@@ -41,7 +42,7 @@ pub record IsChecking (l : LaunchData) (p : PlacedData) (d : Draft) (rest : List
 
 pub too-many : (l : LaunchData) (p : PlacedData) → 512 < length p.recs → listed l p ≡ Err fault.TooManyRecs
 unfolding listed
-too-many l p many = (let on : nat_lt rec_limit (length p.recs) ≡ true = grind (arith, nat_tests) in rw on refl)
+too-many l p many = (let on : nat_lt REC_LIMIT (length p.recs) ≡ true = grind (arith, nat_tests) in rw on refl)
 
 pub begin-refused : (l : LaunchData) (p : PlacedData) (e : ListFault) → length p.recs ≤ 512
     → (e ≡ fault.NoMemory) ⊎ ((e ≡ fault.PoolEnd) × (l.config.pool_count < delegated (opening_entries l.config)))
@@ -49,7 +50,7 @@ pub begin-refused : (l : LaunchData) (p : PlacedData) (e : ListFault) → length
 unfolding listed
 begin-refused l p e few (inl memory) = inl memory
 begin-refused l p e few (inr full) =
-    let off : nat_lt rec_limit (length p.recs) ≡ false = grind (arith, nat_tests) in
+    let off : nat_lt REC_LIMIT (length p.recs) ≡ false = grind (arith, nat_tests) in
     let small : l.config.pool_count < delegated (opening_entries l.config) = full.1 in
     let on : nat_lt l.config.pool_count (0 + delegated (opening_entries l.config)) ≡ true = grind (arith, nat_tests) in
     inr (rw off (rw on (rw full.0 refl)))
@@ -58,7 +59,7 @@ pub listing-begins : (l : LaunchData) (p : PlacedData) (d : Draft) → length p.
     → progress_of d ≡ opening l.config → InPool d → AreSpans d → IsListing l p d l.steps
 unfolding listed
 listing-begins l p d few launch placed entries progress within spans =
-    let off : nat_lt rec_limit (length p.recs) ≡ false = grind (arith, nat_tests) in
+    let off : nat_lt REC_LIMIT (length p.recs) ≡ false = grind (arith, nat_tests) in
     let taken : d.taken ≡ delegated (opening_entries l.config) = ap (λ (w : Progress). w.taken) progress in
     let size : d.launch.now.config.pool_count ≡ l.config.pool_count = ap (λ (m : LaunchData). m.config.pool_count) launch in
     let room : nat_lt l.config.pool_count (0 + delegated (opening_entries l.config)) ≡ false = grind (arith, nat_tests) in

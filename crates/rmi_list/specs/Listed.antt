@@ -23,6 +23,7 @@ use Rattle.rmi_list.specs.RecParams.{rec_params}
 use Rattle.rmi_list.specs.Measured.{page_base}
 use Rattle.rmi_list.specs.declared.fault.ListFault.{ListFault}
 use Rattle.rmi_list.specs.declared.fault.ListFault.TheVariants.{Plan, PoolEnd, TooManyRecs, RecOrder, RecNotRunnable, NoMemory}
+use Rattle.rim_desc.specs.declared.rec.TheConstants.{REC_LIMIT}
 
 -- what was listed so far
 pub record Progress : Type 0 where
@@ -106,12 +107,8 @@ opening_entries c = realm_entries c.pool_base (realm_params c)
 abbrev pub opening : Config → Progress
 opening c = record { plan = nothing_planned c.s2sz c.block_level; taken = delegated (opening_entries c); num_recs = 0 }
 
--- the most RECs of a list
-abbrev pub rec_limit : ℕ
-rec_limit = 512
-
 abbrev pub opening_checks : Config → List PlacedRec → List (Check ListFault)
-opening_checks c recs = (TooManyRecs, nat_lt rec_limit (length recs)) ∷ pool_check c 0 (opening_entries c) ∷ []
+opening_checks c recs = (TooManyRecs, nat_lt REC_LIMIT (length recs)) ∷ pool_check c 0 (opening_entries c) ∷ []
 
 -- the list of a launch that has its place
 unfoldable pub listed : LaunchData → PlacedData → Result (List Entry) ListFault

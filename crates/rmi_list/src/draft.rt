@@ -7,6 +7,7 @@ ghost use Rattle.list_model.specs.inside.Acts.{act_entries, entries_of_act, entr
 ghost use Rattle.rmi_list.specs.inside.Acts.{HasRoom, HaveRoom, item_of};
 ghost use Rattle.rmi_list.specs.inside.Kept.{IsSpan};
 ghost use Rattle.rmi_list.specs.inside.Drafts.{Lists, kept_in};
+ghost use Rattle.rim_desc.specs.declared.page.TheConstants.{PAGE_SIZE};
 
 use crate::fault::ListFault;
 use crate::kept::Kept;
@@ -88,7 +89,7 @@ impl<'a> Draft<'a> {
     /// Lists `count` pages of an item, from its page `first` and the IPA `base` on, each in the next granule.
     fn pages(&mut self, base: u64, count: u64, item: ItemPages, first: u64) -> Result<(), ListFault>
         requires few { first + count ≤ 2 ^ 32 }
-        requires low { base + 4096 * count ≤ 2 ^ 47 }
+        requires low { base + PAGE_SIZE * count ≤ 2 ^ 47 }
         ensures { let pool = self.old.launch.now.config.pool_base in
             Lists self.old self.new result (entries_of_pages pool self.old.taken item.measured item.number first (granules count base)) }
     {

@@ -12,24 +12,21 @@ ghost use Rattle.list_model.specs.inside.Acts.{entries_of_pages};
 ghost use Rattle.std.specs.List.{All, sum_by};
 ghost use Rattle.rim_desc.specs.declared.realm.RealmParams.{RealmParams};
 ghost use Rattle.ipa_layout.specs.declared.rec.PlacedRec.{PlacedRec};
+ghost use Rattle.rim_desc.specs.declared.rec.TheConstants.{AUX_LIMIT, REC_LIMIT};
 
 use crate::draft::Draft;
 use crate::fault::ListFault;
 use crate::kept::Kept;
 use ipa_layout::{Placed, PlacedRec};
 use refusal::NoMemory;
-use rim_desc::{Command, Measurement, RealmParams, RecParams, rec_mpidr};
+use rim_desc::{
+    AUX_LIMIT, Command, GRANULE_SIZE, Measurement, REC_LIMIT, RealmParams, RecParams, rec_mpidr,
+};
 use rim_launch::{Launch, realm_params};
 use rmm_model::start::start_count;
 use rtt_plan::Tables;
 use std::alloc::Global;
 use std::marker::Model;
-
-/// The most RECs of a list.
-const MOST_RECS: usize = 512;
-
-/// The most auxiliary granules of a REC.
-const MOST_AUX: usize = 16;
 
 /// The commands that a host gives the monitor to build a launch's realm. The contents of measured pages are open:
 /// they are handed in where a command is asked for.
@@ -64,7 +61,7 @@ pub fn list(alloc: Global, launch: &Launch, placed: &Placed) -> Result<Plan, Lis
     requires { HasPlace launch.now placed.now }
     ensures { Answers ListFault.NoMemory (λ plan. plan) result (listed launch.now placed.now) }
 {
-    if placed.recs().len() > MOST_RECS {
+    if placed.recs().len() > REC_LIMIT {
         return Err(ListFault::TooManyRecs);
     }
     let mut draft = open(alloc, launch, placed)?;
@@ -82,7 +79,7 @@ pub fn check<'a>(alloc: Global, launch: &'a Launch, placed: &'a Placed) -> Resul
     ensures list { IfOk result (λ done. IsOk (listed launch.now placed.now)) }
     ensures fault { IfErr result (IsRefusal launch.now placed.now) }
 {
-    if placed.recs().len() > MOST_RECS {
+    if placed.recs().len() > REC_LIMIT {
         return Err(ListFault::TooManyRecs);
     }
     let mut draft = open(alloc, launch, placed)?;
@@ -121,7 +118,7 @@ fn open<'a>(alloc: Global, launch: &'a Launch, placed: &'a Placed) -> Result<Dra
 impl Plan {
     /// The plan of a list that was made.
     fn of<'a>(alloc: Global, draft: Draft<'a>) -> Result<Plan, ListFault>
-        requires recs { length draft.placed.now.recs ≤ 512 }
+        requires recs { length draft.placed.now.recs ≤ REC_LIMIT }
         requires few { delegated (entries_in draft) ≤ 2 ^ 32 }
         requires spans { All IsSpan draft.kept.items }
         ensures plan { IfOk result (λ plan. plan ≡ entries_in draft.entry) }
@@ -180,8 +177,8 @@ fn command_in(
     content: &Measurement,
 ) -> Command
     requires low { params.rtt_base < 2 ^ 48 }
-    requires aux { num_aux ≤ 16 }
-    requires few { length recs.now ≤ 512 }
+    requires aux { num_aux ≤ AUX_LIMIT }
+    requires few { length recs.now ≤ REC_LIMIT }
     requires span { IsSpan kept.now }
     requires within { offset < commands_in kept.now }
     ensures { IsCommandAt content.now (entries_of_kept params num_aux recs.now kept.now) offset result }
@@ -304,7 +301,7 @@ fn page_command(
     if offset % 2 == 0 {
         return Command::Delegate { granule };
     }
-    let ipa = ipa + 4096 * page;
+    let ipa = ipa + GRANULE_SIZE * page;
     if measured {
         Command::DataCreate {
             granule,
@@ -326,17 +323,17 @@ fn granule_at(pool: u64, number: u64) -> u64
     requires few { number < 2 ^ 33 }
     ensures { result ≡ granule pool number }
 {
-    pool + 4096 * number
+    pool + GRANULE_SIZE * number
 }
 
 /// The granules from this number of the pool on, in the first places.
-fn granules_at(pool: u64, first: u64, count: usize) -> [u64; MOST_AUX]
+fn granules_at(pool: u64, first: u64, count: usize) -> [u64; AUX_LIMIT]
     requires low { pool < 2 ^ 48 }
     requires few { first ≤ 2 ^ 32 }
-    requires count { count ≤ 16 }
+    requires count { count ≤ AUX_LIMIT }
     ensures { take count result ≡ granules count (granule pool first) }
 {
-    let mut granules = [0; MOST_AUX];
+    let mut granules = [0; AUX_LIMIT];
     for index in 0..count {
         granules[index] = granule_at(pool, first + index as u64);
     }
@@ -346,8 +343,8 @@ fn granules_at(pool: u64, first: u64, count: usize) -> [u64; MOST_AUX]
 /// The command that creates a REC of the launch, in a granule of the pool and with the auxiliary granules after it.
 fn rec_create(pool: u64, num_aux: u8, recs: &[PlacedRec], rec: u32, number: u16) -> Command
     requires low { pool < 2 ^ 48 }
-    requires aux { num_aux ≤ 16 }
-    requires few { length recs.now ≤ 512 }
+    requires aux { num_aux ≤ AUX_LIMIT }
+    requires few { length recs.now ≤ REC_LIMIT }
     ensures { Whole result ≡ rec_entry pool num_aux rec number (slice_get recs.now number) }
 {
     match recs.get(number as usize) {

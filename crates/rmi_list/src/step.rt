@@ -2,6 +2,8 @@
 ghost use Rattle.std.specs.Prelude.{◌≡◌, ◌<◌, ◌≤◌, length, Some, slice_get};
 ghost use Rattle.rmi_list.specs.Listed.{list_item, list_rec, list_region, list_step};
 ghost use Rattle.rmi_list.specs.inside.Drafts.{AreListable, Continues, InPool, progress_of};
+ghost use Rattle.rim_desc.specs.declared.rec.TheConstants.{REC_LIMIT};
+ghost use Rattle.ipa_layout.specs.declared.item_check.TheConstants.{PAGE_LIMIT};
 
 use crate::draft::{Draft, ItemPages};
 use crate::fault::ListFault;
@@ -23,7 +25,7 @@ impl<'a> Draft<'a> {
     fn item(&mut self, item: &PlacedItem, number: usize) -> Result<(), ListFault>
         requires pool { InPool self.old }
         requires number { number < 64 }
-        requires few { item.now.pages ≤ 1048576 }
+        requires few { item.now.pages ≤ PAGE_LIMIT }
         requires lead { item.now.lead ≤ item.now.address }
         ensures { Continues self.old self.new result (list_item self.old.launch.now.config (progress_of self.old) number item.now) }
     {
@@ -43,7 +45,7 @@ impl<'a> Draft<'a> {
     /// Lists a REC.
     fn rec(&mut self, rec: &PlacedRec, number: usize) -> Result<(), ListFault>
         requires pool { InPool self.old }
-        requires number { number < 512 }
+        requires number { number < REC_LIMIT }
         requires own { slice_get self.old.placed.now.recs number ≡ Some rec.now }
         ensures { Continues self.old self.new result (list_rec self.old.launch.now.config (progress_of self.old) number rec.now) }
     {
@@ -67,7 +69,7 @@ impl<'a> Draft<'a> {
     pub fn step(&mut self, step: &Step) -> Result<(), ListFault>
         requires pool { InPool self.old }
         requires items { AreListable self.old.placed.now.items }
-        requires recs { length self.old.placed.now.recs ≤ 512 }
+        requires recs { length self.old.placed.now.recs ≤ REC_LIMIT }
         ensures { Continues self.old self.new result (list_step self.old.launch.now self.old.placed.now (progress_of self.old) step.now) }
     {
         let (launch, placed) = (self.launch, self.placed);

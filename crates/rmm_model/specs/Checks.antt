@@ -23,6 +23,7 @@ use Rattle.rmm_model.specs.Start.{is_width, start_count, start_level}
 use Rattle.rmm_model.specs.Space.{Space, deeper, has, is_ram, overlaps, walk}
 use Rattle.rmm_model.specs.Owners.{all_delegated, is_delegated, kind_of, repeats}
 use Rattle.rmm_model.specs.State as monitor
+use Rattle.rim_desc.specs.declared.page.TheConstants.{PAGE_SIZE}
 
 -- the level at which the walk of an address ends
 abbrev pub walk_of : Space → ℕ → ℕ
@@ -41,7 +42,7 @@ start_tables p = granules p.rtt_num_start p.rtt_base
 abbrev pub is_bad_realm : RealmParams → Bool
 is_bad_realm p = has_other_flags p.flags || not (is_width p.s2sz)
     || not (p.rtt_level_start == start_level p.s2sz) || not (p.rtt_num_start == start_count p.s2sz)
-    || not (is_multiple (p.rtt_num_start * 4096) p.rtt_base) || nat_lt (2 ^ 64) (p.rtt_base + p.rtt_num_start * 4096)
+    || not (is_multiple (p.rtt_num_start * PAGE_SIZE) p.rtt_base) || nat_lt (2 ^ 64) (p.rtt_base + p.rtt_num_start * PAGE_SIZE)
 
 -- a SHA-256 measurement with a byte that is not zero past the first 32
 abbrev pub is_bad_content : Algo → Option Measurement → Bool
@@ -76,21 +77,21 @@ is_not_fresh s level base top = overlaps s.ram base top || deeper s.tables level
 
 abbrev pub delegate_checks : monitor.State → ℕ → List (Check Refused)
 delegate_checks s granule =
-    (Unaligned, not (is_multiple 4096 granule))
+    (Unaligned, not (is_multiple PAGE_SIZE granule))
     ∷ (NotUndelegated, is_some (kind_of s.owners granule)) ∷ []
 
 abbrev pub realm_checks : monitor.State → ℕ → RealmParams → List (Check Refused)
 realm_checks s rd p =
     (State, not (monitor.is_empty s.phase))
     ∷ (BadParams, is_bad_realm p)
-    ∷ (Unaligned, not (is_multiple 4096 rd))
+    ∷ (Unaligned, not (is_multiple PAGE_SIZE rd))
     ∷ (NotDelegated, not (is_delegated s.owners rd) || not (all_delegated s.owners (start_tables p)) || has (start_tables p) rd) ∷ []
 
 abbrev pub table_checks : monitor.State → ℕ → ℕ → ℕ → List (Check Refused)
 table_checks s rtt ipa level =
     (State, monitor.is_empty s.phase)
     ∷ (BadParams, nat_le level s.space.start || nat_lt 3 level)
-    ∷ (Unaligned, not (is_multiple 4096 rtt) || not (is_multiple (size (level - 1)) ipa))
+    ∷ (Unaligned, not (is_multiple PAGE_SIZE rtt) || not (is_multiple (size (level - 1)) ipa))
     ∷ (OutsideProtected, nat_le s.space.protected_end ipa)
     ∷ (WalkLevel, not (walk_of s.space ipa == level - 1))
     ∷ (NotDelegated, not (is_delegated s.owners rtt)) ∷ []
@@ -99,7 +100,7 @@ abbrev pub ripas_checks : monitor.State → ℕ → ℕ → List (Check Refused)
 ripas_checks s base top =
     (State, not (monitor.is_new s.phase))
     ∷ (BadParams, nat_le top base)
-    ∷ (Unaligned, not (is_multiple 4096 base) || not (is_multiple 4096 top))
+    ∷ (Unaligned, not (is_multiple PAGE_SIZE base) || not (is_multiple PAGE_SIZE top))
     ∷ (OutsideProtected, nat_lt s.space.protected_end top)
     ∷ (WalkLevel, is_cut (walk_of s.space base) base top)
     ∷ (NotFresh, is_not_fresh s.space (walk_of s.space base) base top) ∷ []
@@ -108,7 +109,7 @@ abbrev pub data_checks : monitor.State → ℕ → ℕ → Option Measurement �
 data_checks s granule ipa content =
     (State, not (monitor.is_new s.phase))
     ∷ (BadParams, is_bad_content (monitor.algo_of s.params) content)
-    ∷ (Unaligned, not (is_multiple 4096 granule) || not (is_multiple 4096 ipa))
+    ∷ (Unaligned, not (is_multiple PAGE_SIZE granule) || not (is_multiple PAGE_SIZE ipa))
     ∷ (OutsideProtected, nat_le s.space.protected_end ipa)
     ∷ (WalkLevel, not (walk_of s.space ipa == 3))
     ∷ (NotRam, not (is_ram s.space.ram ipa))
@@ -119,7 +120,7 @@ abbrev pub rec_checks : monitor.State → ℕ → RecData → List (Check Refuse
 rec_checks s rec r =
     (State, not (monitor.is_new s.phase))
     ∷ (BadParams, is_bad_rec r)
-    ∷ (Unaligned, not (is_multiple 4096 rec) || not (list_all (is_multiple 4096) r.aux))
+    ∷ (Unaligned, not (is_multiple PAGE_SIZE rec) || not (list_all (is_multiple PAGE_SIZE) r.aux))
     ∷ (RecIndex, not (rec_index r.mpidr == s.num_recs))
     ∷ (AuxCount, not (length r.aux == s.num_aux))
     ∷ (NotDelegated, not (all_delegated s.owners (rec ∷ r.aux)) || repeats (rec ∷ r.aux)) ∷ []

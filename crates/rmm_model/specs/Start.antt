@@ -1,10 +1,11 @@
 -- The start tables of a realm. DEN0137, RmiRealmParams, leaves a choice of level and number for some
 -- widths; the one below, with at most 16 tables side by side, is this project's.
 use Rattle.std.specs.Prelude.{ℕ, ◌+◌, ◌-◌, ◌*◌, ◌^◌, ◌&&◌, Bool, nat_le, if◌then◌else◌, Option, Some, None}
+use Rattle.rmm_model.specs.declared.start.TheConstants.{LEAST_WIDTH, MOST_WIDTH}
 
 -- the widths of an IPA, in bits, that a realm may have
 abbrev pub is_width : ℕ → Bool
-is_width s2sz = nat_le 32 s2sz && nat_le s2sz 48
+is_width s2sz = nat_le LEAST_WIDTH s2sz && nat_le s2sz MOST_WIDTH
 
 -- the level of the start tables
 abbrev pub start_level : ℕ → ℕ

@@ -17,6 +17,7 @@ ghost use Rattle.rmm_model.specs.Owners.{give, kind_of, repeats};
 ghost use Rattle.rmm_model.specs.Step.{step};
 ghost use Rattle.rmm_model.specs.Run.{accepted, run, shown, taken};
 ghost use Rattle.rmm_model.specs.Listing.{before_tables, table_of_level_3, with_tables, worked_listing, worked_parts};
+ghost use Rattle.rim_desc.specs.declared.page.TheConstants.{PAGE_SIZE};
 
 /// The worked list of commands is accepted, measures the realm and three parts more, and leaves six
 /// granules with a kind.
@@ -132,6 +133,6 @@ pub fn addresses_decide_ranges()
 
 /// Granules, or pages, side by side: number k begins 4096 * k bytes after the first, and no two are one.
 pub fn granules_are_side_by_side()
-    ensures places { (n x : ℕ) → granules n x ≡ map (λ k. x + 4096 * k) (range_with_len 0 n) }
+    ensures places { (n x : ℕ) → granules n x ≡ map (λ k. x + PAGE_SIZE * k) (range_with_len 0 n) }
     ensures apart { (n x : ℕ) → repeats (granules n x) ≡ false }
 {}

@@ -2,6 +2,9 @@
 ghost use Rattle.std.specs.Prelude.{◌≡◌, ◌<◌, ◌≤◌, ◌^◌};
 ghost use Rattle.rmm_model.specs.Blocks.{down, size, span};
 
+/// The entries of a table: 512 (DEN0137, "RTT levels", for granules of 4096 bytes).
+pub const TABLE_ENTRIES: u64 = 512;
+
 /// The bytes that an entry of a level covers.
 pub fn size_of_level(level: u8) -> u64
     ensures value { result ≡ size level }
@@ -22,7 +25,7 @@ pub fn span_of_level(level: u8) -> u64
     ensures some { 0 < result }
     ensures most { result ≤ 2 ^ 48 }
 {
-    size_of_level(level) * 512
+    size_of_level(level) * TABLE_ENTRIES
 }
 
 /// The first address that a table of a level covers where it covers an IPA.

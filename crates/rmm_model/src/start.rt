@@ -2,11 +2,17 @@
 ghost use Rattle.std.specs.Prelude.{◌≡◌, ◌<◌, ◌≤◌, ◌^◌, true};
 ghost use Rattle.rmm_model.specs.Start.{is_width, protected_end, start_count, start_level};
 
+/// The least width of an IPA that a realm may have, in bits: 32. This project's choice.
+pub const LEAST_WIDTH: u8 = 32;
+
+/// The most bits of an IPA that a realm may have: 48, since it has no LPA2 (DEN0137, RmiRealmFlags).
+pub const MOST_WIDTH: u8 = 48;
+
 /// Whether a realm may have IPAs of this many bits.
 pub fn is_width(s2sz: u8) -> bool
     ensures { result ≡ is_width s2sz }
 {
-    32 <= s2sz && s2sz <= 48
+    LEAST_WIDTH <= s2sz && s2sz <= MOST_WIDTH
 }
 
 /// The level of the start tables.

@@ -9,6 +9,7 @@ ghost use Rattle.rmm_model.specs.Space.{has};
 ghost use Rattle.rmm_model.specs.Step.{step};
 ghost use Rattle.rmm_monitor.specs.Growth.{adds_something};
 ghost use Rattle.rmm_monitor.specs.inside.Owned.{all_owned};
+ghost use Rattle.rim_desc.specs.declared.rec.TheConstants.{AUX_LIMIT};
 
 use crate::measuring::{
     algo_of, extended_by_data, extended_by_rec, extended_by_stretches, measured_so_far,
@@ -19,7 +20,7 @@ use crate::parameters::{
     start_tables,
 };
 use crate::space::IpaSpace;
-use rim_desc::{Command, Measurement, RealmParams, RecParams, hash, realm_page};
+use rim_desc::{Command, GRANULE_SIZE, Measurement, RealmParams, RecParams, hash, realm_page};
 use rmm_model::size::size_of_level;
 use rmm_model::start::protected_end;
 use rmm_model::{Kind, Phase, Refused};
@@ -52,7 +53,7 @@ impl Model for Monitor {
 impl Monitor {
     /// A monitor without a realm, whose RECs have `num_aux` auxiliary granules each. It takes no memory.
     pub fn new(alloc: Global, num_aux: u8) -> Monitor
-        requires { num_aux ≤ 16 }
+        requires { num_aux ≤ AUX_LIMIT }
         ensures { result ≡ empty_state num_aux }
     {
         Monitor {
@@ -91,7 +92,7 @@ impl Monitor {
     fn delegate(&mut self, granule: u64) -> Result<(), Refused>
         ensures { Applies Refused.NoMemory self.old self.new result (step self.old (Delegate granule)) }
     {
-        if granule % 4096 != 0 {
+        if granule % GRANULE_SIZE != 0 {
             return Err(Refused::Unaligned);
         }
         if self.owners.kind_of(granule).is_some() {
@@ -110,7 +111,7 @@ impl Monitor {
         if level <= self.space.start() || level > 3 {
             return Err(Refused::BadParams);
         }
-        if rtt % 4096 != 0 || ipa % size_of_level(level - 1) != 0 {
+        if rtt % GRANULE_SIZE != 0 || ipa % size_of_level(level - 1) != 0 {
             return Err(Refused::Unaligned);
         }
         if ipa >= self.space.protected_end() {
@@ -137,7 +138,7 @@ impl Monitor {
         if is_bad_realm(params) {
             return Err(Refused::BadParams);
         }
-        if rd % 4096 != 0 {
+        if rd % GRANULE_SIZE != 0 {
             return Err(Refused::Unaligned);
         }
         let places = start_tables(params.rtt_base, params.rtt_num_start);
@@ -167,7 +168,7 @@ impl Monitor {
         if top <= base {
             return Err(Refused::BadParams);
         }
-        if base % 4096 != 0 || top % 4096 != 0 {
+        if base % GRANULE_SIZE != 0 || top % GRANULE_SIZE != 0 {
             return Err(Refused::Unaligned);
         }
         if top > self.space.protected_end() {
@@ -203,7 +204,7 @@ impl Monitor {
         if is_bad_content(algo, content) {
             return Err(Refused::BadParams);
         }
-        if granule % 4096 != 0 || ipa % 4096 != 0 {
+        if granule % GRANULE_SIZE != 0 || ipa % GRANULE_SIZE != 0 {
             return Err(Refused::Unaligned);
         }
         if ipa >= self.space.protected_end() {
@@ -238,7 +239,7 @@ impl Monitor {
             return Err(Refused::BadParams);
         }
         let aux = params.aux();
-        if rec % 4096 != 0 || !all_aligned(aux) {
+        if rec % GRANULE_SIZE != 0 || !all_aligned(aux) {
             return Err(Refused::Unaligned);
         }
         if rec_index(params.mpidr()) != self.num_recs {

@@ -7,8 +7,9 @@ ghost use Rattle.rmm_model.specs.Start.{is_width};
 ghost use Rattle.rmm_model.specs.Checks.{has_other_flags, is_bad_content, is_bad_realm, is_bad_rec, is_cut, rec_index};
 ghost use Rattle.rmm_model.specs.Owners.{repeats};
 ghost use Rattle.rmm_model.specs.Space.{has};
+ghost use Rattle.rim_desc.specs.declared.page.TheConstants.{PAGE_SIZE};
 
-use rim_desc::{Algo, Measurement, RealmParams, RecParams};
+use rim_desc::{Algo, GRANULE_SIZE, Measurement, RealmParams, RecParams};
 use rmm_model::size::{size_of_level, span_of_level, table_base};
 use rmm_model::start::{is_width, start_count, start_level};
 
@@ -21,7 +22,7 @@ pub fn is_bad_realm(params: &RealmParams) -> bool
     ensures width { OnFalse result (is_width params.now.s2sz ≡ true) }
     ensures start { OnFalse result (params.now.rtt_level_start ≤ 2) }
     ensures few { OnFalse result (params.now.rtt_num_start ≤ 16) }
-    ensures fits { OnFalse result (params.now.rtt_base + params.now.rtt_num_start * 4096 ≤ 2 ^ 64) }
+    ensures fits { OnFalse result (params.now.rtt_base + params.now.rtt_num_start * PAGE_SIZE ≤ 2 ^ 64) }
 {
     let is_unlike = has_other_flags(params.flags) || !is_width(params.s2sz);
     if is_unlike || params.rtt_level_start != start_level(params.s2sz) {
@@ -31,7 +32,7 @@ pub fn is_bad_realm(params: &RealmParams) -> bool
     if u64::from(params.rtt_num_start) != count {
         return true;
     }
-    let bytes = count * 4096;
+    let bytes = count * GRANULE_SIZE;
     params.rtt_base % bytes != 0 || params.rtt_base > u64::MAX - (bytes - 1)
 }
 
@@ -45,12 +46,12 @@ fn has_other_flags(flags: u64) -> bool
 /// The granules of some start tables, at most 16, and zeros after them.
 pub fn start_tables(base: u64, count: u8) -> [u64; START_LIMIT]
     requires few { count ≤ 16 }
-    requires fits { base + count * 4096 ≤ 2 ^ 64 }
+    requires fits { base + count * PAGE_SIZE ≤ 2 ^ 64 }
     ensures { take count result ≡ granules count base }
 {
     let mut tables = [0; START_LIMIT];
     for index in 0..count {
-        tables[index as usize] = base + u64::from(index) * 4096;
+        tables[index as usize] = base + u64::from(index) * GRANULE_SIZE;
     }
     tables
 }
@@ -125,7 +126,7 @@ pub fn has(granules: &[u64], granule: u64) -> bool
 
 /// Whether all these addresses are multiples of a granule's bytes.
 pub fn all_aligned(granules: &[u64]) -> bool
-    ensures { result ≡ list_all (is_multiple 4096) granules.now }
+    ensures { result ≡ list_all (is_multiple PAGE_SIZE) granules.now }
 {
-    granules.iter().all(|granule| *granule % 4096 == 0)
+    granules.iter().all(|granule| *granule % GRANULE_SIZE == 0)
 }

@@ -11,8 +11,9 @@ use Rattle.refusal.specs.Checks.{Check, unless_refused}
 use Rattle.rtt_plan.specs.declared.act.Act.{Act}
 use Rattle.rtt_plan.specs.declared.fault.PlanFault.TheVariants as fault
 use Rattle.rtt_plan.specs.Accepted.{AcceptsData, AcceptsRegion}
-use Rattle.rtt_plan.specs.Planned.{Planned, data_acts, data_checks, entry_count, entry_limit, plan_data, plan_region, region_acts, region_checks}
+use Rattle.rtt_plan.specs.Planned.{Planned, data_acts, data_checks, entry_count, plan_data, plan_region, region_acts, region_checks}
 use Rattle.rtt_plan.proofs.Fits.{whole-region}
+use Rattle.rtt_plan.specs.declared.counting.TheConstants.{ENTRY_LIMIT}
 
 -- an answer is what was asked for
 done-is : {A Refusal : Type 0} (checks : List (Check Refusal)) (done answer : A) → unless_refused checks done ≡ Ok answer → answer ≡ done
@@ -36,7 +37,7 @@ region-accepted p base end off =
       inside = not-above p.space.protected_end end (off-at checks 0 fault.NoMemory off);
       whole = whole-region base end (whole-from base ends.0) (whole-from end ends.1);
       fresh = off-at checks 2 fault.NoMemory off;
-      few = not-above entry_limit (p.entries + entry_count p base end) (off-at checks 3 fault.NoMemory off);
+      few = not-above ENTRY_LIMIT (p.entries + entry_count p base end) (off-at checks 3 fault.NoMemory off);
     }
 
 pub data-accepted : (p : Planned) (base count : ℕ) → holds (data_checks p base count) ≡ false → AcceptsData p base count

@@ -3,6 +3,7 @@
 use Rattle.std.specs.Prelude.{ℕ, zero, suc, ◌+◌, ◌-◌, ◌/◌, ◌&&◌, ◌==◌, nat_le, Bool, List, if◌then◌else◌}
 use Rattle.std.specs.List.{filter}
 use Rattle.rmm_model.specs.Blocks.{down, granules, size}
+use Rattle.rim_desc.specs.declared.page.TheConstants.{PAGE_SIZE}
 
 -- whether the block of a level that holds x lies wholly in the region from base to end
 abbrev pub fits : ℕ → ℕ → ℕ → ℕ → Bool
@@ -23,7 +24,7 @@ is_first base end least_level x = down (size (block_level base end least_level x
 
 -- the pages from x to end that are the first of their own block, rising
 abbrev pub entries_from : ℕ → ℕ → ℕ → ℕ → List ℕ
-entries_from base end least_level x = filter (is_first base end least_level) (granules ((end - x) / 4096) x)
+entries_from base end least_level x = filter (is_first base end least_level) (granules ((end - x) / PAGE_SIZE) x)
 
 -- the entries of a region
 abbrev pub entries : ℕ → ℕ → ℕ → List ℕ

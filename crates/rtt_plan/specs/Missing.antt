@@ -8,6 +8,7 @@ use Rattle.rmm_model.specs.declared.table.Table.{Table}
 use Rattle.rtt_plan.specs.declared.act.Act.{Act}
 use Rattle.rtt_plan.specs.declared.act.Act.TheVariants as act
 use Rattle.rtt_plan.specs.declared.run.Run.{Run}
+use Rattle.rim_desc.specs.declared.page.TheConstants.{PAGE_SIZE}
 
 -- the tables of the n levels below level j that cover x
 unfoldable pub needed : ℕ → ℕ → ℕ → List Table
@@ -47,7 +48,7 @@ put_page x [] = act.Pages x 1 ∷ []
 put_page x (act.Table base level ∷ acts) = act.Pages x 1 ∷ act.Table base level ∷ acts
 put_page x (act.Run base top level ∷ acts) = act.Pages x 1 ∷ act.Run base top level ∷ acts
 put_page x (act.Pages base count ∷ acts) =
-    if base == x + 4096 && base / span 3 == x / span 3 then act.Pages x (suc count) ∷ acts
+    if base == x + PAGE_SIZE && base / span 3 == x / span 3 then act.Pages x (suc count) ∷ acts
     else act.Pages x 1 ∷ act.Pages base count ∷ acts
 
 -- the acts that put data at some pages: the longest groups of neighbouring pages in one level 3 table, before each the

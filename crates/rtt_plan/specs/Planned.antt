@@ -13,6 +13,8 @@ use Rattle.rtt_plan.specs.Entries as region
 use Rattle.rtt_plan.specs.Runs.{runs_of}
 use Rattle.rtt_plan.specs.Agreement.{IsFormed, IsUsed}
 use Rattle.rtt_plan.specs.Missing.{page_acts, page_tables, run_acts, run_tables}
+use Rattle.rim_desc.specs.declared.page.TheConstants.{PAGE_SIZE}
+use Rattle.rtt_plan.specs.declared.counting.TheConstants.{ENTRY_LIMIT}
 
 pub record Planned : Type 0 where
   pub space : Space
@@ -33,10 +35,6 @@ nothing_planned s2sz block_level = record {
   entries = 0;
 }
 
--- the most entries of a launch. This project's choice
-abbrev pub entry_limit : ℕ
-entry_limit = 4194304
-
 -- how many entries a region has
 abbrev pub entry_count : Planned → ℕ → ℕ → ℕ
 entry_count p base end = length (region.entries base end p.least_level)
@@ -44,9 +42,9 @@ entry_count p base end = length (region.entries base end p.least_level)
 abbrev pub region_checks : Planned → ℕ → ℕ → List (Check PlanFault)
 region_checks p base end =
     (OutsideProtected, nat_lt p.space.protected_end end)
-    ∷ (Unaligned, not (is_multiple 4096 base) || not (is_multiple 4096 end))
+    ∷ (Unaligned, not (is_multiple PAGE_SIZE base) || not (is_multiple PAGE_SIZE end))
     ∷ (RipasTwice, overlaps p.space.ram base end)
-    ∷ (TooManyEntries, nat_lt entry_limit (p.entries + entry_count p base end)) ∷ []
+    ∷ (TooManyEntries, nat_lt ENTRY_LIMIT (p.entries + entry_count p base end)) ∷ []
 
 abbrev pub region_acts : Planned → ℕ → ℕ → List Act
 region_acts p base end = run_acts p.space.start p.space.tables (runs_of base end p.least_level)
@@ -57,8 +55,8 @@ plan_region p base end = unless_refused (region_checks p base end) (region_acts 
 
 abbrev pub data_checks : Planned → ℕ → ℕ → List (Check PlanFault)
 data_checks p base count =
-    (OutsideProtected, nat_lt p.space.protected_end (base + 4096 * count))
-    ∷ (Unaligned, not (is_multiple 4096 base))
+    (OutsideProtected, nat_lt p.space.protected_end (base + PAGE_SIZE * count))
+    ∷ (Unaligned, not (is_multiple PAGE_SIZE base))
     ∷ (NotRam, not (list_all (is_ram p.space.ram) (granules count base)))
     ∷ (DataTwice, list_any (has p.space.assigned) (granules count base)) ∷ []
 

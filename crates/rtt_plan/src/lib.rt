@@ -16,6 +16,7 @@ pub mod start;
 pub mod tables;
 
 pub use act::Act;
+pub use counting::ENTRY_LIMIT;
 pub use fault::PlanFault;
 pub use longest::run_from;
 pub use run::Run;

@@ -6,11 +6,13 @@ ghost use Rattle.rtt_plan.specs.Places.{IsRegion};
 ghost use Rattle.rtt_plan.specs.Runs.{runs_of};
 ghost use Rattle.rtt_plan.specs.Missing.{page_acts, page_tables, run_acts, run_tables};
 ghost use Rattle.rtt_plan.specs.inside.Undone.{undone};
+ghost use Rattle.rim_desc.specs.declared.page.TheConstants.{PAGE_SIZE};
 
 use crate::act::Act;
 use crate::longest::run_from;
 use crate::missing::push_missing;
 use refusal::NoMemory;
+use rim_desc::GRANULE_SIZE;
 use rmm_model::Table;
 use rmm_model::size::{span_of_level, table_base};
 use std::collections::BTreeSet;
@@ -56,8 +58,8 @@ pub fn push_data(
     base: u64,
     count: u64,
 ) -> Result<(), NoMemory>
-    requires whole { base % 4096 ≡ 0 }
-    requires small { base + 4096 * count ≤ 2 ^ 47 }
+    requires whole { base % PAGE_SIZE ≡ 0 }
+    requires small { base + PAGE_SIZE * count ≤ 2 ^ 47 }
     requires deep { start ≤ 3 }
     ensures undone { undone acts.new.items tables.new.keys ≡ undone acts.old.items tables.old.keys }
     ensures acts { OnOk result (acts.new.items ≡ acts.old.items ++ page_acts start tables.old.keys (granules count base)) }
@@ -67,13 +69,13 @@ pub fn push_data(
     let mut left = count;
     while left > 0 {
         push_missing(tables, acts, start, 3, page)?;
-        let in_table = (table_base(3, page) + span_of_level(3) - page) / 4096;
+        let in_table = (table_base(3, page) + span_of_level(3) - page) / GRANULE_SIZE;
         let group = in_table.min(left);
         acts.push(Act::Pages {
             base: page,
             count: group,
         })?;
-        page += 4096 * group;
+        page += GRANULE_SIZE * group;
         left -= group;
     }
     Ok(())

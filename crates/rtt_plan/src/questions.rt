@@ -5,7 +5,9 @@ ghost use Rattle.rmm_model.specs.Blocks.{down, granules, span};
 ghost use Rattle.rmm_model.specs.Space.{ArePlaced, has, is_ram, made, overlaps, walk};
 ghost use Rattle.rmm_model.specs.Apart.{are_apart};
 ghost use Rattle.rtt_plan.specs.inside.PageRanges.{IsRamTo, are_pages, pages_of};
+ghost use Rattle.rim_desc.specs.declared.page.TheConstants.{PAGE_SIZE};
 
+use rim_desc::GRANULE_SIZE;
 use rmm_model::Table;
 use rmm_model::size::table_base;
 use std::collections::{BTreeMap, BTreeSet};
@@ -63,20 +65,20 @@ fn ram_end(ram: &BTreeMap<u64, u64>, ipa: u64) -> Option<u64>
 
 /// Whether `count` pages from `base` on end past an address.
 pub fn ends_past(end: u64, base: u64, count: u64) -> bool
-    ensures { result ≡ nat_lt end (base + 4096 * count) }
+    ensures { result ≡ nat_lt end (base + PAGE_SIZE * count) }
 {
-    base > end || (end - base) / 4096 < count
+    base > end || (end - base) / GRANULE_SIZE < count
 }
 
 /// Whether `count` pages from `base` on are all RAM. It goes from range to range, and no page is visited.
 pub fn all_ram(ram: &BTreeMap<u64, u64>, base: u64, count: u64) -> bool
     requires apart { are_apart 0 ram.now.entries ≡ true }
     requires whole { are_pages ram.now.entries ≡ true }
-    requires at { base % 4096 ≡ 0 }
-    requires small { base + 4096 * count ≤ 2 ^ 47 }
+    requires at { base % PAGE_SIZE ≡ 0 }
+    requires small { base + PAGE_SIZE * count ≤ 2 ^ 47 }
     ensures { result ≡ list_all (is_ram ram.now.entries) (granules count base) }
 {
-    let end = base + 4096 * count;
+    let end = base + GRANULE_SIZE * count;
     let mut x = base;
     while x < end {
         match ram_end(ram, x) {
@@ -91,10 +93,10 @@ pub fn all_ram(ram: &BTreeMap<u64, u64>, base: u64, count: u64) -> bool
 pub fn any_assigned(assigned: &BTreeMap<u64, u64>, base: u64, count: u64) -> bool
     requires apart { are_apart 0 assigned.now.entries ≡ true }
     requires whole { are_pages assigned.now.entries ≡ true }
-    requires at { base % 4096 ≡ 0 }
+    requires at { base % PAGE_SIZE ≡ 0 }
     requires some { 1 ≤ count }
-    requires small { base + 4096 * count ≤ 2 ^ 47 }
+    requires small { base + PAGE_SIZE * count ≤ 2 ^ 47 }
     ensures { result ≡ list_any (has (pages_of assigned.now.entries)) (granules count base) }
 {
-    overlaps(assigned, base, base + 4096 * count)
+    overlaps(assigned, base, base + GRANULE_SIZE * count)
 }

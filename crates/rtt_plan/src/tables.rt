@@ -11,6 +11,7 @@ ghost use Rattle.rtt_plan.specs.Planned.{AgreesWith, after_data, after_region, n
 ghost use Rattle.rtt_plan.specs.Runs.{runs_of};
 ghost use Rattle.rtt_plan.specs.Missing.{page_acts, page_tables, run_acts, run_tables};
 ghost use Rattle.rtt_plan.specs.inside.PageRanges.{with_pages};
+ghost use Rattle.rim_desc.specs.declared.page.TheConstants.{PAGE_SIZE};
 
 use crate::act::Act;
 use crate::counting::total_entries;
@@ -19,6 +20,7 @@ use crate::missing::take_back;
 use crate::planning::{push_data, push_region};
 use crate::questions::{all_ram, any_assigned, ends_past, overlaps, walk_level};
 use refusal::NoMemory;
+use rim_desc::GRANULE_SIZE;
 use rmm_model::Table;
 use rmm_model::start::{protected_end, start_level};
 use std::alloc::Global;
@@ -95,7 +97,7 @@ impl Tables {
         if end > self.protected_end {
             return Err(PlanFault::OutsideProtected);
         }
-        if base % 4096 != 0 || end % 4096 != 0 {
+        if base % GRANULE_SIZE != 0 || end % GRANULE_SIZE != 0 {
             return Err(PlanFault::Unaligned);
         }
         if overlaps(&self.ram, base, end) {
@@ -127,13 +129,13 @@ impl Tables {
         ensures acts { Answers PlanFault.NoMemory (λ acts. acts.items) result (plan_data self.old base count) }
         ensures memory { result ≡ Err PlanFault.NoMemory → IsOk (plan_data self.old base count) }
         ensures after { OnOk result (AgreesWith self.new (after_data self.old base count)) }
-        ensures low { OnOk result (base + 4096 * count ≤ 2 ^ 47) }
+        ensures low { OnOk result (base + PAGE_SIZE * count ≤ 2 ^ 47) }
         ensures kept { OnErr result (self.new ≡ self.old) }
     {
         if ends_past(self.protected_end, base, count) {
             return Err(PlanFault::OutsideProtected);
         }
-        if base % 4096 != 0 {
+        if base % GRANULE_SIZE != 0 {
             return Err(PlanFault::Unaligned);
         }
         if !all_ram(&self.ram, base, count) {
@@ -197,8 +199,8 @@ fn add_data(
     base: u64,
     count: u64,
 ) -> Result<Vec<Act>, NoMemory>
-    requires whole { base % 4096 ≡ 0 }
-    requires small { base + 4096 * count ≤ 2 ^ 47 }
+    requires whole { base % PAGE_SIZE ≡ 0 }
+    requires small { base + PAGE_SIZE * count ≤ 2 ^ 47 }
     requires deep { start ≤ 3 }
     ensures acts { IfOk result (λ acts. acts.items ≡ page_acts start tables.old.keys (granules count base)) }
     ensures tables { OnOk result (SameTables tables.new.keys (page_tables start tables.old.keys (granules count base))) }
@@ -208,7 +210,7 @@ fn add_data(
 {
     let mut acts = Vec::new(alloc);
     if push_data(tables, &mut acts, start, base, count).is_ok()
-        && assigned.insert(base, base + 4096 * count).is_ok()
+        && assigned.insert(base, base + GRANULE_SIZE * count).is_ok()
     {
         return Ok(acts);
     }

@@ -8,7 +8,7 @@ use Rattle.fdt_tree.specs.declared.fault.FdtFault.TheVariants.{NoMemory, TooLarg
 use Rattle.fdt_tree.specs.declared.writing.names.NameTable.{NameTable}
 use Rattle.fdt_tree.specs.declared.writing.names.KnownRange.{KnownRange}
 use Rattle.fdt_tree.specs.Writing.{is_among, strings_text, offset_in}
-use Rattle.fdt_tree.specs.Blocks.{size_limit}
+use Rattle.fdt_tree.specs.declared.reading.header.TheConstants.{SIZE_LIMIT}
 
 -- the offset of a name, if it is among the names
 abbrev pub place_in : List (List ℕ) → List ℕ → Option ℕ
@@ -23,4 +23,4 @@ pub record HasNames (source : List ℕ) (t : NameTable) (names : List (List ℕ)
 
 -- the fault where memory was refused, or where these are too many bytes
 abbrev pub TooMuch : FdtFault → ℕ → Type 0
-TooMuch e n = (e ≡ NoMemory) ⊎ ((e ≡ TooLarge) × (size_limit < n))
+TooMuch e n = (e ≡ NoMemory) ⊎ ((e ≡ TooLarge) × (SIZE_LIMIT < n))

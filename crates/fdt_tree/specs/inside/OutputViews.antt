@@ -5,10 +5,10 @@ use Rattle.fdt_tree.specs.declared.node.Node.{Node}
 use Rattle.fdt_tree.specs.declared.writing.Output.{Output}
 use Rattle.fdt_tree.specs.declared.writing.Lengths.{Lengths}
 use Rattle.fdt_tree.specs.Devicetree.{Token, property, tokens, joined}
-use Rattle.fdt_tree.specs.Blocks.{header_size, size_limit}
 use Rattle.fdt_tree.specs.NodeViews.{property_data, branches}
 use Rattle.fdt_tree.specs.Writing.{names_after, text_after, strings_text}
 use Rattle.fdt_tree.specs.inside.NameTables.{HasNames}
+use Rattle.fdt_tree.specs.declared.reading.header.TheConstants.{HEADER_SIZE, SIZE_LIMIT}
 
 -- the tokens were appended, and the table has their names too
 pub record HasTokens (strings : List ℕ) (old new : Output) (names : List (List ℕ)) (ts : List Token) : Type 0 where
@@ -31,4 +31,4 @@ pub record AreLengths (l : Lengths) (reserve structure strings : ℕ) : Type 0 w
   pub reserve_is : l.reserve ≡ reserve
   pub structure_is : l.structure ≡ structure
   pub strings_is : l.strings ≡ strings
-  pub fits : header_size + reserve + structure + strings ≤ size_limit
+  pub fits : HEADER_SIZE + reserve + structure + strings ≤ SIZE_LIMIT

@@ -1,16 +1,18 @@
 //! Reading the header of a flattened devicetree.
 
 ghost use Rattle.std.specs.Prelude.{◌≡◌, ◌+◌, ◌≤◌, length, nat_le, IfOk};
-ghost use Rattle.fdt_tree.specs.Blocks.{BlocksFit, blocks_fit, header_at, header_of, header_size, is_known_version, reserve_block, strings_block, structure_block, word_at};
+ghost use Rattle.fdt_tree.specs.Blocks.{BlocksFit, blocks_fit, header_at, header_of, is_known_version, reserve_block, strings_block, structure_block, word_at};
+ghost use Rattle.fdt_tree.specs.declared.reading.header.TheConstants.{HEADER_SIZE};
 
 use crate::fault::FdtFault;
 
-/// The length of a header, in bytes.
-pub const HEADER_LEN: usize = 40;
+/// The bytes of a header: 40 (Devicetree Specification 0.4, section 5.2).
+pub const HEADER_SIZE: usize = 40;
 
-/// The most bytes that a file may have: 2 MiB.
-pub const MAX_LEN: usize = 1 << 21;
+/// The most bytes of a devicetree: 2 MiB, as Linux has it for arm64 (booting.rst, "Setup the device tree").
+pub const SIZE_LIMIT: usize = 1 << 21;
 
+/// The number that each devicetree begins with.
 pub const MAGIC: u32 = 0xd00d_feed;
 
 /// The version that is read.
@@ -43,7 +45,7 @@ fn word(bytes: &[u8], offset: usize) -> u32
 }
 
 fn fields_of(bytes: &[u8]) -> Header
-    requires { header_size ≤ length bytes.now }
+    requires { HEADER_SIZE ≤ length bytes.now }
     ensures { result ≡ header_of bytes.now }
 {
     Header {
@@ -76,7 +78,7 @@ impl Header {
     fn blocks_fit(&self, len: usize) -> bool
         ensures { result ≡ blocks_fit self.now len }
     {
-        self.totalsize as usize >= HEADER_LEN
+        self.totalsize as usize >= HEADER_SIZE
             && self.totalsize as usize <= len
             && self.off_dt_struct % 4 == 0
             && self.off_mem_rsvmap % 8 == 0
@@ -116,7 +118,7 @@ pub fn header_in(bytes: &[u8]) -> Result<Header, FdtFault>
     ensures exact { result ≡ header_at bytes.now }
     ensures fits { IfOk result (λ h. BlocksFit h (length bytes.now)) }
 {
-    if bytes.len() < HEADER_LEN {
+    if bytes.len() < HEADER_SIZE {
         return Err(FdtFault::Short);
     }
     if word(bytes, 0) != MAGIC {
@@ -126,7 +128,7 @@ pub fn header_in(bytes: &[u8]) -> Result<Header, FdtFault>
     if !header.is_known_version() {
         return Err(FdtFault::BadVersion);
     }
-    if bytes.len() > MAX_LEN {
+    if bytes.len() > SIZE_LIMIT {
         return Err(FdtFault::TooLarge);
     }
     if !header.blocks_fit(bytes.len()) {

@@ -11,19 +11,19 @@ use crate::fault::FdtFault;
 use crate::reading::place::Place;
 use crate::reading::strings::{Strings, is_name_character};
 
-/// The greatest depth of a node. The root's is 1.
-pub const MAX_DEPTH: usize = 64;
+/// The most nodes from the root to a node, both counted: 64. This project's choice.
+pub const DEPTH_LIMIT: usize = 64;
 
-// the numbers of the tokens: Devicetree Specification 0.4, section 5.4.1
-pub const BEGIN_NODE: u32 = 1;
+/// The number of a token that begins a node (Devicetree Specification 0.4, section 5.4.1, as are the next four).
+pub const FDT_BEGIN_NODE: u32 = 1;
 
-pub const END_NODE: u32 = 2;
+pub const FDT_END_NODE: u32 = 2;
 
-pub const PROP: u32 = 3;
+pub const FDT_PROP: u32 = 3;
 
-const NOP: u32 = 4;
+pub const FDT_NOP: u32 = 4;
 
-pub const END: u32 = 9;
+pub const FDT_END: u32 = 9;
 
 /// A token. A node's name and a value are borrowed from the block; a property's name is a range of the
 /// strings.
@@ -117,7 +117,7 @@ fn begin_of(place: Place, bytes: &[u8]) -> Result<(&[u8], &[u8]), FdtFault>
     if !legal {
         return Err(FdtFault::BadName);
     }
-    if place.depth >= MAX_DEPTH {
+    if place.depth >= DEPTH_LIMIT {
         return Err(FdtFault::TooDeep);
     }
     Ok((name, rest))
@@ -157,14 +157,14 @@ fn kind_of<'a>(
 {
     let over = place.depth == 0 && place.late;
     match kind {
-        BEGIN_NODE if !over => {
+        FDT_BEGIN_NODE if !over => {
             let (name, rest) = begin_of(place, rest)?;
             Ok((Token::Begin(name), rest))
         }
-        END_NODE if place.depth > 0 => Ok((Token::EndNode, rest)),
-        PROP if place.depth > 0 => property_of(strings, place, rest),
-        NOP => Ok((Token::Nop, rest)),
-        END if over => Ok((Token::Finish, rest)),
+        FDT_END_NODE if place.depth > 0 => Ok((Token::EndNode, rest)),
+        FDT_PROP if place.depth > 0 => property_of(strings, place, rest),
+        FDT_NOP => Ok((Token::Nop, rest)),
+        FDT_END if over => Ok((Token::Finish, rest)),
         _ => Err(FdtFault::BadToken),
     }
 }

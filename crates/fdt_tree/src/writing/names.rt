@@ -7,7 +7,7 @@ ghost use Rattle.fdt_tree.specs.inside.NameTables.{HasNames, TooMuch, place_in};
 
 use crate::fault::FdtFault;
 use crate::node::{Name, range_of};
-use crate::reading::header::MAX_LEN;
+use crate::reading::header::SIZE_LIMIT;
 use std::alloc::{AllocError, Global};
 use std::collections::BTreeMap;
 
@@ -50,7 +50,7 @@ impl NameTable {
             → IfErr result (λ e. TooMuch e (length (strings_text (names ++ name.now ∷ [])))) }
     {
         let at = self.strings.len();
-        if MAX_LEN.saturating_sub(at) <= name.len() {
+        if SIZE_LIMIT.saturating_sub(at) <= name.len() {
             return Err(FdtFault::TooLarge);
         }
         let offset = at as u32;

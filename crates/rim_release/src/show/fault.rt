@@ -6,19 +6,17 @@ ghost use Rattle.rim_release.specs.declared.show.fault.ShowFault.TheVariants as 
 use arm64_image::ImageFault;
 use fdt_tree::FdtFault;
 use refusal::NoMemory;
+use std::fmt;
 use thiserror::Error;
 
 /// Why a file is not shown.
 #[derive(Clone, Copy, Debug, PartialEq, Eq, Error)]
 pub enum ShowFault {
     /// The file is no arm64 Image.
-    #[error("{}", image_kind(*.0))]
     Image(ImageFault),
     /// The file is no flattened devicetree. It is never `NoMemory`.
-    #[error("{}", devicetree_kind(*.0))]
     Dtb(FdtFault),
     /// The allocator refused a growth.
-    #[error("no-memory")]
     NoMemory,
 }
 
@@ -59,6 +57,12 @@ impl ShowFault {
             ShowFault::Dtb(fault) => devicetree_kind(*fault),
             ShowFault::NoMemory => "no-memory",
         }
+    }
+}
+
+impl fmt::Display for ShowFault {
+    fn fmt<W: fmt::Write>(&self, f: &mut fmt::Formatter<W>) -> fmt::Result {
+        f.write_str(self.kind())
     }
 }
 

@@ -11,6 +11,8 @@ use Rattle.rmi_list.specs.declared.fault.ListFault.{ListFault}
 use Rattle.rmi_list.specs.declared.fault.ListFault.TheVariants as fault
 use Rattle.rmi_list.specs.declared.kept.Kept.{Kept}
 use Rattle.rmi_list.specs.inside.Kept.{IsSpan, entries_of, entries_of_kept}
+use Rattle.ipa_layout.specs.declared.item_check.TheConstants.{PAGE_LIMIT}
+use Rattle.rim_launch.specs.declared.launch.TheConstants.{ITEM_LIMIT}
 
 -- the entries of the commands that were listed
 abbrev pub entries_in : Draft → List Entry
@@ -75,8 +77,8 @@ Continues old new (Err e) wanted = (e ≡ fault.NoMemory) ⊎ (wanted ≡ Err e)
 -- an item whose pages a list can name: an item of a launch, of which there are at most 64, with at most 1,048,576 pages
 -- that begin inside its first page
 pub record IsListable (n : ℕ) (item : PlacedItem) : Type 0 where
-  pub few : n < 64
-  pub pages : item.pages ≤ 1048576
+  pub few : n < ITEM_LIMIT
+  pub pages : item.pages ≤ PAGE_LIMIT
   pub lead : item.lead ≤ item.address
 
 abbrev pub AreListable : List PlacedItem → Type 0

@@ -5,6 +5,7 @@ use Rattle.list_model.specs.Entries.{Entry}
 use Rattle.rmi_list.specs.declared.plan.Plan.TheInside.{Inside}
 use Rattle.rmi_list.specs.declared.kept.Kept.{Kept}
 use Rattle.rmi_list.specs.inside.Kept.{IsSpan, commands_in, entries_of}
+use Rattle.rim_desc.specs.declared.rec.TheConstants.{AUX_LIMIT, REC_LIMIT}
 
 -- its commands, whose measured contents are open
 abbrev pub shown_plan : Inside → List Entry
@@ -18,7 +19,7 @@ pub record AreStarts (kept : List Kept) (starts : List ℕ) : Type 0 where
 -- the pool begins below 2^48, and there are no more auxiliary granules and RECs than a list may have
 pub record IsWellFormed (p : Inside) : Type 0 where
   pub pool : p.params.rtt_base < 2 ^ 48
-  pub aux : p.num_aux ≤ 16
-  pub few : length p.recs.items ≤ 512
+  pub aux : p.num_aux ≤ AUX_LIMIT
+  pub few : length p.recs.items ≤ REC_LIMIT
   pub starts : AreStarts p.kept.items p.starts.items
   pub spans : All IsSpan p.kept.items

@@ -5,6 +5,7 @@ use Rattle.rmm_model.specs.Apart.{are_apart}
 use Rattle.rtt_plan.specs.inside.PageRanges.{are_pages, pages_of}
 use Rattle.rtt_plan.specs.Planned.{Planned}
 use Rattle.rtt_plan.specs.declared.tables.Tables.TheInside.{Inside}
+use Rattle.rtt_plan.specs.declared.counting.TheConstants.{ENTRY_LIMIT}
 
 abbrev pub shown_plan : Inside → Planned
 shown_plan t = record {
@@ -17,7 +18,7 @@ pub record IsWellFormed (t : Inside) : Type 0 where
   pub start : t.start ≤ t.least_level
   pub least_level : t.least_level ≤ 3
   pub protected_end : t.protected_end ≤ 2 ^ 47
-  pub entries : t.entries ≤ 4194304
+  pub entries : t.entries ≤ ENTRY_LIMIT
   pub tables : ArePlaced t.start t.tables.keys
   pub ram : are_pages t.ram.entries ≡ true
   pub ram_apart : are_apart 0 t.ram.entries ≡ true

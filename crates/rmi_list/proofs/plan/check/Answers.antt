@@ -7,18 +7,18 @@ use Rattle.rmi_list.proofs.Growing.{drop-at}
 use Rattle.rmi_list.proofs.Listable.{are-listable}
 use Rattle.rmi_list.proofs.plan.check.Goals as goal
 
-pub returns-then-recs-gt-MOST_RECS-clause-fault : goal.returns-then-recs-gt-MOST_RECS-clause-fault
-returns-then-recs-gt-MOST_RECS-clause-fault c = inr (too-many c.args.launch.now c.args.placed.now (rw (← c.recs.ensures) c.if-recs-gt-MOST_RECS.true))
+pub returns-then-recs-gt-REC_LIMIT-clause-fault : goal.returns-then-recs-gt-REC_LIMIT-clause-fault
+returns-then-recs-gt-REC_LIMIT-clause-fault c = inr (too-many c.args.launch.now c.args.placed.now (rw (← c.recs.ensures) c.if-recs-gt-REC_LIMIT.true))
 
 pub returns-in_err-draft-clause-fault : goal.returns-in_err-draft-clause-fault
 returns-in_err-draft-clause-fault c =
     let p = err_from_is_err_and c.from_residual.result c.from_residual.ensures.1 in
-    rw (p.1, p.2) (begin-refused c.args.launch.now c.args.placed.now c.in_err-draft.field-0.0 (rw (← c.recs.ensures) c.if-recs-gt-MOST_RECS.false) c.in_err-draft.ensures.fault)
+    rw (p.1, p.2) (begin-refused c.args.launch.now c.args.placed.now c.in_err-draft.field-0.0 (rw (← c.recs.ensures) c.if-recs-gt-REC_LIMIT.false) c.in_err-draft.ensures.fault)
 
 pub loop-step-init : goal.loop-step-init
 loop-step-init c =
     let opened = c.in_ok-draft.ensures in
-    let begun = listing-begins c.args.launch.now c.args.placed.now c.in_ok-draft.draft (rw (← c.recs.ensures) c.if-recs-gt-MOST_RECS.false)
+    let begun = listing-begins c.args.launch.now c.args.placed.now c.in_ok-draft.draft (rw (← c.recs.ensures) c.if-recs-gt-REC_LIMIT.false)
     opened.launch opened.placed opened.entries opened.progress opened.pool opened.spans in
     rw c.steps-step-items.ensures.value (checking-begins c.args.launch.now c.args.placed.now c.in_ok-draft.draft _ begun)
 

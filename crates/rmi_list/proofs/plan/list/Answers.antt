@@ -11,18 +11,18 @@ use Rattle.rmi_list.proofs.Listable.{are-listable}
 use Rattle.rmi_list.proofs.Listing.{begin-refused, end-refused, listing-begins, listing-counted, listing-ends, listing-goes-on, listing-refused, plan-answered, too-many}
 use Rattle.rmi_list.proofs.plan.list.Goals as goal
 
-pub returns-then-recs-gt-MOST_RECS : goal.returns-then-recs-gt-MOST_RECS
-returns-then-recs-gt-MOST_RECS c = inr (too-many c.args.launch.now c.args.placed.now (rw (← c.recs.ensures) c.if-recs-gt-MOST_RECS.true))
+pub returns-then-recs-gt-REC_LIMIT : goal.returns-then-recs-gt-REC_LIMIT
+returns-then-recs-gt-REC_LIMIT c = inr (too-many c.args.launch.now c.args.placed.now (rw (← c.recs.ensures) c.if-recs-gt-REC_LIMIT.true))
 
 pub returns-in_err-draft : goal.returns-in_err-draft
 returns-in_err-draft c =
     let p = err_from_is_err_and c.from_residual.result c.from_residual.ensures.1 in
-    rw (p.1, p.2) (begin-refused c.args.launch.now c.args.placed.now c.in_err-draft.field-0.0 (rw (← c.recs.ensures) c.if-recs-gt-MOST_RECS.false) c.in_err-draft.ensures.fault)
+    rw (p.1, p.2) (begin-refused c.args.launch.now c.args.placed.now c.in_err-draft.field-0.0 (rw (← c.recs.ensures) c.if-recs-gt-REC_LIMIT.false) c.in_err-draft.ensures.fault)
 
 pub loop-step-init : goal.loop-step-init
 loop-step-init c =
     let opened = c.in_ok-draft.ensures in
-    rw c.steps-step-items.ensures.value (listing-begins c.args.launch.now c.args.placed.now c.in_ok-draft.draft (rw (← c.recs.ensures) c.if-recs-gt-MOST_RECS.false)
+    rw c.steps-step-items.ensures.value (listing-begins c.args.launch.now c.args.placed.now c.in_ok-draft.draft (rw (← c.recs.ensures) c.if-recs-gt-REC_LIMIT.false)
     opened.launch opened.placed opened.entries opened.progress opened.pool opened.spans)
 
 pub step-requires-clause-pool : goal.step-requires-clause-pool
@@ -32,7 +32,7 @@ pub step-requires-clause-items : goal.step-requires-clause-items
 step-requires-clause-items c = rw c.loop-step.invariant.placed (are-listable c.args.launch.now c.args.placed.now c.steps-step-items.ensures.kept c.requires)
 
 pub step-requires-clause-recs : goal.step-requires-clause-recs
-step-requires-clause-recs c = rw (c.loop-step.invariant.placed, ← c.recs.ensures) c.if-recs-gt-MOST_RECS.false
+step-requires-clause-recs c = rw (c.loop-step.invariant.placed, ← c.recs.ensures) c.if-recs-gt-REC_LIMIT.false
 
 pub returns-in_err-step : goal.returns-in_err-step
 returns-in_err-step c =
@@ -70,7 +70,7 @@ of-requires-clause-spans c =
 pub of-requires-clause-recs : goal.of-requires-clause-recs
 of-requires-clause-recs c =
     let placed = ap (λ (p : _). p.now.recs) c.in_ok-push.ensures.placed ∙ ap (λ (p : PlacedData). p.recs) c.loop-step.invariant.placed in
-    rw (placed, ← c.recs.ensures) c.if-recs-gt-MOST_RECS.false
+    rw (placed, ← c.recs.ensures) c.if-recs-gt-REC_LIMIT.false
 
 pub returns : goal.returns
 returns c =

@@ -11,17 +11,17 @@ behind_magic : (bytes : List ℕ) (h : Header) → 40 ≤ length bytes → word_
 unfolding header_at
 behind_magic bytes h long magic same = rw (le-ltb _ _ long, eq-eqb _ _ magic, same) refl
 
-pub returns-then-bytes-lt-HEADER_LEN-clause-exact : goal.returns-then-bytes-lt-HEADER_LEN-clause-exact
+pub returns-then-bytes-lt-HEADER_SIZE-clause-exact : goal.returns-then-bytes-lt-HEADER_SIZE-clause-exact
 unfolding header_at
-returns-then-bytes-lt-HEADER_LEN-clause-exact c = rw (lt-ltb (length c.args.bytes.now) 40 (omega arith)) refl
+returns-then-bytes-lt-HEADER_SIZE-clause-exact c = rw (lt-ltb (length c.args.bytes.now) 40 (omega arith)) refl
 
 pub returns-then-not-is_known_version-clause-exact :
     goal.returns-then-not-is_known_version-clause-exact
 returns-then-not-is_known_version-clause-exact c =
     rw (behind_magic c.args.bytes.now c.fields_of-header.result (omega arith) (omega arith) c.fields_of-header.ensures, sym c.is_known_version.ensures ∙ c.if-not-is_known_version.true) refl
 
-pub returns-then-bytes-gt-MAX_LEN-clause-exact : goal.returns-then-bytes-gt-MAX_LEN-clause-exact
-returns-then-bytes-gt-MAX_LEN-clause-exact c =
+pub returns-then-bytes-gt-SIZE_LIMIT-clause-exact : goal.returns-then-bytes-gt-SIZE_LIMIT-clause-exact
+returns-then-bytes-gt-SIZE_LIMIT-clause-exact c =
     rw (behind_magic c.args.bytes.now c.fields_of-header.result (omega arith) (omega arith) c.fields_of-header.ensures, sym c.is_known_version.ensures ∙ c.if-not-is_known_version.false, lt-ltb (2 ^ 21) (length c.args.bytes.now) (omega arith)) refl
 
 pub returns-then-not-blocks_fit-clause-exact : goal.returns-then-not-blocks_fit-clause-exact

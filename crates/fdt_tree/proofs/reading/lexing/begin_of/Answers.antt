@@ -6,9 +6,9 @@ pub returns-then-not-legal : goal.returns-then-not-legal
 unfolding begin_at
 returns-then-not-legal c = search rules
 
-pub returns-then-place-ge-MAX_DEPTH : goal.returns-then-place-ge-MAX_DEPTH
+pub returns-then-place-ge-DEPTH_LIMIT : goal.returns-then-place-ge-DEPTH_LIMIT
 unfolding begin_at
-returns-then-place-ge-MAX_DEPTH c = search rules
+returns-then-place-ge-DEPTH_LIMIT c = search rules
 
 pub returns : goal.returns
 unfolding begin_at
