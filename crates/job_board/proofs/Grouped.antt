@@ -9,16 +9,16 @@ use Rattle.std.proofs.lemmas.List.Sums.{count_by-le-length, sum_by_push}
 use Rattle.std.proofs.lemmas.Bool.{cases_eq, cases_lt, ne_eqb}
 use Rattle.std.proofs.lemmas.Option.{get_or_from_slice_get, slice_get_within, none-some, slice_get-get_or, same_Some}
 use Rattle.job_board.specs.declared.grouping.Stretch.{Stretch}
-use Rattle.job_board.specs.declared.prefixes.Prefix.{Prefix}
-use Rattle.job_board.specs.declared.prefixes.PageGroup.{PageGroup}
+use Rattle.job_board.specs.declared.reaches.Reach.{Reach}
+use Rattle.job_board.specs.declared.reaches.PageGroup.{PageGroup}
 use Rattle.job_board.specs.inside.Grouping.{AreStretches, Comes, IsGrouped, Precedes, own_pages}
-use Rattle.job_board.specs.inside.Prefixes.{AreGroups, IsGroup, count_of, group_needs, prefix_needs}
+use Rattle.job_board.specs.inside.Reaches.{AreGroups, IsGroup, count_of, group_needs, reach_needs}
 use Rattle.job_board.proofs.Counting.{bit, sum_by-slice_set}
-use Rattle.job_board.proofs.Listing.{prefix_set, pushed_at}
+use Rattle.job_board.proofs.Listing.{reach_set, pushed_at}
 use Rattle.job_board.proofs.OneJob.{slice_get-set_other, slice_get-set_same}
 
-abbrev pub prefix_of : Stretch → Prefix
-prefix_of s = record { launch = s.launch; count = s.count }
+abbrev pub reach_of : Stretch → Reach
+reach_of s = record { launch = s.launch; count = s.count }
 
 kept_at : {X : Type 0} (xs : List X) (y z : X) (i : ℕ) → slice_get xs i ≡ Some z → slice_get (xs ++ y ∷ []) i ≡ Some z
 kept_at [] y z i at = cc
@@ -36,10 +36,10 @@ own_push f l ss s =
     ap (list_all f) (flat_map-append (own_pages l) ss (s ∷ []))
     ∙ (list_all-append f (flat_map (own_pages l) ss) (own_pages l s ++ []) ∙ ap (λ (xs : List ℕ). list_all f (flat_map (own_pages l) ss) && list_all f xs) (append-nil (own_pages l s)))
 
-abbrev expand : ℕ → ℕ → Prefix → List ℕ
+abbrev expand : ℕ → ℕ → Reach → List ℕ
 expand l first q = if q.launch == l then range_with_len first q.count else []
 
-items_push : (f : ℕ → Bool) (l first : ℕ) (qs : List Prefix) (q : Prefix) → list_all f (flat_map (expand l first) (qs ++ q ∷ [])) ≡ list_all f (flat_map (expand l first) qs) && list_all f (expand l first q)
+items_push : (f : ℕ → Bool) (l first : ℕ) (qs : List Reach) (q : Reach) → list_all f (flat_map (expand l first) (qs ++ q ∷ [])) ≡ list_all f (flat_map (expand l first) qs) && list_all f (expand l first q)
 items_push f l first qs q =
     ap (list_all f) (flat_map-append (expand l first) qs (q ∷ []))
     ∙ (list_all-append f (flat_map (expand l first) qs) (expand l first q ++ []) ∙ ap (λ (xs : List ℕ). list_all f (flat_map (expand l first) qs) && list_all f xs) (append-nil (expand l first q)))
@@ -83,22 +83,22 @@ ends_before pages launches ss gs s comes is new k g at = by o.0 o.1 (comes.after
     by i a (inr alike) = absurd (same_first (sym o.3 ∙ alike.0) (cases_lt (k + 1) (length gs)))
 
 pub grouped_new : (pages launches : ℕ) (ss : List Stretch) (gs : List PageGroup) (s : Stretch) (h : PageGroup) → Comes pages launches ss s → IsGrouped pages launches ss gs
-    → ((g : PageGroup) → slice_get gs (length gs - 1) ≡ Some g → g.first ≢ s.first) → h.first ≡ s.first → h.count ≡ s.count → h.prefixes.items ≡ prefix_of s ∷ []
+    → ((g : PageGroup) → slice_get gs (length gs - 1) ≡ Some g → g.first ≢ s.first) → h.first ≡ s.first → h.count ≡ s.count → h.reaches.items ≡ reach_of s ∷ []
     → IsGrouped pages launches (ss ++ s ∷ []) (gs ++ h ∷ [])
 grouped_new pages launches ss gs s h comes is new first count items = record {
   apart = λ i k a b lt aat bat. apart_by i k a b lt (pushed_at gs h a i aat) (pushed_at gs h b k bat);
   each = λ k g at. each_by k g (pushed_at gs h g k at);
   origin = λ k g at. origin_by k g (pushed_at gs h g k at);
   counted = λ l.
-      let a = sum_by_push (λ (u : PageGroup). count_of l u.prefixes.items) gs h in
+      let a = sum_by_push (λ (u : PageGroup). count_of l u.reaches.items) gs h in
       let b = sum_by_push (λ (u : Stretch). cond (u.launch == l) 1 0) ss s in
       let c = ap (count_of l) items in
       omega (arith, a, b, c, is.counted l);
-  index = λ l f. ap (list_all f) (flat_map-append (group_needs l) gs (h ∷ [])) ∙ (list_all-append f (prefix_needs gs l) (group_needs l h ++ []) ∙ (ap (λ (b : Bool). b && list_all f (group_needs l h ++ [])) (is.index l f) ∙ (ap (λ (b : Bool). list_all f (flat_map (own_pages l) ss) && b) (here l f) ∙ sym (own_push f l ss s))));
+  index = λ l f. ap (list_all f) (flat_map-append (group_needs l) gs (h ∷ [])) ∙ (list_all-append f (reach_needs gs l) (group_needs l h ++ []) ∙ (ap (λ (b : Bool). b && list_all f (group_needs l h ++ [])) (is.index l f) ∙ (ap (λ (b : Bool). list_all f (flat_map (own_pages l) ss) && b) (here l f) ∙ sym (own_push f l ss s))));
 }
   where
     here : (l : ℕ) (f : ℕ → Bool) → list_all f (group_needs l h ++ []) ≡ list_all f (own_pages l s)
-    here l f = ap (list_all f) (append-nil (group_needs l h) ∙ (ap (λ (qs : List Prefix). flat_map (expand l h.first) qs) items ∙ (append-nil (expand l h.first (prefix_of s)) ∙ ap (λ (n : ℕ). expand l n (prefix_of s)) first)))
+    here l f = ap (list_all f) (append-nil (group_needs l h) ∙ (ap (λ (qs : List Reach). flat_map (expand l h.first) qs) items ∙ (append-nil (expand l h.first (reach_of s)) ∙ ap (λ (n : ℕ). expand l n (reach_of s)) first)))
 
     apart_by : (i k : ℕ) (a b : PageGroup) → i < k → (slice_get gs i ≡ Some a) ⊎ ((i ≡ length gs) × (h ≡ a)) → (slice_get gs k ≡ Some b) ⊎ ((k ≡ length gs) × (h ≡ b)) → a.first + a.count ≤ b.first
     apart_by i k a b lt (inl aat) (inl bat) = is.apart i k a b lt aat bat
@@ -112,14 +112,14 @@ grouped_new pages launches ss gs s h comes is new first count items = record {
     one : IsGroup pages launches h
     one = record {
       within = omega (arith, first, count, comes.within);
-      named = λ k q at. named_by k q (ap (λ (qs : List Prefix). slice_get qs k) (sym items) ∙ at);
-      rising = λ i k q r lt qat rat. absurd (omega (arith, lt, slice_get_within h.prefixes.items k r rat, ap length items));
+      named = λ k q at. named_by k q (ap (λ (qs : List Reach). slice_get qs k) (sym items) ∙ at);
+      rising = λ i k q r lt qat rat. absurd (omega (arith, lt, slice_get_within h.reaches.items k r rat, ap length items));
     }
       where
-        named_by : (k : ℕ) (q : Prefix) → slice_get (prefix_of s ∷ []) k ≡ Some q → (q.launch < launches) × (0 < q.count) × (q.count ≤ h.count)
+        named_by : (k : ℕ) (q : Reach) → slice_get (reach_of s ∷ []) k ≡ Some q → (q.launch < launches) × (0 < q.count) × (q.count ≤ h.count)
         named_by zero q at =
-            let l : s.launch ≡ q.launch = ap (λ (r : Prefix). r.launch) (same_Some (prefix_of s) q at) in
-            let c : s.count ≡ q.count = ap (λ (r : Prefix). r.count) (same_Some (prefix_of s) q at) in
+            let l : s.launch ≡ q.launch = ap (λ (r : Reach). r.launch) (same_Some (reach_of s) q at) in
+            let c : s.count ≡ q.count = ap (λ (r : Reach). r.count) (same_Some (reach_of s) q at) in
             (omega (arith, l, comes.launch), omega (arith, c, comes.some), omega (arith, c, count))
         named_by (suc k) q at = cc
 
@@ -134,25 +134,25 @@ grouped_new pages launches ss gs s h comes is new first count items = record {
 -- ---- the last group grows
 
 pub grouped_more : (pages launches : ℕ) (ss : List Stretch) (gs : List PageGroup) (s : Stretch) (g h : PageGroup) → Comes pages launches ss s → IsGrouped pages launches ss gs
-    → slice_get gs (length gs - 1) ≡ Some g → g.first ≡ s.first → h.first ≡ g.first → h.count ≡ s.count → h.prefixes.items ≡ g.prefixes.items ++ prefix_of s ∷ []
+    → slice_get gs (length gs - 1) ≡ Some g → g.first ≡ s.first → h.first ≡ g.first → h.count ≡ s.count → h.reaches.items ≡ g.reaches.items ++ reach_of s ∷ []
     → IsGrouped pages launches (ss ++ s ∷ []) (set gs (length gs - 1) h)
 grouped_more pages launches ss gs s g h comes is last same first count items = record {
   apart = λ i k a b lt aat bat. apart_by i k a b lt aat bat (cases_eq i (length gs - 1)) (cases_eq k (length gs - 1));
   each = λ k u at. each_by k u at (cases_eq k (length gs - 1));
   origin = λ k u at. origin_by k u at (cases_eq k (length gs - 1));
   counted = λ l.
-      let a = sum_by-slice_set (λ (u : PageGroup). count_of l u.prefixes.items) gs (length gs - 1) g h last in
+      let a = sum_by-slice_set (λ (u : PageGroup). count_of l u.reaches.items) gs (length gs - 1) g h last in
       let b = sum_by_push (λ (u : Stretch). cond (u.launch == l) 1 0) ss s in
-      let c : count_of l h.prefixes.items ≡ count_of l g.prefixes.items + bit (s.launch == l) = ap (count_of l) items ∙ sum_by_push (λ (q : Prefix). cond (q.launch == l) 1 0) g.prefixes.items (prefix_of s) in
+      let c : count_of l h.reaches.items ≡ count_of l g.reaches.items + bit (s.launch == l) = ap (count_of l) items ∙ sum_by_push (λ (q : Reach). cond (q.launch == l) 1 0) g.reaches.items (reach_of s) in
       omega (arith, a, b, c, is.counted l);
-  index = λ l f. prefix_set f l gs (length gs - 1) g h (list_all f (own_pages l s)) last (here l f) ∙ (ap (λ (b : Bool). b && list_all f (own_pages l s)) (is.index l f) ∙ sym (own_push f l ss s));
+  index = λ l f. reach_set f l gs (length gs - 1) g h (list_all f (own_pages l s)) last (here l f) ∙ (ap (λ (b : Bool). b && list_all f (own_pages l s)) (is.index l f) ∙ sym (own_push f l ss s));
 }
   where
     here : (l : ℕ) (f : ℕ → Bool) → list_all f (group_needs l h) ≡ list_all f (group_needs l g) && list_all f (own_pages l s)
     here l f =
-        ap (λ (n : ℕ). list_all f (flat_map (expand l n) h.prefixes.items)) first
-        ∙ (ap (λ (qs : List Prefix). list_all f (flat_map (expand l g.first) qs)) items
-        ∙ (items_push f l g.first g.prefixes.items (prefix_of s) ∙ ap (λ (n : ℕ). list_all f (group_needs l g) && list_all f (expand l n (prefix_of s))) same))
+        ap (λ (n : ℕ). list_all f (flat_map (expand l n) h.reaches.items)) first
+        ∙ (ap (λ (qs : List Reach). list_all f (flat_map (expand l g.first) qs)) items
+        ∙ (items_push f l g.first g.reaches.items (reach_of s) ∙ ap (λ (n : ℕ). list_all f (group_needs l g) && list_all f (expand l n (reach_of s))) same))
 
     now_at : (k : ℕ) (u : PageGroup) → slice_get (set gs (length gs - 1) h) k ≡ Some u → k ≡ length gs - 1 → h ≡ u
     now_at k u at end = same_Some h u (sym (slice_get-set_same gs (length gs - 1) g h last) ∙ (ap (slice_get (set gs (length gs - 1) h)) (sym end) ∙ at))
@@ -182,27 +182,27 @@ grouped_more pages launches ss gs s g h comes is last same first count items = r
     old : IsGroup pages launches g
     old = is.each (length gs - 1) g last
 
-    named_by : (k : ℕ) (q : Prefix) → (slice_get g.prefixes.items k ≡ Some q) ⊎ ((k ≡ length g.prefixes.items) × (prefix_of s ≡ q)) → (q.launch < launches) × (0 < q.count) × (q.count ≤ h.count)
+    named_by : (k : ℕ) (q : Reach) → (slice_get g.reaches.items k ≡ Some q) ⊎ ((k ≡ length g.reaches.items) × (reach_of s ≡ q)) → (q.launch < launches) × (0 < q.count) × (q.count ≤ h.count)
     named_by k q (inl at) = let n = old.named k q at in (n.0, n.1, omega (arith, n.2, longer, count))
     named_by k q (inr at) =
-        let l : s.launch ≡ q.launch = ap (λ (r : Prefix). r.launch) at.1 in
-        let c : s.count ≡ q.count = ap (λ (r : Prefix). r.count) at.1 in
+        let l : s.launch ≡ q.launch = ap (λ (r : Reach). r.launch) at.1 in
+        let c : s.count ≡ q.count = ap (λ (r : Reach). r.count) at.1 in
         (omega (arith, l, comes.launch), omega (arith, c, comes.some), omega (arith, c, count))
 
-    rising_by : (i k : ℕ) (q r : Prefix) → i < k → (slice_get g.prefixes.items i ≡ Some q) ⊎ ((i ≡ length g.prefixes.items) × (prefix_of s ≡ q)) → (slice_get g.prefixes.items k ≡ Some r) ⊎ ((k ≡ length g.prefixes.items) × (prefix_of s ≡ r)) → q.count ≤ r.count
+    rising_by : (i k : ℕ) (q r : Reach) → i < k → (slice_get g.reaches.items i ≡ Some q) ⊎ ((i ≡ length g.reaches.items) × (reach_of s ≡ q)) → (slice_get g.reaches.items k ≡ Some r) ⊎ ((k ≡ length g.reaches.items) × (reach_of s ≡ r)) → q.count ≤ r.count
     rising_by i k q r lt (inl qat) (inl rat) = old.rising i k q r lt qat rat
     rising_by i k q r lt (inl qat) (inr rat) =
         let n = old.named i q qat in
-        let c : s.count ≡ r.count = ap (λ (p : Prefix). p.count) rat.1 in
+        let c : s.count ≡ r.count = ap (λ (p : Reach). p.count) rat.1 in
         omega (arith, n.2, longer, c)
-    rising_by i k q r lt (inr qat) (inl rat) = absurd (omega (arith, lt, qat.0, slice_get_within g.prefixes.items k r rat))
+    rising_by i k q r lt (inr qat) (inl rat) = absurd (omega (arith, lt, qat.0, slice_get_within g.reaches.items k r rat))
     rising_by i k q r lt (inr qat) (inr rat) = absurd (omega (arith, lt, qat.0, rat.0))
 
     one : IsGroup pages launches h
     one = record {
       within = omega (arith, first, count, same, comes.within);
-      named = λ k q at. named_by k q (pushed_at g.prefixes.items (prefix_of s) q k (ap (λ (qs : List Prefix). slice_get qs k) (sym items) ∙ at));
-      rising = λ i k q r lt qat rat. rising_by i k q r lt (pushed_at g.prefixes.items (prefix_of s) q i (ap (λ (qs : List Prefix). slice_get qs i) (sym items) ∙ qat)) (pushed_at g.prefixes.items (prefix_of s) r k (ap (λ (qs : List Prefix). slice_get qs k) (sym items) ∙ rat));
+      named = λ k q at. named_by k q (pushed_at g.reaches.items (reach_of s) q k (ap (λ (qs : List Reach). slice_get qs k) (sym items) ∙ at));
+      rising = λ i k q r lt qat rat. rising_by i k q r lt (pushed_at g.reaches.items (reach_of s) q i (ap (λ (qs : List Reach). slice_get qs i) (sym items) ∙ qat)) (pushed_at g.reaches.items (reach_of s) r k (ap (λ (qs : List Reach). slice_get qs k) (sym items) ∙ rat));
     }
 
     each_by : (k : ℕ) (u : PageGroup) → slice_get (set gs (length gs - 1) h) k ≡ Some u → (k ≡ length gs - 1) ⊎ (k ≡ length gs - 1 → ⊥) → IsGroup pages launches u

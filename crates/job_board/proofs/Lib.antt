@@ -14,7 +14,7 @@ pub mod Boards
 pub mod BoardRows
 pub mod Fresh
 pub mod Ends
-pub mod Prefixed
+pub mod Reaching
 pub mod Indexed
 pub mod Waiting
 pub mod Needed

@@ -14,9 +14,9 @@ use Rattle.job_board.specs.declared.job.JobId.TheVariants.{Page, Launch}
 use Rattle.job_board.specs.declared.job.JobState.TheVariants.{Free, Held, Done}
 use Rattle.job_board.specs.Jobs.{CoreState, is_free, is_ready, state_of, with_launch}
 use Rattle.job_board.specs.inside.Lines.{IsLine, IsPassed, passed_over}
-use Rattle.job_board.specs.declared.prefixes.Cursor.{Cursor}
-use Rattle.job_board.specs.declared.prefixes.PageGroup.{PageGroup}
-use Rattle.job_board.specs.inside.Prefixes.{IsIndex, Waits}
+use Rattle.job_board.specs.declared.reaches.Cursor.{Cursor}
+use Rattle.job_board.specs.declared.reaches.PageGroup.{PageGroup}
+use Rattle.job_board.specs.inside.Reaches.{IsIndex, Waits}
 use Rattle.job_board.proofs.Indexed.{ready_index}
 use Rattle.job_board.proofs.Marked.{not_free_at}
 

@@ -8,12 +8,12 @@ use Rattle.std.proofs.lemmas.List.Folds.{list_all-append}
 use Rattle.std.proofs.lemmas.List.Sums.{sum_by_push}
 use Rattle.std.proofs.lemmas.Bool.{cases_eq, eq-eqb, ne_eqb}
 use Rattle.std.proofs.lemmas.Option.{slice_get_within, same_Some}
-use Rattle.job_board.specs.declared.prefixes.Prefix.{Prefix}
-use Rattle.job_board.specs.declared.prefixes.PageGroup.{PageGroup}
+use Rattle.job_board.specs.declared.reaches.Reach.{Reach}
+use Rattle.job_board.specs.declared.reaches.PageGroup.{PageGroup}
 use Rattle.job_board.specs.declared.needs.Needs.TheVariants.{Listed}
 use Rattle.job_board.specs.Jobs.{NeedsWithin}
 use Rattle.job_board.specs.inside.Needs.{AreNeeds}
-use Rattle.job_board.specs.inside.Prefixes.{AreGroups, IsIndex, IsListed, all_of, count_of, group_needs, prefix_needs}
+use Rattle.job_board.specs.inside.Reaches.{AreGroups, IsIndex, IsListed, all_of, count_of, group_needs, reach_needs}
 use Rattle.job_board.proofs.Counting.{bit, sum_by-slice_set}
 use Rattle.job_board.proofs.OneJob.{slice_get-set_other, slice_get-set_same}
 
@@ -50,37 +50,37 @@ and_swap true false true = refl
 and_swap true false false = refl
 and_swap false b r = refl
 
-pub prefix_set : (f : ℕ → Bool) (l : ℕ) (gs : List PageGroup) (p : ℕ) (g h : PageGroup) (b : Bool) → slice_get gs p ≡ Some g → list_all f (group_needs l h) ≡ list_all f (group_needs l g) && b
-    → list_all f (prefix_needs (set gs p h) l) ≡ list_all f (prefix_needs gs l) && b
-prefix_set f l [] p g h b at is = cc
-prefix_set f l (u ∷ gs) zero g h b at is =
+pub reach_set : (f : ℕ → Bool) (l : ℕ) (gs : List PageGroup) (p : ℕ) (g h : PageGroup) (b : Bool) → slice_get gs p ≡ Some g → list_all f (group_needs l h) ≡ list_all f (group_needs l g) && b
+    → list_all f (reach_needs (set gs p h) l) ≡ list_all f (reach_needs gs l) && b
+reach_set f l [] p g h b at is = cc
+reach_set f l (u ∷ gs) zero g h b at is =
     let ug : list_all f (group_needs l g) ≡ list_all f (group_needs l u) = ap (λ (v : PageGroup). list_all f (group_needs l v)) (sym (same_Some u g at)) in
-    list_all-append f (group_needs l h) (prefix_needs gs l)
-    ∙ (ap (λ (c : Bool). c && list_all f (prefix_needs gs l)) (is ∙ ap (λ (c : Bool). c && b) ug)
-    ∙ (and_swap (list_all f (group_needs l u)) b (list_all f (prefix_needs gs l))
-    ∙ ap (λ (c : Bool). c && b) (sym (list_all-append f (group_needs l u) (prefix_needs gs l)))))
-prefix_set f l (u ∷ gs) (suc p) g h b at is =
-    list_all-append f (group_needs l u) (prefix_needs (set gs p h) l)
-    ∙ (ap (λ (c : Bool). list_all f (group_needs l u) && c) (prefix_set f l gs p g h b at is)
-    ∙ (and_same (list_all f (group_needs l u)) (list_all f (prefix_needs gs l)) b
-    ∙ ap (λ (c : Bool). c && b) (sym (list_all-append f (group_needs l u) (prefix_needs gs l)))))
+    list_all-append f (group_needs l h) (reach_needs gs l)
+    ∙ (ap (λ (c : Bool). c && list_all f (reach_needs gs l)) (is ∙ ap (λ (c : Bool). c && b) ug)
+    ∙ (and_swap (list_all f (group_needs l u)) b (list_all f (reach_needs gs l))
+    ∙ ap (λ (c : Bool). c && b) (sym (list_all-append f (group_needs l u) (reach_needs gs l)))))
+reach_set f l (u ∷ gs) (suc p) g h b at is =
+    list_all-append f (group_needs l u) (reach_needs (set gs p h) l)
+    ∙ (ap (λ (c : Bool). list_all f (group_needs l u) && c) (reach_set f l gs p g h b at is)
+    ∙ (and_same (list_all f (group_needs l u)) (list_all f (reach_needs gs l)) b
+    ∙ ap (λ (c : Bool). c && b) (sym (list_all-append f (group_needs l u) (reach_needs gs l)))))
   where
     and_same : (x r c : Bool) → x && (r && c) ≡ (x && r) && c
     and_same true r c = refl
     and_same false r c = refl
 
--- what one prefix of one page more adds
+-- what one reach of one page more adds
 one_page : (f : ℕ → Bool) (n l first : ℕ) → Bool
 one_page f n l first = if n == l then f first else true
 
-group_push : (f : ℕ → Bool) (l first n : ℕ) (qs : List Prefix)
-    → list_all f (flat_map (λ (q : Prefix). if q.launch == l then range_with_len first q.count else []) (qs ++ record { launch = n; count = 1 } ∷ []))
-    ≡ list_all f (flat_map (λ (q : Prefix). if q.launch == l then range_with_len first q.count else []) qs) && one_page f n l first
+group_push : (f : ℕ → Bool) (l first n : ℕ) (qs : List Reach)
+    → list_all f (flat_map (λ (q : Reach). if q.launch == l then range_with_len first q.count else []) (qs ++ record { launch = n; count = 1 } ∷ []))
+    ≡ list_all f (flat_map (λ (q : Reach). if q.launch == l then range_with_len first q.count else []) qs) && one_page f n l first
 unfolding one_page
 group_push f l first n qs =
-    ap (list_all f) (flat_map-append (λ (q : Prefix). if q.launch == l then range_with_len first q.count else []) qs (record { launch = n; count = 1 } ∷ []))
-    ∙ (list_all-append f (flat_map (λ (q : Prefix). if q.launch == l then range_with_len first q.count else []) qs) ((if n == l then first ∷ [] else []) ++ [])
-    ∙ ap (λ (c : Bool). list_all f (flat_map (λ (q : Prefix). if q.launch == l then range_with_len first q.count else []) qs) && c) (last (n == l)))
+    ap (list_all f) (flat_map-append (λ (q : Reach). if q.launch == l then range_with_len first q.count else []) qs (record { launch = n; count = 1 } ∷ []))
+    ∙ (list_all-append f (flat_map (λ (q : Reach). if q.launch == l then range_with_len first q.count else []) qs) ((if n == l then first ∷ [] else []) ++ [])
+    ∙ ap (λ (c : Bool). list_all f (flat_map (λ (q : Reach). if q.launch == l then range_with_len first q.count else []) qs) && c) (last (n == l)))
   where
     and_true : (c : Bool) → c && true ≡ c
     and_true true = refl
@@ -93,9 +93,9 @@ group_push f l first n qs =
 pub record Pushed (n : ℕ) (g h : PageGroup) : Type 0 where
   pub first : h.first ≡ g.first
   pub count : h.count ≡ g.count
-  pub items : h.prefixes.items ≡ g.prefixes.items ++ record { launch = n; count = 1 } ∷ []
+  pub items : h.reaches.items ≡ g.reaches.items ++ record { launch = n; count = 1 } ∷ []
 
-pub pushed : (n : ℕ) (g h : PageGroup) → h.first ≡ g.first → h.count ≡ g.count → h.prefixes.items ≡ g.prefixes.items ++ record { launch = n; count = 1 } ∷ [] → Pushed n g h
+pub pushed : (n : ℕ) (g h : PageGroup) → h.first ≡ g.first → h.count ≡ g.count → h.reaches.items ≡ g.reaches.items ++ record { launch = n; count = 1 } ∷ [] → Pushed n g h
 pushed n g h first count items = record { first = first; count = count; items = items }
 
 index_push : (ls : List (List ℕ)) (xs : List ℕ) (gs : List PageGroup) (p : ℕ) (g h : PageGroup) → slice_get gs p ≡ Some g → g.first ≡ p → Pushed (length ls) g h
@@ -105,12 +105,12 @@ index_push ls xs gs p g h at single more index l f = set_is ∙ (ap (λ (b : Boo
   where
     here : list_all f (group_needs l h) ≡ list_all f (group_needs l g) && one_page f (length ls) l p
     here =
-        ap (λ (k : ℕ). list_all f (flat_map (λ (q : Prefix). if q.launch == l then range_with_len k q.count else []) h.prefixes.items)) more.first
-        ∙ (ap (λ (qs : List Prefix). list_all f (flat_map (λ (q : Prefix). if q.launch == l then range_with_len g.first q.count else []) qs)) more.items
-        ∙ (group_push f l g.first (length ls) g.prefixes.items ∙ ap (λ (k : ℕ). list_all f (group_needs l g) && one_page f (length ls) l k) single))
+        ap (λ (k : ℕ). list_all f (flat_map (λ (q : Reach). if q.launch == l then range_with_len k q.count else []) h.reaches.items)) more.first
+        ∙ (ap (λ (qs : List Reach). list_all f (flat_map (λ (q : Reach). if q.launch == l then range_with_len g.first q.count else []) qs)) more.items
+        ∙ (group_push f l g.first (length ls) g.reaches.items ∙ ap (λ (k : ℕ). list_all f (group_needs l g) && one_page f (length ls) l k) single))
 
-    set_is : list_all f (prefix_needs (set gs p h) l) ≡ list_all f (prefix_needs gs l) && one_page f (length ls) l p
-    set_is = prefix_set f l gs p g h (one_page f (length ls) l p) at here
+    set_is : list_all f (reach_needs (set gs p h) l) ≡ list_all f (reach_needs gs l) && one_page f (length ls) l p
+    set_is = reach_set f l gs p g h (one_page f (length ls) l p) at here
 
     and_true : (c : Bool) → c && true ≡ c
     and_true true = refl
@@ -133,11 +133,11 @@ count_push : (ls : List (List ℕ)) (xs : List ℕ) (gs : List PageGroup) (p : �
     → ((l : ℕ) → all_of l gs ≡ length (get_or (ls ++ xs ∷ []) l [])) → (l : ℕ) → all_of l (set gs p h) ≡ length (get_or (ls ++ (xs ++ p ∷ []) ∷ []) l [])
 count_push ls xs gs p g h at more counted l = by (cases_eq l (length ls))
   where
-    sets : all_of l (set gs p h) + count_of l g.prefixes.items ≡ all_of l gs + count_of l h.prefixes.items
-    sets = sum_by-slice_set (λ (u : PageGroup). count_of l u.prefixes.items) gs p g h at
+    sets : all_of l (set gs p h) + count_of l g.reaches.items ≡ all_of l gs + count_of l h.reaches.items
+    sets = sum_by-slice_set (λ (u : PageGroup). count_of l u.reaches.items) gs p g h at
 
-    adds : count_of l h.prefixes.items ≡ count_of l g.prefixes.items + bit (length ls == l)
-    adds = ap (count_of l) more.items ∙ sum_by_push (λ (q : Prefix). cond (q.launch == l) 1 0) g.prefixes.items (record { launch = length ls; count = 1 })
+    adds : count_of l h.reaches.items ≡ count_of l g.reaches.items + bit (length ls == l)
+    adds = ap (count_of l) more.items ∙ sum_by_push (λ (q : Reach). cond (q.launch == l) 1 0) g.reaches.items (record { launch = length ls; count = 1 })
 
     by : (l ≡ length ls) ⊎ (l ≡ length ls → ⊥) → all_of l (set gs p h) ≡ length (get_or (ls ++ (xs ++ p ∷ []) ∷ []) l [])
     by (inl same) =
@@ -176,16 +176,16 @@ listed_push pages ls xs gs p g h at more is = record {
     long : (ys zs : List ℕ) (n : ℕ) → n < length (ls ++ ys ∷ []) → n < length (ls ++ zs ∷ [])
     long ys zs n lt = omega (arith, lt, length_push ls ys, length_push ls zs)
 
-    named_by : (k i : ℕ) (u : PageGroup) (q : Prefix) → slice_get (set gs p h) k ≡ Some u → slice_get u.prefixes.items i ≡ Some q → (k ≡ p) ⊎ (k ≡ p → ⊥) → (q.launch < length (ls ++ (xs ++ p ∷ []) ∷ [])) × (q.count ≡ 1)
+    named_by : (k i : ℕ) (u : PageGroup) (q : Reach) → slice_get (set gs p h) k ≡ Some u → slice_get u.reaches.items i ≡ Some q → (k ≡ p) ⊎ (k ≡ p → ⊥) → (q.launch < length (ls ++ (xs ++ p ∷ []) ∷ [])) × (q.count ≡ 1)
     named_by k i u q uat qat (inl same) =
-        let items : u.prefixes.items ≡ g.prefixes.items ++ record { launch = length ls; count = 1 } ∷ [] = ap (λ (v : PageGroup). v.prefixes.items) (sym (set_here k u uat same)) ∙ more.items in
-        last_by i q (pushed_at g.prefixes.items (record { launch = length ls; count = 1 }) q i (ap (λ (qs : List Prefix). slice_get qs i) (sym items) ∙ qat))
+        let items : u.reaches.items ≡ g.reaches.items ++ record { launch = length ls; count = 1 } ∷ [] = ap (λ (v : PageGroup). v.reaches.items) (sym (set_here k u uat same)) ∙ more.items in
+        last_by i q (pushed_at g.reaches.items (record { launch = length ls; count = 1 }) q i (ap (λ (qs : List Reach). slice_get qs i) (sym items) ∙ qat))
       where
-        last_by : (j : ℕ) (r : Prefix) → (slice_get g.prefixes.items j ≡ Some r) ⊎ ((j ≡ length g.prefixes.items) × (record { launch = length ls; count = 1 } ≡ r)) → (r.launch < length (ls ++ (xs ++ p ∷ []) ∷ [])) × (r.count ≡ 1)
+        last_by : (j : ℕ) (r : Reach) → (slice_get g.reaches.items j ≡ Some r) ⊎ ((j ≡ length g.reaches.items) × (record { launch = length ls; count = 1 } ≡ r)) → (r.launch < length (ls ++ (xs ++ p ∷ []) ∷ [])) × (r.count ≡ 1)
         last_by j r (inl before) = let n = is.named p j g r at before in (long xs (xs ++ p ∷ []) r.launch n.0, n.1)
         last_by j r (inr (end, is_last)) =
-            let l : length ls ≡ r.launch = ap (λ (s : Prefix). s.launch) is_last in
-            (omega (arith, l, length_push ls (xs ++ p ∷ [])), sym (ap (λ (s : Prefix). s.count) is_last))
+            let l : length ls ≡ r.launch = ap (λ (s : Reach). s.launch) is_last in
+            (omega (arith, l, length_push ls (xs ++ p ∷ [])), sym (ap (λ (s : Reach). s.count) is_last))
     named_by k i u q uat qat (inr other) = let n = is.named k i u q (set_there k u uat other) qat in (long xs (xs ++ p ∷ []) q.launch n.0, n.1)
 
 -- a launch more, of which nothing is listed yet
@@ -199,23 +199,23 @@ listed_more pages ls gs is = record {
 }
 
 -- a page more, which no launch needs
-pub listed_page : (pages : ℕ) (gs : List PageGroup) (g : PageGroup) → g.first ≡ pages → g.count ≡ 1 → g.prefixes.items ≡ [] → IsListed pages gs [] → IsListed (pages + 1) (gs ++ g ∷ []) []
+pub listed_page : (pages : ℕ) (gs : List PageGroup) (g : PageGroup) → g.first ≡ pages → g.count ≡ 1 → g.reaches.items ≡ [] → IsListed pages gs [] → IsListed (pages + 1) (gs ++ g ∷ []) []
 listed_page pages gs g first count items is = record {
   size = length_push gs g ∙ ap (λ n. n + 1) is.size;
   single = λ k u at. single_by k u (pushed_at gs g u k at);
   named = λ k i u q at qat. named_by k i u q qat (pushed_at gs g u k at);
-  counted = λ l. sum_by_push (λ (u : PageGroup). count_of l u.prefixes.items) gs g ∙ omega (arith, is.counted l, ap (count_of l) items);
-  index = λ l f. ap (list_all f) (flat_map-append (group_needs l) gs (g ∷ [])) ∙ (list_all-append f (prefix_needs gs l) (prefix_needs (g ∷ []) l) ∙ (ap (λ (b : Bool). b && list_all f (prefix_needs (g ∷ []) l)) (is.index l f) ∙ ap (λ (qs : List Prefix). list_all f (flat_map (λ (q : Prefix). if q.launch == l then range_with_len g.first q.count else []) qs ++ [])) items));
+  counted = λ l. sum_by_push (λ (u : PageGroup). count_of l u.reaches.items) gs g ∙ omega (arith, is.counted l, ap (count_of l) items);
+  index = λ l f. ap (list_all f) (flat_map-append (group_needs l) gs (g ∷ [])) ∙ (list_all-append f (reach_needs gs l) (reach_needs (g ∷ []) l) ∙ (ap (λ (b : Bool). b && list_all f (reach_needs (g ∷ []) l)) (is.index l f) ∙ ap (λ (qs : List Reach). list_all f (flat_map (λ (q : Reach). if q.launch == l then range_with_len g.first q.count else []) qs ++ [])) items));
 }
   where
     single_by : (k : ℕ) (u : PageGroup) → (slice_get gs k ≡ Some u) ⊎ ((k ≡ length gs) × (g ≡ u)) → (u.first ≡ k) × (u.count ≡ 1)
     single_by k u (inl before) = is.single k u before
     single_by k u (inr (end, same)) = (ap (λ (v : PageGroup). v.first) (sym same) ∙ (first ∙ (sym is.size ∙ sym end)), ap (λ (v : PageGroup). v.count) (sym same) ∙ count)
 
-    named_by : (k i : ℕ) (u : PageGroup) (q : Prefix) → slice_get u.prefixes.items i ≡ Some q → (slice_get gs k ≡ Some u) ⊎ ((k ≡ length gs) × (g ≡ u)) → (q.launch < 0) × (q.count ≡ 1)
+    named_by : (k i : ℕ) (u : PageGroup) (q : Reach) → slice_get u.reaches.items i ≡ Some q → (slice_get gs k ≡ Some u) ⊎ ((k ≡ length gs) × (g ≡ u)) → (q.launch < 0) × (q.count ≡ 1)
     named_by k i u q qat (inl before) = is.named k i u q before qat
     named_by k i u q qat (inr (end, same)) =
-        let none : slice_get u.prefixes.items i ≡ None = ap (λ (v : PageGroup). slice_get v.prefixes.items i) (sym same) ∙ ap (λ (qs : List Prefix). slice_get qs i) items in
+        let none : slice_get u.reaches.items i ≡ None = ap (λ (v : PageGroup). slice_get v.reaches.items i) (sym same) ∙ ap (λ (qs : List Reach). slice_get qs i) items in
         cc
 
 -- ---- all lists

@@ -22,8 +22,8 @@ use Rattle.rim_chain.specs.declared.link.Link.TheVariants.{Blocks, Pages, Unmeas
 use Rattle.job_board.specs.Board.{IsNeeded, IsOwnPage, NeedsOwn}
 use Rattle.job_board.specs.declared.grouping.Stretch.{Stretch}
 use Rattle.job_board.specs.inside.Grouping.{AreStretches, IsGrouped, Precedes, own_pages}
-use Rattle.job_board.specs.declared.prefixes.PageGroup.{PageGroup}
-use Rattle.job_board.specs.inside.Prefixes.{AreGroups, prefix_needs}
+use Rattle.job_board.specs.declared.reaches.PageGroup.{PageGroup}
+use Rattle.job_board.specs.inside.Reaches.{AreGroups, reach_needs}
 use Rattle.job_board.specs.inside.OwnStretches.{link_stretches, plan_stretches, stretch_at, stretches_from}
 use Rattle.job_board.proofs.Grouped.{grouped_are}
 use Rattle.job_board.proofs.Slots.{has_slot, slots_follow}
@@ -75,8 +75,8 @@ after pages ss others l key has = record {
   slot = has.slot;
 }
 
-front : {X : Type 0} (P : X → Type 0) (xs ys : List X) → All P (xs ++ ys) → All P xs
-front P xs ys all = λ k d lt. All-contains P (xs ++ ys) (get_or xs k d) all (Contains-append_left xs ys (get_or xs k d) (Contains-get_or xs k d lt))
+prefix : {X : Type 0} (P : X → Type 0) (xs ys : List X) → All P (xs ++ ys) → All P xs
+prefix P xs ys all = λ k d lt. All-contains P (xs ++ ys) (get_or xs k d) all (Contains-append_left xs ys (get_or xs k d) (Contains-get_or xs k d lt))
 
 back : {X : Type 0} (P : X → Type 0) (xs ys : List X) → All P (xs ++ ys) → All P ys
 back P xs ys all = λ k d lt. All-contains P (xs ++ ys) (get_or ys k d) all (Contains-append_right xs ys (get_or ys k d) (Contains-get_or ys k d lt))
@@ -117,7 +117,7 @@ module _ (pages : List PageView) (rising : IsRising (page_keys pages)) (plans : 
   links_own [] begin has among = All-nil (IsOwn pages plans)
   links_own (k ∷ ks) begin has among =
       All-append (IsOwn pages plans) (link_stretches pages l k) (flat_map (link_stretches pages l) ks)
-      (link_own k (All-head BeginsItem k ks begin) (front (Contains (page_keys pages)) (keys_in k) (keys_of ks) has) (front (Contains (keys_of p.links)) (keys_in k) (keys_of ks) among))
+      (link_own k (All-head BeginsItem k ks begin) (prefix (Contains (page_keys pages)) (keys_in k) (keys_of ks) has) (prefix (Contains (keys_of p.links)) (keys_in k) (keys_of ks) among))
       (links_own ks (All-tail BeginsItem k ks begin) (back (Contains (page_keys pages)) (keys_in k) (keys_of ks) has) (back (Contains (keys_of p.links)) (keys_in k) (keys_of ks) among))
 
   -- ---- and every page is in one
@@ -153,7 +153,7 @@ module _ (pages : List PageView) (rising : IsRising (page_keys pages)) (plans : 
   links_there (k ∷ ks) has key in_it = by (λ later. links_there ks (back (Contains (page_keys pages)) (keys_in k) (keys_of ks) has) key later) (Contains-append_cases (keys_in k) (keys_of ks) key in_it)
     where
       by : (Contains (keys_of ks) key → HasPage pages (flat_map (link_stretches pages l) ks) l key) → Contains (keys_in k) key ⊎ Contains (keys_of ks) key → HasPage pages (flat_map (link_stretches pages l) (k ∷ ks)) l key
-      by rest (inl here) = sooner pages (link_stretches pages l k) (flat_map (link_stretches pages l) ks) l key (link_there k (front (Contains (page_keys pages)) (keys_in k) (keys_of ks) has) key here)
+      by rest (inl here) = sooner pages (link_stretches pages l k) (flat_map (link_stretches pages l) ks) l key (link_there k (prefix (Contains (page_keys pages)) (keys_in k) (keys_of ks) has) key here)
       by rest (inr later) = after pages (link_stretches pages l k) (flat_map (link_stretches pages l) ks) l key (rest later)
 
 -- ---- all plans
@@ -341,32 +341,32 @@ from_own l j (a ∷ ss) has = by (from_own l j ss) (Contains-append_cases (own_p
 
 module _ (t : TableView) (table : IsTable t) (plans : List PlanView) (ss : List Stretch) (gs : List PageGroup) (own : All (IsOwn t.pages plans) ss)
     (there : (l : ℕ) (p : PlanView) → slice_get plans l ≡ Some p → (key : PageKey) → Contains (keys_of p.links) key → HasPage t.pages ss l key)
-    (index : (l : ℕ) (f : ℕ → Bool) → list_all f (prefix_needs gs l) ≡ list_all f (flat_map (own_pages l) ss)) where
-  key_needed : (l : ℕ) (p : PlanView) → slice_get plans l ≡ Some p → (key : PageKey) → Contains (keys_of p.links) key → IsNeeded t (prefix_needs gs l) key
+    (index : (l : ℕ) (f : ℕ → Bool) → list_all f (reach_needs gs l) ≡ list_all f (flat_map (own_pages l) ss)) where
+  key_needed : (l : ℕ) (p : PlanView) → slice_get plans l ≡ Some p → (key : PageKey) → Contains (keys_of p.links) key → IsNeeded t (reach_needs gs l) key
   key_needed l p plan key in_it =
       let has = there l p plan key in_it in
       let j : ℕ = has.stretch.first + has.place in
-      (j, has.slot, found j (prefix_needs gs l) (index l (other_than j) ∙ not_passed j (flat_map (own_pages l) ss) (in_own l has.place ss has.stretch has.there has.launch has.within)))
+      (j, has.slot, found j (reach_needs gs l) (index l (other_than j) ∙ not_passed j (flat_map (own_pages l) ss) (in_own l has.place ss has.stretch has.there has.launch has.within)))
 
-  page_own : (l : ℕ) (p : PlanView) → slice_get plans l ≡ Some p → (j : ℕ) → Contains (prefix_needs gs l) j → IsOwnPage t (keys_of p.links) j
+  page_own : (l : ℕ) (p : PlanView) → slice_get plans l ≡ Some p → (j : ℕ) → Contains (reach_needs gs l) j → IsOwnPage t (keys_of p.links) j
   page_own l p plan j in_it =
-      let of = from_own l j ss (found j (flat_map (own_pages l) ss) (sym (index l (other_than j)) ∙ not_passed j (prefix_needs gs l) in_it)) in
+      let of = from_own l j ss (found j (flat_map (own_pages l) ss) (sym (index l (other_than j)) ∙ not_passed j (reach_needs gs l) in_it)) in
       let is = All-contains (IsOwn t.pages plans) ss of.stretch own of.there in
       let page = is.own of.place of.within in
       let same : is.plan ≡ p = same_Some is.plan p (sym is.at ∙ (ap (slice_get plans) of.launch ∙ plan)) in
       let slot = slot-page t.pages table.rising (of.stretch.first + of.place) page.0 page.1 in
       (page.0.key, subst (λ (q : PlanView). Contains (keys_of q.links) page.0.key) same page.3, slot ∙ ap Some (sym of.page))
 
-  needs_at : (l : ℕ) → l < length plans → get_or (map (prefix_needs gs) (range_with_len 0 (length plans))) l [] ≡ prefix_needs gs l
-  needs_at l lt = get_or-map-range_with_len (prefix_needs gs) 0 (length plans) l l [] lt (omega arith)
+  needs_at : (l : ℕ) → l < length plans → get_or (map (reach_needs gs) (range_with_len 0 (length plans))) l [] ≡ reach_needs gs l
+  needs_at l lt = get_or-map-range_with_len (reach_needs gs) 0 (length plans) l l [] lt (omega arith)
 
-  pub needs_own : NeedsOwn t plans (map (prefix_needs gs) (range_with_len 0 (length plans)))
+  pub needs_own : NeedsOwn t plans (map (reach_needs gs) (range_with_len 0 (length plans)))
   needs_own = record {
-    size = length-map-range_with_len (prefix_needs gs) 0 (length plans);
+    size = length-map-range_with_len (reach_needs gs) 0 (length plans);
     all = λ l p plan. subst (λ (ns : List ℕ). All (IsNeeded t ns) (keys_of p.links)) (sym (needs_at l (slice_get_within plans l p plan)))
         (λ i d lt. key_needed l p plan (get_or (keys_of p.links) i d) (Contains-get_or (keys_of p.links) i d lt));
     only = λ l p plan. subst (λ (ns : List ℕ). All (IsOwnPage t (keys_of p.links)) ns) (sym (needs_at l (slice_get_within plans l p plan)))
-        (λ i d lt. page_own l p plan (get_or (prefix_needs gs l) i d) (Contains-get_or (prefix_needs gs l) i d lt));
+        (λ i d lt. page_own l p plan (get_or (reach_needs gs l) i d) (Contains-get_or (reach_needs gs l) i d lt));
   }
 
 -- ---- as code makes them
@@ -424,5 +424,5 @@ module _ (t : TableView) (table : IsTable t) (plans : List PlanView) (ss sorted 
   pub own_groups : AreGroups (length t.pages) (length plans) gs
   own_groups = grouped_are (length t.pages) (length plans) sorted gs few is_grouped
 
-  pub groups_own : NeedsOwn t plans (map (prefix_needs gs) (range_with_len 0 (length plans)))
+  pub groups_own : NeedsOwn t plans (map (reach_needs gs) (range_with_len 0 (length plans)))
   groups_own = needs_own t table plans sorted gs own there is_grouped.index

@@ -9,12 +9,12 @@ use Rattle.job_board.specs.declared.job.JobId.{JobId}
 use Rattle.job_board.specs.declared.job.JobId.TheVariants.{Page, Launch}
 use Rattle.job_board.specs.declared.job.JobState.{JobState}
 use Rattle.job_board.specs.declared.job.JobState.TheVariants.{Free, Held, Done}
-use Rattle.job_board.specs.declared.prefixes.PageGroup.{PageGroup}
-use Rattle.job_board.specs.declared.prefixes.Cursor.{Cursor}
+use Rattle.job_board.specs.declared.reaches.PageGroup.{PageGroup}
+use Rattle.job_board.specs.declared.reaches.Cursor.{Cursor}
 use Rattle.job_board.specs.Jobs.{CoreState, is_done, is_page_done, state_of, with_page}
 use Rattle.job_board.specs.inside.Notes.{Moves}
-use Rattle.job_board.specs.inside.Prefixes.{AreGroups, HasPutJob, Waits}
-use Rattle.job_board.proofs.Prefixed.{at_same}
+use Rattle.job_board.specs.inside.Reaches.{AreGroups, HasPutJob, Waits}
+use Rattle.job_board.proofs.Reaching.{at_same}
 
 -- no page is done or undone
 waits_same : (xs ys : List JobState) (gs : List PageGroup) (cs : List Cursor) (lefts : List ℕ) → length ys ≡ length xs → ((p : ℕ) → is_page_done ys p ≡ is_page_done xs p) → Waits xs gs cs lefts → Waits ys gs cs lefts

@@ -3,7 +3,7 @@ pub mod Notes
 pub mod Marks
 pub mod Needs
 pub mod Rows
-pub mod Prefixes
+pub mod Reaches
 pub mod Lines
 pub mod Grouping
 pub mod OwnStretches

@@ -1,10 +1,10 @@
 //! Groups of pages, from what launches need in the order of its pages.
 ghost use Rattle.std.specs.Prelude.{◌≡◌, ◌-◌, true, false, IfOk, OnOk};
 ghost use Rattle.job_board.specs.declared.grouping.Stretch.{Stretch};
-ghost use Rattle.job_board.specs.declared.prefixes.PageGroup.{PageGroup};
+ghost use Rattle.job_board.specs.declared.reaches.PageGroup.{PageGroup};
 ghost use Rattle.job_board.specs.inside.Grouping.{AddsStretch, AreGroupsOf, LastBegins, NoneBegins};
 
-use crate::prefixes::{PageGroup, Prefix};
+use crate::reaches::{PageGroup, Reach};
 use refusal::NoMemory;
 use std::alloc::Global;
 
@@ -57,7 +57,7 @@ fn extend_last(groups: &mut [PageGroup], stretch: Stretch) -> Result<(), NoMemor
 {
     let last = groups.len() - 1;
     let group = &mut groups[last];
-    group.prefixes.push(Prefix {
+    group.reaches.push(Reach {
         launch: stretch.launch,
         count: stretch.count,
     })?;
@@ -70,15 +70,15 @@ fn add_group(alloc: Global, groups: &mut Vec<PageGroup>, stretch: Stretch) -> Re
     requires { NoneBegins groups.old.items stretch.first }
     ensures { OnOk result (AddsStretch groups.old.items stretch groups.new.items) }
 {
-    let mut prefixes = Vec::new(alloc);
-    prefixes.push(Prefix {
+    let mut reaches = Vec::new(alloc);
+    reaches.push(Reach {
         launch: stretch.launch,
         count: stretch.count,
     })?;
     groups.push(PageGroup {
         first: stretch.first,
         count: stretch.count,
-        prefixes,
+        reaches,
     })?;
     Ok(())
 }

@@ -11,7 +11,7 @@ ghost use Rattle.job_board.specs.inside.Notes.{IsJob, Moves, held_of, released};
 use crate::job::{CoreFault, JobId, JobState};
 use crate::line::{first_ready, free_in, launch_at};
 use crate::needs::Needs;
-use crate::prefixes::{Cursor, all_left, note_done};
+use crate::reaches::{Cursor, all_left, note_done};
 use refusal::NoMemory;
 use std::alloc::Global;
 use std::marker::Model;
@@ -27,7 +27,7 @@ pub(crate) struct Jobs {
     holding: Vec<Option<JobId>>,
     /// How far each group of pages is done.
     cursors: Vec<Cursor>,
-    /// Of each launch, how many of its prefixes are not done.
+    /// Of each launch, how many of its reaches are not done.
     left: Vec<usize>,
     /// The launches that wait for nothing, in the order in which that came to be.
     ready: Vec<usize>,
@@ -41,7 +41,7 @@ impl Model for Jobs {
     ghost use Rattle.std.specs.Prelude.{◌≡◌, length, vec_capacity};
     ghost use Rattle.job_board.specs.inside.Lines.{IsLine, IsPassed};
     ghost use Rattle.job_board.specs.inside.Notes.{Notes};
-    ghost use Rattle.job_board.specs.inside.Prefixes.{IsIndex, Waits};
+    ghost use Rattle.job_board.specs.inside.Reaches.{IsIndex, Waits};
 
     ghost Value = { CoreState };
 
@@ -271,7 +271,7 @@ impl Jobs {
         launch_at(&self.ready, place)
     }
 
-    /// Whether all pages that a launch needs are done: it waits for none of its prefixes.
+    /// Whether all pages that a launch needs are done: it waits for none of its reaches.
     fn is_launch_ready(&self, launch: usize) -> bool
         ensures { result ≡ is_ready self.now (JobId.Launch launch) }
     {

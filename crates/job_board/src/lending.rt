@@ -8,7 +8,7 @@ use refusal::NoMemory;
 use std::alloc::Global;
 
 /// Of each worker the launches that it was lent, which are best given to it; and rows for lent launches. What is said
-/// here is a wish: the board gives a launch that was lent to another worker where no other is left.
+/// here is preferred, and no more: the board gives a launch that was lent to another worker where no other is left.
 #[derive(Drop)]
 pub(crate) struct Lending {
     lent: Vec<[Option<usize>; LANES - 1]>,

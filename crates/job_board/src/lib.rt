@@ -3,7 +3,7 @@
 
 mod closing;
 mod grouping;
-mod groups;
+mod side_by_side;
 pub mod job;
 mod jobs;
 pub mod known;
@@ -13,7 +13,7 @@ mod line;
 pub mod machine;
 mod needs;
 mod own_needs;
-mod prefixes;
+mod reaches;
 mod rows;
 pub mod run;
 pub mod share;

@@ -20,7 +20,7 @@ pub(crate) fn first_ready(alloc: Global, left: &[usize]) -> Result<Vec<usize>, N
     Ok(ready)
 }
 
-/// A launch waits for one prefix fewer, and comes into line where it waits for none.
+/// A launch waits for one reach fewer, and comes into line where it waits for none.
 pub(crate) fn wait_less(left: &mut [usize], launch: usize, ready: &mut Vec<usize>)
     requires some { 1 ≤ slice_index left.old launch }
     requires line { IsLine left.old ready.old.items (vec_capacity ready.old) }

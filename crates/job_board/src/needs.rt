@@ -3,9 +3,9 @@ ghost use Rattle.std.specs.Prelude.{◌≡◌, ◌<◌, List, [], length, map, I
 ghost use Rattle.std.specs.List.{All};
 ghost use Rattle.job_board.specs.Jobs.{NeedsWithin};
 ghost use Rattle.job_board.specs.inside.Needs.{AreNeeds, groups_of, needs_of};
-ghost use Rattle.job_board.specs.inside.Prefixes.{AddsList, IsListed};
+ghost use Rattle.job_board.specs.inside.Reaches.{AddsList, IsListed};
 
-use crate::prefixes::{PageGroup, Prefix};
+use crate::reaches::{PageGroup, Reach};
 use refusal::NoMemory;
 use std::alloc::Global;
 
@@ -15,7 +15,7 @@ pub(crate) enum Needs {
     /// Each launch needs the pages that are listed for it, and the groups have the same.
     Listed(Vec<Vec<usize>>, Vec<PageGroup>),
     /// Each of this many launches needs the first pages of groups.
-    Prefixes(usize, Vec<PageGroup>),
+    Reaches(usize, Vec<PageGroup>),
 }
 
 impl Needs {
@@ -25,7 +25,7 @@ impl Needs {
     {
         match self {
             Needs::Listed(lists, _) => lists.len(),
-            Needs::Prefixes(launches, _) => *launches,
+            Needs::Reaches(launches, _) => *launches,
         }
     }
 
@@ -34,7 +34,7 @@ impl Needs {
     {
         match self {
             Needs::Listed(_, groups) => groups.as_slice(),
-            Needs::Prefixes(_, groups) => groups.as_slice(),
+            Needs::Reaches(_, groups) => groups.as_slice(),
         }
     }
 
@@ -65,7 +65,7 @@ fn single_pages(alloc: Global, pages: usize) -> Result<Vec<PageGroup>, NoMemory>
         groups.push(PageGroup {
             first,
             count: 1,
-            prefixes: Vec::new(alloc),
+            reaches: Vec::new(alloc),
         })?;
     }
     Ok(groups)
@@ -78,7 +78,7 @@ fn add_list(groups: &mut [PageGroup], launch: usize, list: &[usize]) -> Result<(
 {
     for page in list {
         let group = &mut groups[*page];
-        group.prefixes.push(Prefix { launch, count: 1 })?;
+        group.reaches.push(Reach { launch, count: 1 })?;
     }
     Ok(())
 }

@@ -31,7 +31,7 @@ pub(crate) fn own_needs(
     let mut stretches = stretches_of(alloc, table, plans)?;
     stretches.sort_unstable();
     let groups = grouped(alloc, &stretches)?;
-    Ok(Needs::Prefixes(plans.len(), groups))
+    Ok(Needs::Reaches(plans.len(), groups))
 }
 
 /// The stretches of pages that plans need, in the order of the plans.

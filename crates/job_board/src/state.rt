@@ -15,7 +15,7 @@ ghost use Rattle.rim_chain.specs.Rows.{IsRowOf, value_in};
 ghost use Rattle.job_board.specs.declared.machine.TheConstants.{WORKER_LIMIT};
 
 use crate::closing::{add_up, copy_values, write_counts};
-use crate::groups::Groups;
+use crate::side_by_side::SideBySide;
 use crate::job::{Event, JobId, JobState};
 use crate::lending::Lending;
 use crate::machine::Core;
@@ -27,15 +27,15 @@ use crate::task::{ChainedLaunch, HashedPage, LaunchTask, PageTask};
 use crate::work::Work;
 use page_jobs::{DigestRow, Page, Table};
 use refusal::NoMemory;
-use rim_chain::{LaunchJob, LaunchPlan, SharedFronts};
+use rim_chain::{LaunchJob, LaunchPlan, SharedPrefixes};
 use rim_desc::Measurement;
 use std::alloc::Global;
 use std::marker::Model;
 use std::sync::ledger::{Blank, Book};
 
-/// The core and its history, the table, the plans, the rows, the values of launches and of the fronts that launches
+/// The core and its history, the table, the plans, the rows, the values of launches and of the prefixes that launches
 /// have in common, which page and which launch each worker is given first, and the ledger's book. Its type says that the core is what its
-/// history leaves, that each filled slot, each value and each front is its own job's, that as many pages are done as the book
+/// history leaves, that each filled slot, each value and each prefix is its own job's, that as many pages are done as the book
 /// says, and that pages and plans are those of its run.
 #[derive(Drop)]
 pub struct BoardState<'a, L: Run> {
@@ -46,10 +46,10 @@ pub struct BoardState<'a, L: Run> {
     rows: Vec<Option<DigestRow>>,
     spare: Vec<DigestRow>,
     results: Vec<Option<Measurement>>,
-    fronts: SharedFronts,
+    prefixes: SharedPrefixes,
     /// How many launches were noted when they came to be ready.
     noted: usize,
-    groups: Groups,
+    side_by_side: SideBySide,
     lending: Lending,
     book: Book<L>,
 }
@@ -59,13 +59,13 @@ impl<'a, L: Run> Model for BoardState<'a, L> {
     ghost use Rattle.job_board.specs.Board.{BoardView, IsBoard, IsOfRun};
     ghost use Rattle.job_board.specs.History.{most_events};
     ghost use Rattle.job_board.specs.inside.Rows.{HasRows};
-    ghost use Rattle.rim_chain.specs.SharedFronts.{AreShared};
+    ghost use Rattle.rim_chain.specs.SharedPrefixes.{AreShared};
 
     ghost Value = { BoardView };
 
     ghost view = { λ b. record { core = b.core; history = b.history.items; table = b.table; plans = b.plans.now; results = b.results.items; book = b.book.total } };
 
-    ghost invariant = { λ b. IsBoard (record { core = b.core; history = b.history.items; table = b.table; plans = b.plans.now; results = b.results.items; book = b.book.total }) × (most_events b.core ≤ vec_capacity b.history) × HasRows b.core b.plans.now b.rows.items b.spare.items × AreShared b.table b.plans.now b.fronts × IsOfRun L.pages L.plans (record { core = b.core; history = b.history.items; table = b.table; plans = b.plans.now; results = b.results.items; book = b.book.total }) };
+    ghost invariant = { λ b. IsBoard (record { core = b.core; history = b.history.items; table = b.table; plans = b.plans.now; results = b.results.items; book = b.book.total }) × (most_events b.core ≤ vec_capacity b.history) × HasRows b.core b.plans.now b.rows.items b.spare.items × AreShared b.table b.plans.now b.prefixes × IsOfRun L.pages L.plans (record { core = b.core; history = b.history.items; table = b.table; plans = b.plans.now; results = b.results.items; book = b.book.total }) };
 }
 
 impl<'a, L: Run> BoardState<'a, L> {
@@ -133,7 +133,7 @@ impl<'a, L: Run> BoardState<'a, L> {
             history,
             table,
             results,
-            fronts,
+            prefixes,
             ..
         } = self;
         // Each filled slot of a table has the digest of its own page.
@@ -149,7 +149,7 @@ impl<'a, L: Run> BoardState<'a, L> {
         let rim = launch.into_rim();
         history.push_reserved(event);
         results[number] = Some(rim.value());
-        fronts.keep(number, rim.into_marks());
+        prefixes.keep(number, rim.into_checkpoints());
         Ok(())
     }
 
@@ -216,7 +216,7 @@ impl<'a, L: Run> BoardState<'a, L> {
             return Some(number);
         }
         self.note_ready_launches();
-        if self.lending.waits(self.fronts.waiting()) && self.core.free_page().is_some() {
+        if self.lending.waits(self.prefixes.waiting()) && self.core.free_page().is_some() {
             return None;
         }
         self.next_open_launch()
@@ -233,8 +233,8 @@ impl<'a, L: Run> BoardState<'a, L> {
 
     /// Whether a worker is within a group of pages, the next of which is free.
     fn has_page_ahead(&self, worker: usize) -> bool {
-        let next = JobId::Page(self.groups.wish(worker));
-        self.groups.is_within(worker) && matches!(self.core.state(next), Some(JobState::Free))
+        let next = JobId::Page(self.side_by_side.preferred(worker));
+        self.side_by_side.is_within(worker) && matches!(self.core.state(next), Some(JobState::Free))
     }
 
     /// Notes the launches that came to be ready since this was called last.
@@ -243,7 +243,7 @@ impl<'a, L: Run> BoardState<'a, L> {
     {
         let BoardState {
             core,
-            fronts,
+            prefixes,
             noted,
             ..
         } = self;
@@ -251,7 +251,7 @@ impl<'a, L: Run> BoardState<'a, L> {
             let Some(number) = core.in_line(*noted) else {
                 return;
             };
-            fronts.note_ready(number);
+            prefixes.note_ready(number);
             *noted = noted.saturating_add(1);
         }
     }
@@ -261,9 +261,9 @@ impl<'a, L: Run> BoardState<'a, L> {
         ensures same { self.new ≡ self.old }
         ensures some { IfSome result (IsOpen self.old.core) }
     {
-        let BoardState { core, fronts, .. } = self;
+        let BoardState { core, prefixes, .. } = self;
         for _ in 0..2 * core.launches() {
-            let number = fronts.next()?;
+            let number = prefixes.next()?;
             if core.is_open(number) {
                 return Some(number);
             }
@@ -277,10 +277,12 @@ impl<'a, L: Run> BoardState<'a, L> {
         ensures some { IfSome result (λ page. slice_get self.old.core.pages page ≡ Some JobState.Free) }
         ensures none { IfNone result (NoneFree self.old.core.pages) }
     {
-        let BoardState { core, groups, .. } = self;
+        let BoardState {
+            core, side_by_side, ..
+        } = self;
         let first = core.free_page()?;
-        let page = free_of(core, groups.wish(worker), first);
-        groups.note(worker, page);
+        let page = free_of(core, side_by_side.preferred(worker), first);
+        side_by_side.note(worker, page);
         Some(page)
     }
 
@@ -332,7 +334,7 @@ impl<'a, L: Run> BoardState<'a, L> {
             table,
             plans,
             rows,
-            fronts,
+            prefixes,
             ..
         } = self;
         let event = Event::Take {
@@ -352,9 +354,9 @@ impl<'a, L: Run> BoardState<'a, L> {
         }
         // Each filled slot of a table has the digest of its own page.
         let _pages = table.pages();
-        let head = fronts.front(plans, number);
+        let shared_prefix = prefixes.prefix(plans, number);
         let job = LaunchJob::new(number, plan, row);
-        LaunchTask::new(job.going_on(head, fronts.take_marks(number)))
+        LaunchTask::new(job.going_on(shared_prefix, prefixes.take_checkpoints(number)))
     }
 }
 
@@ -389,8 +391,8 @@ impl<'a, L: Run> BoardState<'a, L> {
         let rows = rows_of(alloc, plans)?;
         let spare = spare_rows(alloc, plans, workers)?;
         let results = vec![in alloc; None; plans.len()]?;
-        let fronts = SharedFronts::new(alloc, plans)?;
-        let groups = Groups::new(alloc, workers)?;
+        let prefixes = SharedPrefixes::new(alloc, plans)?;
+        let side_by_side = SideBySide::new(alloc, workers)?;
         let lending = Lending::new(alloc, workers, lent_rows(alloc, plans, workers)?)?;
         Ok((
             BoardState {
@@ -401,9 +403,9 @@ impl<'a, L: Run> BoardState<'a, L> {
                 rows,
                 spare,
                 results,
-                fronts,
+                prefixes,
                 noted: 0,
-                groups,
+                side_by_side,
                 lending,
                 book,
             },
@@ -446,14 +448,14 @@ impl<'a, L: Run> BoardState<'a, L> {
     {
         let BoardState {
             core,
-            fronts,
+            prefixes,
             lending,
             ..
         } = self;
-        if !lending.is_enough(fronts.waiting()) {
+        if !lending.is_enough(prefixes.waiting()) {
             return None;
         }
-        let number = fronts.next_alone()?;
+        let number = prefixes.next_alone()?;
         if core.is_open(number) {
             Some(number)
         } else {

@@ -1,8 +1,8 @@
 //! A board under its lock, and the workers that do its jobs.
 #![tactic(auto)]
 
-mod ahead;
-mod beside;
+mod hashed_ahead;
+mod chained_beside;
 pub mod board;
 pub mod gate;
 mod worker;

@@ -1,6 +1,6 @@
 //! What a worker does.
-use crate::ahead::Ahead;
-use crate::beside::Beside;
+use crate::hashed_ahead::HashedAhead;
+use crate::chained_beside::ChainedBeside;
 use crate::board::Board;
 use crate::gate::Gate;
 use job_board::{JobId, Run, Share, Work};
@@ -9,15 +9,15 @@ use std::sync::Wait;
 /// The pages and launches that a worker has done before they are given to it.
 #[derive(Drop)]
 pub(crate) struct Early<'a, L: Run> {
-    pages: Ahead<'a, L>,
-    launches: Beside<L>,
+    pages: HashedAhead<'a, L>,
+    launches: ChainedBeside<L>,
 }
 
 impl<'a, L: Run> Early<'a, L> {
     pub(crate) fn new(rt: &impl Wait, board: &Board<'a, L>) -> Early<'a, L> {
         Early {
-            pages: Ahead::new(board.pages(rt)),
-            launches: Beside::new(rt, board),
+            pages: HashedAhead::new(board.pages(rt)),
+            launches: ChainedBeside::new(rt, board),
         }
     }
 }

@@ -35,15 +35,15 @@ length-keys_in (link.Rec content) = refl
 pub keys-next : (links : List Link) (i : ℕ) (d : Link) → i < length links → keys_of (drop i links) ≡ keys_in (get_or links i d) ++ keys_of (drop (i + 1) links)
 keys-next links i d inside = at_drop_more keys_of links i d inside
 
-pub found : {A : Type 0} (front back : List A) (n : ℕ) (x : A) → Some x ≡ slice_get front n → Some x ≡ slice_get (front ++ back) n
-found front back n x at =
-    let inside : n < length front = slice_get_within front n x (sym at) in
-    let long : n < length (front ++ back) = rw (length-append front back) (omega arith) in
-    at ∙ slice_get-get_or front n x inside ∙ ap Some (sym (get_or_append_left front back x n inside)) ∙ sym (slice_get-get_or (front ++ back) n x long)
+pub found : {A : Type 0} (prefix back : List A) (n : ℕ) (x : A) → Some x ≡ slice_get prefix n → Some x ≡ slice_get (prefix ++ back) n
+found prefix back n x at =
+    let inside : n < length prefix = slice_get_within prefix n x (sym at) in
+    let long : n < length (prefix ++ back) = rw (length-append prefix back) (omega arith) in
+    at ∙ slice_get-get_or prefix n x inside ∙ ap Some (sym (get_or_append_left prefix back x n inside)) ∙ sym (slice_get-get_or (prefix ++ back) n x long)
 
-pub past : {A : Type 0} (front : List A) (n : ℕ) → None ≡ slice_get front n → length front ≤ n
-past front n none = elim (less n (length front)) [
-  | inl inside ↦ absurd (at-none front n none inside)
+pub past : {A : Type 0} (prefix : List A) (n : ℕ) → None ≡ slice_get prefix n → length prefix ≤ n
+past prefix n none = elim (less n (length prefix)) [
+  | inl inside ↦ absurd (at-none prefix n none inside)
   | inr le ↦ le
 ]
   where
@@ -54,13 +54,13 @@ past front n none = elim (less n (length front)) [
     at-none [] k none inside = absurd (omega arith)
     at-none (x ∷ xs) k none inside = let some : slice_get (x ∷ xs) k ≡ Some (get_or (x ∷ xs) k x) = slice_get-get_or (x ∷ xs) k x inside in cc
 
-pub passed : {A : Type 0} (front back : List A) (n : ℕ) → length front ≤ n → n < length (front ++ back)
-    → slice_get (front ++ back) n ≡ slice_get back (n - length front)
-passed front [] n le inside = absurd (let e : length (front ++ []) ≡ length front + 0 = length-append front [] in omega arith)
-passed front (x ∷ back) n le inside =
-    let size : length (front ++ x ∷ back) ≡ length front + length (x ∷ back) = length-append front (x ∷ back) in
-    let rest : n - length front < length (x ∷ back) = omega arith in
-    slice_get-get_or (front ++ x ∷ back) n x inside ∙ ap Some (get_or-append_right front (x ∷ back) (length front) n x refl le) ∙ sym (slice_get-get_or (x ∷ back) (n - length front) x rest)
+pub passed : {A : Type 0} (prefix back : List A) (n : ℕ) → length prefix ≤ n → n < length (prefix ++ back)
+    → slice_get (prefix ++ back) n ≡ slice_get back (n - length prefix)
+passed prefix [] n le inside = absurd (let e : length (prefix ++ []) ≡ length prefix + 0 = length-append prefix [] in omega arith)
+passed prefix (x ∷ back) n le inside =
+    let size : length (prefix ++ x ∷ back) ≡ length prefix + length (x ∷ back) = length-append prefix (x ∷ back) in
+    let rest : n - length prefix < length (x ∷ back) = omega arith in
+    slice_get-get_or (prefix ++ x ∷ back) n x inside ∙ ap Some (get_or-append_right prefix (x ∷ back) (length prefix) n x refl le) ∙ sym (slice_get-get_or (x ∷ back) (n - length prefix) x rest)
 
 -- ---- a place among the keys that are left
 
@@ -79,15 +79,15 @@ count-past l n none = let e : length (keys_in l) ≡ page_count l = length-keys_
 pub further : (links : List Link) (i : ℕ) (d : Link) (n m : ℕ) (wanted : Option PageKey) → i < length links
     → None ≡ slice_get (keys_in (get_or links i d)) n → m ≡ n - page_count (get_or links i d) → IsFurther links i n wanted → IsFurther links (i + 1) m wanted
 further links i d n m wanted inside none at is_there =
-    let front : List PageKey = keys_in (get_or links i d) in
+    let prefix : List PageKey = keys_in (get_or links i d) in
     let back : List PageKey = keys_of (drop (i + 1) links) in
-    let e : length front ≡ page_count (get_or links i d) = length-keys_in (get_or links i d) in
-    let le : length front ≤ n = past front n none in
-    let split : keys_of (drop i links) ≡ front ++ back = keys-next links i d inside in
-    let long : n < length (front ++ back) = rw split at is_there.inside in
-    let size : length (front ++ back) ≡ length front + length back = length-append front back in
-    let place : m ≡ n - length front = omega arith in
+    let e : length prefix ≡ page_count (get_or links i d) = length-keys_in (get_or links i d) in
+    let le : length prefix ≤ n = past prefix n none in
+    let split : keys_of (drop i links) ≡ prefix ++ back = keys-next links i d inside in
+    let long : n < length (prefix ++ back) = rw split at is_there.inside in
+    let size : length (prefix ++ back) ≡ length prefix + length back = length-append prefix back in
+    let place : m ≡ n - length prefix = omega arith in
     record {
       inside = omega arith;
-      same = ap (slice_get back) place ∙ (sym (passed front back n le long) ∙ (ap (λ keys. slice_get keys n) (sym split) ∙ is_there.same));
+      same = ap (slice_get back) place ∙ (sym (passed prefix back n le long) ∙ (ap (λ keys. slice_get keys n) (sym split) ∙ is_there.same));
     }

@@ -3,8 +3,8 @@ pub mod Keys
 pub mod LinkByLink
 pub mod Fitting
 pub mod Begins
-pub mod KnownFronts
-pub mod FrontValues
+pub mod KnownPrefixes
+pub mod PrefixValues
 pub mod Readable
 pub mod ReadParts
 pub mod Rows

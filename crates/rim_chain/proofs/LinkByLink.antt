@@ -56,24 +56,24 @@ keys-within links i d n inside count =
 
 -- ---- a list of links in two pieces
 
-parts-cut : (front back : List Link) (digests : List Measurement)
-    → parts_with (front ++ back) digests ≡ parts_with front (take (length (keys_of front)) digests) ++ parts_with back (drop (length (keys_of front)) digests)
+parts-cut : (prefix back : List Link) (digests : List Measurement)
+    → parts_with (prefix ++ back) digests ≡ parts_with prefix (take (length (keys_of prefix)) digests) ++ parts_with back (drop (length (keys_of prefix)) digests)
 unfolding parts_with
 parts-cut [] back digests = refl
-parts-cut (l ∷ front) back digests =
+parts-cut (l ∷ prefix) back digests =
     let n : ℕ = page_count l in
-    let m : ℕ = length (keys_of front) in
-    let count : length (keys_in l ++ keys_of front) ≡ n + m = length-append (keys_in l) (keys_of front) ∙ ap (λ k. k + m) (length-keys_in l) in
+    let m : ℕ = length (keys_of prefix) in
+    let count : length (keys_in l ++ keys_of prefix) ≡ n + m = length-append (keys_in l) (keys_of prefix) ∙ ap (λ k. k + m) (length-keys_in l) in
     let own : take n (take (n + m) digests) ≡ take n digests = take-take n (n + m) digests (omega arith) in
     let rest : drop n (take (n + m) digests) ≡ take m (drop n digests) = drop-take n m digests in
     let back_part : drop m (drop n digests) ≡ drop (n + m) digests = drop-drop m n digests in
-    let i = parts-cut front back (drop n digests) in
+    let i = parts-cut prefix back (drop n digests) in
     rw (count, own, rest, ← back_part)
-    (ap (λ ps. link_parts l (take n digests) ++ ps) i ∙ sym (append_assoc (link_parts l (take n digests)) (parts_with front (take m (drop n digests))) (parts_with back (drop m (drop n digests)))))
+    (ap (λ ps. link_parts l (take n digests) ++ ps) i ∙ sym (append_assoc (link_parts l (take n digests)) (parts_with prefix (take m (drop n digests))) (parts_with back (drop m (drop n digests)))))
 
-pub chain-cut : (algo : Algo) (rim : List ℕ) (front back : List Link) (digests : List Measurement)
-    → extended_by algo rim (parts_with (front ++ back) digests)
-    ≡ extended_by algo (extended_by algo rim (parts_with front (take (length (keys_of front)) digests))) (parts_with back (drop (length (keys_of front)) digests))
-chain-cut algo rim front back digests =
-    ap (extended_by algo rim) (parts-cut front back digests)
-    ∙ extended_by-append algo rim (parts_with front (take (length (keys_of front)) digests)) (parts_with back (drop (length (keys_of front)) digests))
+pub chain-cut : (algo : Algo) (rim : List ℕ) (prefix back : List Link) (digests : List Measurement)
+    → extended_by algo rim (parts_with (prefix ++ back) digests)
+    ≡ extended_by algo (extended_by algo rim (parts_with prefix (take (length (keys_of prefix)) digests))) (parts_with back (drop (length (keys_of prefix)) digests))
+chain-cut algo rim prefix back digests =
+    ap (extended_by algo rim) (parts-cut prefix back digests)
+    ∙ extended_by-append algo rim (parts_with prefix (take (length (keys_of prefix)) digests)) (parts_with back (drop (length (keys_of prefix)) digests))

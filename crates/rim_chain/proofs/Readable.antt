@@ -181,8 +181,8 @@ pub record IsReadableLaunch (l : LaunchData) (p : PlacedData) (steps : List Step
   pub fit : All IsFitting (flat_map (step_links l p) steps)
   pub few : length (keys_of (flat_map (step_links l p) steps)) ≤ most
 
-keys-split : (front back : List Link) → length (keys_of (front ++ back)) ≡ length (keys_of front) + length (keys_of back)
-keys-split front back = ap length (flat_map-append keys_in front back) ∙ length-append (keys_of front) (keys_of back)
+keys-split : (prefix back : List Link) → length (keys_of (prefix ++ back)) ≡ length (keys_of prefix) + length (keys_of back)
+keys-split prefix back = ap length (flat_map-append keys_in prefix back) ∙ length-append (keys_of prefix) (keys_of back)
 
 steps-read : (l : LaunchData) (p : PlacedData) (ss : List Step) (w : Progress) (entries : List Entry) (most : ℕ) → IsBounded l.config w
     → l.config.pool_count ≤ w.taken + most → list_steps l p w ss ≡ Ok entries → IsReadableLaunch l p ss most

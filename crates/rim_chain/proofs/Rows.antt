@@ -70,30 +70,30 @@ part-missing t (l ∷ links) (suc i) d inside none =
     and-false false = refl
 
 -- a row of two lists of keys is a row of each
-pub row-parts : (t : TableView) (front back : List PageKey) (own others : List Measurement) → length front ≡ length own
-    → IsRowOf t (front ++ back) (own ++ others) ↔ (IsRowOf t front own × IsRowOf t back others)
-row-parts t front back own others count = (cut, join)
+pub row-parts : (t : TableView) (prefix back : List PageKey) (own others : List Measurement) → length prefix ≡ length own
+    → IsRowOf t (prefix ++ back) (own ++ others) ↔ (IsRowOf t prefix own × IsRowOf t back others)
+row-parts t prefix back own others count = (cut, join)
   where
-    left : map (digest_at t) (front ++ back) ≡ map (digest_at t) front ++ map (digest_at t) back
-    left = map-append (digest_at t) front back
+    left : map (digest_at t) (prefix ++ back) ≡ map (digest_at t) prefix ++ map (digest_at t) back
+    left = map-append (digest_at t) prefix back
 
     right : map (λ m. Some m) (own ++ others) ≡ map (λ m. Some m) own ++ map (λ m. Some m) others
     right = map-append (λ m. Some m) own others
 
-    short : length (map (digest_at t) front) ≡ length own
-    short = length-map front (digest_at t) ∙ count
+    short : length (map (digest_at t) prefix) ≡ length own
+    short = length-map prefix (digest_at t) ∙ count
 
     long : length (map (λ m. Some m) own) ≡ length own
     long = length-map own (λ m. Some m)
 
-    cut : IsRowOf t (front ++ back) (own ++ others) → IsRowOf t front own × IsRowOf t back others
+    cut : IsRowOf t (prefix ++ back) (own ++ others) → IsRowOf t prefix own × IsRowOf t back others
     cut row =
-        (let both : map (digest_at t) front ++ map (digest_at t) back ≡ map (λ m. Some m) own ++ map (λ m. Some m) others = sym left ∙ (row ∙ right) in (
-          sym (take_at (map (digest_at t) front) (map (digest_at t) back) (length own) short)
+        (let both : map (digest_at t) prefix ++ map (digest_at t) back ≡ map (λ m. Some m) own ++ map (λ m. Some m) others = sym left ∙ (row ∙ right) in (
+          sym (take_at (map (digest_at t) prefix) (map (digest_at t) back) (length own) short)
               ∙ (ap (take (length own)) both ∙ take_at (map (λ m. Some m) own) (map (λ m. Some m) others) (length own) long),
-          sym (drop_at (map (digest_at t) front) (map (digest_at t) back) (length own) short)
+          sym (drop_at (map (digest_at t) prefix) (map (digest_at t) back) (length own) short)
               ∙ (ap (drop (length own)) both ∙ drop_at (map (λ m. Some m) own) (map (λ m. Some m) others) (length own) long),
         ))
 
-    join : IsRowOf t front own × IsRowOf t back others → IsRowOf t (front ++ back) (own ++ others)
+    join : IsRowOf t prefix own × IsRowOf t back others → IsRowOf t (prefix ++ back) (own ++ others)
     join rows = left ∙ (ap (λ xs. xs ++ map (digest_at t) back) rows.0 ∙ (ap (λ xs. map (λ m. Some m) own ++ xs) rows.1 ∙ sym right))

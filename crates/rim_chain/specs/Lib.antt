@@ -1,8 +1,8 @@
 pub mod Links
-pub mod Fronts
+pub mod Prefixes
 pub mod Fitting
 pub mod Rows
-pub mod SharedFronts
+pub mod SharedPrefixes
 pub mod Keys
 pub mod Reading
 pub mod Jobs

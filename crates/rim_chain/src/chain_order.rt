@@ -1,12 +1,12 @@
 //! The order in which the launches of a run are to be chained. No value depends on it.
 use crate::plan::LaunchPlan;
-use crate::siblings::Head;
+use crate::siblings::SharedPrefix;
 use refusal::NoMemory;
 use std::alloc::Global;
 use std::cmp::Reverse;
 use std::collections::BinaryHeap;
 
-/// A launch, and the earlier one from whose front it goes on.
+/// A launch, and the earlier one from whose prefix it goes on.
 #[derive(Clone, Copy, Debug, PartialEq, Eq, PartialOrd, Ord)]
 struct Follower {
     launch: usize,
@@ -21,9 +21,9 @@ struct Candidate {
     number: Reverse<usize>,
 }
 
-/// Launches of which no front is still to be chained, the one with the longest way first. A way is a launch, one that goes
+/// Launches of which no prefix is still to be chained, the one with the longest way first. A way is a launch, one that goes
 /// on from it, one that goes on from that, and so on: no number of workers chains it in less time. So launches that others
-/// wait for are chained early, and few are chained without their fronts.
+/// wait for are chained early, and few are chained without their prefixes.
 #[derive(Drop)]
 pub(crate) struct ChainOrder {
     /// Of each launch, how many parts its longest way has.
@@ -37,10 +37,10 @@ impl ChainOrder {
     pub(crate) fn new(
         alloc: Global,
         plans: &[LaunchPlan],
-        heads: &[Option<Head>],
+        shared: &[Option<SharedPrefix>],
     ) -> Result<ChainOrder, NoMemory> {
-        let followers = followers_of(alloc, heads)?;
-        let ways = ways_of(alloc, plans, heads)?;
+        let followers = followers_of(alloc, shared)?;
+        let ways = ways_of(alloc, plans, shared)?;
         // Each launch is offered when it is ready, and again when the launch that it goes on from is chained.
         let candidates = BinaryHeap::with_capacity(alloc, 2 * plans.len())?;
         Ok(ChainOrder {
@@ -91,12 +91,12 @@ impl ChainOrder {
 }
 
 /// The launches that go on from others, by the one that each goes on from.
-fn followers_of(alloc: Global, heads: &[Option<Head>]) -> Result<Vec<Follower>, NoMemory> {
-    let mut followers = Vec::with_capacity(alloc, heads.len())?;
-    for number in 0..heads.len() {
-        if let Some(head) = heads[number] {
+fn followers_of(alloc: Global, shared: &[Option<SharedPrefix>]) -> Result<Vec<Follower>, NoMemory> {
+    let mut followers = Vec::with_capacity(alloc, shared.len())?;
+    for number in 0..shared.len() {
+        if let Some(shared_prefix) = shared[number] {
             followers.push(Follower {
-                launch: head.launch,
+                launch: shared_prefix.launch,
                 number,
             })?;
         }
@@ -109,18 +109,18 @@ fn followers_of(alloc: Global, heads: &[Option<Head>]) -> Result<Vec<Follower>, 
 fn ways_of(
     alloc: Global,
     plans: &[LaunchPlan],
-    heads: &[Option<Head>],
+    shared: &[Option<SharedPrefix>],
 ) -> Result<Vec<u64>, NoMemory> {
     let mut ways = vec![in alloc; 0; plans.len()]?;
     for number in (0..plans.len()).rev() {
-        let head = heads.get(number).copied().flatten();
-        let links = head.map_or(0, |head| head.links);
+        let shared_prefix = shared.get(number).copied().flatten();
+        let links = shared_prefix.map_or(0, |shared_prefix| shared_prefix.links);
         let way = plans[number]
             .parts_after(links)
             .saturating_add(ways[number]);
         ways[number] = way;
-        if let Some(head) = head {
-            raise(&mut ways, head.launch, way);
+        if let Some(shared_prefix) = shared_prefix {
+            raise(&mut ways, shared_prefix.launch, way);
         }
     }
     Ok(ways)

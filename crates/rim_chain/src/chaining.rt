@@ -4,14 +4,14 @@ ghost use Rattle.rim_desc.specs.Part.{Data, extended_by};
 ghost use Rattle.rim_desc.specs.declared.measurement.Measurement.{Measurement};
 ghost use Rattle.rmm_model.specs.Blocks.{granules, stretches};
 ghost use Rattle.rmm_model.specs.Effects.{ripas_parts};
-ghost use Rattle.rim_chain.specs.Fronts.{AreFronts, IsFront, IsMarked, front_value};
+ghost use Rattle.rim_chain.specs.Prefixes.{AreCheckpoints, IsPrefix, IsCheckpoint, prefix_value};
 ghost use Rattle.rim_chain.specs.Links.{chain_of, link_parts, page_count, pages_with};
 ghost use Rattle.rim_chain.specs.Rows.{IsFilled};
 ghost use Rattle.rim_chain.specs.Fitting.{IsFitting};
 ghost use Rattle.rim_chain.specs.inside.Places.{IsPlace};
 ghost use Rattle.rim_desc.specs.declared.page.TheConstants.{PAGE_SIZE};
 
-use crate::front::{Front, Mark};
+use crate::prefix::{Prefix, Checkpoint};
 use crate::link::Link;
 use crate::plan::{LaunchPlan, page_count};
 use page_jobs::DigestRow;
@@ -95,78 +95,78 @@ pub fn chain(plan: &LaunchPlan, row: &DigestRow) -> Measurement
     requires { IsFilled plan.now row.now.digests }
     ensures { result.bytes ≡ chain_of plan.now row.now.digests }
 {
-    marked_chain(plan, row, None, &mut [])
+    chain_with_checkpoints(plan, row, None, &mut [])
 }
 
-/// The same measurement, which goes on from a front whose value is known, where there is one; and marks, where there
-/// are some, each with the value of the front up to it, where the chain comes to it.
+/// The same measurement, which goes on from a prefix whose value is known, where there is one; and checkpoints, where there
+/// are some, each with the value of the prefix up to it, where the chain comes to it.
 pub fn chain_from(
     plan: &LaunchPlan,
     row: &DigestRow,
-    head: Option<Front>,
-    marks: Option<Vec<Mark>>,
-) -> (Measurement, Option<Vec<Mark>>)
+    shared_prefix: Option<Prefix>,
+    checkpoints: Option<Vec<Checkpoint>>,
+) -> (Measurement, Option<Vec<Checkpoint>>)
     requires filled { IsFilled plan.now row.now.digests }
-    requires head { IfSome head (IsFront plan.now row.now.digests) }
+    requires shared_prefix { IfSome shared_prefix (IsPrefix plan.now row.now.digests) }
     ensures value { result.0.bytes ≡ chain_of plan.now row.now.digests }
-    ensures marks { IfSome result.1 (λ own. AreFronts plan.now row.now.digests own.items) }
+    ensures checkpoints { IfSome result.1 (λ own. AreCheckpoints plan.now row.now.digests own.items) }
 {
-    let mut marks = marks;
-    let value = match &mut marks {
-        Some(marks) => marked_chain(plan, row, head, marks.as_mut_slice()),
-        None => marked_chain(plan, row, head, &mut []),
+    let mut checkpoints = checkpoints;
+    let value = match &mut checkpoints {
+        Some(checkpoints) => chain_with_checkpoints(plan, row, shared_prefix, checkpoints.as_mut_slice()),
+        None => chain_with_checkpoints(plan, row, shared_prefix, &mut []),
     };
-    (value, marks)
+    (value, checkpoints)
 }
 
-fn marked_chain(
+fn chain_with_checkpoints(
     plan: &LaunchPlan,
     row: &DigestRow,
-    head: Option<Front>,
-    marks: &mut [Mark],
+    shared_prefix: Option<Prefix>,
+    checkpoints: &mut [Checkpoint],
 ) -> Measurement
     requires filled { IsFilled plan.now row.now.digests }
-    requires head { IfSome head (IsFront plan.now row.now.digests) }
+    requires shared_prefix { IfSome shared_prefix (IsPrefix plan.now row.now.digests) }
     ensures value { result.bytes ≡ chain_of plan.now row.now.digests }
-    ensures marks { AreFronts plan.now row.now.digests marks.new }
+    ensures checkpoints { AreCheckpoints plan.now row.now.digests checkpoints.new }
 {
     let end = plan.links().len();
-    let mut place = place_of(plan, row, head);
-    for at in 0..marks.len() {
-        let (next, mark) = marked(plan, row, place, marks[at].links);
-        marks[at] = mark;
+    let mut place = place_of(plan, row, shared_prefix);
+    for at in 0..checkpoints.len() {
+        let (next, checkpoint) = checkpoint_at(plan, row, place, checkpoints[at].links);
+        checkpoints[at] = checkpoint;
         place = next;
     }
     chained_to(plan, row, place, end).value
 }
 
-/// The place at a mark after this many links, and the mark with its value; or the same place, and the mark without a
+/// The place at a checkpoint after this many links, and the checkpoint with its value; or the same place, and the checkpoint without a
 /// value, where the chain has passed it or the plan ends before it.
-fn marked(plan: &LaunchPlan, row: &DigestRow, from: Place, links: usize) -> (Place, Mark)
+fn checkpoint_at(plan: &LaunchPlan, row: &DigestRow, from: Place, links: usize) -> (Place, Checkpoint)
     requires filled { IsFilled plan.now row.now.digests }
     requires from { IsPlace plan.now row.now.digests from }
     ensures place { IsPlace plan.now row.now.digests result.0 }
-    ensures mark { IsMarked plan.now row.now.digests result.1 }
+    ensures checkpoint { IsCheckpoint plan.now row.now.digests result.1 }
 {
     if links < from.links || plan.links().len() < links {
-        return (from, Mark { links, value: None });
+        return (from, Checkpoint { links, value: None });
     }
     let place = chained_to(plan, row, from, links);
     let value = Some(place.value);
-    (place, Mark { links, value })
+    (place, Checkpoint { links, value })
 }
 
-/// The place where a front ends, or the one after the realm.
-fn place_of(plan: &LaunchPlan, row: &DigestRow, head: Option<Front>) -> Place
+/// The place where a prefix ends, or the one after the realm.
+fn place_of(plan: &LaunchPlan, row: &DigestRow, shared_prefix: Option<Prefix>) -> Place
     requires filled { IsFilled plan.now row.now.digests }
-    requires head { IfSome head (IsFront plan.now row.now.digests) }
+    requires shared_prefix { IfSome shared_prefix (IsPrefix plan.now row.now.digests) }
     ensures { IsPlace plan.now row.now.digests result }
 {
-    match head {
-        Some(front) => Place {
-            links: front.links,
-            pages: plan.pages_before(front.links),
-            value: front.value,
+    match shared_prefix {
+        Some(prefix) => Place {
+            links: prefix.links,
+            pages: plan.pages_before(prefix.links),
+            value: prefix.value,
         },
         None => Place {
             links: 0,
@@ -178,7 +178,7 @@ fn place_of(plan: &LaunchPlan, row: &DigestRow, head: Option<Front>) -> Place
 
 /// What the realm of a plan is measured as.
 pub(crate) fn realm_value(plan: &LaunchPlan) -> Measurement
-    ensures { (digests : List Measurement) → result.bytes ≡ front_value 0 plan.now digests }
+    ensures { (digests : List Measurement) → result.bytes ≡ prefix_value 0 plan.now digests }
 {
     let params = plan.params();
     hash(params.algo, &realm_page(&params))

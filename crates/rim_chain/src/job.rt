@@ -1,13 +1,13 @@
 //! The work of chaining a launch, and what it gives.
 ghost use Rattle.std.specs.Prelude.{◌≡◌, true, IfSome};
 ghost use Rattle.rim_desc.specs.declared.measurement.Algo.TheVariants as algo;
-ghost use Rattle.rim_chain.specs.Fronts.{AreFronts, IsFront};
+ghost use Rattle.rim_chain.specs.Prefixes.{AreCheckpoints, IsPrefix};
 ghost use Rattle.rim_chain.specs.Links.{chain_of};
 ghost use Rattle.rim_chain.specs.Rows.{IsFilled};
 ghost use Rattle.rim_chain.specs.inside.UnderWay.{chains_to};
 
 use crate::chaining::chain_from;
-use crate::front::{Front, Mark};
+use crate::prefix::{Prefix, Checkpoint};
 use crate::plan::LaunchPlan;
 use crate::under_way::{Chain, side_by_side};
 use page_jobs::DigestRow;
@@ -15,19 +15,19 @@ use rim_desc::{Algo, Measurement};
 use std::marker::Model;
 
 /// A launch that is to be chained: its number, its plan, lent, and a row with the digests of its pages. It may have a
-/// front of the launch to go on from, and marks, whose values it keeps. They change nothing of what it gives.
+/// prefix of the launch to go on from, and checkpoints, whose values it keeps. They change nothing of what it gives.
 #[derive(Drop)]
 pub struct LaunchJob<'a> {
     number: usize,
     plan: &'a LaunchPlan,
     row: DigestRow,
-    head: Option<Front>,
-    marks: Option<Vec<Mark>>,
+    shared_prefix: Option<Prefix>,
+    checkpoints: Option<Vec<Checkpoint>>,
 }
 
 impl<'a> Model for LaunchJob<'a> {
     ghost use Rattle.std.specs.Prelude.{IfSome};
-    ghost use Rattle.rim_chain.specs.Fronts.{IsFront};
+    ghost use Rattle.rim_chain.specs.Prefixes.{IsPrefix};
     ghost use Rattle.rim_chain.specs.Jobs.{JobView};
     ghost use Rattle.rim_chain.specs.Rows.{IsFilled};
 
@@ -35,22 +35,22 @@ impl<'a> Model for LaunchJob<'a> {
 
     ghost view = { λ j. record { number = j.number; plan = j.plan.now; row = j.row } };
 
-    ghost invariant = { λ j. IsFilled j.plan.now j.row.digests × IfSome j.head (IsFront j.plan.now j.row.digests) };
+    ghost invariant = { λ j. IsFilled j.plan.now j.row.digests × IfSome j.shared_prefix (IsPrefix j.plan.now j.row.digests) };
 }
 
-/// A launch that was chained, with its measurement, and with the values at its marks.
+/// A launch that was chained, with its measurement, and with the values at its checkpoints.
 #[derive(Drop)]
 pub struct LaunchRim<'a> {
     number: usize,
     plan: &'a LaunchPlan,
     row: DigestRow,
     value: Measurement,
-    marks: Option<Vec<Mark>>,
+    checkpoints: Option<Vec<Checkpoint>>,
 }
 
 impl<'a> Model for LaunchRim<'a> {
     ghost use Rattle.std.specs.Prelude.{◌≡◌, true, IfSome};
-    ghost use Rattle.rim_chain.specs.Fronts.{AreFronts};
+    ghost use Rattle.rim_chain.specs.Prefixes.{AreCheckpoints};
     ghost use Rattle.rim_chain.specs.Jobs.{RimView};
     ghost use Rattle.rim_chain.specs.Links.{chain_of};
 
@@ -58,7 +58,7 @@ impl<'a> Model for LaunchRim<'a> {
 
     ghost view = { λ r. record { job = record { number = r.number; plan = r.plan.now; row = r.row }; value = r.value } };
 
-    ghost invariant = { λ r. (r.value.bytes ≡ chain_of r.plan.now r.row.digests) × IfSome r.marks (λ marks. AreFronts r.plan.now r.row.digests marks.items) };
+    ghost invariant = { λ r. (r.value.bytes ≡ chain_of r.plan.now r.row.digests) × IfSome r.checkpoints (λ checkpoints. AreCheckpoints r.plan.now r.row.digests checkpoints.items) };
 }
 
 impl<'a> LaunchJob<'a> {
@@ -71,22 +71,22 @@ impl<'a> LaunchJob<'a> {
             number,
             plan,
             row,
-            head: None,
-            marks: None,
+            shared_prefix: None,
+            checkpoints: None,
         }
     }
 
-    /// The same work, which goes on from a front of the launch, where one is known, and keeps the values at marks.
-    pub fn going_on(self, head: Option<Front>, marks: Option<Vec<Mark>>) -> LaunchJob<'a>
-        requires { IfSome head (IsFront self.plan self.row.digests) }
+    /// The same work, which goes on from a prefix of the launch, where one is known, and keeps the values at checkpoints.
+    pub fn going_on(self, shared_prefix: Option<Prefix>, checkpoints: Option<Vec<Checkpoint>>) -> LaunchJob<'a>
+        requires { IfSome shared_prefix (IsPrefix self.plan self.row.digests) }
         ensures { result ≡ self.entry }
     {
         LaunchJob {
             number: self.number,
             plan: self.plan,
             row: self.row,
-            head,
-            marks,
+            shared_prefix,
+            checkpoints,
         }
     }
 
@@ -106,30 +106,30 @@ impl<'a> LaunchJob<'a> {
             number,
             plan,
             row,
-            head,
-            marks,
+            shared_prefix,
+            checkpoints,
         } = self;
-        let (value, marks) = chain_from(plan, &row, head, marks);
+        let (value, checkpoints) = chain_from(plan, &row, shared_prefix, checkpoints);
         LaunchRim {
             number,
             plan,
             row,
             value,
-            marks,
+            checkpoints,
         }
     }
 }
 
 impl<'a> LaunchJob<'a> {
-    /// Whether the launch is by SHA-256, goes on from no front and keeps no values. Such launches can be chained side by side.
+    /// Whether the launch is by SHA-256, goes on from no prefix and keeps no values. Such launches can be chained side by side.
     pub fn is_alone(&self) -> bool
         ensures { result ≡ true → self.now.plan.params.algo ≡ algo.Sha256 }
     {
-        self.plan.params().algo == Algo::Sha256 && self.head.is_none() && has_no_marks(&self.marks)
+        self.plan.params().algo == Algo::Sha256 && self.shared_prefix.is_none() && has_no_checkpoints(&self.checkpoints)
     }
 
-    /// Chains four launches side by side, which takes less than half the time. Fronts are not gone on from, and no values are
-    /// kept at marks.
+    /// Chains four launches side by side, which takes less than half the time. Prefixes are not gone on from, and no values are
+    /// kept at checkpoints.
     pub fn run_with(
         self,
         b: LaunchJob<'a>,
@@ -184,7 +184,7 @@ impl<'a> LaunchJob<'a> {
             plan: self.plan,
             row: self.row,
             value,
-            marks: None,
+            checkpoints: None,
         }
     }
 
@@ -196,10 +196,10 @@ impl<'a> LaunchJob<'a> {
     }
 }
 
-/// Whether no marks were handed out, or none of them.
-fn has_no_marks(marks: &Option<Vec<Mark>>) -> bool {
-    match marks {
-        Some(marks) => marks.is_empty(),
+/// Whether no checkpoints were handed out, or none of them.
+fn has_no_checkpoints(checkpoints: &Option<Vec<Checkpoint>>) -> bool {
+    match checkpoints {
+        Some(checkpoints) => checkpoints.is_empty(),
         None => true,
     }
 }
@@ -219,11 +219,11 @@ impl<'a> LaunchRim<'a> {
         self.number
     }
 
-    /// Its marks, where it has some, each with the value of the launch's front up to it, where the chain came to it.
-    pub fn into_marks(self) -> Option<Vec<Mark>>
-        ensures { IfSome result (λ marks. AreFronts self.entry.job.plan self.entry.job.row.digests marks.items) }
+    /// Its checkpoints, where it has some, each with the value of the launch's prefix up to it, where the chain came to it.
+    pub fn into_checkpoints(self) -> Option<Vec<Checkpoint>>
+        ensures { IfSome result (λ checkpoints. AreCheckpoints self.entry.job.plan self.entry.job.row.digests checkpoints.items) }
     {
-        self.marks
+        self.checkpoints
     }
 
     /// Its Realm Initial Measurement: the chain of its plan and these digests.

@@ -35,7 +35,7 @@ pub fn a_row_has_the_digests_of_its_pages()
 
 /// Links in two pieces extend a measurement as they do in one: the second piece goes on from what the first one left,
 /// with the digests that the first one did not take.
-pub fn a_chain_goes_on_from_its_front()
-    ensures { (algo : Algo) (rim : List ℕ) (front back : List Link) (digests : List Measurement) → let n = length (keys_of front) in
-        extended_by algo rim (parts_with (front ++ back) digests) ≡ extended_by algo (extended_by algo rim (parts_with front (take n digests))) (parts_with back (drop n digests)) }
+pub fn a_chain_goes_on_from_its_prefix()
+    ensures { (algo : Algo) (rim : List ℕ) (prefix back : List Link) (digests : List Measurement) → let n = length (keys_of prefix) in
+        extended_by algo rim (parts_with (prefix ++ back) digests) ≡ extended_by algo (extended_by algo rim (parts_with prefix (take n digests))) (parts_with back (drop n digests)) }
 {}

@@ -4,25 +4,25 @@
 mod chain_order;
 mod chaining;
 mod filling;
-mod front;
+mod prefix;
 mod job;
 mod laws;
 mod link;
 mod plan;
 mod reading;
-mod shared_fronts;
+mod shared_prefixes;
 mod siblings;
 mod starting;
 mod under_way;
 
 pub use chaining::{chain, chain_from};
-pub use front::{Front, Mark};
+pub use prefix::{Prefix, Checkpoint};
 pub use job::{LaunchJob, LaunchRim};
 pub use laws::{
-    a_chain_goes_on_from_its_front, a_row_has_the_digests_of_its_pages,
+    a_chain_goes_on_from_its_prefix, a_row_has_the_digests_of_its_pages,
     the_chain_is_what_a_monitor_holds,
 };
 pub use link::Link;
 pub use plan::LaunchPlan;
-pub use shared_fronts::SharedFronts;
-pub use starting::first_fronts;
+pub use shared_prefixes::SharedPrefixes;
+pub use starting::first_prefixes;

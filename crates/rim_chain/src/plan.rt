@@ -1,7 +1,7 @@
 //! What is measured of a launch, without the digests of its pages.
 ghost use Rattle.std.specs.Prelude.{◌≡◌, ◌+◌, ◌*◌, ◌^◌, ◌<◌, ◌≤◌, length, take, Some, IfSome, IsSome, IsTrue, ◌↔◌};
 ghost use Rattle.std.specs.List.{slice_get};
-ghost use Rattle.rim_chain.specs.Fronts.{HaveFront};
+ghost use Rattle.rim_chain.specs.Prefixes.{HavePrefix};
 ghost use Rattle.rim_chain.specs.Links.{keys_in, keys_of, page_count};
 ghost use Rattle.rim_chain.specs.inside.Counted.{AreLinks};
 ghost use Rattle.rim_chain.specs.inside.UnderWay.{IsEmpty};
@@ -116,9 +116,9 @@ impl LaunchPlan {
 }
 
 impl LaunchPlan {
-    /// Whether two plans have the same front of this many links: the same realm, and the same first links.
-    pub fn is_same_front(&self, other: &LaunchPlan, links: usize) -> bool
-        ensures { IsTrue result ↔ HaveFront links self.now other.now }
+    /// Whether two plans have the same prefix of this many links: the same realm, and the same first links.
+    pub fn is_same_prefix(&self, other: &LaunchPlan, links: usize) -> bool
+        ensures { IsTrue result ↔ HavePrefix links self.now other.now }
     {
         let (own, others) = (self.links.as_slice(), other.links.as_slice());
         links <= own.len()

@@ -1,17 +1,17 @@
 //! Which launches begin alike. Whatever is found here, each launch chains to the same value.
 ghost use Rattle.std.specs.Prelude.{IfOk, IfSome, None};
 ghost use Rattle.std.specs.List.{All};
-ghost use Rattle.rim_chain.specs.inside.Marks.{HaveNoValues};
+ghost use Rattle.rim_chain.specs.inside.Checkpoints.{HaveNoValues};
 
-use crate::front::Mark;
+use crate::prefix::Checkpoint;
 use crate::plan::LaunchPlan;
 use refusal::NoMemory;
 use std::alloc::Global;
 use std::cmp::Ordering;
 
-/// The front that a launch begins with: an earlier launch, and how many links they have in common.
+/// The prefix that a launch begins with: an earlier launch, and how many links they have in common.
 #[derive(Clone, Copy, Debug, PartialEq, Eq, PartialOrd, Ord)]
-pub(crate) struct Head {
+pub(crate) struct SharedPrefix {
     pub launch: usize,
     pub links: usize,
 }
@@ -26,23 +26,23 @@ struct Group {
 
 /// For each launch the earlier one that it has most links in common with, and how many. Plans are compared with their
 /// neighbours in the order of plans alone.
-pub(crate) fn heads_of(alloc: Global, plans: &[LaunchPlan]) -> Result<Vec<Option<Head>>, NoMemory> {
+pub(crate) fn shared_prefixes_of(alloc: Global, plans: &[LaunchPlan]) -> Result<Vec<Option<SharedPrefix>>, NoMemory> {
     let order = ordered(alloc, plans)?;
-    let mut heads = vec![in alloc; None; plans.len()]?;
+    let mut shared = vec![in alloc; None; plans.len()]?;
     let mut groups = Vec::with_capacity(alloc, order.len())?;
     let mut last = None;
     for number in &order {
         let links = common_links(plans, last, *number);
-        join(&mut groups, &mut heads, links);
+        join(&mut groups, &mut shared, links);
         groups.push(Group {
             first: *number,
             links,
         })?;
         last = Some(*number);
     }
-    join(&mut groups, &mut heads, 0);
-    shorten(&mut heads);
-    Ok(heads)
+    join(&mut groups, &mut shared, 0);
+    shorten(&mut shared);
+    Ok(shared)
 }
 
 /// The numbers of launches in the order of their plans.
@@ -71,9 +71,9 @@ fn common_links(plans: &[LaunchPlan], last: Option<usize>, number: usize) -> usi
     }
 }
 
-/// Joins the last groups that have at least this many links in common. Of two groups the later begins with the front of
+/// Joins the last groups that have at least this many links in common. Of two groups the later begins with the prefix of
 /// the earlier.
-fn join(groups: &mut Vec<Group>, heads: &mut [Option<Head>], links: usize) {
+fn join(groups: &mut Vec<Group>, shared: &mut [Option<SharedPrefix>], links: usize) {
     for _ in 0..groups.len() {
         let Some(last) = groups.pop() else {
             return;
@@ -88,8 +88,8 @@ fn join(groups: &mut Vec<Group>, heads: &mut [Option<Head>], links: usize) {
         }
         let later = before.first.max(last.first);
         before.first = before.first.min(last.first);
-        if last.links > 0 && later < heads.len() {
-            heads[later] = Some(Head {
+        if last.links > 0 && later < shared.len() {
+            shared[later] = Some(SharedPrefix {
                 launch: before.first,
                 links: last.links,
             });
@@ -97,44 +97,44 @@ fn join(groups: &mut Vec<Group>, heads: &mut [Option<Head>], links: usize) {
     }
 }
 
-/// Where a launch goes on from one that goes on from the same front, lets it go on from that one's launch at once.
-fn shorten(heads: &mut [Option<Head>]) {
-    for number in 0..heads.len() {
-        heads[number] = shortened(heads, number);
+/// Where a launch goes on from one that goes on from the same prefix, lets it go on from that one's launch at once.
+fn shorten(shared: &mut [Option<SharedPrefix>]) {
+    for number in 0..shared.len() {
+        shared[number] = shortened(shared, number);
     }
 }
 
 /// Where a launch goes on from.
-fn shortened(heads: &[Option<Head>], number: usize) -> Option<Head> {
-    let head = (*heads.get(number)?)?;
-    match heads.get(head.launch) {
-        Some(Some(above)) if above.links == head.links => Some(*above),
-        _ => Some(head),
+fn shortened(shared: &[Option<SharedPrefix>], number: usize) -> Option<SharedPrefix> {
+    let shared_prefix = (*shared.get(number)?)?;
+    match shared.get(shared_prefix.launch) {
+        Some(Some(above)) if above.links == shared_prefix.links => Some(*above),
+        _ => Some(shared_prefix),
     }
 }
 
-/// The marks of each launch: where others part from it, from the first on, and none twice. None has a value.
-pub(crate) fn marks_of(
+/// The checkpoints of each launch: where others part from it, from the first on, and none twice. None has a value.
+pub(crate) fn checkpoints_of(
     alloc: Global,
-    heads: &[Option<Head>],
-) -> Result<Vec<Option<Vec<Mark>>>, NoMemory>
-    ensures { IfOk result (λ marks. All (λ own. IfSome own (λ ms. HaveNoValues ms.items)) marks.items) }
+    shared: &[Option<SharedPrefix>],
+) -> Result<Vec<Option<Vec<Checkpoint>>>, NoMemory>
+    ensures { IfOk result (λ checkpoints. All (λ own. IfSome own (λ ms. HaveNoValues ms.items)) checkpoints.items) }
 {
-    let parted = parted(alloc, heads)?;
-    let mut marks = Vec::with_capacity(alloc, heads.len())?;
-    for number in 0..heads.len() {
-        let own = own_marks(alloc, &parted, number)?;
-        marks.push(own)?;
+    let parted = parted(alloc, shared)?;
+    let mut checkpoints = Vec::with_capacity(alloc, shared.len())?;
+    for number in 0..shared.len() {
+        let own = own_checkpoints(alloc, &parted, number)?;
+        checkpoints.push(own)?;
     }
-    Ok(marks)
+    Ok(checkpoints)
 }
 
-/// The different heads in their order.
-fn parted(alloc: Global, heads: &[Option<Head>]) -> Result<Vec<Head>, NoMemory> {
-    let mut parted = Vec::with_capacity(alloc, heads.len())?;
-    for head in heads {
-        if let Some(head) = head {
-            parted.push(*head)?;
+/// The different shared prefixes in their order.
+fn parted(alloc: Global, shared: &[Option<SharedPrefix>]) -> Result<Vec<SharedPrefix>, NoMemory> {
+    let mut parted = Vec::with_capacity(alloc, shared.len())?;
+    for shared_prefix in shared {
+        if let Some(shared_prefix) = shared_prefix {
+            parted.push(*shared_prefix)?;
         }
     }
     parted.sort_unstable();
@@ -142,21 +142,21 @@ fn parted(alloc: Global, heads: &[Option<Head>]) -> Result<Vec<Head>, NoMemory> 
     Ok(parted)
 }
 
-/// The marks of a launch, where it has some, by the different heads in their order.
-fn own_marks(alloc: Global, parted: &[Head], number: usize) -> Result<Option<Vec<Mark>>, NoMemory>
+/// The checkpoints of a launch, where it has some, by the different shared prefixes in their order.
+fn own_checkpoints(alloc: Global, parted: &[SharedPrefix], number: usize) -> Result<Option<Vec<Checkpoint>>, NoMemory>
     ensures { IfOk result (λ own. IfSome own (λ ms. HaveNoValues ms.items)) }
 {
-    let from = parted.partition_point(|head| head.launch < number);
-    let mut marks = Vec::new(alloc);
+    let from = parted.partition_point(|shared_prefix| shared_prefix.launch < number);
+    let mut checkpoints = Vec::new(alloc);
     for at in from..parted.len() {
-        let head = parted[at];
-        if head.launch != number {
+        let shared_prefix = parted[at];
+        if shared_prefix.launch != number {
             break;
         }
-        marks.push(Mark {
-            links: head.links,
+        checkpoints.push(Checkpoint {
+            links: shared_prefix.links,
             value: None,
         })?;
     }
-    Ok(Some(marks))
+    Ok(Some(checkpoints))
 }

@@ -1,23 +1,23 @@
-//! The fronts of launches that go on from no other, chained side by side.
+//! The prefixes of launches that go on from no other, chained side by side.
 ghost use Rattle.std.specs.Prelude.{◌≡◌, replicate, slice_set, None, Some, IfOk, IfSome};
-ghost use Rattle.rim_chain.specs.SharedFronts.{HaveOwnFronts, IsOwnFront};
+ghost use Rattle.rim_chain.specs.SharedPrefixes.{HaveOwnPrefixes, IsOwnPrefix};
 ghost use Rattle.rim_chain.specs.inside.Starts.{IsStart};
 
-use crate::front::Front;
+use crate::prefix::Prefix;
 use crate::plan::LaunchPlan;
-use crate::shared_fronts::SharedFronts;
+use crate::shared_prefixes::SharedPrefixes;
 use crate::under_way::{Chain, side_by_side};
 use page_jobs::{DigestRow, LANES, Table};
 use refusal::NoMemory;
 use rim_desc::{Algo, Measurement};
 use std::alloc::Global;
 
-/// A launch that goes on from no other, and its front up to where another first parts from it, or all of it.
+/// A launch that goes on from no other, and its prefix up to where another first parts from it, or all of it.
 #[derive(Clone, Copy, Debug, PartialEq, Eq)]
 pub(crate) struct Start {
     pub number: usize,
     pub links: usize,
-    /// How many parts the front has after the realm.
+    /// How many parts the prefix has after the realm.
     pub parts: u64,
 }
 
@@ -30,34 +30,34 @@ struct Rows {
     fourth: DigestRow,
 }
 
-/// For each launch a front with its value, or none: the front of launches by SHA-256 that go on from no other, in groups
+/// For each launch a prefix with its value, or none: the prefix of launches by SHA-256 that go on from no other, in groups
 /// of four, the longest first. The last one to three, and launches of which the table has not all digests, have none.
-pub fn first_fronts(
+pub fn first_prefixes(
     alloc: Global,
     table: &Table,
     plans: &[LaunchPlan],
-    shared: &SharedFronts,
-) -> Result<Vec<Option<Front>>, NoMemory>
-    ensures { IfOk result (λ fronts. HaveOwnFronts table.now plans.now fronts.items) }
+    shared: &SharedPrefixes,
+) -> Result<Vec<Option<Prefix>>, NoMemory>
+    ensures { IfOk result (λ prefixes. HaveOwnPrefixes table.now plans.now prefixes.items) }
 {
-    let mut fronts = no_fronts(alloc, plans.len())?;
+    let mut prefixes = no_prefixes(alloc, plans.len())?;
     let starts = shared.starts(alloc, plans)?;
     let groups = starts.len() / LANES;
     if groups == 0 {
-        return Ok(fronts);
+        return Ok(prefixes);
     }
     let mut rows = reserve_rows(alloc, most_pages(plans, starts.as_slice()))?;
     for group in 0..groups {
         let at = LANES * group;
         let four = [starts[at], starts[at + 1], starts[at + 2], starts[at + 3]];
-        put_four(table, plans, four, &mut rows, &mut fronts);
+        put_four(table, plans, four, &mut rows, &mut prefixes);
     }
-    Ok(fronts)
+    Ok(prefixes)
 }
 
-/// No front for each of this many launches.
-fn no_fronts(alloc: Global, launches: usize) -> Result<Vec<Option<Front>>, NoMemory>
-    ensures { IfOk result (λ fronts. fronts.items ≡ replicate launches None) }
+/// No prefix for each of this many launches.
+fn no_prefixes(alloc: Global, launches: usize) -> Result<Vec<Option<Prefix>>, NoMemory>
+    ensures { IfOk result (λ prefixes. prefixes.items ≡ replicate launches None) }
 {
     Ok(vec![in alloc; None; launches]?)
 }
@@ -81,37 +81,37 @@ fn reserve_rows(alloc: Global, pages: usize) -> Result<Rows, NoMemory> {
     })
 }
 
-/// Puts the fronts of four launches among the others, where all their digests are in the table.
+/// Puts the prefixes of four launches among the others, where all their digests are in the table.
 fn put_four(
     table: &Table,
     plans: &[LaunchPlan],
     starts: [Start; LANES],
     rows: &mut Rows,
-    fronts: &mut Vec<Option<Front>>,
+    prefixes: &mut Vec<Option<Prefix>>,
 )
-    ensures { HaveOwnFronts table.now plans.now fronts.old.items → HaveOwnFronts table.now plans.now fronts.new.items }
+    ensures { HaveOwnPrefixes table.now plans.now prefixes.old.items → HaveOwnPrefixes table.now plans.now prefixes.new.items }
 {
     let [a, b, c, d] = starts;
     let Some((p, q, r, s)) = chain_four(table, plans, a, b, c, d, rows) else {
         return;
     };
-    put(fronts, a, p);
-    put(fronts, b, q);
-    put(fronts, c, r);
-    put(fronts, d, s);
+    put(prefixes, a, p);
+    put(prefixes, b, q);
+    put(prefixes, c, r);
+    put(prefixes, d, s);
 }
 
-/// Puts the front of a launch among the others.
-fn put(fronts: &mut Vec<Option<Front>>, start: Start, value: Measurement)
-    ensures { fronts.new.items ≡ slice_set fronts.old.items start.number (Some (record { links = start.links; value = value })) }
+/// Puts the prefix of a launch among the others.
+fn put(prefixes: &mut Vec<Option<Prefix>>, start: Start, value: Measurement)
+    ensures { prefixes.new.items ≡ slice_set prefixes.old.items start.number (Some (record { links = start.links; value = value })) }
 {
-    if start.number < fronts.len() {
+    if start.number < prefixes.len() {
         let links = start.links;
-        fronts[start.number] = Some(Front { links, value });
+        prefixes[start.number] = Some(Prefix { links, value });
     }
 }
 
-/// What the fronts of four launches chain to, where all their digests are in the table.
+/// What the prefixes of four launches chain to, where all their digests are in the table.
 fn chain_four(
     table: &Table,
     plans: &[LaunchPlan],
@@ -121,10 +121,10 @@ fn chain_four(
     d: Start,
     rows: &mut Rows,
 ) -> Option<(Measurement, Measurement, Measurement, Measurement)>
-    ensures first { IfSome result (λ r. IsOwnFront table.now plans.now a.number (record { links = a.links; value = r.0 })) }
-    ensures second { IfSome result (λ r. IsOwnFront table.now plans.now b.number (record { links = b.links; value = r.1 })) }
-    ensures third { IfSome result (λ r. IsOwnFront table.now plans.now c.number (record { links = c.links; value = r.2 })) }
-    ensures fourth { IfSome result (λ r. IsOwnFront table.now plans.now d.number (record { links = d.links; value = r.3 })) }
+    ensures first { IfSome result (λ r. IsOwnPrefix table.now plans.now a.number (record { links = a.links; value = r.0 })) }
+    ensures second { IfSome result (λ r. IsOwnPrefix table.now plans.now b.number (record { links = b.links; value = r.1 })) }
+    ensures third { IfSome result (λ r. IsOwnPrefix table.now plans.now c.number (record { links = c.links; value = r.2 })) }
+    ensures fourth { IfSome result (λ r. IsOwnPrefix table.now plans.now d.number (record { links = d.links; value = r.3 })) }
 {
     let first = filled(table, plans, a, &mut rows.first)?;
     let second = filled(table, plans, b, &mut rows.second)?;

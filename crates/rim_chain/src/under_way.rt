@@ -4,7 +4,7 @@ ghost use Rattle.std.specs.List.{All};
 ghost use Rattle.rim_desc.specs.Part.{extended_by};
 ghost use Rattle.rim_desc.specs.declared.measurement.Algo.TheVariants as algo;
 ghost use Rattle.rim_chain.specs.Fitting.{IsFitting};
-ghost use Rattle.rim_chain.specs.Fronts.{front_value};
+ghost use Rattle.rim_chain.specs.Prefixes.{prefix_value};
 ghost use Rattle.rim_chain.specs.Links.{keys_of, parts_with};
 ghost use Rattle.rim_chain.specs.Rows.{IsFilled};
 ghost use Rattle.rim_chain.specs.inside.UnderWay.{IsNext, chains_to, goes_on_to};
@@ -53,7 +53,7 @@ impl<'a> Chain<'a> {
         requires filled { IsFilled plan.now row.now.digests }
         requires links { links ≤ length plan.now.links }
         ensures algo { result.algo ≡ plan.entry.now.params.algo }
-        ensures value { chains_to result ≡ front_value links plan.entry.now row.entry.now.digests }
+        ensures value { chains_to result ≡ prefix_value links plan.entry.now row.entry.now.digests }
     {
         let pages = plan.pages_before(links);
         let (links, _) = plan.links().split_at(links);

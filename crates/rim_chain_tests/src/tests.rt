@@ -1,7 +1,7 @@
 //! The launch of these tests has two blocks of RAM, two pages of an item that begins 16 bytes after the start of its
 //! first page, a page that is not measured, and a REC. The item has 4097 bytes, of which byte i is (7 * i + 3) mod 251.
 mod chains;
-mod first_fronts;
+mod first_prefixes;
 mod plans;
 
 ghost use Rattle.rim_chain.specs.Rows.{IsFilled};

@@ -47,12 +47,12 @@ line-next line old now new xs i x at so_far added =
     ∙ ap (λ (ys : List _). old ++ flat_map line ys) one_more
 
 -- what a report is added as
-pub report-joined : (old head lines pages number end : List ℕ) → ((((old ++ head) ++ lines) ++ pages) ++ number) ++ end ≡ old ++ (((head ++ lines) ++ pages) ++ (number ++ end))
-report-joined old head lines pages number end =
-    append_assoc (((old ++ head) ++ lines) ++ pages) number end
-    ∙ ap (λ (front : List ℕ). (front ++ pages) ++ (number ++ end)) (append_assoc old head lines)
-    ∙ ap (λ (front : List ℕ). front ++ (number ++ end)) (append_assoc old (head ++ lines) pages)
-    ∙ append_assoc old ((head ++ lines) ++ pages) (number ++ end)
+pub report-joined : (old shared_prefix lines pages number end : List ℕ) → ((((old ++ shared_prefix) ++ lines) ++ pages) ++ number) ++ end ≡ old ++ (((shared_prefix ++ lines) ++ pages) ++ (number ++ end))
+report-joined old shared_prefix lines pages number end =
+    append_assoc (((old ++ shared_prefix) ++ lines) ++ pages) number end
+    ∙ ap (λ (prefix : List ℕ). (prefix ++ pages) ++ (number ++ end)) (append_assoc old shared_prefix lines)
+    ∙ ap (λ (prefix : List ℕ). prefix ++ (number ++ end)) (append_assoc old (shared_prefix ++ lines) pages)
+    ∙ append_assoc old ((shared_prefix ++ lines) ++ pages) (number ++ end)
 
 -- a text with no room for a line has none for all lines
 pub no-room : (old now line rest all : List ℕ) (room before : ℕ) → now ++ (line ++ rest) ≡ old ++ all → before ≤ room → room < length now + length line → before < length old + length all

@@ -67,7 +67,7 @@ pub prepared-at : (files : List (List ℕ)) (ls : List NamedData) (i : ℕ) (l :
     → IsKept found places plans places' plans' → ArePrepared files (take i ls) places plans → ArePrepared files (take (i + 1) ls) places' plans'
 prepared-at files ls i l launch found places places' plans plans' inside is same answers read kept are =
     let next : i + 1 ≡ suc i = omega arith in
-    subst (λ (front : List NamedData). ArePrepared files front places' plans')
+    subst (λ (prefix : List NamedData). ArePrepared files prefix places' plans')
     (sym (ap (λ (n : ℕ). take n ls) next ∙ take-suc ls i l inside ∙ ap (λ (x : NamedData). take i ls ++ x ∷ []) (sym is)))
     (prepared-next files (take i ls) l found places places' plans plans'
     (subst (λ (x : LaunchData). Answers NoMemory (λ pair. pair.0) found (accepted_of x files)) same answers)

@@ -115,7 +115,7 @@ report-size ls places some other count same a b =
   where
     whole : (lines : List ℕ) → length (report_with lines count) ≡ (length (codes "rim-report 1\n") + length lines + length (codes "pages ")) + length (decimal count ++ codes "\n")
     whole lines =
-        let front = length-append (codes "rim-report 1\n") lines in
+        let prefix = length-append (codes "rim-report 1\n") lines in
         let middle = length-append (codes "rim-report 1\n" ++ lines) (codes "pages ") in
         let all = length-append ((codes "rim-report 1\n" ++ lines) ++ codes "pages ") (decimal count ++ codes "\n") in
-        omega (arith, front, middle, all)
+        omega (arith, prefix, middle, all)

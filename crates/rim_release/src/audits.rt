@@ -10,7 +10,7 @@ ghost use Rattle.rim_release.specs.inside.Commands.{commands_in};
 
 use crate::audit_fault::AuditFault;
 use crate::commands::{LaunchCommands, lay_out};
-use crate::measure::{Files, Report};
+use crate::one_thread::{Files, Report};
 use crate::report::push_lines;
 use refusal::NoMemory;
 use rim_desc::Measurement;

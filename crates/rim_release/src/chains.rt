@@ -4,14 +4,14 @@ ghost use Rattle.std.specs.List.{All, slice_get};
 ghost use Rattle.page_jobs.specs.Table.{TableView};
 ghost use Rattle.rim_chain.specs.Links.{PlanView, keys_of};
 ghost use Rattle.rim_chain.specs.Rows.{has_all, value_in};
-ghost use Rattle.rim_chain.specs.SharedFronts.{AreShared, IsOwnFront, IsValueOfFront};
+ghost use Rattle.rim_chain.specs.SharedPrefixes.{AreShared, IsOwnPrefix, IsValueOfPrefix};
 ghost use Rattle.rim_release.specs.inside.Chains.{outcomes_of, with_rims};
 
 use crate::audit_fault::AuditFault;
 use ipa_layout::Placed;
 use page_jobs::{DigestRow, Table};
 use refusal::NoMemory;
-use rim_chain::{Front, LaunchPlan, SharedFronts, chain_from, first_fronts};
+use rim_chain::{Prefix, LaunchPlan, SharedPrefixes, chain_from, first_prefixes};
 use rim_desc::Measurement;
 use std::alloc::Global;
 
@@ -25,22 +25,22 @@ pub fn chains(
     ensures { IfOk result (λ rims. map (λ m. m.bytes) rims.items ≡ map (value_in table.now) plans.now) }
 {
     let mut row = DigestRow::reserve(alloc, most_pages(plans))?;
-    let mut fronts = SharedFronts::new(alloc, plans)?;
-    let firsts = first_fronts(alloc, table, plans, &fronts)?;
+    let mut prefixes = SharedPrefixes::new(alloc, plans)?;
+    let firsts = first_prefixes(alloc, table, plans, &prefixes)?;
     let mut rims = Vec::with_capacity(alloc, plans.len())?;
     for number in 0..plans.len() {
         let plan = &plans[number];
-        let first = known_front(firsts.as_slice(), number);
-        rims.push(chained(table, plans, number, plan, first, &mut row, &mut fronts))?;
+        let first = known_prefix(firsts.as_slice(), number);
+        rims.push(chained(table, plans, number, plan, first, &mut row, &mut prefixes))?;
     }
     Ok(rims)
 }
 
-/// The front of a launch, where its value is known.
-fn known_front(fronts: &[Option<Front>], number: usize) -> Option<Front>
-    ensures { IfSome result (λ f. slice_get fronts.now number ≡ Some (Some f)) }
+/// The prefix of a launch, where its value is known.
+fn known_prefix(prefixes: &[Option<Prefix>], number: usize) -> Option<Prefix>
+    ensures { IfSome result (λ f. slice_get prefixes.now number ≡ Some (Some f)) }
 {
-    *fronts.get(number)?
+    *prefixes.get(number)?
 }
 
 /// The most measured pages of a plan.
@@ -55,48 +55,48 @@ fn most_pages(plans: &[LaunchPlan]) -> usize
 }
 
 /// The Realm Initial Measurement of a launch, whose digests are put into a row in the place of others. It goes on from
-/// its first front, or from the one that it has in common with an earlier launch, and keeps its own for later ones.
+/// its first prefix, or from the one that it has in common with an earlier launch, and keeps its own for later ones.
 fn chained(
     table: &Table,
     plans: &[LaunchPlan],
     number: usize,
     plan: &LaunchPlan,
-    first: Option<Front>,
+    first: Option<Prefix>,
     row: &mut DigestRow,
-    fronts: &mut SharedFronts,
+    prefixes: &mut SharedPrefixes,
 ) -> Measurement
     requires plan { slice_get plans.now number ≡ Some plan.now }
-    requires first { IfSome first (IsOwnFront table.now plans.now number) }
+    requires first { IfSome first (IsOwnPrefix table.now plans.now number) }
     requires room { length (keys_of plan.now.links) ≤ row.old.room }
     requires all { has_all table.now (keys_of plan.now.links) ≡ true }
-    requires fronts { AreShared table.now plans.now fronts.old }
+    requires prefixes { AreShared table.now plans.now prefixes.old }
     ensures value { result.bytes ≡ value_in table.now plan.now }
     ensures room { row.new.room ≡ row.old.room }
-    ensures fronts { AreShared table.now plans.now fronts.new }
+    ensures prefixes { AreShared table.now plans.now prefixes.new }
 {
     row.truncate(0);
     if !plan.fill_row(table, row) {
         unreachable!()
     }
-    let head = head_of(plans, number, first, fronts);
-    let (value, marks) = chain_from(plan, row, head, fronts.take_marks(number));
-    fronts.keep(number, marks);
+    let shared_prefix = shared_prefix_of(plans, number, first, prefixes);
+    let (value, checkpoints) = chain_from(plan, row, shared_prefix, prefixes.take_checkpoints(number));
+    prefixes.keep(number, checkpoints);
     value
 }
 
-/// The front that a launch goes on from: its first one where that is known, else the one that it has in common with an
+/// The prefix that a launch goes on from: its first one where that is known, else the one that it has in common with an
 /// earlier launch.
-fn head_of(
+fn shared_prefix_of(
     plans: &[LaunchPlan],
     number: usize,
-    first: Option<Front>,
-    fronts: &SharedFronts,
-) -> Option<Front>
-    ensures { (t : TableView) (p : PlanView) → AreShared t plans.now fronts.now → slice_get plans.now number ≡ Some p → IfSome first (IsOwnFront t plans.now number) → IfSome result (λ f. IsValueOfFront t p f.links f.value) }
+    first: Option<Prefix>,
+    prefixes: &SharedPrefixes,
+) -> Option<Prefix>
+    ensures { (t : TableView) (p : PlanView) → AreShared t plans.now prefixes.now → slice_get plans.now number ≡ Some p → IfSome first (IsOwnPrefix t plans.now number) → IfSome result (λ f. IsValueOfPrefix t p f.links f.value) }
 {
     match first {
-        Some(front) => Some(front),
-        None => fronts.front(plans, number),
+        Some(prefix) => Some(prefix),
+        None => prefixes.prefix(plans, number),
     }
 }
 

@@ -9,7 +9,7 @@ ghost use Rattle.rim_release.specs.Accepted.{accepted_of};
 ghost use Rattle.rim_release.specs.Devicetree.{devicetree_in, devicetree_number, devicetree_of};
 
 use crate::audit_fault::AuditFault;
-use crate::measure::Files;
+use crate::one_thread::Files;
 use ipa_layout::{Placed, place};
 use refusal::NoMemory;
 use rim_launch::{Launch, Role};

@@ -12,9 +12,9 @@ use Rattle.rim_launch.specs.declared.config.Config.{Config}
 use Rattle.rmi_list.specs.declared.draft.Draft.{Draft}
 use Rattle.rmi_list.specs.declared.fault.ListFault.{ListFault}
 use Rattle.rmi_list.specs.declared.fault.ListFault.TheVariants as fault
-use Rattle.rmi_list.specs.declared.kept.Kept.TheVariants as kept
+use Rattle.rmi_list.specs.declared.span.Span.TheVariants as span
 use Rattle.rmi_list.specs.Listed.{opening_entries}
-use Rattle.rmi_list.specs.inside.Drafts.{Grows, kept_in}
+use Rattle.rmi_list.specs.inside.Drafts.{Grows, span_in}
 use Rattle.rmi_list.proofs.Growing.{Refuses, pool_of}
 use Rattle.rmi_list.proofs.Stepping.{grows-then, refused-first, refused-later}
 
@@ -64,14 +64,14 @@ descriptor-same c d e fresh grows =
     ∙ ap (λ (k : Config). (let es : List Entry = Whole (Delegate (granule k.pool_base (start_count c.s2sz))) ∷ [] in es)) config
 
 pub realm-same : (c : Config) (e : Draft) (rd : ℕ) → e.launch.now.config ≡ c → rd ≡ start_count c.s2sz
-    → (let es : List Entry = kept_in e (kept.RealmCreate rd) in es) ≡ realm_itself c
+    → (let es : List Entry = span_in e (span.RealmCreate rd) in es) ≡ realm_itself c
 realm-same c e rd config at =
     ap (λ (k : Config). (let es : List Entry = Whole (RealmCreate (granule k.pool_base rd) (realm_params k)) ∷ [] in es)) config
     ∙ ap (λ (n : ℕ). (let es : List Entry = Whole (RealmCreate (granule c.pool_base n) (realm_params c)) ∷ [] in es)) at
 
 -- the whole begin
 pub opening-grows : (c : Config) (d e f g : Draft) (rd : ℕ) → IsFresh c d → Grows d e (table_granules c) → Grows e f (descriptor_granule c) → rd ≡ e.taken
-    → Grows f g (kept_in f (kept.RealmCreate rd)) → Grows d g (opening_entries c)
+    → Grows f g (span_in f (span.RealmCreate rd)) → Grows d g (opening_entries c)
 opening-grows c d e f g rd fresh tables descriptor at realm =
     let config : f.launch.now.config ≡ c = ap (λ (l : _). l.now.config) (descriptor.launch ∙ tables.launch) ∙ fresh.config in
     let last : Grows f g (realm_itself c) = subst (Grows f g) (realm-same c f rd config (at ∙ descriptor-next c d e fresh tables)) realm in
@@ -99,7 +99,7 @@ first-tables d asked n config count none =
 
 pub first-grows : (d e f g : Draft) (asked : Config) (n rd : ℕ) → asked ≡ d.launch.now.config → n ≡ start_count asked.s2sz → d.taken ≡ 0
     → Grows d e (delegate_all (granules n (granule (pool_of d) d.taken))) → Grows e f (Whole (Delegate (granule (pool_of e) e.taken)) ∷ []) → rd ≡ e.taken
-    → Grows f g (kept_in f (kept.RealmCreate rd)) → Grows d g (opening_entries d.launch.now.config)
+    → Grows f g (span_in f (span.RealmCreate rd)) → Grows d g (opening_entries d.launch.now.config)
 first-grows d e f g asked n rd config count none grown next at realm =
     let c : Config = d.launch.now.config in
     let fresh : IsFresh c d = record { config = refl; taken = none } in

@@ -9,9 +9,9 @@ use Rattle.std.proofs.lemmas.List.Concat.{flat_map-append}
 use Rattle.std.proofs.lemmas.List.Elements.{All-append}
 use Rattle.rim_desc.specs.declared.realm.RealmParams.{RealmParams}
 use Rattle.ipa_layout.specs.declared.rec.PlacedRec.{PlacedRec}
-use Rattle.rmi_list.specs.declared.kept.Kept.{Kept}
-use Rattle.rmi_list.specs.declared.kept.Kept.TheVariants as kept
-use Rattle.rmi_list.specs.inside.Kept.{IsSpan, commands_in, entries_of, entries_of_kept}
+use Rattle.rmi_list.specs.declared.span.Span.{Span}
+use Rattle.rmi_list.specs.declared.span.Span.TheVariants as span
+use Rattle.rmi_list.specs.inside.Spans.{IsSpan, commands_in, entries_of, entries_of_span}
 use Rattle.rim_desc.specs.declared.command.Command.TheVariants.{Delegate, RttCreate}
 use Rattle.rmm_model.specs.Blocks.{granules}
 use Rattle.list_model.specs.Entries.{Whole, delegated, granule, page_entry, page_of}
@@ -96,14 +96,14 @@ none-measured pool item offset count n k x lt =
 
 -- ---- one span more
 
-pub one-more : (params : RealmParams) (num_aux : ℕ) (recs : List PlacedRec) (ks now : List Kept) (k : Kept) → now ≡ ks ++ k ∷ []
-    → entries_of params num_aux recs now ≡ entries_of params num_aux recs ks ++ entries_of_kept params num_aux recs k
+pub one-more : (params : RealmParams) (num_aux : ℕ) (recs : List PlacedRec) (ks now : List Span) (k : Span) → now ≡ ks ++ k ∷ []
+    → entries_of params num_aux recs now ≡ entries_of params num_aux recs ks ++ entries_of_span params num_aux recs k
 one-more params num_aux recs ks now k more =
-    ap (flat_map (entries_of_kept params num_aux recs)) more
-    ∙ flat_map-append (entries_of_kept params num_aux recs) ks (k ∷ [])
-    ∙ ap (λ es. entries_of params num_aux recs ks ++ es) (append-nil (entries_of_kept params num_aux recs k))
+    ap (flat_map (entries_of_span params num_aux recs)) more
+    ∙ flat_map-append (entries_of_span params num_aux recs) ks (k ∷ [])
+    ∙ ap (λ es. entries_of params num_aux recs ks ++ es) (append-nil (entries_of_span params num_aux recs k))
 
-pub spans-more : (ks now : List Kept) (k : Kept) → now ≡ ks ++ k ∷ [] → IsSpan k → All IsSpan ks → All IsSpan now
+pub spans-more : (ks now : List Span) (k : Span) → now ≡ ks ++ k ∷ [] → IsSpan k → All IsSpan ks → All IsSpan now
 spans-more ks now k more span all = rw more (All-append IsSpan ks (k ∷ []) all (λ i d lt. (let e : i ≡ 0 = omega arith in rw e span)))
 
 -- ---- a table, as the code lists it
@@ -121,45 +121,45 @@ table-lists old mid new (Err e) rtt base level first at next =
 
 -- ---- a list of spans, by the numbers of its commands
 
-pub length-kept : (params : RealmParams) (num_aux : ℕ) (recs : List PlacedRec) (k : Kept) → length (entries_of_kept params num_aux recs k) ≡ commands_in k
-length-kept params num_aux recs (kept.Delegate n) = refl
-length-kept params num_aux recs (kept.RealmCreate n) = refl
-length-kept params num_aux recs (kept.RttCreate n ipa level) = refl
-length-kept params num_aux recs (kept.InitRipas base top) = refl
-length-kept params num_aux recs (kept.Pages n ipa item measured page count) = commands-of_pages params.rtt_base measured item count n page ipa
-length-kept params num_aux recs (kept.RecCreate n number) = refl
-length-kept params num_aux recs kept.Activate = refl
+pub length-span : (params : RealmParams) (num_aux : ℕ) (recs : List PlacedRec) (k : Span) → length (entries_of_span params num_aux recs k) ≡ commands_in k
+length-span params num_aux recs (span.Delegate n) = refl
+length-span params num_aux recs (span.RealmCreate n) = refl
+length-span params num_aux recs (span.RttCreate n ipa level) = refl
+length-span params num_aux recs (span.InitRipas base top) = refl
+length-span params num_aux recs (span.Pages n ipa item measured page count) = commands-of_pages params.rtt_base measured item count n page ipa
+length-span params num_aux recs (span.RecCreate n number) = refl
+length-span params num_aux recs span.Activate = refl
 
-pub length-of : (params : RealmParams) (num_aux : ℕ) (recs : List PlacedRec) (ks : List Kept) → length (entries_of params num_aux recs ks) ≡ sum_by commands_in ks
+pub length-of : (params : RealmParams) (num_aux : ℕ) (recs : List PlacedRec) (ks : List Span) → length (entries_of params num_aux recs ks) ≡ sum_by commands_in ks
 length-of params num_aux recs [] = refl
 length-of params num_aux recs (k ∷ ks) =
-    let here : length (entries_of_kept params num_aux recs k) ≡ commands_in k = length-kept params num_aux recs k in
+    let here : length (entries_of_span params num_aux recs k) ≡ commands_in k = length-span params num_aux recs k in
     let rest : length (entries_of params num_aux recs ks) ≡ sum_by commands_in ks = length-of params num_aux recs ks in
-    let both : length (entries_of_kept params num_aux recs k ++ entries_of params num_aux recs ks) ≡ length (entries_of_kept params num_aux recs k) + length (entries_of params num_aux recs ks) =
-    length-append (entries_of_kept params num_aux recs k) (entries_of params num_aux recs ks) in
+    let both : length (entries_of_span params num_aux recs k ++ entries_of params num_aux recs ks) ≡ length (entries_of_span params num_aux recs k) + length (entries_of params num_aux recs ks) =
+    length-append (entries_of_span params num_aux recs k) (entries_of params num_aux recs ks) in
     let sum : sum_by commands_in (k ∷ ks) ≡ commands_in k + sum_by commands_in ks = sum_by-cons commands_in k ks in
-    let parts : length (entries_of params num_aux recs (k ∷ ks)) ≡ length (entries_of_kept params num_aux recs k ++ entries_of params num_aux recs ks) = refl in
+    let parts : length (entries_of params num_aux recs (k ∷ ks)) ≡ length (entries_of_span params num_aux recs k ++ entries_of params num_aux recs ks) = refl in
     omega arith
 
-few-kept : (params : RealmParams) (num_aux : ℕ) (recs : List PlacedRec) (k : Kept) → commands_in k ≤ 2 * delegated (entries_of_kept params num_aux recs k) + 1
-few-kept params num_aux recs (kept.Delegate n) = omega arith
-few-kept params num_aux recs (kept.RealmCreate n) = omega arith
-few-kept params num_aux recs (kept.RttCreate n ipa level) = omega arith
-few-kept params num_aux recs (kept.InitRipas base top) = omega arith
-few-kept params num_aux recs (kept.Pages n ipa item measured page count) = omega (arith, granules-of_pages params.rtt_base measured item count n page ipa)
-few-kept params num_aux recs (kept.RecCreate n number) = omega arith
-few-kept params num_aux recs kept.Activate = omega arith
+few-span : (params : RealmParams) (num_aux : ℕ) (recs : List PlacedRec) (k : Span) → commands_in k ≤ 2 * delegated (entries_of_span params num_aux recs k) + 1
+few-span params num_aux recs (span.Delegate n) = omega arith
+few-span params num_aux recs (span.RealmCreate n) = omega arith
+few-span params num_aux recs (span.RttCreate n ipa level) = omega arith
+few-span params num_aux recs (span.InitRipas base top) = omega arith
+few-span params num_aux recs (span.Pages n ipa item measured page count) = omega (arith, granules-of_pages params.rtt_base measured item count n page ipa)
+few-span params num_aux recs (span.RecCreate n number) = omega arith
+few-span params num_aux recs span.Activate = omega arith
 
 -- the commands are at most two for each granule, and one for each span
-pub few-of : (params : RealmParams) (num_aux : ℕ) (recs : List PlacedRec) (ks : List Kept) → sum_by commands_in ks ≤ 2 * delegated (entries_of params num_aux recs ks) + length ks
+pub few-of : (params : RealmParams) (num_aux : ℕ) (recs : List PlacedRec) (ks : List Span) → sum_by commands_in ks ≤ 2 * delegated (entries_of params num_aux recs ks) + length ks
 few-of params num_aux recs [] = omega arith
 few-of params num_aux recs (k ∷ ks) =
-    let here : commands_in k ≤ 2 * delegated (entries_of_kept params num_aux recs k) + 1 = few-kept params num_aux recs k in
+    let here : commands_in k ≤ 2 * delegated (entries_of_span params num_aux recs k) + 1 = few-span params num_aux recs k in
     let rest : sum_by commands_in ks ≤ 2 * delegated (entries_of params num_aux recs ks) + length ks = few-of params num_aux recs ks in
-    let both : delegated (entries_of_kept params num_aux recs k ++ entries_of params num_aux recs ks) ≡ delegated (entries_of_kept params num_aux recs k) + delegated (entries_of params num_aux recs ks) =
-    count-append (entries_of_kept params num_aux recs k) (entries_of params num_aux recs ks) in
+    let both : delegated (entries_of_span params num_aux recs k ++ entries_of params num_aux recs ks) ≡ delegated (entries_of_span params num_aux recs k) + delegated (entries_of params num_aux recs ks) =
+    count-append (entries_of_span params num_aux recs k) (entries_of params num_aux recs ks) in
     let sum : sum_by commands_in (k ∷ ks) ≡ commands_in k + sum_by commands_in ks = sum_by-cons commands_in k ks in
-    let parts : delegated (entries_of params num_aux recs (k ∷ ks)) ≡ delegated (entries_of_kept params num_aux recs k ++ entries_of params num_aux recs ks) = refl in
+    let parts : delegated (entries_of params num_aux recs (k ∷ ks)) ≡ delegated (entries_of_span params num_aux recs k ++ entries_of params num_aux recs ks) = refl in
     omega arith
 
 get-front : {A : Type 0} (xs ys : List A) (j : ℕ) → j < length xs → slice_get (xs ++ ys) j ≡ slice_get xs j
@@ -172,32 +172,32 @@ get-back [] ys j = let e : 0 + j ≡ j = omega arith in rw e refl
 get-back (x ∷ xs) ys j = let e : length (x ∷ xs) + j ≡ suc (length xs + j) = omega arith in rw e (get-back xs ys j)
 
 -- a command of the list is one of its span
-pub span-get : (params : RealmParams) (num_aux : ℕ) (recs : List PlacedRec) (ks : List Kept) (i j : ℕ) (d : Kept) → i < length ks → j < commands_in (get_or ks i d)
-    → slice_get (entries_of params num_aux recs ks) (sum_by commands_in (take i ks) + j) ≡ slice_get (entries_of_kept params num_aux recs (get_or ks i d)) j
+pub span-get : (params : RealmParams) (num_aux : ℕ) (recs : List PlacedRec) (ks : List Span) (i j : ℕ) (d : Span) → i < length ks → j < commands_in (get_or ks i d)
+    → slice_get (entries_of params num_aux recs ks) (sum_by commands_in (take i ks) + j) ≡ slice_get (entries_of_span params num_aux recs (get_or ks i d)) j
 span-get params num_aux recs [] i j d lt within = absurd (omega arith)
 span-get params num_aux recs (k ∷ ks) zero j d lt within =
     let e : 0 + j ≡ j = omega arith in
-    rw e (get-front (entries_of_kept params num_aux recs k) (entries_of params num_aux recs ks) j (omega (arith, length-kept params num_aux recs k)))
+    rw e (get-front (entries_of_span params num_aux recs k) (entries_of params num_aux recs ks) j (omega (arith, length-span params num_aux recs k)))
 span-get params num_aux recs (k ∷ ks) (suc i) j d lt within =
     let sum : sum_by commands_in (take (suc i) (k ∷ ks)) ≡ commands_in k + sum_by commands_in (take i ks) = sum_by-cons commands_in k (take i ks) in
-    let e : sum_by commands_in (take (suc i) (k ∷ ks)) + j ≡ length (entries_of_kept params num_aux recs k) + (sum_by commands_in (take i ks) + j) = omega (arith, length-kept params num_aux recs k) in
+    let e : sum_by commands_in (take (suc i) (k ∷ ks)) + j ≡ length (entries_of_span params num_aux recs k) + (sum_by commands_in (take i ks) + j) = omega (arith, length-span params num_aux recs k) in
     ap (slice_get (entries_of params num_aux recs (k ∷ ks))) e
-    ∙ (get-back (entries_of_kept params num_aux recs k) (entries_of params num_aux recs ks) (sum_by commands_in (take i ks) + j)
+    ∙ (get-back (entries_of_span params num_aux recs k) (entries_of params num_aux recs ks) (sum_by commands_in (take i ks) + j)
     ∙ span-get params num_aux recs ks i j d (omega arith) within)
 
 -- ---- a plan, by its starts
 
 -- the last start is the number of all commands
-pub last-start : (params : RealmParams) (num_aux : ℕ) (recs : List PlacedRec) (ks : List Kept) (starts : List ℕ) → AreStarts ks starts
+pub last-start : (params : RealmParams) (num_aux : ℕ) (recs : List PlacedRec) (ks : List Span) (starts : List ℕ) → AreStarts ks starts
     → get_or starts (length ks) 0 ≡ length (entries_of params num_aux recs ks)
 last-start params num_aux recs ks starts are =
     are.at (length ks) (omega arith) ∙ ap (sum_by commands_in) (take_all (length ks) ks (omega arith)) ∙ sym (length-of params num_aux recs ks)
 
 -- a command is one of the span that a search has found
-pub found-span : (params : RealmParams) (num_aux : ℕ) (recs : List PlacedRec) (ks : List Kept) (starts : List ℕ) (at index : ℕ) (d : Kept) → AreStarts ks starts
+pub found-span : (params : RealmParams) (num_aux : ℕ) (recs : List PlacedRec) (ks : List Span) (starts : List ℕ) (at index : ℕ) (d : Span) → AreStarts ks starts
     → at + 1 < length starts → get_or starts at 0 ≤ index → index < get_or starts (at + 1) 0
     → (at < length ks) × (index - get_or starts at 0 < commands_in (get_or ks at d))
-    × (slice_get (entries_of params num_aux recs ks) index ≡ slice_get (entries_of_kept params num_aux recs (get_or ks at d)) (index - get_or starts at 0))
+    × (slice_get (entries_of params num_aux recs ks) index ≡ slice_get (entries_of_span params num_aux recs (get_or ks at d)) (index - get_or starts at 0))
 found-span params num_aux recs ks starts at index d are inside from below =
     let count : length starts ≡ length ks + 1 = are.count in
     let lt : at < length ks = omega arith in
@@ -218,7 +218,7 @@ any-default (x ∷ xs) zero d e lt = refl
 any-default (x ∷ xs) (suc i) d e lt = any-default xs i d e (omega arith)
 
 -- a number of a command is below the last start
-pub below-last : (params : RealmParams) (num_aux : ℕ) (recs : List PlacedRec) (ks : List Kept) (starts : List ℕ) (index : ℕ) → AreStarts ks starts
+pub below-last : (params : RealmParams) (num_aux : ℕ) (recs : List PlacedRec) (ks : List Span) (starts : List ℕ) (index : ℕ) → AreStarts ks starts
     → index < length (entries_of params num_aux recs ks) → index < get_or starts (length starts - 1) 0
 below-last params num_aux recs ks starts index are lt =
     let count : length starts ≡ length ks + 1 = are.count in

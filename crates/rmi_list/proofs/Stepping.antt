@@ -34,9 +34,9 @@ use Rattle.rmi_list.specs.Listed.{Listing, list_fault, list_item, list_named, li
 use Rattle.rmi_list.specs.Measured.{page_base}
 use Rattle.rmi_list.specs.RecParams.{rec_params}
 use Rattle.rmi_list.specs.inside.Acts.{HaveRoom}
-use Rattle.rmi_list.specs.declared.kept.Kept.TheVariants as kept
-use Rattle.rmi_list.specs.inside.Kept.{rec_entry}
-use Rattle.rmi_list.specs.inside.Drafts.{Continues, Grows, InPool, Lists, Makes, entries_in, kept_in, progress_of}
+use Rattle.rmi_list.specs.declared.span.Span.TheVariants as span
+use Rattle.rmi_list.specs.inside.Spans.{rec_entry}
+use Rattle.rmi_list.specs.inside.Drafts.{Continues, Grows, InPool, Lists, Makes, entries_in, span_in, progress_of}
 use Rattle.rmi_list.proofs.Checking.{is-done, passed-front, plan-refused, refused-front}
 use Rattle.rmi_list.proofs.Growing.{Refuses, pool_of}
 
@@ -305,7 +305,7 @@ named-rec pool num_aux n number o r at = rw at refl
 
 -- the REC itself, by its number among the launch's RECs
 pub rec-same : (old now : Draft) (n number : ℕ) (r : PlacedRec) → now.launch ≡ old.launch → now.placed ≡ old.placed → n ≡ old.taken
-    → slice_get old.placed.now.recs number ≡ Some r → kept_in now (kept.RecCreate n number) ≡ rec_itself old number r
+    → slice_get old.placed.now.recs number ≡ Some r → span_in now (span.RecCreate n number) ≡ rec_itself old number r
 rec-same old now n number r launch placed at own =
     let found : slice_get now.placed.now.recs number ≡ Some r = ap (λ (p : _). slice_get p.now.recs number) placed ∙ own in
     ap (λ e. e ∷ []) (named-rec (pool_of now) now.launch.now.config.num_aux n number (slice_get now.placed.now.recs number) r found

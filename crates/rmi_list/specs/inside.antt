@@ -1,4 +1,4 @@
-pub mod Kept
+pub mod Spans
 pub mod Drafts
 pub mod Acts
 pub mod Plans

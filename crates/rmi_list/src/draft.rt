@@ -5,12 +5,12 @@ ghost use Rattle.rmm_model.specs.Blocks.{granules};
 ghost use Rattle.list_model.specs.Entries.{Whole, delegate_all, delegated, granule};
 ghost use Rattle.list_model.specs.inside.Acts.{act_entries, entries_of_act, entries_of_pages, pages_in};
 ghost use Rattle.rmi_list.specs.inside.Acts.{HasRoom, HaveRoom, item_of};
-ghost use Rattle.rmi_list.specs.inside.Kept.{IsSpan};
-ghost use Rattle.rmi_list.specs.inside.Drafts.{Lists, kept_in};
+ghost use Rattle.rmi_list.specs.inside.Spans.{IsSpan};
+ghost use Rattle.rmi_list.specs.inside.Drafts.{Lists, span_in};
 ghost use Rattle.rim_desc.specs.declared.page.TheConstants.{PAGE_SIZE};
 
 use crate::fault::ListFault;
-use crate::kept::Kept;
+use crate::span::Span;
 use ipa_layout::Placed;
 use rim_launch::Launch;
 use rtt_plan::{Act, Tables};
@@ -22,7 +22,7 @@ pub struct Draft<'a> {
     pub placed: &'a Placed,
     /// The tables, the RAM and the pages of data.
     pub tables: Tables,
-    pub kept: Vec<Kept>,
+    pub spans: Vec<Span>,
     /// How many granules of the pool were taken.
     pub taken: u64,
     /// How many RECs were listed.
@@ -38,12 +38,12 @@ pub struct ItemPages {
 
 impl<'a> Draft<'a> {
     /// Lists a command that takes no granule of the pool by itself.
-    pub fn push(&mut self, kept: Kept) -> Result<(), ListFault>
-        requires none { delegated (kept_in self.old kept) ≡ 0 }
-        requires span { IsSpan kept }
-        ensures { Lists self.old self.new result (kept_in self.old kept) }
+    pub fn push(&mut self, span: Span) -> Result<(), ListFault>
+        requires none { delegated (span_in self.old span) ≡ 0 }
+        requires span { IsSpan span }
+        ensures { Lists self.old self.new result (span_in self.old span) }
     {
-        self.kept.push(kept)?;
+        self.spans.push(span)?;
         Ok(())
     }
 
@@ -57,7 +57,7 @@ impl<'a> Draft<'a> {
             return Err(ListFault::PoolEnd);
         }
         let granule = self.taken as u32;
-        self.kept.push(Kept::Delegate { granule })?;
+        self.spans.push(Span::Delegate { granule })?;
         self.taken += 1;
         Ok(granule)
     }
@@ -79,7 +79,7 @@ impl<'a> Draft<'a> {
             Lists self.old self.new result (Whole (Delegate g) ∷ Whole (RttCreate g base level) ∷ []) }
     {
         let rtt = self.delegate()?;
-        self.push(Kept::RttCreate {
+        self.push(Span::RttCreate {
             rtt,
             ipa: base,
             level,
@@ -103,7 +103,7 @@ impl<'a> Draft<'a> {
         if most - self.taken < count {
             return Err(ListFault::PoolEnd);
         }
-        self.kept.push(Kept::Pages {
+        self.spans.push(Span::Pages {
             granule: self.taken as u32,
             ipa: base,
             item: item.number,
@@ -129,7 +129,7 @@ impl<'a> Draft<'a> {
                 Ok(page)
             }
             (Act::Run { base, top, .. }, _) => {
-                self.push(Kept::InitRipas { base, top })?;
+                self.push(Span::InitRipas { base, top })?;
                 Ok(page)
             }
             (Act::Pages { base, count }, Some(item)) => {

@@ -3,7 +3,7 @@
 
 mod draft;
 mod fault;
-mod kept;
+mod span;
 mod laws;
 mod plan;
 mod step;

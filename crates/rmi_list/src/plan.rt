@@ -6,7 +6,7 @@ ghost use Rattle.list_model.specs.Entries.{Whole, command_of, delegated, granule
 ghost use Rattle.rmi_list.specs.Listed.{HasPlace, IsRefusal, listed, opening, opening_entries};
 ghost use Rattle.rmi_list.specs.declared.fault.ListFault.{ListFault};
 ghost use Rattle.rmi_list.specs.inside.Drafts.{AreSpans, InPool, entries_in, progress_of};
-ghost use Rattle.rmi_list.specs.inside.Kept.{IsCommandAt, IsPageAt, IsSpan, commands_in, entries_of_kept, rec_entry};
+ghost use Rattle.rmi_list.specs.inside.Spans.{IsCommandAt, IsPageAt, IsSpan, commands_in, entries_of_span, rec_entry};
 ghost use Rattle.rmi_list.specs.inside.Plans.{AreStarts};
 ghost use Rattle.list_model.specs.inside.Acts.{entries_of_pages};
 ghost use Rattle.std.specs.List.{All, sum_by};
@@ -16,7 +16,7 @@ ghost use Rattle.rim_desc.specs.declared.rec.TheConstants.{AUX_LIMIT, REC_LIMIT}
 
 use crate::draft::Draft;
 use crate::fault::ListFault;
-use crate::kept::Kept;
+use crate::span::Span;
 use ipa_layout::{Placed, PlacedRec};
 use refusal::NoMemory;
 use rim_desc::{
@@ -38,7 +38,7 @@ pub struct Plan {
     params: RealmParams,
     num_aux: u8,
     recs: Vec<PlacedRec>,
-    kept: Vec<Kept>,
+    spans: Vec<Span>,
     starts: Vec<usize>,
 }
 
@@ -68,7 +68,7 @@ pub fn list(alloc: Global, launch: &Launch, placed: &Placed) -> Result<Plan, Lis
     for step in launch.steps() {
         draft.step(step)?;
     }
-    draft.push(Kept::Activate)?;
+    draft.push(Span::Activate)?;
     Plan::of(alloc, draft)
 }
 
@@ -85,7 +85,7 @@ pub fn check<'a>(alloc: Global, launch: &'a Launch, placed: &'a Placed) -> Resul
     let mut draft = open(alloc, launch, placed)?;
     for step in launch.steps() {
         draft.step(step)?;
-        draft.kept.clear();
+        draft.spans.clear();
     }
     Ok(())
 }
@@ -105,13 +105,13 @@ fn open<'a>(alloc: Global, launch: &'a Launch, placed: &'a Placed) -> Result<Dra
         launch,
         placed,
         tables: Tables::new(alloc, config.s2sz, config.block_level),
-        kept: Vec::new(alloc),
+        spans: Vec::new(alloc),
         taken: 0,
         num_recs: 0,
     };
     draft.delegate_all(start_count(config.s2sz))?;
     let rd = draft.delegate()?;
-    draft.push(Kept::RealmCreate { rd })?;
+    draft.push(Span::RealmCreate { rd })?;
     Ok(draft)
 }
 
@@ -120,16 +120,16 @@ impl Plan {
     fn of<'a>(alloc: Global, draft: Draft<'a>) -> Result<Plan, ListFault>
         requires recs { length draft.placed.now.recs ≤ REC_LIMIT }
         requires few { delegated (entries_in draft) ≤ 2 ^ 32 }
-        requires spans { All IsSpan draft.kept.items }
+        requires spans { All IsSpan draft.spans.items }
         ensures plan { IfOk result (λ plan. plan ≡ entries_in draft.entry) }
         ensures fault { IfErr result (λ e. e ≡ ListFault.NoMemory) }
     {
-        let starts = number(alloc, &draft.kept)?;
+        let starts = number(alloc, &draft.spans)?;
         Ok(Plan {
             params: realm_params(draft.launch),
             num_aux: draft.launch.config().num_aux,
             recs: Vec::from_slice(alloc, draft.placed.recs())?,
-            kept: draft.kept,
+            span: draft.spans,
             starts,
         })
     }
@@ -138,7 +138,7 @@ impl Plan {
     pub fn len(&self) -> usize
         ensures { result ≡ length self.now }
     {
-        self.starts[self.kept.len()]
+        self.starts[self.spans.len()]
     }
 
     /// The number of the item and of its page, where a command creates a measured page.
@@ -147,7 +147,7 @@ impl Plan {
         ensures { result ≡ option_and_then page_of (slice_get self.now index) }
     {
         let at = span_at(&self.starts, index);
-        page_in(&self.kept[at], index - self.starts[at])
+        page_in(&self.spans[at], index - self.starts[at])
     }
 
     /// A command of the list. Where it creates a measured page, the page's content is this measurement; others do not use it.
@@ -160,7 +160,7 @@ impl Plan {
             self.params,
             self.num_aux,
             self.recs.as_slice(),
-            &self.kept[at],
+            &self.spans[at],
             index - self.starts[at],
             content,
         )
@@ -172,64 +172,64 @@ fn command_in(
     params: RealmParams,
     num_aux: u8,
     recs: &[PlacedRec],
-    kept: &Kept,
+    span: &Span,
     offset: usize,
     content: &Measurement,
 ) -> Command
     requires low { params.rtt_base < 2 ^ 48 }
     requires aux { num_aux ≤ AUX_LIMIT }
     requires few { length recs.now ≤ REC_LIMIT }
-    requires span { IsSpan kept.now }
-    requires within { offset < commands_in kept.now }
-    ensures { IsCommandAt content.now (entries_of_kept params num_aux recs.now kept.now) offset result }
+    requires span { IsSpan span.now }
+    requires within { offset < commands_in span.now }
+    ensures { IsCommandAt content.now (entries_of_span params num_aux recs.now span.now) offset result }
 {
     let pool = params.rtt_base;
-    match *kept {
-        Kept::Delegate { granule } => Command::Delegate {
+    match *span {
+        Span::Delegate { granule } => Command::Delegate {
             granule: granule_at(pool, granule as u64),
         },
-        Kept::RealmCreate { rd } => Command::RealmCreate {
+        Span::RealmCreate { rd } => Command::RealmCreate {
             rd: granule_at(pool, rd as u64),
             params,
         },
-        Kept::RttCreate { rtt, ipa, level } => Command::RttCreate {
+        Span::RttCreate { rtt, ipa, level } => Command::RttCreate {
             rtt: granule_at(pool, rtt as u64),
             ipa,
             level,
         },
-        Kept::InitRipas { base, top } => Command::InitRipas { base, top },
-        Kept::Pages {
+        Span::InitRipas { base, top } => Command::InitRipas { base, top },
+        Span::Pages {
             granule,
             ipa,
             measured,
             ..
         } => page_command(pool, granule, ipa, measured, offset, content),
-        Kept::RecCreate { rec, number } => rec_create(pool, num_aux, recs, rec, number),
-        Kept::Activate => Command::Activate,
+        Span::RecCreate { rec, number } => rec_create(pool, num_aux, recs, rec, number),
+        Span::Activate => Command::Activate,
     }
 }
 
 /// How many commands a span has.
-fn commands_in(kept: &Kept) -> usize
-    requires { commands_in kept.now < 2 ^ 64 }
-    ensures { result ≡ commands_in kept.now }
+fn commands_in(span: &Span) -> usize
+    requires { commands_in span.now < 2 ^ 64 }
+    ensures { result ≡ commands_in span.now }
 {
-    match *kept {
-        Kept::Pages { count, .. } => 2 * count as usize,
+    match *span {
+        Span::Pages { count, .. } => 2 * count as usize,
         _ => 1,
     }
 }
 
 /// How many commands come before each span, and how many there are in all.
-fn number(alloc: Global, kept: &[Kept]) -> Result<Vec<usize>, NoMemory>
-    requires { sum_by commands_in kept.now < 2 ^ 64 }
-    ensures { IfOk result (λ starts. AreStarts kept.now starts.items) }
+fn number(alloc: Global, spans: &[Span]) -> Result<Vec<usize>, NoMemory>
+    requires { sum_by commands_in span.now < 2 ^ 64 }
+    ensures { IfOk result (λ starts. AreStarts span.now starts.items) }
 {
     let mut starts = Vec::new(alloc);
     let mut len = 0;
     starts.push(len)?;
-    for kept in kept {
-        len += commands_in(kept);
+    for span in span {
+        len += commands_in(span);
         starts.push(len)?;
     }
     Ok(starts)
@@ -258,12 +258,12 @@ fn span_at(starts: &[usize], index: usize) -> usize
 }
 
 /// The number of the item and of its page, where a command of a span creates a measured page.
-fn page_in(kept: &Kept, offset: usize) -> Option<(usize, u64)>
-    requires { offset < commands_in kept.now }
-    ensures { IsPageAt kept.now offset result }
+fn page_in(span: &Span, offset: usize) -> Option<(usize, u64)>
+    requires { offset < commands_in span.now }
+    ensures { IsPageAt span.now offset result }
 {
-    match *kept {
-        Kept::Pages {
+    match *span {
+        Span::Pages {
             item,
             measured,
             page,

@@ -7,7 +7,7 @@ ghost use Rattle.ipa_layout.specs.declared.item_check.TheConstants.{PAGE_LIMIT};
 
 use crate::draft::{Draft, ItemPages};
 use crate::fault::ListFault;
-use crate::kept::Kept;
+use crate::span::Span;
 use ipa_layout::{PlacedItem, PlacedRec};
 use rim_launch::{Region, Step};
 
@@ -57,7 +57,7 @@ impl<'a> Draft<'a> {
         }
         let granule = self.delegate()?;
         self.delegate_all(self.launch.config().num_aux as u64)?;
-        self.push(Kept::RecCreate {
+        self.push(Span::RecCreate {
             rec: granule,
             number: number as u16,
         })?;

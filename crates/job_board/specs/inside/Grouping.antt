@@ -2,8 +2,8 @@
 use Rattle.std.specs.Prelude.{◌≡◌, ◌≢◌, ℕ, ◌+◌, ◌-◌, ◌<◌, ◌≤◌, Bool, ◌==◌, ◌⊎◌, if◌then◌else◌, List, [], ◌∷◌, ◌++◌, length, Some, count_by, slice_get}
 use Rattle.std.specs.List.{flat_map, list_all, range_with_len}
 use Rattle.job_board.specs.declared.grouping.Stretch.{Stretch}
-use Rattle.job_board.specs.declared.prefixes.PageGroup.{PageGroup}
-use Rattle.job_board.specs.inside.Prefixes.{AreApart, IsGroup, all_of, prefix_needs}
+use Rattle.job_board.specs.declared.reaches.PageGroup.{PageGroup}
+use Rattle.job_board.specs.inside.Reaches.{AreApart, IsGroup, all_of, reach_needs}
 
 -- a stretch ends before another, or both begin alike and the other is no shorter
 abbrev pub Precedes : Stretch → Stretch → Type 0
@@ -31,7 +31,7 @@ pub record IsGrouped (pages launches : ℕ) (ss : List Stretch) (gs : List PageG
   pub each : (k : ℕ) (g : PageGroup) → slice_get gs k ≡ Some g → IsGroup pages launches g
   pub origin : (k : ℕ) (g : PageGroup) → slice_get gs k ≡ Some g → (i : ℕ) × (a : Stretch) × (slice_get ss i ≡ Some a) × (a.first ≡ g.first) × (a.count ≡ g.count) × (0 < a.count)
   pub counted : (l : ℕ) → all_of l gs ≡ count_by (λ s. s.launch == l) ss
-  pub index : (l : ℕ) (f : ℕ → Bool) → list_all f (prefix_needs gs l) ≡ list_all f (flat_map (own_pages l) ss)
+  pub index : (l : ℕ) (f : ℕ → Bool) → list_all f (reach_needs gs l) ≡ list_all f (flat_map (own_pages l) ss)
 
 -- ---- as code makes them
 

@@ -1,7 +1,7 @@
 -- Where a chain is. This project's choice.
 use Rattle.std.specs.Prelude.{◌≡◌, ◌≤◌, List, length, take}
 use Rattle.rim_desc.specs.declared.measurement.Measurement.{Measurement}
-use Rattle.rim_chain.specs.Fronts.{front_value}
+use Rattle.rim_chain.specs.Prefixes.{prefix_value}
 use Rattle.rim_chain.specs.Links.{PlanView, keys_of}
 use Rattle.rim_chain.specs.declared.chaining.Place.{Place}
 
@@ -9,4 +9,4 @@ use Rattle.rim_chain.specs.declared.chaining.Place.{Place}
 pub record IsPlace (p : PlanView) (digests : List Measurement) (at : Place) : Type 0 where
   pub links : at.links ≤ length p.links
   pub pages : at.pages ≡ length (keys_of (take at.links p.links))
-  pub value : at.value.bytes ≡ front_value at.links p digests
+  pub value : at.value.bytes ≡ prefix_value at.links p digests

@@ -24,11 +24,11 @@ fn check_unfilled(rt: &impl Abort, alloc: Global, plan: &LaunchPlan, table: &Tab
 }
 
 fn check_value(rt: &impl Abort, value: &Measurement, row: &Chain) {
-    let (_, front, middle, last) = row;
+    let (_, prefix, middle, last) = row;
     let b = &value.bytes;
     let begin = u64::from_be_bytes([b[0], b[1], b[2], b[3], b[4], b[5], b[6], b[7]]);
-    let holds = begin == *front && b[31] == *middle && b[63] == *last;
-    assert!(rt; holds, "{front:x}");
+    let holds = begin == *prefix && b[31] == *middle && b[63] == *last;
+    assert!(rt; holds, "{prefix:x}");
 }
 
 /// The value of a launch whose row is filled.

@@ -1,12 +1,12 @@
-//! The fronts of launches that go on from no other.
+//! The prefixes of launches that go on from no other.
 use super::{LEAD, check, filled_row, item, plan_of, put, realm};
 use page_jobs::{Blob, Table};
-use rim_chain::{Front, LaunchPlan, SharedFronts, chain, first_fronts};
+use rim_chain::{Prefix, LaunchPlan, SharedPrefixes, chain, first_prefixes};
 use rim_desc::{Algo, RealmParams, Source};
 use std::alloc::Global;
 use std::process::Abort;
 
-/// The algorithm, the number of breakpoints and of blocks, and whether a front is found. The last two launches begin
+/// The algorithm, the number of breakpoints and of blocks, and whether a prefix is found. The last two launches begin
 /// alike, so one goes on from the other. Of the five that are left by SHA-256 the shortest has none.
 type Launch = (Algo, u8, u64, bool);
 
@@ -39,49 +39,49 @@ fn own_plans(rt: &impl Abort, alloc: Global) -> Vec<LaunchPlan> {
     plans
 }
 
-fn fronts_of(
+fn prefixes_of(
     rt: &impl Abort,
     alloc: Global,
     table: &Table,
     plans: &[LaunchPlan],
-) -> Vec<Option<Front>> {
-    let shared = SharedFronts::new(alloc, plans).expect(rt, "memory");
-    first_fronts(alloc, table, plans, &shared).expect(rt, "memory")
+) -> Vec<Option<Prefix>> {
+    let shared = SharedPrefixes::new(alloc, plans).expect(rt, "memory");
+    first_prefixes(alloc, table, plans, &shared).expect(rt, "memory")
 }
 
-/// The front of four links has the value of the whole chain.
-fn check_front(
+/// The prefix of four links has the value of the whole chain.
+fn check_prefix(
     rt: &impl Abort,
     alloc: Global,
     table: &Table,
     plan: &LaunchPlan,
-    front: &Option<Front>,
-    has_front: bool,
+    prefix: &Option<Prefix>,
+    has_prefix: bool,
 ) {
-    check(rt, front.is_some() == has_front, "whether it has a front");
+    check(rt, prefix.is_some() == has_prefix, "whether it has a prefix");
     let row = filled_row(rt, alloc, plan, table);
-    if let Some(front) = front {
-        check(rt, front.links == 4, "four links");
-        check(rt, front.value == chain(plan, &row), "their value");
+    if let Some(prefix) = prefix {
+        check(rt, prefix.links == 4, "four links");
+        check(rt, prefix.value == chain(plan, &row), "their value");
     }
 }
 
-fn check_fronts(rt: &impl Abort, alloc: Global, table: &Table, plans: &[LaunchPlan]) {
-    let fronts = fronts_of(rt, alloc, table, plans);
+fn check_prefixes(rt: &impl Abort, alloc: Global, table: &Table, plans: &[LaunchPlan]) {
+    let prefixes = prefixes_of(rt, alloc, table, plans);
     check(
         rt,
-        fronts.len() == LAUNCHES.len(),
-        "a front for each launch",
+        prefixes.len() == LAUNCHES.len(),
+        "a prefix for each launch",
     );
     for number in 0..LAUNCHES.len() {
         let plan = plans.get(number).expect(rt, "a plan");
-        let front = fronts.get(number).expect(rt, "a front");
-        check_front(rt, alloc, table, plan, front, LAUNCHES[number].3);
+        let prefix = prefixes.get(number).expect(rt, "a prefix");
+        check_prefix(rt, alloc, table, plan, prefix, LAUNCHES[number].3);
     }
 }
 
 #[test]
-fn four_fronts_are_their_own_chains(rt: HostRuntime) {
+fn four_prefixes_are_their_own_chains(rt: HostRuntime) {
     let bytes = item(&rt, rt.alloc());
     let blob = Blob::new(Source::File(0), LEAD, &bytes);
     let pages = [
@@ -94,5 +94,5 @@ fn four_fronts_are_their_own_chains(rt: HostRuntime) {
     for slot in 0..pages.len() {
         put(&rt, &mut table, slot, pages[slot]);
     }
-    check_fronts(&rt, rt.alloc(), &table, &own_plans(&rt, rt.alloc()));
+    check_prefixes(&rt, rt.alloc(), &table, &own_plans(&rt, rt.alloc()));
 }

@@ -9,17 +9,17 @@ use Rattle.rmi_list.specs.Listed.{Listing, Progress}
 use Rattle.rmi_list.specs.declared.draft.Draft.{Draft}
 use Rattle.rmi_list.specs.declared.fault.ListFault.{ListFault}
 use Rattle.rmi_list.specs.declared.fault.ListFault.TheVariants as fault
-use Rattle.rmi_list.specs.declared.kept.Kept.{Kept}
-use Rattle.rmi_list.specs.inside.Kept.{IsSpan, entries_of, entries_of_kept}
+use Rattle.rmi_list.specs.declared.span.Span.{Span}
+use Rattle.rmi_list.specs.inside.Spans.{IsSpan, entries_of, entries_of_span}
 use Rattle.ipa_layout.specs.declared.item_check.TheConstants.{PAGE_LIMIT}
 use Rattle.rim_launch.specs.declared.launch.TheConstants.{ITEM_LIMIT}
 
 -- the entries of the commands that were listed
 abbrev pub entries_in : Draft → List Entry
-entries_in d = entries_of (realm_params d.launch.now.config) d.launch.now.config.num_aux d.placed.now.recs d.kept.items
+entries_in d = entries_of (realm_params d.launch.now.config) d.launch.now.config.num_aux d.placed.now.recs d.spans.items
 
-abbrev pub kept_in : Draft → Kept → List Entry
-kept_in d k = entries_of_kept (realm_params d.launch.now.config) d.launch.now.config.num_aux d.placed.now.recs k
+abbrev pub span_in : Draft → Span → List Entry
+span_in d k = entries_of_span (realm_params d.launch.now.config) d.launch.now.config.num_aux d.placed.now.recs k
 
 -- how far it is
 abbrev pub progress_of : Draft → Progress
@@ -31,7 +31,7 @@ InPool d = d.taken ≤ d.launch.now.config.pool_count
 
 -- the spans that are kept can be numbered
 abbrev pub AreSpans : Draft → Type 0
-AreSpans d = All IsSpan d.kept.items
+AreSpans d = All IsSpan d.spans.items
 
 -- some entries were added, with the granules that they take, and nothing else has changed
 pub record Grows (old new : Draft) (es : List Entry) : Type 0 where

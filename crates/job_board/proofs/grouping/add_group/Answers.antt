@@ -1,11 +1,11 @@
 use Rattle.std.proofs.Common.{◌∙◌, ◌++◌, ◌∷◌, [], List, ap, refl}
-use Rattle.job_board.specs.declared.prefixes.Prefix.{Prefix}
-use Rattle.job_board.specs.declared.prefixes.PageGroup.{PageGroup}
-use Rattle.job_board.proofs.Grouped.{grouped_new, prefix_of}
+use Rattle.job_board.specs.declared.reaches.Reach.{Reach}
+use Rattle.job_board.specs.declared.reaches.PageGroup.{PageGroup}
+use Rattle.job_board.proofs.Grouped.{grouped_new, reach_of}
 use Rattle.job_board.proofs.grouping.add_group.Goals as goal
 
 pub returns : goal.returns
 returns c = λ pages launches before comes is.
-    let h : PageGroup = record { first = c.args.stretch.first; count = c.args.stretch.count; prefixes = c.push.new.self } in
-    let items = c.in_ok-push.ensures.items ∙ ap (λ (qs : List Prefix). qs ++ prefix_of c.args.stretch ∷ []) c.new-prefixes.ensures.items in
+    let h : PageGroup = record { first = c.args.stretch.first; count = c.args.stretch.count; reaches = c.push.new.self } in
+    let items = c.in_ok-push.ensures.items ∙ ap (λ (qs : List Reach). qs ++ reach_of c.args.stretch ∷ []) c.new-reaches.ensures.items in
     rw c.in_ok-push-2.ensures.items (grouped_new pages launches before c.args.groups.now.items c.args.stretch h comes is c.requires refl refl items)

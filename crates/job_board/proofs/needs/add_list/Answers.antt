@@ -1,8 +1,8 @@
 use Rattle.std.proofs.Common.{◌<◌, ◌++◌, ◌∷◌, [], ℕ, List, length, get_or, take, refl, subst, arith}
 use Rattle.std.proofs.lemmas.List.{take_all, take_more}
 use Rattle.std.proofs.lemmas.Option.{slice_get-get_or}
-use Rattle.job_board.specs.declared.prefixes.PageGroup.{PageGroup}
-use Rattle.job_board.specs.inside.Prefixes.{IsListed}
+use Rattle.job_board.specs.declared.reaches.PageGroup.{PageGroup}
+use Rattle.job_board.specs.inside.Reaches.{IsListed}
 use Rattle.job_board.proofs.Listing.{listed_more, listed_push, pushed}
 use Rattle.job_board.proofs.needs.add_list.Goals as goal
 
@@ -14,7 +14,7 @@ loop-page-preserved c = λ lists size is.
     let gs = c.loop-page.groups in
     let p = get_or c.args.list.now c.loop-page.page-index 0 in
     let g = get_or gs p c.index-groups-page.result in
-    let h : PageGroup = record { first = g.first; count = g.count; prefixes = c.push.new.self } in
+    let h : PageGroup = record { first = g.first; count = g.count; reaches = c.push.new.self } in
     let lt : p < length gs = omega (arith, c.requires.within c.loop-page.page-index 0 c.loop-page-test.true, c.loop-page.auto.groups) in
     let at = slice_get-get_or gs p c.index-groups-page.result lt in
     let xs = take c.loop-page.page-index c.args.list.now in

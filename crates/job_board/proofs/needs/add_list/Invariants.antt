@@ -1,5 +1,5 @@
 use Rattle.std.proofs.Common.{◌≡◌, ℕ, List, [], ◌∷◌, ◌++◌, length, take}
-use Rattle.job_board.specs.inside.Prefixes.{IsListed}
+use Rattle.job_board.specs.inside.Reaches.{IsListed}
 use Rattle.job_board.proofs.needs.add_list.Given as goal
 
 abbrev pub invariant-loop-page : goal.invariant-loop-page

@@ -1,5 +1,5 @@
 use Rattle.std.proofs.Common.{[]}
-use Rattle.job_board.specs.inside.Prefixes.{IsListed}
+use Rattle.job_board.specs.inside.Reaches.{IsListed}
 use Rattle.job_board.proofs.needs.single_pages.Given as goal
 
 abbrev pub invariant-loop-first : goal.invariant-loop-first

@@ -4,7 +4,7 @@ use Rattle.std.proofs.lemmas.Bool.{cases_lt}
 use Rattle.std.proofs.lemmas.Bool.Decides.{nat_tests}
 use Rattle.job_board.specs.contracts.grouping.StretchOrd.TheImpl.{ghosts as order}
 use Rattle.job_board.specs.declared.grouping.Stretch.{Stretch}
-use Rattle.job_board.proofs.Needed.{prefixes_are_needs}
+use Rattle.job_board.proofs.Needed.{reaches_are_needs}
 use Rattle.job_board.proofs.OwnNeeds.{AreRising, Rises, groups_own, own_groups}
 use Rattle.job_board.proofs.own_needs.own_needs.Goals as goal
 
@@ -44,7 +44,7 @@ few c = search rules
 
 pub returns-clause-needs : goal.returns-clause-needs
 returns-clause-needs c =
-    prefixes_are_needs (length c.args.table.now.pages) (length c.args.plans.now) c.in_ok-groups.groups
+    reaches_are_needs (length c.args.table.now.pages) (length c.args.plans.now) c.in_ok-groups.groups
     (own_groups c.args.table.now c.pages-pages.ensures.table c.args.plans.now c.in_ok-stretches.stretches.items c.sort_unstable.new.self.items c.in_ok-groups.groups.items
     c.requires c.in_ok-stretches.ensures.begin c.in_ok-stretches.ensures.stretches c.sort_unstable.ensures.permutation (in_order c) (few c) (λ are. rw (← c.deref.ensures.value) (c.in_ok-groups.ensures (length c.args.table.now.pages) (length c.args.plans.now) (rw c.deref.ensures.value are))))
 

@@ -1,6 +1,6 @@
 use Rattle.std.proofs.Common.{◌<◌, length, arith, refl, sym, ◌∙◌}
 use Rattle.rim_chain.specs.declared.link.Link.TheVariants as link
-use Rattle.rim_chain.proofs.FrontValues.{front-next}
+use Rattle.rim_chain.proofs.PrefixValues.{prefix-next}
 use Rattle.rim_chain.proofs.LinkByLink.{keys-so-far, keys-within}
 use Rattle.rim_chain.proofs.chaining.chained_to.Goals as goal
 
@@ -33,8 +33,8 @@ loop-at-preserved c =
         links = omega (arith, inside);
         pages = omega (arith, pages, more, own);
         value =
-            rw (c.links.ensures.links, c.split_at-in-loop-at.ensures.front, c.split_at.ensures.back, c.digests.ensures.digests, count, value, c.params-algo.ensures, pages) at c.extended_by_link.ensures
-            ∙ sym (front-next c.args.plan.now c.args.row.now.digests c.loop-at.at _ inside);
+            rw (c.links.ensures.links, c.split_at-in-loop-at.ensures.prefix, c.split_at.ensures.back, c.digests.ensures.digests, count, value, c.params-algo.ensures, pages) at c.extended_by_link.ensures
+            ∙ sym (prefix-next c.args.plan.now c.args.row.now.digests c.loop-at.at _ inside);
       };
       links = refl;
     }

@@ -3,7 +3,7 @@ use Rattle.std.proofs.lemmas.List.{take_at}
 use Rattle.job_board.specs.declared.job.JobState.TheVariants.{Held, Done}
 use Rattle.job_board.specs.Jobs.{CoreState, is_out, state_of, with_launch}
 use Rattle.job_board.specs.inside.Needs.{groups_of, needs_of}
-use Rattle.job_board.specs.inside.Prefixes.{Waits}
+use Rattle.job_board.specs.inside.Reaches.{Waits}
 use Rattle.job_board.specs.inside.Lines.{passed_over}
 use Rattle.job_board.proofs.Lined.{done_passes, launches_stay, passed_grows, passed_write}
 use Rattle.job_board.proofs.Noted.{notes_write}

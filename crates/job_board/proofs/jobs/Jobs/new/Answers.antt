@@ -1,7 +1,7 @@
 use Rattle.std.proofs.Common.{◌≡◌, ◌∙◌, ℕ, length, get_or, replicate, false, None, subst, sym, rules}
 use Rattle.job_board.specs.declared.job.JobState.TheVariants.{Free}
 use Rattle.job_board.specs.inside.Needs.{groups_of, needs_of}
-use Rattle.job_board.specs.inside.Prefixes.{AreGroups, all_of}
+use Rattle.job_board.specs.inside.Reaches.{AreGroups, all_of}
 use Rattle.job_board.proofs.Indexed.{start, waits_fresh}
 use Rattle.job_board.specs.inside.Lines.{IsLine}
 use Rattle.std.specs.Prelude.{vec_capacity}

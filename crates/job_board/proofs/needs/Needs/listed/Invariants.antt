@@ -1,5 +1,5 @@
 use Rattle.std.proofs.Common.{map, take}
-use Rattle.job_board.specs.inside.Prefixes.{IsListed}
+use Rattle.job_board.specs.inside.Reaches.{IsListed}
 use Rattle.job_board.proofs.needs.Needs.listed.Given as goal
 
 abbrev pub invariant-loop-launch : goal.invariant-loop-launch

@@ -14,7 +14,7 @@ use Rattle.job_board.proofs.Histories.{history_room, same_most}
 use Rattle.job_board.proofs.Boards.{board_other, ready_filled}
 use Rattle.job_board.proofs.Kept.{take_says}
 use Rattle.job_board.proofs.BoardRows.{rows_take_launch}
-use Rattle.rim_chain.proofs.KnownFronts.{own-head}
+use Rattle.rim_chain.proofs.KnownPrefixes.{own-shared_prefix}
 use Rattle.job_board.proofs.state.BoardState.give_launch.Goals as goal
 
 pub push_reserved-requires : goal.push_reserved-requires
@@ -50,8 +50,8 @@ unreachable-requires-then-not-fill_row g c =
 pub going_on-requires : goal.going_on-requires
 going_on-requires g c =
     let i = c.self.inside in
-    let known = c.front-head.ensures i.table c.plan_at-plan.result.now c.self.invariant.3 c.plan_at-plan.ensures in
-    rw c.new-job.ensures (own-head i.table c.plan_at-plan.result.now c.fill_row.new.row.digests c.front-head.result (c.fill_row.ensures.filled c.if-not-fill_row.false) known)
+    let known = c.prefix-shared_prefix.ensures i.table c.plan_at-plan.result.now c.self.invariant.3 c.plan_at-plan.ensures in
+    rw c.new-job.ensures (own-shared_prefix i.table c.plan_at-plan.result.now c.fill_row.new.row.digests c.prefix-shared_prefix.result (c.fill_row.ensures.filled c.if-not-fill_row.false) known)
 
 pub invariant_of-self : goal.invariant_of-self
 invariant_of-self g c =
@@ -62,7 +62,7 @@ invariant_of-self g c =
       rw c.push_reserved.ensures.items (board_other b c.step.new.self (Take c.args.worker (Launch c.args.number)) refl c.self.invariant.0 step),
       omega (arith, most, c.self.invariant.1, c.push_reserved.ensures.capacity),
       rw c.take_row.ensures.rest (rows_take_launch i.core c.step.new.self i.plans.now i.rows.items i.spare.items c.args.worker c.args.number c.self.invariant.2 step),
-      c.take_marks.ensures.shared i.table i.plans.now c.self.invariant.3,
+      c.take_checkpoints.ensures.shared i.table i.plans.now c.self.invariant.3,
       c.self.invariant.4,
     )
 

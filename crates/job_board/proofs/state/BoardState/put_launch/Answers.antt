@@ -2,7 +2,7 @@ use Rattle.std.proofs.Common.{◌≡◌, ◌∙◌, ℕ, List, Ok, Some, ap, ari
 use Rattle.std.specs.Prelude.{IfSome}
 use Rattle.std.specs.List.{slice_get}
 use Rattle.rim_desc.specs.declared.measurement.Measurement.{Measurement}
-use Rattle.rim_chain.specs.Fronts.{AreFronts}
+use Rattle.rim_chain.specs.Prefixes.{AreCheckpoints}
 use Rattle.std.proofs.lemmas.Option.{slice_get_within}
 use Rattle.page_jobs.specs.Page.{PageView}
 use Rattle.page_jobs.specs.Table.{IsTable}
@@ -21,7 +21,7 @@ use Rattle.job_board.proofs.Boards.{board_put_launch, held_filled, results_are, 
 use Rattle.job_board.proofs.Kept.{put_says}
 use Rattle.job_board.proofs.BoardRows.{rows_put_launch}
 use Rattle.job_board.proofs.OwnRows.{row_of_own}
-use Rattle.rim_chain.proofs.KnownFronts.{own-marks}
+use Rattle.rim_chain.proofs.KnownPrefixes.{own-checkpoints}
 use Rattle.job_board.proofs.state.BoardState.put_launch.Goals as goal
 
 -- what is known of a launch that was put
@@ -73,7 +73,7 @@ invariant_of-self-2 g c =
       rw c.push_reserved.ensures.items (board_put_launch b c.step.new.self c.args.worker n job.plan c.value.result c.self.invariant.0 step at value),
       omega (arith, most, c.self.invariant.1, c.push_reserved.ensures.capacity),
       rows_put_launch i.core c.step.new.self i.plans.now i.rows.items i.spare.items c.args.worker n c.self.invariant.2 step,
-      c.keep.ensures.shared i.table i.plans.now job.plan at (own-marks (λ v. v.items) i.table job.plan job.row.digests c.into_marks.result put.row (subst (λ (r : RimView). IfSome c.into_marks.result (λ marks. AreFronts r.job.plan r.job.row.digests marks.items)) c.into_rim-rim.ensures.rim c.into_marks.ensures)) c.self.invariant.3,
+      c.keep.ensures.shared i.table i.plans.now job.plan at (own-checkpoints (λ v. v.items) i.table job.plan job.row.digests c.into_checkpoints.result put.row (subst (λ (r : RimView). IfSome c.into_checkpoints.result (λ marks. AreCheckpoints r.job.plan r.job.row.digests marks.items)) c.into_rim-rim.ensures.rim c.into_checkpoints.ensures)) c.self.invariant.3,
       c.self.invariant.4,
     )
 

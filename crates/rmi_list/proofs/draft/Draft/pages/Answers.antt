@@ -55,8 +55,8 @@ returns c =
       placed = refl;
       tables = refl;
       num_recs = refl;
-      entries = one-more (realm_params d.launch.now.config) d.launch.now.config.num_aux d.placed.now.recs d.kept.items c.push.new.self.items _ c.in_ok-push.ensures.items;
+      entries = one-more (realm_params d.launch.now.config) d.launch.now.config.num_aux d.placed.now.recs d.spans.items c.push.new.self.items _ c.in_ok-push.ensures.items;
       taken = ap (λ (n : ℕ). d.taken + n) (sym (granules-of_pages (pool_of d) i.measured i.number c.args.count d.taken c.args.first c.args.base));
       pool = λ within. omega arith;
-      spans = λ all. spans-more d.kept.items c.push.new.self.items _ c.in_ok-push.ensures.items (omega arith, omega (arith, c.requires.low), omega arith) all;
+      spans = λ all. spans-more d.spans.items c.push.new.self.items _ c.in_ok-push.ensures.items (omega arith, omega (arith, c.requires.low), omega arith) all;
     }

@@ -6,7 +6,7 @@ use Rattle.rmi_list.proofs.plan.Plan.of.Goals as goal
 pub number-requires : goal.number-requires
 number-requires c =
     let d = c.args.draft in
-    rw c.deref.ensures.value (omega (arith, d.kept.ok, d.kept.small, c.requires.few, few-of (realm_params d.launch.now.config) d.launch.now.config.num_aux d.placed.now.recs d.kept.items))
+    rw c.deref.ensures.value (omega (arith, d.spans.ok, d.spans.small, c.requires.few, few-of (realm_params d.launch.now.config) d.launch.now.config.num_aux d.placed.now.recs d.spans.items))
 
 pub invariant_of-result : goal.invariant_of-result
 invariant_of-result c =

@@ -1,0 +1,47 @@
+-- What the prefixes of a plan chain to, one link after another.
+use Rattle.std.proofs.Common.{◌≡◌, ℕ, ◌+◌, ◌<◌, ◌∙◌, refl, ap, arith, List, [], ◌∷◌, length, take, drop, get_or}
+use Rattle.std.proofs.lemmas.List.{append-nil, drop-take, take-take, take_all, take_more}
+use Rattle.rim_desc.specs.Measurement.{measurement_of}
+use Rattle.rim_desc.specs.Part.{extended_by}
+use Rattle.rim_desc.specs.Realm.{realm_page_of}
+use Rattle.rim_desc.specs.declared.measurement.Measurement.{Measurement}
+use Rattle.rim_chain.specs.Prefixes.{prefix_value}
+use Rattle.rim_chain.specs.Links.{PlanView, chain_of, keys_of, link_parts, page_count, parts_with}
+use Rattle.rim_chain.specs.Rows.{IsFilled}
+use Rattle.rim_chain.specs.declared.link.Link.{Link}
+use Rattle.rim_chain.proofs.LinkByLink.{chain-cut, keys-so-far}
+
+pub prefix-first : (p : PlanView) (digests : List Measurement) → prefix_value 0 p digests ≡ measurement_of p.params.algo (realm_page_of p.params)
+unfolding chain_of parts_with
+prefix-first p digests = refl
+
+-- the parts of one link are its own
+one-link : (l : Link) (digests : List Measurement) → parts_with (l ∷ []) (take (page_count l) digests) ≡ link_parts l (take (page_count l) digests)
+unfolding parts_with
+one-link l digests =
+    append-nil (link_parts l (take (page_count l) (take (page_count l) digests)))
+    ∙ ap (link_parts l) (take-take (page_count l) (page_count l) digests (omega arith))
+
+-- the prefix of one link more
+pub prefix-next : (p : PlanView) (digests : List Measurement) (i : ℕ) (d : Link) → i < length p.links
+    → prefix_value (i + 1) p digests
+    ≡ extended_by p.params.algo (prefix_value i p digests) (link_parts (get_or p.links i d) (take (page_count (get_or p.links i d)) (drop (length (keys_of (take i p.links))) digests)))
+unfolding chain_of
+prefix-next p digests i d inside =
+    let links : List Link = p.links in
+    let l : Link = get_or links i d in
+    let c : ℕ = page_count l in
+    let n : ℕ = length (keys_of (take i links)) in
+    let first : List ℕ = measurement_of p.params.algo (realm_page_of p.params) in
+    let more : length (keys_of (take (i + 1) links)) ≡ n + c = keys-so-far links i d c inside refl in
+    let cut = chain-cut p.params.algo first (take i links) (l ∷ []) (take (n + c) digests) in
+    let own : take n (take (n + c) digests) ≡ take n digests = take-take n (n + c) digests (omega arith) in
+    let rest : drop n (take (n + c) digests) ≡ take c (drop n digests) = drop-take n c digests in
+    rw (more, take_more links i d inside)
+    (rw (own, rest) at cut ∙ ap (extended_by p.params.algo _) (one-link l (drop n digests)))
+
+-- the prefix of all links is the plan
+pub prefix-all : (p : PlanView) (digests : List Measurement) (n : ℕ) → n ≡ length p.links → IsFilled p digests → prefix_value n p digests ≡ chain_of p digests
+prefix-all p digests n all filled =
+    let links : take n p.links ≡ p.links = take_all n p.links (omega (arith, all)) in
+    rw links (ap (chain_of p) (take_all (length (keys_of p.links)) digests (omega (arith, filled))))

@@ -1,5 +1,0 @@
-use Rattle.rim_chain.proofs.LinkByLink.{chain-cut}
-use Rattle.rim_chain.proofs.laws.a_chain_goes_on_from_its_front.Goals as goal
-
-pub returns : goal.returns
-returns c = chain-cut

@@ -1,7 +1,0 @@
-use Rattle.std.specs.Prelude.{IfSome}
-use Rattle.std.specs.List.{All}
-use Rattle.rim_chain.specs.inside.Marks.{HaveNoValues}
-use Rattle.rim_chain.proofs.siblings.marks_of.Given as goal
-
-abbrev pub invariant-loop-number : goal.invariant-loop-number
-invariant-loop-number l = All (λ own. IfSome own (λ ms. HaveNoValues ms.items)) l.marks.items

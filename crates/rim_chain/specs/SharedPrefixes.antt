@@ -1,0 +1,32 @@
+-- The prefixes that launches of a run have in common. This project's choice.
+use Rattle.std.specs.Prelude.{◌≡◌, ℕ, ◌≤◌, true, List, length, take, Option, Some, IfSome}
+use Rattle.std.specs.List.{All, slice_get}
+use Rattle.rim_desc.specs.declared.measurement.Measurement.{Measurement}
+use Rattle.page_jobs.specs.Table.{TableView}
+use Rattle.rim_chain.specs.Prefixes.{prefix_of}
+use Rattle.rim_chain.specs.Links.{PlanView, keys_of}
+use Rattle.rim_chain.specs.Rows.{has_all, value_in}
+use Rattle.rim_chain.specs.declared.prefix.Prefix.{Prefix}
+use Rattle.rim_chain.specs.declared.prefix.Checkpoint.{Checkpoint}
+
+-- what a prefix of a plan chains to, in a table that has the digests of all its pages
+pub record IsValueOfPrefix (t : TableView) (p : PlanView) (n : ℕ) (v : Measurement) : Type 0 where
+  pub within : n ≤ length p.links
+  pub full : has_all t (keys_of (take n p.links)) ≡ true
+  pub value : v.bytes ≡ value_in t (prefix_of n p)
+
+-- each checkpoint that has a value has that of its prefix
+abbrev pub HaveOwnValues : TableView → PlanView → List Checkpoint → Type 0
+HaveOwnValues t p checkpoints = All (λ m. IfSome m.value (IsValueOfPrefix t p m.links)) checkpoints
+
+-- the checkpoints of each launch, where they are not with its job, have their own values
+abbrev pub AreShared : TableView → List PlanView → List (Option (List Checkpoint)) → Type 0
+AreShared t plans checkpoints = (l : ℕ) (p : PlanView) (own : List Checkpoint) → slice_get plans l ≡ Some p → slice_get checkpoints l ≡ Some (Some own) → HaveOwnValues t p own
+
+-- a prefix is that of the launch of a number
+abbrev pub IsOwnPrefix : TableView → List PlanView → ℕ → Prefix → Type 0
+IsOwnPrefix t plans l f = (p : PlanView) → slice_get plans l ≡ Some p → IsValueOfPrefix t p f.links f.value
+
+-- each prefix is its launch's own
+abbrev pub HaveOwnPrefixes : TableView → List PlanView → List (Option Prefix) → Type 0
+HaveOwnPrefixes t plans prefixes = (l : ℕ) (f : Prefix) → slice_get prefixes l ≡ Some (Some f) → IsOwnPrefix t plans l f
