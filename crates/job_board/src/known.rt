@@ -4,8 +4,7 @@ ghost use Rattle.std.specs.List.{All, Contains};
 ghost use Rattle.page_jobs.specs.Table.{keys_of as page_keys};
 ghost use Rattle.rim_chain.specs.Links.{keys_of};
 
-use page_jobs::laws::slots_go_by_keys;
-use page_jobs::{PageKey, Table};
+use page_jobs::{PageKey, Table, slots_go_by_keys};
 use rim_chain::LaunchPlan;
 
 /// Whether a table has a page of this key.

@@ -3,26 +3,30 @@
 
 mod closing;
 mod grouping;
-mod side_by_side;
-pub mod job;
+mod job;
 mod jobs;
-pub mod known;
-pub mod laws;
+mod known;
+mod laws;
 mod lending;
 mod line;
-pub mod machine;
+mod machine;
 mod needs;
 mod own_needs;
 mod reaches;
 mod rows;
-pub mod run;
-pub mod share;
-pub mod state;
-pub mod task;
-pub mod work;
+mod run;
+mod share;
+mod side_by_side;
+mod state;
+mod task;
+mod work;
 
 pub use job::{CoreFault, Event, JobId, JobState};
 pub use known::has_all_keys;
+pub use laws::{
+    a_job_has_one_holder, a_job_is_put_once, a_step_keeps_needs_and_numbers, events_are_few,
+    no_launch_is_early, no_state_is_stuck, pages_done_are_the_puts, values_are_own,
+};
 pub use machine::{Core, WORKER_LIMIT};
 pub use run::Run;
 pub use share::Share;

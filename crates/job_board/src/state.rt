@@ -15,7 +15,6 @@ ghost use Rattle.rim_chain.specs.Rows.{IsRowOf, value_in};
 ghost use Rattle.job_board.specs.declared.machine.TheConstants.{WORKER_LIMIT};
 
 use crate::closing::{add_up, copy_values, write_counts};
-use crate::side_by_side::SideBySide;
 use crate::job::{Event, JobId, JobState};
 use crate::lending::Lending;
 use crate::machine::Core;
@@ -23,6 +22,7 @@ use crate::own_needs::own_needs;
 use crate::rows::{free_row, lent_rows, plan_at, rows_of, spare_rows, take_row};
 use crate::run::Run;
 use crate::share::{Share, cut};
+use crate::side_by_side::SideBySide;
 use crate::task::{ChainedLaunch, HashedPage, LaunchTask, PageTask};
 use crate::work::Work;
 use page_jobs::{DigestRow, Page, Table};
@@ -278,7 +278,9 @@ impl<'a, L: Run> BoardState<'a, L> {
         ensures none { IfNone result (NoneFree self.old.core.pages) }
     {
         let BoardState {
-            core, side_by_side, ..
+            core,
+            side_by_side,
+            ..
         } = self;
         let first = core.free_page()?;
         let page = free_of(core, side_by_side.preferred(worker), first);

@@ -1,12 +1,12 @@
 //! A board under its lock, and the workers that do its jobs.
 #![tactic(auto)]
 
-mod hashed_ahead;
+mod board;
 mod chained_beside;
-pub mod board;
-pub mod gate;
+mod gate;
+mod hashed_ahead;
 mod worker;
-pub mod workers;
+mod workers;
 
 pub use board::Board;
 pub use gate::{FreeGate, Gate};

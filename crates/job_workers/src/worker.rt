@@ -1,8 +1,8 @@
 //! What a worker does.
-use crate::hashed_ahead::HashedAhead;
-use crate::chained_beside::ChainedBeside;
 use crate::board::Board;
+use crate::chained_beside::ChainedBeside;
 use crate::gate::Gate;
+use crate::hashed_ahead::HashedAhead;
 use job_board::{JobId, Run, Share, Work};
 use std::sync::Wait;
 

@@ -2,4 +2,9 @@
 //! takes them.
 #![tactic(auto)]
 
-pub mod laws;
+mod laws;
+
+pub use laws::{
+    a_rec_is_created, a_region_becomes_ram, acts_are_listed, an_item_gets_its_pages,
+    same_tables_are_listed_alike, the_realm_is_created,
+};

@@ -1,16 +1,20 @@
 //! Pages of measured items, their digests, and the table that keeps them.
 #![tactic(auto)]
 
-pub mod distinct;
-pub mod hashed;
-pub mod laws;
-pub mod page;
-pub mod range;
-pub mod row;
-pub mod table;
+mod distinct;
+mod hashed;
+mod laws;
+mod page;
+mod range;
+mod row;
+mod table;
 
 pub use distinct::distinct_pages;
 pub use hashed::{Hashed, LANES, PageJob, run_four};
+pub use laws::{
+    contents_are_page_bytes, keys_are_ordered, pages_go_by_keys, rising_keys_are_the_keys_once,
+    slots_go_by_keys,
+};
 pub use page::{Blob, Page, PageKey};
 pub use range::{KeyRange, distinct_ranges};
 pub use row::DigestRow;

@@ -4,8 +4,7 @@ ghost use Rattle.rim_desc.specs.PageBytes.{page_bytes};
 ghost use Rattle.page_jobs.specs.Lent.{front_of, lent_of};
 ghost use Rattle.rim_desc.specs.declared.page.TheConstants.{PAGE_SIZE};
 
-use rim_desc::page::{put, zero_page};
-use rim_desc::{Algo, GRANULE_SIZE, PAGE_SIZE, Source};
+use rim_desc::{Algo, GRANULE_SIZE, PAGE_SIZE, Source, put, zero_page};
 
 /// What distinguishes a page from all others. Keys are ordered by their fields, in this order.
 #[derive(Clone, Copy, Debug, PartialEq, Eq, PartialOrd, Ord)]

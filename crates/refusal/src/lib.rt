@@ -2,6 +2,6 @@
 //! crate of the house uses these and has no spelling of its own.
 #![tactic(auto)]
 
-pub mod memory;
+mod memory;
 
 pub use memory::NoMemory;

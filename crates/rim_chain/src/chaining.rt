@@ -11,9 +11,9 @@ ghost use Rattle.rim_chain.specs.Fitting.{IsFitting};
 ghost use Rattle.rim_chain.specs.inside.Places.{IsPlace};
 ghost use Rattle.rim_desc.specs.declared.page.TheConstants.{PAGE_SIZE};
 
-use crate::prefix::{Prefix, Checkpoint};
 use crate::link::Link;
 use crate::plan::{LaunchPlan, page_count};
+use crate::prefix::{Checkpoint, Prefix};
 use page_jobs::DigestRow;
 use rim_desc::{
     Algo, GRANULE_SIZE, Measurement, data_descriptor, extend, hash, realm_page, rec_descriptor,
@@ -113,7 +113,12 @@ pub fn chain_from(
 {
     let mut checkpoints = checkpoints;
     let value = match &mut checkpoints {
-        Some(checkpoints) => chain_with_checkpoints(plan, row, shared_prefix, checkpoints.as_mut_slice()),
+        Some(checkpoints) => chain_with_checkpoints(
+            plan,
+            row,
+            shared_prefix,
+            checkpoints.as_mut_slice(),
+        ),
         None => chain_with_checkpoints(plan, row, shared_prefix, &mut []),
     };
     (value, checkpoints)
@@ -142,7 +147,12 @@ fn chain_with_checkpoints(
 
 /// The place at a checkpoint after this many links, and the checkpoint with its value; or the same place, and the checkpoint without a
 /// value, where the chain has passed it or the plan ends before it.
-fn checkpoint_at(plan: &LaunchPlan, row: &DigestRow, from: Place, links: usize) -> (Place, Checkpoint)
+fn checkpoint_at(
+    plan: &LaunchPlan,
+    row: &DigestRow,
+    from: Place,
+    links: usize,
+) -> (Place, Checkpoint)
     requires filled { IsFilled plan.now row.now.digests }
     requires from { IsPlace plan.now row.now.digests from }
     ensures place { IsPlace plan.now row.now.digests result.0 }

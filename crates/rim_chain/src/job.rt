@@ -7,8 +7,8 @@ ghost use Rattle.rim_chain.specs.Rows.{IsFilled};
 ghost use Rattle.rim_chain.specs.inside.UnderWay.{chains_to};
 
 use crate::chaining::chain_from;
-use crate::prefix::{Prefix, Checkpoint};
 use crate::plan::LaunchPlan;
+use crate::prefix::{Checkpoint, Prefix};
 use crate::under_way::{Chain, side_by_side};
 use page_jobs::DigestRow;
 use rim_desc::{Algo, Measurement};
@@ -77,7 +77,11 @@ impl<'a> LaunchJob<'a> {
     }
 
     /// The same work, which goes on from a prefix of the launch, where one is known, and keeps the values at checkpoints.
-    pub fn going_on(self, shared_prefix: Option<Prefix>, checkpoints: Option<Vec<Checkpoint>>) -> LaunchJob<'a>
+    pub fn going_on(
+        self,
+        shared_prefix: Option<Prefix>,
+        checkpoints: Option<Vec<Checkpoint>>,
+    ) -> LaunchJob<'a>
         requires { IfSome shared_prefix (IsPrefix self.plan self.row.digests) }
         ensures { result ≡ self.entry }
     {
@@ -125,7 +129,9 @@ impl<'a> LaunchJob<'a> {
     pub fn is_alone(&self) -> bool
         ensures { result ≡ true → self.now.plan.params.algo ≡ algo.Sha256 }
     {
-        self.plan.params().algo == Algo::Sha256 && self.shared_prefix.is_none() && has_no_checkpoints(&self.checkpoints)
+        self.plan.params().algo == Algo::Sha256
+            && self.shared_prefix.is_none()
+            && has_no_checkpoints(&self.checkpoints)
     }
 
     /// Chains four launches side by side, which takes less than half the time. Prefixes are not gone on from, and no values are

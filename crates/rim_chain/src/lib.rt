@@ -4,11 +4,11 @@
 mod chain_order;
 mod chaining;
 mod filling;
-mod prefix;
 mod job;
 mod laws;
 mod link;
 mod plan;
+mod prefix;
 mod reading;
 mod shared_prefixes;
 mod siblings;
@@ -16,7 +16,6 @@ mod starting;
 mod under_way;
 
 pub use chaining::{chain, chain_from};
-pub use prefix::{Prefix, Checkpoint};
 pub use job::{LaunchJob, LaunchRim};
 pub use laws::{
     a_chain_goes_on_from_its_prefix, a_row_has_the_digests_of_its_pages,
@@ -24,5 +23,6 @@ pub use laws::{
 };
 pub use link::Link;
 pub use plan::LaunchPlan;
+pub use prefix::{Checkpoint, Prefix};
 pub use shared_prefixes::SharedPrefixes;
 pub use starting::first_prefixes;

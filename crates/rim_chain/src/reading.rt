@@ -19,8 +19,7 @@ use page_jobs::PageKey;
 use rim_desc::{Algo, Measurement, NoMemory, RecParams, hash, rec_page};
 use rim_launch::{Config, Launch, Region, Step, realm_params};
 use rmi_list::Plan;
-use rmm_model::size::size_of_level;
-use rmm_model::start::start_level;
+use rmm_model::{size_of_level, start_level};
 use rtt_plan::{Run, run_from};
 use std::alloc::Global;
 

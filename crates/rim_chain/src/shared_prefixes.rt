@@ -7,9 +7,9 @@ ghost use Rattle.rim_chain.specs.SharedPrefixes.{AreShared, HaveOwnValues, IsVal
 ghost use Rattle.rim_chain.specs.inside.Checkpoints.{BothHavePrefix};
 
 use crate::chain_order::ChainOrder;
-use crate::prefix::{Prefix, Checkpoint};
 use crate::plan::LaunchPlan;
-use crate::siblings::{SharedPrefix, shared_prefixes_of, checkpoints_of};
+use crate::prefix::{Checkpoint, Prefix};
+use crate::siblings::{SharedPrefix, checkpoints_of, shared_prefixes_of};
 use crate::starting::Start;
 use refusal::NoMemory;
 use rim_desc::Algo;
@@ -131,7 +131,8 @@ impl SharedPrefixes {
         let Some(Some(shared_prefix)) = self.shared.get(number) else {
             return true;
         };
-        let Some(checkpoints) = checkpoints_at(self.checkpoints.as_slice(), shared_prefix.launch) else {
+        let Some(checkpoints) = checkpoints_at(self.checkpoints.as_slice(), shared_prefix.launch)
+        else {
             return false;
         };
         prefix_at(checkpoints, shared_prefix.links).is_some()
@@ -159,7 +160,9 @@ impl SharedPrefixes {
         let Some(None) = self.shared.get(number) else {
             return false;
         };
-        checkpoints_at(self.checkpoints.as_slice(), number).is_some_and(|checkpoints| checkpoints.is_empty())
+        checkpoints_at(self.checkpoints.as_slice(), number).is_some_and(
+            |checkpoints| checkpoints.is_empty(),
+        )
     }
 
     /// Takes the launch that is to be chained next, of those that were noted and may be chained.

@@ -3,8 +3,8 @@ ghost use Rattle.std.specs.Prelude.{IfOk, IfSome, None};
 ghost use Rattle.std.specs.List.{All};
 ghost use Rattle.rim_chain.specs.inside.Checkpoints.{HaveNoValues};
 
-use crate::prefix::Checkpoint;
 use crate::plan::LaunchPlan;
+use crate::prefix::Checkpoint;
 use refusal::NoMemory;
 use std::alloc::Global;
 use std::cmp::Ordering;
@@ -26,7 +26,10 @@ struct Group {
 
 /// For each launch the earlier one that it has most links in common with, and how many. Plans are compared with their
 /// neighbours in the order of plans alone.
-pub(crate) fn shared_prefixes_of(alloc: Global, plans: &[LaunchPlan]) -> Result<Vec<Option<SharedPrefix>>, NoMemory> {
+pub(crate) fn shared_prefixes_of(
+    alloc: Global,
+    plans: &[LaunchPlan],
+) -> Result<Vec<Option<SharedPrefix>>, NoMemory> {
     let order = ordered(alloc, plans)?;
     let mut shared = vec![in alloc; None; plans.len()]?;
     let mut groups = Vec::with_capacity(alloc, order.len())?;
@@ -143,7 +146,11 @@ fn parted(alloc: Global, shared: &[Option<SharedPrefix>]) -> Result<Vec<SharedPr
 }
 
 /// The checkpoints of a launch, where it has some, by the different shared prefixes in their order.
-fn own_checkpoints(alloc: Global, parted: &[SharedPrefix], number: usize) -> Result<Option<Vec<Checkpoint>>, NoMemory>
+fn own_checkpoints(
+    alloc: Global,
+    parted: &[SharedPrefix],
+    number: usize,
+) -> Result<Option<Vec<Checkpoint>>, NoMemory>
     ensures { IfOk result (λ own. IfSome own (λ ms. HaveNoValues ms.items)) }
 {
     let from = parted.partition_point(|shared_prefix| shared_prefix.launch < number);

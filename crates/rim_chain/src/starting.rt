@@ -3,8 +3,8 @@ ghost use Rattle.std.specs.Prelude.{◌≡◌, replicate, slice_set, None, Some,
 ghost use Rattle.rim_chain.specs.SharedPrefixes.{HaveOwnPrefixes, IsOwnPrefix};
 ghost use Rattle.rim_chain.specs.inside.Starts.{IsStart};
 
-use crate::prefix::Prefix;
 use crate::plan::LaunchPlan;
+use crate::prefix::Prefix;
 use crate::shared_prefixes::SharedPrefixes;
 use crate::under_way::{Chain, side_by_side};
 use page_jobs::{DigestRow, LANES, Table};

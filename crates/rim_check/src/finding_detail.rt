@@ -5,12 +5,10 @@ use crate::nearest::Nearest;
 use crate::place::{array_at, text_at};
 use crate::shown::{Shown, bad_element};
 use rim_launch::Role;
-use rim_manifest::check::cell;
-use rim_manifest::form::{Form, Rule};
-use rim_manifest::names::{name, role};
-use rim_manifest::rules::{DTB_RULES, FILE_RULES, ITEM_RULES, LAUNCH_RULES, REC_RULES, TOP_RULES};
-use rim_manifest::value::truth;
-use rim_manifest::{Document, Finding, ManifestFault, Place, Subject};
+use rim_manifest::{
+    DTB_RULES, Document, FILE_RULES, Finding, Form, ITEM_RULES, LAUNCH_RULES, ManifestFault, Place,
+    REC_RULES, Rule, Subject, TOP_RULES, cell, name, role, truth,
+};
 use std::alloc::Global;
 use std::fmt;
 use std::fmt::Write;

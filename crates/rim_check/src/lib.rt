@@ -5,11 +5,11 @@
 mod checked;
 mod expected;
 mod finding_detail;
-pub mod launches;
+mod launches;
 mod layout_detail;
-pub mod line;
+mod line;
 mod list_detail;
-pub mod manifest;
+mod manifest;
 mod nearest;
 mod place;
 mod shown;

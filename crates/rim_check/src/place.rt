@@ -1,8 +1,6 @@
 //! The place of a fault: its table by name, and its key.
 use crate::line::{Line, Quoted};
-use rim_manifest::check::cell;
-use rim_manifest::value::items;
-use rim_manifest::{Document, Finding, Place, Subject};
+use rim_manifest::{Document, Finding, Place, Subject, cell, items};
 use std::fmt;
 use std::fmt::Write;
 use toml::{Table, Value};

@@ -1,8 +1,6 @@
 //! A value of a manifest, as a fault shows it.
 use crate::line::Quoted;
-use rim_manifest::ManifestFault;
-use rim_manifest::form::Form;
-use rim_manifest::word::is_word;
+use rim_manifest::{Form, ManifestFault, is_word};
 use std::fmt;
 use toml::Value;
 

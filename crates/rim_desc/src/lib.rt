@@ -2,21 +2,22 @@
 //! Monitor specification (Arm DEN0137 1.0) lists them, and the monitor's commands as values.
 #![tactic(auto)]
 
-pub mod command;
-pub mod descriptor;
-pub mod laws;
-pub mod measurement;
-pub mod number;
-pub mod page;
-pub mod realm;
-pub mod rec;
-pub mod source;
+mod command;
+mod descriptor;
+mod laws;
+mod measurement;
+mod number;
+mod page;
+mod realm;
+mod rec;
+mod source;
 
 pub use command::Command;
 pub use descriptor::{DESCRIPTOR_SIZE, data_descriptor, rec_descriptor, ripas_descriptor};
+pub use laws::{extended_piece_by_piece, page_bytes_at, sources_are_ordered, zero_elsewhere};
 pub use measurement::{Algo, Measurement, extend, extend_four, hash};
 pub use number::push_digits;
-pub use page::{GRANULE_SIZE, PAGE_SIZE};
+pub use page::{GRANULE_SIZE, PAGE_SIZE, put, zero_page};
 pub use realm::{RealmParams, realm_page};
 pub use rec::{AUX_LIMIT, REC_LIMIT, RecParams, rec_mpidr, rec_page};
 pub use refusal::NoMemory;

@@ -4,7 +4,7 @@ ghost use Rattle.rim_launch.specs.Realm.{realm_params};
 
 use crate::launch::Launch;
 use rim_desc::RealmParams;
-use rmm_model::start::{start_count, start_level};
+use rmm_model::{start_count, start_level};
 
 /// The parameters of a launch's realm, with its start tables at the first granules of the pool. DEN0137,
 /// RmiRealmParams.

@@ -13,7 +13,7 @@ use crate::step::read_steps;
 use crate::value::{algorithm, array, byte, digits, number, pool_base, text, truth};
 use rim_desc::AUX_LIMIT;
 use rim_launch::{Config, Launch, POOL_LIMIT};
-use rmm_model::start::{LEAST_WIDTH, MOST_WIDTH};
+use rmm_model::{LEAST_WIDTH, MOST_WIDTH};
 use std::alloc::Global;
 use std::marker::Model;
 use toml::Value;

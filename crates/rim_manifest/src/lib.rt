@@ -2,27 +2,34 @@
 //! by the lowest fault that holds anywhere in it.
 #![tactic(auto)]
 
-pub mod check;
-pub mod document;
-pub mod fault;
-pub mod file;
-pub mod finding;
-pub mod form;
-pub mod item;
-pub mod launch;
-pub mod laws;
-pub mod manifest;
-pub mod names;
-pub mod naming;
-pub mod rec;
-pub mod region;
-pub mod rules;
-pub mod step;
-pub mod value;
-pub mod word;
+mod check;
+mod document;
+mod fault;
+mod file;
+mod finding;
+mod form;
+mod item;
+mod launch;
+mod laws;
+mod manifest;
+mod names;
+mod naming;
+mod rec;
+mod region;
+mod rules;
+mod step;
+mod value;
+mod word;
 
+pub use check::cell;
 pub use document::{Checked, Document};
 pub use fault::ManifestFault;
 pub use finding::{Finding, Place, Subject};
+pub use form::{Form, Rule};
 pub use launch::NamedLaunch;
+pub use laws::{the_lowest_fault_is_answered, what_is_given_is_read};
 pub use manifest::{Release, read_manifest};
+pub use names::{name, role};
+pub use rules::{DTB_RULES, FILE_RULES, ITEM_RULES, LAUNCH_RULES, REC_RULES, TOP_RULES};
+pub use value::{items, truth};
+pub use word::is_word;

@@ -4,7 +4,7 @@ use crate::form::Presence::{Optional, Required};
 use crate::form::{Form, Rule};
 use rim_desc::AUX_LIMIT;
 use rim_launch::{ITEM_LIMIT, NAMED_REC_LIMIT, POOL_LIMIT, REGION_LIMIT};
-use rmm_model::start::{LEAST_WIDTH, MOST_WIDTH};
+use rmm_model::{LEAST_WIDTH, MOST_WIDTH};
 
 /// The most launches of a manifest: 1,024. This project's choice, as is the next.
 pub const LAUNCH_LIMIT: usize = 1024;

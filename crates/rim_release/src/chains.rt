@@ -11,7 +11,7 @@ use crate::audit_fault::AuditFault;
 use ipa_layout::Placed;
 use page_jobs::{DigestRow, Table};
 use refusal::NoMemory;
-use rim_chain::{Prefix, LaunchPlan, SharedPrefixes, chain_from, first_prefixes};
+use rim_chain::{LaunchPlan, Prefix, SharedPrefixes, chain_from, first_prefixes};
 use rim_desc::Measurement;
 use std::alloc::Global;
 
@@ -79,7 +79,12 @@ fn chained(
         unreachable!()
     }
     let shared_prefix = shared_prefix_of(plans, number, first, prefixes);
-    let (value, checkpoints) = chain_from(plan, row, shared_prefix, prefixes.take_checkpoints(number));
+    let (value, checkpoints) = chain_from(
+        plan,
+        row,
+        shared_prefix,
+        prefixes.take_checkpoints(number),
+    );
     prefixes.keep(number, checkpoints);
     value
 }

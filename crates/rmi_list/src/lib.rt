@@ -3,9 +3,9 @@
 
 mod draft;
 mod fault;
-mod span;
 mod laws;
 mod plan;
+mod span;
 mod step;
 
 pub use fault::ListFault;

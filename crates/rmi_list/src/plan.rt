@@ -23,7 +23,7 @@ use rim_desc::{
     AUX_LIMIT, Command, GRANULE_SIZE, Measurement, REC_LIMIT, RealmParams, RecParams, rec_mpidr,
 };
 use rim_launch::{Launch, realm_params};
-use rmm_model::start::start_count;
+use rmm_model::start_count;
 use rtt_plan::Tables;
 use std::alloc::Global;
 use std::marker::Model;

@@ -21,9 +21,7 @@ use crate::parameters::{
 };
 use crate::space::IpaSpace;
 use rim_desc::{Command, GRANULE_SIZE, Measurement, RealmParams, RecParams, hash, realm_page};
-use rmm_model::size::size_of_level;
-use rmm_model::start::protected_end;
-use rmm_model::{Kind, Phase, Refused};
+use rmm_model::{Kind, Phase, Refused, protected_end, size_of_level};
 use std::alloc::Global;
 use std::marker::Model;
 

@@ -10,8 +10,7 @@ ghost use Rattle.rmm_model.specs.Space.{has};
 ghost use Rattle.rim_desc.specs.declared.page.TheConstants.{PAGE_SIZE};
 
 use rim_desc::{Algo, GRANULE_SIZE, Measurement, RealmParams, RecParams};
-use rmm_model::size::{size_of_level, span_of_level, table_base};
-use rmm_model::start::{is_width, start_count, start_level};
+use rmm_model::{is_width, size_of_level, span_of_level, start_count, start_level, table_base};
 
 /// The most start tables that a realm may have.
 pub const START_LIMIT: usize = 16;

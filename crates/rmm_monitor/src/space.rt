@@ -5,8 +5,7 @@ ghost use Rattle.rmm_model.specs.Space.{after_page, after_run, after_table, deep
 ghost use Rattle.rmm_model.specs.Checks.{is_not_fresh};
 
 use refusal::NoMemory;
-use rmm_model::Table;
-use rmm_model::size::table_base;
+use rmm_model::{Table, table_base};
 use std::alloc::Global;
 use std::collections::{BTreeMap, BTreeSet};
 use std::marker::Model;

@@ -2,7 +2,7 @@
 ghost use Rattle.std.specs.Prelude.{◌≡◌, ◌+◌, ◌<◌, ◌≤◌, ◌^◌};
 ghost use Rattle.rtt_plan.specs.Entries.{block_level, fits};
 
-use rmm_model::size::size_of_level;
+use rmm_model::size_of_level;
 
 /// Whether the block of a level that holds `x` lies wholly in the region from `base` to `end`.
 fn fits(base: u64, end: u64, level: u8, x: u64) -> bool

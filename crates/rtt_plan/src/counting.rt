@@ -5,7 +5,7 @@ ghost use Rattle.rtt_plan.specs.Places.{IsRegion};
 ghost use Rattle.rtt_plan.specs.declared.counting.TheConstants.{ENTRY_LIMIT};
 
 use crate::longest::run_from;
-use rmm_model::size::size_of_level;
+use rmm_model::size_of_level;
 
 /// The most entries of a launch: 4,194,304. This project's choice.
 pub const ENTRY_LIMIT: u64 = 4_194_304;

@@ -6,7 +6,7 @@ ghost use Rattle.rtt_plan.specs.Runs.{runs_from};
 
 use crate::block::block_level;
 use crate::run::Run;
-use rmm_model::size::{size_of_level, span_of_level, table_base};
+use rmm_model::{size_of_level, span_of_level, table_base};
 
 /// The first of the runs of the entries from `x` on, in the region from `base` to `end`. It ends with its table, or with
 /// the last block of its level that the region has; its entries are not visited.

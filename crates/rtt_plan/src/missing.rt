@@ -6,8 +6,7 @@ ghost use Rattle.rtt_plan.specs.inside.Undone.{undone};
 
 use crate::act::Act;
 use refusal::NoMemory;
-use rmm_model::Table;
-use rmm_model::size::table_base;
+use rmm_model::{Table, table_base};
 use std::collections::BTreeSet;
 
 /// Adds the tables that a block of a level at `x` needs, rising in level, to the acts and to the tables. A table is put

@@ -13,8 +13,7 @@ use crate::longest::run_from;
 use crate::missing::push_missing;
 use refusal::NoMemory;
 use rim_desc::GRANULE_SIZE;
-use rmm_model::Table;
-use rmm_model::size::{span_of_level, table_base};
+use rmm_model::{Table, span_of_level, table_base};
 use std::collections::BTreeSet;
 
 /// Adds the acts of a region's runs, and the tables among them.

@@ -8,8 +8,7 @@ ghost use Rattle.rtt_plan.specs.inside.PageRanges.{IsRamTo, are_pages, pages_of}
 ghost use Rattle.rim_desc.specs.declared.page.TheConstants.{PAGE_SIZE};
 
 use rim_desc::GRANULE_SIZE;
-use rmm_model::Table;
-use rmm_model::size::table_base;
+use rmm_model::{Table, table_base};
 use std::collections::{BTreeMap, BTreeSet};
 
 /// Whether the table of a level that covers an IPA is made.

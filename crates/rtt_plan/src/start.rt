@@ -2,7 +2,7 @@
 ghost use Rattle.std.specs.Prelude.{◌≡◌};
 ghost use Rattle.rmm_model.specs.Start.{start_of};
 
-use rmm_model::start::{is_width, start_count, start_level};
+use rmm_model::{is_width, start_count, start_level};
 
 /// The level and the number of the start tables of a realm with IPAs of `s2sz` bits; none where no
 /// realm has such IPAs.

@@ -1,7 +1,7 @@
 //! The prefixes of launches that go on from no other.
 use super::{LEAD, check, filled_row, item, plan_of, put, realm};
 use page_jobs::{Blob, Table};
-use rim_chain::{Prefix, LaunchPlan, SharedPrefixes, chain, first_prefixes};
+use rim_chain::{LaunchPlan, Prefix, SharedPrefixes, chain, first_prefixes};
 use rim_desc::{Algo, RealmParams, Source};
 use std::alloc::Global;
 use std::process::Abort;
@@ -58,7 +58,11 @@ fn check_prefix(
     prefix: &Option<Prefix>,
     has_prefix: bool,
 ) {
-    check(rt, prefix.is_some() == has_prefix, "whether it has a prefix");
+    check(
+        rt,
+        prefix.is_some() == has_prefix,
+        "whether it has a prefix",
+    );
     let row = filled_row(rt, alloc, plan, table);
     if let Some(prefix) = prefix {
         check(rt, prefix.links == 4, "four links");
