@@ -20,7 +20,8 @@ use crate::reading::structure::new_node;
 use std::alloc::{AllocError, Global};
 
 fn property_index(strings: &[u8], properties: &[Property], name: &[u8]) -> Option<usize>
-    ensures exact { result ≡ position_from (λ p. bytes_eq (name_of strings.now p.name) name.now) 0 properties.now }
+    ensures exact { result
+        ≡ position_from (λ p. bytes_eq (name_of strings.now p.name) name.now) 0 properties.now }
     ensures within { IfSome result (λ i. i < length properties.now) }
 {
     properties
@@ -29,7 +30,8 @@ fn property_index(strings: &[u8], properties: &[Property], name: &[u8]) -> Optio
 }
 
 fn child_index(children: &[Node], name: &[u8]) -> Option<usize>
-    ensures exact { result ≡ position_from (λ n. bytes_eq (out-Node n).name.items name.now) 0 children.now }
+    ensures exact { result
+        ≡ position_from (λ n. bytes_eq (out-Node n).name.items name.now) 0 children.now }
     ensures within { IfSome result (λ i. i < length children.now) }
 {
     children
@@ -82,7 +84,8 @@ pub fn put_below(
     value: &[u8],
 ) -> Result<(), AllocError>
     ensures done { OnOk result (branch strings.now node.new
-        ≡ edited_below (names_in names.entry) (value_put name.now value.now) (branch strings.now node.old)) }
+        ≡ edited_below (names_in names.entry) (value_put name.now value.now)
+        (branch strings.now node.old)) }
     ensures unchanged { OnErr result (branch strings.now node.new ≡ branch strings.now node.old) }
 {
     let Some(names) = names else {
@@ -113,7 +116,9 @@ pub fn names_on(path: &[u8]) -> Result<Option<&[u8]>, FdtFault>
 
 /// The number of names, if each is legal.
 fn count_names(names: Option<&[u8]>) -> Option<usize>
-    ensures { result ≡ (if all_legal (names_in names.entry) then Some (length (names_in names.entry)) else None) }
+    ensures { result
+        ≡ (if all_legal (names_in names.entry) then Some (length (names_in names.entry)) else
+        None) }
 {
     let mut count = 0;
     let mut left = names;

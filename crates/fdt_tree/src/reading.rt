@@ -26,7 +26,8 @@ use std::alloc::Global;
 
 #[tactic(auto, unfolding(crate::specs::Reading::parts_at))]
 fn contents_of(alloc: Global, bytes: &[u8]) -> Result<Contents, FdtFault>
-    ensures exact { Answers FdtFault.NoMemory (λ c. parts_of (tree_in c)) result (parts_at bytes.now) }
+    ensures exact { Answers FdtFault.NoMemory (λ c. parts_of (tree_in c)) result
+        (parts_at bytes.now) }
     ensures unnamed { IfOk result (λ c. (branch c.strings.items c.root).name ≡ []) }
 {
     let header = header_in(bytes)?;
@@ -52,7 +53,8 @@ pub fn read(alloc: Global, bytes: &[u8]) -> Result<Tree, FdtFault>
     // Where a tree is returned, the bytes spell it.
     ensures found { IfOk result (λ t. Spells bytes.now (devicetree_of t)) }
     // What the bytes spell is returned, unless memory is refused.
-    ensures only { (t : Devicetree) → Spells bytes.now t → Answers FdtFault.NoMemory devicetree_of result (Ok t) }
+    ensures only { (t : Devicetree) → Spells bytes.now t
+        → Answers FdtFault.NoMemory devicetree_of result (Ok t) }
     // A refusal is the first check that fails; or `NoMemory`.
     ensures refused { IfErr result (λ e. IsRefusal e (refusal_of bytes.now)) }
     // The same as one equation, with the tree as a function of the bytes.

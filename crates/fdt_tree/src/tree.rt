@@ -147,7 +147,8 @@ impl Tree {
     ///
     /// `TooLarge`: the file would have more than 2,097,152 bytes. Else only memory may be refused.
     pub fn write(&self, alloc: Global) -> Result<Vec<u8>, FdtFault>
-        ensures exact { Answers FdtFault.NoMemory (λ v. v.items) result (file_of (devicetree_of self.now)) }
+        ensures exact { Answers FdtFault.NoMemory (λ v. v.items) result
+            (file_of (devicetree_of self.now)) }
         // The bytes spell this tree again, whatever follows them.
         ensures again { IfOk result (λ v. (z : List ℕ) → length (v.items ++ z) ≤ SIZE_LIMIT
             → Spells (v.items ++ z) (devicetree_of self.now)) }

@@ -75,9 +75,11 @@ fn put_property(
     pair: &Property,
 ) -> Result<(), FdtFault>
     ensures done { (names : List (List ℕ)) → HasNames strings.now out.old.names names
-        → OnOk result (HasTokens strings.now out.old out.new names (property (property_data strings.now pair.now) ∷ [])) }
+        → OnOk result (HasTokens strings.now out.old out.new names
+        (property (property_data strings.now pair.now) ∷ [])) }
     ensures refused { (names : List (List ℕ)) → HasNames strings.now out.old.names names
-        → IfErr result (λ e. TooMuch e (size_of names (property (property_data strings.now pair.now) ∷ []))) }
+        → IfErr result
+        (λ e. TooMuch e (size_of names (property (property_data strings.now pair.now) ∷ []))) }
 {
     let value = pair.value.as_slice();
     if value.len() > SIZE_LIMIT {
@@ -111,9 +113,11 @@ fn put_front(
     properties: &[Property],
 ) -> Result<(), FdtFault>
     ensures done { (names : List (List ℕ)) → HasNames strings.now out.old.names names
-        → OnOk result (HasTokens strings.now out.old out.new names (begin_node name.now ∷ tokens_of_properties strings.now properties.now)) }
+        → OnOk result (HasTokens strings.now out.old out.new names
+        (begin_node name.now ∷ tokens_of_properties strings.now properties.now)) }
     ensures refused { (names : List (List ℕ)) → HasNames strings.now out.old.names names
-        → IfErr result (λ e. TooMuch e (size_of names (begin_node name.now ∷ tokens_of_properties strings.now properties.now))) }
+        → IfErr result (λ e. TooMuch e (size_of names
+        (begin_node name.now ∷ tokens_of_properties strings.now properties.now))) }
 {
     put_node_begin(out, name)?;
     for pair in properties {
@@ -125,9 +129,11 @@ fn put_front(
 /// Appends a node with all that it holds.
 fn put_node(alloc: Global, out: &mut Output, strings: &[u8], node: &Node) -> Result<(), FdtFault>
     ensures done { (names : List (List ℕ)) → HasNames strings.now out.old.names names
-        → OnOk result (HasTokens strings.now out.old out.new names (tokens_of_nodes strings.now (node.now ∷ []))) }
+        → OnOk result (HasTokens strings.now out.old out.new names
+        (tokens_of_nodes strings.now (node.now ∷ []))) }
     ensures refused { (names : List (List ℕ)) → HasNames strings.now out.old.names names
-        → IfErr result (λ e. TooMuch e (size_of names (tokens_of_nodes strings.now (node.now ∷ [])))) }
+        → IfErr result
+        (λ e. TooMuch e (size_of names (tokens_of_nodes strings.now (node.now ∷ [])))) }
 {
     put_front(alloc, out, strings, &node.name, &node.properties)?;
     for child in &node.children {
@@ -224,8 +230,9 @@ fn put_versions(out: &mut Vec<u8>, lengths: Lengths, boot_cpu: u32) -> Result<()
 fn lengths_of(reservations: &[Reservation], out: &Output) -> Result<Lengths, FdtFault>
     ensures lengths { IfOk result (λ l. AreLengths l (length (reservations_text reservations.now))
         (length out.now.structure.items) (length out.now.names.strings.items)) }
-    ensures refused { IfErr result (λ e. TooMuch e (HEADER_SIZE + length (reservations_text reservations.now)
-        + length out.now.structure.items + length out.now.names.strings.items)) }
+    ensures refused { IfErr result (λ e. TooMuch e (HEADER_SIZE + length
+        (reservations_text reservations.now) + length out.now.structure.items + length
+        out.now.names.strings.items)) }
 {
     let reserve = reservations.len().saturating_mul(16).saturating_add(16);
     let structure = out.structure.len();
@@ -251,11 +258,13 @@ fn assembled(
     reservations: &[Reservation],
     out: &Output,
 ) -> Result<Vec<u8>, FdtFault>
-    ensures done { IfOk result (λ v. v.items ≡ file_text boot_cpu (reservations_text reservations.now)
-        out.now.structure.items out.now.names.strings.items) }
+    ensures done { IfOk result (λ v. v.items
+        ≡ file_text boot_cpu (reservations_text reservations.now) out.now.structure.items
+        out.now.names.strings.items) }
     ensures within { IfOk result (λ v. length v.items ≤ SIZE_LIMIT) }
     ensures refused { IfErr result (λ e. TooMuch e (length (file_text boot_cpu
-        (reservations_text reservations.now) out.now.structure.items out.now.names.strings.items))) }
+        (reservations_text reservations.now) out.now.structure.items
+        out.now.names.strings.items))) }
 {
     let lengths = lengths_of(reservations, out)?;
     let mut file = Vec::new(alloc);

@@ -91,7 +91,8 @@ fn put_edits(alloc: Global, tree: &mut Tree, edits: DtbEdits) -> Result<(), FdtF
 /// The bytes of a devicetree with these edits.
 #[tactic(auto, unfolding(crate::specs::DtbEdit::edited))]
 pub fn edited(alloc: Global, bytes: &[u8], edits: DtbEdits) -> Result<Vec<u8>, FdtFault>
-    ensures { Answers FdtFault.NoMemory (λ v. v.items) result (edited (edit_data edits.entry) bytes.now) }
+    ensures { Answers FdtFault.NoMemory (λ v. v.items) result
+        (edited (edit_data edits.entry) bytes.now) }
 {
     let mut tree = fdt_tree::read(alloc, bytes)?;
     put_edits(alloc, &mut tree, edits)?;

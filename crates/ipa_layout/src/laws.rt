@@ -28,8 +28,10 @@ pub fn each_placed_item()
     ensures source { (l : LaunchData) (files : List (List ℕ)) (p : PlacedData) → IsPlaced l files p
         → (number : ℕ) (item : Item) (i : PlacedItem) → IsItem l p number item i
         → IsSourceOf l p item i.source }
-    ensures measured { (l : LaunchData) (files : List (List ℕ)) (p : PlacedData) → IsPlaced l files p
-        → (number : ℕ) (item : Item) (i : PlacedItem) → IsItem l p number item i
+    ensures measured { (l : LaunchData) (files : List (List ℕ)) (p : PlacedData)
+        → IsPlaced l files p
+        → (number : ℕ) (item : Item) (i : PlacedItem)
+        → IsItem l p number item i
         → i.measured ≡ item.measured }
     ensures end { (l : LaunchData) (files : List (List ℕ)) (p : PlacedData) → IsPlaced l files p
         → (number : ℕ) (item : Item) (i : PlacedItem) → IsItem l p number item i

@@ -32,7 +32,8 @@ use std::alloc::{AllocError, Global};
 /// `InitrdWindow`. `NoMemory` may come before any of them, where memory was refused.
 pub fn place(alloc: Global, launch: &Launch, files: &[Vec<u8>]) -> Result<Placed, LayoutFault>
     requires { has_files launch.now (length files.now) ≡ true }
-    ensures { Answers LayoutFault.NoMemory (λ p. p) result (places launch.now (contents files.now)) }
+    ensures { Answers LayoutFault.NoMemory (λ p. p) result
+        (places launch.now (contents files.now)) }
 {
     let dtb = prepare_dtb(alloc, launch, files)?;
     let extents = extents_of(alloc, launch, files, &dtb)?;
@@ -47,7 +48,8 @@ fn gather(
     extents: &[Extent],
     edited: Option<Vec<u8>>,
 ) -> Result<Placed, LayoutFault>
-    ensures { Answers LayoutFault.NoMemory (λ p. p) result (Ok (placed_at launch.now (option_map (λ v. v.items) edited) extents.now)) }
+    ensures { Answers LayoutFault.NoMemory (λ p. p) result
+        (Ok (placed_at launch.now (option_map (λ v. v.items) edited) extents.now)) }
 {
     let kernel = extent_at(extents, index_of(launch.items(), Role::Kernel));
     let dtb = extent_at(extents, index_of(launch.items(), Role::Dtb));
@@ -90,7 +92,9 @@ fn initrd_span(files: &[Vec<u8>], item: &Item) -> Span
 /// The addresses of the bytes of the launch's initrd, if it has one.
 fn initrd_at(launch: &Launch, files: &[Vec<u8>]) -> Option<Span>
     requires { has_files launch.now (length files.now) ≡ true }
-    ensures { result ≡ option_map (initrd_span (contents files.now)) (find (has_role Role.Initrd) launch.now.items) }
+    ensures { result
+        ≡ option_map (initrd_span (contents files.now))
+        (find (has_role Role.Initrd) launch.now.items) }
 {
     let item = initrd_of(launch)?;
     Some(initrd_span(files, item))
@@ -135,7 +139,8 @@ fn prepare_dtb(alloc: Global, launch: &Launch, files: &[Vec<u8>]) -> Result<Dtb,
     requires { has_files launch.now (length files.now) ≡ true }
     ensures exact { IfOk result (λ d. seen d ≡ edited_dtb launch.now (contents files.now)) }
     // Where no devicetree is edited no memory is taken.
-    ensures as_file { find (λ i. has_edits i.kind) launch.now.items ≡ None → result ≡ Ok Dtb.AsFile }
+    ensures as_file { find (λ i. has_edits i.kind) launch.now.items ≡ None
+        → result ≡ Ok Dtb.AsFile }
 {
     let Some(item) = item_to_edit(launch) else {
         return Ok(Dtb::AsFile);

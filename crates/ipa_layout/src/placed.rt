@@ -33,7 +33,12 @@ impl Model for Placed {
 
     ghost Value = { PlacedData };
 
-    ghost view = { λ p. record { number = p.number; items = p.items.items; recs = p.recs.items; edited = option_map (λ v. v.items) p.edited } };
+    ghost view = { λ p. record {
+      number = p.number;
+      items = p.items.items;
+      recs = p.recs.items;
+      edited = option_map (λ v. v.items) p.edited;
+    } };
 }
 
 impl Placed {
@@ -48,7 +53,13 @@ impl Placed {
         recs: Vec<PlacedRec>,
         edited: Option<Vec<u8>>,
     ) -> Placed
-        ensures { result ≡ record { number = number; items = items.items; recs = recs.items; edited = option_map (λ v. v.items) edited } }
+        ensures { result
+            ≡ record {
+              number = number;
+              items = items.items;
+              recs = recs.items;
+              edited = option_map (λ v. v.items) edited;
+            } }
     {
         Placed {
             number,

@@ -45,9 +45,24 @@ impl Model for Jobs {
 
     ghost Value = { CoreState };
 
-    ghost view = { λ c. record { retired = c.retired.items; pages = c.pages.items; launches = c.launches.items; needs = needs_of c.needs } };
+    ghost view = { λ c. record {
+      retired = c.retired.items;
+      pages = c.pages.items;
+      launches = c.launches.items;
+      needs = needs_of c.needs;
+    } };
 
-    ghost invariant = { λ c. Notes c.holding.items (record { retired = c.retired.items; pages = c.pages.items; launches = c.launches.items; needs = needs_of c.needs }) × Waits c.pages.items (groups_of c.needs) c.cursors.items c.left.items × IsIndex (needs_of c.needs) (groups_of c.needs) × IsLine c.left.items c.ready.items (vec_capacity c.ready) × IsPassed c.launches.items c.ready.items c.ready_from × (length c.left.items ≡ length c.launches.items) };
+    ghost invariant = { λ c. Notes c.holding.items (record {
+      retired = c.retired.items;
+      pages = c.pages.items;
+      launches = c.launches.items;
+      needs = needs_of c.needs;
+    })
+        × Waits c.pages.items (groups_of c.needs) c.cursors.items c.left.items
+        × IsIndex (needs_of c.needs) (groups_of c.needs)
+        × IsLine c.left.items c.ready.items (vec_capacity c.ready)
+        × IsPassed c.launches.items c.ready.items c.ready_from
+        × (length c.left.items ≡ length c.launches.items) };
 }
 
 impl Jobs {

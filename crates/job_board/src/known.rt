@@ -33,7 +33,8 @@ fn has_keys(table: &Table, plan: &LaunchPlan) -> bool
 /// Each key is looked for among the sorted keys of the table. So the time grows with the plans' pages, and with the
 /// logarithm of the table's.
 pub fn has_all_keys(table: &Table, plans: &[LaunchPlan]) -> bool
-    ensures { IsTrue result ↔ All (λ p. All (Contains (page_keys table.now.pages)) (keys_of p.links)) plans.now }
+    ensures { IsTrue result
+        ↔ All (λ p. All (Contains (page_keys table.now.pages)) (keys_of p.links)) plans.now }
 {
     for plan in plans {
         if !has_keys(table, plan) {

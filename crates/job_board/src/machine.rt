@@ -37,7 +37,8 @@ impl Model for Core {
 
     ghost view = { λ c. c.jobs };
 
-    ghost invariant = { λ c. IsCore c.jobs × Marks c.pages_from c.pages_left c.launches_left c.jobs };
+    ghost invariant = { λ c. IsCore c.jobs
+        × Marks c.pages_from c.pages_left c.launches_left c.jobs };
 }
 
 impl Core {
@@ -227,8 +228,10 @@ fn lowered_page(from: usize, held: Option<JobId>) -> usize
 /// The first free job of a list, from a place on.
 fn free_at(states: &[JobState], from: usize) -> Option<usize>
     ensures some { IfSome result (λ j. slice_get states.now j ≡ Some JobState.Free) }
-    ensures first { IfSome result (λ j. (k : ℕ) → from ≤ k → k < j → slice_get states.now k ≢ Some JobState.Free) }
-    ensures none { IfNone result ((k : ℕ) → from ≤ k → slice_get states.now k ≢ Some JobState.Free) }
+    ensures first { IfSome result
+        (λ j. (k : ℕ) → from ≤ k → k < j → slice_get states.now k ≢ Some JobState.Free) }
+    ensures none { IfNone result
+        ((k : ℕ) → from ≤ k → slice_get states.now k ≢ Some JobState.Free) }
 {
     for j in from..states.len() {
         if matches!(states[j], JobState::Free) {

@@ -40,7 +40,8 @@ fn stretches_of(
     table: &Table,
     plans: &[LaunchPlan],
 ) -> Result<Vec<Stretch>, NoMemory>
-    ensures stretches { IfOk result (λ stretches. stretches.items ≡ stretches_from table.now.pages 0 plans.now) }
+    ensures stretches { IfOk result
+        (λ stretches. stretches.items ≡ stretches_from table.now.pages 0 plans.now) }
     ensures begin { IfOk result (λ stretches. All (λ p. All BeginsItem p.links) plans.now) }
 {
     let mut stretches = Vec::new(alloc);
@@ -57,7 +58,8 @@ fn push_plan(
     plan: &LaunchPlan,
     launch: usize,
 ) -> Result<(), NoMemory>
-    ensures stretches { OnOk result (stretches.new.items ≡ stretches.old.items ++ plan_stretches table.now.pages launch plan.now) }
+    ensures stretches { OnOk result (stretches.new.items
+        ≡ stretches.old.items ++ plan_stretches table.now.pages launch plan.now) }
     ensures begin { All BeginsItem plan.now.links }
 {
     for link in plan.links() {
@@ -73,7 +75,8 @@ fn push_link(
     link: &Link,
     launch: usize,
 ) -> Result<(), NoMemory>
-    ensures { OnOk result (stretches.new.items ≡ stretches.old.items ++ link_stretches table.now.pages launch link.now) }
+    ensures { OnOk result (stretches.new.items
+        ≡ stretches.old.items ++ link_stretches table.now.pages launch link.now) }
 {
     let Link::Pages { key, count, .. } = link else {
         return Ok(());
@@ -88,7 +91,8 @@ fn push_pages(
     count: usize,
     launch: usize,
 ) -> Result<(), NoMemory>
-    ensures { OnOk result (stretches.new.items ≡ stretches.old.items ++ stretch_at launch count slot) }
+    ensures { OnOk result
+        (stretches.new.items ≡ stretches.old.items ++ stretch_at launch count slot) }
 {
     let Some(first) = slot else {
         return Ok(());

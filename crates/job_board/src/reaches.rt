@@ -176,7 +176,8 @@ pub(crate) fn all_left(
 ) -> Result<Vec<usize>, NoMemory>
     requires { (pages : ℕ) × AreGroups pages launches groups.now }
     ensures size { IfOk result (λ left. length left.items ≡ launches) }
-    ensures counts { IfOk result (λ left. (l : ℕ) → slice_index left.items l ≡ all_of l groups.now) }
+    ensures counts { IfOk result
+        (λ left. (l : ℕ) → slice_index left.items l ≡ all_of l groups.now) }
 {
     let mut left = vec![in alloc; 0; launches]?;
     count_all(groups, &mut left);

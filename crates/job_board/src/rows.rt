@@ -17,7 +17,8 @@ pub(crate) fn rows_of(
     plans: &[LaunchPlan],
 ) -> Result<Vec<Option<DigestRow>>, NoMemory>
     ensures size { IfOk result (λ rows. length rows.items ≡ length plans.now) }
-    ensures there { IfOk result (λ rows. (l : ℕ) (p : PlanView) → slice_get plans.now l ≡ Some p → (r : RowView) × (slice_get rows.items l ≡ Some (Some r)) × HasRoom r p) }
+    ensures there { IfOk result (λ rows. (l : ℕ) (p : PlanView) → slice_get plans.now l ≡ Some p
+        → (r : RowView) × (slice_get rows.items l ≡ Some (Some r)) × HasRoom r p) }
 {
     let mut rows = Vec::with_capacity(alloc, plans.len())?;
     for number in 0..plans.len() {
@@ -29,7 +30,8 @@ pub(crate) fn rows_of(
 
 /// The most pages that a plan has.
 fn most_pages(plans: &[LaunchPlan]) -> usize
-    ensures { (l : ℕ) (p : PlanView) → slice_get plans.now l ≡ Some p → length (keys_of p.links) ≤ result }
+    ensures { (l : ℕ) (p : PlanView) → slice_get plans.now l ≡ Some p
+        → length (keys_of p.links) ≤ result }
 {
     let mut most = 0;
     for number in 0..plans.len() {
@@ -45,7 +47,10 @@ pub(crate) fn spare_rows(
     count: usize,
 ) -> Result<Vec<DigestRow>, NoMemory>
     ensures size { IfOk result (λ rows. length rows.items ≡ count) }
-    ensures roomy { IfOk result (λ rows. (i l : ℕ) (r : RowView) (p : PlanView) → slice_get rows.items i ≡ Some r → slice_get plans.now l ≡ Some p → HasRoom r p) }
+    ensures roomy { IfOk result (λ rows. (i l : ℕ) (r : RowView) (p : PlanView)
+        → slice_get rows.items i ≡ Some r
+        → slice_get plans.now l ≡ Some p
+        → HasRoom r p) }
 {
     let room = most_pages(plans);
     let mut rows = Vec::with_capacity(alloc, count)?;

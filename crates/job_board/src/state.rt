@@ -63,9 +63,33 @@ impl<'a, L: Run> Model for BoardState<'a, L> {
 
     ghost Value = { BoardView };
 
-    ghost view = { λ b. record { core = b.core; history = b.history.items; table = b.table; plans = b.plans.now; results = b.results.items; book = b.book.total } };
+    ghost view = { λ b. record {
+      core = b.core;
+      history = b.history.items;
+      table = b.table;
+      plans = b.plans.now;
+      results = b.results.items;
+      book = b.book.total;
+    } };
 
-    ghost invariant = { λ b. IsBoard (record { core = b.core; history = b.history.items; table = b.table; plans = b.plans.now; results = b.results.items; book = b.book.total }) × (most_events b.core ≤ vec_capacity b.history) × HasRows b.core b.plans.now b.rows.items b.spare.items × AreShared b.table b.plans.now b.prefixes × IsOfRun L.pages L.plans (record { core = b.core; history = b.history.items; table = b.table; plans = b.plans.now; results = b.results.items; book = b.book.total }) };
+    ghost invariant = { λ b. IsBoard (record {
+      core = b.core;
+      history = b.history.items;
+      table = b.table;
+      plans = b.plans.now;
+      results = b.results.items;
+      book = b.book.total;
+    }) × (most_events b.core ≤ vec_capacity b.history)
+        × HasRows b.core b.plans.now b.rows.items b.spare.items
+        × AreShared b.table b.plans.now b.prefixes
+        × IsOfRun L.pages L.plans (record {
+          core = b.core;
+          history = b.history.items;
+          table = b.table;
+          plans = b.plans.now;
+          results = b.results.items;
+          book = b.book.total;
+        }) };
 }
 
 impl<'a, L: Run> BoardState<'a, L> {
@@ -80,13 +104,18 @@ impl<'a, L: Run> BoardState<'a, L> {
         ensures board { IsBoard self.old × IsOfRun L.pages L.plans self.old }
         ensures fresh { share.old ≤ self.old.book }
         ensures can { OnOk result (CanPutPage self.old worker page.entry.number page.entry.page) }
-        ensures event { OnOk result (Adds self.old (Event.Put worker (JobId.Page page.entry.number)) self.new) }
-        ensures table { OnOk result (self.new.table ≡ with_digest self.old.table page.entry.number page.entry.digest) }
-        ensures same { OnOk result ((self.new.plans ≡ self.old.plans) × (self.new.results ≡ self.old.results)) }
+        ensures event { OnOk result
+            (Adds self.old (Event.Put worker (JobId.Page page.entry.number)) self.new) }
+        ensures table { OnOk result
+            (self.new.table ≡ with_digest self.old.table page.entry.number page.entry.digest) }
+        ensures same { OnOk result
+            ((self.new.plans ≡ self.old.plans) × (self.new.results ≡ self.old.results)) }
         ensures book { OnOk result (self.new.book ≡ self.old.book + 1) }
         ensures share { OnOk result (share.new ≡ share.old + 1) }
-        ensures err { IfErr result (λ p. (p ≡ page.entry) × (self.new ≡ self.old) × (share.new ≡ share.old)) }
-        ensures refused { IfErr result (λ p. ¬ CanPutPage self.old worker page.entry.number page.entry.page) }
+        ensures err { IfErr result
+            (λ p. (p ≡ page.entry) × (self.new ≡ self.old) × (share.new ≡ share.old)) }
+        ensures refused { IfErr result
+            (λ p. ¬ CanPutPage self.old worker page.entry.number page.entry.page) }
     {
         let BoardState {
             core,
@@ -121,10 +150,14 @@ impl<'a, L: Run> BoardState<'a, L> {
     ) -> Result<(), ChainedLaunch<'a, L>>
         ensures board { IsBoard self.old × IsOfRun L.pages L.plans self.old }
         ensures can { OnOk result (CanPutJob self.old worker launch.entry.job) }
-        ensures event { OnOk result (Adds self.old (Event.Put worker (JobId.Launch launch.entry.job.number)) self.new) }
-        ensures results { OnOk result (self.new.results ≡ slice_set self.old.results launch.entry.job.number (Some launch.entry.value)) }
-        ensures own { OnOk result (launch.entry.value.bytes ≡ value_in self.old.table launch.entry.job.plan) }
-        ensures same { OnOk result ((self.new.table ≡ self.old.table) × (self.new.plans ≡ self.old.plans) × (self.new.book ≡ self.old.book)) }
+        ensures event { OnOk result
+            (Adds self.old (Event.Put worker (JobId.Launch launch.entry.job.number)) self.new) }
+        ensures results { OnOk result (self.new.results
+            ≡ slice_set self.old.results launch.entry.job.number (Some launch.entry.value)) }
+        ensures own { OnOk result
+            (launch.entry.value.bytes ≡ value_in self.old.table launch.entry.job.plan) }
+        ensures same { OnOk result ((self.new.table ≡ self.old.table)
+            × (self.new.plans ≡ self.old.plans) × (self.new.book ≡ self.old.book)) }
         ensures err { IfErr result (λ l. (l ≡ launch.entry) × (self.new ≡ self.old)) }
         ensures refused { IfErr result (λ l. ¬ CanPutJob self.old worker launch.entry.job) }
     {
@@ -157,8 +190,10 @@ impl<'a, L: Run> BoardState<'a, L> {
     /// retired or unknown.
     pub fn retire(&mut self, worker: usize) -> bool
         ensures board { IsBoard self.old × IsOfRun L.pages L.plans self.old }
-        ensures yes { result ≡ true → Adds self.old (Event.Retire worker) self.new × SameRest self.old self.new }
-        ensures no { result ≡ false → (self.new ≡ self.old) × ((worker ≡ 0) ⊎ (is_out self.old.core worker ≡ true)) }
+        ensures yes { result ≡ true
+            → Adds self.old (Event.Retire worker) self.new × SameRest self.old self.new }
+        ensures no { result ≡ false
+            → (self.new ≡ self.old) × ((worker ≡ 0) ⊎ (is_out self.old.core worker ≡ true)) }
     {
         let BoardState {
             core,
@@ -274,7 +309,8 @@ impl<'a, L: Run> BoardState<'a, L> {
     /// A free page: the one that the worker is to hash next, if that is one.
     fn next_page(&mut self, worker: usize) -> Option<usize>
         ensures same { self.new ≡ self.old }
-        ensures some { IfSome result (λ page. slice_get self.old.core.pages page ≡ Some JobState.Free) }
+        ensures some { IfSome result
+            (λ page. slice_get self.old.core.pages page ≡ Some JobState.Free) }
         ensures none { IfNone result (NoneFree self.old.core.pages) }
     {
         let BoardState {
@@ -378,10 +414,14 @@ impl<'a, L: Run> BoardState<'a, L> {
         requires plans { plans.now ≡ L.plans }
         requires workers { (1 ≤ workers) × (workers ≤ WORKER_LIMIT) }
         requires empty { table.digests ≡ replicate (length table.pages) None }
-        requires keys { All (λ p. All (Contains (page_keys table.pages)) (keys_of p.links)) plans.now }
-        ensures core { IfOk result (λ r. r.0.core ≡ opening workers (length table.entry.pages) r.0.core.needs) }
+        requires keys { All (λ p. All (Contains (page_keys table.pages)) (keys_of p.links))
+            plans.now }
+        ensures core { IfOk result
+            (λ r. r.0.core ≡ opening workers (length table.entry.pages) r.0.core.needs) }
         ensures needs { IfOk result (λ r. NeedsOwn table.entry plans.now r.0.core.needs) }
-        ensures rest { IfOk result (λ r. (r.0.history ≡ []) × (r.0.table ≡ table.entry) × (r.0.plans ≡ plans.now) × (r.0.results ≡ replicate (length plans.now) None) × (r.0.book ≡ 0)) }
+        ensures rest { IfOk result (λ r. (r.0.history ≡ []) × (r.0.table ≡ table.entry)
+            × (r.0.plans ≡ plans.now) × (r.0.results ≡ replicate (length plans.now) None)
+            × (r.0.book ≡ 0)) }
         ensures shares { IfOk result (λ r. r.1.items ≡ replicate workers 0) }
     {
         let (book, part) = blank.open::<L>();

@@ -47,7 +47,8 @@ impl<'a, L: Run> Model for HashedPage<'a, L> {
 
     ghost Value = { HashedView };
 
-    ghost view = { λ h. record { number = h.number; page = page_view h.hashed.page; digest = h.hashed.digest } };
+    ghost view = { λ h. record
+        { number = h.number; page = page_view h.hashed.page; digest = h.hashed.digest } };
 
     ghost invariant = { λ h. slice_get L.pages h.number ≡ Some (page_view h.hashed.page) };
 }

@@ -64,8 +64,10 @@ impl<'a, L: Run> Board<'a, L> {
         page: HashedPage<'a, L>,
         share: &mut Share<L>,
     ) -> Result<(), HashedPage<'a, L>>
-        ensures found { (found : BoardView) × (left : BoardView) × IsBoard found × IsOfRun L.pages L.plans found × (share.old ≤ found.book)
-            × Puts (CanPutPage found worker page.entry.number page.entry.page) found (Event.Put worker (JobId.Page page.entry.number)) left result }
+        ensures found { (found : BoardView) × (left : BoardView) × IsBoard found
+            × IsOfRun L.pages L.plans found × (share.old ≤ found.book)
+            × Puts (CanPutPage found worker page.entry.number page.entry.page) found
+            (Event.Put worker (JobId.Page page.entry.number)) left result }
         ensures share { OnOk result (share.new ≡ share.old + 1) }
         ensures err { IfErr result (λ p. (p ≡ page.entry) × (share.new ≡ share.old)) }
     {
@@ -83,8 +85,11 @@ impl<'a, L: Run> Board<'a, L> {
         worker: usize,
         launch: ChainedLaunch<'a, L>,
     ) -> Result<(), ChainedLaunch<'a, L>>
-        ensures found { (found : BoardView) × (left : BoardView) × IsBoard found × IsOfRun L.pages L.plans found
-            × Puts (CanPutLaunch found worker launch.entry.job.number launch.entry.job.plan launch.entry.job.row.digests) found (Event.Put worker (JobId.Launch launch.entry.job.number)) left result }
+        ensures found { (found : BoardView) × (left : BoardView) × IsBoard found
+            × IsOfRun L.pages L.plans found
+            × Puts (CanPutLaunch found worker launch.entry.job.number launch.entry.job.plan
+            launch.entry.job.row.digests) found
+            (Event.Put worker (JobId.Launch launch.entry.job.number)) left result }
         ensures err { IfErr result (λ l. l ≡ launch.entry) }
     {
         let answer = self.state.lock(rt).put_launch(worker, launch);

@@ -9,7 +9,8 @@ use crate::page::Page;
 
 /// Sorts pages by their keys, and keeps one page of each key. It takes no memory.
 pub fn distinct_pages(pages: &mut Vec<Page>)
-    ensures keys { keys_of (map page_view pages.new.items) ≡ rising_keys (keys_of (map page_view pages.old.items)) }
+    ensures keys { keys_of (map page_view pages.new.items)
+        ≡ rising_keys (keys_of (map page_view pages.old.items)) }
     ensures rising { IsRising (keys_of (map page_view pages.new.items)) }
     ensures kept { All (Contains pages.old.items) pages.new.items }
 {

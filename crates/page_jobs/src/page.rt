@@ -60,8 +60,10 @@ impl<'a> Blob<'a> {
     /// A page of these bytes, for an algorithm that is to hash it.
     pub fn page(self, algo: Algo, number: u64) -> Page<'a>
         requires { number < 2 ^ 52 }
-        ensures page { page_view result ≡ page_of algo self.entry.source self.entry.lead self.entry.bytes.now number }
-        ensures contents { contents_of (page_view result) ≡ page_bytes self.entry.lead self.entry.bytes.now number }
+        ensures page { page_view result
+            ≡ page_of algo self.entry.source self.entry.lead self.entry.bytes.now number }
+        ensures contents { contents_of (page_view result)
+            ≡ page_bytes self.entry.lead self.entry.bytes.now number }
     {
         let key = PageKey {
             algo,

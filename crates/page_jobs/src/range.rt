@@ -19,7 +19,8 @@ pub struct KeyRange {
 /// The different pages of some items, in the order of their keys, each page once. An item is given by the key after
 /// its last page, and has pages from number 0 on; items of one source and lead share their pages.
 pub fn distinct_ranges(alloc: Global, ends: Vec<PageKey>) -> Result<Vec<KeyRange>, NoMemory>
-    ensures { IfOk result (λ ranges. flat_map range_keys ranges.items ≡ rising_keys (flat_map keys_before ends.items)) }
+    ensures { IfOk result (λ ranges. flat_map range_keys ranges.items
+        ≡ rising_keys (flat_map keys_before ends.items)) }
 {
     let mut ends = ends;
     ends.sort_unstable();

@@ -27,7 +27,8 @@ impl<'a> Model for Table<'a> {
 
     ghost view = { λ t. record { pages = map page_view t.pages.now; digests = t.digests.items } };
 
-    ghost invariant = { λ t. IsTable (record { pages = map page_view t.pages.now; digests = t.digests.items }) };
+    ghost invariant = { λ t. IsTable
+        (record { pages = map page_view t.pages.now; digests = t.digests.items }) };
 }
 
 impl<'a> Table<'a> {
@@ -60,8 +61,10 @@ impl<'a> Table<'a> {
     /// Keeps a digest in the slot of its page, or hands it back where no such slot exists, the slot is
     /// another page's, or it is filled.
     pub fn fill(&mut self, slot: usize, hashed: Hashed<'a>) -> Result<(), Hashed<'a>>
-        ensures ok { OnOk result (CanFill self.old slot (page_view hashed.entry.page) × (self.new ≡ with_digest self.old slot hashed.entry.digest)) }
-        ensures err { IfErr result (λ h. (h ≡ hashed.entry) × (self.new ≡ self.old) × ¬ CanFill self.old slot (page_view hashed.entry.page)) }
+        ensures ok { OnOk result (CanFill self.old slot (page_view hashed.entry.page)
+            × (self.new ≡ with_digest self.old slot hashed.entry.digest)) }
+        ensures err { IfErr result (λ h. (h ≡ hashed.entry) × (self.new ≡ self.old)
+            × ¬ CanFill self.old slot (page_view hashed.entry.page)) }
     {
         if !self.is_page(slot, &hashed.page) || self.digests[slot].is_some() {
             return Err(hashed);
@@ -110,7 +113,8 @@ impl<'a> Table<'a> {
     /// The digest in a slot, where such a slot exists and is filled.
     pub fn digest(&self, slot: usize) -> Option<Measurement>
         ensures value { result ≡ digest_in self.now slot }
-        ensures own { IfSome result (λ m. IfSome (slice_get self.now.pages slot) (λ p. m.bytes ≡ digest_of p)) }
+        ensures own { IfSome result
+            (λ m. IfSome (slice_get self.now.pages slot) (λ p. m.bytes ≡ digest_of p)) }
     {
         *self.digests.get(slot)?
     }
@@ -118,7 +122,8 @@ impl<'a> Table<'a> {
     /// The digest of the page that has a key, where such a page exists and its slot is filled.
     pub fn get(&self, key: &PageKey) -> Option<Measurement>
         ensures value { result ≡ digest_at self.now key.now }
-        ensures own { IfSome result (λ m. IfSome (page_at self.now key.now) (λ p. (p.key ≡ key.now) × (m.bytes ≡ digest_of p))) }
+        ensures own { IfSome result (λ m. IfSome (page_at self.now key.now)
+            (λ p. (p.key ≡ key.now) × (m.bytes ≡ digest_of p))) }
     {
         let slot = self.slot_of(key)?;
         self.digest(slot)

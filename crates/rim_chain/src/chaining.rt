@@ -52,7 +52,8 @@ fn extended_by_pages(algo: Algo, rim: Measurement, ipa: u64, digests: &[Measurem
 /// A measurement extended by pages from an IPA on, of which the contents are not measured.
 fn extended_by_unmeasured(algo: Algo, rim: Measurement, ipa: u64, count: u64) -> Measurement
     requires { ipa + PAGE_SIZE * count < 2 ^ 64 }
-    ensures { result.bytes ≡ extended_by algo rim.bytes (map (λ x. Data x None) (granules count ipa)) }
+    ensures { result.bytes
+        ≡ extended_by algo rim.bytes (map (λ x. Data x None) (granules count ipa)) }
 {
     let mut rim = rim;
     let mut next = ipa;
@@ -109,7 +110,8 @@ pub fn chain_from(
     requires filled { IsFilled plan.now row.now.digests }
     requires shared_prefix { IfSome shared_prefix (IsPrefix plan.now row.now.digests) }
     ensures value { result.0.bytes ≡ chain_of plan.now row.now.digests }
-    ensures checkpoints { IfSome result.1 (λ own. AreCheckpoints plan.now row.now.digests own.items) }
+    ensures checkpoints { IfSome result.1
+        (λ own. AreCheckpoints plan.now row.now.digests own.items) }
 {
     let mut checkpoints = checkpoints;
     let value = match &mut checkpoints {

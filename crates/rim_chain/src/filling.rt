@@ -19,7 +19,8 @@ impl LaunchPlan {
     pub fn fill_row(&self, table: &Table, row: &mut DigestRow) -> bool
         requires empty { row.old.digests ≡ [] }
         requires room { length (keys_of self.now.links) ≤ row.old.room }
-        ensures filled { result ≡ true → IsRowOf table.now (keys_of self.now.links) row.new.digests }
+        ensures filled { result ≡ true
+            → IsRowOf table.now (keys_of self.now.links) row.new.digests }
         ensures size { result ≡ true → IsFilled self.now row.new.digests }
         ensures missing { result ≡ false → has_all table.now (keys_of self.now.links) ≡ false }
         ensures kept { result ≡ false → row.new ≡ row.old }
@@ -40,7 +41,8 @@ impl LaunchPlan {
 fn push_digests(table: &Table, link: &Link, row: &mut DigestRow) -> bool
     requires fits { IsFitting link.now }
     requires room { length row.old.digests + page_count link.now ≤ row.old.room }
-    ensures added { result ≡ true → AreAdded table.now (keys_in link.now) row.old.digests row.new.digests }
+    ensures added { result ≡ true
+        → AreAdded table.now (keys_in link.now) row.old.digests row.new.digests }
     ensures missing { result ≡ false → has_all table.now (keys_in link.now) ≡ false }
     ensures room { row.new.room ≡ row.old.room }
 {
@@ -54,8 +56,11 @@ fn push_digests(table: &Table, link: &Link, row: &mut DigestRow) -> bool
 fn push_pages(table: &Table, key: &PageKey, count: u64, row: &mut DigestRow) -> bool
     requires fits { key.now.number + count < 2 ^ 64 }
     requires room { length row.old.digests + count ≤ row.old.room }
-    ensures added { result ≡ true → AreAdded table.now (map (key_after key.now) (range_with_len 0 count)) row.old.digests row.new.digests }
-    ensures missing { result ≡ false → has_all table.now (map (key_after key.now) (range_with_len 0 count)) ≡ false }
+    ensures added { result ≡ true
+        → AreAdded table.now (map (key_after key.now) (range_with_len 0 count)) row.old.digests
+        row.new.digests }
+    ensures missing { result ≡ false
+        → has_all table.now (map (key_after key.now) (range_with_len 0 count)) ≡ false }
     ensures room { row.new.room ≡ row.old.room }
 {
     let mut slot = 0;

@@ -35,7 +35,8 @@ impl<'a> Model for LaunchJob<'a> {
 
     ghost view = { λ j. record { number = j.number; plan = j.plan.now; row = j.row } };
 
-    ghost invariant = { λ j. IsFilled j.plan.now j.row.digests × IfSome j.shared_prefix (IsPrefix j.plan.now j.row.digests) };
+    ghost invariant = { λ j. IsFilled j.plan.now j.row.digests
+        × IfSome j.shared_prefix (IsPrefix j.plan.now j.row.digests) };
 }
 
 /// A launch that was chained, with its measurement, and with the values at its checkpoints.
@@ -56,9 +57,12 @@ impl<'a> Model for LaunchRim<'a> {
 
     ghost Value = { RimView };
 
-    ghost view = { λ r. record { job = record { number = r.number; plan = r.plan.now; row = r.row }; value = r.value } };
+    ghost view = { λ r. record
+        { job = record { number = r.number; plan = r.plan.now; row = r.row }; value = r.value } };
 
-    ghost invariant = { λ r. (r.value.bytes ≡ chain_of r.plan.now r.row.digests) × IfSome r.checkpoints (λ checkpoints. AreCheckpoints r.plan.now r.row.digests checkpoints.items) };
+    ghost invariant = { λ r. (r.value.bytes ≡ chain_of r.plan.now r.row.digests)
+        × IfSome r.checkpoints
+        (λ checkpoints. AreCheckpoints r.plan.now r.row.digests checkpoints.items) };
 }
 
 impl<'a> LaunchJob<'a> {
@@ -227,7 +231,8 @@ impl<'a> LaunchRim<'a> {
 
     /// Its checkpoints, where it has some, each with the value of the launch's prefix up to it, where the chain came to it.
     pub fn into_checkpoints(self) -> Option<Vec<Checkpoint>>
-        ensures { IfSome result (λ checkpoints. AreCheckpoints self.entry.job.plan self.entry.job.row.digests checkpoints.items) }
+        ensures { IfSome result (λ checkpoints. AreCheckpoints self.entry.job.plan
+            self.entry.job.row.digests checkpoints.items) }
     {
         self.checkpoints
     }

@@ -22,20 +22,31 @@ ghost use Rattle.rim_chain.specs.Rows.{IsRowOf};
 /// The chain of a launch's plan and the digests of its own pages is what a monitor holds after the launch's list of
 /// commands.
 pub fn the_chain_is_what_a_monitor_holds()
-    ensures { (l : LaunchData) (files : List (List ℕ)) (p : PlacedData) (entries : List Entry) (v : PlanView)
-        → IsPlaced l files p → listed l p ≡ Ok entries → IsReadOf l p v
-        → (run (empty_state l.config.num_aux) (commands_of (contents l files p) entries)).rim ≡ Some (chain_of v (map (own_digest files p) (keys_of v.links))) }
+    ensures { (l : LaunchData) (files : List (List ℕ)) (p : PlacedData) (entries : List Entry)
+        (v : PlanView)
+        → IsPlaced l files p
+        → listed l p ≡ Ok entries
+        → IsReadOf l p v
+        → (run (empty_state l.config.num_aux) (commands_of (contents l files p) entries)).rim
+        ≡ Some (chain_of v (map (own_digest files p) (keys_of v.links))) }
 {}
 
 /// A row that was filled from a table has the digests of the launch's own pages, where the table has these pages.
 pub fn a_row_has_the_digests_of_its_pages()
-    ensures { (t : TableView) (files : List (List ℕ)) (p : PlacedData) (keys : List PageKey) (digests : List Measurement)
-        → IsTable t → All (HasOwnPage t files p) keys → IsRowOf t keys digests → digests ≡ map (own_digest files p) keys }
+    ensures { (t : TableView) (files : List (List ℕ)) (p : PlacedData) (keys : List PageKey)
+        (digests : List Measurement)
+        → IsTable t
+        → All (HasOwnPage t files p) keys
+        → IsRowOf t keys digests
+        → digests ≡ map (own_digest files p) keys }
 {}
 
 /// Links in two pieces extend a measurement as they do in one: the second piece goes on from what the first one left,
 /// with the digests that the first one did not take.
 pub fn a_chain_goes_on_from_its_prefix()
-    ensures { (algo : Algo) (rim : List ℕ) (prefix back : List Link) (digests : List Measurement) → let n = length (keys_of prefix) in
-        extended_by algo rim (parts_with (prefix ++ back) digests) ≡ extended_by algo (extended_by algo rim (parts_with prefix (take n digests))) (parts_with back (drop n digests)) }
+    ensures { (algo : Algo) (rim : List ℕ) (prefix back : List Link) (digests : List Measurement)
+        → let n = length (keys_of prefix) in
+        extended_by algo rim (parts_with (prefix ++ back) digests)
+        ≡ extended_by algo (extended_by algo rim (parts_with prefix (take n digests)))
+        (parts_with back (drop n digests)) }
 {}

@@ -72,7 +72,8 @@ fn push_steps(
 ) -> Result<(), NoMemory>
     requires algo { algo ≡ launch.now.config.algo }
     requires readable { All (IsReadable launch.now) steps.now }
-    ensures links { OnOk result (links.new.items ≡ links.old.items ++ flat_map (step_links launch.now placed.now) steps.now) }
+    ensures links { OnOk result (links.new.items
+        ≡ links.old.items ++ flat_map (step_links launch.now placed.now) steps.now) }
     ensures growth { OnErr result (0 < length steps.now) }
 {
     for step in steps {
@@ -91,7 +92,8 @@ fn push_step(
 ) -> Result<(), NoMemory>
     requires algo { algo ≡ launch.now.config.algo }
     requires readable { IsReadable launch.now step }
-    ensures { OnOk result (links.new.items ≡ links.old.items ++ step_links launch.now placed.now step) }
+    ensures { OnOk result
+        (links.new.items ≡ links.old.items ++ step_links launch.now placed.now step) }
 {
     match step {
         Step::Ram(number) => match region_at(launch, number) {
@@ -142,7 +144,9 @@ fn push_region(links: &mut Vec<Link>, least_level: u8, region: &Region) -> Resul
     requires whole { IsRegion region.now.base region.now.end }
     requires small { region.now.end ≤ 2 ^ 47 }
     requires low { least_level ≤ 3 }
-    ensures { OnOk result (links.new.items ≡ links.old.items ++ map run_link (runs_of region.now.base region.now.end least_level)) }
+    ensures { OnOk result (links.new.items
+        ≡ links.old.items
+        ++ map run_link (runs_of region.now.base region.now.end least_level)) }
 {
     let mut x = region.base;
     while x < region.end {

@@ -86,7 +86,9 @@ impl SharedPrefixes {
 
     /// The prefix that a launch goes on from, where its value is known.
     pub fn prefix(&self, plans: &[LaunchPlan], number: usize) -> Option<Prefix>
-        ensures { (t : TableView) (p : PlanView) → AreShared t plans.now self.now → slice_get plans.now number ≡ Some p → IfSome result (λ f. IsValueOfPrefix t p f.links f.value) }
+        ensures { (t : TableView) (p : PlanView) → AreShared t plans.now self.now
+            → slice_get plans.now number ≡ Some p
+            → IfSome result (λ f. IsValueOfPrefix t p f.links f.value) }
     {
         let shared_prefix = (*self.shared.get(number)?)?;
         let checkpoints = checkpoints_at(self.checkpoints.as_slice(), shared_prefix.launch)?;
@@ -101,16 +103,23 @@ impl SharedPrefixes {
     /// no such launch.
     pub fn take_checkpoints(&mut self, number: usize) -> Option<Vec<Checkpoint>>
         ensures checkpoints { self.new ≡ slice_set self.old number None }
-        ensures taken { option_map (λ own. own.items) result ≡ option_and_then (λ o. o) (slice_get self.old number) }
-        ensures shared { (t : TableView) (ps : List PlanView) → AreShared t ps self.old → AreShared t ps self.new }
+        ensures taken { option_map (λ own. own.items) result
+            ≡ option_and_then (λ o. o) (slice_get self.old number) }
+        ensures shared { (t : TableView) (ps : List PlanView) → AreShared t ps self.old
+            → AreShared t ps self.new }
     {
         replaced(&mut self.checkpoints, number, None)
     }
 
     /// Keeps the checkpoints of a launch that was chained, in the place of those that it had.
     pub fn keep(&mut self, number: usize, checkpoints: Option<Vec<Checkpoint>>)
-        ensures checkpoints { self.new ≡ slice_set self.old number (option_map (λ own. own.items) checkpoints) }
-        ensures shared { (t : TableView) (ps : List PlanView) (p : PlanView) → slice_get ps number ≡ Some p → IfSome checkpoints (λ own. HaveOwnValues t p own.items) → AreShared t ps self.old → AreShared t ps self.new }
+        ensures checkpoints { self.new
+            ≡ slice_set self.old number (option_map (λ own. own.items) checkpoints) }
+        ensures shared { (t : TableView) (ps : List PlanView) (p : PlanView)
+            → slice_get ps number ≡ Some p
+            → IfSome checkpoints (λ own. HaveOwnValues t p own.items)
+            → AreShared t ps self.old
+            → AreShared t ps self.new }
     {
         let _old = replaced(&mut self.checkpoints, number, checkpoints);
         self.order.offer_followers(number);
@@ -175,7 +184,8 @@ impl SharedPrefixes {
 
 /// The checkpoints of a launch, where they are not with its job.
 fn checkpoints_at(checkpoints: &[Option<Vec<Checkpoint>>], launch: usize) -> Option<&[Checkpoint]>
-    ensures { IfSome result (λ own. slice_get (map (option_map (λ m. m.items)) checkpoints.now) launch ≡ Some (Some own.now)) }
+    ensures { IfSome result (λ own. slice_get (map (option_map (λ m. m.items)) checkpoints.now)
+        launch ≡ Some (Some own.now)) }
 {
     if launch >= checkpoints.len() {
         return None;
@@ -188,7 +198,8 @@ fn checkpoints_at(checkpoints: &[Option<Vec<Checkpoint>>], launch: usize) -> Opt
 
 /// The prefix of a checkpoint after this many links, where its value is known.
 fn prefix_at(checkpoints: &[Checkpoint], links: usize) -> Option<Prefix>
-    ensures { IfSome result (λ f. Contains checkpoints.now (record { links = f.links; value = Some f.value })) }
+    ensures { IfSome result
+        (λ f. Contains checkpoints.now (record { links = f.links; value = Some f.value })) }
 {
     for checkpoint in checkpoints {
         if checkpoint.links == links {

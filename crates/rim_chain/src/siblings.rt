@@ -121,7 +121,8 @@ pub(crate) fn checkpoints_of(
     alloc: Global,
     shared: &[Option<SharedPrefix>],
 ) -> Result<Vec<Option<Vec<Checkpoint>>>, NoMemory>
-    ensures { IfOk result (λ checkpoints. All (λ own. IfSome own (λ ms. HaveNoValues ms.items)) checkpoints.items) }
+    ensures { IfOk result
+        (λ checkpoints. All (λ own. IfSome own (λ ms. HaveNoValues ms.items)) checkpoints.items) }
 {
     let parted = parted(alloc, shared)?;
     let mut checkpoints = Vec::with_capacity(alloc, shared.len())?;

@@ -89,7 +89,8 @@ fn put_four(
     rows: &mut Rows,
     prefixes: &mut Vec<Option<Prefix>>,
 )
-    ensures { HaveOwnPrefixes table.now plans.now prefixes.old.items → HaveOwnPrefixes table.now plans.now prefixes.new.items }
+    ensures { HaveOwnPrefixes table.now plans.now prefixes.old.items
+        → HaveOwnPrefixes table.now plans.now prefixes.new.items }
 {
     let [a, b, c, d] = starts;
     let Some((p, q, r, s)) = chain_four(table, plans, a, b, c, d, rows) else {
@@ -103,7 +104,9 @@ fn put_four(
 
 /// Puts the prefix of a launch among the others.
 fn put(prefixes: &mut Vec<Option<Prefix>>, start: Start, value: Measurement)
-    ensures { prefixes.new.items ≡ slice_set prefixes.old.items start.number (Some (record { links = start.links; value = value })) }
+    ensures { prefixes.new.items
+        ≡ slice_set prefixes.old.items start.number
+        (Some (record { links = start.links; value = value })) }
 {
     if start.number < prefixes.len() {
         let links = start.links;
@@ -121,10 +124,14 @@ fn chain_four(
     d: Start,
     rows: &mut Rows,
 ) -> Option<(Measurement, Measurement, Measurement, Measurement)>
-    ensures first { IfSome result (λ r. IsOwnPrefix table.now plans.now a.number (record { links = a.links; value = r.0 })) }
-    ensures second { IfSome result (λ r. IsOwnPrefix table.now plans.now b.number (record { links = b.links; value = r.1 })) }
-    ensures third { IfSome result (λ r. IsOwnPrefix table.now plans.now c.number (record { links = c.links; value = r.2 })) }
-    ensures fourth { IfSome result (λ r. IsOwnPrefix table.now plans.now d.number (record { links = d.links; value = r.3 })) }
+    ensures first { IfSome result
+        (λ r. IsOwnPrefix table.now plans.now a.number (record { links = a.links; value = r.0 })) }
+    ensures second { IfSome result
+        (λ r. IsOwnPrefix table.now plans.now b.number (record { links = b.links; value = r.1 })) }
+    ensures third { IfSome result
+        (λ r. IsOwnPrefix table.now plans.now c.number (record { links = c.links; value = r.2 })) }
+    ensures fourth { IfSome result
+        (λ r. IsOwnPrefix table.now plans.now d.number (record { links = d.links; value = r.3 })) }
 {
     let first = filled(table, plans, a, &mut rows.first)?;
     let second = filled(table, plans, b, &mut rows.second)?;

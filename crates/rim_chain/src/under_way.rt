@@ -42,7 +42,11 @@ impl<'a> Model for Chain<'a> {
 
     ghost Value = { ChainView };
 
-    ghost view = { λ c. record { algo = c.algo; value = c.value.bytes; left = parts_with (c.rest ∷ c.links.now) c.digests.now } };
+    ghost view = { λ c. record {
+      algo = c.algo;
+      value = c.value.bytes;
+      left = parts_with (c.rest ∷ c.links.now) c.digests.now;
+    } };
 
     ghost invariant = { λ c. AreLeft (c.rest ∷ c.links.now) c.digests.now };
 }

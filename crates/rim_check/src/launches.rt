@@ -25,16 +25,20 @@ const BEFORE_DETAIL: &str = ": ";
 /// it, and what is at fault. And whether there is one.
 pub fn check_launches(alloc: Global, readable: &Readable, files: &Files) -> Result<Report, NoMemory>
     requires { vec_len files.now ≡ length readable.now.paths }
-    ensures text { IfOk result (λ r. SayInTurn (refusals_said (contents files.now.items) readable.now.launches) r.text.items) }
-    ensures refused { IfOk result (λ r. r.has_refused ≡ has_refused (contents files.now.items) readable.now.launches) }
+    ensures text { IfOk result (λ r. SayInTurn
+        (refusals_said (contents files.now.items) readable.now.launches) r.text.items) }
+    ensures refused { IfOk result
+        (λ r. r.has_refused ≡ has_refused (contents files.now.items) readable.now.launches) }
 {
     check_all(alloc, readable, files)
 }
 
 fn check_all(alloc: Global, readable: &Readable, files: &[Vec<u8>]) -> Result<Report, NoMemory>
     requires { length files.now ≡ length readable.now.paths }
-    ensures text { IfOk result (λ r. SayInTurn (refusals_said (contents files.now) readable.now.launches) r.text.items) }
-    ensures refused { IfOk result (λ r. r.has_refused ≡ has_refused (contents files.now) readable.now.launches) }
+    ensures text { IfOk result
+        (λ r. SayInTurn (refusals_said (contents files.now) readable.now.launches) r.text.items) }
+    ensures refused { IfOk result
+        (λ r. r.has_refused ≡ has_refused (contents files.now) readable.now.launches) }
 {
     let mut text = Vec::new(alloc);
     let mut has_refused = false;
@@ -58,8 +62,12 @@ fn check_all(alloc: Global, readable: &Readable, files: &[Vec<u8>]) -> Result<Re
 fn check_launch(text: &mut Vec<u8>, name: &str, checked: &CheckedLaunch) -> Result<bool, NoMemory>
     requires { has_files checked.now.launch.now (length checked.now.files.now) ≡ true }
     ensures text { OnOk result ((said : List Saying) → SayInTurn said text.old.items
-        → SayInTurn (said ++ said_of name.now (rim_for checked.now.launch.now (contents checked.now.files.now))) text.new.items) }
-    ensures refused { IfOk result (λ is_refused. is_refused ≡ is_err (accepted_of checked.now.launch.now (contents checked.now.files.now))) }
+        → SayInTurn (said
+        ++ said_of name.now
+        (rim_for checked.now.launch.now (contents checked.now.files.now)))
+        text.new.items) }
+    ensures refused { IfOk result (λ is_refused. is_refused
+        ≡ is_err (accepted_of checked.now.launch.now (contents checked.now.files.now))) }
 {
     match lay_out(checked.alloc, checked.launch, checked.files) {
         Ok(_) => Ok(false),

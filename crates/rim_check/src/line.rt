@@ -43,7 +43,8 @@ impl Line {
 
     /// Adds a text: as it is, where all of its bytes are shown so.
     pub fn push_text(&mut self, text: &str) -> Result<(), AllocError>
-        ensures { OnOk result (list_all is_plain text.now ≡ true → self.new.text.items ≡ self.old.text.items ++ text.now) }
+        ensures { OnOk result (list_all is_plain text.now ≡ true
+            → self.new.text.items ≡ self.old.text.items ++ text.now) }
     {
         if is_all_plain(text) {
             self.push_plain(text.as_bytes())
@@ -170,7 +171,8 @@ pub fn push_line(
     kind: &str,
     after: &Line,
 ) -> Result<(), NoMemory>
-    ensures { OnOk result ((known : Option (List ℕ)) → IsFront known before.now.text.items → AddsLine (record { front = known; word = kind.now }) text.old.items text.new.items) }
+    ensures { OnOk result ((known : Option (List ℕ)) → IsFront known before.now.text.items
+        → AddsLine (record { front = known; word = kind.now }) text.old.items text.new.items) }
 {
     text.extend_from_slice(before.as_slice())?;
     text.extend_from_slice(kind.as_bytes())?;

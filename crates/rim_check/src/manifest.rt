@@ -80,7 +80,8 @@ pub fn check_manifest(alloc: Global, text: &[u8]) -> Result<ManifestCheck, NoMem
 
 /// The line of a text that is no TOML document: where it is none, and why.
 fn syntax_line(alloc: Global, text: &[u8], error: &Error) -> Result<Vec<u8>, NoMemory>
-    ensures { IfOk result (λ line. SayInTurn (map fault_said (ManifestFault.Syntax ∷ [])) line.items) }
+    ensures { IfOk result
+        (λ line. SayInTurn (map fault_said (ManifestFault.Syntax ∷ [])) line.items) }
 {
     let mut before = Line::new(alloc);
     write_position(&mut before, text, error).map_err(|_| NoMemory)?;
@@ -105,7 +106,8 @@ fn lines(alloc: Global, document: &Document, found: &[Finding]) -> Result<Vec<u8
 
 /// Adds the line of a fault.
 fn add_line(lines: &mut Vec<u8>, document: &Document, finding: &Finding) -> Result<(), NoMemory>
-    ensures { OnOk result (AddsLine (fault_said finding.now.fault) lines.old.items lines.new.items) }
+    ensures { OnOk result
+        (AddsLine (fault_said finding.now.fault) lines.old.items lines.new.items) }
 {
     let alloc = *lines.allocator();
     let mut before = Line::new(alloc);

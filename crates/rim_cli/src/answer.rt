@@ -37,7 +37,8 @@ pub fn answer_to<R: Threads + Wait + Sync, G: Gate + Sync, O: Opener>(
     opener: &mut O,
 ) -> Result<Answer, Fault>
     requires { HasCrew request }
-    ensures answered { IfOk result (λ a. IfFile (O.held opener.old (path_of request.entry)) (λ bytes. IsAnswer (O.held opener.old) request.entry bytes a.text.items a.status)) }
+    ensures answered { IfOk result (λ a. IfFile (O.held opener.old (path_of request.entry))
+        (λ bytes. IsAnswer (O.held opener.old) request.entry bytes a.text.items a.status)) }
     ensures refused { IfErr result (Refuses (O.held opener.old) request.entry) }
     ensures status { IfOk result (λ a. (a.status ≤ 1) ⊎ (a.status ≡ 3)) }
 {
@@ -67,8 +68,11 @@ fn measure<R: Threads + Wait + Sync, G: Gate + Sync, O: Opener>(
     format: Format,
 ) -> Result<Answer, Fault>
     requires { is_crew workers ≡ true }
-    ensures answered { IfOk result (λ a. IfFile (O.held opener.old path.now) (λ bytes. IsOkAnd (manifest_of bytes) (λ r. IsReport format (O.held opener.old) r a.text.items a.status))) }
-    ensures refused { IfErr result (RefusesManifest (RefusesReport (O.held opener.old)) (O.held opener.old path.now)) }
+    ensures answered { IfOk result (λ a. IfFile (O.held opener.old path.now) (λ bytes. IsOkAnd
+        (manifest_of bytes)
+        (λ r. IsReport format (O.held opener.old) r a.text.items a.status))) }
+    ensures refused { IfErr result
+        (RefusesManifest (RefusesReport (O.held opener.old)) (O.held opener.old path.now)) }
     ensures status { IfOk result (λ a. a.status ≤ 1) }
 {
     let release = read_release(alloc, opener, path)?;
@@ -89,9 +93,13 @@ fn report<R: Threads + Wait + Sync, G: Gate + Sync>(
 ) -> Result<Report, StartFault>
     requires files { vec_len files.now ≡ length release.now.paths }
     requires crew { is_crew workers ≡ true }
-    ensures text { IfOk result (λ r. IsReportOf format (map (λ file. file.items) files.now.items) release.now.launches r.text.items) }
-    ensures fault { IfErr result (λ e. (e ≡ StartFault.NoMemory) ⊎ (measured_of (map (λ file. file.items) files.now.items) release.now.launches ≡ Err e)) }
-    ensures refused { IfOk result (λ r. r.has_refused ≡ has_refused (map (λ file. file.items) files.now.items) release.now.launches) }
+    ensures text { IfOk result (λ r. IsReportOf format (map (λ file. file.items) files.now.items)
+        release.now.launches r.text.items) }
+    ensures fault { IfErr result (λ e. (e ≡ StartFault.NoMemory)
+        ⊎ (measured_of (map (λ file. file.items) files.now.items) release.now.launches
+        ≡ Err e)) }
+    ensures refused { IfOk result (λ r. r.has_refused
+        ≡ has_refused (map (λ file. file.items) files.now.items) release.now.launches) }
 {
     let Outcome {
         report,
@@ -109,8 +117,11 @@ fn report<R: Threads + Wait + Sync, G: Gate + Sync>(
 
 /// The listing of a manifest's launch, or its line where it is refused.
 fn list<O: Opener>(alloc: Global, opener: &mut O, path: &str, launch: &str) -> Result<Answer, Fault>
-    ensures answered { IfOk result (λ a. IfFile (O.held opener.old path.now) (λ bytes. IsOkAnd (manifest_of bytes) (λ r. IsListing (O.held opener.old) r launch.now a.text.items a.status))) }
-    ensures refused { IfErr result (RefusesManifest (RefusesListing (O.held opener.old) launch.now) (O.held opener.old path.now)) }
+    ensures answered { IfOk result (λ a. IfFile (O.held opener.old path.now) (λ bytes. IsOkAnd
+        (manifest_of bytes)
+        (λ r. IsListing (O.held opener.old) r launch.now a.text.items a.status))) }
+    ensures refused { IfErr result (RefusesManifest (RefusesListing (O.held opener.old) launch.now)
+        (O.held opener.old path.now)) }
     ensures status { IfOk result (λ a. a.status ≤ 1) }
 {
     let found = read_launch(alloc, opener, path, launch)?;
@@ -122,8 +133,11 @@ fn list<O: Opener>(alloc: Global, opener: &mut O, path: &str, launch: &str) -> R
 
 /// The devicetree of a manifest's launch, as it is placed.
 fn dtb<O: Opener>(alloc: Global, opener: &mut O, path: &str, launch: &str) -> Result<Answer, Fault>
-    ensures answered { IfOk result (λ a. IfFile (O.held opener.old path.now) (λ bytes. IsOkAnd (manifest_of bytes) (λ r. IsDevicetree (O.held opener.old) r launch.now a.text.items a.status))) }
-    ensures refused { IfErr result (RefusesManifest (RefusesDtb (O.held opener.old) launch.now) (O.held opener.old path.now)) }
+    ensures answered { IfOk result (λ a. IfFile (O.held opener.old path.now) (λ bytes. IsOkAnd
+        (manifest_of bytes)
+        (λ r. IsDevicetree (O.held opener.old) r launch.now a.text.items a.status))) }
+    ensures refused { IfErr result
+        (RefusesManifest (RefusesDtb (O.held opener.old) launch.now) (O.held opener.old path.now)) }
     ensures status { IfOk result (λ a. a.status ≤ 1) }
 {
     let found = read_launch(alloc, opener, path, launch)?;
@@ -151,10 +165,14 @@ fn read_launch<O: Opener>(
     path: &str,
     launch: &str,
 ) -> Result<FoundLaunch, Fault>
-    ensures release { IfOk result (λ f. IfFile (O.held opener.old path.now) (λ bytes. manifest_of bytes ≡ Ok f.release)) }
-    ensures number { IfOk result (λ f. position (name_in launch.now) f.release.launches ≡ Some f.number) }
-    ensures files { IfOk result (λ f. AreRead (O.held opener.old) f.release.paths (map (λ file. file.items) f.files.items)) }
-    ensures refused { IfErr result (RefusesManifest (RefusesListing (O.held opener.old) launch.now) (O.held opener.old path.now)) }
+    ensures release { IfOk result
+        (λ f. IfFile (O.held opener.old path.now) (λ bytes. manifest_of bytes ≡ Ok f.release)) }
+    ensures number { IfOk result
+        (λ f. position (name_in launch.now) f.release.launches ≡ Some f.number) }
+    ensures files { IfOk result (λ f. AreRead (O.held opener.old) f.release.paths
+        (map (λ file. file.items) f.files.items)) }
+    ensures refused { IfErr result (RefusesManifest (RefusesListing (O.held opener.old) launch.now)
+        (O.held opener.old path.now)) }
 {
     let release = read_release(alloc, opener, path)?;
     let Some(number) = release.launch_named(launch) else {
@@ -170,8 +188,10 @@ fn read_launch<O: Opener>(
 
 /// The audit of a manifest's launches.
 fn audit<O: Opener>(alloc: Global, opener: &mut O, path: &str) -> Result<Answer, Fault>
-    ensures answered { IfOk result (λ a. IfFile (O.held opener.old path.now) (λ bytes. IsOkAnd (manifest_of bytes) (λ r. IsAudit (O.held opener.old) r a.text.items a.status))) }
-    ensures refused { IfErr result (RefusesManifest (RefusesAudit (O.held opener.old)) (O.held opener.old path.now)) }
+    ensures answered { IfOk result (λ a. IfFile (O.held opener.old path.now) (λ bytes. IsOkAnd
+        (manifest_of bytes) (λ r. IsAudit (O.held opener.old) r a.text.items a.status))) }
+    ensures refused { IfErr result
+        (RefusesManifest (RefusesAudit (O.held opener.old)) (O.held opener.old path.now)) }
     ensures status { IfOk result (λ a. a.status ≤ 1) }
 {
     let release = read_release(alloc, opener, path)?;
@@ -182,7 +202,8 @@ fn audit<O: Opener>(alloc: Global, opener: &mut O, path: &str) -> Result<Answer,
 
 /// The release that the manifest at a path describes.
 fn read_release<O: Opener>(alloc: Global, opener: &mut O, path: &str) -> Result<Release, Fault>
-    ensures read { IfOk result (λ r. IfFile (O.held opener.old path.now) (λ bytes. manifest_of bytes ≡ Ok r)) }
+    ensures read { IfOk result
+        (λ r. IfFile (O.held opener.old path.now) (λ bytes. manifest_of bytes ≡ Ok r)) }
     ensures fault { IfErr result (IsManifestFault (O.held opener.old path.now)) }
     ensures stays { O.held opener.new ≡ O.held opener.old }
 {
@@ -206,7 +227,8 @@ pub fn answer_of(report: Report) -> Answer
 
 /// The header of the Image at a path.
 fn image<O: Opener>(alloc: Global, opener: &mut O, path: &str) -> Result<Answer, Fault>
-    ensures answered { IfOk result (λ a. IfFile (O.held opener.old path.now) (λ bytes. (image_answer_of bytes ≡ Ok a.text.items) × (a.status ≡ 0))) }
+    ensures answered { IfOk result (λ a. IfFile (O.held opener.old path.now)
+        (λ bytes. (image_answer_of bytes ≡ Ok a.text.items) × (a.status ≡ 0))) }
     ensures refused { IfErr result (RefusesImage (O.held opener.old path.now)) }
     ensures status { IfOk result (λ a. a.status ≤ 1) }
 {
@@ -217,7 +239,8 @@ fn image<O: Opener>(alloc: Global, opener: &mut O, path: &str) -> Result<Answer,
 
 /// The devicetree in the file at a path.
 fn fdt<O: Opener>(alloc: Global, opener: &mut O, path: &str) -> Result<Answer, Fault>
-    ensures answered { IfOk result (λ a. IfFile (O.held opener.old path.now) (λ bytes. ShowsDevicetree bytes a.text.items × (a.status ≡ 0))) }
+    ensures answered { IfOk result (λ a. IfFile (O.held opener.old path.now)
+        (λ bytes. ShowsDevicetree bytes a.text.items × (a.status ≡ 0))) }
     ensures refused { IfErr result (RefusesFdt (O.held opener.old path.now)) }
     ensures status { IfOk result (λ a. a.status ≤ 1) }
 {

@@ -16,7 +16,8 @@ use std::alloc::Global;
 
 /// What is wrong with the manifest at a path; or else with the files and the launches of its release.
 pub fn check<O: Opener>(alloc: Global, opener: &mut O, path: &str) -> Result<Answer, Fault>
-    ensures answered { IfOk result (λ a. IfFile (O.held opener.old path.now) (λ bytes. IsCheck (O.held opener.old) (manifest_of bytes) a.text.items a.status)) }
+    ensures answered { IfOk result (λ a. IfFile (O.held opener.old path.now)
+        (λ bytes. IsCheck (O.held opener.old) (manifest_of bytes) a.text.items a.status)) }
     ensures refused { IfErr result (IsFileFault (O.held opener.old path.now)) }
     ensures status { IfOk result (λ a. (a.status ≤ 1) ⊎ (a.status ≡ 3)) }
 {
@@ -34,7 +35,8 @@ fn check_release<O: Opener>(
     opener: &mut O,
     readable: &Readable,
 ) -> Result<Answer, Fault>
-    ensures answered { IfOk result (λ a. IsReleaseCheck (O.held opener.old) readable.now a.text.items a.status) }
+    ensures answered { IfOk result
+        (λ a. IsReleaseCheck (O.held opener.old) readable.now a.text.items a.status) }
     ensures refused { IfErr result (λ e. e ≡ Fault.NoMemory) }
     ensures status { IfOk result (λ a. (a.status ≤ 1) ⊎ (a.status ≡ 3)) }
 {
@@ -64,7 +66,8 @@ fn find_files<O: Opener>(
     opener: &mut O,
     release: &Release,
 ) -> Result<FoundFiles, Fault>
-    ensures found { IfOk result (λ f. AreFound (O.held opener.old) release.now.paths (map (λ file. file.items) f.files.items) f.unread.items) }
+    ensures found { IfOk result (λ f. AreFound (O.held opener.old) release.now.paths
+        (map (λ file. file.items) f.files.items) f.unread.items) }
     ensures fault { IfErr result (λ e. e ≡ Fault.NoMemory) }
 {
     let mut files = Vec::new(alloc);
@@ -81,7 +84,8 @@ fn find_files<O: Opener>(
 
 /// Adds the line of a file that cannot be read, but passes want of memory on.
 fn push_unread(text: &mut Vec<u8>, path: &str, fault: Fault) -> Result<(), Fault>
-    ensures line { OnOk result (AddsLine (file_said path.now (word_of fault)) text.old.items text.new.items) }
+    ensures line { OnOk result
+        (AddsLine (file_said path.now (word_of fault)) text.old.items text.new.items) }
     ensures own { OnOk result (fault ≢ Fault.NoMemory) }
     ensures full { IfErr result (λ e. e ≡ Fault.NoMemory) }
 {

@@ -73,7 +73,10 @@ pub fn rim_command<'a>(alloc: Global) -> Result<Command<'a>, AllocError>
 /// A command with the subcommands that print texts about a manifest's launches.
 fn with_release_commands<'a>(alloc: Global, command: Command<'a>) -> Result<Command<'a>, AllocError>
     requires { (out-Command command).has_globals ≡ false }
-    ensures shape { IfOk result (λ c. app_of c ≡ with_subcommand (with_subcommand (with_subcommand (with_subcommand (app_of command.entry) measure.top) list.top) audit.top) check.top) }
+    ensures shape { IfOk result (λ c. app_of c
+        ≡ with_subcommand (with_subcommand
+        (with_subcommand (with_subcommand (app_of command.entry) measure.top) list.top)
+        audit.top) check.top) }
     ensures globals { IfOk result (λ c. (out-Command c).has_globals ≡ false) }
 {
     let command = with_report_commands(alloc, command)?;
@@ -83,7 +86,10 @@ fn with_release_commands<'a>(alloc: Global, command: Command<'a>) -> Result<Comm
 /// A command with the subcommands that print what becomes of launches.
 fn with_report_commands<'a>(alloc: Global, command: Command<'a>) -> Result<Command<'a>, AllocError>
     requires { (out-Command command).has_globals ≡ false }
-    ensures shape { IfOk result (λ c. app_of c ≡ with_subcommand (with_subcommand (with_subcommand (app_of command.entry) measure.top) list.top) audit.top) }
+    ensures shape { IfOk result (λ c. app_of c
+        ≡ with_subcommand
+        (with_subcommand (with_subcommand (app_of command.entry) measure.top) list.top)
+        audit.top) }
     ensures globals { IfOk result (λ c. (out-Command c).has_globals ≡ false) }
 {
     let command = with_subcommand(command, measure_command(alloc)?)?;
@@ -94,7 +100,8 @@ fn with_report_commands<'a>(alloc: Global, command: Command<'a>) -> Result<Comma
 /// A command with the subcommands that show a file.
 fn with_showing_commands<'a>(alloc: Global, command: Command<'a>) -> Result<Command<'a>, AllocError>
     requires { (out-Command command).has_globals ≡ false }
-    ensures shape { IfOk result (λ c. app_of c ≡ with_subcommand (with_subcommand (app_of command.entry) image.top) fdt.top) }
+    ensures shape { IfOk result (λ c. app_of c
+        ≡ with_subcommand (with_subcommand (app_of command.entry) image.top) fdt.top) }
     ensures globals { IfOk result (λ c. (out-Command c).has_globals ≡ false) }
 {
     let image = showing_command(
@@ -120,7 +127,8 @@ fn with_subcommand<'a>(
 ) -> Result<Command<'a>, AllocError>
     requires command { (out-Command command).has_globals ≡ false }
     requires subcommand { (out-Command subcommand).has_globals ≡ false }
-    ensures shape { IfOk result (λ c. app_of c ≡ with_subcommand (app_of command.entry) (app_of subcommand.entry).top) }
+    ensures shape { IfOk result
+        (λ c. app_of c ≡ with_subcommand (app_of command.entry) (app_of subcommand.entry).top) }
     ensures globals { IfOk result (λ c. (out-Command c).has_globals ≡ false) }
 {
     command.subcommand(subcommand)

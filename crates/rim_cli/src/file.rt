@@ -21,7 +21,8 @@ pub trait Opener {
 
     /// Opens a file for reading, or answers `None`.
     fn open(&mut self, path: &str) -> Option<Self::Reader>
-        ensures bytes { IfSome result (λ reader. IfFile (held self.old path.now) (λ bytes. Self.Reader.remaining reader ≡ Some bytes)) }
+        ensures bytes { IfSome result (λ reader. IfFile (held self.old path.now)
+            (λ bytes. Self.Reader.remaining reader ≡ Some bytes)) }
         ensures stays { held self.new ≡ held self.old };
 }
 
@@ -32,7 +33,8 @@ pub fn read_files<O: Opener>(
     release: &Release,
 ) -> Result<Files, Fault>
     ensures count { IfOk result (λ files. vec_len files ≡ length release.now.paths) }
-    ensures each { IfOk result (λ files. AreRead (O.held opener.old) release.now.paths (map (λ file. file.items) files.items)) }
+    ensures each { IfOk result (λ files. AreRead (O.held opener.old) release.now.paths
+        (map (λ file. file.items) files.items)) }
     ensures fault { IfErr result (IsFirstFault (O.held opener.old) release.now.paths) }
 {
     let mut files = Vec::new(alloc);
@@ -59,7 +61,8 @@ pub fn read_file<O: Opener>(alloc: Global, opener: &mut O, path: &str) -> Result
 fn read_whole<R: Read + Drop>(alloc: Global, reader: R) -> Result<Vec<u8>, Fault>
     ensures limit { IfOk result (λ bytes. length bytes.items ≤ FILE_LIMIT) }
     ensures fault { IfErr result (IsFileFault (option_map Some (R.remaining reader))) }
-    ensures whole { IfOk result (λ bytes. IfSome (R.remaining reader) (λ held. bytes.items ≡ held)) }
+    ensures whole { IfOk result
+        (λ bytes. IfSome (R.remaining reader) (λ held. bytes.items ≡ held)) }
 {
     let mut bytes = Vec::new(alloc);
     let read = Patient::new(reader)

@@ -20,7 +20,8 @@ struct InMemory<'a> {
 }
 
 impl<'a> Opener for InMemory<'a> {
-    ghost held = { λ m path. Some (if bytes_eq path (codes "manifest.toml") then Some m.manifest.now else None) };
+    ghost held = { λ m path. Some
+        (if bytes_eq path (codes "manifest.toml") then Some m.manifest.now else None) };
 
     type Reader = &'a [u8];
 
@@ -44,9 +45,12 @@ pub fn measure_in_memory<R: Threads + Wait + Sync>(
     err: &mut Vec<u8>,
 ) -> u8
     ensures known { result ≤ 4 }
-    ensures report { (r : ReleaseData) → manifest_of manifest.now ≡ Ok r → r.paths ≡ [] → result ≤ 1 → IsOkAnd (measured_of [] r.launches) (λ text. out.new.items ≡ out.old.items ++ text) }
-    ensures status { (r : ReleaseData) → manifest_of manifest.now ≡ Ok r → r.paths ≡ [] → result ≤ 1 → result ≡ (if has_refused [] r.launches then 1 else 0) }
-    ensures refused { (f : ManifestFault) → manifest_of manifest.now ≡ Err f → (3 ≤ result) × (out.new.items ≡ out.old.items) }
+    ensures report { (r : ReleaseData) → manifest_of manifest.now ≡ Ok r → r.paths ≡ [] → result ≤ 1
+        → IsOkAnd (measured_of [] r.launches) (λ text. out.new.items ≡ out.old.items ++ text) }
+    ensures status { (r : ReleaseData) → manifest_of manifest.now ≡ Ok r → r.paths ≡ [] → result ≤ 1
+        → result ≡ (if has_refused [] r.launches then 1 else 0) }
+    ensures refused { (f : ManifestFault) → manifest_of manifest.now ≡ Err f
+        → (3 ≤ result) × (out.new.items ≡ out.old.items) }
 {
     let words = ["rim", "measure", "manifest.toml"];
     let opener = &mut InMemory { manifest };

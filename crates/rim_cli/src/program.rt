@@ -40,11 +40,17 @@ pub fn run<R: Threads + Wait + Sync, G: Gate + Sync, S: AsStr, O: Opener, W: Wri
     err: &mut E,
 ) -> u8
     ensures known { result ≤ 4 }
-    ensures done { is_taken (map S.text words.now) ≡ true → result ≤ 1 → IsDone (map S.text words.now) (O.held opener.old) (W.contents out.old) (W.contents out.new) result }
+    ensures done { is_taken (map S.text words.now) ≡ true → result ≤ 1
+        → IsDone (map S.text words.now) (O.held opener.old) (W.contents out.old)
+        (W.contents out.new) result }
     ensures usage { is_taken (map S.text words.now) ≡ true → result ≢ 2 }
     ensures mistaken { IsMistaken (map S.text words.now) → (result ≡ 2) ⊎ (result ≡ 4) }
     ensures helps { AsksForHelp (map S.text words.now) → result ≢ 2 }
-    ensures refused { is_taken (map S.text words.now) ≡ true → result ≡ 3 → (IsRefused (map S.text words.now) (O.held opener.old) result × (out.new ≡ out.old)) ⊎ (IsUnwritten (map S.text words.now) (O.held opener.old) ⊎ IsDone (map S.text words.now) (O.held opener.old) (W.contents out.old) (W.contents out.new) result) }
+    ensures refused { is_taken (map S.text words.now) ≡ true → result ≡ 3
+        → (IsRefused (map S.text words.now) (O.held opener.old) result × (out.new ≡ out.old))
+        ⊎ (IsUnwritten (map S.text words.now) (O.held opener.old)
+        ⊎ IsDone (map S.text words.now) (O.held opener.old) (W.contents out.old)
+        (W.contents out.new) result) }
     ensures kept { (result ≡ 2) ⊎ (result ≡ 4) → out.new ≡ out.old }
 {
     let request = match command(alloc, words) {
@@ -87,7 +93,8 @@ fn finish<W: Write, E: Write>(text: &[u8], status: u8, out: &mut W, err: &mut E)
     ensures known { (result ≡ status) ⊎ (result ≡ 3) }
     ensures own { result ≤ 1 → result ≡ status }
     ensures done { result ≤ 1 → Appends (W.contents out.old) (W.contents out.new) text.now }
-    ensures ends { ((result ≡ status) × Appends (W.contents out.old) (W.contents out.new) text.now) ⊎ (result ≡ 3) }
+    ensures ends { ((result ≡ status) × Appends (W.contents out.old) (W.contents out.new) text.now)
+        ⊎ (result ≡ 3) }
 {
     match write_text(text, out) {
         Ok(()) => status,
@@ -118,7 +125,8 @@ fn report_fault<E: Write>(fault: Fault, err: &mut E) -> u8
 /// command line ask for none.
 pub fn asks_for_bytes<S: AsStr>(alloc: Global, words: &[S]) -> Result<bool, AllocError>
     ensures asked { IfOk result (λ b. b ≡ true → AsksForBytes (map S.text words.now)) }
-    ensures other { IfOk result (λ b. b ≡ false → is_taken (map S.text words.now) ≡ true → ¬ AsksForBytes (map S.text words.now)) }
+    ensures other { IfOk result (λ b. b ≡ false → is_taken (map S.text words.now) ≡ true
+        → ¬ AsksForBytes (map S.text words.now)) }
 {
     match command(alloc, words) {
         Ok(request) => Ok(is_for_bytes(&request)),

@@ -83,7 +83,8 @@ pub fn command<'a, S: AsStr>(alloc: Global, words: &'a [S]) -> Result<Request<'a
     // the subcommand, its operands, the workers and the format are those that the words have by `clap`'s definition
     ensures reads { IfOk result (ReadsRequest (subcommand_of rim (map S.text words.entry.now))) }
     ensures crew { IfOk result HasCrew }
-    ensures takes { is_taken (map S.text words.entry.now) ≡ true → IfErr result (λ e. e ≡ CommandFault.NoMemory) }
+    ensures takes { is_taken (map S.text words.entry.now) ≡ true
+        → IfErr result (λ e. e ≡ CommandFault.NoMemory) }
     ensures sound { IfOk result (λ _. mistakes_of (map S.text words.entry.now) ≡ []) }
     ensures refused { IfErr result (IsRefusalOf (mistakes_of (map S.text words.entry.now))) }
 {
@@ -104,7 +105,8 @@ pub fn command<'a, S: AsStr>(alloc: Global, words: &'a [S]) -> Result<Request<'a
 /// What a subcommand with its matches asks for.
 fn request_of<'a>(name: &str, given: &ArgMatches<'a>, format: Format) -> Request<'a>
     requires entered { IsEntered name.now (rows_of (found_of given.now)) }
-    requires format { format_of (first_of (codes "format") (rows_of (found_of given.now))) ≡ Some format }
+    requires format { format_of (first_of (codes "format") (rows_of (found_of given.now)))
+        ≡ Some format }
     ensures { ReadsRow name.now (rows_of (found_of given.now)) result }
 {
     match name {
@@ -166,7 +168,8 @@ fn value<'a>(given: &ArgMatches<'a>, id: &str) -> Option<&'a str>
 
 /// The number of workers, 4 where none is given.
 fn workers(given: &ArgMatches) -> u8
-    requires { IfSome (first_of (codes "workers") (rows_of (found_of given.now))) (λ text. IsSignedIn (pos 1) (pos WORKER_LIMIT) text) }
+    requires { IfSome (first_of (codes "workers") (rows_of (found_of given.now)))
+        (λ text. IsSignedIn (pos 1) (pos WORKER_LIMIT) text) }
     ensures { CountsWorkers (first_of (codes "workers") (rows_of (found_of given.now))) result }
 {
     match value(given, "workers") {

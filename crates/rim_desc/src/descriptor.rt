@@ -18,7 +18,8 @@ pub fn data_descriptor(
     ipa: u64,
     content: Option<&Measurement>,
 ) -> [u8; DESCRIPTOR_SIZE]
-    ensures { result ≡ data_descriptor_of rim.now.bytes ipa (option_map (λ m. m.now.bytes) content.entry) }
+    ensures { result
+        ≡ data_descriptor_of rim.now.bytes ipa (option_map (λ m. m.now.bytes) content.entry) }
 {
     let mut descriptor = headed(0, rim);
     put(&mut descriptor, 0x50, &ipa.to_le_bytes());

@@ -35,11 +35,24 @@ impl Model for RecParams {
     ghost use Rattle.rim_desc.specs.declared.rec.TheConstants.{AUX_LIMIT};
     ghost use Rattle.rim_desc.specs.inside.Rec.{IsWellFormed, fields_again};
 
-    ghost view = { λ r. record { flags = r.flags; mpidr = r.mpidr; pc = r.pc; gprs = r.gprs; aux = take r.num_aux r.aux } };
+    ghost view = { λ r. record {
+      flags = r.flags;
+      mpidr = r.mpidr;
+      pc = r.pc;
+      gprs = r.gprs;
+      aux = take r.num_aux r.aux;
+    } };
 
     ghost invariant = { IsWellFormed };
 
-    ghost inverse = { λ d. record { flags = d.flags; mpidr = d.mpidr; pc = d.pc; gprs = d.gprs; num_aux = length d.aux; aux = d.aux ++ replicate (AUX_LIMIT - length d.aux) 0 } };
+    ghost inverse = { λ d. record {
+      flags = d.flags;
+      mpidr = d.mpidr;
+      pc = d.pc;
+      gprs = d.gprs;
+      num_aux = length d.aux;
+      aux = d.aux ++ replicate (AUX_LIMIT - length d.aux) 0;
+    } };
 
     ghost inverse_ok = { fields_again };
 }
@@ -48,7 +61,8 @@ impl RecParams {
     /// The parameters of a REC with these auxiliary granules, by address.
     pub fn new(flags: u64, mpidr: u64, pc: u64, gprs: [u64; 8], aux: &[u64]) -> RecParams
         requires { length aux.now ≤ AUX_LIMIT }
-        ensures { result ≡ record { flags = flags; mpidr = mpidr; pc = pc; gprs = gprs; aux = aux.now } }
+        ensures { result
+            ≡ record { flags = flags; mpidr = mpidr; pc = pc; gprs = gprs; aux = aux.now } }
     {
         let mut places = [0; AUX_LIMIT];
         places[..aux.len()].copy_from_slice(aux);

@@ -93,10 +93,14 @@ fn mark(named: &mut [bool], number: usize) -> bool
 fn mark_step(named: &mut [bool], target: StepTarget, count: usize, step: &Step) -> bool
     requires { count ≤ length named.old }
     ensures len { length named.new ≡ length named.old }
-    ensures once { (steps : List Step) (at : ℕ) → IsNext steps at step.now → AreMarks target count (take at steps) named.old
-        → result ≡ true → AreMarks target count (take (at + 1) steps) named.new }
-    ensures twice { (steps : List Step) (at : ℕ) → IsNext steps at step.now → AreMarks target count (take at steps) named.old
-        → result ≡ false → each_once target steps count ≡ false }
+    ensures once { (steps : List Step) (at : ℕ) → IsNext steps at step.now
+        → AreMarks target count (take at steps) named.old
+        → result ≡ true
+        → AreMarks target count (take (at + 1) steps) named.new }
+    ensures twice { (steps : List Step) (at : ℕ) → IsNext steps at step.now
+        → AreMarks target count (take at steps) named.old
+        → result ≡ false
+        → each_once target steps count ≡ false }
 {
     match number_of(target, step) {
         Some(number) if number < count => mark(named, number),
@@ -134,7 +138,8 @@ fn all_name_something(num_regions: usize, num_items: usize, num_recs: usize, ste
 
 /// Whether each step names what the launch has, and each region, item and REC is named by exactly one.
 pub fn steps_complete(num_regions: usize, num_items: usize, num_recs: usize, steps: &[Step]) -> bool
-    requires { (num_regions ≤ NAMED_REC_LIMIT) × (num_items ≤ NAMED_REC_LIMIT) × (num_recs ≤ NAMED_REC_LIMIT) }
+    requires { (num_regions ≤ NAMED_REC_LIMIT) × (num_items ≤ NAMED_REC_LIMIT)
+        × (num_recs ≤ NAMED_REC_LIMIT) }
     ensures { result ≡ steps_complete num_regions num_items num_recs steps.now }
 {
     all_name_something(num_regions, num_items, num_recs, steps)

@@ -56,7 +56,8 @@ impl Bootargs {
 
     /// This command line, or `None` where it has a zero character.
     pub fn new(text: String) -> Option<Bootargs>
-        ensures { result ≡ (if has_no_zero (string_bytes text) then Some (string_bytes text) else None) }
+        ensures { result
+            ≡ (if has_no_zero (string_bytes text) then Some (string_bytes text) else None) }
     {
         if has_no_zero(text.as_bytes()) {
             Some(Bootargs { text })
@@ -193,7 +194,8 @@ impl Item {
     /// The item with these parts, or `None` where its address or its size is 2^63 or more.
     pub fn new(kind: ItemKind, at: u64, size: Option<u64>, measured: bool) -> Option<Item>
         ensures valid { IsSome result ↔ ((at < 2 ^ 63) × (unwrap_or size 0 < 2 ^ 63)) }
-        ensures value { IfSome result (λ i. (i.kind ≡ kind) × (i.at ≡ at) × (i.size ≡ size) × (i.measured ≡ measured)) }
+        ensures value { IfSome result
+            (λ i. (i.kind ≡ kind) × (i.at ≡ at) × (i.size ≡ size) × (i.measured ≡ measured)) }
     {
         if at < NUMBER_END && size.unwrap_or(0) < NUMBER_END {
             Some(Item {

@@ -39,9 +39,23 @@ impl Model for Launch {
 
     ghost Value = { LaunchData };
 
-    ghost view = { λ l. record { number = l.number; config = l.config; ram = l.ram.items; items = l.items.items; recs = l.recs.items; steps = l.steps.items } };
+    ghost view = { λ l. record {
+      number = l.number;
+      config = l.config;
+      ram = l.ram.items;
+      items = l.items.items;
+      recs = l.recs.items;
+      steps = l.steps.items;
+    } };
 
-    ghost invariant = { λ l. is_launch (record { number = l.number; config = l.config; ram = l.ram.items; items = l.items.items; recs = l.recs.items; steps = l.steps.items }) ≡ true };
+    ghost invariant = { λ l. is_launch (record {
+      number = l.number;
+      config = l.config;
+      ram = l.ram.items;
+      items = l.items.items;
+      recs = l.recs.items;
+      steps = l.steps.items;
+    }) ≡ true };
 }
 
 impl Launch {
@@ -59,7 +73,14 @@ impl Launch {
         recs: Vec<Rec>,
         steps: Vec<Step>,
     ) -> Option<Launch>
-        ensures { let l : LaunchData = record { number = number; config = config; ram = ram.items; items = items.items; recs = recs.items; steps = steps.items } in
+        ensures { let l : LaunchData = record {
+          number = number;
+          config = config;
+          ram = ram.items;
+          items = items.items;
+          recs = recs.items;
+          steps = steps.items;
+        } in
             result ≡ (if is_launch l then Some l else None) }
     {
         if within_limits(&ram, &items, &recs)
@@ -137,7 +158,9 @@ impl Launch {
 
 /// Whether the regions, the items and the RECs are no more than a launch may have.
 fn within_limits(ram: &[Region], items: &[Item], recs: &[Rec]) -> bool
-    ensures { result ≡ (nat_le (length ram.now) REGION_LIMIT && nat_le (length items.now) ITEM_LIMIT && nat_le (length recs.now) NAMED_REC_LIMIT) }
+    ensures { result
+        ≡ (nat_le (length ram.now) REGION_LIMIT && nat_le (length items.now) ITEM_LIMIT
+        && nat_le (length recs.now) NAMED_REC_LIMIT) }
 {
     ram.len() <= REGION_LIMIT && items.len() <= ITEM_LIMIT && recs.len() <= NAMED_REC_LIMIT
 }

@@ -19,13 +19,15 @@ pub enum Step {
 }
 
 fn push_regions(steps: &mut Vec<Step>, count: usize) -> Result<(), AllocError>
-    ensures { OnOk result (steps.new.items ≡ steps.old.items ++ map Step.Ram (range_with_len 0 count)) }
+    ensures { OnOk result
+        (steps.new.items ≡ steps.old.items ++ map Step.Ram (range_with_len 0 count)) }
 {
     steps.extend((0..count).map(|number| Step::Ram(number)))
 }
 
 fn push_recs(steps: &mut Vec<Step>, count: usize) -> Result<(), AllocError>
-    ensures { OnOk result (steps.new.items ≡ steps.old.items ++ map Step.Rec (range_with_len 0 count)) }
+    ensures { OnOk result
+        (steps.new.items ≡ steps.old.items ++ map Step.Rec (range_with_len 0 count)) }
 {
     steps.extend((0..count).map(|number| Step::Rec(number)))
 }
@@ -54,7 +56,8 @@ pub fn default_steps(
     num_recs: usize,
 ) -> Result<Vec<Step>, NoMemory>
     ensures exact { IfOk result (λ v. v.items ≡ default_steps num_regions items.now num_recs) }
-    ensures complete { IfOk result (λ v. steps_complete num_regions (length items.now) num_recs v.items ≡ true) }
+    ensures complete { IfOk result
+        (λ v. steps_complete num_regions (length items.now) num_recs v.items ≡ true) }
 {
     let mut steps = Vec::new(alloc);
     push_regions(&mut steps, num_regions)?;

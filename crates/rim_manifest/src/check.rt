@@ -21,7 +21,9 @@ pub fn check_table(
     table: &Table,
     found: &mut Findings,
 ) -> Result<(), NoMemory>
-    ensures { OnOk result (kept found.new ≡ with_faults (kept found.old) (table_faults (map rule_of rules.now) (table_view table.now))) }
+    ensures { OnOk result (kept found.new
+        ≡ with_faults (kept found.old)
+        (table_faults (map rule_of rules.now) (table_view table.now))) }
 {
     let other_keys = Finding {
         place,
@@ -38,7 +40,9 @@ fn check_rules(
     table: &Table,
     found: &mut Findings,
 ) -> Result<(), NoMemory>
-    ensures { OnOk result (kept found.new ≡ with_faults (kept found.old) (flat_map (λ r. rule_faults (rule_of r) (table_view table.now)) rules.now)) }
+    ensures { OnOk result (kept found.new
+        ≡ with_faults (kept found.old)
+        (flat_map (λ r. rule_faults (rule_of r) (table_view table.now)) rules.now)) }
 {
     for rule in rules {
         check_rule(rule, place, table, found)?;
@@ -53,7 +57,9 @@ pub fn check_tables(
     tables: &[Value],
     found: &mut Findings,
 ) -> Result<(), NoMemory>
-    ensures { OnOk result (kept found.new ≡ with_faults (kept found.old) (flat_map (λ v. ruled_faults (map rule_of rules.now) (view v)) tables.now)) }
+    ensures { OnOk result (kept found.new
+        ≡ with_faults (kept found.old)
+        (flat_map (λ v. ruled_faults (map rule_of rules.now) (view v)) tables.now)) }
 {
     for (number, table) in tables.iter().enumerate() {
         check_ruled(rules, array.at(number), table, found)?;
@@ -67,7 +73,9 @@ pub fn check_ruled(
     table: &Value,
     found: &mut Findings,
 ) -> Result<(), NoMemory>
-    ensures { OnOk result (kept found.new ≡ with_faults (kept found.old) (ruled_faults (map rule_of rules.now) (view table.now))) }
+    ensures { OnOk result (kept found.new
+        ≡ with_faults (kept found.old)
+        (ruled_faults (map rule_of rules.now) (view table.now))) }
 {
     match table {
         Value::Table(table) => check_table(rules, place, table, found),
@@ -82,7 +90,9 @@ fn check_rule(
     table: &Table,
     found: &mut Findings,
 ) -> Result<(), NoMemory>
-    ensures { OnOk result (kept found.new ≡ with_faults (kept found.old) (rule_faults (rule_of rule.now) (table_view table.now))) }
+    ensures { OnOk result (kept found.new
+        ≡ with_faults (kept found.old)
+        (rule_faults (rule_of rule.now) (table_view table.now))) }
 {
     let (key, form, presence) = *rule;
     match cell(table, key) {
@@ -102,7 +112,9 @@ fn check_value(
     value: &Value,
     found: &mut Findings,
 ) -> Result<(), NoMemory>
-    ensures { OnOk result (kept found.new ≡ with_faults (kept found.old) (if has_kind form (view value.now) then value_faults form (view value.now) else ManifestFault.WrongKind ∷ [])) }
+    ensures { OnOk result (kept found.new
+        ≡ with_faults (kept found.old) (if has_kind form (view value.now) then value_faults form
+        (view value.now) else ManifestFault.WrongKind ∷ [])) }
 {
     if !has_kind(form, value) {
         return note(found, at_key(key, form, place, ManifestFault::WrongKind));

@@ -64,7 +64,8 @@ impl Document {
 
     /// The table at a place, if it is there.
     pub fn table(&self, place: Place) -> Option<&Table>
-        ensures { option_map (λ t. table_view t.now) result ≡ table_at (table_view self.now.table) place }
+        ensures { option_map (λ t. table_view t.now) result
+            ≡ table_at (table_view self.now.table) place }
     {
         let launches = entries(&self.table, "launch");
         match place {
@@ -79,7 +80,8 @@ impl Document {
 
 /// The table of this number.
 fn table_at(tables: &[Value], number: usize) -> Option<&Table>
-    ensures { option_map (λ t. table_view t.now) result ≡ table_of (slice_get (map view tables.now) number) }
+    ensures { option_map (λ t. table_view t.now) result
+        ≡ table_of (slice_get (map view tables.now) number) }
 {
     as_table(tables.get(number)?)
 }
@@ -96,7 +98,8 @@ fn as_table(value: &Value) -> Option<&Table>
 
 /// The faults of the tables, each by itself.
 fn all_faults(alloc: Global, table: &Table) -> Result<Vec<Finding>, NoMemory>
-    ensures { IfOk result (λ found. faults_in found.items ≡ manifest_faults (table_view table.now)) }
+    ensures { IfOk result
+        (λ found. faults_in found.items ≡ manifest_faults (table_view table.now)) }
 {
     let mut found = Findings::All(Vec::new(alloc));
     find_faults(table, &mut found)?;

@@ -92,7 +92,8 @@ pub fn note(found: &mut Findings, finding: Finding) -> Result<(), NoMemory>
 
 /// Adds a fault where it holds.
 pub fn note_if(found: &mut Findings, holds: bool, finding: Finding) -> Result<(), NoMemory>
-    ensures { OnOk result (kept found.new ≡ with_faults (kept found.old) (fault_if holds finding.fault)) }
+    ensures { OnOk result
+        (kept found.new ≡ with_faults (kept found.old) (fault_if holds finding.fault)) }
 {
     if holds {
         note(found, finding)?;

@@ -225,7 +225,9 @@ fn is_range_pair(value: &Value) -> bool
 }
 
 fn is_range(base: Option<&Value>, end: Option<&Value>) -> bool
-    ensures { result ≡ is_range (option_map (λ v. view v.now) base.entry) (option_map (λ v. view v.now) end.entry) }
+    ensures { result
+        ≡ is_range (option_map (λ v. view v.now) base.entry)
+        (option_map (λ v. view v.now) end.entry) }
 {
     match (base, end) {
         (Some(Value::Integer(base)), Some(Value::Integer(end))) => 0 <= *base && *base < *end,

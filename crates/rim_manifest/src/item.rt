@@ -16,7 +16,8 @@ const MOST_NUMBER: u64 = 0x7fff_ffff_ffff_ffff;
 
 /// Reads each item from its table, where the files are these.
 pub fn read_items(alloc: Global, files: &[Value], tables: &[Value]) -> Result<Vec<Item>, AllocError>
-    ensures { IfOk result (λ v. v.items ≡ map (λ t. item_of (map view files.now) (view t)) tables.now) }
+    ensures { IfOk result
+        (λ v. v.items ≡ map (λ t. item_of (map view files.now) (view t)) tables.now) }
 {
     let mut items = Vec::with_capacity(alloc, tables.len())?;
     for table in tables {

@@ -55,7 +55,8 @@ pub fn read_launch(
     number: usize,
     table: &Value,
 ) -> Result<NamedLaunch, ManifestFault>
-    ensures { Answers ManifestFault.NoMemory (λ l. l) result (made (launch_of (map view files.now) number (view table.now))) }
+    ensures { Answers ManifestFault.NoMemory (λ l. l) result
+        (made (launch_of (map view files.now) number (view table.now))) }
 {
     let name = String::from_str(alloc, text(table, "name"))?;
     let config = read_config(table);

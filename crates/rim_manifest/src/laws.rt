@@ -17,5 +17,7 @@ pub fn the_lowest_fault_is_answered()
 /// default is read only where the key is not given, never in the place of a value of another kind or out of its
 /// range.
 pub fn what_is_given_is_read()
-    ensures { (ms : Members) (r : ReleaseData) → read_of ms ≡ Ok r → EachGives GivesPath (files_at ms) r.paths × EachGives (IsGiven (files_at ms)) (launches_at ms) r.launches }
+    ensures { (ms : Members) (r : ReleaseData) → read_of ms ≡ Ok r
+        → EachGives GivesPath (files_at ms) r.paths
+        × EachGives (IsGiven (files_at ms)) (launches_at ms) r.launches }
 {}

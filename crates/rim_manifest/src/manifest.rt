@@ -42,9 +42,11 @@ pub struct Release {
 impl Model for Release {
     ghost Value = { ReleaseData };
 
-    ghost view = { λ r. record { paths = map string_bytes r.paths.items; launches = r.launches.items } };
+    ghost view = { λ r. record
+        { paths = map string_bytes r.paths.items; launches = r.launches.items } };
 
-    ghost invariant = { λ r. AreNumbered (record { paths = map string_bytes r.paths.items; launches = r.launches.items }) };
+    ghost invariant = { λ r. AreNumbered
+        (record { paths = map string_bytes r.paths.items; launches = r.launches.items }) };
 }
 
 impl Release {
@@ -122,7 +124,8 @@ fn lowest_fault(table: &Table) -> Result<Option<ManifestFault>, NoMemory>
 /// Adds the faults of the tables, each by itself.
 #[tactic(auto, unfolding(crate::specs::Manifest::manifest_faults))]
 pub fn find_faults(table: &Table, found: &mut Findings) -> Result<(), NoMemory>
-    ensures { OnOk result (kept found.new ≡ with_faults (kept found.old) (manifest_faults (table_view table.now))) }
+    ensures { OnOk result
+        (kept found.new ≡ with_faults (kept found.old) (manifest_faults (table_view table.now))) }
 {
     let version = Finding {
         place: Place::Top,
@@ -155,7 +158,8 @@ pub fn entries<'a>(table: &'a Table, key: &str) -> &'a [Value]
 }
 
 fn check_launches(launches: &[Value], found: &mut Findings) -> Result<(), NoMemory>
-    ensures { OnOk result (kept found.new ≡ with_faults (kept found.old) (flat_map (λ v. launch_faults (view v)) launches.now)) }
+    ensures { OnOk result (kept found.new
+        ≡ with_faults (kept found.old) (flat_map (λ v. launch_faults (view v)) launches.now)) }
 {
     for (number, launch) in launches.iter().enumerate() {
         check_launch(number, launch, found)?;
@@ -167,7 +171,8 @@ fn check_launches(launches: &[Value], found: &mut Findings) -> Result<(), NoMemo
 /// asks for.
 #[tactic(auto, unfolding(crate::specs::Manifest::launch_faults))]
 fn check_launch(number: usize, launch: &Value, found: &mut Findings) -> Result<(), NoMemory>
-    ensures { OnOk result (kept found.new ≡ with_faults (kept found.old) (launch_faults (view launch.now))) }
+    ensures { OnOk result
+        (kept found.new ≡ with_faults (kept found.old) (launch_faults (view launch.now))) }
 {
     let Value::Table(table) = launch else {
         return Ok(());
@@ -186,7 +191,8 @@ fn check_launch(number: usize, launch: &Value, found: &mut Findings) -> Result<(
 }
 
 fn check_items(launch: usize, items: &[Value], found: &mut Findings) -> Result<(), NoMemory>
-    ensures { OnOk result (kept found.new ≡ with_faults (kept found.old) (flat_map (λ v. item_faults (view v)) items.now)) }
+    ensures { OnOk result (kept found.new
+        ≡ with_faults (kept found.old) (flat_map (λ v. item_faults (view v)) items.now)) }
 {
     for (number, item) in items.iter().enumerate() {
         let place = Place::Item {
@@ -200,7 +206,8 @@ fn check_items(launch: usize, items: &[Value], found: &mut Findings) -> Result<(
 
 /// Adds the faults of an item's table, which has the keys of its kind.
 fn check_item(place: Place, item: &Value, found: &mut Findings) -> Result<(), NoMemory>
-    ensures { OnOk result (kept found.new ≡ with_faults (kept found.old) (item_faults (view item.now))) }
+    ensures { OnOk result
+        (kept found.new ≡ with_faults (kept found.old) (item_faults (view item.now))) }
 {
     match role(item) {
         Role::Dtb => check_ruled(&DTB_RULES, place, item, found),
@@ -212,7 +219,8 @@ fn check_item(place: Place, item: &Value, found: &mut Findings) -> Result<(), No
 /// in the items of each, which are at most 1,024 and 64 by now, and in the files, which are at most 64.
 pub fn read_release(alloc: Global, table: &Table) -> Result<Release, ManifestFault>
     requires { lowest (manifest_faults (table_view table.now)) ≡ None }
-    ensures { Answers ManifestFault.NoMemory (λ release. release) result (named_of (table_view table.now)) }
+    ensures { Answers ManifestFault.NoMemory (λ release. release) result
+        (named_of (table_view table.now)) }
 {
     let files = entries(table, "file");
     let launches = entries(table, "launch");
@@ -232,7 +240,9 @@ pub fn read_release(alloc: Global, table: &Table) -> Result<Release, ManifestFau
 
 /// Whether two files, two launches or two items of a launch share a name, or two items a kind other than raw.
 fn has_two_names(files: &[Value], launches: &[Value]) -> bool
-    ensures { result ≡ (share_names (map view files.now) || share_names (map view launches.now) || list_any (λ l. repeats (view l)) launches.now) }
+    ensures { result
+        ≡ (share_names (map view files.now) || share_names (map view launches.now)
+        || list_any (λ l. repeats (view l)) launches.now) }
 {
     share_names(files) || share_names(launches) || any_repeats(launches)
 }
@@ -262,7 +272,8 @@ fn read_launches(
     files: &[Value],
     tables: &[Value],
 ) -> Result<Vec<NamedLaunch>, ManifestFault>
-    ensures { Answers ManifestFault.NoMemory (λ ls. ls.items) result (all_made (launches_from (map view files.now) 0 (map view tables.now))) }
+    ensures { Answers ManifestFault.NoMemory (λ ls. ls.items) result
+        (all_made (launches_from (map view files.now) 0 (map view tables.now))) }
 {
     let mut launches = Vec::with_capacity(alloc, tables.len())?;
     for (number, table) in tables.iter().enumerate() {

@@ -26,7 +26,9 @@ pub fn read_steps(
     things: &[Item],
     recs: &[Rec],
 ) -> Result<Vec<Step>, NoMemory>
-    ensures { IfOk result (λ v. v.items ≡ steps_in (length ram.now) (array_at (codes "item") (view launch.now)) things.now (length recs.now) (get (codes "steps") (view launch.now))) }
+    ensures { IfOk result (λ v. v.items
+        ≡ steps_in (length ram.now) (array_at (codes "item") (view launch.now)) things.now
+        (length recs.now) (get (codes "steps") (view launch.now))) }
 {
     match field(launch, "steps") {
         Some(texts) => Ok(spelled_steps(alloc, array(launch, "item"), items(texts))?),
@@ -35,7 +37,8 @@ pub fn read_steps(
 }
 
 fn spelled_steps(alloc: Global, tables: &[Value], texts: &[Value]) -> Result<Vec<Step>, AllocError>
-    ensures { IfOk result (λ v. v.items ≡ map (λ t. step_in (map view tables.now) (view t)) texts.now) }
+    ensures { IfOk result
+        (λ v. v.items ≡ map (λ t. step_in (map view tables.now) (view t)) texts.now) }
 {
     texts.iter().map(|text| step(tables, text)).collect(alloc)
 }

@@ -28,7 +28,8 @@ pub fn audit(
 ) -> Result<Measurement, AuditFault>
     requires files { vec_len files.now ≡ length release.now.paths }
     requires launch { i < length release.now.launches }
-    ensures { IfSome (slice_get release.now.launches i) (λ l. Answers AuditFault.NoMemory (λ m. m.bytes) result (rim_for l.launch (contents files.now.items))) }
+    ensures { IfSome (slice_get release.now.launches i) (λ l. Answers AuditFault.NoMemory
+        (λ m. m.bytes) result (rim_for l.launch (contents files.now.items))) }
 {
     audit_launch(alloc, release.all_launches()[i].launch(), files)
 }
@@ -37,7 +38,8 @@ pub fn audit(
 /// `NAME refused KIND`.
 pub fn audit_report(alloc: Global, release: &Release, files: &Files) -> Result<Vec<u8>, NoMemory>
     requires { vec_len files.now ≡ length release.now.paths }
-    ensures { IfOk result (λ text. text.items ≡ audit_text_of (contents files.now.items) release.now.launches) }
+    ensures { IfOk result
+        (λ text. text.items ≡ audit_text_of (contents files.now.items) release.now.launches) }
 {
     let report = audit_launches(alloc, release, files)?;
     Ok(report.text)
@@ -46,8 +48,10 @@ pub fn audit_report(alloc: Global, release: &Release, files: &Files) -> Result<V
 /// The same audit, and whether some launch in it is refused.
 pub fn audit_launches(alloc: Global, release: &Release, files: &Files) -> Result<Report, NoMemory>
     requires { vec_len files.now ≡ length release.now.paths }
-    ensures text { IfOk result (λ r. r.text.items ≡ audit_text_of (contents files.now.items) release.now.launches) }
-    ensures refused { IfOk result (λ r. r.has_refused ≡ has_refused (contents files.now.items) release.now.launches) }
+    ensures text { IfOk result
+        (λ r. r.text.items ≡ audit_text_of (contents files.now.items) release.now.launches) }
+    ensures refused { IfOk result
+        (λ r. r.has_refused ≡ has_refused (contents files.now.items) release.now.launches) }
 {
     let outcomes = outcomes(alloc, release, files)?;
     let mut text = Vec::new(alloc);
@@ -73,7 +77,8 @@ fn outcomes(
     files: &[Vec<u8>],
 ) -> Result<Vec<Result<Measurement, AuditFault>>, NoMemory>
     requires { length files.now ≡ length release.now.paths }
-    ensures { IfOk result (λ found. map seen found.items ≡ map (λ l. rim_for l.launch (contents files.now)) release.now.launches) }
+    ensures { IfOk result (λ found. map seen found.items
+        ≡ map (λ l. rim_for l.launch (contents files.now)) release.now.launches) }
 {
     let mut found = Vec::with_capacity(alloc, release.launches())?;
     for launch in release.all_launches() {
@@ -105,7 +110,8 @@ fn audit_launch(
     files: &[Vec<u8>],
 ) -> Result<Measurement, AuditFault>
     requires { has_files launch.now (length files.now) ≡ true }
-    ensures { Answers AuditFault.NoMemory (λ m. m.bytes) result (rim_for launch.now (contents files.now)) }
+    ensures { Answers AuditFault.NoMemory (λ m. m.bytes) result
+        (rim_for launch.now (contents files.now)) }
 {
     let (placed, plan) = lay_out(alloc, launch, files)?;
     let commands = LaunchCommands {
@@ -120,7 +126,8 @@ fn audit_launch(
 
 /// The measurement that a monitor holds after these commands.
 fn followed(alloc: Global, commands: &LaunchCommands) -> Result<Measurement, NoMemory>
-    ensures { IfOk result (λ m. m.bytes ≡ rim_after commands.now.launch.now (commands_in commands.now)) }
+    ensures { IfOk result
+        (λ m. m.bytes ≡ rim_after commands.now.launch.now (commands_in commands.now)) }
 {
     let mut monitor = commands.monitor(alloc);
     for index in 0..commands.len() {

@@ -22,7 +22,8 @@ pub fn chains(
     plans: &[LaunchPlan],
 ) -> Result<Vec<Measurement>, NoMemory>
     requires { All (λ v. has_all table.now (keys_of v.links) ≡ true) plans.now }
-    ensures { IfOk result (λ rims. map (λ m. m.bytes) rims.items ≡ map (value_in table.now) plans.now) }
+    ensures { IfOk result
+        (λ rims. map (λ m. m.bytes) rims.items ≡ map (value_in table.now) plans.now) }
 {
     let mut row = DigestRow::reserve(alloc, most_pages(plans))?;
     let mut prefixes = SharedPrefixes::new(alloc, plans)?;
@@ -97,7 +98,10 @@ fn shared_prefix_of(
     first: Option<Prefix>,
     prefixes: &SharedPrefixes,
 ) -> Option<Prefix>
-    ensures { (t : TableView) (p : PlanView) → AreShared t plans.now prefixes.now → slice_get plans.now number ≡ Some p → IfSome first (IsOwnPrefix t plans.now number) → IfSome result (λ f. IsValueOfPrefix t p f.links f.value) }
+    ensures { (t : TableView) (p : PlanView) → AreShared t plans.now prefixes.now
+        → slice_get plans.now number ≡ Some p
+        → IfSome first (IsOwnPrefix t plans.now number)
+        → IfSome result (λ f. IsValueOfPrefix t p f.links f.value) }
 {
     match first {
         Some(prefix) => Some(prefix),

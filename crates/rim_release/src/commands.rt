@@ -38,7 +38,9 @@ pub fn lay_out(
     files: &[Vec<u8>],
 ) -> Result<(Placed, Plan), AuditFault>
     requires { has_files launch.now (length files.now) ≡ true }
-    ensures commands { Answers AuditFault.NoMemory (λ found. commands_of (page_contents launch.now (contents files.now) found.0) found.1) result (commands_for launch.now (contents files.now)) }
+    ensures commands { Answers AuditFault.NoMemory
+        (λ found. commands_of (page_contents launch.now (contents files.now) found.0) found.1)
+        result (commands_for launch.now (contents files.now)) }
     ensures placed { IfOk result (λ found. IsPlaced launch.now (contents files.now) found.0) }
     ensures listed { IfOk result (λ found. listed launch.now found.0 ≡ Ok found.1) }
 {
@@ -112,7 +114,9 @@ impl<'a> LaunchCommands<'a> {
     /// The measurement of a page of an item. No byte of the item is copied but those of its first and its last page.
     fn content_of(&self, item: usize, page: u64) -> Measurement
         requires { HasPage self.now.placed.now item page }
-        ensures { result ≡ page_contents self.now.launch.now (contents self.now.files.now) self.now.placed.now item page }
+        ensures { result
+            ≡ page_contents self.now.launch.now (contents self.now.files.now) self.now.placed.now
+            item page }
     {
         let item = self.placed.items()[item];
         let bytes = self.placed.bytes(self.files, item.source);

@@ -27,7 +27,9 @@ pub fn placed_devicetree(
 ) -> Result<Option<Vec<u8>>, AuditFault>
     requires files { vec_len files.now ≡ length release.now.paths }
     requires launch { i < length release.now.launches }
-    ensures { IfSome (slice_get release.now.launches i) (λ l. Answers AuditFault.NoMemory (option_map (λ bytes. bytes.items)) result (devicetree_of l.launch (contents files.now.items))) }
+    ensures { IfSome (slice_get release.now.launches i) (λ l. Answers AuditFault.NoMemory
+        (option_map (λ bytes. bytes.items)) result
+        (devicetree_of l.launch (contents files.now.items))) }
 {
     devicetree_of(alloc, release.all_launches()[i].launch(), files)
 }
@@ -40,7 +42,8 @@ fn devicetree_of(
     files: &[Vec<u8>],
 ) -> Result<Option<Vec<u8>>, AuditFault>
     requires { has_files launch.now (length files.now) ≡ true }
-    ensures { Answers AuditFault.NoMemory (option_map (λ bytes. bytes.items)) result (devicetree_of launch.now (contents files.now)) }
+    ensures { Answers AuditFault.NoMemory (option_map (λ bytes. bytes.items)) result
+        (devicetree_of launch.now (contents files.now)) }
 {
     let placed = accepted(alloc, launch, files)?;
     match devicetree_bytes(launch, files, &placed) {
@@ -53,7 +56,8 @@ fn devicetree_of(
 #[tactic(auto, unfolding(crate::specs::Accepted::accepted_of))]
 fn accepted(alloc: Global, launch: &Launch, files: &[Vec<u8>]) -> Result<Placed, AuditFault>
     requires { has_files launch.now (length files.now) ≡ true }
-    ensures { Answers AuditFault.NoMemory (λ p. p) result (accepted_of launch.now (contents files.now)) }
+    ensures { Answers AuditFault.NoMemory (λ p. p) result
+        (accepted_of launch.now (contents files.now)) }
 {
     let placed = place(alloc, launch, files)?;
     list(alloc, launch, &placed)?;
@@ -66,7 +70,8 @@ fn devicetree_bytes<'a>(
     files: &'a [Vec<u8>],
     placed: &'a Placed,
 ) -> Option<&'a [u8]>
-    ensures { option_map (λ bytes. bytes.now) result ≡ devicetree_in launch.now (contents files.entry.now) placed.entry.now }
+    ensures { option_map (λ bytes. bytes.now) result
+        ≡ devicetree_in launch.now (contents files.entry.now) placed.entry.now }
 {
     let number = number_of(launch)?;
     let item = placed.items().get(number)?;

@@ -21,7 +21,8 @@ pub fn json_report(
     outcomes: &[Result<Measurement, AuditFault>],
     count: u64,
 ) -> Result<Vec<u8>, NoMemory>
-    ensures { IfOk result (λ text. text.items ≡ json_with (launches_json launches.now (map seen outcomes.now)) count) }
+    ensures { IfOk result (λ text. text.items
+        ≡ json_with (launches_json launches.now (map seen outcomes.now)) count) }
 {
     let report = report_value(alloc, launches, outcomes, count)?;
     let mut text = report.to_string(alloc)?.into_bytes();
@@ -37,7 +38,8 @@ fn report_value(
     outcomes: &[Result<Measurement, AuditFault>],
     count: u64,
 ) -> Result<Value, AllocError>
-    ensures { IfOk result (λ v. view v ≡ report_data (launches_json launches.now (map seen outcomes.now)) count) }
+    ensures { IfOk result
+        (λ v. view v ≡ report_data (launches_json launches.now (map seen outcomes.now)) count) }
 {
     let values = launch_values(alloc, launches, outcomes)?;
     json!(in alloc; {"launches": values, "pages": count, "version": 1u64})
@@ -49,7 +51,8 @@ fn launch_values(
     launches: &[NamedLaunch],
     outcomes: &[Result<Measurement, AuditFault>],
 ) -> Result<Vec<Value>, AllocError>
-    ensures { IfOk result (λ values. map view values.items ≡ launches_json launches.now (map seen outcomes.now)) }
+    ensures { IfOk result
+        (λ values. map view values.items ≡ launches_json launches.now (map seen outcomes.now)) }
 {
     let mut values = Vec::with_capacity(alloc, launches.len())?;
     for (launch, outcome) in launches.iter().zip(outcomes.iter()) {

@@ -25,10 +25,17 @@ pub fn a_line_says_what_a_monitor_holds()
 /// legal list of events that leaves all jobs done, of the pages of a release and of plans that are read of its launches.
 /// Each launch needs all pages of its own plan, or more.
 pub fn values_make_the_lines()
-    ensures { (files : List (List ℕ)) (r : ReleaseData) (plans : List PlanView) (workers : ℕ) (needs : List (List ℕ)) (es : List Event) → let pages = release_pages files r.launches in
-        AreNumbered r → length files ≡ length r.paths → ArePlans files r.launches plans → length needs ≡ length plans → NeedsHold (makes_of pages plans) needs
-        → is_legal (opening workers (length pages) needs) es ≡ true → is_over (replay (opening workers (length pages) needs) es) ≡ true
-        → lines_by (values (makes_of pages plans) es) files 0 r.launches ≡ lines_of files r.launches }
+    ensures { (files : List (List ℕ)) (r : ReleaseData) (plans : List PlanView) (workers : ℕ)
+        (needs : List (List ℕ)) (es : List Event)
+        → let pages = release_pages files r.launches in AreNumbered r
+        → length files ≡ length r.paths
+        → ArePlans files r.launches plans
+        → length needs ≡ length plans
+        → NeedsHold (makes_of pages plans) needs
+        → is_legal (opening workers (length pages) needs) es ≡ true
+        → is_over (replay (opening workers (length pages) needs) es) ≡ true
+        → lines_by (values (makes_of pages plans) es) files 0 r.launches
+        ≡ lines_of files r.launches }
 {}
 
 /// The devicetree that is given out of a launch is the one that is measured: the step of the launch's devicetree adds just

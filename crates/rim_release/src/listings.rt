@@ -32,7 +32,8 @@ pub fn listing(
 ) -> Result<Vec<u8>, AuditFault>
     requires files { vec_len files.now ≡ length release.now.paths }
     requires launch { i < length release.now.launches }
-    ensures { IfSome (slice_get release.now.launches i) (λ l. Answers AuditFault.NoMemory (λ text. text.items) result (listing_of l.launch (contents files.now.items))) }
+    ensures { IfSome (slice_get release.now.launches i) (λ l. Answers AuditFault.NoMemory
+        (λ text. text.items) result (listing_of l.launch (contents files.now.items))) }
 {
     list_launch(alloc, release.all_launches()[i].launch(), files)
 }
@@ -46,8 +47,10 @@ pub fn listing_or_refusal(
 ) -> Result<Report, NoMemory>
     requires files { vec_len files.now ≡ length release.now.paths }
     requires launch { i < length release.now.launches }
-    ensures text { IfSome (slice_get release.now.launches i) (λ l. IfOk result (λ r. r.text.items ≡ shown_of (contents files.now.items) l)) }
-    ensures refused { IfSome (slice_get release.now.launches i) (λ l. IfOk result (λ r. r.has_refused ≡ is_err (listing_of l.launch (contents files.now.items)))) }
+    ensures text { IfSome (slice_get release.now.launches i)
+        (λ l. IfOk result (λ r. r.text.items ≡ shown_of (contents files.now.items) l)) }
+    ensures refused { IfSome (slice_get release.now.launches i) (λ l. IfOk result
+        (λ r. r.has_refused ≡ is_err (listing_of l.launch (contents files.now.items)))) }
 {
     list_or_refuse(alloc, &release.all_launches()[i], files)
 }
@@ -60,7 +63,8 @@ fn list_or_refuse(
 ) -> Result<Report, NoMemory>
     requires { has_files launch.now.launch (length files.now) ≡ true }
     ensures text { IfOk result (λ r. r.text.items ≡ shown_of (contents files.now) launch.now) }
-    ensures refused { IfOk result (λ r. r.has_refused ≡ is_err (listing_of launch.now.launch (contents files.now))) }
+    ensures refused { IfOk result
+        (λ r. r.has_refused ≡ is_err (listing_of launch.now.launch (contents files.now))) }
 {
     match list_launch(alloc, launch.launch(), files) {
         Ok(text) => Ok(Report {
@@ -90,7 +94,8 @@ fn refused_line(alloc: Global, launch: &NamedLaunch, fault: AuditFault) -> Resul
 #[tactic(auto, unfolding(crate::specs::Listing::listing_of))]
 fn list_launch(alloc: Global, launch: &Launch, files: &[Vec<u8>]) -> Result<Vec<u8>, AuditFault>
     requires { has_files launch.now (length files.now) ≡ true }
-    ensures { Answers AuditFault.NoMemory (λ text. text.items) result (listing_of launch.now (contents files.now)) }
+    ensures { Answers AuditFault.NoMemory (λ text. text.items) result
+        (listing_of launch.now (contents files.now)) }
 {
     let (placed, plan) = lay_out(alloc, launch, files)?;
     let commands = LaunchCommands {
@@ -105,7 +110,8 @@ fn list_launch(alloc: Global, launch: &Launch, files: &[Vec<u8>]) -> Result<Vec<
 
 /// The lines of a launch that is accepted.
 fn print(alloc: Global, commands: &LaunchCommands) -> Result<Vec<u8>, NoMemory>
-    ensures { IfOk result (λ text. text.items ≡ listing_with commands.now.launch.now (commands_in commands.now)) }
+    ensures { IfOk result
+        (λ text. text.items ≡ listing_with commands.now.launch.now (commands_in commands.now)) }
 {
     let config = commands.launch.config();
     let mut text = Vec::new(alloc);
@@ -131,8 +137,10 @@ fn push_commands(
     text: &mut Vec<u8>,
     commands: &LaunchCommands,
 ) -> Result<Measurement, NoMemory>
-    ensures text { OnOk result (text.new.items ≡ text.old.items ++ flat_map command_line (commands_in commands.now)) }
-    ensures rim { IfOk result (λ m. m.bytes ≡ rim_after commands.now.launch.now (commands_in commands.now)) }
+    ensures text { OnOk result
+        (text.new.items ≡ text.old.items ++ flat_map command_line (commands_in commands.now)) }
+    ensures rim { IfOk result
+        (λ m. m.bytes ≡ rim_after commands.now.launch.now (commands_in commands.now)) }
 {
     let mut monitor = commands.monitor(alloc);
     for index in 0..commands.len() {

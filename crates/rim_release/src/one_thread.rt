@@ -30,7 +30,8 @@ pub struct Report {
 /// for each launch in the manifest's order, or `NAME refused KIND`; and a line `pages N`.
 pub fn measure_alone(alloc: Global, release: &Release, files: &Files) -> Result<Vec<u8>, StartFault>
     requires { vec_len files.now ≡ length release.now.paths }
-    ensures { Answers StartFault.NoMemory (λ text. text.items) result (measured_of (contents files.now.items) release.now.launches) }
+    ensures { Answers StartFault.NoMemory (λ text. text.items) result
+        (measured_of (contents files.now.items) release.now.launches) }
 {
     let report = report_alone(alloc, release, files)?;
     Ok(report.text)
@@ -39,8 +40,10 @@ pub fn measure_alone(alloc: Global, release: &Release, files: &Files) -> Result<
 /// The same report, and whether some launch in it is refused.
 pub fn report_alone(alloc: Global, release: &Release, files: &Files) -> Result<Report, StartFault>
     requires { vec_len files.now ≡ length release.now.paths }
-    ensures text { Answers StartFault.NoMemory (λ r. r.text.items) result (measured_of (contents files.now.items) release.now.launches) }
-    ensures refused { IfOk result (λ r. r.has_refused ≡ has_refused (contents files.now.items) release.now.launches) }
+    ensures text { Answers StartFault.NoMemory (λ r. r.text.items) result
+        (measured_of (contents files.now.items) release.now.launches) }
+    ensures refused { IfOk result
+        (λ r. r.has_refused ≡ has_refused (contents files.now.items) release.now.launches) }
 {
     let launches = release.all_launches();
     let prepared = prepare(alloc, release, files)?;

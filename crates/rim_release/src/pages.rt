@@ -35,7 +35,8 @@ pub fn pages<'a>(
 ) -> Result<Vec<Page<'a>>, StartFault>
     requires files { length files.now ≡ length release.now.paths }
     requires places { places.now ≡ places_of (contents files.now) release.now.launches }
-    ensures { Answers StartFault.NoMemory (λ pages. map page_view pages.items) result (pages_of (contents files.entry.now) release.now.launches) }
+    ensures { Answers StartFault.NoMemory (λ pages. map page_view pages.items) result
+        (pages_of (contents files.entry.now) release.now.launches) }
 {
     let ends = ends(alloc, release.all_launches(), places)?;
     let ranges = distinct_ranges(alloc, ends)?;
@@ -78,7 +79,8 @@ fn push_launch(
 }
 
 fn push_steps(ends: &mut Vec<PageKey>, launch: &Launch, placed: &Placed) -> Result<(), AllocError>
-    ensures { OnOk result (ends.new.items ≡ ends.old.items ++ flat_map (step_ends launch.now placed.now) launch.now.steps) }
+    ensures { OnOk result (ends.new.items
+        ≡ ends.old.items ++ flat_map (step_ends launch.now placed.now) launch.now.steps) }
 {
     for step in launch.steps() {
         push_step(ends, launch, placed, *step)?;
@@ -93,7 +95,8 @@ fn push_step(
     placed: &Placed,
     step: Step,
 ) -> Result<(), AllocError>
-    ensures { OnOk result (ends.new.items ≡ ends.old.items ++ step_ends launch.now placed.now step) }
+    ensures { OnOk result
+        (ends.new.items ≡ ends.old.items ++ step_ends launch.now placed.now step) }
 {
     let Step::Item(number) = step else {
         return Ok(());
@@ -135,7 +138,8 @@ fn item_end(algo: Algo, item: &PlacedItem) -> PageKey
 
 /// How many pages some ranges have, unless these are too many.
 fn page_count(ranges: &[KeyRange]) -> Option<usize>
-    ensures { let count = sum_by (λ r. r.count) ranges.now in result ≡ (if nat_lt DISTINCT_LIMIT count then None else Some count) }
+    ensures { let count = sum_by (λ r. r.count) ranges.now in
+        result ≡ (if nat_lt DISTINCT_LIMIT count then None else Some count) }
 {
     let mut count = 0;
     for range in ranges {
@@ -156,7 +160,9 @@ fn pages_in<'a>(
     files: &'a [Vec<u8>],
 ) -> Result<Vec<Page<'a>>, NoMemory>
     requires { All IsUsable ranges.now }
-    ensures { IfOk result (λ pages. map page_view pages.items ≡ map (page_named (source_bytes (contents files.entry.now) places.entry.now)) (flat_map range_keys ranges.now)) }
+    ensures { IfOk result (λ pages. map page_view pages.items
+        ≡ map (page_named (source_bytes (contents files.entry.now) places.entry.now))
+        (flat_map range_keys ranges.now)) }
 {
     let mut pages = Vec::with_capacity(alloc, count)?;
     for range in ranges {
@@ -173,7 +179,9 @@ fn push_range<'a>(
     bytes: &'a [u8],
 ) -> Result<(), NoMemory>
     requires { IsUsable range.now }
-    ensures { OnOk result (map page_view pages.new.items ≡ map page_view pages.old.items ++ map (page_named (λ source. bytes.entry.now)) (range_keys range.now)) }
+    ensures { OnOk result (map page_view pages.new.items
+        ≡ map page_view pages.old.items
+        ++ map (page_named (λ source. bytes.entry.now)) (range_keys range.now)) }
 {
     if range.count == 0 {
         return Ok(());

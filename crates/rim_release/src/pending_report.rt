@@ -46,7 +46,9 @@ impl PendingReport {
         count: usize,
     ) -> Result<PendingReport, NoMemory>
         ensures outcomes { IfOk result (λ s. s.outcomes.items ≡ outcomes_of places.now others.now) }
-        ensures room { IfOk result (λ s. length (report_with (lines_with launches.now (outcomes_of places.now others.now)) count) ≤ vec_capacity s.text) }
+        ensures room { IfOk result (λ s. length (report_with
+            (lines_with launches.now (outcomes_of places.now others.now)) count)
+            ≤ vec_capacity s.text) }
     {
         let outcomes = outcomes(alloc, places, others)?;
         let room = report(alloc, launches, &outcomes, count)?.len();
@@ -56,8 +58,11 @@ impl PendingReport {
 
     /// The report with these measurements, and what came of each launch. It takes no memory.
     pub fn fill(self, launches: &[NamedLaunch], rims: &[Measurement], count: usize) -> Filled
-        requires { length (report_with (lines_with launches.now (with_rims self.outcomes.items rims.now)) count) ≤ vec_capacity self.text }
-        ensures text { result.text.items ≡ report_with (lines_with launches.now (with_rims self.outcomes.items rims.now)) count }
+        requires { length (report_with
+            (lines_with launches.now (with_rims self.outcomes.items rims.now)) count)
+            ≤ vec_capacity self.text }
+        ensures text { result.text.items
+            ≡ report_with (lines_with launches.now (with_rims self.outcomes.items rims.now)) count }
         ensures outcomes { result.outcomes.items ≡ with_rims self.outcomes.items rims.now }
     {
         let PendingReport {

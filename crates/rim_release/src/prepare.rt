@@ -27,7 +27,8 @@ pub struct Prepared {
 /// Lays out all launches of a release. No page is hashed.
 pub fn prepare(alloc: Global, release: &Release, files: &[Vec<u8>]) -> Result<Prepared, NoMemory>
     requires { length files.now ≡ length release.now.paths }
-    ensures { IfOk result (λ p. ArePrepared (contents files.now) release.now.launches p.places.items p.plans.items) }
+    ensures { IfOk result
+        (λ p. ArePrepared (contents files.now) release.now.launches p.places.items p.plans.items) }
 {
     let mut prepared = Prepared {
         places: Vec::new(alloc),
@@ -48,7 +49,8 @@ fn accept(
     files: &[Vec<u8>],
 ) -> Result<(Placed, LaunchPlan), AuditFault>
     requires { has_files launch.now (length files.now) ≡ true }
-    ensures placed { Answers AuditFault.NoMemory (λ found. found.0) result (accepted_of launch.now (contents files.now)) }
+    ensures placed { Answers AuditFault.NoMemory (λ found. found.0) result
+        (accepted_of launch.now (contents files.now)) }
     ensures plan { IfOk result (λ found. IsReadOf launch.now found.0 found.1) }
 {
     let placed = place(alloc, launch, files)?;
@@ -62,7 +64,8 @@ fn keep(
     prepared: &mut Prepared,
     found: Result<(Placed, LaunchPlan), AuditFault>,
 ) -> Result<(), NoMemory>
-    ensures { OnOk result (IsKept found prepared.old.places.items prepared.old.plans.items prepared.new.places.items prepared.new.plans.items) }
+    ensures { OnOk result (IsKept found prepared.old.places.items prepared.old.plans.items
+        prepared.new.places.items prepared.new.plans.items) }
 {
     match found {
         Ok((placed, plan)) => {

@@ -17,7 +17,8 @@ pub fn report(
     outcomes: &[Result<Measurement, AuditFault>],
     count: usize,
 ) -> Result<Vec<u8>, NoMemory>
-    ensures { IfOk result (λ text. text.items ≡ report_with (lines_with launches.now outcomes.now) count) }
+    ensures { IfOk result
+        (λ text. text.items ≡ report_with (lines_with launches.now outcomes.now) count) }
 {
     let mut text = Vec::new(alloc);
     push_report(&mut text, launches, outcomes, count)?;
@@ -31,9 +32,11 @@ pub fn push_report(
     outcomes: &[Result<Measurement, AuditFault>],
     count: usize,
 ) -> Result<(), NoMemory>
-    ensures text { OnOk result (text.new.items ≡ text.old.items ++ report_with (lines_with launches.now outcomes.now) count) }
+    ensures text { OnOk result (text.new.items
+        ≡ text.old.items ++ report_with (lines_with launches.now outcomes.now) count) }
     ensures keeps { vec_capacity text.old ≤ vec_capacity text.new }
-    ensures full { OnErr result (HasNoRoom text.old (report_with (lines_with launches.now outcomes.now) count)) }
+    ensures full { OnErr result
+        (HasNoRoom text.old (report_with (lines_with launches.now outcomes.now) count)) }
 {
     text.extend_from_slice(b"rim-report 1\n")?;
     push_lines(text, launches, outcomes)?;
@@ -49,7 +52,8 @@ pub fn push_lines(
     launches: &[NamedLaunch],
     outcomes: &[Result<Measurement, AuditFault>],
 ) -> Result<(), NoMemory>
-    ensures text { OnOk result (text.new.items ≡ text.old.items ++ lines_with launches.now outcomes.now) }
+    ensures text { OnOk result
+        (text.new.items ≡ text.old.items ++ lines_with launches.now outcomes.now) }
     ensures keeps { vec_capacity text.old ≤ vec_capacity text.new }
     ensures full { OnErr result (HasNoRoom text.old (lines_with launches.now outcomes.now)) }
 {
@@ -66,7 +70,8 @@ pub fn push_line(
     launch: &NamedLaunch,
     outcome: &Result<Measurement, AuditFault>,
 ) -> Result<(), NoMemory>
-    ensures text { OnOk result (text.new.items ≡ text.old.items ++ line_with_outcome launch.now outcome.now) }
+    ensures text { OnOk result
+        (text.new.items ≡ text.old.items ++ line_with_outcome launch.now outcome.now) }
     ensures keeps { vec_capacity text.old ≤ vec_capacity text.new }
     ensures full { OnErr result (HasNoRoom text.old (line_with_outcome launch.now outcome.now)) }
 {
@@ -82,7 +87,8 @@ fn push_outcome(
     algo: Algo,
     outcome: &Result<Measurement, AuditFault>,
 ) -> Result<(), NoMemory>
-    ensures text { OnOk result (text.new.items ≡ text.old.items ++ outcome_text algo (seen outcome.now)) }
+    ensures text { OnOk result
+        (text.new.items ≡ text.old.items ++ outcome_text algo (seen outcome.now)) }
     ensures keeps { vec_capacity text.old ≤ vec_capacity text.new }
     ensures full { OnErr result (HasNoRoom text.old (outcome_text algo (seen outcome.now))) }
 {

@@ -68,12 +68,17 @@ pub fn measure_release<G: Gate + Sync, R: Threads + Wait + Sync>(
     workers: usize,
 ) -> Result<Outcome, StartFault>
     requires { vec_len files.now ≡ length release.now.paths }
-    ensures report { Answers StartFault.NoMemory (λ o. o.report.items) result (started_of workers (contents files.now.items) release.now.launches) }
-    ensures launches { IfOk result (λ o. map seen o.launches.items ≡ outcomes_for (contents files.now.items) release.now.launches) }
+    ensures report { Answers StartFault.NoMemory (λ o. o.report.items) result
+        (started_of workers (contents files.now.items) release.now.launches) }
+    ensures launches { IfOk result (λ o. map seen o.launches.items
+        ≡ outcomes_for (contents files.now.items) release.now.launches) }
     ensures workers { is_crew workers ≡ false → result ≡ Err StartFault.Workers }
-    ensures refused { IfOk result (λ o. o.has_refused ≡ has_refused (contents files.now.items) release.now.launches) }
-    ensures pages { IfOk result (λ o. o.pages ≡ length (page_keys (contents files.now.items) release.now.launches)) }
-    ensures shares { IfOk result (λ o. (vec_len o.shares ≡ workers) × (sum o.shares.items ≡ o.pages)) }
+    ensures refused { IfOk result
+        (λ o. o.has_refused ≡ has_refused (contents files.now.items) release.now.launches) }
+    ensures pages { IfOk result
+        (λ o. o.pages ≡ length (page_keys (contents files.now.items) release.now.launches)) }
+    ensures shares { IfOk result
+        (λ o. (vec_len o.shares ≡ workers) × (sum o.shares.items ≡ o.pages)) }
     ensures started { IfOk result (λ o. (1 ≤ o.started) × (o.started ≤ workers)) }
     ensures unstarted { OnErr result (gate.new ≡ gate.old) }
 {
@@ -123,10 +128,12 @@ fn run<'a, L: Run + Send + Sync, G: Gate + Sync, R: Threads + Wait + Sync>(
     requires pages { map page_view pages.now ≡ L.pages }
     requires plans { plans.now ≡ L.plans }
     requires rising { IsRising (page_keys_of (map page_view pages.now)) }
-    requires keys { All (λ p. All (Contains (page_keys_of (map page_view pages.now))) (keys_of p.links)) plans.now }
+    requires keys { All
+        (λ p. All (Contains (page_keys_of (map page_view pages.now))) (keys_of p.links)) plans.now }
     requires rims { length rims.old.items ≡ length plans.now }
     ensures rims { OnOk result (AreValuesOf (map page_view pages.now) plans.now rims.new.items) }
-    ensures shares { IfOk result (λ c. (vec_len c.shares ≡ workers) × (sum c.shares.items ≡ length pages.now)) }
+    ensures shares { IfOk result
+        (λ c. (vec_len c.shares ≡ workers) × (sum c.shares.items ≡ length pages.now)) }
     ensures started { IfOk result (λ c. (1 ≤ c.started) × (c.started ≤ workers)) }
     ensures unstarted { OnErr result (gate.new ≡ gate.old) }
 {

@@ -9,7 +9,8 @@ use crate::typed::typed;
 /// The spaces of a line part exactly its words, and no byte of it is a newline: a reader can part the lines of
 /// a listing by newlines, and their words by spaces.
 pub fn spaces_part_the_words()
-    ensures words { (command : Command) → slice_split (λ b. b == 32) (line_of command) ≡ words_of command }
+    ensures words { (command : Command)
+        → slice_split (λ b. b == 32) (line_of command) ≡ words_of command }
     ensures newline { (command : Command) → All (λ b. b ≢ 10) (line_of command) }
 {}
 

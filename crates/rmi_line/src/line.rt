@@ -106,7 +106,8 @@ fn data_create(
 
 /// Adds the measurement of a page's bytes, or that they are not measured.
 fn push_content(line: &mut Vec<u8>, content: Option<Measurement>) -> Result<(), NoMemory>
-    ensures { OnOk result (line.new.items ≡ line.old.items ++ flat_map spaced (content_words content)) }
+    ensures { OnOk result
+        (line.new.items ≡ line.old.items ++ flat_map spaced (content_words content)) }
 {
     match content {
         Some(measurement) => {

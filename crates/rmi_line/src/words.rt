@@ -28,7 +28,8 @@ pub fn push_address(line: &mut Vec<u8>, address: u64) -> Result<(), NoMemory>
 
 /// Adds addresses, in their order.
 pub fn push_addresses(line: &mut Vec<u8>, addresses: &[u64]) -> Result<(), NoMemory>
-    ensures { OnOk result (line.new.items ≡ line.old.items ++ flat_map spaced (map digits_of addresses.now)) }
+    ensures { OnOk result
+        (line.new.items ≡ line.old.items ++ flat_map spaced (map digits_of addresses.now)) }
 {
     for address in addresses {
         push_address(line, *address)?;

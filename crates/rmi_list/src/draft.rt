@@ -76,7 +76,8 @@ impl<'a> Draft<'a> {
     /// Lists a table of a level, in the next granule.
     fn table(&mut self, base: u64, level: u8) -> Result<(), ListFault>
         ensures { let g = granule self.old.launch.now.config.pool_base self.old.taken in
-            Lists self.old self.new result (Whole (Delegate g) ∷ Whole (RttCreate g base level) ∷ []) }
+            Lists self.old self.new result
+            (Whole (Delegate g) ∷ Whole (RttCreate g base level) ∷ []) }
     {
         let rtt = self.delegate()?;
         self.push(Span::RttCreate {
@@ -91,7 +92,8 @@ impl<'a> Draft<'a> {
         requires few { first + count ≤ 2 ^ 32 }
         requires low { base + PAGE_SIZE * count ≤ 2 ^ 47 }
         ensures { let pool = self.old.launch.now.config.pool_base in
-            Lists self.old self.new result (entries_of_pages pool self.old.taken item.measured item.number first (granules count base)) }
+            Lists self.old self.new result (entries_of_pages pool self.old.taken item.measured
+            item.number first (granules count base)) }
     {
         if count == 0 {
             return Ok(());
@@ -120,7 +122,8 @@ impl<'a> Draft<'a> {
     fn act(&mut self, act: &Act, item: Option<ItemPages>, page: u64) -> Result<u64, ListFault>
         requires { HasRoom (item_of item) page act.now }
         ensures lists { let pool = self.old.launch.now.config.pool_base in
-            Lists self.old self.new result (entries_of_act pool self.old.taken (item_of item) page act.now) }
+            Lists self.old self.new result
+            (entries_of_act pool self.old.taken (item_of item) page act.now) }
         ensures next { IfOk result (λ next. next ≡ page + pages_in (item_of item) act.now) }
     {
         match (*act, item) {
@@ -144,7 +147,8 @@ impl<'a> Draft<'a> {
     pub fn acts(&mut self, acts: &[Act], item: Option<ItemPages>) -> Result<(), ListFault>
         requires { HaveRoom (item_of item) 0 acts.now }
         ensures { let pool = self.old.launch.now.config.pool_base in
-            Lists self.old self.new result (act_entries pool self.old.taken (item_of item) 0 acts.now) }
+            Lists self.old self.new result
+            (act_entries pool self.old.taken (item_of item) 0 acts.now) }
     {
         let mut page = 0;
         for act in acts {

@@ -12,12 +12,15 @@ ghost use Rattle.rmi_list.specs.Measured.{contents, measured};
 /// Measurement; and no granule is taken twice. It holds for whatever contents the pages have, as long as these are
 /// digests of the launch's algorithm.
 pub fn list_is_followed()
-    ensures { (l : LaunchData) (p : PlacedData) (contents : Contents) (entries : List Entry) → AreContents l.config.algo contents
+    ensures { (l : LaunchData) (p : PlacedData) (contents : Contents) (entries : List Entry)
+        → AreContents l.config.algo contents
         → listed l p ≡ Ok entries
-        → IsFollowed l.config.algo l.config.num_aux (commands_of contents entries) (measured l p contents) }
+        → IsFollowed l.config.algo l.config.num_aux (commands_of contents entries)
+        (measured l p contents) }
 {}
 
 /// The contents of a placed launch, which are digests of its pages, are such contents.
 pub fn contents_of_a_launch()
-    ensures { (l : LaunchData) (files : List (List ℕ)) (p : PlacedData) → AreContents l.config.algo (contents l files p) }
+    ensures { (l : LaunchData) (files : List (List ℕ)) (p : PlacedData)
+        → AreContents l.config.algo (contents l files p) }
 {}

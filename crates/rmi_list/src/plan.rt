@@ -98,7 +98,9 @@ fn open<'a>(alloc: Global, launch: &'a Launch, placed: &'a Placed) -> Result<Dra
     ensures progress { IfOk result (λ d. progress_of d ≡ opening launch.now.config) }
     ensures pool { IfOk result InPool }
     ensures spans { IfOk result AreSpans }
-    ensures fault { IfErr result (λ e. (e ≡ ListFault.NoMemory) ⊎ ((e ≡ ListFault.PoolEnd) × (launch.now.config.pool_count < delegated (opening_entries launch.now.config)))) }
+    ensures fault { IfErr result (λ e. (e ≡ ListFault.NoMemory)
+        ⊎ ((e ≡ ListFault.PoolEnd)
+        × (launch.now.config.pool_count < delegated (opening_entries launch.now.config)))) }
 {
     let config = launch.config();
     let mut draft = Draft {
@@ -153,7 +155,8 @@ impl Plan {
     /// A command of the list. Where it creates a measured page, the page's content is this measurement; others do not use it.
     pub fn command(&self, index: usize, content: &Measurement) -> Command
         requires { index < length self.now }
-        ensures { option_map (command_of (λ item page. content.now)) (slice_get self.now index) ≡ Some result }
+        ensures { option_map (command_of (λ item page. content.now)) (slice_get self.now index)
+            ≡ Some result }
     {
         let at = span_at(&self.starts, index);
         command_in(
@@ -181,7 +184,8 @@ fn command_in(
     requires few { length recs.now ≤ REC_LIMIT }
     requires span { IsSpan span.now }
     requires within { offset < commands_in span.now }
-    ensures { IsCommandAt content.now (entries_of_span params num_aux recs.now span.now) offset result }
+    ensures { IsCommandAt content.now (entries_of_span params num_aux recs.now span.now) offset
+        result }
 {
     let pool = params.rtt_base;
     match *span {
@@ -294,7 +298,8 @@ fn page_command(
     requires few { offset < 2 ^ 33 }
     requires ipa { ipa ≤ 2 ^ 47 }
     ensures { (item page count : ℕ) → offset < 2 * count
-        → IsCommandAt content.now (entries_of_pages pool granule measured item page (granules count ipa)) offset result }
+        → IsCommandAt content.now
+        (entries_of_pages pool granule measured item page (granules count ipa)) offset result }
 {
     let page = (offset / 2) as u64;
     let granule = granule_at(pool, granule as u64 + page);

@@ -15,7 +15,8 @@ impl<'a> Draft<'a> {
     /// Lists that a region becomes RAM.
     fn region(&mut self, region: &Region) -> Result<(), ListFault>
         requires { InPool self.old }
-        ensures { Continues self.old self.new result (list_region self.old.launch.now.config (progress_of self.old) region.now) }
+        ensures { Continues self.old self.new result
+            (list_region self.old.launch.now.config (progress_of self.old) region.now) }
     {
         let acts = self.tables.ripas_runs(region.base, region.end)?;
         self.acts(&acts, None)
@@ -27,7 +28,8 @@ impl<'a> Draft<'a> {
         requires number { number < 64 }
         requires few { item.now.pages ≤ PAGE_LIMIT }
         requires lead { item.now.lead ≤ item.now.address }
-        ensures { Continues self.old self.new result (list_item self.old.launch.now.config (progress_of self.old) number item.now) }
+        ensures { Continues self.old self.new result
+            (list_item self.old.launch.now.config (progress_of self.old) number item.now) }
     {
         if item.pages == 0 {
             return Ok(());
@@ -47,7 +49,8 @@ impl<'a> Draft<'a> {
         requires pool { InPool self.old }
         requires number { number < REC_LIMIT }
         requires own { slice_get self.old.placed.now.recs number ≡ Some rec.now }
-        ensures { Continues self.old self.new result (list_rec self.old.launch.now.config (progress_of self.old) number rec.now) }
+        ensures { Continues self.old self.new result
+            (list_rec self.old.launch.now.config (progress_of self.old) number rec.now) }
     {
         if number != self.num_recs {
             return Err(ListFault::RecOrder);
@@ -70,7 +73,8 @@ impl<'a> Draft<'a> {
         requires pool { InPool self.old }
         requires items { AreListable self.old.placed.now.items }
         requires recs { length self.old.placed.now.recs ≤ REC_LIMIT }
-        ensures { Continues self.old self.new result (list_step self.old.launch.now self.old.placed.now (progress_of self.old) step.now) }
+        ensures { Continues self.old self.new result
+            (list_step self.old.launch.now self.old.placed.now (progress_of self.old) step.now) }
     {
         let (launch, placed) = (self.launch, self.placed);
         match step {

@@ -68,14 +68,16 @@ pub fn extended_by_data(
     ipa: u64,
     content: Option<Measurement>,
 ) -> Measurement
-    ensures { result.bytes ≡ extended algo rim.bytes (Data ipa (option_map (λ m. m.bytes) content)) }
+    ensures { result.bytes
+        ≡ extended algo rim.bytes (Data ipa (option_map (λ m. m.bytes) content)) }
 {
     extend(algo, &data_descriptor(&rim, ipa, content.as_ref()))
 }
 
 /// A measurement extended by a REC.
 pub fn extended_by_rec(algo: Algo, rim: Measurement, params: &RecParams) -> Measurement
-    ensures { result.bytes ≡ extended algo rim.bytes (Rec (measurement_of algo (rec_page_of params.now))) }
+    ensures { result.bytes
+        ≡ extended algo rim.bytes (Rec (measurement_of algo (rec_page_of params.now))) }
 {
     extend(algo, &rec_descriptor(&rim, &hash(algo, &rec_page(params))))
 }

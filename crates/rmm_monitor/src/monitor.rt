@@ -88,7 +88,8 @@ impl Monitor {
     }
 
     fn delegate(&mut self, granule: u64) -> Result<(), Refused>
-        ensures { Applies Refused.NoMemory self.old self.new result (step self.old (Delegate granule)) }
+        ensures { Applies Refused.NoMemory self.old self.new result
+            (step self.old (Delegate granule)) }
     {
         if granule % GRANULE_SIZE != 0 {
             return Err(Refused::Unaligned);
@@ -101,7 +102,8 @@ impl Monitor {
     }
 
     fn rtt_create(&mut self, rtt: u64, ipa: u64, level: u8) -> Result<(), Refused>
-        ensures { Applies Refused.NoMemory self.old self.new result (step self.old (RttCreate rtt ipa level)) }
+        ensures { Applies Refused.NoMemory self.old self.new result
+            (step self.old (RttCreate rtt ipa level)) }
     {
         if self.phase == Phase::Empty {
             return Err(Refused::State);
@@ -127,7 +129,8 @@ impl Monitor {
     }
 
     fn realm_create(&mut self, rd: u64, params: &RealmParams) -> Result<(), Refused>
-        ensures exact { Applies Refused.NoMemory self.old self.new result (step self.old (RealmCreate rd params.now)) }
+        ensures exact { Applies Refused.NoMemory self.old self.new result
+            (step self.old (RealmCreate rd params.now)) }
         ensures growth { result ≡ Err Refused.NoMemory → ⊥ }
     {
         if self.phase != Phase::Empty {
@@ -158,7 +161,8 @@ impl Monitor {
     }
 
     fn init_ripas(&mut self, base: u64, top: u64) -> Result<(), Refused>
-        ensures { Applies Refused.NoMemory self.old self.new result (step self.old (InitRipas base top)) }
+        ensures { Applies Refused.NoMemory self.old self.new result
+            (step self.old (InitRipas base top)) }
     {
         if self.phase != Phase::New {
             return Err(Refused::State);
@@ -193,7 +197,8 @@ impl Monitor {
         ipa: u64,
         content: Option<Measurement>,
     ) -> Result<(), Refused>
-        ensures { Applies Refused.NoMemory self.old self.new result (step self.old (DataCreate granule ipa content)) }
+        ensures { Applies Refused.NoMemory self.old self.new result
+            (step self.old (DataCreate granule ipa content)) }
     {
         if self.phase != Phase::New {
             return Err(Refused::State);
@@ -227,7 +232,8 @@ impl Monitor {
     }
 
     fn rec_create(&mut self, rec: u64, params: &RecParams) -> Result<(), Refused>
-        ensures exact { Applies Refused.NoMemory self.old self.new result (step self.old (RecCreate rec params.now)) }
+        ensures exact { Applies Refused.NoMemory self.old self.new result
+            (step self.old (RecCreate rec params.now)) }
         ensures growth { result ≡ Err Refused.NoMemory → ⊥ }
     {
         if self.phase != Phase::New {
@@ -274,7 +280,8 @@ impl Monitor {
     /// Delegate, RttCreate and DataCreate take the logarithm of the number of granules, tables, ranges and
     /// pages; InitRipas besides a hash for each entry, RealmCreate and DataCreate one, RecCreate two.
     pub fn apply(&mut self, command: &Command) -> Result<(), Refused>
-        ensures exact { Applies Refused.NoMemory self.old self.new result (step self.old command.now) }
+        ensures exact { Applies Refused.NoMemory self.old self.new result
+            (step self.old command.now) }
         ensures growth { result ≡ Err Refused.NoMemory → adds_something command.now ≡ true }
     {
         match command {
@@ -297,7 +304,9 @@ impl Monitor {
 #[tactic(auto, using(crate::proofs::Gifts::owned_from_delegated))]
 fn cannot_hold_realm(owners: &Owners, rd: u64, tables: &[u64]) -> bool
     ensures owned { OnFalse result (all_owned owners.now tables.now ≡ true) }
-    ensures value { result ≡ (not (is_delegated owners.now rd) || not (all_delegated owners.now tables.now) || has tables.now rd) }
+    ensures value { result
+        ≡ (not (is_delegated owners.now rd) || not (all_delegated owners.now tables.now)
+        || has tables.now rd) }
 {
     !owners.is_delegated(rd) || !owners.all_delegated(tables) || has(tables, rd)
 }
@@ -306,7 +315,8 @@ fn cannot_hold_realm(owners: &Owners, rd: u64, tables: &[u64]) -> bool
 #[tactic(auto, using(crate::proofs::Gifts::owned_from_delegated))]
 fn cannot_hold_rec(owners: &Owners, rec: u64, aux: &[u64]) -> bool
     ensures owned { OnFalse result (all_owned owners.now aux.now ≡ true) }
-    ensures value { result ≡ (not (all_delegated owners.now (rec ∷ aux.now)) || repeats (rec ∷ aux.now)) }
+    ensures value { result
+        ≡ (not (all_delegated owners.now (rec ∷ aux.now)) || repeats (rec ∷ aux.now)) }
 {
     !owners.is_delegated(rec) || !owners.all_delegated(aux) || has(aux, rec) || repeats(aux)
 }

@@ -21,7 +21,8 @@ pub fn is_bad_realm(params: &RealmParams) -> bool
     ensures width { OnFalse result (is_width params.now.s2sz ≡ true) }
     ensures start { OnFalse result (params.now.rtt_level_start ≤ 2) }
     ensures few { OnFalse result (params.now.rtt_num_start ≤ 16) }
-    ensures fits { OnFalse result (params.now.rtt_base + params.now.rtt_num_start * PAGE_SIZE ≤ 2 ^ 64) }
+    ensures fits { OnFalse result
+        (params.now.rtt_base + params.now.rtt_num_start * PAGE_SIZE ≤ 2 ^ 64) }
 {
     let is_unlike = has_other_flags(params.flags) || !is_width(params.s2sz);
     if is_unlike || params.rtt_level_start != start_level(params.s2sz) {

@@ -16,7 +16,8 @@ pub fn run_from(base: u64, end: u64, least_level: u8, x: u64) -> Run
     requires low { least_level ≤ 3 }
     requires at { AtEntry base end least_level x }
     requires some { x < end }
-    ensures runs { runs_from base end least_level x ≡ result ∷ runs_from base end least_level result.top }
+    ensures runs { runs_from base end least_level x
+        ≡ result ∷ runs_from base end least_level result.top }
     ensures next { AtEntry base end least_level result.top }
     ensures base { result.base ≡ x }
     ensures grows { x < result.top }

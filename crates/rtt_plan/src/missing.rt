@@ -20,9 +20,11 @@ pub fn push_missing(
 ) -> Result<(), NoMemory>
     requires low { start ≤ level }
     requires deep { level ≤ 3 }
-    ensures tables { OnOk result (SameTables tables.new.keys (tables.old.keys ++ missing start tables.old.keys level x)) }
+    ensures tables { OnOk result
+        (SameTables tables.new.keys (tables.old.keys ++ missing start tables.old.keys level x)) }
     ensures undone { undone acts.new.items tables.new.keys ≡ undone acts.old.items tables.old.keys }
-    ensures acts { OnOk result (acts.new.items ≡ acts.old.items ++ map table_act (missing start tables.old.keys level x)) }
+    ensures acts { OnOk result
+        (acts.new.items ≡ acts.old.items ++ map table_act (missing start tables.old.keys level x)) }
 {
     for above in start..level {
         let table = Table {

@@ -31,8 +31,10 @@ pub fn push_region(
     requires low { start ≤ least_level }
     requires deep { least_level ≤ 3 }
     ensures undone { undone acts.new.items tables.new.keys ≡ undone acts.old.items tables.old.keys }
-    ensures acts { OnOk result (acts.new.items ≡ acts.old.items ++ run_acts start tables.old.keys (runs_of base end least_level)) }
-    ensures tables { OnOk result (SameTables tables.new.keys (run_tables start tables.old.keys (runs_of base end least_level))) }
+    ensures acts { OnOk result (acts.new.items
+        ≡ acts.old.items ++ run_acts start tables.old.keys (runs_of base end least_level)) }
+    ensures tables { OnOk result (SameTables tables.new.keys
+        (run_tables start tables.old.keys (runs_of base end least_level))) }
 {
     let mut x = base;
     while x < end {
@@ -61,8 +63,10 @@ pub fn push_data(
     requires small { base + PAGE_SIZE * count ≤ 2 ^ 47 }
     requires deep { start ≤ 3 }
     ensures undone { undone acts.new.items tables.new.keys ≡ undone acts.old.items tables.old.keys }
-    ensures acts { OnOk result (acts.new.items ≡ acts.old.items ++ page_acts start tables.old.keys (granules count base)) }
-    ensures tables { OnOk result (SameTables tables.new.keys (page_tables start tables.old.keys (granules count base))) }
+    ensures acts { OnOk result
+        (acts.new.items ≡ acts.old.items ++ page_acts start tables.old.keys (granules count base)) }
+    ensures tables { OnOk result
+        (SameTables tables.new.keys (page_tables start tables.old.keys (granules count base))) }
 {
     let mut page = base;
     let mut left = count;

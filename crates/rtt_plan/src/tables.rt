@@ -88,7 +88,8 @@ impl Tables {
     #[tactic(auto, unfolding(crate::specs::Planned::plan_region))]
     pub fn ripas_runs(&mut self, base: u64, end: u64) -> Result<Vec<Act>, PlanFault>
         requires { base < end }
-        ensures acts { Answers PlanFault.NoMemory (λ acts. acts.items) result (plan_region self.old base end) }
+        ensures acts { Answers PlanFault.NoMemory (λ acts. acts.items) result
+            (plan_region self.old base end) }
         ensures memory { result ≡ Err PlanFault.NoMemory → IsOk (plan_region self.old base end) }
         ensures after { OnOk result (AgreesWith self.new (after_region self.old base end)) }
         ensures kept { OnErr result (self.new ≡ self.old) }
@@ -125,7 +126,8 @@ impl Tables {
     #[tactic(auto, unfolding(crate::specs::Planned::plan_data))]
     pub fn data_pages(&mut self, base: u64, count: u64) -> Result<Vec<Act>, PlanFault>
         requires { 1 ≤ count }
-        ensures acts { Answers PlanFault.NoMemory (λ acts. acts.items) result (plan_data self.old base count) }
+        ensures acts { Answers PlanFault.NoMemory (λ acts. acts.items) result
+            (plan_data self.old base count) }
         ensures memory { result ≡ Err PlanFault.NoMemory → IsOk (plan_data self.old base count) }
         ensures after { OnOk result (AgreesWith self.new (after_data self.old base count)) }
         ensures low { OnOk result (base + PAGE_SIZE * count ≤ 2 ^ 47) }
@@ -172,8 +174,10 @@ fn add_region(
     requires small { end ≤ 2 ^ 47 }
     requires low { start ≤ least_level }
     requires deep { least_level ≤ 3 }
-    ensures acts { IfOk result (λ acts. acts.items ≡ run_acts start tables.old.keys (runs_of base end least_level)) }
-    ensures tables { OnOk result (SameTables tables.new.keys (run_tables start tables.old.keys (runs_of base end least_level))) }
+    ensures acts { IfOk result
+        (λ acts. acts.items ≡ run_acts start tables.old.keys (runs_of base end least_level)) }
+    ensures tables { OnOk result (SameTables tables.new.keys
+        (run_tables start tables.old.keys (runs_of base end least_level))) }
     ensures ram { OnOk result (ram.new.entries ≡ insert_entry nat_cmp ram.old.entries base end) }
     ensures tables_kept { OnErr result (tables.new.keys ≡ tables.old.keys) }
     ensures ram_kept { OnErr result (ram.new.entries ≡ ram.old.entries) }
@@ -201,9 +205,12 @@ fn add_data(
     requires whole { base % PAGE_SIZE ≡ 0 }
     requires small { base + PAGE_SIZE * count ≤ 2 ^ 47 }
     requires deep { start ≤ 3 }
-    ensures acts { IfOk result (λ acts. acts.items ≡ page_acts start tables.old.keys (granules count base)) }
-    ensures tables { OnOk result (SameTables tables.new.keys (page_tables start tables.old.keys (granules count base))) }
-    ensures assigned { OnOk result (assigned.new.entries ≡ with_pages assigned.old.entries base count) }
+    ensures acts { IfOk result
+        (λ acts. acts.items ≡ page_acts start tables.old.keys (granules count base)) }
+    ensures tables { OnOk result
+        (SameTables tables.new.keys (page_tables start tables.old.keys (granules count base))) }
+    ensures assigned { OnOk result
+        (assigned.new.entries ≡ with_pages assigned.old.entries base count) }
     ensures tables_kept { OnErr result (tables.new.keys ≡ tables.old.keys) }
     ensures assigned_kept { OnErr result (assigned.new.entries ≡ assigned.old.entries) }
 {

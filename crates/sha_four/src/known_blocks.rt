@@ -11,7 +11,8 @@ use std::simd::u32x4;
 
 /// Adds a known block to each hash value (FIPS 180-4, 6.2.2).
 pub(crate) fn compress_sums(state: &mut [u32x4; 8], sums: &[u32; 64])
-    ensures { (j : ℕ) (b : List ℕ) → j < 4 → AreSums sums.now b → lane j state.new ≡ compress (lane j state.old) b }
+    ensures { (j : ℕ) (b : List ℕ) → j < 4 → AreSums sums.now b
+        → lane j state.new ≡ compress (lane j state.old) b }
 {
     let mut v = *state;
     // After eight rounds each working variable is at its own place again.
@@ -35,7 +36,8 @@ pub(crate) fn compress_sums(state: &mut [u32x4; 8], sums: &[u32; 64])
 #[inline(always)]
 fn four_steps(sums: &[u32; 64], v: [u32x4; 8], t: usize) -> [u32x4; 8]
     requires { t + 4 ≤ 64 }
-    ensures { (j : ℕ) (b h : List ℕ) → j < 4 → AreSums sums.now b → lane j v ≡ rounds h (schedule b 48) t
+    ensures { (j : ℕ) (b h : List ℕ) → j < 4 → AreSums sums.now b
+        → lane j v ≡ rounds h (schedule b 48) t
         → lane j result ≡ rounds h (schedule b 48) (t + 4) }
 {
     let v = step(sums, v, t);
@@ -48,7 +50,8 @@ fn four_steps(sums: &[u32; 64], v: [u32x4; 8], t: usize) -> [u32x4; 8]
 #[inline(always)]
 fn step(sums: &[u32; 64], v: [u32x4; 8], t: usize) -> [u32x4; 8]
     requires { t < 64 }
-    ensures { (j : ℕ) (b h : List ℕ) → j < 4 → AreSums sums.now b → lane j v ≡ rounds h (schedule b 48) t
+    ensures { (j : ℕ) (b h : List ℕ) → j < 4 → AreSums sums.now b
+        → lane j v ≡ rounds h (schedule b 48) t
         → lane j result ≡ rounds h (schedule b 48) (t + 1) }
 {
     round(v, sums[t], u32x4::splat(0))

@@ -10,7 +10,8 @@ use std::simd::u32x4;
 /// The next word of the schedule, from the words 2, 7, 15 and 16 before it.
 #[inline(always)]
 pub(crate) fn next(w2: u32x4, w7: u32x4, w15: u32x4, w16: u32x4) -> u32x4
-    ensures { IsLanes result (λ j. add32 (add32 (add32 (small_sigma1 (slice_index w2 j)) (slice_index w7 j))
+    ensures { IsLanes result (λ j. add32 (add32
+        (add32 (small_sigma1 (slice_index w2 j)) (slice_index w7 j))
         (small_sigma0 (slice_index w15 j))) (slice_index w16 j)) }
 {
     small_sigma1(w2) + w7 + small_sigma0(w15) + w16
@@ -19,8 +20,10 @@ pub(crate) fn next(w2: u32x4, w7: u32x4, w15: u32x4, w16: u32x4) -> u32x4
 /// The first of the two temporary words of a round (6.2.2).
 #[inline(always)]
 pub(crate) fn temp1(e: u32x4, f: u32x4, g: u32x4, h: u32x4, k: u32, word: u32x4) -> u32x4
-    ensures { IsLanes result (λ j. add32 (add32 (add32 (add32 (slice_index h j) (big_sigma1 (slice_index e j)))
-        (ch (slice_index e j) (slice_index f j) (slice_index g j))) k) (slice_index word j)) }
+    ensures { IsLanes result (λ j. add32 (add32 (add32
+        (add32 (slice_index h j) (big_sigma1 (slice_index e j)))
+        (ch (slice_index e j) (slice_index f j) (slice_index g j))) k)
+        (slice_index word j)) }
 {
     h + big_sigma1(e) + ch(e, f, g) + u32x4::splat(k) + word
 }

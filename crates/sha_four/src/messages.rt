@@ -37,7 +37,9 @@ pub(crate) fn headed_hashes(h0: &[u8], h1: &[u8], h2: &[u8], h3: &[u8]) -> [u32x
     requires third { length h2.now ≡ 128 }
     requires fourth { length h3.now ≡ 128 }
     ensures { (j : ℕ) → j < 4
-        → lane j result ≡ final_hash initial_hash_256 (message h0.now h1.now h2.now h3.now j ++ replicate 128 0) }
+        → lane j result
+        ≡ final_hash initial_hash_256
+        (message h0.now h1.now h2.now h3.now j ++ replicate 128 0) }
 {
     let mut state = initial();
     compress_at(&mut state, h0, h1, h2, h3, 0);
@@ -56,7 +58,9 @@ fn compress_at(state: &mut [u32x4; 8], m0: &[u8], m1: &[u8], m2: &[u8], m3: &[u8
     requires third { at + 64 ≤ length m2.now }
     requires fourth { at + 64 ≤ length m3.now }
     ensures { (j : ℕ) → j < 4
-        → lane j state.new ≡ compress (lane j state.old) (take 64 (drop at (message m0.now m1.now m2.now m3.now j))) }
+        → lane j state.new
+        ≡ compress (lane j state.old)
+        (take 64 (drop at (message m0.now m1.now m2.now m3.now j))) }
 {
     let end = at + BLOCK_SIZE;
     compress(

@@ -92,7 +92,8 @@ fn is_memory(name: &[u8]) -> bool
 }
 
 fn memory_index(children: &[Node]) -> Option<usize>
-    ensures exact { result ≡ position_from (λ n. names_memory (out-Node n).name.items) 0 children.now }
+    ensures exact { result
+        ≡ position_from (λ n. names_memory (out-Node n).name.items) 0 children.now }
     ensures within { IfSome result (λ i. i < length children.now) }
 {
     children.iter().position(|child| is_memory(&child.name))

@@ -153,8 +153,8 @@ fn run(alloc: Global, strings: &Strings, block: &[u8]) -> Result<OpenNodes, FdtF
 
 /// The root that a structure block holds.
 pub fn root_in(alloc: Global, strings: &Strings, block: &[u8]) -> Result<Node, FdtFault>
-    ensures exact { Answers FdtFault.NoMemory (λ n. root_tokens (root_of strings.now.bytes.items n)) result
-        (structure_at strings.now.bytes.items block.now) }
+    ensures exact { Answers FdtFault.NoMemory (λ n. root_tokens (root_of strings.now.bytes.items n))
+        result (structure_at strings.now.bytes.items block.now) }
     ensures unnamed { IfOk result (λ n. (branch strings.now.bytes.items n).name ≡ []) }
 {
     let OpenNodes { outer: _, current } = run(alloc, strings, block)?;

@@ -44,7 +44,8 @@ impl NameTable {
     fn add(&mut self, alloc: Global, name: &[u8]) -> Result<u32, FdtFault>
         ensures offset { (source : List ℕ) (names : List (List ℕ)) → HasNames source self.old names
             → IfOk result (λ at. at ≡ length (strings_text names)) }
-        ensures after { (source : List ℕ) (names : List (List ℕ)) → HasNames source self.old names → place_in names name.now ≡ None
+        ensures after { (source : List ℕ) (names : List (List ℕ)) → HasNames source self.old names
+            → place_in names name.now ≡ None
             → OnOk result (HasNames source self.new (names ++ name.now ∷ [])) }
         ensures refused { (source : List ℕ) (names : List (List ℕ)) → HasNames source self.old names
             → IfErr result (λ e. TooMuch e (length (strings_text (names ++ name.now ∷ [])))) }
@@ -106,11 +107,15 @@ impl NameTable {
         len: usize,
     ) -> Result<u32, FdtFault>
         ensures offset { (names : List (List ℕ)) → HasNames source.now self.old names
-            → IfOk result (λ at. at ≡ offset_in (noted names (take len (drop start source.now))) (take len (drop start source.now))) }
+            → IfOk result (λ at. at
+            ≡ offset_in (noted names (take len (drop start source.now)))
+            (take len (drop start source.now))) }
         ensures after { (names : List (List ℕ)) → HasNames source.now self.old names
-            → OnOk result (HasNames source.now self.new (noted names (take len (drop start source.now)))) }
+            → OnOk result
+            (HasNames source.now self.new (noted names (take len (drop start source.now)))) }
         ensures refused { (names : List (List ℕ)) → HasNames source.now self.old names
-            → IfErr result (λ e. TooMuch e (length (strings_text (noted names (take len (drop start source.now)))))) }
+            → IfErr result (λ e. TooMuch e
+            (length (strings_text (noted names (take len (drop start source.now)))))) }
     {
         if let Some(offset) = self.offset_known(start, len) {
             return Ok(offset);
@@ -123,11 +128,15 @@ impl NameTable {
     /// The offset of a name, given the strings of its tree. The name is added if it is new.
     pub fn offset_of(&mut self, alloc: Global, source: &[u8], name: &Name) -> Result<u32, FdtFault>
         ensures offset { (names : List (List ℕ)) → HasNames source.now self.old names
-            → IfOk result (λ at. at ≡ offset_in (noted names (name_of source.now name.now)) (name_of source.now name.now)) }
+            → IfOk result (λ at. at
+            ≡ offset_in (noted names (name_of source.now name.now))
+            (name_of source.now name.now)) }
         ensures after { (names : List (List ℕ)) → HasNames source.now self.old names
-            → OnOk result (HasNames source.now self.new (noted names (name_of source.now name.now))) }
+            → OnOk result
+            (HasNames source.now self.new (noted names (name_of source.now name.now))) }
         ensures refused { (names : List (List ℕ)) → HasNames source.now self.old names
-            → IfErr result (λ e. TooMuch e (length (strings_text (noted names (name_of source.now name.now))))) }
+            → IfErr result (λ e. TooMuch e
+            (length (strings_text (noted names (name_of source.now name.now))))) }
     {
         match name {
             Name::Shared { start, len } => self.offset_of_range(alloc, source, *start, *len),

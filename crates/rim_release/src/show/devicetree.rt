@@ -46,7 +46,8 @@ fn push_boot(alloc: Global, text: &mut Vec<u8>, cpu: u32) -> Result<(), NoMemory
 }
 
 fn push_reservations(text: &mut Vec<u8>, reservations: &[Reservation]) -> Result<(), NoMemory>
-    ensures { OnOk result (text.new.items ≡ text.old.items ++ flat_map reservation_line reservations.now) }
+    ensures { OnOk result
+        (text.new.items ≡ text.old.items ++ flat_map reservation_line reservations.now) }
 {
     for reservation in reservations {
         push_reservation(text, reservation)?;
@@ -83,7 +84,9 @@ fn push_properties(
     strings: &[u8],
     properties: &[Property],
 ) -> Result<(), NoMemory>
-    ensures { OnOk result (text.new.items ≡ text.old.items ++ flat_map property_line (map (property_data strings.now) properties.now)) }
+    ensures { OnOk result (text.new.items
+        ≡ text.old.items
+        ++ flat_map property_line (map (property_data strings.now) properties.now)) }
 {
     for property in properties {
         push_property(alloc, text, strings, property)?;
@@ -98,7 +101,8 @@ fn push_property(
     strings: &[u8],
     property: &Property,
 ) -> Result<(), NoMemory>
-    ensures { OnOk result (text.new.items ≡ text.old.items ++ property_line (property_data strings.now property.now)) }
+    ensures { OnOk result (text.new.items
+        ≡ text.old.items ++ property_line (property_data strings.now property.now)) }
 {
     text.extend_from_slice(b"prop ")?;
     text.extend_from_slice(property.name.bytes(strings))?;
@@ -128,7 +132,8 @@ fn push_inner(
     strings: &[u8],
     node: &Node,
 ) -> Result<(), NoMemory>
-    ensures text { OnOk result (text.new.items ≡ text.old.items ++ inner_text path.old.items (branch strings.now node.now)) }
+    ensures text { OnOk result (text.new.items
+        ≡ text.old.items ++ inner_text path.old.items (branch strings.now node.now)) }
     ensures path { OnOk result (path.new.items ≡ path.old.items) }
 {
     push_properties(alloc, text, strings, &node.properties)?;
