@@ -141,6 +141,6 @@ pub record IsPlaced (l : LaunchData) (files : List (List ℕ)) (p : PlacedData) 
   pub placed : places l files ≡ Ok p
 
 -- the bytes that a placed launch has from a source: a file, or the devicetree that this launch edited
-abbrev pub contents_of : List (List ℕ) → PlacedData → Source → List ℕ
-contents_of files p (File n) = get_or files n []
-contents_of files p (Edited launch) = if launch == p.number then unwrap_or p.edited [] else []
+abbrev pub bytes_of_source : List (List ℕ) → PlacedData → Source → List ℕ
+bytes_of_source files p (File n) = get_or files n []
+bytes_of_source files p (Edited launch) = if launch == p.number then unwrap_or p.edited [] else []

@@ -1,3 +1,4 @@
+pub mod Files
 pub mod Rec
 pub mod Extent
 pub mod Memory

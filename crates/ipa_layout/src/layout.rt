@@ -7,7 +7,8 @@ ghost use Rattle.rim_launch.specs.LaunchData.{has_files};
 ghost use Rattle.rim_launch.specs.Kinds.{file_of, has_edits, has_role};
 ghost use Rattle.ipa_layout.specs.inside.DtbEditViews.{edit_data};
 ghost use Rattle.ipa_layout.specs.Layout.{address_of, bytes_of, checked_together, edited_dtb, edits_of, extents_of, file_bytes, initrd_span, item_at, items_at, placed_at, places, recs_at, source_of};
-ghost use Rattle.ipa_layout.specs.inside.LayoutViews.{contents, seen};
+ghost use Rattle.ipa_layout.specs.inside.LayoutViews.{seen};
+ghost use Rattle.ipa_layout.specs.Files.{bytes_of_files};
 
 use crate::dtb::Dtb;
 use crate::dtb_edit::{DtbEdits, Span, edited};
@@ -33,7 +34,7 @@ use std::alloc::{AllocError, Global};
 pub fn place(alloc: Global, launch: &Launch, files: &[Vec<u8>]) -> Result<Placed, LayoutFault>
     requires { has_files launch.now (length files.now) ≡ true }
     ensures { Answers LayoutFault.NoMemory (λ p. p) result
-        (places launch.now (contents files.now)) }
+        (places launch.now (bytes_of_files files.now)) }
 {
     let dtb = prepare_dtb(alloc, launch, files)?;
     let extents = extents_of(alloc, launch, files, &dtb)?;
@@ -62,7 +63,7 @@ fn gather(
 /// The bytes of an item's file.
 fn file_bytes<'a>(files: &'a [Vec<u8>], kind: &ItemKind) -> &'a [u8]
     requires { file_of kind.now < length files.now }
-    ensures { result.now ≡ file_bytes (contents files.now) kind.now }
+    ensures { result.now ≡ file_bytes (bytes_of_files files.now) kind.now }
 {
     &files[kind.file()]
 }
@@ -80,7 +81,7 @@ fn initrd_of(launch: &Launch) -> Option<&Item>
 /// The addresses of an initrd's bytes.
 fn initrd_span(files: &[Vec<u8>], item: &Item) -> Span
     requires { file_of item.now.kind < length files.now }
-    ensures { result ≡ initrd_span (contents files.now) item.now }
+    ensures { result ≡ initrd_span (bytes_of_files files.now) item.now }
 {
     let len = file_bytes(files, &item.kind).len() as u64;
     Span {
@@ -93,7 +94,7 @@ fn initrd_span(files: &[Vec<u8>], item: &Item) -> Span
 fn initrd_at(launch: &Launch, files: &[Vec<u8>]) -> Option<Span>
     requires { has_files launch.now (length files.now) ≡ true }
     ensures { result
-        ≡ option_map (initrd_span (contents files.now))
+        ≡ option_map (initrd_span (bytes_of_files files.now))
         (find (has_role Role.Initrd) launch.now.items) }
 {
     let item = initrd_of(launch)?;
@@ -103,7 +104,7 @@ fn initrd_at(launch: &Launch, files: &[Vec<u8>]) -> Option<Span>
 /// The edits that a launch makes of its devicetree.
 fn edits_of<'a>(launch: &Launch, files: &[Vec<u8>], kind: &'a ItemKind) -> DtbEdits<'a>
     requires { has_files launch.now (length files.now) ≡ true }
-    ensures { edit_data result ≡ edits_of launch.now (contents files.now) kind.now }
+    ensures { edit_data result ≡ edits_of launch.now (bytes_of_files files.now) kind.now }
 {
     let ItemKind::Dtb { edits, .. } = kind else {
         return DtbEdits {
@@ -137,7 +138,7 @@ fn item_to_edit(launch: &Launch) -> Option<&Item>
 /// What is placed of the launch's devicetree.
 fn prepare_dtb(alloc: Global, launch: &Launch, files: &[Vec<u8>]) -> Result<Dtb, NoMemory>
     requires { has_files launch.now (length files.now) ≡ true }
-    ensures exact { IfOk result (λ d. seen d ≡ edited_dtb launch.now (contents files.now)) }
+    ensures exact { IfOk result (λ d. seen d ≡ edited_dtb launch.now (bytes_of_files files.now)) }
     // Where no devicetree is edited no memory is taken.
     ensures as_file { find (λ i. has_edits i.kind) launch.now.items ≡ None
         → result ≡ Ok Dtb.AsFile }
@@ -152,7 +153,8 @@ fn prepare_dtb(alloc: Global, launch: &Launch, files: &[Vec<u8>]) -> Result<Dtb,
 /// The bytes that are placed: those of an item's file, or the edited devicetree.
 fn bytes_of<'a>(dtb: &'a Dtb, files: &'a [Vec<u8>], item: &Item) -> Result<&'a [u8], LayoutFault>
     requires { file_of item.now.kind < length files.now }
-    ensures { Matches (λ b. b.now) result (bytes_of (seen dtb.now) (contents files.now) item.now) }
+    ensures { Matches (λ b. b.now) result
+        (bytes_of (seen dtb.now) (bytes_of_files files.now) item.now) }
 {
     if !item.kind.has_edits() {
         return Ok(file_bytes(files, &item.kind));
@@ -173,7 +175,7 @@ fn extents_of(
 ) -> Result<Vec<Extent>, LayoutFault>
     requires { has_files launch.now (length files.now) ≡ true }
     ensures { Answers LayoutFault.NoMemory (λ v. v.items) result
-        (extents_of launch.now.ram (seen dtb.now) (contents files.now) 0 launch.now.items) }
+        (extents_of launch.now.ram (seen dtb.now) (bytes_of_files files.now) 0 launch.now.items) }
 {
     let mut extents = Vec::with_capacity(alloc, launch.items().len())?;
     let mut pages = 0;

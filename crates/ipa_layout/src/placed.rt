@@ -43,8 +43,8 @@ impl Model for Placed {
 
 impl Placed {
     ghost use Rattle.std.specs.Prelude.{◌≡◌, option_map};
-    ghost use Rattle.ipa_layout.specs.inside.LayoutViews.{contents};
-    ghost use Rattle.ipa_layout.specs.Layout.{contents_of};
+    ghost use Rattle.ipa_layout.specs.Files.{bytes_of_files};
+    ghost use Rattle.ipa_layout.specs.Layout.{bytes_of_source};
 
     /// These parts.
     pub(crate) fn new(
@@ -96,7 +96,7 @@ impl Placed {
     /// The bytes that come from a source: a file of the release, or the devicetree that this launch
     /// changed. A source of another launch has none here.
     pub fn bytes<'a>(&'a self, files: &'a [Vec<u8>], source: Source) -> &'a [u8]
-        ensures { result.now ≡ contents_of (contents files.now) self.now source }
+        ensures { result.now ≡ bytes_of_source (bytes_of_files files.now) self.now source }
     {
         match source {
             Source::File(number) => match files.get(number) {

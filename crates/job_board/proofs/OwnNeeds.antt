@@ -12,7 +12,7 @@ use Rattle.std.proofs.lemmas.Bool.Decides.{nat_tests}
 use Rattle.std.proofs.lemmas.Option.{get_or_from_slice_get, none-some, slice_get_within, same_Some}
 use Rattle.page_jobs.specs.Key.{IsRising}
 use Rattle.page_jobs.specs.Page.{PageView}
-use Rattle.page_jobs.specs.Table.{IsTable, TableView, keys_of as page_keys, slot_of}
+use Rattle.page_jobs.specs.Table.{IsTable, TableView, page_keys_of as page_keys, slot_of}
 use Rattle.page_jobs.specs.declared.page.PageKey.{PageKey}
 use Rattle.page_jobs.proofs.Keys.{slot-page}
 use Rattle.rim_chain.specs.Fitting.{BeginsItem}

@@ -15,7 +15,7 @@ use Rattle.rim_desc.specs.declared.source.Source.{Source}
 use Rattle.rim_desc.specs.declared.source.Source.TheVariants.{File, Edited}
 use Rattle.page_jobs.specs.Key.{IsRising, key_cmp, next_key}
 use Rattle.page_jobs.specs.Page.{PageView}
-use Rattle.page_jobs.specs.Table.{keys_of, slot_of}
+use Rattle.page_jobs.specs.Table.{page_keys_of, slot_of}
 use Rattle.page_jobs.specs.declared.page.PageKey.{PageKey}
 use Rattle.page_jobs.proofs.Keys.{slot-page}
 use Rattle.rim_chain.specs.Links.{key_after}
@@ -75,16 +75,16 @@ not_back k low =
 
 -- ---- slots
 
-key_of : (pages : List PageView) (j : ℕ) (p : PageView) (d : PageKey) → slice_get pages j ≡ Some p → get_or (keys_of pages) j d ≡ p.key
+key_of : (pages : List PageView) (j : ℕ) (p : PageView) (d : PageKey) → slice_get pages j ≡ Some p → get_or (page_keys_of pages) j d ≡ p.key
 key_of pages j p d at = get_or-map (λ (q : PageView). q.key) pages j p d (slice_get_within pages j p at) ∙ ap (λ (q : PageView). q.key) (get_or_from_slice_get pages j p p at)
 
-in_order : (pages : List PageView) → IsRising (keys_of pages) → (i j : ℕ) (p q : PageView) → slice_get pages i ≡ Some p → slice_get pages j ≡ Some q → i < j → key_cmp p.key q.key ≡ Less
+in_order : (pages : List PageView) → IsRising (page_keys_of pages) → (i j : ℕ) (p q : PageView) → slice_get pages i ≡ Some p → slice_get pages j ≡ Some q → i < j → key_cmp p.key q.key ≡ Less
 in_order pages rising i j p q pat qat lt =
-    let within : j < length (keys_of pages) = omega (arith, slice_get_within pages j q qat, length-map pages (λ (u : PageView). u.key)) in
+    let within : j < length (page_keys_of pages) = omega (arith, slice_get_within pages j q qat, length-map pages (λ (u : PageView). u.key)) in
     let less = rising i j p.key lt within in
-    ap (λ (k : PageKey). key_cmp k q.key) (sym (key_of pages i p p.key pat)) ∙ (ap (key_cmp (get_or (keys_of pages) i p.key)) (sym (key_of pages j q p.key qat)) ∙ less)
+    ap (λ (k : PageKey). key_cmp k q.key) (sym (key_of pages i p p.key pat)) ∙ (ap (key_cmp (get_or (page_keys_of pages) i p.key)) (sym (key_of pages j q p.key qat)) ∙ less)
 
-next_slot : (pages : List PageView) → IsRising (keys_of pages) → (j k : ℕ) (p q : PageView) → slice_get pages j ≡ Some p → slice_get pages k ≡ Some q → q.key ≡ next_key p.key → k ≡ j + 1
+next_slot : (pages : List PageView) → IsRising (page_keys_of pages) → (j k : ℕ) (p q : PageView) → slice_get pages j ≡ Some p → slice_get pages k ≡ Some q → q.key ≡ next_key p.key → k ≡ j + 1
 next_slot pages rising j k p q pat qat next = by (cases_lt j k)
   where
     by_far : (j + 1 < k) ⊎ (k ≤ j + 1) → j < k → k ≡ j + 1
@@ -123,7 +123,7 @@ pub record HasSlot (pages : List PageView) (key : PageKey) : Type 0 where
   pub own : page.key ≡ key
   pub is : slot_of pages key ≡ Some slot
 
-pub has_slot : (pages : List PageView) → IsRising (keys_of pages) → (key : PageKey) → Contains (keys_of pages) key → HasSlot pages key
+pub has_slot : (pages : List PageView) → IsRising (page_keys_of pages) → (key : PageKey) → Contains (page_keys_of pages) key → HasSlot pages key
 has_slot pages rising key has =
     let lt : has.0 < length pages = omega (arith, has.1, length-map pages (λ (p : PageView). p.key)) in
     let there = page_there pages has.0 lt in
@@ -131,7 +131,7 @@ has_slot pages rising key has =
     record { slot = has.0; page = there.0; at = there.1; own = own; is = subst (λ (k : PageKey). slot_of pages k ≡ Some has.0) own (slot-page pages rising has.0 there.0 there.1) }
 
 -- the pages of a link have the slots from that of its first page on
-pub slots_follow : (pages : List PageView) → IsRising (keys_of pages) → (key : PageKey) (j count : ℕ) → slot_of pages key ≡ Some j → ((n : ℕ) → n < count → Contains (keys_of pages) (key_after key n))
+pub slots_follow : (pages : List PageView) → IsRising (page_keys_of pages) → (key : PageKey) (j count : ℕ) → slot_of pages key ≡ Some j → ((n : ℕ) → n < count → Contains (page_keys_of pages) (key_after key n))
     → (n : ℕ) → n < count → slot_of pages (key_after key n) ≡ Some (j + n)
 slots_follow pages rising key j count first has zero lt =
     let same : key_after key 0 ≡ key = let e : key.number + 0 ≡ key.number = omega arith in ap (λ (n : ℕ). let k : PageKey = record key { number = n } in k) e in

@@ -1,7 +1,7 @@
 //! Whether a table has all pages of some plans, as a board asks of them.
 ghost use Rattle.std.specs.Prelude.{◌↔◌, IsTrue};
 ghost use Rattle.std.specs.List.{All, Contains};
-ghost use Rattle.page_jobs.specs.Table.{keys_of as page_keys};
+ghost use Rattle.page_jobs.specs.Table.{page_keys_of as page_keys};
 ghost use Rattle.rim_chain.specs.Links.{keys_of};
 
 use page_jobs::{PageKey, Table, slots_go_by_keys};

@@ -1,7 +1,7 @@
 //! What launches need: the pages of their own plans.
 ghost use Rattle.std.specs.Prelude.{◌≡◌, ◌++◌, length, IfOk, OnOk};
 ghost use Rattle.std.specs.List.{All, Contains};
-ghost use Rattle.page_jobs.specs.Table.{keys_of as page_keys};
+ghost use Rattle.page_jobs.specs.Table.{page_keys_of as page_keys};
 ghost use Rattle.rim_chain.specs.Fitting.{BeginsItem};
 ghost use Rattle.rim_chain.specs.Links.{keys_of};
 ghost use Rattle.job_board.specs.Board.{NeedsOwn};

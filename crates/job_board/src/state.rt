@@ -9,7 +9,7 @@ ghost use Rattle.job_board.specs.Gives.{Gives};
 ghost use Rattle.job_board.specs.Jobs.{IsOpen, NoneFree, held_count, is_out, is_over, is_ready, opening, state_of};
 ghost use Rattle.rim_desc.specs.declared.measurement.Algo.TheVariants as algo;
 ghost use Rattle.page_jobs.specs.Page.{page_view};
-ghost use Rattle.page_jobs.specs.Table.{keys_of as page_keys, with_digest};
+ghost use Rattle.page_jobs.specs.Table.{page_keys_of as page_keys, with_digest};
 ghost use Rattle.rim_chain.specs.Links.{keys_of};
 ghost use Rattle.rim_chain.specs.Rows.{IsRowOf, value_in};
 ghost use Rattle.job_board.specs.declared.machine.TheConstants.{WORKER_LIMIT};

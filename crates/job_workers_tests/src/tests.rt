@@ -7,7 +7,7 @@ ghost use Rattle.std.specs.Prelude.{◌≡◌, ◌≤◌, length, map, replicate
 ghost use Rattle.std.specs.List.{All, Contains};
 ghost use Rattle.page_jobs.specs.Key.{IsRising};
 ghost use Rattle.page_jobs.specs.Page.{page_view};
-ghost use Rattle.page_jobs.specs.Table.{keys_of};
+ghost use Rattle.page_jobs.specs.Table.{page_keys_of};
 ghost use Rattle.rim_chain.specs.Links.{keys_of as link_keys};
 
 use job_board::{BoardState, Run};
@@ -31,7 +31,7 @@ fn check(rt: &impl Abort, holds: bool, name: &str) {
 
 /// The pages of file 0 from the first on.
 fn pages_of(alloc: Global, bytes: &[u8], count: u16) -> Result<Vec<Page<'_>>, NoMemory>
-    ensures { IfOk result (λ pages. IsRising (keys_of (map page_view pages.items))) }
+    ensures { IfOk result (λ pages. IsRising (page_keys_of (map page_view pages.items))) }
 {
     let mut pages = Vec::new(alloc);
     for number in 0..count {
@@ -98,7 +98,7 @@ fn run_two<'a, L: Run + Send + Sync, G: Gate + Sync, R: Threads + Wait + Sync>(
     requires parts { (blank.parts ≡ L.parts) × (blank.parts ≡ 2) }
     requires pages { table.pages ≡ L.pages }
     requires plans { plans.now ≡ L.plans }
-    requires keys { All (λ p. All (Contains (keys_of table.pages)) (link_keys p.links)) plans.now }
+    requires keys { All (λ p. All (Contains (page_keys_of table.pages)) (link_keys p.links)) plans.now }
     requires empty { table.digests ≡ replicate (length table.pages) None }
 {
     run_by::<L, G, R>(rt, alloc, blank, 2, table, plans, gate)
@@ -119,7 +119,7 @@ fn run_by<'a, L: Run + Send + Sync, G: Gate + Sync, R: Threads + Wait + Sync>(
     requires workers { (1 ≤ workers) × (workers ≤ 64) }
     requires pages { table.pages ≡ L.pages }
     requires plans { plans.now ≡ L.plans }
-    requires keys { All (λ p. All (Contains (keys_of table.pages)) (link_keys p.links)) plans.now }
+    requires keys { All (λ p. All (Contains (page_keys_of table.pages)) (link_keys p.links)) plans.now }
     requires empty { table.digests ≡ replicate (length table.pages) None }
 {
     let mut counts = vec![in alloc; 0; workers]?;

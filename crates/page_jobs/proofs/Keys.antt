@@ -17,20 +17,20 @@ use Rattle.std.proofs.lemmas.List.Sorted.{searchable_from_sorted}
 use Rattle.rim_desc.specs.declared.source.Source.{Source}
 use Rattle.page_jobs.specs.Key.{IsRising, key_cmp}
 use Rattle.page_jobs.specs.Page.{IsPageOf, PageView, page_named}
-use Rattle.page_jobs.specs.Table.{keys_of, slot_of}
+use Rattle.page_jobs.specs.Table.{page_keys_of, slot_of}
 use Rattle.std.proofs.lemmas.List.{length-map}
 use Rattle.page_jobs.specs.declared.page.PageKey.{PageKey}
 use Rattle.page_jobs.proofs.Order.{key-equal, key_total}
 
-module _ {X : Type 0} (view : X → PageView) (xs : List X) (rising : IsRising (keys_of (map view xs))) where
+module _ {X : Type 0} (view : X → PageView) (xs : List X) (rising : IsRising (page_keys_of (map view xs))) where
   below : (i j : ℕ) (d : X) → i < j → j < length xs → key_cmp (view (get_or xs i d)).key (view (get_or xs j d)).key ≡ Less
   below i j d low high =
       let first : i < length xs = omega arith in
-      let size : length (keys_of (map view xs)) ≡ length xs = simp length-map in
-      let inside : j < length (keys_of (map view xs)) = omega arith in
+      let size : length (page_keys_of (map view xs)) ≡ length xs = simp length-map in
+      let inside : j < length (page_keys_of (map view xs)) = omega arith in
       rw (← key_at i d first, ← key_at j d high) (rising i j (view d).key low inside)
     where
-      key_at : (k : ℕ) (d : X) → k < length xs → get_or (keys_of (map view xs)) k (view d).key ≡ (view (get_or xs k d)).key
+      key_at : (k : ℕ) (d : X) → k < length xs → get_or (page_keys_of (map view xs)) k (view d).key ≡ (view (get_or xs k d)).key
       key_at k d low =
           let inside : k < length (map view xs) = simp length-map low in
           get_or-map (λ p. p.key) (map view xs) k (view d) (view d).key inside ∙ ap (λ p. p.key) (get_or-map view xs k d (view d) low)
@@ -88,7 +88,7 @@ module _ {X : Type 0} (view : X → PageView) (xs : List X) (rising : IsRising (
         ]))
 
 -- what a binary search answers is the slot of the key
-pub search-slot_of : {X : Type 0} (view : X → PageView) (xs : List X) → IsRising (keys_of (map view xs)) → (key : PageKey) (r : Result ℕ ℕ)
+pub search-slot_of : {X : Type 0} (view : X → PageView) (xs : List X) → IsRising (page_keys_of (map view xs)) → (key : PageKey) (r : Result ℕ ℕ)
     → IsSearchInRange r (length xs) → IsBinarySearchResult (λ y. key_cmp (view y).key key) xs r → result_ok r ≡ slot_of (map view xs) key
 search-slot_of view [] rising key (Ok i) low found = absurd (omega arith)
 search-slot_of view [] rising key (Err i) low found = refl
@@ -107,18 +107,18 @@ map-same [] = refl
 map-same (p ∷ pages) = ap (λ (rest : List PageView). p ∷ rest) (map-same pages)
 
 -- and each page is in the slot of its key
-pub slot-page : (pages : List PageView) → IsRising (keys_of pages) → (j : ℕ) (p : PageView) → slice_get pages j ≡ Some p → slot_of pages p.key ≡ Some j
+pub slot-page : (pages : List PageView) → IsRising (page_keys_of pages) → (j : ℕ) (p : PageView) → slice_get pages j ≡ Some p → slot_of pages p.key ≡ Some j
 slot-page pages rising j p at =
     let same : key_cmp p.key p.key ≡ Equal = tied_itself key_total p.key in
     let here : get_or pages j p ≡ p = get_or_from_slice_get pages j p p at in
-    let all : IsRising (keys_of (map (λ q. q) pages)) = rw (map-same pages) rising in
+    let all : IsRising (page_keys_of (map (λ q. q) pages)) = rw (map-same pages) rising in
     rw (map-same pages) at (found (λ q. q) pages all p.key j p (slice_get_within pages j p at) (rw here same))
 
 -- pages of items go by their keys
 pub same-page : (items : Source → List ℕ) (p q : PageView) → IsPageOf items p → IsPageOf items q → p.key ≡ q.key → p ≡ q
 same-page items p q first second one = first ∙ ap (page_named items) one ∙ sym second
 
-pub pages-named : (items : Source → List ℕ) (pages : List PageView) → All (IsPageOf items) pages → pages ≡ map (page_named items) (keys_of pages)
+pub pages-named : (items : Source → List ℕ) (pages : List PageView) → All (IsPageOf items) pages → pages ≡ map (page_named items) (page_keys_of pages)
 pages-named items [] all = refl
 pages-named items (p ∷ pages) all =
     ap (λ (q : PageView). q ∷ pages) (all 0 p (omega arith))

@@ -14,7 +14,7 @@ use Rattle.rim_desc.specs.Measurement.{algo_value}
 use Rattle.rim_desc.proofs.Sources.{source_total}
 use Rattle.page_jobs.specs.Key.{IsRising, key_cmp, next_key}
 use Rattle.page_jobs.specs.Page.{PageView}
-use Rattle.page_jobs.specs.Table.{keys_of, slot_of}
+use Rattle.page_jobs.specs.Table.{page_keys_of, slot_of}
 use Rattle.page_jobs.specs.declared.page.PageKey.{PageKey}
 use Rattle.page_jobs.proofs.Keys.{slot-key, slot-page}
 use Rattle.page_jobs.proofs.Order.{key_total}
@@ -81,12 +81,12 @@ next-place keys rising key i j first second here last = elim (ways i j) [
 page_with : PageKey → PageView
 page_with key = record { key = key; bytes = [] }
 
-key-page : (pages : List PageView) (key : PageKey) (i : ℕ) → i < length pages → get_or (keys_of pages) i key ≡ (get_or pages i (page_with key)).key
+key-page : (pages : List PageView) (key : PageKey) (i : ℕ) → i < length pages → get_or (page_keys_of pages) i key ≡ (get_or pages i (page_with key)).key
 unfolding page_with
 key-page pages key i low = get_or-map (λ p. p.key) pages i (page_with key) key low
 
 -- a key has its place among the keys for its slot
-slot-there : (pages : List PageView) (key : PageKey) → IsRising (keys_of pages) → (there : Contains (keys_of pages) key) → slot_of pages key ≡ Some there.0
+slot-there : (pages : List PageView) (key : PageKey) → IsRising (page_keys_of pages) → (there : Contains (page_keys_of pages) key) → slot_of pages key ≡ Some there.0
 slot-there pages key rising there =
     let low : there.0 < length pages = omega (arith, there.1, length-map pages (λ (p : PageView). p.key)) in
     let page = get_or pages there.0 (page_with key) in
@@ -97,24 +97,24 @@ slot-within : (pages : List PageView) (key : PageKey) (j : ℕ) → slot_of page
 slot-within pages key j at = (position-Some (λ p. is_eq (key_cmp p.key key)) pages j (page_with key) at).0
 
 -- and the key in its slot is itself
-key-slot : (pages : List PageView) (key other : PageKey) (j : ℕ) → slot_of pages key ≡ Some j → get_or (keys_of pages) j other ≡ key
+key-slot : (pages : List PageView) (key other : PageKey) (j : ℕ) → slot_of pages key ≡ Some j → get_or (page_keys_of pages) j other ≡ key
 key-slot pages key other j at =
     let low = slot-within pages key j at in
     key-page pages other j low ∙ slot-key pages key j (get_or pages j (page_with other)) at (slice_get-get_or pages j (page_with other) low)
 
-slot-contains : (pages : List PageView) (key : PageKey) (slot : Option ℕ) → slot_of pages key ≡ slot → is_some slot ≡ true → Contains (keys_of pages) key
+slot-contains : (pages : List PageView) (key : PageKey) (slot : Option ℕ) → slot_of pages key ≡ slot → is_some slot ≡ true → Contains (page_keys_of pages) key
 slot-contains pages key None at some = absurd (cc)
 slot-contains pages key (Some j) at some =
     let low : j < length pages = slot-within pages key j at in
     (j, omega (arith, low, length-map pages (λ (p : PageView). p.key)), key-slot pages key key j at)
 
-pub slots-there : (pages : List PageView) → IsRising (keys_of pages) → (key : PageKey) → IsSome (slot_of pages key) ↔ Contains (keys_of pages) key
+pub slots-there : (pages : List PageView) → IsRising (page_keys_of pages) → (key : PageKey) → IsSome (slot_of pages key) ↔ Contains (page_keys_of pages) key
 slots-there pages rising key = (λ some. slot-contains pages key (slot_of pages key) refl some, λ there. ap is_some (slot-there pages key rising there))
 
 -- the slot of the next page is the next one
-pub slot-next : (pages : List PageView) → IsRising (keys_of pages) → (key : PageKey) (j : ℕ) → slot_of pages key ≡ Some j → Contains (keys_of pages) (next_key key)
+pub slot-next : (pages : List PageView) → IsRising (page_keys_of pages) → (key : PageKey) (j : ℕ) → slot_of pages key ≡ Some j → Contains (page_keys_of pages) (next_key key)
     → slot_of pages (next_key key) ≡ Some (j + 1)
 slot-next pages rising key j at there =
-    let inside : j < length (keys_of pages) = omega (arith, slot-within pages key j at, length-map pages (λ (p : PageView). p.key)) in
+    let inside : j < length (page_keys_of pages) = omega (arith, slot-within pages key j at, length-map pages (λ (p : PageView). p.key)) in
     slot-there pages (next_key key) rising there
-    ∙ ap (λ (n : ℕ). Some n) (next-place (keys_of pages) rising key there.0 j there.1 inside (key-slot pages key (next_key key) j at) there.2)
+    ∙ ap (λ (n : ℕ). Some n) (next-place (page_keys_of pages) rising key there.0 j there.1 inside (key-slot pages key (next_key key) j at) there.2)

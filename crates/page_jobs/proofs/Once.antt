@@ -10,7 +10,7 @@ use Rattle.std.proofs.lemmas.List.Kept.{Contains-dedup, Contains-from_dedup, IsS
 use Rattle.std.proofs.lemmas.List.Sorted.{Contains-permutation, IsPermutation-map, IsPermutation-sym}
 use Rattle.page_jobs.specs.Key.{IsRising, key_cmp, rising_keys}
 use Rattle.page_jobs.specs.Page.{page_view}
-use Rattle.page_jobs.specs.Table.{keys_of}
+use Rattle.page_jobs.specs.Table.{page_keys_of}
 use Rattle.page_jobs.specs.declared.page.Page.{Page}
 use Rattle.page_jobs.specs.declared.page.PageKey.{PageKey}
 use Rattle.page_jobs.proofs.Order.{key-equal, key_total}
@@ -60,17 +60,17 @@ module _ {X : Type 0} (key : X → PageKey) where
 abbrev pub page_key : Page → PageKey
 page_key page = page.key
 
-keys_of-views : (pages : List Page) → keys_of (map page_view pages) ≡ map page_key pages
+keys_of-views : (pages : List Page) → page_keys_of (map page_view pages) ≡ map page_key pages
 keys_of-views [] = refl
 keys_of-views (page ∷ pages) = ap (λ (keys : List PageKey). page.key ∷ keys) (keys_of-views pages)
 
 module _ (before sorted after : List Page) (moved : IsPermutation before sorted) (kept : after ≡ dedup (one_key page_key) sorted) where
-  pub keys-after : IsSortedByKey page_key key_cmp sorted → keys_of (map page_view after) ≡ rising_keys (keys_of (map page_view before))
+  pub keys-after : IsSortedByKey page_key key_cmp sorted → page_keys_of (map page_view after) ≡ rising_keys (page_keys_of (map page_view before))
   keys-after order =
       keys_of-views after ∙ ap (map page_key) kept ∙ keys-distinct page_key before sorted moved order ∙ ap rising_keys (sym (keys_of-views before))
 
-  pub rising-after : IsSortedByKey page_key key_cmp sorted → IsRising (keys_of (map page_view after))
-  rising-after order = subst IsRising (sym (keys-after order)) (rising_keys-rise (keys_of (map page_view before)))
+  pub rising-after : IsSortedByKey page_key key_cmp sorted → IsRising (page_keys_of (map page_view after))
+  rising-after order = subst IsRising (sym (keys-after order)) (rising_keys-rise (page_keys_of (map page_view before)))
 
   pub contains-after : All (Contains before) after
   contains-after = λ k d low.

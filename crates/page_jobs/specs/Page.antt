@@ -33,9 +33,9 @@ abbrev pub IsPageOf : (Source → List ℕ) → PageView → Type 0
 IsPageOf items p = p ≡ page_named items p.key
 
 -- the 4096 bytes of a page: zeros in front, the item's bytes, and zeros after them
-abbrev pub contents_of : PageView → List ℕ
-contents_of p = with_part (zeros PAGE_SIZE) (front_of p.key.lead p.key.number) p.bytes
+abbrev pub bytes_of_page : PageView → List ℕ
+bytes_of_page p = with_part (zeros PAGE_SIZE) (front_of p.key.lead p.key.number) p.bytes
 
 -- the measurement of a page
 abbrev pub digest_of : PageView → List ℕ
-digest_of p = measurement_of p.key.algo (contents_of p)
+digest_of p = measurement_of p.key.algo (bytes_of_page p)

@@ -12,12 +12,12 @@ pub record TableView : Type 0 where
   pub pages : List PageView
   pub digests : List (Option Measurement)
 
-abbrev pub keys_of : List PageView → List PageKey
-keys_of pages = map (λ p. p.key) pages
+abbrev pub page_keys_of : List PageView → List PageKey
+page_keys_of pages = map (λ p. p.key) pages
 
 -- the keys rise, each page has a slot, and a filled slot has the digest of its own page
 pub record IsTable (t : TableView) : Type 0 where
-  pub rising : IsRising (keys_of t.pages)
+  pub rising : IsRising (page_keys_of t.pages)
   pub size : length t.digests ≡ length t.pages
   pub own : (j : ℕ) (p : PageView) (m : Measurement) → slice_get t.pages j ≡ Some p → slice_get t.digests j ≡ Some (Some m) → m.bytes ≡ digest_of p
 

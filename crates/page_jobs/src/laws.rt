@@ -5,15 +5,15 @@ ghost use Rattle.rim_desc.specs.PageBytes.{page_bytes};
 ghost use Rattle.rim_desc.specs.declared.measurement.Algo.{Algo};
 ghost use Rattle.rim_desc.specs.declared.source.Source.{Source};
 ghost use Rattle.page_jobs.specs.Key.{IsRising, key_cmp, next_key, rising_keys};
-ghost use Rattle.page_jobs.specs.Page.{IsPageOf, PageView, contents_of, page_named, page_of};
-ghost use Rattle.page_jobs.specs.Table.{keys_of, slot_of};
+ghost use Rattle.page_jobs.specs.Page.{IsPageOf, PageView, bytes_of_page, page_named, page_of};
+ghost use Rattle.page_jobs.specs.Table.{page_keys_of, slot_of};
 ghost use Rattle.page_jobs.specs.declared.page.PageKey.{PageKey};
 ghost use Rattle.rim_desc.specs.declared.page.TheConstants.{PAGE_SIZE};
 
 /// The 4096 bytes of page k of an item are those that its definition says.
 pub fn contents_are_page_bytes()
     ensures { (algo : Algo) (source : Source) (lead k : ℕ) (item : List ℕ) → lead < PAGE_SIZE
-        → contents_of (page_of algo source lead item k) ≡ page_bytes lead item k }
+        → bytes_of_page (page_of algo source lead item k) ≡ page_bytes lead item k }
 {}
 
 /// Where each source has its item's bytes, pages of these items are one page if they have one key, and a
@@ -23,7 +23,7 @@ pub fn pages_go_by_keys()
         → p.key ≡ q.key
         → p ≡ q }
     ensures all { (items : Source → List ℕ) (pages : List PageView) → All (IsPageOf items) pages
-        → pages ≡ map (page_named items) (keys_of pages) }
+        → pages ≡ map (page_named items) (page_keys_of pages) }
 {}
 
 /// Keys are compared as their definition says: by algorithm, source, lead and number.
@@ -44,17 +44,17 @@ pub fn rising_keys_are_the_keys_once()
 /// In pages whose keys rise each page is in the slot of its key, and the page in the slot of a key has it.
 /// Just their keys have slots, and the slot of an item's next page is the next one.
 pub fn slots_go_by_keys()
-    ensures page { (pages : List PageView) → IsRising (keys_of pages) → (j : ℕ) (p : PageView)
+    ensures page { (pages : List PageView) → IsRising (page_keys_of pages) → (j : ℕ) (p : PageView)
         → slice_get pages j ≡ Some p
         → slot_of pages p.key ≡ Some j }
     ensures key { (pages : List PageView) (key : PageKey) (j : ℕ) (p : PageView)
         → slot_of pages key ≡ Some j
         → slice_get pages j ≡ Some p
         → p.key ≡ key }
-    ensures there { (pages : List PageView) → IsRising (keys_of pages) → (key : PageKey)
-        → IsSome (slot_of pages key) ↔ Contains (keys_of pages) key }
-    ensures next { (pages : List PageView) → IsRising (keys_of pages) → (key : PageKey) (j : ℕ)
+    ensures there { (pages : List PageView) → IsRising (page_keys_of pages) → (key : PageKey)
+        → IsSome (slot_of pages key) ↔ Contains (page_keys_of pages) key }
+    ensures next { (pages : List PageView) → IsRising (page_keys_of pages) → (key : PageKey) (j : ℕ)
         → slot_of pages key ≡ Some j
-        → Contains (keys_of pages) (next_key key)
+        → Contains (page_keys_of pages) (next_key key)
         → slot_of pages (next_key key) ≡ Some (j + 1) }
 {}

@@ -41,7 +41,7 @@ pub struct Page<'a> {
 }
 
 impl<'a> Blob<'a> {
-    ghost use Rattle.page_jobs.specs.Page.{contents_of, page_of, page_view};
+    ghost use Rattle.page_jobs.specs.Page.{bytes_of_page, page_of, page_view};
 
     /// The bytes of a source, which begin `lead` bytes after the start of a page.
     pub fn new(source: Source, lead: u64, bytes: &'a [u8]) -> Blob<'a>
@@ -62,7 +62,7 @@ impl<'a> Blob<'a> {
         requires { number < 2 ^ 52 }
         ensures page { page_view result
             ≡ page_of algo self.entry.source self.entry.lead self.entry.bytes.now number }
-        ensures contents { contents_of (page_view result)
+        ensures contents { bytes_of_page (page_view result)
             ≡ page_bytes self.entry.lead self.entry.bytes.now number }
     {
         let key = PageKey {
@@ -101,7 +101,7 @@ fn lent_bytes<'a>(bytes: &'a [u8], lead: u64, number: u64) -> &'a [u8]
 }
 
 impl<'a> Page<'a> {
-    ghost use Rattle.page_jobs.specs.Page.{contents_of, page_view};
+    ghost use Rattle.page_jobs.specs.Page.{bytes_of_page, page_view};
 
     /// Whether two pages have the same key and the same lent bytes.
     pub fn is_same(&self, other: &Page) -> bool
@@ -112,7 +112,7 @@ impl<'a> Page<'a> {
 
     /// The 4096 bytes of the page.
     pub fn bytes(&self) -> [u8; PAGE_SIZE]
-        ensures { result ≡ contents_of (page_view self.now) }
+        ensures { result ≡ bytes_of_page (page_view self.now) }
     {
         let mut bytes = zero_page();
         put(

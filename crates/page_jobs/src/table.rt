@@ -2,7 +2,7 @@
 ghost use Rattle.std.specs.Prelude.{◌≡◌, ◌<◌, length, map, replicate, None, Some, IfOk, OnOk, OnErr, IfErr, IfSome, IsTrue, ◌↔◌, true, slice_get};
 ghost use Rattle.page_jobs.specs.Key.{IsRising, key_cmp};
 ghost use Rattle.page_jobs.specs.Page.{digest_of, page_view};
-ghost use Rattle.page_jobs.specs.Table.{CanFill, IsTable, digest_at, digest_in, keys_of, page_at, slot_of, with_digest};
+ghost use Rattle.page_jobs.specs.Table.{CanFill, IsTable, digest_at, digest_in, page_keys_of, page_at, slot_of, with_digest};
 
 use crate::hashed::Hashed;
 use crate::page::{Page, PageKey};
@@ -34,7 +34,7 @@ impl<'a> Model for Table<'a> {
 impl<'a> Table<'a> {
     /// A table for these pages, with all slots empty. One for no pages takes no memory.
     pub fn reserve(alloc: Global, pages: &'a [Page<'a>]) -> Result<Table<'a>, NoMemory>
-        requires { IsRising (keys_of (map page_view pages.now)) }
+        requires { IsRising (page_keys_of (map page_view pages.now)) }
         ensures pages { IfOk result (λ t. t.pages ≡ map page_view pages.entry.now) }
         ensures empty { IfOk result (λ t. t.digests ≡ replicate (length pages.entry.now) None) }
         ensures growth { OnErr result (0 < length pages.entry.now) }
@@ -143,7 +143,7 @@ fn empty_slots(alloc: Global, count: usize) -> Result<Vec<Option<Measurement>>, 
 
 /// The place of the page that has a key, in a list whose keys rise.
 fn search(pages: &[Page], key: &PageKey) -> Option<usize>
-    requires { IsRising (keys_of (map page_view pages.now)) }
+    requires { IsRising (page_keys_of (map page_view pages.now)) }
     ensures { result ≡ slot_of (map page_view pages.now) key.now }
 {
     pages.binary_search_by(|page| compare(page, key)).ok()

@@ -6,7 +6,7 @@ mod tables;
 ghost use Rattle.std.specs.Prelude.{map, IfOk};
 ghost use Rattle.page_jobs.specs.Key.{IsRising};
 ghost use Rattle.page_jobs.specs.Page.{page_view};
-ghost use Rattle.page_jobs.specs.Table.{keys_of};
+ghost use Rattle.page_jobs.specs.Table.{page_keys_of};
 
 use page_jobs::{Blob, Page, PageJob, PageKey, distinct_pages};
 use rim_desc::{Algo, Measurement, Source};
@@ -51,7 +51,7 @@ fn key_of(row: &Row) -> PageKey {
 
 /// The pages in the order of their keys, each once.
 fn pages_of<'a>(alloc: Global, item: &'a [u8], rows: &[Row]) -> Result<Vec<Page<'a>>, AllocError>
-    ensures { IfOk result (λ pages. IsRising (keys_of (map page_view pages.items))) }
+    ensures { IfOk result (λ pages. IsRising (page_keys_of (map page_view pages.items))) }
 {
     let mut pages = Vec::new(alloc);
     for row in rows {

@@ -14,7 +14,7 @@ use Rattle.rmm_model.specs.State.{empty_state}
 use Rattle.list_model.specs.Entries.{Entry, commands_of}
 use Rattle.rim_launch.specs.LaunchData.{LaunchData}
 use Rattle.rim_launch.specs.declared.item.Item.{Item}
-use Rattle.ipa_layout.specs.Layout.{IsPlaced, PlacedData, contents_of}
+use Rattle.ipa_layout.specs.Layout.{IsPlaced, PlacedData, bytes_of_source}
 use Rattle.ipa_layout.specs.declared.placed.PlacedItem.{PlacedItem}
 use Rattle.ipa_layout.proofs.PlacedFacts.{as-many-items, lead-is}
 use Rattle.page_jobs.specs.Page.{page_named}
@@ -22,7 +22,7 @@ use Rattle.page_jobs.specs.Table.{IsTable, TableView, digest_at, digest_in, slot
 use Rattle.page_jobs.specs.declared.page.PageKey.{PageKey}
 use Rattle.page_jobs.proofs.Contents.{contents-page_bytes}
 use Rattle.rmi_list.specs.Listed.{listed}
-use Rattle.rmi_list.specs.Measured.{contents, measured}
+use Rattle.rmi_list.specs.Measured.{page_contents, measured}
 use Rattle.rmi_list.proofs.Contents.{contents-are-good}
 use Rattle.rmi_list.proofs.Follows.{list-is-followed}
 use Rattle.rim_chain.specs.Links.{PlanView, chain_of, keys_of, parts_of}
@@ -47,19 +47,19 @@ lead-low l files p number item is_placed at =
         let low : item.address % 4096 < 4096 = mod-lt item.address (omega arith) in
         omega arith)
 
-by-keys : (l : LaunchData) (files : List (List ℕ)) (p : PlacedData) → IsPlaced l files p → GoByKeys l p (own_digest files p) (contents l files p)
+by-keys : (l : LaunchData) (files : List (List ℕ)) (p : PlacedData) → IsPlaced l files p → GoByKeys l p (own_digest files p) (page_contents l files p)
 by-keys l files p is_placed number page item at =
     rw at (ap (λ (bytes : List ℕ). let m : Measurement = record { bytes = measurement_of l.config.algo bytes } in m)
-    (sym (contents-page_bytes item.lead page (contents_of files p item.source) (lead-low l files p number item is_placed at))))
+    (sym (contents-page_bytes item.lead page (bytes_of_source files p item.source) (lead-low l files p number item is_placed at))))
 
 pub chain-held : (l : LaunchData) (files : List (List ℕ)) (p : PlacedData) (entries : List Entry) (v : PlanView)
     → IsPlaced l files p → listed l p ≡ Ok entries → IsReadOf l p v
-    → (run (empty_state l.config.num_aux) (commands_of (contents l files p) entries)).rim ≡ Some (chain_of v (map (own_digest files p) (keys_of v.links)))
+    → (run (empty_state l.config.num_aux) (commands_of (page_contents l files p) entries)).rim ≡ Some (chain_of v (map (own_digest files p) (keys_of v.links)))
 unfolding chain_of
 chain-held l files p entries v is_placed at read =
     let own : PageKey → Measurement = own_digest files p in
-    let parts : parts_of v (map own (keys_of v.links)) ≡ measured l p (contents l files p) = read.parts own (contents l files p) (by-keys l files p is_placed) in
-    (list-is-followed l p (contents l files p) entries (contents-are-good l files p) at).rim
+    let parts : parts_of v (map own (keys_of v.links)) ≡ measured l p (page_contents l files p) = read.parts own (page_contents l files p) (by-keys l files p is_placed) in
+    (list-is-followed l p (page_contents l files p) entries (contents-are-good l files p) at).rim
     ∙ ap Some (ap (rim_of l.config.algo) (sym parts) ∙ ap (λ a. rim_of a (parts_of v (map own (keys_of v.links)))) (sym (ap (λ (q : RealmParams). q.algo) read.params)))
 
 -- ---- rows of a table that has the launch's pages
@@ -67,10 +67,10 @@ chain-held l files p entries v is_placed at read =
 own-at : (t : TableView) (files : List (List ℕ)) (p : PlacedData) (key : PageKey) (d : Measurement) → IsTable t → HasOwnPage t files p key
     → digest_at t key ≡ Some d → d ≡ own_digest files p key
 own-at t files p key d is_table page at =
-    option_and_then_some (slice_get t.pages) (slot_of t.pages key) (page_named (contents_of files p) key) page (λ j found here.
+    option_and_then_some (slice_get t.pages) (slot_of t.pages key) (page_named (bytes_of_source files p) key) page (λ j found here.
     option_and_then_some (digest_in t) (slot_of t.pages key) d at (λ i found_too slot. same j i found here found_too slot))
   where
-    same : (j i : ℕ) → slot_of t.pages key ≡ Some j → slice_get t.pages j ≡ Some (page_named (contents_of files p) key) → slot_of t.pages key ≡ Some i
+    same : (j i : ℕ) → slot_of t.pages key ≡ Some j → slice_get t.pages j ≡ Some (page_named (bytes_of_source files p) key) → slot_of t.pages key ≡ Some i
         → digest_in t i ≡ Some d → d ≡ own_digest files p key
     same j i found here found_too slot =
         (let one : i ≡ j = same_Some i j (sym found_too ∙ found) in

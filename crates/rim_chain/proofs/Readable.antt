@@ -25,7 +25,7 @@ use Rattle.rim_launch.specs.declared.step.Step.TheVariants as step
 use Rattle.ipa_layout.specs.Layout.{PlacedData}
 use Rattle.ipa_layout.specs.declared.placed.PlacedItem.{PlacedItem}
 use Rattle.ipa_layout.specs.declared.rec.PlacedRec.{PlacedRec}
-use Rattle.rmi_list.specs.Listed.{Listing, Progress, list_item, list_named, list_rec, list_region, list_step, list_steps, listed, opening, opening_checks, opening_entries, plan_checks, pool_check}
+use Rattle.rmi_list.specs.Listed.{Listing, Progress, list_item, list_named, list_rec, list_region, list_step, list_steps, listed, opening_progress, opening_checks, opening_entries, plan_checks, pool_check}
 use Rattle.rmi_list.specs.Measured.{least_level, page_base}
 use Rattle.rmi_list.specs.RecParams.{rec_params}
 use Rattle.rmi_list.specs.declared.fault.ListFault.{ListFault}
@@ -215,12 +215,12 @@ launch-readable l p entries at =
     let first = bound (unless_refused checks (opening_entries c)) _ entries at in
     let none : holds checks ≡ false = none-holds checks (opening_entries c) (first.0) (first.1) in
     let room : 0 + delegated (opening_entries c) ≤ c.pool_count = ltb-false c.pool_count (0 + delegated (opening_entries c)) (off-at checks 1 fault.NoMemory none) in
-    let second = fronted (first.0) (list_steps l p (opening c) l.steps) entries (first.2) in
+    let second = fronted (first.0) (list_steps l p (opening_progress c) l.steps) entries (first.2) in
     let low : 0 < 2 = omega arith in
     let width : c.s2sz - 1 ≤ 47 = let is : is_width c.s2sz ≡ true = c.width in let most : c.s2sz ≤ 48 = grind (arith, nat_tests) in omega arith in
     let count : c.pool_count ≤ 16777216 = c.pool_fits.1 in
-    let is_bounded : IsBounded c (opening c) = record { protected_end = pow-le-pow_right low width; pool = omega arith } in
-    steps-read l p l.steps (opening c) (second.0) 16777216 is_bounded (omega arith) (second.1)
+    let is_bounded : IsBounded c (opening_progress c) = record { protected_end = pow-le-pow_right low width; pool = omega arith } in
+    steps-read l p l.steps (opening_progress c) (second.0) 16777216 is_bounded (omega arith) (second.1)
 
 -- the same of a launch of which it is known that it has a list
 pub listed-readable : (l : LaunchData) (p : PlacedData) → IsOk (listed l p) → IsReadableLaunch l p l.steps 16777216

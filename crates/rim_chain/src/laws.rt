@@ -12,7 +12,7 @@ ghost use Rattle.ipa_layout.specs.Layout.{IsPlaced, PlacedData};
 ghost use Rattle.page_jobs.specs.Table.{IsTable, TableView};
 ghost use Rattle.page_jobs.specs.declared.page.PageKey.{PageKey};
 ghost use Rattle.rmi_list.specs.Listed.{listed};
-ghost use Rattle.rmi_list.specs.Measured.{contents};
+ghost use Rattle.rmi_list.specs.Measured.{page_contents};
 ghost use Rattle.rim_chain.specs.Links.{PlanView, chain_of, keys_of, parts_with};
 ghost use Rattle.rim_chain.specs.declared.link.Link.{Link};
 ghost use Rattle.rim_chain.specs.OwnDigests.{HasOwnPage, own_digest};
@@ -27,7 +27,7 @@ pub fn the_chain_is_what_a_monitor_holds()
         → IsPlaced l files p
         → listed l p ≡ Ok entries
         → IsReadOf l p v
-        → (run (empty_state l.config.num_aux) (commands_of (contents l files p) entries)).rim
+        → (run (empty_state l.config.num_aux) (commands_of (page_contents l files p) entries)).rim
         ≡ Some (chain_of v (map (own_digest files p) (keys_of v.links))) }
 {}
 

@@ -1,7 +1,7 @@
 //! The launches of a release that are refused.
 ghost use Rattle.std.specs.Prelude.{◌≡◌, ◌++◌, List, IfOk, OnOk, Some, is_err, length, true, vec_len};
 ghost use Rattle.rim_launch.specs.LaunchData.{has_files};
-ghost use Rattle.ipa_layout.specs.inside.LayoutViews.{contents};
+ghost use Rattle.ipa_layout.specs.Files.{bytes_of_files};
 ghost use Rattle.rim_release.specs.Accepted.{accepted_of, rim_for};
 ghost use Rattle.rim_release.specs.Report.{has_refused};
 ghost use Rattle.rim_check.specs.Explained.{launch_front, refusal_said, refusals_said, said_of};
@@ -26,19 +26,19 @@ const BEFORE_DETAIL: &str = ": ";
 pub fn check_launches(alloc: Global, readable: &Readable, files: &Files) -> Result<Report, NoMemory>
     requires { vec_len files.now ≡ length readable.now.paths }
     ensures text { IfOk result (λ r. SayInTurn
-        (refusals_said (contents files.now.items) readable.now.launches) r.text.items) }
+        (refusals_said (bytes_of_files files.now.items) readable.now.launches) r.text.items) }
     ensures refused { IfOk result
-        (λ r. r.has_refused ≡ has_refused (contents files.now.items) readable.now.launches) }
+        (λ r. r.has_refused ≡ has_refused (bytes_of_files files.now.items) readable.now.launches) }
 {
     check_all(alloc, readable, files)
 }
 
 fn check_all(alloc: Global, readable: &Readable, files: &[Vec<u8>]) -> Result<Report, NoMemory>
     requires { length files.now ≡ length readable.now.paths }
-    ensures text { IfOk result
-        (λ r. SayInTurn (refusals_said (contents files.now) readable.now.launches) r.text.items) }
+    ensures text { IfOk result (λ r. SayInTurn
+        (refusals_said (bytes_of_files files.now) readable.now.launches) r.text.items) }
     ensures refused { IfOk result
-        (λ r. r.has_refused ≡ has_refused (contents files.now) readable.now.launches) }
+        (λ r. r.has_refused ≡ has_refused (bytes_of_files files.now) readable.now.launches) }
 {
     let mut text = Vec::new(alloc);
     let mut has_refused = false;
@@ -64,10 +64,10 @@ fn check_launch(text: &mut Vec<u8>, name: &str, checked: &CheckedLaunch) -> Resu
     ensures text { OnOk result ((said : List Saying) → SayInTurn said text.old.items
         → SayInTurn (said
         ++ said_of name.now
-        (rim_for checked.now.launch.now (contents checked.now.files.now)))
+        (rim_for checked.now.launch.now (bytes_of_files checked.now.files.now)))
         text.new.items) }
     ensures refused { IfOk result (λ is_refused. is_refused
-        ≡ is_err (accepted_of checked.now.launch.now (contents checked.now.files.now))) }
+        ≡ is_err (accepted_of checked.now.launch.now (bytes_of_files checked.now.files.now))) }
 {
     match lay_out(checked.alloc, checked.launch, checked.files) {
         Ok(_) => Ok(false),

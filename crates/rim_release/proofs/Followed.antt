@@ -14,8 +14,8 @@ use Rattle.rmm_model.specs.Step.{step}
 use Rattle.rmi_list.proofs.Contents.{contents-are-good}
 use Rattle.rmi_list.proofs.Follows.{list-is-followed}
 use Rattle.rmi_list.specs.Following.{IsFollowed}
-use Rattle.rmi_list.specs.Measured.{contents as page_contents, measured}
-use Rattle.ipa_layout.specs.inside.LayoutViews.{contents}
+use Rattle.rmi_list.specs.Measured.{page_contents, measured}
+use Rattle.ipa_layout.specs.Files.{bytes_of_files}
 use Rattle.rim_release.specs.declared.commands.LaunchCommands.{LaunchCommands}
 use Rattle.rim_release.specs.inside.Commands.{commands_in, state_after}
 
@@ -36,10 +36,10 @@ led-on s next (x ∷ cs) zero c at taken =
 led-on s next (x ∷ cs) (suc i) c at taken = led-on (after s (step s x)) next cs i c at taken
 
 module _ (l : LaunchCommands) where
-  followed : IsFollowed l.launch.now.config.algo l.launch.now.config.num_aux (commands_in l) (measured l.launch.now l.placed.now (page_contents l.launch.now (contents l.files.now) l.placed.now))
+  followed : IsFollowed l.launch.now.config.algo l.launch.now.config.num_aux (commands_in l) (measured l.launch.now l.placed.now (page_contents l.launch.now (bytes_of_files l.files.now) l.placed.now))
   followed =
-      list-is-followed l.launch.now l.placed.now (page_contents l.launch.now (contents l.files.now) l.placed.now) l.plan.now
-      (contents-are-good l.launch.now (contents l.files.now) l.placed.now) l.is_listed
+      list-is-followed l.launch.now l.placed.now (page_contents l.launch.now (bytes_of_files l.files.now) l.placed.now) l.plan.now
+      (contents-are-good l.launch.now (bytes_of_files l.files.now) l.placed.now) l.is_listed
 
   pub never-refused : (i : ℕ) (c : Command) → slice_get (commands_in l) i ≡ Some c → is_ok (step (state_after l i) c) ≡ true
   never-refused i c at = taken-in-turn (empty_state l.launch.now.config.num_aux) (commands_in l) i c followed.accepted at

@@ -4,7 +4,7 @@ use Rattle.std.specs.Prelude.{Option, Result, unwrap_or}
 use Rattle.rim_desc.specs.Part.{rim_of}
 use Rattle.list_model.specs.Entries.{commands_of}
 use Rattle.rmi_list.specs.Following.{IsFollowed}
-use Rattle.rmi_list.specs.Measured.{contents, measured}
+use Rattle.rmi_list.specs.Measured.{page_contents, measured}
 use Rattle.rmi_list.proofs.Contents.{contents-are-good}
 use Rattle.rmi_list.proofs.Follows.{list-is-followed}
 use Rattle.rim_release.specs.Accepted.{commands_for, rim_after, rim_for}
@@ -18,7 +18,7 @@ pub accepted-are-measured : AcceptedAreMeasured
 unfolding commands_for rim_for line_with
 accepted-are-measured files l p accepted =
     let is = accepted-is l.launch files p accepted in
-    let own = contents l.launch files p in
+    let own = page_contents l.launch files p in
     let commands = commands_of own is.entries in
     let followed : IsFollowed l.launch.config.algo l.launch.config.num_aux commands (measured l.launch p own)
     = list-is-followed l.launch p own is.entries (contents-are-good l.launch files p) is.listed in

@@ -23,7 +23,7 @@ use Rattle.ipa_layout.specs.declared.fault.LayoutFault.{LayoutFault}
 use Rattle.rmi_list.specs.declared.fault.ListFault.{ListFault}
 use Rattle.rim_launch.specs.declared.item.Item.{Item}
 use Rattle.ipa_layout.specs.Laws.{IsSourceOf}
-use Rattle.ipa_layout.specs.Layout.{IsPlaced, PlacedData, contents_of, places}
+use Rattle.ipa_layout.specs.Layout.{IsPlaced, PlacedData, bytes_of_source, places}
 use Rattle.ipa_layout.specs.declared.placed.PlacedItem.{PlacedItem}
 use Rattle.ipa_layout.proofs.PlacedFacts.{as-many-items, same-number, source-is}
 use Rattle.page_jobs.specs.Key.{IsRising, key_cmp}
@@ -37,7 +37,7 @@ use Rattle.page_jobs.proofs.Neighbours.{slots-there}
 use Rattle.page_jobs.proofs.Rising.{Has, contains-has, has-contains, rising_keys-rise, rising_keys-same}
 use Rattle.rim_manifest.specs.Launches.{AreNumbered, NamedData, ReleaseData}
 use Rattle.rmi_list.specs.Listed.{listed}
-use Rattle.rmi_list.specs.Measured.{contents}
+use Rattle.rmi_list.specs.Measured.{page_contents}
 use Rattle.rim_chain.specs.Links.{PlanView, chain_of, keys_of}
 use Rattle.rim_chain.specs.OwnDigests.{HasOwnPage, own_digest}
 use Rattle.rim_chain.specs.Keys.{measured_keys}
@@ -59,7 +59,7 @@ use Rattle.rim_release.proofs.PageKeys.{each-measured, files-there}
 
 -- ---- the pages of a table
 
-named-keys : (items : Source → List ℕ) (keys : List PageKey) → table.keys_of (map (page_named items) keys) ≡ keys
+named-keys : (items : Source → List ℕ) (keys : List PageKey) → table.page_keys_of (map (page_named items) keys) ≡ keys
 named-keys items [] = refl
 named-keys items (key ∷ keys) = ap (λ (ks : List PageKey). key ∷ ks) (named-keys items keys)
 
@@ -97,13 +97,13 @@ unfolding accepted_of commands_for rim_for
 refused-rim l files fault refused = by_place (places l files) refused
   where
     by_list : (q : PlacedData) (found : Result (List Entry) ListFault) → (result_map_both (λ entries. entries) list_fault found >>= λ entries. Ok q) ≡ Err fault
-        → ((result_map_both (λ entries. entries) list_fault found >>= λ entries. Ok (commands_of (contents l files q) entries)) >>= λ commands. Ok (rim_after l commands)) ≡ Err fault
+        → ((result_map_both (λ entries. entries) list_fault found >>= λ entries. Ok (commands_of (page_contents l files q) entries)) >>= λ commands. Ok (rim_after l commands)) ≡ Err fault
     by_list q (Err e) is = ap (λ (f : AuditFault). Err f) (cc)
     by_list q (Ok entries) is = absurd (cc)
 
     by_place : (place : Result PlacedData LayoutFault)
         → (result_map_both (λ q. q) layout_fault place >>= λ q. result_map_both (λ entries. entries) list_fault (listed l q) >>= λ entries. Ok q) ≡ Err fault
-        → ((result_map_both (λ q. q) layout_fault place >>= λ q. result_map_both (λ entries. entries) list_fault (listed l q) >>= λ entries. Ok (commands_of (contents l files q) entries))
+        → ((result_map_both (λ q. q) layout_fault place >>= λ q. result_map_both (λ entries. entries) list_fault (listed l q) >>= λ entries. Ok (commands_of (page_contents l files q) entries))
         >>= λ commands. Ok (rim_after l commands)) ≡ Err fault
     by_place (Err e) is = ap (λ (f : AuditFault). Err f) (cc)
     by_place (Ok q) is = by_list q (listed l q) is
@@ -114,7 +114,7 @@ accepted-rim : (l : LaunchData) (files : List (List ℕ)) (p : PlacedData) (v : 
 unfolding commands_for rim_for
 accepted-rim l files p v has accepted read =
     let is : IsAccepted l files p = accepted-is l files p accepted in
-    let held : (run (empty_state l.config.num_aux) (commands_of (contents l files p) is.entries)).rim ≡ Some (chain_of v (map (own_digest files p) (keys_of v.links)))
+    let held : (run (empty_state l.config.num_aux) (commands_of (page_contents l files p) is.entries)).rim ≡ Some (chain_of v (map (own_digest files p) (keys_of v.links)))
     = chain-held l files p is.entries v (record { there = has; placed = is.placed }) is.listed read in
     rw (is.placed, is.listed) (ap (λ (o : Option (List ℕ)). Ok (unwrap_or o [])) held)
 
@@ -180,20 +180,20 @@ module _ (files : List (List ℕ)) (r : ReleaseData) (t : TableView)
   items : Source → List ℕ
   items = source_bytes files (places_of files r.launches)
 
-  table-keys : table.keys_of t.pages ≡ page_keys files r.launches
+  table-keys : table.page_keys_of t.pages ≡ page_keys files r.launches
   unfolding items
-  table-keys = ap table.keys_of has_pages ∙ named-keys items (page_keys files r.launches)
+  table-keys = ap table.page_keys_of has_pages ∙ named-keys items (page_keys files r.launches)
 
   -- the sources of a launch are its own
   own-source : (i : ℕ) (l : NamedData) (p : PlacedData) → slice_get r.launches i ≡ Some l → accepted_of l.launch files ≡ Ok p
-      → (number : ℕ) (item : PlacedItem) → slice_get p.items number ≡ Some item → items item.source ≡ contents_of files p item.source
+      → (number : ℕ) (item : PlacedItem) → slice_get p.items number ≡ Some item → items item.source ≡ bytes_of_source files p item.source
   unfolding items
   own-source i l p at accepted number item here = by_items l.launch.items refl (omega (arith, as-many-items l.launch files p is_placed, slice_get_within p.items number item here))
     where
       is_placed : IsPlaced l.launch files p
       is_placed = record { there = files-there r files numbered read i l at; placed = (accepted-is l.launch files p accepted).placed }
 
-      by_source : (source : Source) (asked : Item) → IsSourceOf l.launch p asked source → source_bytes files (places_of files r.launches) source ≡ contents_of files p source
+      by_source : (source : Source) (asked : Item) → IsSourceOf l.launch p asked source → source_bytes files (places_of files r.launches) source ≡ bytes_of_source files p source
       by_source (File n) asked own = refl
       by_source (Edited launch) asked own =
           let number_is : launch ≡ i = own.1 ∙ (numbered i l at).0 in
@@ -201,7 +201,7 @@ module _ (files : List (List ℕ)) (r : ReleaseData) (t : TableView)
           let place : slice_get (places_of files r.launches) launch ≡ Some (Ok p) = ap (slice_get (places_of files r.launches)) number_is ∙ place-at files r.launches i l at ∙ ap (λ (x : Result PlacedData AuditFault). Some x) accepted in
           rw (place, p_number) (sym (ap (λ (b : Bool). if b then unwrap_or p.edited [] else []) (nat-same launch)))
 
-      by_items : (asked : List Item) → asked ≡ l.launch.items → number < length asked → source_bytes files (places_of files r.launches) item.source ≡ contents_of files p item.source
+      by_items : (asked : List Item) → asked ≡ l.launch.items → number < length asked → source_bytes files (places_of files r.launches) item.source ≡ bytes_of_source files p item.source
       by_items [] e within = absurd (omega arith)
       by_items (first ∷ others) e within =
           let asked : slice_get l.launch.items number ≡ Some (get_or (first ∷ others) number first) = ap (λ xs. slice_get xs number) (sym e) ∙ slice_get-get_or (first ∷ others) number first within in
@@ -230,12 +230,12 @@ module _ (files : List (List ℕ)) (r : ReleaseData) (t : TableView)
   HasOwn : PlacedData → PageKey → Type 0
   HasOwn p key = HasOwnPage t files p key × (is_some (digest_at t key) ≡ true)
 
-  own-page : (p : PlacedData) (key : PageKey) → Contains (page_keys files r.launches) key → items key.source ≡ contents_of files p key.source → HasOwn p key
+  own-page : (p : PlacedData) (key : PageKey) → Contains (page_keys files r.launches) key → items key.source ≡ bytes_of_source files p key.source → HasOwn p key
   unfolding HasOwn items
   own-page p key there source =
       let found = page-of key there in
       let j : ℕ = found.0 in
-      let named : page_named items key ≡ page_named (contents_of files p) key = ap (λ (bytes : List ℕ). page_named (λ s. bytes) key) source in (
+      let named : page_named items key ≡ page_named (bytes_of_source files p) key = ap (λ (bytes : List ℕ). page_named (λ s. bytes) key) source in (
         ap (option_and_then (slice_get t.pages)) found.1.0 ∙ found.1.2 ∙ ap (λ (q : PageView). Some q) named,
         ap (λ (o : Option ℕ). is_some (option_and_then (digest_in t) o)) found.1.0 ∙ full j found.1.1,
       )
@@ -244,8 +244,8 @@ module _ (files : List (List ℕ)) (r : ReleaseData) (t : TableView)
       → All (HasOwn p) (measured_keys l.launch p)
   own-pages i l p at accepted = λ k d low.
       let keys : List PageKey = measured_keys l.launch p in
-      let sources : All (λ key. items key.source ≡ contents_of files p key.source) keys = All-from_recursion (λ key. items key.source ≡ contents_of files p key.source) keys
-      (each-measured (λ key. items key.source ≡ contents_of files p key.source) l.launch p (λ number n item here below. own-source i l p at accepted number item here)) in
+      let sources : All (λ key. items key.source ≡ bytes_of_source files p key.source) keys = All-from_recursion (λ key. items key.source ≡ bytes_of_source files p key.source) keys
+      (each-measured (λ key. items key.source ≡ bytes_of_source files p key.source) l.launch p (λ number n item here below. own-source i l p at accepted number item here)) in
       own-page p (get_or keys k d) (key-there files r i l p (get_or keys k d) at accepted (All-contains_itself keys k d low)) (sources k d low)
 
   -- the digests of all keys
@@ -319,16 +319,16 @@ found-pages files ls pages found = at (nat_lt 1048576 (length (page_keys files l
     at false over e = (cc, ap (λ (b : Bool). if b then Err TooManyPages else Ok (report_of files ls)) over)
 
 -- the keys of the pages of a release rise
-pub release-rises : (files : List (List ℕ)) (ls : List NamedData) → IsRising (table.keys_of (release_pages files ls))
+pub release-rises : (files : List (List ℕ)) (ls : List NamedData) → IsRising (table.page_keys_of (release_pages files ls))
 unfolding page_keys
 release-rises files ls = subst IsRising (sym (named-keys (source_bytes files (places_of files ls)) (page_keys files ls))) (rising_keys-rise (flat_map (launch_keys files) ls))
 
-pub rising-pages : (files : List (List ℕ)) (ls : List NamedData) (pages : List PageView) → pages_of files ls ≡ Ok pages → IsRising (table.keys_of pages)
-rising-pages files ls pages found = subst (λ (ps : List PageView). IsRising (table.keys_of ps)) (sym (found-pages files ls pages found).0) (release-rises files ls)
+pub rising-pages : (files : List (List ℕ)) (ls : List NamedData) (pages : List PageView) → pages_of files ls ≡ Ok pages → IsRising (table.page_keys_of pages)
+rising-pages files ls pages found = subst (λ (ps : List PageView). IsRising (table.page_keys_of ps)) (sym (found-pages files ls pages found).0) (release-rises files ls)
 
 -- the keys of pages that were found are those of the release
-pub found-keys : (files : List (List ℕ)) (ls : List NamedData) (pages : List PageView) → pages_of files ls ≡ Ok pages → table.keys_of pages ≡ page_keys files ls
-found-keys files ls pages found = ap table.keys_of (found-pages files ls pages found).0 ∙ named-keys (source_bytes files (places_of files ls)) (page_keys files ls)
+pub found-keys : (files : List (List ℕ)) (ls : List NamedData) (pages : List PageView) → pages_of files ls ≡ Ok pages → table.page_keys_of pages ≡ page_keys files ls
+found-keys files ls pages found = ap table.page_keys_of (found-pages files ls pages found).0 ∙ named-keys (source_bytes files (places_of files ls)) (page_keys files ls)
 
 -- what came of the launches of a release, and its report, from the values of its plans with a table of its pages
 module _ (files : List (List ℕ)) (r : ReleaseData) (t : TableView) (pages : List PageView) (plans : List PlanView) (rims : List Measurement) (numbered : AreNumbered r) (size : length files ≡ length r.paths)

@@ -25,15 +25,15 @@ use Rattle.rim_launch.specs.declared.config.Config.{Config}
 use Rattle.rim_launch.specs.declared.item.Region.{Region}
 use Rattle.rim_launch.specs.declared.step.Step.{Step}
 use Rattle.rim_launch.specs.declared.step.Step.TheVariants as step
-use Rattle.ipa_layout.specs.Layout.{IsPlaced, PlacedData, contents_of}
+use Rattle.ipa_layout.specs.Layout.{IsPlaced, PlacedData, bytes_of_source}
 use Rattle.ipa_layout.specs.Laws.{page_total}
 use Rattle.ipa_layout.specs.declared.placed.PlacedItem.{PlacedItem}
 use Rattle.ipa_layout.specs.declared.rec.PlacedRec.{PlacedRec}
 use Rattle.ipa_layout.proofs.PlacedFacts.{few-pages}
 use Rattle.page_jobs.specs.Page.{PageView, digest_of}
 use Rattle.page_jobs.specs.Page as page
-use Rattle.rmi_list.specs.Listed.{Listing, Progress, list_item, list_rec, list_region, list_step, list_steps, listed, opening, opening_checks, opening_entries, plan_checks, pool_check}
-use Rattle.rmi_list.specs.Measured.{contents, page_base}
+use Rattle.rmi_list.specs.Listed.{Listing, Progress, list_item, list_rec, list_region, list_step, list_steps, listed, opening_progress, opening_checks, opening_entries, plan_checks, pool_check}
+use Rattle.rmi_list.specs.Measured.{page_contents, page_base}
 use Rattle.rmi_list.specs.RecParams.{rec_params}
 use Rattle.rmi_list.specs.declared.fault.ListFault.{ListFault}
 use Rattle.rmi_list.specs.declared.fault.ListFault.TheVariants as fault
@@ -159,11 +159,11 @@ listed-own l p entries at =
     let c : Config = l.config in
     let first = bound (unless_refused (opening_checks c p.recs) (opening_entries c)) _ entries at in
     let opened : opening_entries c ≡ first.0 = is-done (opening_checks c p.recs) (opening_entries c) first.0 first.1 in
-    let second = fronted first.0 (list_steps l p (opening c) l.steps) entries first.2 in
+    let second = fronted first.0 (list_steps l p (opening_progress c) l.steps) entries first.2 in
     let params = realm_params c in
     let opening_own : AreOwn p (opening_entries c)
     = each-append (IsOwn p) (delegate_all (granules (params.rtt_num_start + 1) c.pool_base)) _ (delegates-own p (granules (params.rtt_num_start + 1) c.pool_base)) (tt, tt) in
-    subst (AreOwn p) (sym second.2) (each-append (IsOwn p) first.0 second.0 (subst (AreOwn p) opened opening_own) (steps-own l p l.steps (opening c) second.0 second.1))
+    subst (AreOwn p) (sym second.2) (each-append (IsOwn p) first.0 second.0 (subst (AreOwn p) opened opening_own) (steps-own l p l.steps (opening_progress c) second.0 second.1))
 
 -- ---- the page of a command
 
@@ -198,11 +198,11 @@ page-low l files p number k is_placed has =
 
 -- what is hashed is the item's page
 pub content-is : (l : LaunchData) (files : List (List ℕ)) (p : PlacedData) (number k : ℕ) (item : PlacedItem) (seen : PageView) (digest : Measurement)
-    → slice_get p.items number ≡ Some item → seen.key.algo ≡ l.config.algo → page.contents_of seen ≡ page_bytes item.lead (contents_of files p item.source) k
-    → digest.bytes ≡ digest_of seen → digest ≡ contents l files p number k
+    → slice_get p.items number ≡ Some item → seen.key.algo ≡ l.config.algo → page.bytes_of_page seen ≡ page_bytes item.lead (bytes_of_source files p item.source) k
+    → digest.bytes ≡ digest_of seen → digest ≡ page_contents l files p number k
 content-is l files p number k item seen digest at algo bytes own =
     rw at (ap (λ (bs : List ℕ). let m : Measurement = record { bytes = bs } in m)
-    (own ∙ ap (λ (a : Algo). measurement_of a (page.contents_of seen)) algo ∙ ap (measurement_of l.config.algo) bytes))
+    (own ∙ ap (λ (a : Algo). measurement_of a (page.bytes_of_page seen)) algo ∙ ap (measurement_of l.config.algo) bytes))
 
 -- a command whose page has the right content is the launch's
 pub command-is : (pages : Contents) (m : Measurement) (entries : List Entry) (i : ℕ) (c : Command)

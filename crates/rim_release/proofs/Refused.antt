@@ -7,7 +7,7 @@ use Rattle.list_model.specs.Entries.{Entry, commands_of}
 use Rattle.rim_desc.specs.declared.measurement.Measurement.{Measurement}
 use Rattle.rim_launch.specs.LaunchData.{LaunchData}
 use Rattle.ipa_layout.specs.Layout.{PlacedData}
-use Rattle.rmi_list.specs.Measured.{contents}
+use Rattle.rmi_list.specs.Measured.{page_contents}
 use Rattle.rim_manifest.specs.Launches.{NamedData}
 use Rattle.rim_manifest.proofs.Notes.{list_any_map}
 use Rattle.rim_release.specs.Accepted.{accepted_of, commands_for, entries_of, placed_of, rim_after, rim_for}
@@ -20,12 +20,12 @@ unfolding rim_for commands_for accepted_of
 same_refusal l files = by_place (placed_of l files)
   where
     by_list : (p : PlacedData) (found : Result (List Entry) AuditFault)
-        → is_err ((found >>= λ entries. Ok (commands_of (contents l files p) entries)) >>= λ commands. Ok (rim_after l commands)) ≡ is_err (found >>= λ entries. Ok p)
+        → is_err ((found >>= λ entries. Ok (commands_of (page_contents l files p) entries)) >>= λ commands. Ok (rim_after l commands)) ≡ is_err (found >>= λ entries. Ok p)
     by_list p (Err fault) = refl
     by_list p (Ok entries) = refl
 
     by_place : (place : Result PlacedData AuditFault)
-        → is_err ((place >>= λ p. entries_of l p >>= λ entries. Ok (commands_of (contents l files p) entries)) >>= λ commands. Ok (rim_after l commands)) ≡ is_err (place >>= λ p. entries_of l p >>= λ entries. Ok p)
+        → is_err ((place >>= λ p. entries_of l p >>= λ entries. Ok (commands_of (page_contents l files p) entries)) >>= λ commands. Ok (rim_after l commands)) ≡ is_err (place >>= λ p. entries_of l p >>= λ entries. Ok p)
     by_place (Err fault) = refl
     by_place (Ok p) = by_list p (entries_of l p)
 

@@ -95,7 +95,7 @@ full-own (q ∷ pages) zero p m at slot =
     sym (ap (λ (d : Measurement). d.bytes) is) ∙ ap digest_of same
 full-own (q ∷ pages) (suc j) p m at slot = full-own pages j p m at slot
 
-full-is_table : (pages : List PageView) → IsRising (table.keys_of pages) → IsTable (full_table pages)
+full-is_table : (pages : List PageView) → IsRising (table.page_keys_of pages) → IsTable (full_table pages)
 unfolding full_table
 full-is_table pages rising = record { rising = rising; size = length-map pages slot_for; own = full-own pages }
 

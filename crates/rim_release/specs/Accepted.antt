@@ -12,7 +12,7 @@ use Rattle.ipa_layout.specs.Layout.{PlacedData, places}
 use Rattle.ipa_layout.specs.declared.fault.LayoutFault.{LayoutFault}
 use Rattle.ipa_layout.specs.declared.fault.LayoutFault.TheVariants as layout
 use Rattle.rmi_list.specs.Listed.{listed}
-use Rattle.rmi_list.specs.Measured.{contents}
+use Rattle.rmi_list.specs.Measured.{page_contents}
 use Rattle.rmi_list.specs.declared.fault.ListFault.{ListFault}
 use Rattle.rmi_list.specs.declared.fault.ListFault.TheVariants as list
 use Rattle.rim_release.specs.declared.audit_fault.AuditFault.{AuditFault}
@@ -41,7 +41,7 @@ accepted_of l files = placed_of l files >>= λ p. entries_of l p >>= λ entries.
 
 -- the commands that build the realm of a launch, with the measurement of each of its pages
 unfoldable pub commands_for : LaunchData → List (List ℕ) → Result (List Command) AuditFault
-commands_for l files = placed_of l files >>= λ p. entries_of l p >>= λ entries. Ok (commands_of (contents l files p) entries)
+commands_for l files = placed_of l files >>= λ p. entries_of l p >>= λ entries. Ok (commands_of (page_contents l files p) entries)
 
 -- the Realm Initial Measurement that a monitor holds after a launch's commands
 abbrev pub rim_after : LaunchData → List Command → List ℕ

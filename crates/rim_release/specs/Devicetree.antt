@@ -10,9 +10,9 @@ use Rattle.rim_launch.specs.Kinds.{has_role}
 use Rattle.rim_launch.specs.LaunchData.{LaunchData}
 use Rattle.rim_launch.specs.declared.item.Role.TheVariants as role
 use Rattle.rim_launch.specs.declared.step.Step.TheVariants as step
-use Rattle.ipa_layout.specs.Layout.{PlacedData, contents_of}
+use Rattle.ipa_layout.specs.Layout.{PlacedData, bytes_of_source}
 use Rattle.ipa_layout.specs.declared.placed.PlacedItem.{PlacedItem}
-use Rattle.rmi_list.specs.Measured.{contents, page_base, step_parts}
+use Rattle.rmi_list.specs.Measured.{page_contents, page_base, step_parts}
 use Rattle.rim_release.specs.Accepted.{accepted_of}
 use Rattle.rim_release.specs.declared.audit_fault.AuditFault.{AuditFault}
 use Rattle.rim_desc.specs.declared.page.TheConstants.{PAGE_SIZE}
@@ -23,7 +23,7 @@ devicetree_number l = position (has_role role.Dtb) l.items
 
 -- the bytes that it is placed with: those of its file, or of the edited one
 abbrev pub devicetree_in : LaunchData → List (List ℕ) → PlacedData → Option (List ℕ)
-devicetree_in l files p = option_map (λ i. contents_of files p i.source) (option_and_then (slice_get p.items) (devicetree_number l))
+devicetree_in l files p = option_map (λ i. bytes_of_source files p i.source) (option_and_then (slice_get p.items) (devicetree_number l))
 
 -- the same of a launch that is accepted, or why it is refused
 unfoldable pub devicetree_of : LaunchData → List (List ℕ) → Result (Option (List ℕ)) AuditFault
@@ -40,7 +40,7 @@ pub record IsMeasuredDevicetree (files : List (List ℕ)) (l : LaunchData) (p : 
   pub item : PlacedItem
   pub own : devicetree_number l ≡ Some number
   pub placed : slice_get p.items number ≡ Some item
-  pub parts : step_parts l p (contents l files p) (step.Item number) ≡ parts_of_bytes l.config.algo item bytes
+  pub parts : step_parts l p (page_contents l files p) (step.Item number) ≡ parts_of_bytes l.config.algo item bytes
 
 -- each devicetree that is given out is the one that is measured
 abbrev pub DevicetreesAreMeasured : Type 0

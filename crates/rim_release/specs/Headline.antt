@@ -3,7 +3,7 @@ use Rattle.std.specs.Prelude.{◌≡◌, ℕ, List, ◌++◌, Ok, Err, codes}
 use Rattle.rim_desc.specs.Part.{rim_of}
 use Rattle.rim_desc.specs.declared.command.Command.{Command}
 use Rattle.rmi_list.specs.Following.{IsFollowed}
-use Rattle.rmi_list.specs.Measured.{contents, measured}
+use Rattle.rmi_list.specs.Measured.{page_contents, measured}
 use Rattle.ipa_layout.specs.Layout.{PlacedData}
 use Rattle.rim_manifest.specs.Launches.{NamedData}
 use Rattle.rim_release.specs.Accepted.{accepted_of, commands_for}
@@ -16,8 +16,8 @@ use Rattle.rim_release.specs.declared.audit_fault.AuditFault.{AuditFault}
 pub record IsMeasured (files : List (List ℕ)) (l : NamedData) (p : PlacedData) : Type 0 where
   pub commands : List Command
   pub listed : commands_for l.launch files ≡ Ok commands
-  pub followed : IsFollowed l.launch.config.algo l.launch.config.num_aux commands (measured l.launch p (contents l.launch files p))
-  pub line : line_of files l ≡ (l.name ++ rim_text l.launch.config.algo (rim_of l.launch.config.algo (measured l.launch p (contents l.launch files p)))) ++ codes "\n"
+  pub followed : IsFollowed l.launch.config.algo l.launch.config.num_aux commands (measured l.launch p (page_contents l.launch files p))
+  pub line : line_of files l ≡ (l.name ++ rim_text l.launch.config.algo (rim_of l.launch.config.algo (measured l.launch p (page_contents l.launch files p)))) ++ codes "\n"
 
 -- each launch that is accepted is so measured
 abbrev pub AcceptedAreMeasured : Type 0

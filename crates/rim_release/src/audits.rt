@@ -3,7 +3,7 @@ ghost use Rattle.std.specs.Prelude.{◌≡◌, ◌<◌, is_err, length, map, vec
 ghost use Rattle.std.specs.List.{list_any, slice_get};
 ghost use Rattle.refusal.specs.Answer.{Answers};
 ghost use Rattle.rim_launch.specs.LaunchData.{has_files};
-ghost use Rattle.ipa_layout.specs.inside.LayoutViews.{contents};
+ghost use Rattle.ipa_layout.specs.Files.{bytes_of_files};
 ghost use Rattle.rim_release.specs.Accepted.{rim_after, rim_for};
 ghost use Rattle.rim_release.specs.Report.{audit_text_of, has_refused, seen};
 ghost use Rattle.rim_release.specs.inside.Commands.{commands_in};
@@ -29,7 +29,7 @@ pub fn audit(
     requires files { vec_len files.now ≡ length release.now.paths }
     requires launch { i < length release.now.launches }
     ensures { IfSome (slice_get release.now.launches i) (λ l. Answers AuditFault.NoMemory
-        (λ m. m.bytes) result (rim_for l.launch (contents files.now.items))) }
+        (λ m. m.bytes) result (rim_for l.launch (bytes_of_files files.now.items))) }
 {
     audit_launch(alloc, release.all_launches()[i].launch(), files)
 }
@@ -39,7 +39,7 @@ pub fn audit(
 pub fn audit_report(alloc: Global, release: &Release, files: &Files) -> Result<Vec<u8>, NoMemory>
     requires { vec_len files.now ≡ length release.now.paths }
     ensures { IfOk result
-        (λ text. text.items ≡ audit_text_of (contents files.now.items) release.now.launches) }
+        (λ text. text.items ≡ audit_text_of (bytes_of_files files.now.items) release.now.launches) }
 {
     let report = audit_launches(alloc, release, files)?;
     Ok(report.text)
@@ -49,9 +49,9 @@ pub fn audit_report(alloc: Global, release: &Release, files: &Files) -> Result<V
 pub fn audit_launches(alloc: Global, release: &Release, files: &Files) -> Result<Report, NoMemory>
     requires { vec_len files.now ≡ length release.now.paths }
     ensures text { IfOk result
-        (λ r. r.text.items ≡ audit_text_of (contents files.now.items) release.now.launches) }
+        (λ r. r.text.items ≡ audit_text_of (bytes_of_files files.now.items) release.now.launches) }
     ensures refused { IfOk result
-        (λ r. r.has_refused ≡ has_refused (contents files.now.items) release.now.launches) }
+        (λ r. r.has_refused ≡ has_refused (bytes_of_files files.now.items) release.now.launches) }
 {
     let outcomes = outcomes(alloc, release, files)?;
     let mut text = Vec::new(alloc);
@@ -78,7 +78,7 @@ fn outcomes(
 ) -> Result<Vec<Result<Measurement, AuditFault>>, NoMemory>
     requires { length files.now ≡ length release.now.paths }
     ensures { IfOk result (λ found. map seen found.items
-        ≡ map (λ l. rim_for l.launch (contents files.now)) release.now.launches) }
+        ≡ map (λ l. rim_for l.launch (bytes_of_files files.now)) release.now.launches) }
 {
     let mut found = Vec::with_capacity(alloc, release.launches())?;
     for launch in release.all_launches() {
@@ -94,7 +94,8 @@ fn outcome(
     files: &[Vec<u8>],
 ) -> Result<Result<Measurement, AuditFault>, NoMemory>
     requires { has_files launch.now (length files.now) ≡ true }
-    ensures { IfOk result (λ outcome. seen outcome ≡ rim_for launch.now (contents files.now)) }
+    ensures { IfOk result
+        (λ outcome. seen outcome ≡ rim_for launch.now (bytes_of_files files.now)) }
 {
     match audit_launch(alloc, launch, files) {
         Ok(rim) => Ok(Ok(rim)),
@@ -111,7 +112,7 @@ fn audit_launch(
 ) -> Result<Measurement, AuditFault>
     requires { has_files launch.now (length files.now) ≡ true }
     ensures { Answers AuditFault.NoMemory (λ m. m.bytes) result
-        (rim_for launch.now (contents files.now)) }
+        (rim_for launch.now (bytes_of_files files.now)) }
 {
     let (placed, plan) = lay_out(alloc, launch, files)?;
     let commands = LaunchCommands {

@@ -4,9 +4,9 @@ ghost use Rattle.refusal.specs.Answer.{Answers};
 ghost use Rattle.list_model.specs.Entries.{commands_of};
 ghost use Rattle.rim_launch.specs.LaunchData.{has_files};
 ghost use Rattle.ipa_layout.specs.Layout.{IsPlaced};
-ghost use Rattle.ipa_layout.specs.inside.LayoutViews.{contents};
+ghost use Rattle.ipa_layout.specs.Files.{bytes_of_files};
 ghost use Rattle.rmi_list.specs.Listed.{listed};
-ghost use Rattle.rmi_list.specs.Measured.{contents as page_contents};
+ghost use Rattle.rmi_list.specs.Measured.{page_contents};
 ghost use Rattle.rim_release.specs.Accepted.{commands_for};
 
 use crate::audit_fault::AuditFault;
@@ -26,7 +26,7 @@ pub struct LaunchCommands<'a> {
     pub files: &'a [Vec<u8>],
     pub placed: &'a Placed,
     pub plan: &'a Plan,
-    pub ghost is_placed: { IsPlaced launch.now (contents files.now) placed.now },
+    pub ghost is_placed: { IsPlaced launch.now (bytes_of_files files.now) placed.now },
     pub ghost is_listed: { listed launch.now placed.now ≡ Ok plan.now },
 }
 
@@ -39,9 +39,9 @@ pub fn lay_out(
 ) -> Result<(Placed, Plan), AuditFault>
     requires { has_files launch.now (length files.now) ≡ true }
     ensures commands { Answers AuditFault.NoMemory
-        (λ found. commands_of (page_contents launch.now (contents files.now) found.0) found.1)
-        result (commands_for launch.now (contents files.now)) }
-    ensures placed { IfOk result (λ found. IsPlaced launch.now (contents files.now) found.0) }
+        (λ found. commands_of (page_contents launch.now (bytes_of_files files.now) found.0) found.1)
+        result (commands_for launch.now (bytes_of_files files.now)) }
+    ensures placed { IfOk result (λ found. IsPlaced launch.now (bytes_of_files files.now) found.0) }
     ensures listed { IfOk result (λ found. listed launch.now found.0 ≡ Ok found.1) }
 {
     let placed = place(alloc, launch, files)?;
@@ -55,7 +55,7 @@ const NO_CONTENT: Measurement = Measurement { bytes: [0; 64] };
 impl<'a> LaunchCommands<'a> {
     ghost use Rattle.std.specs.Prelude.{◌≡◌, ◌+◌, ◌<◌, length, Some, IfOk, OnOk};
     ghost use Rattle.std.specs.List.{slice_get};
-    ghost use Rattle.rmi_list.specs.Measured.{contents as page_contents};
+    ghost use Rattle.rmi_list.specs.Measured.{page_contents};
     ghost use Rattle.rim_release.specs.Accepted.{rim_after};
     ghost use Rattle.rim_release.specs.inside.Commands.{HasPage, commands_in, state_after};
 
@@ -115,8 +115,8 @@ impl<'a> LaunchCommands<'a> {
     fn content_of(&self, item: usize, page: u64) -> Measurement
         requires { HasPage self.now.placed.now item page }
         ensures { result
-            ≡ page_contents self.now.launch.now (contents self.now.files.now) self.now.placed.now
-            item page }
+            ≡ page_contents self.now.launch.now (bytes_of_files self.now.files.now)
+            self.now.placed.now item page }
     {
         let item = self.placed.items()[item];
         let bytes = self.placed.bytes(self.files, item.source);

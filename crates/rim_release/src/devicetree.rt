@@ -4,7 +4,7 @@ ghost use Rattle.std.specs.List.{slice_get};
 ghost use Rattle.refusal.specs.Answer.{Answers};
 ghost use Rattle.rim_launch.specs.Kinds.{has_role};
 ghost use Rattle.rim_launch.specs.LaunchData.{has_files};
-ghost use Rattle.ipa_layout.specs.inside.LayoutViews.{contents};
+ghost use Rattle.ipa_layout.specs.Files.{bytes_of_files};
 ghost use Rattle.rim_release.specs.Accepted.{accepted_of};
 ghost use Rattle.rim_release.specs.Devicetree.{devicetree_in, devicetree_number, devicetree_of};
 
@@ -29,7 +29,7 @@ pub fn placed_devicetree(
     requires launch { i < length release.now.launches }
     ensures { IfSome (slice_get release.now.launches i) (λ l. Answers AuditFault.NoMemory
         (option_map (λ bytes. bytes.items)) result
-        (devicetree_of l.launch (contents files.now.items))) }
+        (devicetree_of l.launch (bytes_of_files files.now.items))) }
 {
     devicetree_of(alloc, release.all_launches()[i].launch(), files)
 }
@@ -43,7 +43,7 @@ fn devicetree_of(
 ) -> Result<Option<Vec<u8>>, AuditFault>
     requires { has_files launch.now (length files.now) ≡ true }
     ensures { Answers AuditFault.NoMemory (option_map (λ bytes. bytes.items)) result
-        (devicetree_of launch.now (contents files.now)) }
+        (devicetree_of launch.now (bytes_of_files files.now)) }
 {
     let placed = accepted(alloc, launch, files)?;
     match devicetree_bytes(launch, files, &placed) {
@@ -57,7 +57,7 @@ fn devicetree_of(
 fn accepted(alloc: Global, launch: &Launch, files: &[Vec<u8>]) -> Result<Placed, AuditFault>
     requires { has_files launch.now (length files.now) ≡ true }
     ensures { Answers AuditFault.NoMemory (λ p. p) result
-        (accepted_of launch.now (contents files.now)) }
+        (accepted_of launch.now (bytes_of_files files.now)) }
 {
     let placed = place(alloc, launch, files)?;
     list(alloc, launch, &placed)?;
@@ -71,7 +71,7 @@ fn devicetree_bytes<'a>(
     placed: &'a Placed,
 ) -> Option<&'a [u8]>
     ensures { option_map (λ bytes. bytes.now) result
-        ≡ devicetree_in launch.now (contents files.entry.now) placed.entry.now }
+        ≡ devicetree_in launch.now (bytes_of_files files.entry.now) placed.entry.now }
 {
     let number = number_of(launch)?;
     let item = placed.items().get(number)?;

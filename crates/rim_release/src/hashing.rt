@@ -2,7 +2,7 @@
 ghost use Rattle.std.specs.Prelude.{◌≡◌, ◌*◌, ◌+◌, ◌<◌, ◌≤◌, IfOk, Some, length, map, slice_get};
 ghost use Rattle.page_jobs.specs.Key.{IsRising};
 ghost use Rattle.page_jobs.specs.Page.{page_view};
-ghost use Rattle.page_jobs.specs.Table.{keys_of};
+ghost use Rattle.page_jobs.specs.Table.{page_keys_of};
 ghost use Rattle.rim_chain.specs.Rows.{IsFull};
 ghost use Rattle.rim_release.specs.inside.Filled.{IsFilledTo};
 
@@ -12,7 +12,7 @@ use std::alloc::Global;
 
 /// A table with the digests of these pages, hashed in their order, four side by side where they can be.
 pub fn hashed<'a>(alloc: Global, pages: &'a [Page<'a>]) -> Result<Table<'a>, NoMemory>
-    requires { IsRising (keys_of (map page_view pages.now)) }
+    requires { IsRising (page_keys_of (map page_view pages.now)) }
     ensures pages { IfOk result (λ t. t.pages ≡ map page_view pages.entry.now) }
     ensures full { IfOk result IsFull }
 {

@@ -3,7 +3,7 @@ ghost use Rattle.std.specs.Prelude.{◌≡◌, ◌++◌, ◌<◌, length, is_err
 ghost use Rattle.std.specs.List.{flat_map, slice_get};
 ghost use Rattle.refusal.specs.Answer.{Answers};
 ghost use Rattle.rim_launch.specs.LaunchData.{has_files};
-ghost use Rattle.ipa_layout.specs.inside.LayoutViews.{contents};
+ghost use Rattle.ipa_layout.specs.Files.{bytes_of_files};
 ghost use Rattle.rim_release.specs.Accepted.{rim_after};
 ghost use Rattle.rim_release.specs.Listing.{command_line, first_line, last_line, listing_of, listing_with, shown_of};
 ghost use Rattle.rim_release.specs.Report.{line_with};
@@ -33,7 +33,7 @@ pub fn listing(
     requires files { vec_len files.now ≡ length release.now.paths }
     requires launch { i < length release.now.launches }
     ensures { IfSome (slice_get release.now.launches i) (λ l. Answers AuditFault.NoMemory
-        (λ text. text.items) result (listing_of l.launch (contents files.now.items))) }
+        (λ text. text.items) result (listing_of l.launch (bytes_of_files files.now.items))) }
 {
     list_launch(alloc, release.all_launches()[i].launch(), files)
 }
@@ -48,9 +48,9 @@ pub fn listing_or_refusal(
     requires files { vec_len files.now ≡ length release.now.paths }
     requires launch { i < length release.now.launches }
     ensures text { IfSome (slice_get release.now.launches i)
-        (λ l. IfOk result (λ r. r.text.items ≡ shown_of (contents files.now.items) l)) }
+        (λ l. IfOk result (λ r. r.text.items ≡ shown_of (bytes_of_files files.now.items) l)) }
     ensures refused { IfSome (slice_get release.now.launches i) (λ l. IfOk result
-        (λ r. r.has_refused ≡ is_err (listing_of l.launch (contents files.now.items)))) }
+        (λ r. r.has_refused ≡ is_err (listing_of l.launch (bytes_of_files files.now.items)))) }
 {
     list_or_refuse(alloc, &release.all_launches()[i], files)
 }
@@ -62,9 +62,10 @@ fn list_or_refuse(
     files: &[Vec<u8>],
 ) -> Result<Report, NoMemory>
     requires { has_files launch.now.launch (length files.now) ≡ true }
-    ensures text { IfOk result (λ r. r.text.items ≡ shown_of (contents files.now) launch.now) }
+    ensures text { IfOk result
+        (λ r. r.text.items ≡ shown_of (bytes_of_files files.now) launch.now) }
     ensures refused { IfOk result
-        (λ r. r.has_refused ≡ is_err (listing_of launch.now.launch (contents files.now))) }
+        (λ r. r.has_refused ≡ is_err (listing_of launch.now.launch (bytes_of_files files.now))) }
 {
     match list_launch(alloc, launch.launch(), files) {
         Ok(text) => Ok(Report {
@@ -95,7 +96,7 @@ fn refused_line(alloc: Global, launch: &NamedLaunch, fault: AuditFault) -> Resul
 fn list_launch(alloc: Global, launch: &Launch, files: &[Vec<u8>]) -> Result<Vec<u8>, AuditFault>
     requires { has_files launch.now (length files.now) ≡ true }
     ensures { Answers AuditFault.NoMemory (λ text. text.items) result
-        (listing_of launch.now (contents files.now)) }
+        (listing_of launch.now (bytes_of_files files.now)) }
 {
     let (placed, plan) = lay_out(alloc, launch, files)?;
     let commands = LaunchCommands {

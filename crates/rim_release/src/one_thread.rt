@@ -2,7 +2,7 @@
 ghost use Rattle.std.specs.Prelude.{◌≡◌, IfOk, is_err, length, vec_len};
 ghost use Rattle.std.specs.List.{list_any};
 ghost use Rattle.refusal.specs.Answer.{Answers};
-ghost use Rattle.ipa_layout.specs.inside.LayoutViews.{contents};
+ghost use Rattle.ipa_layout.specs.Files.{bytes_of_files};
 ghost use Rattle.rim_release.specs.Report.{has_refused, measured_of};
 
 use crate::audit_fault::AuditFault;
@@ -31,7 +31,7 @@ pub struct Report {
 pub fn measure_alone(alloc: Global, release: &Release, files: &Files) -> Result<Vec<u8>, StartFault>
     requires { vec_len files.now ≡ length release.now.paths }
     ensures { Answers StartFault.NoMemory (λ text. text.items) result
-        (measured_of (contents files.now.items) release.now.launches) }
+        (measured_of (bytes_of_files files.now.items) release.now.launches) }
 {
     let report = report_alone(alloc, release, files)?;
     Ok(report.text)
@@ -41,9 +41,9 @@ pub fn measure_alone(alloc: Global, release: &Release, files: &Files) -> Result<
 pub fn report_alone(alloc: Global, release: &Release, files: &Files) -> Result<Report, StartFault>
     requires { vec_len files.now ≡ length release.now.paths }
     ensures text { Answers StartFault.NoMemory (λ r. r.text.items) result
-        (measured_of (contents files.now.items) release.now.launches) }
+        (measured_of (bytes_of_files files.now.items) release.now.launches) }
     ensures refused { IfOk result
-        (λ r. r.has_refused ≡ has_refused (contents files.now.items) release.now.launches) }
+        (λ r. r.has_refused ≡ has_refused (bytes_of_files files.now.items) release.now.launches) }
 {
     let launches = release.all_launches();
     let prepared = prepare(alloc, release, files)?;

@@ -2,7 +2,7 @@
 ghost use Rattle.std.specs.Prelude.{◌≡◌, ◌++◌, ◌≤◌, None, Some, IfOk, OnOk, Ok, Err, Result, length, map, nat_lt, option_map, sum_by, if◌then◌else◌};
 ghost use Rattle.std.specs.List.{All, flat_map, slice_get};
 ghost use Rattle.refusal.specs.Answer.{Answers};
-ghost use Rattle.ipa_layout.specs.inside.LayoutViews.{contents};
+ghost use Rattle.ipa_layout.specs.Files.{bytes_of_files};
 ghost use Rattle.page_jobs.specs.Page.{page_named, page_view};
 ghost use Rattle.page_jobs.specs.Ranges.{range_keys};
 ghost use Rattle.rim_release.specs.Plans.{places_of};
@@ -34,9 +34,9 @@ pub fn pages<'a>(
     files: &'a [Vec<u8>],
 ) -> Result<Vec<Page<'a>>, StartFault>
     requires files { length files.now ≡ length release.now.paths }
-    requires places { places.now ≡ places_of (contents files.now) release.now.launches }
+    requires places { places.now ≡ places_of (bytes_of_files files.now) release.now.launches }
     ensures { Answers StartFault.NoMemory (λ pages. map page_view pages.items) result
-        (pages_of (contents files.entry.now) release.now.launches) }
+        (pages_of (bytes_of_files files.entry.now) release.now.launches) }
 {
     let ends = ends(alloc, release.all_launches(), places)?;
     let ranges = distinct_ranges(alloc, ends)?;
@@ -161,7 +161,7 @@ fn pages_in<'a>(
 ) -> Result<Vec<Page<'a>>, NoMemory>
     requires { All IsUsable ranges.now }
     ensures { IfOk result (λ pages. map page_view pages.items
-        ≡ map (page_named (source_bytes (contents files.entry.now) places.entry.now))
+        ≡ map (page_named (source_bytes (bytes_of_files files.entry.now) places.entry.now))
         (flat_map range_keys ranges.now)) }
 {
     let mut pages = Vec::with_capacity(alloc, count)?;
@@ -200,7 +200,7 @@ fn source_bytes<'a>(
     places: &'a [Result<Placed, AuditFault>],
     source: Source,
 ) -> &'a [u8]
-    ensures { result.now ≡ source_bytes (contents files.entry.now) places.entry.now source }
+    ensures { result.now ≡ source_bytes (bytes_of_files files.entry.now) places.entry.now source }
 {
     match source {
         Source::File(number) => match files.get(number) {

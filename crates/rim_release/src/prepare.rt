@@ -2,7 +2,7 @@
 ghost use Rattle.std.specs.Prelude.{◌≡◌, IfOk, OnOk, length, true};
 ghost use Rattle.refusal.specs.Answer.{Answers};
 ghost use Rattle.rim_launch.specs.LaunchData.{has_files};
-ghost use Rattle.ipa_layout.specs.inside.LayoutViews.{contents};
+ghost use Rattle.ipa_layout.specs.Files.{bytes_of_files};
 ghost use Rattle.rim_chain.specs.Reading.{IsReadOf};
 ghost use Rattle.rim_release.specs.Accepted.{accepted_of};
 ghost use Rattle.rim_release.specs.inside.Preparing.{ArePrepared, IsKept};
@@ -27,8 +27,8 @@ pub struct Prepared {
 /// Lays out all launches of a release. No page is hashed.
 pub fn prepare(alloc: Global, release: &Release, files: &[Vec<u8>]) -> Result<Prepared, NoMemory>
     requires { length files.now ≡ length release.now.paths }
-    ensures { IfOk result
-        (λ p. ArePrepared (contents files.now) release.now.launches p.places.items p.plans.items) }
+    ensures { IfOk result (λ p. ArePrepared (bytes_of_files files.now) release.now.launches
+        p.places.items p.plans.items) }
 {
     let mut prepared = Prepared {
         places: Vec::new(alloc),
@@ -50,7 +50,7 @@ fn accept(
 ) -> Result<(Placed, LaunchPlan), AuditFault>
     requires { has_files launch.now (length files.now) ≡ true }
     ensures placed { Answers AuditFault.NoMemory (λ found. found.0) result
-        (accepted_of launch.now (contents files.now)) }
+        (accepted_of launch.now (bytes_of_files files.now)) }
     ensures plan { IfOk result (λ found. IsReadOf launch.now found.0 found.1) }
 {
     let placed = place(alloc, launch, files)?;

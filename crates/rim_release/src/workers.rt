@@ -2,11 +2,11 @@
 ghost use Rattle.std.specs.Prelude.{◌≡◌, ◌≤◌, Err, IfOk, OnErr, OnOk, false, length, map, sum, vec_len};
 ghost use Rattle.std.specs.List.{All, Contains};
 ghost use Rattle.refusal.specs.Answer.{Answers};
-ghost use Rattle.ipa_layout.specs.inside.LayoutViews.{contents};
+ghost use Rattle.ipa_layout.specs.Files.{bytes_of_files};
 ghost use Rattle.job_board.specs.Board.{AreValuesOf};
 ghost use Rattle.page_jobs.specs.Key.{IsRising};
 ghost use Rattle.page_jobs.specs.Page.{page_view};
-ghost use Rattle.page_jobs.specs.Table.{keys_of as page_keys_of};
+ghost use Rattle.page_jobs.specs.Table.{page_keys_of};
 ghost use Rattle.rim_chain.specs.Links.{keys_of};
 ghost use Rattle.rim_release.specs.Pages.{page_keys};
 ghost use Rattle.rim_release.specs.Report.{has_refused, is_crew, outcomes_for, seen, started_of};
@@ -69,14 +69,14 @@ pub fn measure_release<G: Gate + Sync, R: Threads + Wait + Sync>(
 ) -> Result<Outcome, StartFault>
     requires { vec_len files.now ≡ length release.now.paths }
     ensures report { Answers StartFault.NoMemory (λ o. o.report.items) result
-        (started_of workers (contents files.now.items) release.now.launches) }
+        (started_of workers (bytes_of_files files.now.items) release.now.launches) }
     ensures launches { IfOk result (λ o. map seen o.launches.items
-        ≡ outcomes_for (contents files.now.items) release.now.launches) }
+        ≡ outcomes_for (bytes_of_files files.now.items) release.now.launches) }
     ensures workers { is_crew workers ≡ false → result ≡ Err StartFault.Workers }
     ensures refused { IfOk result
-        (λ o. o.has_refused ≡ has_refused (contents files.now.items) release.now.launches) }
+        (λ o. o.has_refused ≡ has_refused (bytes_of_files files.now.items) release.now.launches) }
     ensures pages { IfOk result
-        (λ o. o.pages ≡ length (page_keys (contents files.now.items) release.now.launches)) }
+        (λ o. o.pages ≡ length (page_keys (bytes_of_files files.now.items) release.now.launches)) }
     ensures shares { IfOk result
         (λ o. (vec_len o.shares ≡ workers) × (sum o.shares.items ≡ o.pages)) }
     ensures started { IfOk result (λ o. (1 ≤ o.started) × (o.started ≤ workers)) }

@@ -9,7 +9,7 @@ use Rattle.rtt_plan.specs.declared.fault.PlanFault.{PlanFault}
 use Rattle.rtt_plan.specs.declared.fault.PlanFault.TheVariants as plan
 use Rattle.rmi_list.specs.declared.fault.ListFault.{ListFault}
 use Rattle.rmi_list.specs.declared.fault.ListFault.TheVariants as fault
-use Rattle.rmi_list.specs.Listed.{list_fault, plan_checks}
+use Rattle.rmi_list.specs.Listed.{plan_fault, plan_checks}
 
 -- an answer is what was asked for
 pub is-done : {A E : Type 0} (checks : List (Check E)) (done answer : A) → unless_refused checks done ≡ Ok answer → done ≡ answer
@@ -53,7 +53,7 @@ refused-front (c ∷ cs) a e others b = elim (cases_Bool c.1) [
 
 -- what the planner answered, as the list answers it
 pub plan-refused : {A B : Type 0} (e : PlanFault) (planned : Result A PlanFault) (listed : Result B ListFault) → (planned ≡ Err e → listed ≡ Err (fault.Plan e))
-    → (e ≡ plan.NoMemory) ⊎ (planned ≡ Err e) → (list_fault e ≡ fault.NoMemory) ⊎ (listed ≡ Err (list_fault e))
+    → (e ≡ plan.NoMemory) ⊎ (planned ≡ Err e) → (plan_fault e ≡ fault.NoMemory) ⊎ (listed ≡ Err (plan_fault e))
 plan-refused plan.NoMemory planned listed on h = inl refl
 plan-refused plan.OutsideProtected planned listed on (inl h) = absurd (cc)
 plan-refused plan.OutsideProtected planned listed on (inr h) = inr (on h)

@@ -15,7 +15,7 @@ use Rattle.list_model.specs.Parts.{AreContents}
 use Rattle.rim_launch.specs.LaunchData.{LaunchData}
 use Rattle.ipa_layout.specs.Layout.{PlacedData}
 use Rattle.ipa_layout.specs.declared.placed.PlacedItem.{PlacedItem}
-use Rattle.rmi_list.specs.Measured.{contents, digest_of}
+use Rattle.rmi_list.specs.Measured.{page_contents, item_page_digest}
 
 zeros-after : (m : List ℕ) → drop 32 (sha256 m ++ zeros 32) ≡ zeros 32
 zeros-after m = ap (λ n. drop n (sha256 m ++ zeros 32)) (sym (length-sha256 m)) ∙ drop-append_seam (sha256 m) (zeros 32)
@@ -29,9 +29,9 @@ none : (algo : Algo) → is_bad_content algo (Some (let c : Measurement = record
 none Sha256 = refl
 none Sha512 = refl
 
-pub contents-are-good : (l : LaunchData) (files : List (List ℕ)) (p : PlacedData) → AreContents l.config.algo (contents l files p)
+pub contents-are-good : (l : LaunchData) (files : List (List ℕ)) (p : PlacedData) → AreContents l.config.algo (page_contents l files p)
 contents-are-good l files p item page = by_item (slice_get p.items item)
   where
-    by_item : (o : Option PlacedItem) → is_bad_content l.config.algo (Some (let c : Measurement = record { bytes = digest_of l.config.algo files p o page } in c)) ≡ false
+    by_item : (o : Option PlacedItem) → is_bad_content l.config.algo (Some (let c : Measurement = record { bytes = item_page_digest l.config.algo files p o page } in c)) ≡ false
     by_item None = none l.config.algo
     by_item (Some i) = good l.config.algo _

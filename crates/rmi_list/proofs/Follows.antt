@@ -46,7 +46,7 @@ use Rattle.ipa_layout.specs.declared.rec.PlacedRec.{PlacedRec}
 use Rattle.rmi_list.specs.declared.fault.ListFault.{ListFault}
 use Rattle.rmi_list.specs.declared.fault.ListFault.TheVariants as fault
 use Rattle.rmi_list.specs.Following.{IsFollowed}
-use Rattle.rmi_list.specs.Listed.{Listing, Progress, list_item, list_named, list_rec, list_region, list_step, list_steps, listed, opening, opening_checks, opening_entries, plan_checks, pool_check}
+use Rattle.rmi_list.specs.Listed.{Listing, Progress, list_item, list_named, list_rec, list_region, list_step, list_steps, listed, opening_progress, opening_checks, opening_entries, plan_checks, pool_check}
 use Rattle.rmi_list.specs.Measured.{least_level, measured, of_named, page_base, rec_part, step_parts}
 use Rattle.rmi_list.specs.RecParams.{rec_params}
 use Rattle.rmi_list.proofs.Checking.{bound, fronted, is-done, plan-off}
@@ -236,7 +236,7 @@ steps-end l p contents (st ∷ ss) s w entries good few is_listed at =
     rw words (then-ends s cs (commands_of contents others) (step_parts l p contents st) (flat_map (step_parts l p contents) ss) (realm_params l.config) here.accepted here.shown rest)
 
 opened-listed : (c : Config) (contents : Contents)
-    → Follows c (empty_state c.num_aux) (commands_of contents (opening_entries c)) (Realm (realm_page_of (realm_params c)) ∷ []) (opening c)
+    → Follows c (empty_state c.num_aux) (commands_of contents (opening_entries c)) (Realm (realm_page_of (realm_params c)) ∷ []) (opening_progress c)
 opened-listed c contents =
     let pool : c.pool_base % 65536 ≡ 0 = c.pool_aligned in
     let led = realm-leads contents (build_of c) (good-realm c) refl (omega arith) in
@@ -258,11 +258,11 @@ list-is-followed l p contents entries good at =
     let first = bound (unless_refused checks (opening_entries c)) _ entries at in
     let opened : opening_entries c ≡ first.0 = is-done checks (opening_entries c) (first.0) (first.1) in
     let many : nat_lt REC_LIMIT (length p.recs) ≡ false = off-at checks 0 fault.NoMemory (none-holds checks (opening_entries c) (first.0) (first.1)) in
-    let second = fronted (first.0) (list_steps l p (opening c) l.steps) entries (first.2) in
+    let second = fronted (first.0) (list_steps l p (opening_progress c) l.steps) entries (first.2) in
     let others : List Entry = second.0 in
     let here = opened-listed c contents in
     let cs : List Command = commands_of contents (opening_entries c) in
-    let rest = steps-end l p contents l.steps (run s cs) (opening c) others good (grind (arith, nat_tests)) here.listed (second.1) in
+    let rest = steps-end l p contents l.steps (run s cs) (opening_progress c) others good (grind (arith, nat_tests)) here.listed (second.1) in
     let words : commands_of contents entries ≡ cs ++ commands_of contents others =
     ap (commands_of contents) (second.2 ∙ ap (λ es. es ++ others) (sym opened)) ∙ map-append (command_of contents) (opening_entries c) others in
     let ends : Ends s (commands_of contents entries) (measured l p contents) (realm_params c) =

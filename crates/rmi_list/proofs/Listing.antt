@@ -11,7 +11,7 @@ use Rattle.ipa_layout.specs.Layout.{PlacedData}
 use Rattle.rmi_list.specs.declared.draft.Draft.{Draft}
 use Rattle.rmi_list.specs.declared.fault.ListFault.{ListFault}
 use Rattle.rmi_list.specs.declared.fault.ListFault.TheVariants as fault
-use Rattle.rmi_list.specs.Listed.{Listing, Progress, list_step, list_steps, listed, opening, opening_entries}
+use Rattle.rmi_list.specs.Listed.{Listing, Progress, list_step, list_steps, listed, opening_progress, opening_entries}
 use Rattle.rmi_list.specs.inside.Drafts.{AreSpans, Grows, InPool, Makes, entries_in, progress_of}
 use Rattle.list_model.proofs.Counting.{count-append}
 use Rattle.rmi_list.proofs.Alike.{steps-alike}
@@ -56,7 +56,7 @@ begin-refused l p e few (inr full) =
     inr (rw off (rw on (rw full.0 refl)))
 
 pub listing-begins : (l : LaunchData) (p : PlacedData) (d : Draft) → length p.recs ≤ 512 → d.launch.now ≡ l → d.placed.now ≡ p → entries_in d ≡ opening_entries l.config
-    → progress_of d ≡ opening l.config → InPool d → AreSpans d → IsListing l p d l.steps
+    → progress_of d ≡ opening_progress l.config → InPool d → AreSpans d → IsListing l p d l.steps
 unfolding listed
 listing-begins l p d few launch placed entries progress within spans =
     let off : nat_lt REC_LIMIT (length p.recs) ≡ false = grind (arith, nat_tests) in

@@ -30,7 +30,7 @@ use Rattle.ipa_layout.specs.declared.rec.PlacedRec.{PlacedRec}
 use Rattle.rmi_list.specs.declared.draft.Draft.{Draft}
 use Rattle.rmi_list.specs.declared.fault.ListFault.{ListFault}
 use Rattle.rmi_list.specs.declared.fault.ListFault.TheVariants as fault
-use Rattle.rmi_list.specs.Listed.{Listing, list_fault, list_item, list_named, list_rec, list_region, plan_checks, pool_check}
+use Rattle.rmi_list.specs.Listed.{Listing, plan_fault, list_item, list_named, list_rec, list_region, plan_checks, pool_check}
 use Rattle.rmi_list.specs.Measured.{page_base}
 use Rattle.rmi_list.specs.RecParams.{rec_params}
 use Rattle.rmi_list.specs.inside.Acts.{HaveRoom}
@@ -129,7 +129,7 @@ region-continues old new t r acts result within planned agrees lists =
     (subst (Lists (record old { tables = t }) new result) listed lists)
 
 pub region-refused : (old : Draft) (r : Region) (e : PlanFault) → (e ≡ plan.NoMemory) ⊎ (plan_region old.tables r.base r.end ≡ Err e)
-    → (list_fault e ≡ fault.NoMemory) ⊎ (list_region old.launch.now.config (progress_of old) r ≡ Err (list_fault e))
+    → (plan_fault e ≡ fault.NoMemory) ⊎ (list_region old.launch.now.config (progress_of old) r ≡ Err (plan_fault e))
 unfolding plan_region list_region
 region-refused old r e h =
     let c : Config = old.launch.now.config in
@@ -158,7 +158,7 @@ item-continues old new t number item acts result within some planned agrees list
 
 pub item-refused : (old : Draft) (number : ℕ) (item : PlacedItem) (e : PlanFault) → eqb item.pages 0 ≡ false
     → (e ≡ plan.NoMemory) ⊎ (plan_data old.tables (page_base item) item.pages ≡ Err e)
-    → (list_fault e ≡ fault.NoMemory) ⊎ (list_item old.launch.now.config (progress_of old) number item ≡ Err (list_fault e))
+    → (plan_fault e ≡ fault.NoMemory) ⊎ (list_item old.launch.now.config (progress_of old) number item ≡ Err (plan_fault e))
 unfolding plan_data list_item
 item-refused old number item e some h =
     let c : Config = old.launch.now.config in

@@ -44,9 +44,9 @@ abbrev pub pool_check : Config → ℕ → List Entry → Check ListFault
 pool_check c taken entries = (PoolEnd, nat_lt c.pool_count (taken + delegated entries))
 
 -- a fault of the planner, as a list answers it: want of memory is the list's own
-abbrev pub list_fault : PlanFault → ListFault
-list_fault plan.NoMemory = NoMemory
-list_fault e = Plan e
+abbrev pub plan_fault : PlanFault → ListFault
+plan_fault plan.NoMemory = NoMemory
+plan_fault e = Plan e
 
 -- the checks of a plan, each refusing by its own fault
 abbrev pub plan_checks : List (Check PlanFault) → List (Check ListFault)
@@ -104,8 +104,8 @@ abbrev pub opening_entries : Config → List Entry
 opening_entries c = realm_entries c.pool_base (realm_params c)
 
 -- what was listed with them
-abbrev pub opening : Config → Progress
-opening c = record { plan = nothing_planned c.s2sz c.block_level; taken = delegated (opening_entries c); num_recs = 0 }
+abbrev pub opening_progress : Config → Progress
+opening_progress c = record { plan = nothing_planned c.s2sz c.block_level; taken = delegated (opening_entries c); num_recs = 0 }
 
 abbrev pub opening_checks : Config → List PlacedRec → List (Check ListFault)
 opening_checks c recs = (TooManyRecs, nat_lt REC_LIMIT (length recs)) ∷ pool_check c 0 (opening_entries c) ∷ []
@@ -113,7 +113,7 @@ opening_checks c recs = (TooManyRecs, nat_lt REC_LIMIT (length recs)) ∷ pool_c
 -- the list of a launch that has its place
 unfoldable pub listed : LaunchData → PlacedData → Result (List Entry) ListFault
 listed l p = unless_refused (opening_checks l.config p.recs) (opening_entries l.config)
-    >>= λ first. with_front first (list_steps l p (opening l.config) l.steps)
+    >>= λ first. with_front first (list_steps l p (opening_progress l.config) l.steps)
 
 -- the launch has its place, with some files: what a call asks that lists it
 abbrev pub HasPlace : LaunchData → PlacedData → Type 0

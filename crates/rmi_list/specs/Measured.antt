@@ -16,7 +16,7 @@ use Rattle.rim_launch.specs.Realm.{realm_params}
 use Rattle.rim_launch.specs.declared.config.Config.{Config}
 use Rattle.rim_launch.specs.declared.step.Step.{Step}
 use Rattle.rim_launch.specs.declared.step.Step.TheVariants as step
-use Rattle.ipa_layout.specs.Layout.{PlacedData, contents_of}
+use Rattle.ipa_layout.specs.Layout.{PlacedData, bytes_of_source}
 use Rattle.ipa_layout.specs.declared.placed.PlacedItem.{PlacedItem}
 use Rattle.ipa_layout.specs.declared.rec.PlacedRec.{PlacedRec}
 use Rattle.rmi_list.specs.RecParams.{rec_params}
@@ -24,12 +24,12 @@ use Rattle.rmi_list.specs.RecParams.{rec_params}
 -- ---- the contents of a placed launch
 
 -- the measurement of page k of an item; nothing where there is no such item
-abbrev pub digest_of : Algo → List (List ℕ) → PlacedData → Option PlacedItem → ℕ → List ℕ
-digest_of algo files p None k = []
-digest_of algo files p (Some item) k = measurement_of algo (page_bytes item.lead (contents_of files p item.source) k)
+abbrev pub item_page_digest : Algo → List (List ℕ) → PlacedData → Option PlacedItem → ℕ → List ℕ
+item_page_digest algo files p None k = []
+item_page_digest algo files p (Some item) k = measurement_of algo (page_bytes item.lead (bytes_of_source files p item.source) k)
 
-abbrev pub contents : LaunchData → List (List ℕ) → PlacedData → Contents
-contents l files p item k = record { bytes = digest_of l.config.algo files p (slice_get p.items item) k }
+abbrev pub page_contents : LaunchData → List (List ℕ) → PlacedData → Contents
+page_contents l files p item k = record { bytes = item_page_digest l.config.algo files p (slice_get p.items item) k }
 
 -- ---- its parts
 

@@ -1,6 +1,6 @@
 //! Why a launch has no list of commands.
 ghost use Rattle.std.specs.Prelude.{◌≡◌};
-ghost use Rattle.rmi_list.specs.Listed.{list_fault};
+ghost use Rattle.rmi_list.specs.Listed.{plan_fault};
 ghost use Rattle.rmi_list.specs.declared.fault.ListFault.TheVariants as fault;
 
 use refusal::NoMemory;
@@ -25,7 +25,7 @@ pub enum ListFault {
 }
 
 impl From<PlanFault> for ListFault {
-    ghost from_gives = { λ e f. f ≡ list_fault e };
+    ghost from_gives = { λ e f. f ≡ plan_fault e };
 
     fn from(fault: PlanFault) -> ListFault {
         match fault {

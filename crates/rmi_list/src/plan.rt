@@ -3,7 +3,7 @@ ghost use Rattle.std.specs.Prelude.{◌≡◌, ℕ, List, ◌+◌, ◌-◌, ◌*
 ghost use Rattle.refusal.specs.Answer.{Answers};
 ghost use Rattle.rmm_model.specs.Blocks.{granules};
 ghost use Rattle.list_model.specs.Entries.{Whole, command_of, delegated, granule, page_of};
-ghost use Rattle.rmi_list.specs.Listed.{HasPlace, IsRefusal, listed, opening, opening_entries};
+ghost use Rattle.rmi_list.specs.Listed.{HasPlace, IsRefusal, listed, opening_progress, opening_entries};
 ghost use Rattle.rmi_list.specs.declared.fault.ListFault.{ListFault};
 ghost use Rattle.rmi_list.specs.inside.Drafts.{AreSpans, InPool, entries_in, progress_of};
 ghost use Rattle.rmi_list.specs.inside.Spans.{IsCommandAt, IsPageAt, IsSpan, commands_in, entries_of_span, rec_entry};
@@ -95,7 +95,7 @@ fn open<'a>(alloc: Global, launch: &'a Launch, placed: &'a Placed) -> Result<Dra
     ensures launch { IfOk result (λ d. d.launch.now ≡ launch.now) }
     ensures placed { IfOk result (λ d. d.placed.now ≡ placed.now) }
     ensures entries { IfOk result (λ d. entries_in d ≡ opening_entries launch.now.config) }
-    ensures progress { IfOk result (λ d. progress_of d ≡ opening launch.now.config) }
+    ensures progress { IfOk result (λ d. progress_of d ≡ opening_progress launch.now.config) }
     ensures pool { IfOk result InPool }
     ensures spans { IfOk result AreSpans }
     ensures fault { IfErr result (λ e. (e ≡ ListFault.NoMemory)

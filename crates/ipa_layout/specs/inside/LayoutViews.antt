@@ -1,5 +1,5 @@
 -- What the program's values are in the model while it places a launch. This project's choice.
-use Rattle.std.specs.Prelude.{ℕ, List, map, Option, Some, None, Result, Ok, Err}
+use Rattle.std.specs.Prelude.{ℕ, List, Option, Some, None, Result, Ok, Err}
 use Rattle.std.specs.Global.{Global}
 use Rattle.std.specs.declared.vec.Vec.{Vec}
 use Rattle.refusal.specs.Answer.{◌>>=◌}
@@ -8,10 +8,6 @@ use Rattle.fdt_tree.specs.declared.fault.FdtFault.{FdtFault}
 use Rattle.fdt_tree.specs.Faults.{own_fault}
 use Rattle.ipa_layout.specs.declared.dtb.Dtb.{Dtb}
 use Rattle.ipa_layout.specs.declared.dtb.Dtb.TheVariants as dtb
-
--- what files hold
-abbrev pub contents : {Z : Type 0} → List (Vec ℕ Z) → List (List ℕ)
-contents files = map (λ f. f.items) files
 
 -- the edited devicetree, if the launch has one, or why it cannot be edited
 abbrev pub seen : Dtb → Result (Option (List ℕ)) FdtFault

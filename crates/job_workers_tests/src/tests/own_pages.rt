@@ -2,7 +2,7 @@
 ghost use Rattle.std.specs.Prelude.{map, IfOk};
 ghost use Rattle.page_jobs.specs.Key.{IsRising};
 ghost use Rattle.page_jobs.specs.Page.{page_view};
-ghost use Rattle.page_jobs.specs.Table.{keys_of};
+ghost use Rattle.page_jobs.specs.Table.{page_keys_of};
 
 use super::{check, plan_of, run_two};
 use job_board::{JobId, has_all_keys};
@@ -61,7 +61,7 @@ impl Gate for Held {
 
 /// The page of each file.
 fn pages_of_files(alloc: Global) -> Result<Vec<Page<'static>>, NoMemory>
-    ensures { IfOk result (λ pages. IsRising (keys_of (map page_view pages.items))) }
+    ensures { IfOk result (λ pages. IsRising (page_keys_of (map page_view pages.items))) }
 {
     let mut pages = Vec::new(alloc);
     pages.push(Blob::new(Source::File(0), 0, &SEVENS).page(Algo::Sha256, 0))?;

@@ -1,7 +1,7 @@
 //! Runs of workers over pages: what is counted, who is started, and what is called around each job.
 ghost use Rattle.std.specs.Prelude.{◌≡◌, [], length, replicate, None};
 ghost use Rattle.std.specs.List.{All, Contains};
-ghost use Rattle.page_jobs.specs.Table.{keys_of};
+ghost use Rattle.page_jobs.specs.Table.{page_keys_of};
 ghost use Rattle.rim_chain.specs.Links.{keys_of as link_keys};
 
 use super::{STACK, check, pages_of, plans_of};
@@ -213,7 +213,7 @@ fn put_once<'a, L: Run>(
     requires parts { (blank.parts ≡ L.parts) × (blank.parts ≡ 2) }
     requires pages { table.pages ≡ L.pages }
     requires plans { plans.now ≡ L.plans }
-    requires keys { All (λ p. All (Contains (keys_of table.pages)) (link_keys p.links)) plans.now }
+    requires keys { All (λ p. All (Contains (page_keys_of table.pages)) (link_keys p.links)) plans.now }
     requires empty { table.digests ≡ replicate (length table.pages) None }
 {
     let (state, mut shares) = BoardState::<L>::new(alloc, blank, 2, table, plans)?;

@@ -2,7 +2,7 @@
 ghost use Rattle.std.specs.Prelude.{map, IfOk};
 ghost use Rattle.page_jobs.specs.Key.{IsRising};
 ghost use Rattle.page_jobs.specs.Page.{page_view};
-ghost use Rattle.page_jobs.specs.Table.{keys_of};
+ghost use Rattle.page_jobs.specs.Table.{page_keys_of};
 
 use super::{Row, check, digest_of, item, key_of, page_of, pages_of};
 use page_jobs::{DigestRow, Page, PageJob, PageKey, Table, distinct_pages};
@@ -158,7 +158,7 @@ const EMPTY: [usize; 4] = [1, 4_095, 65_537, 99_998];
 
 /// 100,000 pages, made from the last to the first.
 fn many_pages(alloc: Global, item: &[u8]) -> Result<Vec<Page<'_>>, AllocError>
-    ensures { IfOk result (λ pages. IsRising (keys_of (map page_view pages.items))) }
+    ensures { IfOk result (λ pages. IsRising (page_keys_of (map page_view pages.items))) }
 {
     let mut pages = Vec::new(alloc);
     for number in 0..100_000u64 {

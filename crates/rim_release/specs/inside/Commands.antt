@@ -7,13 +7,13 @@ use Rattle.rmm_model.specs.State.{State, empty_state}
 use Rattle.list_model.specs.Entries.{commands_of}
 use Rattle.ipa_layout.specs.Layout.{PlacedData}
 use Rattle.ipa_layout.specs.declared.placed.PlacedItem.{PlacedItem}
-use Rattle.ipa_layout.specs.inside.LayoutViews.{contents}
-use Rattle.rmi_list.specs.Measured.{contents as page_contents}
+use Rattle.ipa_layout.specs.Files.{bytes_of_files}
+use Rattle.rmi_list.specs.Measured.{page_contents}
 use Rattle.rim_release.specs.declared.commands.LaunchCommands.{LaunchCommands}
 
 -- the commands, with the measurement of each measured page
 abbrev pub commands_in : LaunchCommands → List Command
-commands_in c = commands_of (page_contents c.launch.now (contents c.files.now) c.placed.now) c.plan.now
+commands_in c = commands_of (page_contents c.launch.now (bytes_of_files c.files.now) c.placed.now) c.plan.now
 
 -- where a monitor is after the first of them
 abbrev pub state_after : LaunchCommands → ℕ → State

@@ -1,5 +1,5 @@
 use Rattle.std.specs.List.{AllWithin, Contains}
-use Rattle.page_jobs.specs.Table.{keys_of as page_keys}
+use Rattle.page_jobs.specs.Table.{page_keys_of as page_keys}
 use Rattle.rim_chain.specs.Links.{keys_of}
 use Rattle.job_board.proofs.known.has_keys.Given as goal
 

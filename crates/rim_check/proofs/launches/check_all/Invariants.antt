@@ -1,7 +1,7 @@
 use Rattle.std.proofs.Common.{take}
-use Rattle.ipa_layout.specs.inside.LayoutViews.{contents}
+use Rattle.ipa_layout.specs.Files.{bytes_of_files}
 use Rattle.rim_check.proofs.LaunchLines.{AreChecked}
 use Rattle.rim_check.proofs.launches.check_all.Given as goal
 
 abbrev pub invariant-loop-number : goal.invariant-loop-number
-invariant-loop-number l = AreChecked (contents l.files) (take l.number l.launch-items) l.text.items l.has_refused
+invariant-loop-number l = AreChecked (bytes_of_files l.files) (take l.number l.launch-items) l.text.items l.has_refused

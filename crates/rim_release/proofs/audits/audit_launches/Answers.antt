@@ -1,5 +1,5 @@
 use Rattle.std.proofs.Common.{◌≡◌, ◌∙◌, ◌++◌, ℕ, List, Vec, Global, ap, codes, map}
-use Rattle.ipa_layout.specs.inside.LayoutViews.{contents}
+use Rattle.ipa_layout.specs.Files.{bytes_of_files}
 use Rattle.rim_manifest.specs.Launches.{NamedData}
 use Rattle.rim_release.specs.Accepted.{rim_for}
 use Rattle.rim_release.specs.Report.{lines_of, seen}
@@ -12,10 +12,10 @@ use Rattle.rim_release.proofs.audits.audit_launches.Goals as goal
 
 pub returns-clause-text : goal.returns-clause-text
 returns-clause-text c =
-    let files : List (List ℕ) = contents c.args.files.now.items in
+    let files : List (List ℕ) = bytes_of_files c.args.files.now.items in
     let launches : List NamedData = c.args.release.now.launches in
     let came = ap (map seen) c.deref-2.ensures.value ∙ c.in_ok-outcomes.ensures
-    ∙ ap (λ (fs : List (Vec ℕ Global)). map (λ (l : NamedData). rim_for l.launch (contents fs)) launches) c.deref.ensures.value in
+    ∙ ap (λ (fs : List (Vec ℕ Global)). map (λ (l : NamedData). rim_for l.launch (bytes_of_files fs)) launches) c.deref.ensures.value in
     let lines : lines_with c.all_launches.result.now c.deref-2.result.now ≡ lines_of files launches
     = ap (λ (ls : List NamedData). lines_with ls c.deref-2.result.now) c.all_launches.ensures.value ∙ own-lines files launches c.deref-2.result.now came in
     c.in_ok-push_lines.ensures.text
@@ -25,8 +25,8 @@ returns-clause-text c =
 
 pub returns-clause-refused : goal.returns-clause-refused
 returns-clause-refused c =
-    let files : List (List ℕ) = contents c.args.files.now.items in
+    let files : List (List ℕ) = bytes_of_files c.args.files.now.items in
     let launches : List NamedData = c.args.release.now.launches in
     let came = c.in_ok-outcomes.ensures
-    ∙ ap (λ (fs : List (Vec ℕ Global)). map (λ (l : NamedData). rim_for l.launch (contents fs)) launches) c.deref.ensures.value in
+    ∙ ap (λ (fs : List (Vec ℕ Global)). map (λ (l : NamedData). rim_for l.launch (bytes_of_files fs)) launches) c.deref.ensures.value in
     c.any_refused.ensures ∙ ap (list_any is_err) c.deref-3.ensures.value ∙ any-refused files launches _ came

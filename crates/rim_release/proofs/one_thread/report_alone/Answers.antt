@@ -4,7 +4,7 @@ use Rattle.std.specs.Prelude.{is_err}
 use Rattle.std.proofs.Common.{◌≡◌, ◌∙◌, ℕ, List, Vec, Global, ap, length, map, subst, true, sym, Ok, Result}
 use Rattle.std.specs.List.{All, list_any}
 use Rattle.std.proofs.lemmas.List.{length-map}
-use Rattle.ipa_layout.specs.inside.LayoutViews.{contents}
+use Rattle.ipa_layout.specs.Files.{bytes_of_files}
 use Rattle.page_jobs.specs.Key.{IsRising}
 use Rattle.page_jobs.specs.Page.{page_view}
 use Rattle.page_jobs.specs.Table as table
@@ -26,15 +26,15 @@ use Rattle.rim_release.proofs.one_thread.report_alone.Goals as goal
 
 pub hashed-requires : goal.hashed-requires
 hashed-requires c =
-    let found = subst (λ (fs : List (Vec ℕ Global)). pages_of (contents fs) c.args.release.now.launches ≡ Ok (map page_view c.in_ok-pages.pages.items)) c.deref-3.ensures.value c.in_ok-pages.ensures in
-    subst (λ (pages : List Page). IsRising (table.keys_of (map page_view pages))) (sym c.deref-4.ensures.value)
-    (rising-pages (contents c.args.files.now.items) c.args.release.now.launches _ found)
+    let found = subst (λ (fs : List (Vec ℕ Global)). pages_of (bytes_of_files fs) c.args.release.now.launches ≡ Ok (map page_view c.in_ok-pages.pages.items)) c.deref-3.ensures.value c.in_ok-pages.ensures in
+    subst (λ (pages : List Page). IsRising (table.page_keys_of (map page_view pages))) (sym c.deref-4.ensures.value)
+    (rising-pages (bytes_of_files c.args.files.now.items) c.args.release.now.launches _ found)
 
 pub chains-requires : goal.chains-requires
 chains-requires c =
-    let files : List (List ℕ) = contents c.args.files.now.items in
-    let found = subst (λ (fs : List (Vec ℕ Global)). pages_of (contents fs) c.args.release.now.launches ≡ Ok (map page_view c.in_ok-pages.pages.items)) c.deref-3.ensures.value c.in_ok-pages.ensures in
-    let prepared = subst (λ (fs : List (Vec ℕ Global)). ArePrepared (contents fs) c.args.release.now.launches c.in_ok-prepared.prepared.places.items c.in_ok-prepared.prepared.plans.items)
+    let files : List (List ℕ) = bytes_of_files c.args.files.now.items in
+    let found = subst (λ (fs : List (Vec ℕ Global)). pages_of (bytes_of_files fs) c.args.release.now.launches ≡ Ok (map page_view c.in_ok-pages.pages.items)) c.deref-3.ensures.value c.in_ok-pages.ensures in
+    let prepared = subst (λ (fs : List (Vec ℕ Global)). ArePrepared (bytes_of_files fs) c.args.release.now.launches c.in_ok-prepared.prepared.places.items c.in_ok-prepared.prepared.plans.items)
     c.deref.ensures.value c.in_ok-prepared.ensures in
     let size : length files ≡ length c.args.release.now.paths
     = length-map c.args.files.now.items (λ f. f.items) ∙ ap length (sym c.deref.ensures.value) ∙ c.deref.ensures.len ∙ c.requires in
@@ -45,11 +45,11 @@ chains-requires c =
 
 pub returns-clause-text : goal.returns-clause-text
 returns-clause-text c =
-    let files : List (List ℕ) = contents c.args.files.now.items in
+    let files : List (List ℕ) = bytes_of_files c.args.files.now.items in
     let launches : List NamedData = c.args.release.now.launches in
     let rims : List Measurement = c.in_ok-rims.rims.items in
-    let found = subst (λ (fs : List (Vec ℕ Global)). pages_of (contents fs) c.args.release.now.launches ≡ Ok (map page_view c.in_ok-pages.pages.items)) c.deref-3.ensures.value c.in_ok-pages.ensures in
-    let prepared = subst (λ (fs : List (Vec ℕ Global)). ArePrepared (contents fs) c.args.release.now.launches c.in_ok-prepared.prepared.places.items c.in_ok-prepared.prepared.plans.items)
+    let found = subst (λ (fs : List (Vec ℕ Global)). pages_of (bytes_of_files fs) c.args.release.now.launches ≡ Ok (map page_view c.in_ok-pages.pages.items)) c.deref-3.ensures.value c.in_ok-pages.ensures in
+    let prepared = subst (λ (fs : List (Vec ℕ Global)). ArePrepared (bytes_of_files fs) c.args.release.now.launches c.in_ok-prepared.prepared.places.items c.in_ok-prepared.prepared.plans.items)
     c.deref.ensures.value c.in_ok-prepared.ensures in
     let size : length files ≡ length c.args.release.now.paths
     = length-map c.args.files.now.items (λ f. f.items) ∙ ap length (sym c.deref.ensures.value) ∙ c.deref.ensures.len ∙ c.requires in
@@ -70,6 +70,6 @@ returns-clause-text c =
 
 pub returns-clause-refused : goal.returns-clause-refused
 returns-clause-refused c =
-    let prepared = subst (λ (fs : List (Vec ℕ Global)). ArePrepared (contents fs) c.args.release.now.launches c.in_ok-prepared.prepared.places.items c.in_ok-prepared.prepared.plans.items)
+    let prepared = subst (λ (fs : List (Vec ℕ Global)). ArePrepared (bytes_of_files fs) c.args.release.now.launches c.in_ok-prepared.prepared.places.items c.in_ok-prepared.prepared.plans.items)
     c.deref.ensures.value c.in_ok-prepared.ensures in
-    c.has_refused.ensures ∙ ap (list_any is_err) (c.deref-9.ensures.value ∙ prepared.0) ∙ list_any_map is_err (λ (l : NamedData). accepted_of l.launch (contents c.args.files.now.items)) c.args.release.now.launches
+    c.has_refused.ensures ∙ ap (list_any is_err) (c.deref-9.ensures.value ∙ prepared.0) ∙ list_any_map is_err (λ (l : NamedData). accepted_of l.launch (bytes_of_files c.args.files.now.items)) c.args.release.now.launches

@@ -1,6 +1,6 @@
 use Rattle.std.proofs.Common.{◌≡◌, map, take}
 use Rattle.std.specs.List.{flat_map}
-use Rattle.ipa_layout.specs.inside.LayoutViews.{contents}
+use Rattle.ipa_layout.specs.Files.{bytes_of_files}
 use Rattle.page_jobs.specs.Page.{page_named, page_view}
 use Rattle.page_jobs.specs.Ranges.{range_keys}
 use Rattle.rim_release.specs.Pages.{source_bytes}
@@ -8,4 +8,4 @@ use Rattle.rim_release.proofs.pages.pages_in.Given as goal
 
 abbrev pub invariant-loop-range : goal.invariant-loop-range
 invariant-loop-range l =
-    map page_view l.pages.items ≡ map (page_named (source_bytes (contents l.files) l.places)) (flat_map range_keys (take l.range-index l.ranges))
+    map page_view l.pages.items ≡ map (page_named (source_bytes (bytes_of_files l.files) l.places)) (flat_map range_keys (take l.range-index l.ranges))

@@ -3,10 +3,10 @@ use Rattle.std.specs.Prelude.{is_err}
 use Rattle.std.specs.List.{All, AllByRecursion, Contains, list_any}
 use Rattle.std.proofs.lemmas.List.{length-map, length-replicate}
 use Rattle.ipa_layout.specs.Layout.{PlacedData}
-use Rattle.ipa_layout.specs.inside.LayoutViews.{contents}
+use Rattle.ipa_layout.specs.Files.{bytes_of_files}
 use Rattle.page_jobs.specs.Key.{IsRising}
 use Rattle.page_jobs.specs.Page.{page_view}
-use Rattle.page_jobs.specs.Table.{keys_of as page_keys_of}
+use Rattle.page_jobs.specs.Table.{page_keys_of}
 use Rattle.page_jobs.specs.declared.page.Page.{Page}
 use Rattle.page_jobs.specs.declared.page.PageKey.{PageKey}
 use Rattle.rim_chain.specs.Links.{PlanView, keys_of}
@@ -30,15 +30,15 @@ use Rattle.rim_release.proofs.workers.measure_release.Goals as goal
 
 pub run-requires-clause-rising : goal.run-requires-clause-rising
 run-requires-clause-rising g c = λ lifetimes outlives.
-    let found = subst (λ (fs : List (Vec ℕ Global)). pages_of (contents fs) c.args.release.now.launches ≡ Ok (map page_view c.in_ok-pages.pages.items)) c.deref-3.ensures.value c.in_ok-pages.ensures in
+    let found = subst (λ (fs : List (Vec ℕ Global)). pages_of (bytes_of_files fs) c.args.release.now.launches ≡ Ok (map page_view c.in_ok-pages.pages.items)) c.deref-3.ensures.value c.in_ok-pages.ensures in
     subst (λ (pages : List Page). IsRising (page_keys_of (map page_view pages))) (sym c.deref-6.ensures.value)
-    (rising-pages (contents c.args.files.now.items) c.args.release.now.launches _ found)
+    (rising-pages (bytes_of_files c.args.files.now.items) c.args.release.now.launches _ found)
 
 pub run-requires-clause-keys : goal.run-requires-clause-keys
 run-requires-clause-keys g c = λ lifetimes outlives.
-    let files : List (List ℕ) = contents c.args.files.now.items in
-    let found = subst (λ (fs : List (Vec ℕ Global)). pages_of (contents fs) c.args.release.now.launches ≡ Ok (map page_view c.in_ok-pages.pages.items)) c.deref-3.ensures.value c.in_ok-pages.ensures in
-    let prepared = subst (λ (fs : List (Vec ℕ Global)). ArePrepared (contents fs) c.args.release.now.launches c.in_ok-prepared.prepared.places.items c.in_ok-prepared.prepared.plans.items)
+    let files : List (List ℕ) = bytes_of_files c.args.files.now.items in
+    let found = subst (λ (fs : List (Vec ℕ Global)). pages_of (bytes_of_files fs) c.args.release.now.launches ≡ Ok (map page_view c.in_ok-pages.pages.items)) c.deref-3.ensures.value c.in_ok-pages.ensures in
+    let prepared = subst (λ (fs : List (Vec ℕ Global)). ArePrepared (bytes_of_files fs) c.args.release.now.launches c.in_ok-prepared.prepared.places.items c.in_ok-prepared.prepared.plans.items)
     c.deref.ensures.value c.in_ok-prepared.ensures in
     subst (λ (pages : List Page). All (λ (p : PlanView). All (Contains (page_keys_of (map page_view pages))) (keys_of p.links)) c.deref-7.result.now) (sym c.deref-6.ensures.value)
     (subst (λ (plans : List PlanView). All (λ (p : PlanView). All (Contains (page_keys_of (map page_view c.in_ok-pages.pages.items))) (keys_of p.links)) plans) (sym c.deref-7.ensures.value)
@@ -77,10 +77,10 @@ fill-filled-requires g c =
 
 pub returns-clause-report : goal.returns-clause-report
 returns-clause-report g c =
-    let files : List (List ℕ) = contents c.args.files.now.items in
+    let files : List (List ℕ) = bytes_of_files c.args.files.now.items in
     let launches : List NamedData = c.args.release.now.launches in
-    let found = subst (λ (fs : List (Vec ℕ Global)). pages_of (contents fs) c.args.release.now.launches ≡ Ok (map page_view c.in_ok-pages.pages.items)) c.deref-3.ensures.value c.in_ok-pages.ensures in
-    let prepared = subst (λ (fs : List (Vec ℕ Global)). ArePrepared (contents fs) c.args.release.now.launches c.in_ok-prepared.prepared.places.items c.in_ok-prepared.prepared.plans.items)
+    let found = subst (λ (fs : List (Vec ℕ Global)). pages_of (bytes_of_files fs) c.args.release.now.launches ≡ Ok (map page_view c.in_ok-pages.pages.items)) c.deref-3.ensures.value c.in_ok-pages.ensures in
+    let prepared = subst (λ (fs : List (Vec ℕ Global)). ArePrepared (bytes_of_files fs) c.args.release.now.launches c.in_ok-prepared.prepared.places.items c.in_ok-prepared.prepared.plans.items)
     c.deref.ensures.value c.in_ok-prepared.ensures in
     let read : length files ≡ length c.args.release.now.paths
     = length-map c.args.files.now.items (λ f. f.items) ∙ ap length (sym c.deref.ensures.value) ∙ c.deref.ensures.len ∙ c.requires in
@@ -115,10 +115,10 @@ returns-clause-report g c =
 
 pub returns-clause-launches : goal.returns-clause-launches
 returns-clause-launches g c =
-    let files : List (List ℕ) = contents c.args.files.now.items in
+    let files : List (List ℕ) = bytes_of_files c.args.files.now.items in
     let launches : List NamedData = c.args.release.now.launches in
-    let found = subst (λ (fs : List (Vec ℕ Global)). pages_of (contents fs) c.args.release.now.launches ≡ Ok (map page_view c.in_ok-pages.pages.items)) c.deref-3.ensures.value c.in_ok-pages.ensures in
-    let prepared = subst (λ (fs : List (Vec ℕ Global)). ArePrepared (contents fs) c.args.release.now.launches c.in_ok-prepared.prepared.places.items c.in_ok-prepared.prepared.plans.items)
+    let found = subst (λ (fs : List (Vec ℕ Global)). pages_of (bytes_of_files fs) c.args.release.now.launches ≡ Ok (map page_view c.in_ok-pages.pages.items)) c.deref-3.ensures.value c.in_ok-pages.ensures in
+    let prepared = subst (λ (fs : List (Vec ℕ Global)). ArePrepared (bytes_of_files fs) c.args.release.now.launches c.in_ok-prepared.prepared.places.items c.in_ok-prepared.prepared.plans.items)
     c.deref.ensures.value c.in_ok-prepared.ensures in
     let read : length files ≡ length c.args.release.now.paths
     = length-map c.args.files.now.items (λ f. f.items) ∙ ap length (sym c.deref.ensures.value) ∙ c.deref.ensures.len ∙ c.requires in
@@ -147,6 +147,6 @@ returns-clause-launches g c =
 
 pub returns-clause-refused : goal.returns-clause-refused
 returns-clause-refused g c =
-    let prepared = subst (λ (fs : List (Vec ℕ Global)). ArePrepared (contents fs) c.args.release.now.launches c.in_ok-prepared.prepared.places.items c.in_ok-prepared.prepared.plans.items)
+    let prepared = subst (λ (fs : List (Vec ℕ Global)). ArePrepared (bytes_of_files fs) c.args.release.now.launches c.in_ok-prepared.prepared.places.items c.in_ok-prepared.prepared.plans.items)
     c.deref.ensures.value c.in_ok-prepared.ensures in
-    c.has_refused.ensures ∙ ap (list_any is_err) (c.deref-9.ensures.value ∙ prepared.0) ∙ list_any_map is_err (λ (l : NamedData). accepted_of l.launch (contents c.args.files.now.items)) c.args.release.now.launches
+    c.has_refused.ensures ∙ ap (list_any is_err) (c.deref-9.ensures.value ∙ prepared.0) ∙ list_any_map is_err (λ (l : NamedData). accepted_of l.launch (bytes_of_files c.args.files.now.items)) c.args.release.now.launches

@@ -1,7 +1,7 @@
 use Rattle.std.proofs.Common.{List, subst, sym}
 use Rattle.std.specs.List.{All, Contains}
 use Rattle.page_jobs.specs.Page.{PageView}
-use Rattle.page_jobs.specs.Table.{keys_of as page_keys_of}
+use Rattle.page_jobs.specs.Table.{page_keys_of}
 use Rattle.rim_chain.specs.Links.{keys_of}
 use Rattle.rim_release.proofs.workers.run.Goals as goal
 

@@ -3,13 +3,13 @@ use Rattle.std.specs.Prelude.{option_map, slice_get}
 use Rattle.std.proofs.lemmas.Option.{slice_get-get_or, slice_get-map}
 use Rattle.page_jobs.specs.Key.{IsRising}
 use Rattle.page_jobs.specs.Page.{page_view}
-use Rattle.page_jobs.specs.Table.{TableView, keys_of, slot_of}
+use Rattle.page_jobs.specs.Table.{TableView, page_keys_of, slot_of}
 use Rattle.page_jobs.specs.declared.page.Page.{Page}
 use Rattle.page_jobs.specs.declared.page.PageKey.{PageKey}
 use Rattle.page_jobs.proofs.Keys.{slot-page}
 use Rattle.page_jobs.proofs.table.Table.has_key.Goals as goal
 
-slot-at : (pages : List Page) (slot : ℕ) (page : Page) (key : PageKey) → IsRising (keys_of (map page_view pages)) → slot < length pages
+slot-at : (pages : List Page) (slot : ℕ) (page : Page) (key : PageKey) → IsRising (page_keys_of (map page_view pages)) → slot < length pages
     → page ≡ get_or pages slot page → page.key ≡ key → slot_of (map page_view pages) key ≡ Some slot
 slot-at pages slot page key rising inside read same =
     let at : slice_get (map page_view pages) slot ≡ Some (page_view page) =

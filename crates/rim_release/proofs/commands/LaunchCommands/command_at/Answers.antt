@@ -1,7 +1,7 @@
 use Rattle.std.proofs.Common.{◌≡◌, ◌∙◌, ℕ, Some, ap, sym}
 use Rattle.std.proofs.lemmas.Option.{same_Some}
-use Rattle.ipa_layout.specs.inside.LayoutViews.{contents}
-use Rattle.rmi_list.specs.Measured.{contents as page_contents}
+use Rattle.ipa_layout.specs.Files.{bytes_of_files}
+use Rattle.rmi_list.specs.Measured.{page_contents}
 use Rattle.rim_release.proofs.ListedPages.{command-is, page-there}
 use Rattle.rim_release.proofs.commands.LaunchCommands.command_at.Goals as goal
 
@@ -13,7 +13,7 @@ content_of-requires c =
 pub returns-in-Some : goal.returns-in-Some
 returns-in-Some c =
     let s = c.args.self.now in
-    let pages = page_contents s.launch.now (contents s.files.now) s.placed.now in
+    let pages = page_contents s.launch.now (bytes_of_files s.files.now) s.placed.now in
     command-is pages c.content_of.result s.plan.now c.args.index c.command.result
     (λ number k at.
     let same = same_Some (c.in-Some.item, c.in-Some.page) (number, k) (sym c.in-Some.is ∙ c.page_of.ensures ∙ at) in
@@ -23,7 +23,7 @@ returns-in-Some c =
 pub returns-in-None : goal.returns-in-None
 returns-in-None c =
     let s = c.args.self.now in
-    let pages = page_contents s.launch.now (contents s.files.now) s.placed.now in
+    let pages = page_contents s.launch.now (bytes_of_files s.files.now) s.placed.now in
     command-is pages _ s.plan.now c.args.index c.command-in-None.result
     (λ number k at. absurd (let none : c.page_of.result ≡ Some (number, k) = c.page_of.ensures ∙ at in cc))
     c.command-in-None.ensures
