@@ -9,7 +9,7 @@ use Rattle.std.proofs.lemmas.List.Elements.{All-contains}
 use Rattle.std.proofs.lemmas.List.Sums.{AllPass-from_list_all, list_all-from_AllPass}
 use Rattle.std.proofs.lemmas.Option.{get_or_from_slice_get, same_Some, slice_get-map, unwrap_or-slice_get}
 use Rattle.rim_desc.specs.declared.measurement.Measurement.{Measurement}
-use Rattle.page_jobs.specs.Table.{TableView, digest_at, digest_in, with_digest}
+use Rattle.page_jobs.specs.Table.{IsTable, TableView, digest_at, digest_in, with_digest}
 use Rattle.page_jobs.specs.declared.page.PageKey.{PageKey}
 use Rattle.rim_chain.specs.Links.{PlanView, chain_of, keys_of}
 use Rattle.rim_chain.specs.Rows.{IsRowOf, has_all, value_in}
@@ -119,9 +119,9 @@ value_stays b l p w j d k plan ready held =
 
 -- ---- a put of a page
 
-pub board_put_page : (b : BoardView) (t : CoreState) (w j : ℕ) (d : Measurement) → IsBoard b → core_step b.core (Put w (Page j)) ≡ Ok t
+pub board_put_page : (b : BoardView) (t : CoreState) (w j : ℕ) (d : Measurement) → IsBoard b → IsTable (with_digest b.table j d) → core_step b.core (Put w (Page j)) ≡ Ok t
     → IsBoard (record { core = t; history = b.history ++ Put w (Page j) ∷ []; table = with_digest b.table j d; plans = b.plans; results = b.results; book = b.book + 1 })
-board_put_page b t w j d k is =
+board_put_page b t w j d k table is =
     let p = kept.put_says b.core t w (Page j) is in
     let n = done_next b.core (Put w (Page j)) (kept.accepted b.core t (Put w (Page j)) is) in
     let same = ap pages_done (kept.next_is b.core t (Put w (Page j)) is) in
@@ -129,6 +129,7 @@ board_put_page b t w j d k is =
     record {
       core = core_next b.core t (Put w (Page j)) is k.core;
       history = history_push b.core t b.history (Put w (Page j)) k.history is;
+      table = table;
       slots = k.slots ∙ sym (kept.pages b.core t (Put w (Page j)) is);
       filled = map-set is_some b.table.digests j (Some d) ∙ (ap (λ (bs : List Bool). set bs j true) k.filled ∙ sym pages);
       booked = omega (arith, n, same, k.booked);
@@ -156,6 +157,7 @@ board_put_launch b t w l p m k is plan value =
     record {
       core = core_next b.core t (Put w (Launch l)) is k.core;
       history = history_push b.core t b.history (Put w (Launch l)) k.history is;
+      table = k.table;
       slots = k.slots ∙ sym (kept.pages b.core t (Put w (Launch l)) is);
       filled = k.filled ∙ ap (λ (u : CoreState). map is_done u.pages) (sym q.2);
       booked = omega (arith, n, same, k.booked);
@@ -233,6 +235,7 @@ board_other b t e other k is =
     record {
       core = core_next b.core t e is k.core;
       history = history_push b.core t b.history e k.history is;
+      table = k.table;
       slots = k.slots ∙ sym (kept.pages b.core t e is);
       filled = k.filled ∙ sym d.0;
       booked = omega (arith, n, none, same, k.booked);

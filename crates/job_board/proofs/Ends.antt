@@ -8,7 +8,6 @@ use Rattle.std.proofs.lemmas.List.{length-map, map-set, take_more, take_more_set
 use Rattle.std.proofs.lemmas.List.Sums.{sum_by-cons}
 use Rattle.std.proofs.lemmas.Option.{same_Some, slice_get-map}
 use Rattle.rim_desc.specs.declared.measurement.Measurement.{Measurement}
-use Rattle.page_jobs.specs.Table.{IsTable}
 use Rattle.rim_chain.specs.Links.{PlanView}
 use Rattle.rim_chain.specs.Rows.{IsFull, value_in}
 use Rattle.job_board.specs.declared.job.JobState.{JobState}
@@ -65,12 +64,12 @@ values_by f (p ∷ plans) (m ∷ values) size own =
     rw (own 0 p m refl refl, values_by f plans values size' (λ l q u. own (suc l) q u)) refl
 
 -- the values are those of the plans, with the digests of all pages
-pub over_values : (b : BoardView) (values : List Measurement) → IsBoard b → IsTable b.table → is_over b.core ≡ true → map Some values ≡ b.results → AreValuesOf b.table.pages b.plans values
-over_values b values k own over same =
+pub over_values : (b : BoardView) (values : List Measurement) → IsBoard b → is_over b.core ≡ true → map Some values ≡ b.results → AreValuesOf b.table.pages b.plans values
+over_values b values k over same =
     let size : length b.plans ≡ length values = omega (arith, k.plans, results_are b k, ap length same, length-map values Some) in
     record {
       table = b.table;
-      own = own;
+      own = k.table;
       same = refl;
       full = over_full b k over;
       each = values_by (value_in b.table) b.plans values size (λ l p m plan at. k.own l p m plan (ap (λ (os : List (Option Measurement)). slice_get os l) (sym same) ∙ at));

@@ -6,7 +6,7 @@ use Rattle.std.proofs.lemmas.List.{length-replicate}
 use Rattle.std.proofs.lemmas.List.Sums.{sum_by-cons}
 use Rattle.rim_desc.specs.declared.measurement.Measurement.{Measurement}
 use Rattle.page_jobs.specs.Row.{RowView}
-use Rattle.page_jobs.specs.Table.{TableView}
+use Rattle.page_jobs.specs.Table.{IsTable, TableView}
 use Rattle.rim_chain.specs.Links.{PlanView}
 use Rattle.job_board.specs.declared.job.JobState.TheVariants.{Free}
 use Rattle.job_board.specs.Jobs.{IsCore, is_done, opening}
@@ -44,12 +44,13 @@ none_there zero l m at = cc
 none_there (suc n) zero m at = cc
 none_there (suc n) (suc l) m at = none_there n l m at
 
-pub board_new : (workers : ℕ) (t : TableView) (plans : List PlanView) (needs : List (List ℕ)) → IsCore (opening workers (length t.pages) needs) → t.digests ≡ replicate (length t.pages) None
+pub board_new : (workers : ℕ) (t : TableView) (plans : List PlanView) (needs : List (List ℕ)) → IsCore (opening workers (length t.pages) needs) → IsTable t → t.digests ≡ replicate (length t.pages) None
     → NeedsOwn t plans needs
     → IsBoard (record { core = opening workers (length t.pages) needs; history = []; table = t; plans = plans; results = replicate (length plans) None; book = 0 })
-board_new workers t plans needs core empty own = record {
+board_new workers t plans needs core table empty own = record {
   core = core;
   history = history_empty workers (length t.pages) needs;
+  table = table;
   slots = sym (length-replicate (length t.pages) Free);
   filled = ap (map is_some) empty ∙ none_filled (length t.pages);
   booked = sum_by-replicate_zero (λ x. cond (is_done x) 1 0) (length t.pages) Free refl;

@@ -38,12 +38,13 @@ pub record NeedsOwn (t : TableView) (plans : List PlanView) (needs : List (List 
   pub all : (l : ℕ) (p : PlanView) → slice_get plans l ≡ Some p → All (IsNeeded t (slice_index_or needs l [])) (keys_of p.links)
   pub only : (l : ℕ) (p : PlanView) → slice_get plans l ≡ Some p → All (IsOwnPage t (keys_of p.links)) (slice_index_or needs l [])
 
--- The core is what its history leaves; just the slots of pages that are done are filled, and as many are done as the
--- book says; each launch needs all pages of its plan; and just the launches that are done have a value, which is what
+-- The core is what its history leaves; each filled slot of the table has the digest of its own page, just the slots of
+-- pages that are done are filled, and as many are done as the book says; each launch needs all pages of its plan; and just the launches that are done have a value, which is what
 -- their own plan chains to.
 pub record IsBoard (b : BoardView) : Type 0 where
   pub core : IsCore b.core
   pub history : IsHistory b.core b.history
+  pub table : IsTable b.table
   pub slots : length b.table.pages ≡ length b.core.pages
   pub filled : map is_some b.table.digests ≡ map is_done b.core.pages
   pub booked : pages_done b.core ≡ b.book

@@ -1,5 +1,5 @@
 -- What the line of a launch says, in the monitor's words.
-use Rattle.std.proofs.Common.{◌≡◌, ℕ, List, [], ap, refl}
+use Rattle.std.proofs.Common.{◌≡◌, ℕ, List, [], Ok, ap, refl}
 use Rattle.std.specs.Prelude.{Option, Result, unwrap_or}
 use Rattle.rim_desc.specs.Part.{rim_of}
 use Rattle.list_model.specs.Entries.{commands_of}
@@ -7,12 +7,27 @@ use Rattle.rmi_list.specs.Following.{IsFollowed}
 use Rattle.rmi_list.specs.Measured.{page_contents, measured}
 use Rattle.rmi_list.proofs.Contents.{contents-are-good}
 use Rattle.rmi_list.proofs.Follows.{list-is-followed}
-use Rattle.rim_release.specs.Accepted.{commands_for, rim_after, rim_for}
+use Rattle.ipa_layout.specs.Layout.{PlacedData}
+use Rattle.rim_launch.specs.LaunchData.{LaunchData}
+use Rattle.rim_release.specs.Accepted.{accepted_of, commands_for, rim_after, rim_for}
 use Rattle.rim_release.specs.Headline.{AcceptedAreMeasured, RefusedAreNamed}
 use Rattle.rim_release.specs.Report.{line_with}
+use Rattle.rim_release.specs.Values.{measured_rim}
 use Rattle.rim_release.specs.declared.audit_fault.AuditFault.{AuditFault}
 use Rattle.rim_release.proofs.Accepting.{accepted-is}
 use Rattle.rim_release.proofs.Held.{refused-rim}
+
+-- the measurement of a launch that is accepted
+pub accepted-rim : (files : List (List ℕ)) (l : LaunchData) (p : PlacedData) → accepted_of l files ≡ Ok p → rim_for l files ≡ Ok (measured_rim files l p)
+unfolding commands_for rim_for
+accepted-rim files l p accepted =
+    let is = accepted-is l files p accepted in
+    let own = page_contents l files p in
+    let commands = commands_of own is.entries in
+    let followed : IsFollowed l.config.algo l.config.num_aux commands (measured l p own)
+    = list-is-followed l p own is.entries (contents-are-good l files p) is.listed in
+    let rim : rim_after l commands ≡ rim_of l.config.algo (measured l p own) = ap (λ (o : Option (List ℕ)). unwrap_or o []) followed.rim in
+    rw (is.placed, is.listed, rim) refl
 
 pub accepted-are-measured : AcceptedAreMeasured
 unfolding commands_for rim_for line_with

@@ -1,9 +1,10 @@
 -- After any legal list of events that leaves all jobs of a release done, the lines made of the values are the report's.
-use Rattle.std.proofs.Common.{◌≡◌, ℕ, zero, suc, ◌+◌, ◌<◌, ◌∙◌, true, false, Bool, List, [], ◌∷◌, ◌++◌, length, map, get_or, Option, Some, None, Result, Ok, Err, refl, ap, sym, arith}
-use Rattle.std.specs.Prelude.{◌==◌, if◌then◌else◌, is_some, unwrap_or}
-use Rattle.std.specs.List.{filter_map, list_all, slice_get}
+use Rattle.std.proofs.Common.{◌≡◌, ℕ, zero, suc, ◌+◌, ◌<◌, ◌∙◌, subst, true, false, Bool, List, [], ◌∷◌, ◌++◌, length, map, get_or, Option, Some, None, Result, Ok, Err, refl, ap, sym, arith}
+use Rattle.std.specs.Prelude.{◌==◌, if◌then◌else◌, IsSomeAnd, is_some, unwrap_or}
+use Rattle.std.specs.List.{Contains, filter_map, list_all, slice_get}
+use Rattle.std.specs.Result.{result_unwrap_or}
 use Rattle.std.proofs.lemmas.List.{length-map, length-replicate}
-use Rattle.std.proofs.lemmas.Option.{slice_get_within}
+use Rattle.std.proofs.lemmas.Option.{same_Some, slice_get_within}
 use Rattle.std.proofs.lemmas.Bool.{and_parts}
 use Rattle.std.proofs.lemmas.Bool.Decides.{nat_tests}
 use Rattle.rim_desc.specs.declared.measurement.Measurement.{Measurement}
@@ -31,8 +32,9 @@ use Rattle.rim_release.specs.Accepted.{accepted_of, rim_for}
 use Rattle.rim_release.specs.Pages.{release_pages}
 use Rattle.rim_release.specs.Plans.{ArePlans, BeginsWith}
 use Rattle.rim_release.specs.Report.{line_of, line_with, lines_of}
-use Rattle.rim_release.specs.Values.{as_digest, launch_value, lines_by, makes_of, next_job, outcome_by, page_value, plan_pages, plan_value}
+use Rattle.rim_release.specs.Values.{IsRimOf, accepted_launches, as_digest, launch_value, measured_rim, put_accepted, lines_by, makes_of, next_job, outcome_by, page_value, plan_pages, plan_value}
 use Rattle.rim_release.specs.declared.audit_fault.AuditFault.{AuditFault}
+use Rattle.rim_release.proofs.Headlines.{accepted-rim}
 use Rattle.rim_release.proofs.Held.{Later, later-next, plan-rim, refused-rim, release-rises, slot-low}
 
 -- ---- the value that was put for a launch
@@ -71,6 +73,32 @@ launch-put own workers pages needs es legal over k lt =
     let done = done-at s.launches k all (omega (arith, lt, size, length-replicate (length needs) Free)) in
     let put = (done_are_put workers pages needs es legal (Launch k)).0 done in
     put-value own (jobs_put es) k put.0 put.1 put.2
+
+-- a value that was given for a launch is the launch's own, and was put
+given-at : (own : JobId → List ℕ) (jobs : List JobId) (k i : ℕ) (value : List ℕ) → i < length (map (λ job. (job, own job)) jobs)
+    → get_or (map (λ job. (job, own job)) jobs) i (Launch k, value) ≡ (Launch k, value) → (i < length jobs) × (get_or jobs i (Launch k) ≡ Launch k) × (value ≡ own (Launch k))
+given-at own [] k i value lt at = absurd (omega (arith, lt))
+given-at own (job ∷ jobs) k zero value lt at =
+    let same : job ≡ Launch k = ap (λ (x : JobId × List ℕ). x.0) at in
+    let is : own job ≡ value = ap (λ (x : JobId × List ℕ). x.1) at in
+    (omega arith, same, sym is ∙ ap own same)
+given-at own (job ∷ jobs) k (suc i) value lt at =
+    let rest = given-at own jobs k i value (omega (arith, lt)) at in
+    (omega (arith, rest.0), rest.1, rest.2)
+
+-- a launch that was put is one of the run's
+put-low : (workers pages : ℕ) (needs : List (List ℕ)) (es : List Event) → is_legal (opening workers pages needs) es ≡ true
+    → (k : ℕ) → Contains (jobs_put es) (Launch k) → k < length needs
+put-low workers pages needs es legal k put =
+    let s : CoreState = replay (opening workers pages needs) es in
+    let size = (size_run (opening workers pages needs) es legal).launches in
+    let done : slice_get s.launches k ≡ Some Done = (done_are_put workers pages needs es legal (Launch k)).1 put in
+    omega (arith, slice_get_within s.launches k Done done, size, length-replicate (length needs) Free)
+
+plan-there : (plans : List PlanView) (k : ℕ) → k < length plans → (v : PlanView) × (slice_get plans k ≡ Some v)
+plan-there [] k lt = absurd (omega (arith, lt))
+plan-there (v ∷ plans) zero lt = (v, refl)
+plan-there (v ∷ plans) (suc k) lt = plan-there plans k (omega (arith, lt))
 
 -- ---- a table of the pages, with all digests
 
@@ -169,3 +197,42 @@ module _ (files : List (List ℕ)) (r : ReleaseData) (numbered : AreNumbered r) 
       let low : k < length needs = omega (arith, size, slice_get_within plans k v at) in
       let same : 0 + k ≡ k = omega arith in
       ap (launch_value (map (λ job. (job, own job)) (jobs_put es))) same ∙ launch-put own workers (length pages) needs es legal over k low ∙ ap (λ (bytes : List ℕ). Some bytes) (plan-own pages plans k v at))
+
+  -- the plan of a number is that of the launch that is accepted of this number
+  plans-are : (ls : List NamedData) (plans : List PlanView) (k : ℕ) (v : PlanView) → Later r.launches ls → ArePlans files ls plans → slice_get plans k ≡ Some v
+      → IsRimOf files ls k (value_in t v)
+  unfolding Later
+  plans-are [] plans k v later are at =
+      let none : slice_get plans k ≡ None = ap (λ (vs : List PlanView). slice_get vs k) are in
+      absurd (cc)
+  plans-are (l ∷ ls) plans k v later are at =
+      by_place (accepted_of l.launch files) refl plans are k at (λ vs others j here. plans-are ls vs j v (later-next r.launches l ls later) others here)
+    where
+      by_place : (place : Result PlacedData AuditFault) → accepted_of l.launch files ≡ place → (vs : List PlanView) → BeginsWith l.launch place (ArePlans files ls) vs
+          → (j : ℕ) → slice_get vs j ≡ Some v
+          → ((us : List PlanView) → ArePlans files ls us → (i : ℕ) → slice_get us i ≡ Some v → IsRimOf files ls i (value_in t v))
+          → IsSomeAnd (slice_get (put_accepted l.launch place (accepted_launches files ls)) j) (λ a. value_in t v ≡ measured_rim files a.0 a.1)
+      by_place (Err fault) is vs begins j here rest = rest vs begins j here
+      by_place (Ok p) is [] begins j here rest = absurd begins
+      by_place (Ok p) is (u ∷ vs) begins zero here rest =
+          let same : u ≡ v = same_Some u v here in
+          let found = later 0 l refl in
+          let one = rim-is found.0 l p v found.1 is (subst (IsReadOf l.launch p) same begins.0) in
+          let other = accepted-rim files l.launch p is in
+          ap (λ (o : Result (List ℕ) AuditFault). result_unwrap_or o []) (sym one ∙ other)
+      by_place (Ok p) is (u ∷ vs) begins (suc j) here rest = rest vs begins.1 j here
+
+  pub values-are-rims : (plans : List PlanView) (workers : ℕ) (needs : List (List ℕ)) (es : List Event) → ArePlans files r.launches plans → length needs ≡ length plans → NeedsHold (makes_of (release_pages files r.launches) plans) needs
+      → is_legal (opening workers (length (release_pages files r.launches)) needs) es ≡ true
+      → (k : ℕ) (value : List ℕ) → Contains (values (makes_of (release_pages files r.launches) plans) es) (Launch k, value) → IsRimOf files r.launches k value
+  unfolding Later t
+  values-are-rims plans workers needs es are size hold legal k value has =
+      let pages : List PageView = release_pages files r.launches in
+      let own : JobId → List ℕ = own_value (makes_of pages plans) in
+      let given = own_values (makes_of pages plans) workers (length pages) needs es hold legal in
+      let all : Contains (map (λ job. (job, own job)) (jobs_put es)) (Launch k, value) = subst (λ (vs : List (JobId × List ℕ)). Contains vs (Launch k, value)) given has in
+      let put = given-at own (jobs_put es) k all.0 value all.1 all.2 in
+      let low = put-low workers (length pages) needs es legal k (all.0, put.0, put.1) in
+      let plan = plan-there plans k (omega (arith, size, low)) in
+      let is : value ≡ value_in t plan.0 = put.2 ∙ plan-own pages plans k plan.0 plan.1 in
+      subst (IsRimOf files r.launches k) (sym is) (plans-are r.launches plans k plan.0 (λ i l at. (i, at)) are plan.1)

@@ -1,6 +1,7 @@
 -- The lines that the values of a run make. This project's choice.
-use Rattle.std.specs.Prelude.{ℕ, ◌+◌, ◌==◌, if◌then◌else◌, List, [], ◌∷◌, ◌++◌, map, option_map, Option, Some, None, Result, Ok, Err, unwrap_or}
+use Rattle.std.specs.Prelude.{◌≡◌, ℕ, ◌+◌, ◌==◌, IsSomeAnd, if◌then◌else◌, List, [], ◌∷◌, ◌++◌, map, option_map, Option, Some, None, Result, Ok, Err, unwrap_or}
 use Rattle.std.specs.List.{filter_map, slice_get}
+use Rattle.rim_desc.specs.Part.{rim_of}
 use Rattle.rim_desc.specs.declared.measurement.Measurement.{Measurement}
 use Rattle.page_jobs.specs.Page.{PageView, digest_of}
 use Rattle.page_jobs.specs.Table.{slot_of}
@@ -9,6 +10,8 @@ use Rattle.job_board.specs.Values.{Makes}
 use Rattle.job_board.specs.declared.job.JobId.{JobId}
 use Rattle.job_board.specs.declared.job.JobId.TheVariants.{Page, Launch}
 use Rattle.ipa_layout.specs.Layout.{PlacedData}
+use Rattle.rim_launch.specs.LaunchData.{LaunchData}
+use Rattle.rmi_list.specs.Measured.{measured, page_contents}
 use Rattle.rim_manifest.specs.Launches.{NamedData}
 use Rattle.rim_release.specs.Accepted.{accepted_of}
 use Rattle.rim_release.specs.Report.{line_with}
@@ -64,3 +67,23 @@ abbrev pub lines_by : List (JobId × List ℕ) → List (List ℕ) → ℕ → L
 lines_by values files n [] = []
 lines_by values files n (l ∷ ls) =
     line_with l (outcome_by (accepted_of l.launch files) (launch_value values n)) ++ lines_by values files (next_job (accepted_of l.launch files) n) ls
+
+-- ---- the value of each launch
+
+-- a launch and its place come before others, where it is accepted
+abbrev pub put_accepted : LaunchData → Result PlacedData AuditFault → List (LaunchData × PlacedData) → List (LaunchData × PlacedData)
+put_accepted l (Err fault) others = others
+put_accepted l (Ok p) others = (l, p) ∷ others
+
+-- the launches that are accepted, in their order, each with its place: these are the launches of a run
+abbrev pub accepted_launches : List (List ℕ) → List NamedData → List (LaunchData × PlacedData)
+accepted_launches files [] = []
+accepted_launches files (l ∷ ls) = put_accepted l.launch (accepted_of l.launch files) (accepted_launches files ls)
+
+-- what the measured parts of a launch that has this place measure to
+abbrev pub measured_rim : List (List ℕ) → LaunchData → PlacedData → List ℕ
+measured_rim files l p = rim_of l.config.algo (measured l p (page_contents l files p))
+
+-- a value is what the measured parts of the run's launch of a number measure to
+abbrev pub IsRimOf : List (List ℕ) → List NamedData → ℕ → List ℕ → Type 0
+IsRimOf files ls k value = IsSomeAnd (slice_get (accepted_launches files ls) k) (λ a. value ≡ measured_rim files a.0 a.1)

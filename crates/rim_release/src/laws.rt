@@ -1,6 +1,8 @@
 //! Laws of reports, proved of the definitions.
 ghost use Rattle.std.specs.Prelude.{◌≡◌, ℕ, List, length, true};
+ghost use Rattle.std.specs.List.{Contains};
 ghost use Rattle.job_board.specs.declared.job.Event.{Event};
+ghost use Rattle.job_board.specs.declared.job.JobId.TheVariants.{Launch};
 ghost use Rattle.job_board.specs.Events.{is_legal, replay};
 ghost use Rattle.job_board.specs.Jobs.{is_over, opening};
 ghost use Rattle.job_board.specs.Values.{NeedsHold, values};
@@ -11,7 +13,7 @@ ghost use Rattle.rim_release.specs.Headline.{AcceptedAreMeasured, RefusedAreName
 ghost use Rattle.rim_release.specs.Pages.{release_pages};
 ghost use Rattle.rim_release.specs.Plans.{ArePlans};
 ghost use Rattle.rim_release.specs.Report.{lines_of};
-ghost use Rattle.rim_release.specs.Values.{lines_by, makes_of};
+ghost use Rattle.rim_release.specs.Values.{IsRimOf, lines_by, makes_of};
 
 /// What a line of a report says. Where the launch is accepted, it shows the measurement that a monitor holds after the
 /// launch's listed commands; the monitor takes all of them, measures just the launch's measured parts, and gives no
@@ -36,6 +38,22 @@ pub fn values_make_the_lines()
         → is_over (replay (opening workers (length pages) needs) es) ≡ true
         → lines_by (values (makes_of pages plans) es) files 0 r.launches
         ≡ lines_of files r.launches }
+{}
+
+/// The value that is put for a launch is what the launch's measured parts measure to, in each legal list of events, whether
+/// it leaves jobs or not: of the pages of a release and of plans that are read of its launches.
+pub fn a_value_is_its_launchs_rim()
+    ensures { (files : List (List ℕ)) (r : ReleaseData) (plans : List PlanView) (workers : ℕ)
+        (needs : List (List ℕ)) (es : List Event)
+        → let pages = release_pages files r.launches in AreNumbered r
+        → length files ≡ length r.paths
+        → ArePlans files r.launches plans
+        → length needs ≡ length plans
+        → NeedsHold (makes_of pages plans) needs
+        → is_legal (opening workers (length pages) needs) es ≡ true
+        → (k : ℕ) (value : List ℕ)
+        → Contains (values (makes_of pages plans) es) (Launch k, value)
+        → IsRimOf files r.launches k value }
 {}
 
 /// The devicetree that is given out of a launch is the one that is measured: the step of the launch's devicetree adds just

@@ -27,7 +27,10 @@ pub use fault::StartFault;
 pub use job_board::JobId;
 pub use job_workers::{FreeGate, Gate};
 pub use json::json_report;
-pub use laws::{a_line_says_what_a_monitor_holds, devicetrees_are_measured, values_make_the_lines};
+pub use laws::{
+    a_line_says_what_a_monitor_holds, a_value_is_its_launchs_rim, devicetrees_are_measured,
+    values_make_the_lines,
+};
 pub use listings::{listing, listing_or_refusal};
 pub use one_thread::{Files, Report, measure_alone, report_alone};
 pub use rim_launch::{Config, Launch};

@@ -35,6 +35,6 @@ returns-clause-values g c =
     let i = c.self.inside in
     let b : BoardView = record { core = i.core; history = i.history.items; table = i.table; plans = i.plans.now; results = i.results.items; book = i.book.total } in
     let over : is_over b.core ≡ true = subst (λ (v : BoardView). is_over v.core ≡ true) (sym c.self.view_is) c.requires.over in
-    let own = over_values b c.copy_values.new.values c.self.invariant.0 c.pages.ensures.table over (c.copy_values.ensures ∙ c.deref-2.ensures.value) in
+    let own = over_values b c.copy_values.new.values c.self.invariant.0 over (c.copy_values.ensures ∙ c.deref-2.ensures.value) in
     subst (λ (pages : List PageView). AreValuesOf pages g.L.Run.plans c.copy_values.new.values) c.self.invariant.4.0
     (subst (λ (plans : List PlanView). AreValuesOf i.table.pages plans c.copy_values.new.values) c.self.invariant.4.1 own)

@@ -22,7 +22,7 @@ invariant_of-result g c =
     let most : most_events c.in_ok-core.core ≡ 2 * (length (replicate size Free) + length (replicate (length needs) Free)) + 2 * length (replicate c.args.workers false) = ap most_events core in
     let cap : 2 * (length c.pages-pages.result.now + count) + 2 * c.args.workers ≤ vec_capacity c.in_ok-history.history = search rules in
     let fresh = core_fresh c.args.workers size needs c.requires.workers.0 c.requires.workers.1 c.in_ok-needs.ensures.needs.within in (
-      rw (core, c.in_ok-history.ensures.empty, none, c.open-book.ensures.total) (board_new c.args.workers c.args.table c.args.plans.now needs fresh c.requires.empty own),
+      rw (core, c.in_ok-history.ensures.empty, none, c.open-book.ensures.total) (board_new c.args.workers c.args.table c.args.plans.now needs fresh c.pages-pages.ensures.table c.requires.empty own),
       omega (arith, most, cap, pages, own.size, length-replicate size Free, length-replicate (length needs) Free, length-replicate c.args.workers false),
       rw core (rows_new c.args.workers size needs c.args.plans.now c.in_ok-rows.rows.items c.in_ok-spare.spare.items own.size c.in_ok-rows.ensures.size c.in_ok-rows.ensures.there c.in_ok-spare.ensures.size c.in_ok-spare.ensures.roomy),
       c.in_ok-prefixes.ensures c.args.table c.args.plans.now,

@@ -5,7 +5,6 @@ use Rattle.rim_desc.specs.declared.measurement.Measurement.{Measurement}
 use Rattle.rim_chain.specs.Prefixes.{AreCheckpoints}
 use Rattle.std.proofs.lemmas.Option.{slice_get_within}
 use Rattle.page_jobs.specs.Page.{PageView}
-use Rattle.page_jobs.specs.Table.{IsTable}
 use Rattle.rim_chain.specs.Jobs.{JobView, RimView}
 use Rattle.rim_chain.specs.Links.{PlanView, chain_of, keys_of}
 use Rattle.rim_chain.specs.Rows.{IsRowOf, value_in}
@@ -30,14 +29,14 @@ record IsPut (b : BoardView) (w : ℕ) (job : JobView) : Type 0 where
   plan : slice_get b.plans job.number ≡ Some job.plan
   row : IsRowOf b.table (keys_of job.plan.links) job.row.digests
 
-is_put : (b : BoardView) (t : CoreState) (w : ℕ) (job : JobView) → IsBoard b → IsTable b.table → core_step b.core (Put w (Launch job.number)) ≡ Ok t
+is_put : (b : BoardView) (t : CoreState) (w : ℕ) (job : JobView) → IsBoard b → core_step b.core (Put w (Launch job.number)) ≡ Ok t
     → slice_get b.plans job.number ≡ Some job.plan → IsOwnRow b.table.pages (keys_of job.plan.links) job.row.digests → IsPut b w job
-is_put b t w job board table step plan own =
+is_put b t w job board step plan own =
     let held = (put_says b.core t w (Launch job.number) step).1 in
     record {
       held = held;
       plan = plan;
-      row = row_of_own b.table table (keys_of job.plan.links) job.row.digests own (held_filled b w job.number job.plan board plan held);
+      row = row_of_own b.table board.table (keys_of job.plan.links) job.row.digests own (held_filled b w job.number job.plan board plan held);
     }
 
 pub push_reserved-requires : goal.push_reserved-requires
@@ -66,7 +65,7 @@ invariant_of-self-2 g c =
     let number : n ≡ job.number = c.number-number.ensures in
     let plan : slice_get i.plans.now job.number ≡ Some job.plan = ap (λ (plans : List PlanView). slice_get plans job.number) c.self.invariant.4.1 ∙ c.into_rim-rim.ensures.own.0 in
     let own : IsOwnRow i.table.pages (keys_of job.plan.links) job.row.digests = subst (λ (pages : List PageView). IsOwnRow pages (keys_of job.plan.links) job.row.digests) (sym c.self.invariant.4.0) c.into_rim-rim.ensures.own.1 in
-    let put = is_put b c.step.new.self c.args.worker job c.self.invariant.0 c.pages-pages.ensures.table (rw (← number) step) plan own in
+    let put = is_put b c.step.new.self c.args.worker job c.self.invariant.0 (rw (← number) step) plan own in
     let at : slice_get i.plans.now n ≡ Some job.plan = ap (slice_get i.plans.now) number ∙ plan in
     let value : c.value.result.bytes ≡ value_in i.table job.plan =
     c.value.ensures.own ∙ (ap (λ (r : RimView). chain_of r.job.plan r.job.row.digests) c.into_rim-rim.ensures.rim ∙ value_is i.table job.plan job.row.digests put.row) in (
@@ -87,7 +86,7 @@ returns-clause-can g c =
     let number : n ≡ job.number = c.number-number.ensures in
     let plan : slice_get i.plans.now job.number ≡ Some job.plan = ap (λ (plans : List PlanView). slice_get plans job.number) c.self.invariant.4.1 ∙ c.into_rim-rim.ensures.own.0 in
     let own : IsOwnRow i.table.pages (keys_of job.plan.links) job.row.digests = subst (λ (pages : List PageView). IsOwnRow pages (keys_of job.plan.links) job.row.digests) (sym c.self.invariant.4.0) c.into_rim-rim.ensures.own.1 in
-    let put = is_put b c.step.new.self c.args.worker job c.self.invariant.0 c.pages-pages.ensures.table (rw (← number) step) plan own in
+    let put = is_put b c.step.new.self c.args.worker job c.self.invariant.0 (rw (← number) step) plan own in
     let was = put_says i.core c.step.new.self c.args.worker (Launch n) step in
     subst (λ (v : BoardView). CanPutLaunch v c.args.worker job.number job.plan job.row.digests) c.self.view_is (was.0, put.held, put.plan, put.row)
 

@@ -1,6 +1,7 @@
 use Rattle.std.proofs.Common.{◌≡◌, ◌+◌, ◌∙◌, List, Ok, Some, ap, arith, sym}
 use Rattle.std.specs.List.{slice_get}
 use Rattle.page_jobs.specs.Page.{PageView, page_view}
+use Rattle.page_jobs.proofs.Slots.{filled_table}
 use Rattle.job_board.specs.declared.job.Event.TheVariants.{Put}
 use Rattle.job_board.specs.declared.job.JobId.TheVariants.{Page}
 use Rattle.job_board.specs.Board.{BoardView}
@@ -40,8 +41,12 @@ invariant_of-self-2 g c =
     let step : core_step i.core (Put c.args.worker (Page n)) ≡ Ok c.step.new.self = c.in-Ok.ensures.step in
     let was = put_says i.core c.step.new.self c.args.worker (Page n) step in
     let most = same_most i.core c.step.new.self (Put c.args.worker (Page n)) step in
+    let own : slice_get i.table.pages n ≡ Some (page_view c.into_hashed.result.page) =
+    ap (λ (pages : List PageView). slice_get pages n) c.self.invariant.4.0
+    ∙ (ap (slice_get g.L.Run.pages) c.number-number.ensures ∙ (c.into_hashed.ensures.own ∙ ap (λ (p : PageView). Some p) (sym c.into_hashed.ensures.page))) in
+    let table = filled_table i.table n (page_view c.into_hashed.result.page) d c.self.invariant.0.table own c.into_hashed.result.own in
     let book : c.add.new.self.total ≡ b.book + 1 = omega (arith, c.add.ensures.total, c.audit.ensures.total) in (
-      rw (c.push_reserved.ensures.items, c.keep.ensures, book) (board_put_page b c.step.new.self c.args.worker n d c.self.invariant.0 step),
+      rw (c.push_reserved.ensures.items, c.keep.ensures, book) (board_put_page b c.step.new.self c.args.worker n d c.self.invariant.0 table step),
       omega (arith, most, c.self.invariant.1, c.push_reserved.ensures.capacity),
       rows_put_page i.core c.step.new.self i.plans.now i.rows.items i.spare.items c.args.worker n c.self.invariant.2 step,
       rw c.keep.ensures (shared-filled i.table i.plans.now i.prefixes n d (slot_empty i.table.digests i.core.pages c.args.worker n c.self.invariant.0.filled was.1) c.self.invariant.3),
