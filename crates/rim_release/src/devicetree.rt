@@ -5,16 +5,15 @@ ghost use Rattle.refusal.specs.Answer.{Answers};
 ghost use Rattle.rim_launch.specs.Kinds.{has_role};
 ghost use Rattle.rim_launch.specs.LaunchData.{has_files};
 ghost use Rattle.ipa_layout.specs.Files.{bytes_of_files};
-ghost use Rattle.rim_release.specs.Accepted.{accepted_of};
 ghost use Rattle.rim_release.specs.Devicetree.{devicetree_in, devicetree_number, devicetree_of};
 
 use crate::audit_fault::AuditFault;
 use crate::one_thread::Files;
-use ipa_layout::{Placed, place};
+use crate::prepare::accepted;
+use ipa_layout::Placed;
 use refusal::NoMemory;
 use rim_launch::{Launch, Role};
 use rim_manifest::Release;
-use rmi_list::list;
 use std::alloc::Global;
 
 /// The devicetree of the launch of this number, as it is placed: the bytes of its file, or the edited ones. `None` where
@@ -50,18 +49,6 @@ fn devicetree_of(
         Some(bytes) => Ok(Some(copied(alloc, bytes)?)),
         None => Ok(None),
     }
-}
-
-/// The place of a launch that is accepted, or why it is refused.
-#[tactic(auto, unfolding(crate::specs::Accepted::accepted_of))]
-fn accepted(alloc: Global, launch: &Launch, files: &[Vec<u8>]) -> Result<Placed, AuditFault>
-    requires { has_files launch.now (length files.now) ≡ true }
-    ensures { Answers AuditFault.NoMemory (λ p. p) result
-        (accepted_of launch.now (bytes_of_files files.now)) }
-{
-    let placed = place(alloc, launch, files)?;
-    list(alloc, launch, &placed)?;
-    Ok(placed)
 }
 
 /// The bytes of the devicetree of a launch that is placed so, if it has one.

@@ -1,8 +1,9 @@
 //! Where the launches of a release are laid out, before any page is hashed.
-ghost use Rattle.std.specs.Prelude.{◌≡◌, IfOk, OnOk, length, true};
+ghost use Rattle.std.specs.Prelude.{◌≡◌, IfOk, IsOk, OnOk, length, true};
 ghost use Rattle.refusal.specs.Answer.{Answers};
 ghost use Rattle.rim_launch.specs.LaunchData.{has_files};
 ghost use Rattle.ipa_layout.specs.Files.{bytes_of_files};
+ghost use Rattle.rmi_list.specs.Listed.{listed};
 ghost use Rattle.rim_chain.specs.Reading.{IsReadOf};
 ghost use Rattle.rim_release.specs.Accepted.{accepted_of};
 ghost use Rattle.rim_release.specs.inside.Preparing.{ArePrepared, IsKept};
@@ -41,8 +42,25 @@ pub fn prepare(alloc: Global, release: &Release, files: &[Vec<u8>]) -> Result<Pr
     Ok(prepared)
 }
 
-/// The place of a launch, and what is measured of it; or why it is refused.
+/// The place of a launch that is accepted, or why it is refused: the first refusal of its layout, else of its list. No list is
+/// kept.
 #[tactic(auto, unfolding(crate::specs::Accepted::accepted_of))]
+pub(crate) fn accepted(
+    alloc: Global,
+    launch: &Launch,
+    files: &[Vec<u8>],
+) -> Result<Placed, AuditFault>
+    requires { has_files launch.now (length files.now) ≡ true }
+    ensures placed { Answers AuditFault.NoMemory (λ p. p) result
+        (accepted_of launch.now (bytes_of_files files.now)) }
+    ensures list { IfOk result (λ p. IsOk (listed launch.now p)) }
+{
+    let placed = place(alloc, launch, files)?;
+    check(alloc, launch, &placed)?;
+    Ok(placed)
+}
+
+/// The place of a launch, and what is measured of it; or why it is refused.
 fn accept(
     alloc: Global,
     launch: &Launch,
@@ -53,8 +71,7 @@ fn accept(
         (accepted_of launch.now (bytes_of_files files.now)) }
     ensures plan { IfOk result (λ found. IsReadOf launch.now found.0 found.1) }
 {
-    let placed = place(alloc, launch, files)?;
-    check(alloc, launch, &placed)?;
+    let placed = accepted(alloc, launch, files)?;
     let plan = LaunchPlan::of_launch(alloc, launch.config().algo, launch, &placed)?;
     Ok((placed, plan))
 }
