@@ -1,33 +1,32 @@
 -- A new board.
-use Rattle.std.proofs.Common.{◌≡◌, ℕ, zero, suc, Bool, false, cond, not, List, [], ◌∷◌, length, map, replicate, Option, Some, None, refl, sym, ap, ◌∙◌, arith}
+use Rattle.std.proofs.Common.{◌≡◌, ◌<◌, ◌≤◌, ℕ, zero, suc, Bool, false, cond, List, [], ◌∷◌, length, map, replicate, Option, Some, None, refl, sym, ap, ◌∙◌, arith}
 use Rattle.std.specs.Prelude.{is_some}
-use Rattle.std.specs.List.{count_by, slice_get}
+use Rattle.std.specs.List.{slice_get}
 use Rattle.std.proofs.lemmas.List.{length-replicate}
-use Rattle.std.proofs.lemmas.List.Sums.{sum_by-cons}
+use Rattle.std.proofs.lemmas.Option.{slice_get_within}
 use Rattle.rim_desc.specs.declared.measurement.Measurement.{Measurement}
 use Rattle.page_jobs.specs.Row.{RowView}
 use Rattle.page_jobs.specs.Table.{IsTable, TableView}
-use Rattle.rim_chain.specs.Links.{PlanView}
+use Rattle.rim_chain.specs.Links.{PlanView, keys_of}
 use Rattle.job_board.specs.declared.job.JobState.TheVariants.{Free}
 use Rattle.job_board.specs.Jobs.{IsCore, is_done, opening}
 use Rattle.job_board.specs.Board.{IsBoard, NeedsOwn}
-use Rattle.job_board.specs.inside.Rows.{HasRoom, HasRows}
+use Rattle.job_board.specs.inside.Rows.{HasRows}
+use Rattle.job_board.proofs.OneJob.{not_out}
 use Rattle.job_board.proofs.Counting.{sum_by-replicate_zero}
 use Rattle.job_board.proofs.Histories.{history_empty}
 
-active_new : (n : ℕ) → count_by not (replicate n false) ≡ n
-active_new zero = refl
-active_new (suc n) = omega (arith, active_new n, sum_by-cons (λ (b : Bool). cond (not b) 1 0) false (replicate n false))
-
-pub rows_new : (workers pages : ℕ) (needs : List (List ℕ)) (plans : List PlanView) (rows : List (Option RowView)) (spare : List RowView) → length needs ≡ length plans → length rows ≡ length plans
-    → ((l : ℕ) (p : PlanView) → slice_get plans l ≡ Some p → (r : RowView) × (slice_get rows l ≡ Some (Some r)) × HasRoom r p) → length spare ≡ workers
-    → ((i l : ℕ) (r : RowView) (p : PlanView) → slice_get spare i ≡ Some r → slice_get plans l ≡ Some p → HasRoom r p)
-    → HasRows (opening workers pages needs) plans rows spare
-rows_new workers pages needs plans rows spare count size there spares roomy = record {
-  size = omega (arith, size, count, length-replicate (length needs) Free);
-  there = λ l p at plan. there l p plan;
-  roomy = roomy;
-  enough = omega (arith, active_new workers, spares);
+pub rows_new : (workers pages : ℕ) (needs : List (List ℕ)) (plans : List PlanView) (rows : List (Option RowView)) (room : ℕ) → length rows ≡ workers
+    → ((w : ℕ) → w < workers → (r : RowView) × (slice_get rows w ≡ Some (Some r)) × (r.digests ≡ []) × (r.room ≡ room))
+    → ((l : ℕ) (p : PlanView) → slice_get plans l ≡ Some p → length (keys_of p.links) ≤ room)
+    → HasRows (opening workers pages needs) plans rows room
+rows_new workers pages needs plans rows room size there most = record {
+  size = size ∙ sym (length-replicate workers false);
+  there = λ w known none.
+      let within = slice_get_within (replicate workers false) w false (not_out (opening workers pages needs) w known) in
+      let r = there w (omega (arith, within, length-replicate workers false)) in
+      (r.0, r.1, r.2, λ l p at. let few = most l p at in let same = r.3 in omega (arith, few, same));
+  most = most;
 }
 
 -- ---- the board

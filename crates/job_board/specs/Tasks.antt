@@ -1,7 +1,8 @@
 -- The jobs of a run's own pages and launches. This project's choice.
-use Rattle.std.specs.Prelude.{◌≡◌, ℕ, List, map, Option, Some, option_and_then, option_map, slice_get}
+use Rattle.std.specs.Prelude.{◌≡◌, ◌≤◌, ℕ, List, length, map, Option, Some, option_and_then, option_map, slice_get}
 use Rattle.rim_desc.specs.declared.measurement.Measurement.{Measurement}
 use Rattle.page_jobs.specs.Page.{PageView, digest_of}
+use Rattle.page_jobs.specs.Row.{RowView}
 use Rattle.page_jobs.specs.Table.{slot_of}
 use Rattle.page_jobs.specs.declared.page.PageKey.{PageKey}
 use Rattle.rim_chain.specs.Jobs.{JobView}
@@ -26,9 +27,13 @@ pub record HashedView : Type 0 where
   pub page : PageView
   pub digest : Measurement
 
--- a launch's number, plan and row belong together, and to a run with these pages and plans
+-- a row has room for the pages of any of these plans
+abbrev pub IsRoomy : List PlanView → RowView → Type 0
+IsRoomy plans row = (l : ℕ) (p : PlanView) → slice_get plans l ≡ Some p → length (keys_of p.links) ≤ row.room
+
+-- a launch's number, plan and row belong together, and to a run with these pages and plans; the row may be filled for any other
 abbrev pub IsOwnLaunch : List PageView → List PlanView → JobView → Type 0
-IsOwnLaunch pages plans job = (slice_get plans job.number ≡ Some job.plan) × IsOwnRow pages (keys_of job.plan.links) job.row.digests
+IsOwnLaunch pages plans job = (slice_get plans job.number ≡ Some job.plan) × IsOwnRow pages (keys_of job.plan.links) job.row.digests × IsRoomy plans job.row
 
 -- what the launch of a number chains to, with the digests of its own pages
 abbrev pub IsOwnValue : List PageView → List PlanView → ℕ → Measurement → Type 0

@@ -1,5 +1,5 @@
 //! A board's state: what each call makes of it.
-ghost use Rattle.std.specs.Prelude.{◌≡◌, ◌<◌, ◌≤◌, ◌+◌, ◌⊎◌, [], false, true, length, map, replicate, sum, vec_len, IfErr, IfNone, IfOk, IfSome, None, OnOk, Some, slice_get, slice_set, vec_capacity};
+ghost use Rattle.std.specs.Prelude.{◌≡◌, ℕ, ◌<◌, ◌≤◌, ◌+◌, ◌⊎◌, [], false, true, length, map, replicate, sum, vec_len, IfErr, IfNone, IfOk, IfSome, None, OnOk, Some, slice_get, slice_set, vec_capacity};
 ghost use Rattle.std.specs.List.{All, Contains};
 ghost use Rattle.job_board.specs.declared.job.Event.{Event};
 ghost use Rattle.job_board.specs.declared.job.JobId.{JobId};
@@ -10,7 +10,7 @@ ghost use Rattle.job_board.specs.Jobs.{IsOpen, NoneFree, held_count, is_out, is_
 ghost use Rattle.rim_desc.specs.declared.measurement.Algo.TheVariants as algo;
 ghost use Rattle.page_jobs.specs.Page.{page_view};
 ghost use Rattle.page_jobs.specs.Table.{page_keys_of as page_keys, with_digest};
-ghost use Rattle.rim_chain.specs.Links.{keys_of};
+ghost use Rattle.rim_chain.specs.Links.{PlanView, keys_of};
 ghost use Rattle.rim_chain.specs.Rows.{IsRowOf, value_in};
 ghost use Rattle.job_board.specs.declared.machine.TheConstants.{WORKER_LIMIT};
 
@@ -19,7 +19,7 @@ use crate::job::{Event, JobId, JobState};
 use crate::lending::Lending;
 use crate::machine::Core;
 use crate::own_needs::own_needs;
-use crate::rows::{free_row, lent_rows, plan_at, rows_of, spare_rows, take_row};
+use crate::rows::{keep_row, lent_rows, most_pages, plan_at, take_row, worker_rows};
 use crate::run::Run;
 use crate::share::{Share, cut};
 use crate::side_by_side::SideBySide;
@@ -43,8 +43,10 @@ pub struct BoardState<'a, L: Run> {
     history: Vec<Event>,
     table: Table<'a>,
     plans: &'a [LaunchPlan],
+    /// Of each worker the row that its next launch is given in; it is with the launch as long as the worker holds one.
     rows: Vec<Option<DigestRow>>,
-    spare: Vec<DigestRow>,
+    /// The most pages of a launch, for which each row has room.
+    room: usize,
     results: Vec<Option<Measurement>>,
     prefixes: SharedPrefixes,
     /// How many launches were noted when they came to be ready.
@@ -80,7 +82,7 @@ impl<'a, L: Run> Model for BoardState<'a, L> {
       results = b.results.items;
       book = b.book.total;
     }) × (most_events b.core ≤ vec_capacity b.history)
-        × HasRows b.core b.plans.now b.rows.items b.spare.items
+        × HasRows b.core b.plans.now b.rows.items b.room
         × AreShared b.table b.plans.now b.prefixes
         × IsOfRun L.pages L.plans (record {
           core = b.core;
@@ -165,6 +167,7 @@ impl<'a, L: Run> BoardState<'a, L> {
             core,
             history,
             table,
+            rows,
             results,
             prefixes,
             ..
@@ -182,7 +185,9 @@ impl<'a, L: Run> BoardState<'a, L> {
         let rim = launch.into_rim();
         history.push_reserved(event);
         results[number] = Some(rim.value());
-        prefixes.keep(number, rim.into_checkpoints());
+        let (row, checkpoints) = rim.into_parts();
+        keep_row(rows, worker, row);
+        prefixes.keep(number, checkpoints);
         Ok(())
     }
 
@@ -195,20 +200,12 @@ impl<'a, L: Run> BoardState<'a, L> {
         ensures no { result ≡ false
             → (self.new ≡ self.old) × ((worker ≡ 0) ⊎ (is_out self.old.core worker ≡ true)) }
     {
-        let BoardState {
-            core,
-            history,
-            rows,
-            spare,
-            ..
-        } = self;
-        let held = core.held(worker);
+        let BoardState { core, history, .. } = self;
         let event = Event::Retire { worker };
         let Ok(()) = core.step(&event) else {
             return false;
         };
         history.push_reserved(event);
-        free_row(rows, spare, held);
         true
     }
 }
@@ -384,7 +381,7 @@ impl<'a, L: Run> BoardState<'a, L> {
         };
         history.push_reserved(event);
         let plan = plan_at(plans, number);
-        let Some(mut row) = take_row(rows, number) else {
+        let Some(mut row) = take_row(rows, worker) else {
             unreachable!()
         };
         if !plan.fill_row(table, &mut row) {
@@ -430,12 +427,16 @@ impl<'a, L: Run> BoardState<'a, L> {
         let needs = own_needs(alloc, &table, plans)?;
         let core = Core::with_needs(alloc, workers, pages, needs)?;
         let history = room_for(alloc, 2 * (pages + plans.len()) + 2 * workers)?;
-        let rows = rows_of(alloc, plans)?;
-        let spare = spare_rows(alloc, plans, workers)?;
+        let room = most_pages(plans);
+        let rows = worker_rows(alloc, room, workers)?;
         let results = vec![in alloc; None; plans.len()]?;
         let prefixes = SharedPrefixes::new(alloc, plans)?;
         let side_by_side = SideBySide::new(alloc, workers)?;
-        let lending = Lending::new(alloc, workers, lent_rows(alloc, plans, workers)?)?;
+        let lending = Lending::new(
+            alloc,
+            workers,
+            lent_rows(alloc, room, plans.len(), workers)?,
+        )?;
         Ok((
             BoardState {
                 core,
@@ -443,7 +444,7 @@ impl<'a, L: Run> BoardState<'a, L> {
                 table,
                 plans,
                 rows,
-                spare,
+                room,
                 results,
                 prefixes,
                 noted: 0,
@@ -477,11 +478,12 @@ impl<'a, L: Run> BoardState<'a, L> {
         let BoardState {
             table,
             plans,
+            room,
             lending,
             ..
         } = self;
         lending.note(worker, number);
-        lent_task(table, plans, number, row)
+        lent_task(table, plans, *room, number, row)
     }
 
     /// The launch that is to be lent next, if more are left for the other workers.
@@ -567,15 +569,18 @@ fn free_of(core: &Core, page: usize, other: usize) -> usize
     }
 }
 
-/// The job of a launch whose pages all have digests, in a row that has room for it; or the row, for others.
+/// The job of a launch whose pages all have digests, in a row that has room for any launch; or the row, for others.
 fn lent_task<'a, L: Run>(
     table: &Table<'a>,
     plans: &'a [LaunchPlan],
+    room: usize,
     number: usize,
     row: DigestRow,
 ) -> Result<LaunchTask<'a, L>, DigestRow>
     requires pages { table.now.pages ≡ L.pages }
     requires plans { plans.now ≡ L.plans }
+    requires most { (l : ℕ) (p : PlanView) → slice_get plans.now l ≡ Some p
+        → length (keys_of p.links) ≤ room }
     ensures alone { IfOk result (λ task. task.plan.params.algo ≡ algo.Sha256) }
 {
     let mut row = row;
@@ -584,7 +589,7 @@ fn lent_task<'a, L: Run>(
         return Err(row);
     }
     let plan = plan_at(plans, number);
-    if plan.pages() > row.room() || !plan.fill_row(table, &mut row) {
+    if row.room() < room || !plan.fill_row(table, &mut row) {
         return Err(row);
     }
     // Each filled slot of a table has the digest of its own page.

@@ -229,12 +229,14 @@ impl<'a> LaunchRim<'a> {
         self.number
     }
 
-    /// Its checkpoints, where it has some, each with the value of the launch's prefix up to it, where the chain came to it.
-    pub fn into_checkpoints(self) -> Option<Vec<Checkpoint>>
-        ensures { IfSome result (λ checkpoints. AreCheckpoints self.entry.job.plan
+    /// The row, to be filled for another launch; and its checkpoints, where it has some, each with the value of the launch's
+    /// prefix up to it, where the chain came to it.
+    pub fn into_parts(self) -> (DigestRow, Option<Vec<Checkpoint>>)
+        ensures row { result.0 ≡ self.entry.job.row }
+        ensures checkpoints { IfSome result.1 (λ checkpoints. AreCheckpoints self.entry.job.plan
             self.entry.job.row.digests checkpoints.items) }
     {
-        self.checkpoints
+        (self.row, self.checkpoints)
     }
 
     /// Its Realm Initial Measurement: the chain of its plan and these digests.

@@ -1,31 +1,22 @@
 -- Which rows a board keeps. This project's choice.
-use Rattle.std.specs.Prelude.{◌≡◌, ⊤, ℕ, ◌<◌, ◌≤◌, not, List, [], ◌∷◌, ◌++◌, length, Option, Some, None, count_by, slice_get, slice_set}
+use Rattle.std.specs.Prelude.{◌≡◌, ℕ, ◌≤◌, false, List, [], length, Option, Some, slice_get}
 use Rattle.page_jobs.specs.Row.{RowView}
 use Rattle.rim_chain.specs.Links.{PlanView, keys_of}
-use Rattle.job_board.specs.declared.job.JobId.{JobId}
-use Rattle.job_board.specs.declared.job.JobId.TheVariants.{Page, Launch}
-use Rattle.job_board.specs.declared.job.JobState.TheVariants.{Free}
-use Rattle.job_board.specs.Jobs.{CoreState}
+use Rattle.job_board.specs.declared.job.JobState.TheVariants.{Held}
+use Rattle.job_board.specs.Jobs.{CoreState, is_out}
+use Rattle.job_board.specs.Tasks.{IsRoomy}
 
--- an empty row with room for a plan's pages
-abbrev pub HasRoom : RowView → PlanView → Type 0
-HasRoom r p = (r.digests ≡ []) × (length (keys_of p.links) ≤ r.room)
+-- an empty row with room for any launch
+abbrev pub IsSpare : List PlanView → RowView → Type 0
+IsSpare plans r = (r.digests ≡ []) × IsRoomy plans r
 
--- each free launch has its row, and for each worker that is not retired a spare one has room for any launch
-pub record HasRows (s : CoreState) (plans : List PlanView) (rows : List (Option RowView)) (spare : List RowView) : Type 0 where
-  pub size : length rows ≡ length s.launches
-  pub there : (l : ℕ) (p : PlanView) → slice_get s.launches l ≡ Some Free → slice_get plans l ≡ Some p → (r : RowView) × (slice_get rows l ≡ Some (Some r)) × HasRoom r p
-  pub roomy : (i l : ℕ) (r : RowView) (p : PlanView) → slice_get spare i ≡ Some r → slice_get plans l ≡ Some p → HasRoom r p
-  pub enough : count_by not s.retired ≤ length spare
+-- a worker holds no launch
+abbrev pub HoldsNoLaunch : CoreState → ℕ → Type 0
+HoldsNoLaunch s w = (l : ℕ) → slice_get s.launches l ≡ Some (Held w) → ⊥
 
--- a launch that a worker held has a place among the rows
-abbrev pub FitsRows : Option JobId → ℕ → Type 0
-FitsRows None n = ⊤
-FitsRows (Some (Page j)) n = ⊤
-FitsRows (Some (Launch l)) n = l < n
-
--- a launch that is freed is given the last spare row
-abbrev pub FreesRow : Option JobId → List (Option RowView) → List RowView → List (Option RowView) → List RowView → Type 0
-FreesRow None rows spare new rest = (new ≡ rows) × (rest ≡ spare)
-FreesRow (Some (Page j)) rows spare new rest = (new ≡ rows) × (rest ≡ spare)
-FreesRow (Some (Launch l)) rows spare new rest = (r : RowView) × (spare ≡ rest ++ r ∷ []) × (new ≡ slice_set rows l (Some r))
+-- a row of each worker that is not retired is here, unless it is with the launch that the worker holds; no launch has more pages
+-- than this room
+pub record HasRows (s : CoreState) (plans : List PlanView) (rows : List (Option RowView)) (room : ℕ) : Type 0 where
+  pub size : length rows ≡ length s.retired
+  pub there : (w : ℕ) → is_out s w ≡ false → HoldsNoLaunch s w → (r : RowView) × (slice_get rows w ≡ Some (Some r)) × IsSpare plans r
+  pub most : (l : ℕ) (p : PlanView) → slice_get plans l ≡ Some p → length (keys_of p.links) ≤ room

@@ -1,4 +1,4 @@
-use Rattle.std.proofs.Common.{◌≡◌, ◌∙◌, List, Ok, Some, ap, arith, false, refl, subst, sym, true}
+use Rattle.std.proofs.Common.{◌≡◌, ◌∙◌, ℕ, List, Ok, Option, Some, ap, arith, false, refl, subst, sym, true}
 use Rattle.std.specs.List.{slice_get}
 use Rattle.std.proofs.lemmas.Option.{slice_get_within}
 use Rattle.page_jobs.specs.Page.{PageView}
@@ -13,7 +13,11 @@ use Rattle.job_board.specs.Step.{core_step}
 use Rattle.job_board.proofs.Histories.{history_room, same_most}
 use Rattle.job_board.proofs.Boards.{board_other, ready_filled}
 use Rattle.job_board.proofs.Kept.{take_says}
-use Rattle.job_board.proofs.BoardRows.{rows_take_launch}
+use Rattle.job_board.proofs.BoardRows.{row_within, rows_take_launch}
+use Rattle.job_board.proofs.Noted.{held_counts}
+use Rattle.job_board.specs.Jobs.{CoreState, held_count, is_out}
+use Rattle.job_board.specs.inside.Rows.{HasRows, IsSpare}
+use Rattle.page_jobs.specs.Row.{RowView}
 use Rattle.rim_chain.proofs.KnownPrefixes.{own-shared_prefix}
 use Rattle.job_board.proofs.state.BoardState.give_launch.Goals as goal
 
@@ -31,12 +35,16 @@ plan_at-plan-requires g c =
     let within = slice_get_within i.core.launches c.args.number Free (take_says i.core c.step.new.self c.args.worker (Launch c.args.number) step).0 in
     omega (arith, within, c.self.invariant.0.plans)
 
+-- the row of a worker that holds no job
+own_row_of : (s : CoreState) (plans : List PlanView) (rows : List (Option RowView)) (room w : ℕ) → HasRows s plans rows room → is_out s w ≡ false → held_count s w ≡ 0
+    → (r : RowView) × (slice_get rows w ≡ Some (Some r)) × IsSpare plans r
+own_row_of s plans rows room w h known idle = h.there w known (λ l at. let one = held_counts w s.launches l at in absurd (omega (arith, one, idle)))
+
 pub take_row-requires : goal.take_row-requires
 take_row-requires g c =
     let i = c.self.inside in
-    let step : core_step i.core (Take c.args.worker (Launch c.args.number)) ≡ Ok c.step.new.self = c.in-Ok.ensures.step in
-    let within = slice_get_within i.core.launches c.args.number Free (take_says i.core c.step.new.self c.args.worker (Launch c.args.number) step).0 in
-    omega (arith, within, c.self.invariant.2.size)
+    let known : is_out i.core c.args.worker ≡ false = subst (λ (v : BoardView). is_out v.core c.args.worker ≡ false) (sym c.self.view_is) c.requires.known in
+    row_within i.core i.plans.now i.rows.items i.room c.args.worker c.self.invariant.2 known
 
 pub unreachable-requires-then-not-fill_row : goal.unreachable-requires-then-not-fill_row
 unreachable-requires-then-not-fill_row g c =
@@ -61,7 +69,7 @@ invariant_of-self g c =
     let most = same_most i.core c.step.new.self (Take c.args.worker (Launch c.args.number)) step in (
       rw c.push_reserved.ensures.items (board_other b c.step.new.self (Take c.args.worker (Launch c.args.number)) refl c.self.invariant.0 step),
       omega (arith, most, c.self.invariant.1, c.push_reserved.ensures.capacity),
-      rw c.take_row.ensures.rest (rows_take_launch i.core c.step.new.self i.plans.now i.rows.items i.spare.items c.args.worker c.args.number c.self.invariant.2 step),
+      rw c.take_row.ensures.rest (rows_take_launch i.core c.step.new.self i.plans.now i.rows.items i.room c.args.worker c.args.number c.self.invariant.2 step),
       c.take_checkpoints.ensures.shared i.table i.plans.now c.self.invariant.3,
       c.self.invariant.4,
     )
@@ -73,4 +81,4 @@ new-requires g c =
     let digests = c.fill_row.new.row.digests in
     let plan : slice_get g.L.Run.plans c.args.number ≡ Some p = ap (λ (plans : List PlanView). slice_get plans c.args.number) (sym c.self.invariant.4.1) ∙ c.plan_at-plan.ensures in
     let row = own_row i.table c.pages-pages.ensures.table (keys_of p.links) digests (c.fill_row.ensures.filled c.if-not-fill_row.false) in
-    rw (c.going_on.ensures, c.new-job.ensures) (plan, subst (λ (pages : List PageView). IsOwnRow pages (keys_of p.links) digests) c.self.invariant.4.0 row)
+    rw (c.going_on.ensures, c.new-job.ensures) (plan, subst (λ (pages : List PageView). IsOwnRow pages (keys_of p.links) digests) c.self.invariant.4.0 row, roomy)

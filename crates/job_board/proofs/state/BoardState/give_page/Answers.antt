@@ -37,7 +37,7 @@ invariant_of-self g c =
     let most = same_most i.core c.step.new.self (Take c.args.worker (Page c.args.page)) step in (
       rw c.push_reserved.ensures.items (board_other b c.step.new.self (Take c.args.worker (Page c.args.page)) refl c.self.invariant.0 step),
       omega (arith, most, c.self.invariant.1, c.push_reserved.ensures.capacity),
-      rows_take_page i.core c.step.new.self i.plans.now i.rows.items i.spare.items c.args.worker c.args.page c.self.invariant.2 step,
+      rows_take_page i.core c.step.new.self i.plans.now i.rows.items i.room c.args.worker c.args.page c.self.invariant.2 step,
       c.self.invariant.3,
       c.self.invariant.4,
     )

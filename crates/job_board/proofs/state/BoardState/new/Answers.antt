@@ -24,7 +24,7 @@ invariant_of-result g c =
     let fresh = core_fresh c.args.workers size needs c.requires.workers.0 c.requires.workers.1 c.in_ok-needs.ensures.needs.within in (
       rw (core, c.in_ok-history.ensures.empty, none, c.open-book.ensures.total) (board_new c.args.workers c.args.table c.args.plans.now needs fresh c.pages-pages.ensures.table c.requires.empty own),
       omega (arith, most, cap, pages, own.size, length-replicate size Free, length-replicate (length needs) Free, length-replicate c.args.workers false),
-      rw core (rows_new c.args.workers size needs c.args.plans.now c.in_ok-rows.rows.items c.in_ok-spare.spare.items own.size c.in_ok-rows.ensures.size c.in_ok-rows.ensures.there c.in_ok-spare.ensures.size c.in_ok-spare.ensures.roomy),
+      rw core (rows_new c.args.workers size needs c.args.plans.now c.in_ok-rows.rows.items c.most_pages-room.result c.in_ok-rows.ensures.size c.in_ok-rows.ensures.there c.most_pages-room.ensures),
       c.in_ok-prefixes.ensures c.args.table c.args.plans.now,
       (c.requires.pages, c.requires.plans),
     )

@@ -48,7 +48,7 @@ invariant_of-self-2 g c =
     let book : c.add.new.self.total ≡ b.book + 1 = omega (arith, c.add.ensures.total, c.audit.ensures.total) in (
       rw (c.push_reserved.ensures.items, c.keep.ensures, book) (board_put_page b c.step.new.self c.args.worker n d c.self.invariant.0 table step),
       omega (arith, most, c.self.invariant.1, c.push_reserved.ensures.capacity),
-      rows_put_page i.core c.step.new.self i.plans.now i.rows.items i.spare.items c.args.worker n c.self.invariant.2 step,
+      rows_put_page i.core c.step.new.self i.plans.now i.rows.items i.room c.args.worker n c.self.invariant.2 step,
       rw c.keep.ensures (shared-filled i.table i.plans.now i.prefixes n d (slot_empty i.table.digests i.core.pages c.args.worker n c.self.invariant.0.filled was.1) c.self.invariant.3),
       rw c.keep.ensures c.self.invariant.4,
     )

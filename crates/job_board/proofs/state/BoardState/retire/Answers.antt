@@ -4,8 +4,7 @@ use Rattle.job_board.specs.Board.{BoardView}
 use Rattle.job_board.specs.Step.{core_step}
 use Rattle.job_board.proofs.Histories.{history_room, same_most}
 use Rattle.job_board.proofs.Boards.{board_other}
-use Rattle.job_board.proofs.Kept.{retire_says}
-use Rattle.job_board.proofs.BoardRows.{fits_rows, held_by, rows_after, some_spare}
+use Rattle.job_board.proofs.BoardRows.{rows_retire}
 use Rattle.job_board.proofs.state.BoardState.retire.Goals as goal
 
 pub push_reserved-requires : goal.push_reserved-requires
@@ -15,27 +14,15 @@ push_reserved-requires g c =
     let room = history_room i.core c.step.new.self i.history.items (Retire c.args.worker) c.self.invariant.0.history step in
     omega (arith, room, c.self.invariant.1)
 
-pub free_row-requires-clause-some : goal.free_row-requires-clause-some
-free_row-requires-clause-some g c =
-    let i = c.self.inside in
-    let step : core_step i.core (Retire c.args.worker) ≡ Ok c.step.new.self = c.in-Ok.ensures.step in
-    some_spare i.core i.plans.now i.rows.items i.spare.items c.args.worker c.self.invariant.2 (retire_says i.core c.step.new.self c.args.worker step).0
-
-pub free_row-requires-clause-within : goal.free_row-requires-clause-within
-free_row-requires-clause-within g c =
-    let i = c.self.inside in
-    fits_rows i.core c.args.worker c.held-held.result i.plans.now i.rows.items i.spare.items c.self.invariant.2 (held_by i.core c.args.worker c.held-held.result c.held-held.ensures.held c.held-held.ensures.one c.held-held.ensures.none)
-
 pub invariant_of-self-2 : goal.invariant_of-self-2
 invariant_of-self-2 g c =
     let i = c.self.inside in
     let b : BoardView = record { core = i.core; history = i.history.items; table = i.table; plans = i.plans.now; results = i.results.items; book = i.book.total } in
     let step : core_step i.core (Retire c.args.worker) ≡ Ok c.step.new.self = c.in-Ok.ensures.step in
-    let most = same_most i.core c.step.new.self (Retire c.args.worker) step in
-    let holds = held_by i.core c.args.worker c.held-held.result c.held-held.ensures.held c.held-held.ensures.one c.held-held.ensures.none in (
+    let most = same_most i.core c.step.new.self (Retire c.args.worker) step in (
       rw c.push_reserved.ensures.items (board_other b c.step.new.self (Retire c.args.worker) refl c.self.invariant.0 step),
       omega (arith, most, c.self.invariant.1, c.push_reserved.ensures.capacity),
-      rows_after i.core c.step.new.self i.plans.now i.rows.items c.free_row.new.rows.items i.spare.items c.free_row.new.spare.items c.args.worker c.held-held.result c.self.invariant.2 holds c.free_row.ensures step,
+      rows_retire i.core c.step.new.self i.plans.now i.rows.items i.room c.args.worker c.self.invariant.2 step,
       c.self.invariant.3,
       c.self.invariant.4,
     )

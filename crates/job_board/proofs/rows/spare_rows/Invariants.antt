@@ -1,7 +1,0 @@
-use Rattle.std.proofs.Common.{◌≡◌, ℕ, [], Some, length}
-use Rattle.std.specs.List.{slice_get}
-use Rattle.page_jobs.specs.Row.{RowView}
-use Rattle.job_board.proofs.rows.spare_rows.Given as goal
-
-abbrev pub invariant-loop-i : goal.invariant-loop-i
-invariant-loop-i l = (length l.rows.items ≡ l._i) × ((k : ℕ) (r : RowView) → slice_get l.rows.items k ≡ Some r → (r.digests ≡ []) × (r.room ≡ l.room))
