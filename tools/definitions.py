@@ -9,12 +9,14 @@ A promise of docs/PROMISES.md names definitions, as `FILE.word`. Its number is h
 has to believe for it: those that it names and all that they are made of, down to the kit's own words.
 Comments, imports and empty lines do not count, nor do types that are declared in src/.
 
-The check asks three things:
+The check asks five things:
 1. each number of docs/PROMISES.md is the one that is counted here, and its list for reading the headline is the one that is made here;
 2. docs/ARCHITECTURE.md names each file of specs/, but for those in specs/inside/, which hold what loops and
    fields keep;
 3. each definition of specs/ is named by a contract, or by a definition that is. What only proofs need belongs in
-   proofs/.
+   proofs/;
+4. each constant that docs/ARCHITECTURE.md names is a public one of its file;
+5. no line of a contract has more than 100 columns.
 """
 import pathlib
 import re
@@ -198,6 +200,26 @@ def unnamed_files():
             yield f"crates/{crate}/specs/{place}.antt"
 
 
+def missing_constants():
+    """The constants that docs/ARCHITECTURE.md names and that their files have not."""
+    for line in (TOP / "docs/ARCHITECTURE.md").read_text().splitlines():
+        for file, names in re.findall(r"`(\w+/src/[\w/]+\.rt)`: ((?:`\w+`(?:, )?)+)", line):
+            text = (TOP / "crates" / file).read_text()
+            for name in re.findall(r"`(\w+)`", names):
+                if not re.search(rf"^pub(?:\(crate\))? const {name}: ", text, re.M):
+                    yield f"docs/ARCHITECTURE.md: {file} has no constant {name}"
+
+
+def wide_lines():
+    """The lines of code and contracts with more than 100 columns: all but comments, attributes, imports and tests."""
+    for path in sorted(TOP.glob("crates/*/src/**/*.rt")):
+        if path.relative_to(TOP / "crates").parts[0].endswith("_tests"):
+            continue
+        for number, line in enumerate(path.read_text().splitlines(), 1):
+            if len(line) > 100 and not re.match(r"\s*(//|#\[|(ghost )?use )", line):
+                yield f"{path.relative_to(TOP)}:{number}: {len(line)} columns"
+
+
 def main():
     known, wrong = declarations(), []
     if "--reading" in sys.argv:
@@ -212,6 +234,7 @@ def main():
         wrong += [f"docs/ARCHITECTURE.md does not name {path}" for path in unnamed_files()]
         listed = (TOP / "docs/PROMISES.md").read_text().splitlines()
         wrong += [f"docs/PROMISES.md: the list for reading the headline lacks: {row}" for row in reading(known) if row not in listed]
+        wrong += [*missing_constants(), *wide_lines()]
         used = reached(known, cited(known))
         wrong += [f"crates/{c}/specs/{p}.antt: no contract needs {name}" for c, p, name in sorted(set(known) - used)]
     print("\n".join(wrong), end="\n" if wrong else "")

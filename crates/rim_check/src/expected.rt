@@ -19,7 +19,8 @@ impl fmt::Display for Expected {
             ),
             Form::Words { most } => write!(
                 f,
-                "an array of at most {most} whole numbers or texts 0x and 1 to 16 hexadecimal digits"
+                "an array of at most {most} whole numbers or texts \
+                 0x and 1 to 16 hexadecimal digits"
             ),
             other => f.write_str(words_of(other)),
         }

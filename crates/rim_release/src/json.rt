@@ -76,7 +76,9 @@ fn launch_value(
             let digits = hex::encode(alloc, digest(algo, rim))?;
             json!(in alloc; {"algorithm": algo.word(), "name": launch.name(), "rim": digits})
         }
-        Err(fault) =>
-            json!(in alloc; {"algorithm": algo.word(), "name": launch.name(), "refused": fault.kind()}),
+        Err(fault) => {
+            let word = fault.kind();
+            json!(in alloc; {"algorithm": algo.word(), "name": launch.name(), "refused": word})
+        }
     }
 }
