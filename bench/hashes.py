@@ -26,7 +26,7 @@ def least_times(program, runs):
 
 
 def prepare():
-    return built("hashes", "page_jobs known_tail sha_four rim_desc sha2", ["1"])
+    return built("hashes", "page_jobs rim_sha rim_desc sha2", ["1"])
 
 
 def main():

@@ -16,7 +16,7 @@ from releases import kernel, shared
 from workers import measuring, run
 
 PLAIN = [
-    ("known_tail/src/lib.rt", "if tail == &ZEROS[..] {", "if head.is_empty() && tail == &ZEROS[..] {"),
+    ("rim_sha/src/lib.rt", "if has_zero_tail(descriptor) {", "if descriptor.is_empty() && has_zero_tail(descriptor) {"),
     ("page_jobs/src/hashed.rt", "if fills_lane(&a.page) && ", "if a.page.bytes.is_empty() && fills_lane(&a.page) && "),
     ("rim_chain/src/starting.rt", "if groups == 0 {", "if groups < usize::MAX {"),
 ]

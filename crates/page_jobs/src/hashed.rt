@@ -6,7 +6,7 @@ ghost use Rattle.page_jobs.specs.inside.Lanes.{FillsLane};
 
 use crate::page::Page;
 use rim_desc::{Algo, Measurement, PAGE_SIZE, hash};
-use sha_four::sha256_four;
+use rim_sha::sha256_four;
 
 /// How many pages are hashed side by side.
 pub const LANES: usize = 4;

@@ -5,8 +5,7 @@ ghost use Rattle.rim_desc.specs.Page.{zeros};
 ghost use Rattle.rim_desc.specs.declared.measurement.Algo.TheVariants as algo;
 
 use crate::descriptor::DESCRIPTOR_SIZE;
-use known_tail::sha256_descriptor;
-use sha_four::sha256_descriptors;
+use rim_sha::{sha256_descriptor, sha256_descriptors};
 use sha2::{Digest, Sha256, Sha512};
 
 /// The hash algorithm of a realm (DEN0137, RmiHashAlgorithm).

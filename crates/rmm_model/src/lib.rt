@@ -20,4 +20,4 @@ pub use laws::{
 pub use outcome::{Kind, Phase, Refused};
 pub use size::{size_of_level, span_of_level, table_base};
 pub use start::{LEAST_WIDTH, MOST_WIDTH, is_width, protected_end, start_count, start_level};
-pub use table::Table;
+pub use table::{Table, walk_level};

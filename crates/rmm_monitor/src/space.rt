@@ -1,11 +1,11 @@
 //! The IPA space of the realm.
 ghost use Rattle.std.specs.Prelude.{◌≡◌, ◌+◌, ◌-◌, ◌<◌, ◌≤◌, ◌^◌, ◌&&◌, nat_lt, OnOk, OnErr, false};
 ghost use Rattle.rmm_model.specs.Blocks.{down, span};
-ghost use Rattle.rmm_model.specs.Space.{after_page, after_run, after_table, deeper, empty_space, has, has_table_in, is_ram, made, overlaps, walk};
+ghost use Rattle.rmm_model.specs.Space.{after_page, after_run, after_table, deeper, empty_space, has, has_table_in, is_ram, overlaps, walk};
 ghost use Rattle.rmm_model.specs.Checks.{is_not_fresh};
 
 use refusal::NoMemory;
-use rmm_model::{Table, table_base};
+use rmm_model::{Table, walk_level};
 use std::alloc::Global;
 use std::collections::{BTreeMap, BTreeSet};
 use std::marker::Model;
@@ -70,15 +70,7 @@ impl IpaSpace {
         ensures value { result ≡ walk self.now.start self.now.tables ipa }
         ensures most { result ≤ 3 }
     {
-        if is_made(&self.tables, 3, ipa) {
-            3
-        } else if is_made(&self.tables, 2, ipa) {
-            2
-        } else if is_made(&self.tables, 1, ipa) {
-            1
-        } else {
-            self.start
-        }
+        walk_level(self.start, &self.tables, ipa)
     }
 
     /// Whether a table of a deeper level has its first address in the range.
@@ -155,16 +147,6 @@ impl IpaSpace {
         self.assigned.insert(ipa)?;
         Ok(())
     }
-}
-
-/// Whether the table of a level that covers an IPA is made.
-fn is_made(tables: &BTreeSet<Table>, level: u8, ipa: u64) -> bool
-    ensures { result ≡ made tables.now.keys level (down (span level) ipa) }
-{
-    tables.contains(&Table {
-        level,
-        base: table_base(level, ipa),
-    })
 }
 
 /// Whether a table of a level has its first address in the range.

@@ -1,41 +1,14 @@
 //! Questions to what was planned so far.
 ghost use Rattle.std.specs.Prelude.{◌≡◌, ◌*◌, ◌+◌, ◌%◌, ◌≤◌, ◌<◌, ◌^◌, IfNone, IfSome, false, nat_lt, true};
 ghost use Rattle.std.specs.List.{list_all, list_any};
-ghost use Rattle.rmm_model.specs.Blocks.{down, granules, span};
-ghost use Rattle.rmm_model.specs.Space.{ArePlaced, has, is_ram, made, overlaps, walk};
+ghost use Rattle.rmm_model.specs.Blocks.{granules};
+ghost use Rattle.rmm_model.specs.Space.{has, is_ram, overlaps};
 ghost use Rattle.rmm_model.specs.Apart.{are_apart};
 ghost use Rattle.rtt_plan.specs.inside.PageRanges.{IsRamTo, are_pages, pages_of};
 ghost use Rattle.rim_desc.specs.declared.page.TheConstants.{PAGE_SIZE};
 
 use rim_desc::GRANULE_SIZE;
-use rmm_model::{Table, table_base};
-use std::collections::{BTreeMap, BTreeSet};
-
-/// Whether the table of a level that covers an IPA is made.
-fn is_made(tables: &BTreeSet<Table>, level: u8, ipa: u64) -> bool
-    ensures { result ≡ made tables.now.keys level (down (span level) ipa) }
-{
-    tables.contains(&Table {
-        level,
-        base: table_base(level, ipa),
-    })
-}
-
-/// The level at which the walk of an IPA ends: the deepest table that covers it decides.
-pub fn walk_level(start: u8, tables: &BTreeSet<Table>, ipa: u64) -> u8
-    requires { ArePlaced start tables.now.keys }
-    ensures { result ≡ walk start tables.now.keys ipa }
-{
-    if is_made(tables, 3, ipa) {
-        3
-    } else if is_made(tables, 2, ipa) {
-        2
-    } else if is_made(tables, 1, ipa) {
-        1
-    } else {
-        start
-    }
-}
+use std::collections::BTreeMap;
 
 /// Whether some address from `base` on and below `top` is in one of some ranges in order: the last of those that begin
 /// below `top` decides.

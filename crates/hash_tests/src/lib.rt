@@ -1,5 +1,0 @@
-//! Tests of the crates that hash, against the kit's `sha2` and Python's hashlib.
-#![tactic(auto)]
-
-#[cfg(test)]
-mod tests;

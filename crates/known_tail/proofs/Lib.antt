@@ -1,4 +1,0 @@
-pub mod Rotations
-pub mod ChMaj
-pub mod KnownBlocks
-pub mod Messages

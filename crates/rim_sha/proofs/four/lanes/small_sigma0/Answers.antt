@@ -1,0 +1,15 @@
+use Rattle.std.proofs.Common.{ℕ, ◌/◌, ◌^◌, bit_xor, ap, slice_index, ◌∙◌, arith}
+use Rattle.std.specs.Int.{w32, rotate_right}
+use Rattle.rim_sha.proofs.Rotations.{rotated_two}
+use Rattle.rim_sha.proofs.Vectors.{alike, both, itself, lane_below, splat}
+use Rattle.rim_sha.proofs.four.lanes.small_sigma0.Goals as goal
+
+pub returns : goal.returns
+returns c =
+    let x = itself c.args.x c.fits-x.0 in
+    let once = both bit_xor _ _ _ _ x c.rotated.ensures in
+    let rotated = alike _ _ _ c.rotated-2.ensures (λ j h.
+    ap (λ (y : ℕ). rotate_right w32 y 7) (once.1 j h)
+    ∙ rotated_two 32 (slice_index c.args.x j) 7 11 (omega arith) (lane_below c.args.x c.fits-x.0 c.fits-x.1 j h)) in
+    let shifted = both (λ (a b : ℕ). a / 2 ^ b) _ _ _ _ x (splat 3) in
+    both bit_xor _ _ _ _ rotated shifted

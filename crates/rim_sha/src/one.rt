@@ -1,0 +1,4 @@
+//! One message.
+pub(crate) mod headed;
+mod known_blocks;
+mod rounds;

@@ -1,7 +1,0 @@
-use Rattle.std.proofs.Common.{◌≡◌, ℕ, ◌<◌}
-use Rattle.sha2.specs.Sha256.{hash_after, initial_hash_256}
-use Rattle.sha_four.specs.inside.Lanes.{lane, message}
-use Rattle.sha_four.proofs.messages.final_hashes.Given as goal
-
-abbrev pub invariant-each : goal.invariant-each
-invariant-each l = (j : ℕ) → j < 4 → lane j l.state ≡ hash_after initial_hash_256 (message l.m0 l.m1 l.m2 l.m3 j) l.i
