@@ -84,7 +84,7 @@ BODIES = [
     ),
     (
         "memory is always wanting",
-        "rim_release/src/parallel.rt",
+        "rim_release/src/workers.rt",
         [("    let launches = release.all_launches();", "    if workers > 0 {\n        return Err(StartFault::NoMemory);\n    }\n    let launches = release.all_launches();")],
         "rim_tests::workers",
     ),

@@ -55,6 +55,16 @@ fn files_come_back(rt: HostRuntime) {
     }
 }
 
+// A property that is set in an empty root is written with its new node and its name.
+#[test]
+fn what_is_set_is_written(rt: HostRuntime) {
+    let mut tree = tree_of(&rt, rt.alloc(), &EMPTY);
+    tree.set(rt.alloc(), b"/chosen", b"bootargs", b"quiet\0")
+        .expect(&rt, "it is set");
+    let bytes = tree.write(rt.alloc()).expect(&rt, "a file");
+    check(&rt, bytes.as_slice() == CHOSEN.as_slice(), "the file");
+}
+
 // A block with NOPs and a word after END, before strings of which one is not used and another is present
 // twice.
 const SLACK: [u32; 22] = [

@@ -30,7 +30,7 @@ pub struct Tally {
 /// jobs done. What is written is read under the same lock.
 ///
 /// The gate is borrowed to be changed, and no clause says what it is after the run. So a caller whose own contract says
-/// that the gate is as it was has started no worker.
+/// that the gate is as it was has started no worker with this gate.
 pub fn run_workers<L: Run + Send + Sync, G: Gate + Sync, R: Threads + Wait + Sync>(
     rt: &R,
     gate: &mut G,

@@ -45,7 +45,8 @@ unfoldable pub pages_with : ℕ → List Measurement → List Part
 pages_with ipa [] = []
 pages_with ipa (digest ∷ digests) = Data ipa (Some digest.bytes) ∷ pages_with (ipa + PAGE_SIZE) digests
 
--- the parts of a link, with the digests of its pages
+-- the parts of a link, with the digests of its pages. Who chains a plan has a digest for each of its pages, so there are as
+-- many here as the link has, and their number in it is not looked at again
 abbrev pub link_parts : Link → List Measurement → List Part
 link_parts (link.Blocks base size count) digests = ripas_parts (stretches count size base)
 link_parts (link.Pages ipa key count) digests = pages_with ipa digests

@@ -22,6 +22,7 @@ IsFilled p digests = length digests ≡ length (keys_of p.links)
 abbrev pub IsFull : TableView → Type 0
 IsFull t = (j : ℕ) → j < length t.pages → is_some (digest_in t j) ≡ true
 
--- what a plan chains to, with the digests that a table has for its pages
+-- what a plan chains to, with the digests that a table has for its pages. Keys without a digest are left out; a board asks
+-- for this only of a launch that is done, whose pages are then done and have one each
 abbrev pub value_in : TableView → PlanView → List ℕ
 value_in t p = chain_of p (filter_map (digest_at t) (keys_of p.links))

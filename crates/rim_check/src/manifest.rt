@@ -56,8 +56,8 @@ impl Readable {
     }
 }
 
-/// Checks a manifest: a line for each of its faults, or the release that it describes. A line has the place of the fault, its
-/// word, what is given and what is expected.
+/// Checks a manifest: a line for each of its faults, which is proved of the lowest alone, or the release that it describes.
+/// A line has the place of the fault, its word, what is given and what is expected.
 pub fn check_manifest(alloc: Global, text: &[u8]) -> Result<ManifestCheck, NoMemory>
     ensures { IfOk result (IsCheckOf (manifest_of text.now)) }
 {

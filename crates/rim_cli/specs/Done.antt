@@ -81,7 +81,8 @@ pub record ChecksLaunches (held : List ℕ → Known) (r : ReleaseData) (shown :
 abbrev pub IsReleaseCheck : (List ℕ → Known) → ReleaseData → List ℕ → ℕ → Type 0
 IsReleaseCheck held r text status = ChecksFiles held r text status ⊎ ChecksLaunches held r text status
 
--- a manifest is checked: a line for each of its faults, and the status is 3; or else the release that it describes is
+-- a manifest is checked: a line for each of some faults, the lowest of its faults among them, and the status is 3; or
+-- else the release that it describes is
 abbrev pub IsCheck : (List ℕ → Known) → Answer → List ℕ → ℕ → Type 0
 IsCheck held (Err fault) text status = Explains fault text × (status ≡ 3)
 IsCheck held (Ok r) text status = IsReleaseCheck held r text status

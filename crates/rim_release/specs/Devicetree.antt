@@ -34,7 +34,8 @@ abbrev pub parts_of_bytes : Algo → PlacedItem → List ℕ → List Part
 parts_of_bytes algo item bytes =
     map (λ k. Data (page_base item + PAGE_SIZE * k) (if item.measured then Some (measurement_of algo (page_bytes item.lead bytes k)) else None)) (range_with_len 0 item.pages)
 
--- what the step of the devicetree adds to the launch's measured parts is measured of these bytes
+-- what the step of the devicetree adds to the launch's measured parts is measured of these bytes, where its item is
+-- measured; of one that is not, as many pages are added without contents, whatever the bytes are
 pub record IsMeasuredDevicetree (files : List (List ℕ)) (l : LaunchData) (p : PlacedData) (bytes : List ℕ) : Type 0 where
   pub number : ℕ
   pub item : PlacedItem
@@ -42,7 +43,7 @@ pub record IsMeasuredDevicetree (files : List (List ℕ)) (l : LaunchData) (p : 
   pub placed : slice_get p.items number ≡ Some item
   pub parts : step_parts l p (page_contents l files p) (step.Item number) ≡ parts_of_bytes l.config.algo item bytes
 
--- each devicetree that is given out is the one that is measured
+-- each devicetree that is given out is the one that is measured, where its item is
 abbrev pub DevicetreesAreMeasured : Type 0
 DevicetreesAreMeasured = (files : List (List ℕ)) (l : LaunchData) (p : PlacedData) (bytes : List ℕ) → accepted_of l files ≡ Ok p
     → devicetree_of l files ≡ Ok (Some bytes) → IsMeasuredDevicetree files l p bytes

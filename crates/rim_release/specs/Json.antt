@@ -22,7 +22,7 @@ unfoldable pub launch_json : NamedData → Result (List ℕ) AuditFault → Data
 launch_json l outcome =
     object (member (codes "algorithm") (string (algo_word l.launch.config.algo)) (member (codes "name") (string l.name) (outcome_member l.launch.config.algo outcome)))
 
--- each launch with what came of it
+-- each launch with what came of it. One without an outcome is left out; in a report there is an outcome for each
 abbrev pub launches_json : List NamedData → List (Result (List ℕ) AuditFault) → List Data
 launches_json [] outcomes = []
 launches_json (l ∷ ls) [] = []

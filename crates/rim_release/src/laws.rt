@@ -56,8 +56,8 @@ pub fn a_value_is_its_launchs_rim()
         → IsRimOf files r.launches k value }
 {}
 
-/// The devicetree that is given out of a launch is the one that is measured: the step of the launch's devicetree adds just
-/// the pages of these bytes to its measured parts. Each item of a launch has one step.
+/// The devicetree that is given out of a launch is the one that is measured, where its item is: the step of the launch's
+/// devicetree adds just the pages of these bytes to its measured parts. Each item of a launch has one step.
 pub fn devicetrees_are_measured()
     ensures { DevicetreesAreMeasured }
 {}

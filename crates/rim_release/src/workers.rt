@@ -57,8 +57,8 @@ struct Counted {
 
 /// The report of a release, made by 1 to 64 workers. It is the one that `measure_alone` makes, in whatever order the
 /// workers come to their jobs. All memory is taken before the first worker is started, and from then on nothing is
-/// refused: after a fault the gate is as it was, so no worker was started. A worker that cannot be started is gone
-/// without.
+/// refused. Of that the clause `unstarted` says that after a fault the gate is as it was, so it was lent to no run; that
+/// there is no run with another gate is read in the code. A worker that cannot be started is gone without.
 pub fn measure_release<G: Gate + Sync, R: Threads + Wait + Sync>(
     rt: &R,
     alloc: Global,

@@ -43,11 +43,59 @@ s2sz = 33
 
 const NINES: [u8; 8192] = [9; 8192];
 
+/// The same item in a launch of each algorithm, and nothing else.
+const BOTH: &str = "rim_manifest = 1
+[[file]]
+name = \"f\"
+path = \"f\"
+[[launch]]
+name = \"a\"
+algo = \"sha256\"
+s2sz = 33
+ram = [[0x40000000, 0x40200000]]
+item = [{ name = \"x\", kind = \"raw\", file = \"f\", at = 0x40000000 }]
+[[launch]]
+name = \"b\"
+algo = \"sha512\"
+s2sz = 33
+ram = [[0x40000000, 0x40200000]]
+item = [{ name = \"x\", kind = \"raw\", file = \"f\", at = 0x40000000 }]
+";
+
 /// How many jobs there are: four pages and three launches.
 const JOBS: u64 = 7;
 
-/// Holds the first page until another was put, for a number of turns. It counts the calls before jobs and pages, and those
-/// after jobs and after pages, for worker 0 and for the others.
+/// A count of 1 of each job, four pages and then the launches, in a byte of its own.
+const ONES: [u64; 7] = [
+    0x1,
+    0x100,
+    0x1_0000,
+    0x100_0000,
+    0x1_0000_0000,
+    0x100_0000_0000,
+    0x1_0000_0000_0000,
+];
+
+/// Four pages and two launches, once each.
+const SIX_ONCE: u64 = 0x101_0101_0101;
+
+/// Four pages and three launches, once each.
+const SEVEN_ONCE: u64 = 0x1_0101_0101_0101;
+
+/// A count of 1 of this job. What is no job has a byte above all others.
+fn one_of(job: JobId) -> u64 {
+    let number = match job {
+        JobId::Page(page) => page,
+        JobId::Launch(launch) => launch.saturating_add(4),
+    };
+    match ONES.get(number) {
+        Some(one) => *one,
+        None => 0x100_0000_0000_0000,
+    }
+}
+
+/// Holds the first page until two others were put, for a number of turns. It counts the calls before and after each
+/// job, the pages that were begun, and the calls after pages for worker 0 and for the others.
 #[derive(Drop)]
 struct Hold {
     begun: AtomicU64,
@@ -58,7 +106,7 @@ struct Hold {
     in_vain: AtomicU64,
 }
 
-/// How often it looks for a page that was put.
+/// How often it looks for the pages that were put.
 const TURNS: u64 = 100_000_000;
 
 impl Hold {
@@ -73,7 +121,7 @@ impl Hold {
         }
     }
 
-    /// How many calls there were before jobs and after jobs, and how often the first page was held in vain.
+    /// How many calls there were before and after each job, and how often the first page was held in vain.
     fn calls(&self) -> (u64, u64, u64) {
         (
             self.begun.load(Ordering::SeqCst),
@@ -93,7 +141,7 @@ impl Hold {
 
 impl Gate for Hold {
     fn before(&self, _worker: usize, job: JobId) {
-        self.begun.fetch_add(1, Ordering::SeqCst);
+        self.begun.fetch_add(one_of(job), Ordering::SeqCst);
         let JobId::Page(_) = job else {
             return;
         };
@@ -102,7 +150,7 @@ impl Gate for Hold {
         }
         for _turn in 0..TURNS {
             let (first, others) = self.pages();
-            if first > 0 || others > 0 {
+            if first.saturating_add(others) > 1 {
                 return;
             }
             thread::yield_now();
@@ -111,7 +159,7 @@ impl Gate for Hold {
     }
 
     fn after(&self, worker: usize, job: JobId) {
-        self.ended.fetch_add(1, Ordering::SeqCst);
+        self.ended.fetch_add(one_of(job), Ordering::SeqCst);
         let JobId::Page(_) = job else {
             return;
         };
@@ -151,24 +199,31 @@ fn audited(alloc: Global, manifest: &[u8]) -> Result<Vec<u8>, Fail> {
     Ok(audit_report(alloc, &release, &files)?)
 }
 
-/// A run of two workers has done all jobs, and each worker's number of pages is its own.
-fn check_two(rt: &impl Abort, outcome: &Outcome, gate: &Hold) {
+/// A run of two workers has done each job once, and each worker's number of pages is its own. Its report is that of one
+/// thread.
+fn check_two(
+    rt: &(impl Abort + AllocGlobal + Threads + Wait + Sync),
+    manifest: &[u8],
+    once: u64,
+    has_refused: bool,
+) -> Result<(), Fail> {
+    let mut gate = Hold::new();
+    let outcome = measured(rt, &mut gate, manifest, 2)?;
     let found = (outcome.started, outcome.pages, outcome.has_refused);
-    assert_eq!(rt; found, (2, 4, true));
-    assert_eq!(rt; gate.calls(), (JOBS, JOBS, 0));
+    assert_eq!(rt; found, (2, 4, has_refused));
+    assert_eq!(rt; gate.calls(), (once, once, 0));
     let (first, others) = gate.pages();
     assert_eq!(rt; outcome.shares.as_slice(), [first, others].as_slice());
     assert!(rt; first > 0 && others > 0);
+    let report = alone(rt.alloc(), manifest)?;
+    assert_eq!(rt; outcome.report.as_slice(), report.as_slice());
+    Ok(())
 }
 
 #[test]
 fn two_workers_at_a_time(rt: HostRuntime) -> Result<(), Fail> {
-    let mut gate = Hold::new();
-    let outcome = measured(&rt, &mut gate, LAUNCHES.as_bytes(), 2)?;
-    check_two(&rt, &outcome, &gate);
-    let report = alone(rt.alloc(), LAUNCHES.as_bytes())?;
-    assert_eq!(rt; outcome.report.as_slice(), report.as_slice());
-    Ok(())
+    check_two(&rt, BOTH.as_bytes(), SIX_ONCE, false)?;
+    check_two(&rt, LAUNCHES.as_bytes(), SEVEN_ONCE, true)
 }
 
 /// The launches and their file.
@@ -198,7 +253,7 @@ fn workers_of_a_command_line(rt: HostRuntime) {
     let status = run(
         &rt, alloc, &mut gate, &words, &mut Given, &mut out, &mut err,
     );
-    assert_eq!(rt; (status, gate.calls()), (1, (JOBS, JOBS, 0)));
+    assert_eq!(rt; (status, gate.calls()), (1, (SEVEN_ONCE, SEVEN_ONCE, 0)));
     assert!(rt; gate.pages().1 > 0);
 }
 
@@ -252,14 +307,38 @@ fn one_worker_and_many(rt: HostRuntime) -> Result<(), Fail> {
     check_by_all(&rt, LAUNCHES.as_bytes())
 }
 
+/// Three launches, of which the second has two items of one page on one page.
+const PAGE_TWICE: &str = "rim_manifest = 1
+[[file]]
+name = \"f\"
+path = \"f\"
+[[launch]]
+name = \"a\"
+algo = \"sha256\"
+s2sz = 33
+[[launch]]
+name = \"b\"
+algo = \"sha256\"
+s2sz = 33
+ram = [[0x40000000, 0x40200000]]
+item = [
+  { name = \"x\", kind = \"raw\", file = \"f\", at = 0x40000000 },
+  { name = \"y\", kind = \"raw\", file = \"f\", at = 0x40000000 },
+]
+[[launch]]
+name = \"c\"
+algo = \"sha256\"
+s2sz = 33
+";
+
 /// There are no runs of this many workers.
 fn check_none(
     rt: &(impl Abort + AllocGlobal + Threads + Wait + Sync),
     workers: usize,
 ) -> Result<(), Fail> {
     let alloc = rt.alloc();
-    let release = read_manifest(alloc, SMALLEST)?;
-    let files = vec![in alloc; Vec::new(alloc); release.file_count()]?;
+    let release = read_manifest(alloc, PAGE_TWICE.as_bytes())?;
+    let files = vec![in alloc; vec![in alloc; 5; 4096]?; release.file_count()]?;
     let answer = measure_release(rt, alloc, &mut FreeGate, &release, &files, workers);
     assert!(rt; matches!(answer, Err(StartFault::Workers)));
     Ok(())

@@ -82,7 +82,8 @@ list_rec c w number r =
       next = record w { taken = w.taken + delegated entries; num_recs = w.num_recs + 1 };
     })
 
--- what a number names is listed; nothing where it names nothing
+-- what a number names is listed; nothing where it names nothing, which the type of a launch excludes: a step names one of
+-- its regions, items or RECs
 abbrev pub list_named : {A : Type 0} → Progress → (A → Result Listing ListFault) → Option A → Result Listing ListFault
 list_named w list None = Ok (record { entries = []; next = w })
 list_named w list (Some x) = list x

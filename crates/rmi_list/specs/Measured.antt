@@ -45,7 +45,7 @@ page_base item = item.address - item.lead
 abbrev pub rec_part : Algo → ℕ → PlacedRec → Part
 rec_part algo number r = Rec (measurement_of algo (rec_page_of (rec_params number r [])))
 
--- the parts of what a number names, if it names something
+-- the parts of what a number names, if it names something. In a launch it does: its type excludes other steps
 abbrev pub of_named : {A : Type 0} → (A → List Part) → Option A → List Part
 of_named parts None = []
 of_named parts (Some x) = parts x

@@ -2,9 +2,9 @@ use Rattle.std.proofs.Common.{rules}
 use Rattle.ipa_layout.specs.ItemCheck.{checked_wanted}
 use Rattle.ipa_layout.proofs.item_check.check_wanted.Goals as goal
 
-pub returns-then-wanted-gt-SIZE_LIMIT-clause-exact : goal.returns-then-wanted-gt-SIZE_LIMIT-clause-exact
+pub returns-then-wanted-clause-exact : goal.returns-then-wanted-clause-exact
 unfolding checked_wanted
-returns-then-wanted-gt-SIZE_LIMIT-clause-exact c = search rules
+returns-then-wanted-clause-exact c = search rules
 
 pub returns-then-item-ne0-clause-exact : goal.returns-then-item-ne0-clause-exact
 unfolding checked_wanted
