@@ -17,7 +17,7 @@ import time
 import board
 import chain
 import crates
-import fronts
+import prefixes
 import hashes
 import lanes
 import launches
@@ -27,8 +27,8 @@ import trees
 import workers
 
 # What proves most comes first, so that a program that cannot be built is reported early.
-BUILDING = [fronts, lanes, workers, board, hashes, chain, crates, trees, releases]
-TIMING = [hashes, chain, board, crates, trees, workers, lanes, fronts, releases, launches, sizes]
+BUILDING = [prefixes, lanes, workers, board, hashes, chain, crates, trees, releases]
+TIMING = [hashes, chain, board, crates, trees, workers, lanes, prefixes, releases, launches, sizes]
 
 
 def processor():

@@ -1,11 +1,11 @@
 #!/usr/bin/env python3
 """Counts and times the launches of a release that begin alike. Not part of the gate.
 
-usage: bench/fronts.py [RUNS]
+usage: bench/prefixes.py [RUNS]
 
 The release has 300 launches of one kernel and one initrd: five sizes of RAM, one to five vCPUs, two algorithms and six
-command lines. bench/fronts/main.rt.in counts its extensions, and those that are done where shared fronts are chained once.
-bench/workers/main.rt.in is built twice, the second time from crates in which no launch has a front in common with another,
+command lines. bench/prefixes/main.rt.in counts its extensions, and those that are done where shared prefixes are chained once.
+bench/workers/main.rt.in is built twice, the second time from crates in which no launch has a prefix in common with another,
 and both are run in turn on one thread, on that release and on one whose launches have nothing in common. The least
 processor time of some runs is taken.
 """
@@ -19,9 +19,9 @@ import crates
 from releases import MIB, file_of, launch
 from workers import SMALL, measuring, run
 
-# A change after which no launch has a front in common with another.
-NO_FRONT = ("rim_chain/src/siblings.rt", "if last.links > 0 && later < heads.len() {",
-            "if last.links == usize::MAX && later < heads.len() {")
+# A change after which no launch has a prefix in common with another.
+NO_PREFIX = ("rim_chain/src/siblings.rt", "if last.links > 0 && later < shared.len() {",
+            "if last.links == usize::MAX && later < shared.len() {")
 
 
 # The program that counts calls what only rim_chain calls else.
@@ -61,8 +61,8 @@ def unlike(folder):
 
 
 def prepare():
-    counter = crates.built("fronts", "rim_release rim_manifest rim_desc rim_chain", [SMALL], [COUNTED])
-    return counter, [measuring(), measuring([NO_FRONT])]
+    counter = crates.built("prefixes", "rim_release rim_manifest rim_desc rim_chain", [SMALL], [COUNTED])
+    return counter, [measuring(), measuring([NO_PREFIX])]
 
 
 def main():
