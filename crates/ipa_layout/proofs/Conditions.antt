@@ -1,4 +1,4 @@
--- What a condition of all items says of one of them.
+-- Where each item of a launch has its file, so has an item that is found.
 use Rattle.std.proofs.Common.{◌≡◌, ℕ, ◌<◌, Bool, true, false, length, get_or, List, Some, refl, sym, ◌∙◌}
 use Rattle.std.specs.Prelude.{nat_lt}
 use Rattle.std.specs.List.{find, list_all}

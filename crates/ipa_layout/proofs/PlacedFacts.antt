@@ -1,4 +1,4 @@
--- The laws of placed launches.
+-- The laws of placed launches: their parts, each item, few pages, and no page of two items.
 use Rattle.std.proofs.Common.{◌≡◌, ℕ, ◌*◌, ◌%◌, ◌^◌, ◌<◌, ◌≤◌, Bool, true, false, cond, List, length, Option, Some, None, Result, Ok, Err, refl, sym, ap, ◌∙◌, arith}
 use Rattle.std.specs.Prelude.{IsSome}
 use Rattle.std.specs.List.{find, enumerate_from, slice_get}

@@ -1,4 +1,4 @@
--- What holds of extents one after another, and of the items that are placed.
+-- Extents that do not meet share no page, and each item that is placed has its own extent.
 use Rattle.std.proofs.Common.{◌≡◌, ℕ, zero, suc, ◌+◌, ◌-◌, ◌*◌, ◌^◌, ◌<◌, ◌≤◌, max, Bool, true, false, cond, eqb, List, [], ◌∷◌, length, Option, Some, Result, Ok, Err, refl, sym, ap, subst, ◌∙◌, arith}
 use Rattle.std.specs.Prelude.{◌==◌, ◌&&◌, not, sum_by}
 use Rattle.std.specs.List.{list_any, slice_get}

@@ -1,4 +1,4 @@
--- A test of each of the numbers a, a + 1, .., one after the other.
+-- Whether all of the numbers a, a + 1, .. pass a test is decided one number after another.
 use Rattle.std.proofs.Common.{◌≡◌, ℕ, zero, suc, ◌+◌, ◌<◌, ◌≤◌, Bool, true, false, refl, arith, ◌∙◌, ap, add-one}
 use Rattle.std.specs.List.{list_all, range_with_len}
 

@@ -1,4 +1,4 @@
--- What one step after another gives.
+-- One step after another: the first that fails decides, and where it does not fail the next one does.
 use Rattle.std.proofs.Common.{◌≡◌, ◌⊎◌, Result, Ok, Err, inl, inr, sym, ap, subst}
 use Rattle.fdt_tree.specs.declared.fault.FdtFault.{FdtFault}
 use Rattle.fdt_tree.specs.declared.fault.FdtFault.TheVariants.{NoMemory}

@@ -1,4 +1,4 @@
--- Counts over job states, after one job changes and after a worker's jobs are freed.
+-- How counts over job states change with one job, and where a worker's jobs are freed.
 use Rattle.std.proofs.Common.{◌≡◌, ℕ, zero, suc, ◌+◌, ◌*◌, ◌<◌, ◌≤◌, Bool, true, false, cond, eqb, List, [], ◌∷◌, length, set, map, replicate, Some, refl, sym, ap, ◌∙◌, arith}
 use Rattle.std.specs.List.{sum_by, count_by, range_with_len, slice_get}
 use Rattle.std.proofs.lemmas.List.Sums.{sum_by-set, sum_by-cons}

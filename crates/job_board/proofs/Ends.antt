@@ -1,4 +1,4 @@
--- How a board ends: all its jobs are done.
+-- Where all jobs are done each launch has a value, and the values are those of the plans.
 use Rattle.std.proofs.Common.{◌≡◌, ℕ, zero, suc, ◌+◌, ◌<◌, Bool, true, false, List, [], ◌∷◌, ◌++◌, length, get_or, set, map, take, Option, Some, None, refl, sym, ap, ◌∙◌, arith}
 use Rattle.std.specs.Prelude.{is_some}
 use Rattle.std.specs.List.{count_by, list_all, slice_get}

@@ -1,4 +1,4 @@
--- Groups of pages, from what launches need in the order of its pages.
+-- Stretches of pages that launches need, in the order of pages, make groups of pages.
 use Rattle.std.proofs.Common.{◌≡◌, ◌≢◌, ℕ, zero, suc, ◌+◌, ◌-◌, ◌<◌, ◌≤◌, ◌^◌, Bool, cond, ◌&&◌, List, [], ◌∷◌, ◌++◌, length, get_or, set, take, Some, refl, sym, ap, ◌∙◌, subst, arith, inl, inr}
 use Rattle.std.specs.Prelude.{◌==◌, ◌⊎◌, if◌then◌else◌}
 use Rattle.std.specs.List.{flat_map, list_all, range_with_len, slice_get}

@@ -1,4 +1,4 @@
--- The line of launches that wait for nothing.
+-- The line has each launch that waits for nothing, and has room for all others.
 use Rattle.std.proofs.Common.{◌≡◌, ◌≢◌, ℕ, ◌+◌, ◌<◌, ◌≤◌, true, false, cond, eqb, List, [], ◌∷◌, ◌++◌, length, get_or, set, take, Option, Some, None, refl, sym, ap, ◌∙◌, subst, arith, inl, inr}
 use Rattle.std.specs.Prelude.{◌⊎◌, nat_lt, IfNone, IfSome}
 use Rattle.std.specs.List.{All, Contains, count_by, slice_get}

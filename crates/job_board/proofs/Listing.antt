@@ -1,4 +1,4 @@
--- Needs that are listed, in groups of one page each.
+-- Needs that are listed are kept in groups of one page each, which are the same needs.
 use Rattle.std.proofs.Common.{◌≡◌, ℕ, zero, suc, ◌+◌, ◌<◌, ◌≤◌, ◌^◌, Bool, true, false, cond, ◌&&◌, List, [], ◌∷◌, ◌++◌, length, get_or, set, map, take, Some, None, Vec, Global, refl, sym, ap, ◌∙◌, subst, arith, inl, inr}
 use Rattle.std.specs.Prelude.{◌==◌, ◌⊎◌, if◌then◌else◌}
 use Rattle.std.specs.List.{All, flat_map, list_all, range_with_len, slice_get}

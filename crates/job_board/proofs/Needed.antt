@@ -1,4 +1,4 @@
--- Needs that are kept in groups.
+-- Needs that are kept in groups are numbers of pages.
 use Rattle.std.proofs.Common.{◌≡◌, ℕ, suc, ◌+◌, ◌<◌, ◌≤◌, Bool, true, false, List, [], ◌∷◌, get_or, map, Some, Vec, Global, refl, sym, subst, arith}
 use Rattle.std.specs.Prelude.{◌==◌, if◌then◌else◌}
 use Rattle.std.specs.List.{All, flat_map, range_with_len, slice_get}

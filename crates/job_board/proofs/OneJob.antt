@@ -1,4 +1,4 @@
--- One job is changed.
+-- A change of one job shows in that job alone.
 use Rattle.std.proofs.Common.{◌≡◌, ℕ, zero, suc, Bool, true, false, eqb, List, [], ◌∷◌, length, replicate, set, Option, Some, None, ap, refl, arith}
 use Rattle.std.specs.Prelude.{unwrap_or}
 use Rattle.std.specs.List.{slice_get}

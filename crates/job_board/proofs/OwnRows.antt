@@ -1,4 +1,4 @@
--- Rows of a table's digests, and rows of the digests of a run's own pages.
+-- A row of a table's digests is the row of a run's own pages, so a launch chains to its own value.
 use Rattle.std.proofs.Common.{◌≡◌, ℕ, zero, suc, ◌<◌, true, List, [], ◌∷◌, length, map, Option, Some, None, is_some, refl, sym, ap, ◌∙◌, subst, arith}
 use Rattle.std.specs.Prelude.{option_and_then, option_map}
 use Rattle.std.specs.List.{slice_get}

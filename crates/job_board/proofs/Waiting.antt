@@ -1,4 +1,4 @@
--- What launches wait for, as jobs change.
+-- What launches wait for stays right as jobs change.
 use Rattle.std.proofs.Common.{◌≡◌, ℕ, ◌+◌, false, List, length, set, Option, Some, None, refl, sym, ap, ◌∙◌, subst, inl, inr}
 use Rattle.std.specs.Prelude.{◌⊎◌}
 use Rattle.std.specs.List.{slice_get}

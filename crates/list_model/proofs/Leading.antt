@@ -1,4 +1,4 @@
--- Commands that lead a monitor on, one after another.
+-- Commands that lead a monitor on can be put one after another.
 use Rattle.std.proofs.Common.{◌≡◌, ◌∙◌, refl, ap, true, false, ◌&&◌, List, [], ◌∷◌, ◌++◌}
 use Rattle.std.specs.Prelude.{Ok}
 use Rattle.rim_desc.specs.Part.{Part}

@@ -1,4 +1,4 @@
--- The bytes of a page: the bytes of the item that fall in it, over zeros.
+-- A page's bytes are the bytes of the item that fall in it, over zeros.
 use Rattle.std.proofs.Common.{◌≡◌, ℕ, ◌+◌, ◌-◌, ◌*◌, ◌<◌, ◌≤◌, ◌&&◌, ◌⊎◌, cond, false, zero, suc, List, [], ◌++◌, length, take, drop, get_or, refl, ap, sym, ◌∙◌, arith, inl, inr, length-drop, nat_lt, lt-ltb, min, append-nil}
 use Rattle.std.specs.Prelude.{nat_le}
 use Rattle.std.proofs.lemmas.Bool.Decides.{nat_tests}

@@ -1,4 +1,4 @@
--- A search in keys that rise.
+-- In keys that rise a binary search finds the slot of a key, and pages go by their keys.
 use Rattle.std.proofs.Common.{◌≡◌, ℕ, ◌+◌, ◌<◌, false, List, [], ◌∷◌, length, map, Some, None, get_or, refl, ap, sym, ◌∙◌, arith, inl, inr, nat_lt, lt-ltb, suc}
 use Rattle.std.specs.Prelude.{Result, Ok, Err, slice_get}
 use Rattle.std.specs.Result.{result_ok}

@@ -1,4 +1,4 @@
--- A table with one digest more.
+-- A table with one digest more is a table, where the digest is that of the slot's page.
 use Rattle.std.proofs.Common.{◌≡◌, ℕ, ◌<◌, length, set, get_or, Option, Some, None, is_some, false, refl, ap, sym, ◌∙◌, arith, inl, inr}
 use Rattle.std.specs.Prelude.{IfSome}
 use Rattle.std.specs.List.{slice_get}

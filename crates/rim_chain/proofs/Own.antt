@@ -1,4 +1,4 @@
--- Chains of a launch's own pages.
+-- A launch's plan, with the digests of the launch's own pages, chains to what a monitor holds.
 use Rattle.std.proofs.Common.{◌≡◌, ℕ, ◌%◌, ◌<◌, ◌∙◌, sym, refl, ap, arith, List, [], ◌∷◌, length, map, get_or}
 use Rattle.std.specs.Prelude.{Some, Ok}
 use Rattle.std.specs.List.{All, slice_get}

@@ -1,4 +1,4 @@
--- Rows of digests, key by key and link by link.
+-- Rows of digests grow key by key and link by link.
 use Rattle.std.proofs.Common.{◌≡◌, ℕ, zero, suc, ◌+◌, ◌<◌, ◌≤◌, ◌∙◌, sym, refl, ap, arith, Bool, true, false, ◌&&◌, List, [], ◌∷◌, ◌++◌, length, map, take, drop, get_or, append_assoc}
 use Rattle.std.specs.Prelude.{◌↔◌, Some, None, is_some}
 use Rattle.std.specs.List.{range_with_len}

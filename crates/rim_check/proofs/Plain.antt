@@ -1,4 +1,4 @@
--- Bytes that are shown as they are.
+-- Bytes that are shown as they are end no line.
 use Rattle.std.proofs.Common.{◌≡◌, ◌∙◌, ◌==◌, ◌++◌, ℕ, true, List, [], ◌∷◌, ap, append_assoc, inl, inr, refl, sym}
 use Rattle.std.specs.List.{list_all}
 use Rattle.std.proofs.lemmas.Bool.{and_from, and_parts, cases_Bool, eqb-true, not_from_false, true≢false}

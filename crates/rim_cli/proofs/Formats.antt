@@ -1,4 +1,4 @@
--- The format of a report.
+-- Words that are taken have a format that a report may have; words with another one are a mistake.
 use Rattle.std.proofs.Common.{◌≡◌, ◌∙◌, Bool, true, List, [], ◌∷◌, Option, Some, ap, codes, sym}
 use Rattle.std.specs.Prelude.{if◌then◌else◌, is_some}
 use Rattle.std.proofs.lemmas.Bool.{and_parts}

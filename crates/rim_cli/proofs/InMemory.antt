@@ -1,4 +1,4 @@
--- A run of `rim measure manifest.toml` over a manifest in memory.
+-- A run of `rim measure manifest.toml` over a manifest in memory makes the report of that manifest.
 use Rattle.std.proofs.Common.{◌≡◌, ℕ, zero, suc, ◌≤◌, Bool, true, List, [], ◌∷◌, Some, None, refl, ap, ◌∙◌, subst, sym, arith}
 use Rattle.std.specs.Prelude.{Result, Ok, Err, IsOkAnd, codes, if◌then◌else◌}
 use Rattle.std.specs.Str.{bytes_eq}

@@ -1,4 +1,4 @@
--- The kinds of error by which words are refused.
+-- The kind of an error that refuses words says whether they are a mistake or ask for help.
 use Rattle.std.proofs.Common.{◌≡◌, Bool, true, false, not, List, [], ◌∷◌, refl, ap, ◌∙◌, subst, inl, inr}
 use Rattle.std.specs.List.{list_all}
 use Rattle.clap.specs.Words.{HasKind, IsAmong, Kinds, Text, kind_of}

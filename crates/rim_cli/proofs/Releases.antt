@@ -1,4 +1,4 @@
--- The release that a manifest describes, and the listing of one of its launches.
+-- What holds of the release and the launch that were found holds of those that the manifest describes.
 use Rattle.std.proofs.Common.{◌≡◌, ◌⊎◌, ℕ, Bool, ◌<◌, arith, inl, inr, List, Option, Some, None, length, slice_get, refl, ap, ◌∙◌, subst, sym}
 use Rattle.std.specs.Prelude.{Result, Ok, IfSome, IsOkAnd, is_err, option_and_then, position, if◌then◌else◌}
 use Rattle.std.proofs.lemmas.Option.{slice_get_cases}

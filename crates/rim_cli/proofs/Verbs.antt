@@ -1,4 +1,4 @@
--- The subcommand that a request is of.
+-- Where one request of a subcommand is for bytes, each request of it is.
 use Rattle.std.proofs.Common.{◌≡◌, true, false, List, ℕ, Some, None, Option, refl, ◌∙◌, sym}
 use Rattle.std.specs.Prelude.{codes}
 use Rattle.std.specs.Str.{bytes_eq}

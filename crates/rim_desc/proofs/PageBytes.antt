@@ -1,4 +1,4 @@
--- The bytes of an item's page, one by one.
+-- Which byte each one of an item's page is, and that they are 4096.
 use Rattle.std.proofs.Common.{◌≡◌, ℕ, ◌<◌, List, length, get_or, arith}
 use Rattle.std.proofs.lemmas.List.FromFn.{get_or-map-range_with_len, length-map-range_with_len}
 use Rattle.rim_desc.specs.PageBytes.{page_byte, page_bytes}

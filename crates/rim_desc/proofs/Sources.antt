@@ -1,4 +1,4 @@
--- Sources are ordered.
+-- The order of sources is total, and sources that are equal in it are one.
 use Rattle.std.proofs.Common.{◌≡◌, ℕ, true, refl, ap, arith}
 use Rattle.std.proofs.lemmas.Bool.Decides.{nat_tests}
 use Rattle.std.specs.Cmp.{IsTotalOrder, nat_cmp_total}

@@ -1,4 +1,4 @@
--- Digits of a number that has room in 64 bits.
+-- A number of at most 16 digits has room in 64 bits, digit by digit.
 use Rattle.std.proofs.Common.{◌≡◌, ℕ, zero, suc, ◌+◌, ◌*◌, ◌^◌, ◌<◌, ◌≤◌, List, [], ◌∷◌, length, take, get_or, true, arith}
 use Rattle.std.specs.Prelude.{◌&&◌, nat_le}
 use Rattle.std.specs.Char.{digit_value, is_digit}

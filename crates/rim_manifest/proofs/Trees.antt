@@ -1,4 +1,4 @@
--- The lists of a value's parts, beside the vectors and maps that hold them.
+-- The lists of a value's parts are those of the vectors and maps that hold them.
 use Rattle.std.proofs.Common.{◌≡◌, ℕ, suc, Bool, ◌&&◌, ◌||◌, List, [], ◌∷◌, length, map, string_bytes, refl, ap, ◌∙◌}
 use Rattle.std.specs.List.{list_all, list_any}
 use Rattle.std.specs.Map.{keys_of}

@@ -1,4 +1,4 @@
--- Launches that are accepted.
+-- A launch that is accepted has a place and a list.
 use Rattle.std.proofs.Common.{◌≡◌, ℕ, ◌∙◌, List, refl, ap, sym}
 use Rattle.std.specs.Prelude.{Result, Ok, Err}
 use Rattle.std.specs.Result.{result_map_both}

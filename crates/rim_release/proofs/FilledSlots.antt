@@ -1,4 +1,4 @@
--- A table that is filled slot by slot.
+-- A table that is filled to a slot, and then has that slot filled, is filled to the next one.
 use Rattle.std.proofs.Common.{◌≡◌, ℕ, ◌+◌, ◌<◌, ◌∙◌, inl, inr, true, List, [], ◌∷◌, length, refl, ap, sym, subst, arith, zero, suc}
 use Rattle.std.specs.Prelude.{Option, Some, None, is_some, slice_set}
 use Rattle.std.specs.List.{slice_get}

@@ -1,4 +1,4 @@
--- A monitor that is given the commands of a launch.
+-- A monitor takes each command of a launch in its turn, so a refusal is want of memory.
 use Rattle.std.proofs.Common.{inl, inr, ◌≡◌, ℕ, ◌+◌, ◌∙◌, zero, suc, true, List, [], ◌∷◌, length, take, ap, sym, subst, arith}
 use Rattle.std.specs.Prelude.{Option, Some, None, option_map, Ok, Err, IsOk, Result, is_ok, ◌⊎◌}
 use Rattle.std.specs.List.{slice_get}

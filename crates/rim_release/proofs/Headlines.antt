@@ -1,4 +1,4 @@
--- What the line of a launch says, in the monitor's words.
+-- A line says what a monitor holds, or why the launch is refused.
 use Rattle.std.proofs.Common.{◌≡◌, ℕ, List, [], Ok, ap, refl}
 use Rattle.std.specs.Prelude.{Option, Result, unwrap_or}
 use Rattle.rim_desc.specs.Part.{rim_of}

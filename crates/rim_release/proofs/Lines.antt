@@ -1,4 +1,4 @@
--- The lines of launches.
+-- The lines of launches, added one after another, are those of the report.
 use Rattle.std.proofs.Common.{◌≡◌, ℕ, ◌+◌, ◌<◌, ◌≤◌, ◌⊎◌, ◌∙◌, inl, inr, suc, List, [], ◌∷◌, ◌++◌, length, map, take, refl, ap, sym, arith, append_assoc}
 use Rattle.std.specs.Prelude.{Result, Some}
 use Rattle.std.specs.List.{flat_map, slice_get}

@@ -1,4 +1,4 @@
--- The measured pages that a launch's list of commands creates.
+-- Each measured page that a launch's list of commands creates is a page of one of its items.
 use Rattle.std.proofs.Common.{◌≡◌, ℕ, ◌+◌, ◌<◌, ◌≤◌, ◌∙◌, inl, inr, zero, suc, Bool, true, false, not, List, [], ◌∷◌, ◌++◌, length, slice_index_or, refl, ap, sym, subst, arith}
 use Rattle.std.specs.Prelude.{Option, Some, None, Result, Ok, eqb}
 use Rattle.std.specs.List.{AllByRecursion, slice_get}

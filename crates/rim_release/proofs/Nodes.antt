@@ -1,4 +1,4 @@
--- The texts of nodes that stand beside one another, and of one more.
+-- The texts of nodes beside one another, and of one more.
 use Rattle.std.proofs.Common.{◌≡◌, ℕ, ◌+◌, ◌<◌, List, [], ◌∷◌, ◌++◌, length, map, take, get_or, refl, ap, sym, ◌∙◌, append_assoc, ◌≤◌, codes}
 use Rattle.std.proofs.lemmas.List.{append-nil, map-append, take_all, take_more}
 use Rattle.std.proofs.Math.Seq.{take-append_seam}

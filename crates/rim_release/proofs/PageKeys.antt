@@ -1,4 +1,4 @@
--- The different measured pages of a release.
+-- The measured pages of a release, each once, are found launch by launch, in the order of their keys.
 use Rattle.std.proofs.Common.{◌≡◌, ℕ, ◌+◌, ◌^◌, ◌<◌, ◌≤◌, ◌⊎◌, inl, inr, ◌∙◌, Bool, true, false, List, [], ◌∷◌, ◌++◌, length, map, get_or, take, zero, suc, refl, ap, sym, subst, arith, append_assoc, sum_by}
 use Rattle.std.specs.Prelude.{Option, Some, None, Result, Ok, Err, if◌then◌else◌}
 use Rattle.std.proofs.Common.{nat_lt, length-append, ◌-◌}

@@ -1,4 +1,4 @@
--- Launches that are refused.
+-- Some launch is refused exactly where some outcome is a refusal.
 use Rattle.std.proofs.Common.{◌≡◌, ◌∙◌, ◌||◌, ℕ, List, [], ◌∷◌, map, refl, ap, ap₂, sym}
 use Rattle.std.specs.Prelude.{Result, Ok, Err, is_err}
 use Rattle.std.specs.List.{list_any}

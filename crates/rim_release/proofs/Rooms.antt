@@ -1,4 +1,4 @@
--- How long a report is: that does not depend on the measurements.
+-- The length of a report does not depend on the measurements.
 use Rattle.std.proofs.Common.{◌≡◌, ℕ, zero, suc, ◌+◌, ◌∙◌, List, [], ◌∷◌, ◌++◌, length, map, replicate, refl, ap, sym, arith}
 use Rattle.std.specs.Prelude.{Result, Ok, Err, codes}
 use Rattle.std.specs.Fmt.{decimal}

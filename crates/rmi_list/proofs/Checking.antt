@@ -1,4 +1,4 @@
--- Checks, one after another, and what they answer.
+-- What checks answer one after another: the planner's first, then the list's own.
 use Rattle.std.proofs.Common.{inl, inr, ◌≡◌, refl, false, ◌⊎◌, List, [], ◌∷◌, ◌++◌}
 use Rattle.std.specs.Prelude.{Ok, Err, Result}
 use Rattle.std.proofs.lemmas.Bool.{cases_Bool, or_parts}

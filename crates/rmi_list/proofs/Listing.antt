@@ -1,4 +1,4 @@
--- The list of a launch, step by step.
+-- Step by step, a draft is the list of its launch so far, or is refused as the list is.
 use Rattle.std.proofs.Common.{inl, inr, ◌≡◌, ◌+◌, ◌<◌, ◌≤◌, ◌∙◌, sym, refl, ap, arith, true, false, List, [], ◌∷◌, ◌++◌, ◌⊎◌, append_assoc, length}
 use Rattle.std.specs.Prelude.{Ok, Err, IfOk, IfErr, IsOk, Result, nat_lt}
 use Rattle.std.proofs.lemmas.Bool.Decides.{nat_tests}

@@ -1,4 +1,4 @@
--- Granules, or pages, side by side.
+-- Granules side by side: none comes twice, and each is named by its number.
 use Rattle.std.proofs.Common.{inl, inr, ◌≡◌, ℕ, zero, suc, ◌+◌, ◌*◌, ◌≤◌, ◌∙◌, refl, ap, arith, true, false, eqb, ◌∷◌, map}
 use Rattle.std.specs.List.{range_with_len}
 use Rattle.std.proofs.lemmas.Bool.{cases_Bool, eqb-true}

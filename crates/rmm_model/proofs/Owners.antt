@@ -1,4 +1,4 @@
--- Kinds of granules after a granule was given one.
+-- A granule that is given a kind has it, and each other one keeps what it had.
 use Rattle.std.proofs.Common.{◌≡◌, ℕ, arith, List, [], ◌∷◌}
 use Rattle.std.specs.Prelude.{Some}
 use Rattle.std.specs.Map.{lookup}

@@ -1,4 +1,4 @@
--- Ranges of RAM.
+-- A range meets ranges of RAM exactly where some address in it is RAM.
 use Rattle.std.proofs.Common.{inl, inr, ◌≡◌, ℕ, ◌<◌, ◌≤◌, refl, arith, true, false, max, leb, ltb, ◌&&◌, List, [], ◌∷◌}
 use Rattle.std.proofs.lemmas.Bool.Decides.{nat_tests}
 use Rattle.rmm_model.specs.Space.{are_some, is_ram, overlaps}

@@ -1,4 +1,4 @@
--- Lists of commands, one after another.
+-- What lists of commands leave, take and show, one list after another.
 use Rattle.std.proofs.Common.{◌≡◌, ◌∙◌, sym, refl, ap, ◌&&◌, List, [], ◌∷◌, ◌++◌, append_assoc}
 use Rattle.std.specs.Prelude.{Ok, is_ok}
 use Rattle.std.proofs.Math.Bool.{and_assoc}

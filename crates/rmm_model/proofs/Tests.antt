@@ -1,4 +1,4 @@
--- Lists of what passes a test.
+-- Tests that answer alike pass the same elements of a list.
 use Rattle.std.proofs.Common.{◌≡◌, refl, Bool, List, [], ◌∷◌}
 use Rattle.std.specs.List.{filter, list_all, list_any}
 

@@ -1,4 +1,4 @@
--- Where walks end.
+-- A walk ends at the deepest table that covers its address.
 use Rattle.std.proofs.Common.{inl, inr, ◌≡◌, ℕ, ◌/◌, ◌<◌, ◌≤◌, sym, refl, arith, true, max, leb, List, [], ◌∷◌, ◌⊎◌}
 use Rattle.std.proofs.lemmas.Bool.Decides.{nat_tests}
 use Rattle.rmm_model.specs.declared.table.Table.{Table}

@@ -1,4 +1,4 @@
--- Giving several granules a kind, one after another.
+-- Several granules are given a kind one after another.
 use Rattle.std.proofs.Common.{inl, inr, ◌≡◌, ℕ, ◌+◌, ◌<◌, ◌≤◌, refl, arith, true, List, [], ◌∷◌, length, drop, get_or, eqb, add-one}
 use Rattle.std.specs.Prelude.{Option, Some, None, is_some}
 use Rattle.std.proofs.Math.Seq.{drop-cons}

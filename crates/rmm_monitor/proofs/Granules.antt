@@ -1,4 +1,4 @@
--- Lists of granules.
+-- Lists of granules, one by one: whether one comes twice, and granules side by side.
 use Rattle.std.proofs.Common.{◌≡◌, ℕ, zero, suc, ◌+◌, ◌*◌, ◌<◌, ◌≤◌, ◌∙◌, refl, ap, arith, false, ◌||◌, List, [], ◌∷◌, ◌++◌, length, drop, get_or, add-one}
 use Rattle.std.proofs.Math.Seq.{drop-cons}
 use Rattle.std.proofs.Math.ListN.{drop_of_length-le}

@@ -1,4 +1,4 @@
--- Calls that are not refused.
+-- A call that is planned passed its checks.
 use Rattle.std.proofs.Common.{inl, inr, ◌≡◌, ℕ, ◌+◌, ◌*◌, ◌%◌, ◌≤◌, arith, false, not, ltb, eqb, List, [], ◌∷◌}
 use Rattle.std.specs.Prelude.{Ok}
 use Rattle.std.specs.List.{list_all}

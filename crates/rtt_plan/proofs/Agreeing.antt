@@ -1,4 +1,4 @@
--- The tables that a block needs, beside those that were made.
+-- With the tables that a block needs, tables stay formed and the walk ends at the block's level.
 use Rattle.std.proofs.Common.{inl, inr, ◌≡◌, ℕ, zero, suc, ◌+◌, ◌-◌, ◌/◌, ◌<◌, ◌≤◌, ◌∙◌, sym, refl, ap, arith, Bool, true, false, cond, not, eqb, List, ◌∷◌, ◌++◌, ◌⊎◌}
 use Rattle.std.specs.List.{filter}
 use Rattle.std.proofs.lemmas.Bool.Decides.{nat_tests}

@@ -1,4 +1,4 @@
--- Tests of the pages of a range, from one range of RAM to the next.
+-- Whether all pages of a range are RAM is decided from one range of RAM to the next.
 use Rattle.std.proofs.Common.{◌≡◌, ℕ, zero, suc, ◌+◌, ◌-◌, ◌*◌, ◌/◌, ◌%◌, ◌<◌, ◌≤◌, refl, arith, Bool, true, false, List}
 use Rattle.std.specs.List.{list_all}
 use Rattle.rmm_model.specs.Blocks.{granules}

@@ -1,4 +1,4 @@
--- A growing run and the runs of the entries after it.
+-- A growing run, with the entries after it, makes the runs from its base on.
 use Rattle.std.proofs.Common.{inl, inr, ◌≡◌, ℕ, ◌+◌, ◌/◌, ◌<◌, ◌≤◌, ◌∙◌, sym, ap, refl, arith, true, false, cond, ◌&&◌, eqb, List, [], ◌∷◌}
 use Rattle.std.proofs.lemmas.Bool.Decides.{nat_tests}
 use Rattle.rmm_model.specs.Blocks.{size, span}

@@ -1,4 +1,4 @@
--- The entries of a region, from one to the next.
+-- From the first page of a block the entries of a region go on at the block's end.
 use Rattle.std.proofs.Common.{◌≡◌, ℕ, zero, suc, ◌+◌, ◌-◌, ◌*◌, ◌/◌, ◌<◌, sym, refl, ap, arith, true, false, eqb, List, ◌∷◌}
 use Rattle.std.specs.List.{filter}
 use Rattle.std.proofs.lemmas.Bool.Decides.{nat_tests}

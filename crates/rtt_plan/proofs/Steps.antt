@@ -1,4 +1,4 @@
--- From one entry of a region to the next.
+-- The entries of a region, each from the end of the block of the one before it.
 use Rattle.std.proofs.Common.{◌≡◌, ℕ, suc, ◌+◌, ◌-◌, ◌*◌, ◌/◌, ◌<◌, ◌≤◌, ◌∙◌, sym, refl, ap, arith, [], ◌∷◌, length}
 use Rattle.std.specs.List.{filter}
 use Rattle.std.proofs.Math.Nat.{mul-div_cancel}
