@@ -1,18 +1,18 @@
 -- To prove: a page's bytes are those of its item, a table has each page once, in the slot of its key, and digests that
 -- are put in it are those of their pages.
 -- Bytes: what is lent of an item, over zeros, is the page
-pub mod Contents
+pub mod BytesOfPages
 -- Keys: their order is total, and keys that are equal in it are one
-pub mod Order
+pub mod OrderOfKeys
 -- so a binary search finds the slot of a key
-pub mod Keys
+pub mod SearchByKey
 -- keys that rise are in order, each once, and are the only such list of these keys
-pub mod Rising
+pub mod RisingKeys
 -- keys that are sorted, and lose their repeats, rise
-pub mod Once
+pub mod SortedKeysOnce
 -- where keys rise, the slot of an item's next page is the next slot
-pub mod Neighbours
+pub mod SlotOfNextPage
 -- A table is one still after a digest more, where the digest is its page's own.
-pub mod Slots
+pub mod OneMoreDigest
 -- Ranges of pages: in the order of the items' ends, the pages that are fresh in each are all pages, each once
-pub mod Fresh
+pub mod FreshPagesOfItems

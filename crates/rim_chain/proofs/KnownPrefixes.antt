@@ -20,7 +20,7 @@ use Rattle.rim_chain.specs.declared.prefix.Checkpoint.{Checkpoint}
 use Rattle.rim_chain.specs.declared.starting.Start.{Start}
 use Rattle.rim_chain.specs.inside.Checkpoints.{BothHavePrefix, HaveNoValues}
 use Rattle.rim_chain.specs.inside.Starts.{IsStart}
-use Rattle.rim_chain.proofs.Rows.{row-length, row-parts}
+use Rattle.rim_chain.proofs.RowsLinkByLink.{row-length, row-parts}
 
 -- ---- a row of a table's digests
 

@@ -6,10 +6,10 @@ use Rattle.std.proofs.lemmas.List.{append-nil, append_assoc, at_drop_all, at_dro
 use Rattle.rim_desc.specs.Part.{extended_by}
 use Rattle.rim_desc.specs.declared.measurement.Algo.{Algo}
 use Rattle.rim_desc.specs.declared.measurement.Measurement.{Measurement}
-use Rattle.rim_desc.proofs.Parts.{extended_by-append}
+use Rattle.rim_desc.proofs.PieceByPiece.{extended_by-append}
 use Rattle.rim_chain.specs.Links.{keys_in, keys_of, link_parts, page_count, parts_with}
 use Rattle.rim_chain.specs.declared.link.Link.{Link}
-use Rattle.rim_chain.proofs.Keys.{keys-next, length-keys_in}
+use Rattle.rim_chain.proofs.KeysByPlace.{keys-next, length-keys_in}
 
 pub links-next : (algo : Algo) (rim : List ℕ) (links : List Link) (i : ℕ) (d : Link) (digests : List Measurement) → i < length links
     → extended_by algo rim (parts_with (drop i links) digests)

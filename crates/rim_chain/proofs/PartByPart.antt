@@ -8,7 +8,7 @@ use Rattle.rim_desc.specs.Measurement.{measurement_of}
 use Rattle.rim_desc.specs.Part.{extended_by}
 use Rattle.rim_desc.specs.declared.measurement.Algo.{Algo}
 use Rattle.rim_desc.specs.declared.measurement.Measurement.{Measurement}
-use Rattle.rim_desc.proofs.Parts.{extended_by-append}
+use Rattle.rim_desc.proofs.PieceByPiece.{extended_by-append}
 use Rattle.rmm_model.specs.Blocks.{granules, stretches}
 use Rattle.page_jobs.specs.declared.page.PageKey.{PageKey}
 use Rattle.rim_chain.specs.Fitting.{IsFitting}
@@ -16,8 +16,8 @@ use Rattle.rim_chain.specs.Links.{keys_in, keys_of, link_parts, page_count, page
 use Rattle.rim_chain.specs.declared.link.Link.{Link}
 use Rattle.rim_chain.specs.declared.link.Link.TheVariants.{Blocks, Pages, Unmeasured, Rec}
 use Rattle.rim_chain.specs.inside.UnderWay.{AreLeft, IsEmpty}
-use Rattle.rim_chain.proofs.Extending.{place-fits, place-next}
-use Rattle.rim_chain.proofs.Keys.{length-keys_in}
+use Rattle.rim_chain.proofs.ExtendedByParts.{place-fits, place-next}
+use Rattle.rim_chain.proofs.KeysByPlace.{length-keys_in}
 
 module _ (algo : Algo) (rim : List ℕ) (links : List Link) (digests : List Measurement) where
   pub block-first : (base size n : ℕ) → 0 < n → extended_by algo rim (parts_with (Blocks base size n ∷ links) digests)

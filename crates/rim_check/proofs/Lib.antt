@@ -2,12 +2,12 @@
 -- What is added to a text is a line.
 pub mod AddedLines
 -- A manifest is explained by a line for each fault that was found; one that is no document, by one line.
-pub mod Explaining
+pub mod FaultsAreExplained
 -- the loop that writes these lines
 pub mod FindingLines
 -- The loop over the launches of a release, and whether one of them is refused
 pub mod LaunchLines
 -- bytes that are shown as they are end no line, so a name or a path stays inside its line
-pub mod Plain
+pub mod PlainBytes
 -- in each turn of that loop: nothing is said of a launch that is accepted, and one line of one that is refused
-pub mod Refusals
+pub mod SaidOfLaunches

@@ -6,7 +6,7 @@ use Rattle.rim_manifest.specs.Faults.{lowest}
 use Rattle.rim_manifest.specs.Found.{AreFound}
 use Rattle.rim_manifest.specs.Launches.{ReleaseData}
 use Rattle.rim_manifest.specs.Manifest.{fault_or_named, manifest_faults, named_of, read_of}
-use Rattle.rim_manifest.proofs.Lowest.{none_noted}
+use Rattle.rim_manifest.proofs.LowestFault.{none_noted}
 
 pub found_in_tables : (ms : Members) (fs : List ManifestFault) → fs ≡ manifest_faults ms → is_some (lowest fs) ≡ true → AreFound ms fs
 found_in_tables ms fs all some = go (lowest fs) refl some

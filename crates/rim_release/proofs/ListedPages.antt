@@ -18,7 +18,7 @@ use Rattle.rtt_plan.specs.Missing.{missing}
 use Rattle.rtt_plan.specs.Planned.{after_data, after_region, data_checks, region_checks}
 use Rattle.rtt_plan.specs.declared.run.Run.{Run}
 use Rattle.list_model.specs.Entries.{Contents, Entry, Page, Whole, command_of, commands_of, delegate_all, delegated, granule, item_entries, page_entries, page_entry, page_of, rec_entries, rec_granules, region_entries, run_entries, table_entries}
-use Rattle.list_model.proofs.Delegating.{length-granules}
+use Rattle.list_model.proofs.GranulesDelegated.{length-granules}
 use Rattle.rim_launch.specs.LaunchData.{LaunchData}
 use Rattle.rim_launch.specs.Realm.{realm_params}
 use Rattle.rim_launch.specs.declared.config.Config.{Config}
@@ -29,7 +29,7 @@ use Rattle.ipa_layout.specs.Layout.{IsPlaced, PlacedData, bytes_of_source}
 use Rattle.ipa_layout.specs.Laws.{page_total}
 use Rattle.ipa_layout.specs.declared.placed.PlacedItem.{PlacedItem}
 use Rattle.ipa_layout.specs.declared.rec.PlacedRec.{PlacedRec}
-use Rattle.ipa_layout.proofs.PlacedFacts.{few-pages}
+use Rattle.ipa_layout.proofs.PlacedLaunchLaws.{few-pages}
 use Rattle.page_jobs.specs.Page.{PageView, digest_of}
 use Rattle.page_jobs.specs.Page as page
 use Rattle.rmi_list.specs.Listed.{Listing, Progress, list_item, list_rec, list_region, list_step, list_steps, listed, opening_progress, opening_checks, opening_entries, plan_checks, pool_check}
@@ -37,9 +37,9 @@ use Rattle.rmi_list.specs.Measured.{page_contents, page_base}
 use Rattle.rmi_list.specs.RecParams.{rec_params}
 use Rattle.rmi_list.specs.declared.fault.ListFault.{ListFault}
 use Rattle.rmi_list.specs.declared.fault.ListFault.TheVariants as fault
-use Rattle.rmi_list.proofs.Checking.{bound, fronted, is-done}
+use Rattle.rmi_list.proofs.CheckAfterCheck.{bound, fronted, is-done}
 use Rattle.rim_release.specs.inside.Commands.{HasPage}
-use Rattle.rim_release.proofs.PageKeys.{each-append, item-pages}
+use Rattle.rim_release.proofs.DifferentPages.{each-append, item-pages}
 
 -- ---- entries
 

@@ -1,23 +1,23 @@
 -- To prove: `list` makes the list of the definition or gives its refusal, and a monitor follows that list.
 -- What a monitor checks: contents have no byte past the digest,
-pub mod Contents
+pub mod NoBytePastDigest
 -- and the parameters of a launch's realm are good
-pub mod Params
+pub mod ParametersAreTaken
 -- what some checks answer, one after another
-pub mod Checking
+pub mod CheckAfterCheck
 -- so a monitor follows the list of a launch, step by step, by the laws of the steps
-pub mod Follows
+pub mod ListIsFollowed
 -- The code: a draft grows entry by entry, or is refused
-pub mod Growing
+pub mod EntryByEntry
 -- so a step of the code makes the listing of the step's definition
-pub mod Stepping
+pub mod StepsAreListed
 -- lists that go on from plans that agree are the same, whatever the order of their tables
-pub mod Alike
+pub mod ListsGoOnAlike
 -- the begin of a list: start tables, descriptor, realm
-pub mod Beginning
+pub mod BeginOfList
 -- items that have a place are few, with few pages, so they can be listed
-pub mod Listable
+pub mod ItemsAreListable
 -- so, step by step, the draft is the list of the launch; a plan that is only checked drops its entries
-pub mod Listing
+pub mod ListStepByStep
 -- Spans hold entries of many pages in one: each command of the list is one of a span, found by a search in the starts.
-pub mod Spans
+pub mod CommandsOfSpans

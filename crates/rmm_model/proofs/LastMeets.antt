@@ -9,7 +9,7 @@ use Rattle.std.proofs.lemmas.Bool.Decides.{nat_tests}
 use Rattle.rmm_model.specs.Space.{are_some, overlaps}
 use Rattle.std.proofs.Math.Bool.{or-false, or-true}
 use Rattle.std.proofs.lemmas.List.Folds.{list_any-append}
-use Rattle.rmm_model.proofs.Tests.{filter-same}
+use Rattle.rmm_model.proofs.TestsThatAgree.{filter-same}
 use Rattle.std.proofs.lemmas.Bool.{and_parts, cases_Bool, or_parts}
 use Rattle.rmm_model.specs.Apart.{are_apart}
 

@@ -4,7 +4,7 @@ use Rattle.std.proofs.lemmas.Bool.{cases_Bool}
 use Rattle.std.proofs.lemmas.Bool.Decides.{nat_tests}
 use Rattle.rmm_model.specs.declared.table.Table.{Table}
 use Rattle.rmm_model.specs.Space.{ArePlaced, deeper, has_table_in, made}
-use Rattle.rmm_model.proofs.Walks.{made-here, made-there}
+use Rattle.rmm_model.proofs.EndsOfWalks.{made-here, made-there}
 
 levels : (j : ℕ) → 0 < j → j ≤ 3 → (j ≡ 1) ⊎ ((j ≡ 2) ⊎ (j ≡ 3))
 levels j low high = grind arith

@@ -4,7 +4,7 @@ use Rattle.std.specs.Prelude.{Option, Some, None, is_some}
 use Rattle.std.specs.List.{filter, list_any}
 use Rattle.std.specs.Map.Iter.{TakesFirst}
 use Rattle.std.proofs.lemmas.Bool.{cases_Bool}
-use Rattle.rmm_model.proofs.Tests.{list_any-same}
+use Rattle.rmm_model.proofs.TestsThatAgree.{list_any-same}
 
 filter-none : {X : Type 0} (p : X → Bool) (xs : List X) → filter p xs ≡ [] → list_any p xs ≡ false
 filter-none p [] = λ h. refl

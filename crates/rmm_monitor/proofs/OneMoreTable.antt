@@ -4,8 +4,8 @@ use Rattle.std.specs.BTreeSet.{insert_key}
 use Rattle.rmm_model.specs.declared.table.Table.{Table}
 use Rattle.rmm_model.specs.Blocks.{down, span}
 use Rattle.rmm_model.specs.Space.{ArePlaced, table_cmp}
-use Rattle.rmm_model.proofs.Spaces.{made-insert}
-use Rattle.rmm_model.proofs.Walks.{made-cases}
+use Rattle.rmm_model.proofs.OneMoreInSpace.{made-insert}
+use Rattle.rmm_model.proofs.EndsOfWalks.{made-cases}
 
 pub formed-insert : (start level base : ℕ) (ts : List Table) → ArePlaced start ts → start < level → level ≤ 3 → down (span level) base ≡ base
     → ArePlaced start (insert_key table_cmp ts (record { level = level; base = base }))

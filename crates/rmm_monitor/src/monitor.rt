@@ -301,7 +301,7 @@ impl Monitor {
 }
 
 /// Whether a realm descriptor and start tables cannot be put into these granules.
-#[tactic(auto, using(crate::proofs::Gifts::owned_from_delegated))]
+#[tactic(auto, using(crate::proofs::KindsGivenInTurn::owned_from_delegated))]
 fn cannot_hold_realm(owners: &Owners, rd: u64, tables: &[u64]) -> bool
     ensures owned { OnFalse result (all_owned owners.now tables.now ≡ true) }
     ensures value { result
@@ -312,7 +312,7 @@ fn cannot_hold_realm(owners: &Owners, rd: u64, tables: &[u64]) -> bool
 }
 
 /// Whether a REC and its auxiliary granules cannot be put into these granules.
-#[tactic(auto, using(crate::proofs::Gifts::owned_from_delegated))]
+#[tactic(auto, using(crate::proofs::KindsGivenInTurn::owned_from_delegated))]
 fn cannot_hold_rec(owners: &Owners, rec: u64, aux: &[u64]) -> bool
     ensures owned { OnFalse result (all_owned owners.now aux.now ≡ true) }
     ensures value { result

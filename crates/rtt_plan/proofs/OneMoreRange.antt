@@ -12,9 +12,9 @@ use Rattle.std.proofs.lemmas.Map.Lookups.{exact_unsigned}
 use Rattle.rmm_model.specs.Apart.{are_apart}
 use Rattle.rmm_model.specs.Blocks.{granules, is_multiple}
 use Rattle.rmm_model.specs.Space.{has, is_ram, overlaps}
-use Rattle.rmm_model.proofs.Appends.{has-append, overlaps-append, ram-append}
+use Rattle.rmm_model.proofs.AppendedSpaces.{has-append, overlaps-append, ram-append}
 use Rattle.rmm_model.proofs.LastMeets.{apart-some}
-use Rattle.rmm_model.proofs.Spaces.{any-insert_entry, is_ram-insert, none-at, overlaps-insert}
+use Rattle.rmm_model.proofs.OneMoreInSpace.{any-insert_entry, is_ram-insert, none-at, overlaps-insert}
 use Rattle.rtt_plan.specs.inside.PageRanges.{are_pages, pages_of}
 
 turned : (a b : Bool) → (a || b) ≡ (b || (a || false))

@@ -2,7 +2,7 @@ use Rattle.std.proofs.Common.{rules}
 use Rattle.std.proofs.lemmas.Result.{err_from_is_err_and}
 use Rattle.fdt_tree.specs.Writing.{file_of}
 use Rattle.ipa_layout.specs.DtbEdit.{edited}
-use Rattle.ipa_layout.proofs.Sequences.{fails_after, fails_on, gives_after}
+use Rattle.ipa_layout.proofs.EditAfterEdit.{fails_after, fails_on, gives_after}
 use Rattle.ipa_layout.proofs.dtb_edit.edited.Goals as goal
 
 pub returns-in_err-tree : goal.returns-in_err-tree

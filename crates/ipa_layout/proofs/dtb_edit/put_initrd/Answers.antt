@@ -4,7 +4,7 @@ use Rattle.std.specs.Int.{w64, to_be_bytes}
 use Rattle.fdt_tree.specs.Devicetree.{Devicetree}
 use Rattle.fdt_tree.specs.Trees.{devicetree_of}
 use Rattle.ipa_layout.specs.DtbEdit.{chosen}
-use Rattle.ipa_layout.proofs.Sequences.{fails_on, gives_after}
+use Rattle.ipa_layout.proofs.EditAfterEdit.{fails_on, gives_after}
 use Rattle.ipa_layout.proofs.dtb_edit.put_initrd.Goals as goal
 
 pub returns-in_err-put_address : goal.returns-in_err-put_address

@@ -1,4 +1,4 @@
-use Rattle.ipa_layout.proofs.PlacedFacts.{end-is, lead-is, measured-is, source-is}
+use Rattle.ipa_layout.proofs.PlacedLaunchLaws.{end-is, lead-is, measured-is, source-is}
 use Rattle.ipa_layout.proofs.laws.each_placed_item.Goals as goal
 
 pub returns-clause-lead : goal.returns-clause-lead

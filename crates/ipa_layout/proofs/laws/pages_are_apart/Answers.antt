@@ -1,4 +1,4 @@
-use Rattle.ipa_layout.proofs.PlacedFacts.{pages-checked_together}
+use Rattle.ipa_layout.proofs.PlacedLaunchLaws.{pages-checked_together}
 use Rattle.ipa_layout.proofs.laws.pages_are_apart.Goals as goal
 
 pub returns : goal.returns

@@ -1,4 +1,4 @@
-use Rattle.ipa_layout.proofs.PlacedFacts.{as-many-items, as-many-recs, same-number}
+use Rattle.ipa_layout.proofs.PlacedLaunchLaws.{as-many-items, as-many-recs, same-number}
 use Rattle.ipa_layout.proofs.laws.parts_of_a_placed_launch.Goals as goal
 
 pub returns-clause-number : goal.returns-clause-number

@@ -7,8 +7,8 @@ use Rattle.ipa_layout.specs.declared.extent.Extent.{Extent}
 use Rattle.ipa_layout.specs.Layout.{extents_of}
 use Rattle.ipa_layout.specs.inside.LayoutViews.{seen}
 use Rattle.ipa_layout.specs.Files.{bytes_of_files}
-use Rattle.ipa_layout.proofs.Rows.{falls, lacks, next_item, stands, with_none}
-use Rattle.ipa_layout.proofs.Conditions.{all-files}
+use Rattle.ipa_layout.proofs.ExtentsInTurn.{falls, lacks, next_item, stands, with_none}
+use Rattle.ipa_layout.proofs.FilesOfItems.{all-files}
 use Rattle.ipa_layout.proofs.layout.extents_of.Goals as goal
 
 pub loop-item-init : goal.loop-item-init

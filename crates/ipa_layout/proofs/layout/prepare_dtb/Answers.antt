@@ -1,6 +1,6 @@
 use Rattle.std.proofs.Common.{length, sym}
 use Rattle.rim_launch.specs.Kinds.{has_edits}
-use Rattle.ipa_layout.proofs.Conditions.{found-file}
+use Rattle.ipa_layout.proofs.FilesOfItems.{found-file}
 use Rattle.ipa_layout.proofs.layout.prepare_dtb.Goals as goal
 
 pub file_bytes-requires : goal.file_bytes-requires

@@ -1,6 +1,6 @@
 use Rattle.std.proofs.Common.{◌<◌, length, arith, ◌∙◌}
 use Rattle.std.proofs.lemmas.List.{length-set}
-use Rattle.job_board.proofs.Ends.{copied_more}
+use Rattle.job_board.proofs.FinishedBoards.{copied_more}
 use Rattle.job_board.proofs.closing.copy_values.Goals as goal
 
 pub loop-number-preserved : goal.loop-number-preserved

@@ -1,7 +1,7 @@
 use Rattle.std.proofs.Common.{take}
 use Rattle.std.proofs.lemmas.List.{take_more}
 use Rattle.job_board.specs.declared.grouping.Stretch.{Stretch}
-use Rattle.job_board.proofs.Grouped.{next_comes}
+use Rattle.job_board.proofs.GroupsOfStretches.{next_comes}
 use Rattle.job_board.proofs.grouping.grouped.Goals as goal
 
 abbrev none : Stretch

@@ -1,5 +1,5 @@
-use Rattle.job_board.proofs.Holders as holders
-use Rattle.job_board.proofs.Runs as runs
+use Rattle.job_board.proofs.HoldersByEvents as holders
+use Rattle.job_board.proofs.LegalLists as runs
 use Rattle.job_board.proofs.laws.a_job_has_one_holder.Goals as goal
 
 pub returns-clause-one : goal.returns-clause-one

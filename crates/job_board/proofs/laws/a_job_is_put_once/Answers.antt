@@ -1,5 +1,5 @@
-use Rattle.job_board.proofs.Runs as runs
-use Rattle.job_board.proofs.Valued as valued
+use Rattle.job_board.proofs.LegalLists as runs
+use Rattle.job_board.proofs.OwnValues as valued
 use Rattle.job_board.proofs.laws.a_job_is_put_once.Goals as goal
 
 pub returns-clause-once : goal.returns-clause-once

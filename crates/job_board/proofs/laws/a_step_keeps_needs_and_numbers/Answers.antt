@@ -1,4 +1,4 @@
-use Rattle.job_board.proofs.Kept as kept
+use Rattle.job_board.proofs.WhatStepsChange as kept
 use Rattle.job_board.proofs.laws.a_step_keeps_needs_and_numbers.Goals as goal
 
 pub returns-clause-needs : goal.returns-clause-needs

@@ -1,4 +1,4 @@
-use Rattle.job_board.proofs.Runs as runs
+use Rattle.job_board.proofs.LegalLists as runs
 use Rattle.job_board.proofs.laws.events_are_few.Goals as goal
 
 pub returns : goal.returns

@@ -1,4 +1,4 @@
-use Rattle.job_board.proofs.Ready as ready
+use Rattle.job_board.proofs.ReadyStaysReady as ready
 use Rattle.job_board.proofs.laws.no_launch_is_early.Goals as goal
 
 pub returns-clause-taken : goal.returns-clause-taken

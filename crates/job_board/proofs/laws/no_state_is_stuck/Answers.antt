@@ -1,4 +1,4 @@
-use Rattle.job_board.proofs.Stuck as stuck
+use Rattle.job_board.proofs.NeverStuck as stuck
 use Rattle.job_board.proofs.laws.no_state_is_stuck.Goals as goal
 
 pub returns : goal.returns

@@ -1,4 +1,4 @@
-use Rattle.job_board.proofs.Valued as valued
+use Rattle.job_board.proofs.OwnValues as valued
 use Rattle.job_board.proofs.laws.values_are_own.Goals as goal
 
 pub returns : goal.returns

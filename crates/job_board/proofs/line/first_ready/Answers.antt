@@ -1,5 +1,5 @@
 use Rattle.std.specs.Prelude.{vec_capacity}
-use Rattle.job_board.proofs.Lined.{begun_more, begun_skip}
+use Rattle.job_board.proofs.LineOfReady.{begun_more, begun_skip}
 use Rattle.job_board.proofs.line.first_ready.Goals as goal
 use Rattle.job_board.proofs.line.first_ready.Goals.{then-left-launch-eq0, else-left-launch-eq0}
 

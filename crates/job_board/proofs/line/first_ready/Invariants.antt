@@ -1,5 +1,5 @@
 use Rattle.std.specs.Prelude.{vec_capacity}
-use Rattle.job_board.proofs.Lined.{IsBegun}
+use Rattle.job_board.proofs.LineOfReady.{IsBegun}
 use Rattle.job_board.proofs.line.first_ready.Given as goal
 
 abbrev pub invariant-loop-launch : goal.invariant-loop-launch

@@ -1,5 +1,5 @@
 use Rattle.std.specs.Prelude.{vec_capacity}
-use Rattle.job_board.proofs.Lined.{line_join}
+use Rattle.job_board.proofs.LineOfReady.{line_join}
 use Rattle.job_board.proofs.line.wait_less.Goals as goal
 
 pub returns-then-rest-eq0-clause-line : goal.returns-then-rest-eq0-clause-line

@@ -3,7 +3,7 @@ use Rattle.std.proofs.lemmas.List.{take_all, take_more}
 use Rattle.std.proofs.lemmas.Option.{slice_get-get_or}
 use Rattle.job_board.specs.declared.reaches.PageGroup.{PageGroup}
 use Rattle.job_board.specs.inside.Reaches.{IsListed}
-use Rattle.job_board.proofs.Listing.{listed_more, listed_push, pushed}
+use Rattle.job_board.proofs.GroupsOfListedNeeds.{listed_more, listed_push, pushed}
 use Rattle.job_board.proofs.needs.add_list.Goals as goal
 
 pub loop-page-init : goal.loop-page-init

@@ -1,6 +1,6 @@
 use Rattle.std.proofs.Common.{refl}
 use Rattle.job_board.specs.declared.reaches.PageGroup.{PageGroup}
-use Rattle.job_board.proofs.Listing.{listed_page}
+use Rattle.job_board.proofs.GroupsOfListedNeeds.{listed_page}
 use Rattle.job_board.proofs.needs.single_pages.Goals as goal
 
 pub loop-first-preserved : goal.loop-first-preserved

@@ -6,7 +6,7 @@ use Rattle.job_board.specs.inside.OwnStretches.{plan_stretches, stretches_from}
 use Rattle.std.proofs.lemmas.List.Elements.{All-more}
 use Rattle.rim_chain.specs.Fitting.{BeginsItem}
 use Rattle.rim_chain.specs.Links.{PlanView}
-use Rattle.job_board.proofs.OwnNeeds.{stretches_more}
+use Rattle.job_board.proofs.NeedsOfOwnPages.{stretches_more}
 use Rattle.job_board.proofs.own_needs.stretches_of.Goals as goal
 
 pub loop-launch-preserved : goal.loop-launch-preserved

@@ -1,7 +1,7 @@
 use Rattle.std.proofs.Common.{◌≡◌, ◌∙◌, ℕ, length, replicate, sym, ap, subst, rules, arith}
 use Rattle.std.proofs.lemmas.List.{take_at, length-replicate}
 use Rattle.job_board.specs.inside.Reaches.{AreGroups}
-use Rattle.job_board.proofs.Indexed.{zeros}
+use Rattle.job_board.proofs.ReadyByReaches.{zeros}
 use Rattle.job_board.proofs.reaches.all_left.Goals as goal
 
 pub count_all-requires-clause-groups : goal.count_all-requires-clause-groups

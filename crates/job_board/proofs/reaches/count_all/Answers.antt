@@ -1,5 +1,5 @@
 use Rattle.std.proofs.Common.{◌^◌}
-use Rattle.job_board.proofs.Reaching.{all_fit}
+use Rattle.job_board.proofs.ReachesAfterPuts.{all_fit}
 use Rattle.job_board.proofs.reaches.count_all.Goals as goal
 
 pub count_group-requires-clause-few : goal.count_group-requires-clause-few

@@ -1,7 +1,7 @@
 use Rattle.std.proofs.Common.{◌<◌, ◌^◌, length, get_or, arith}
 use Rattle.std.proofs.lemmas.Option.{slice_get-get_or}
 use Rattle.job_board.specs.declared.reaches.Reach.{Reach}
-use Rattle.job_board.proofs.Reaching.{one_counted, one_fits}
+use Rattle.job_board.proofs.ReachesAfterPuts.{one_counted, one_fits}
 use Rattle.job_board.proofs.reaches.count_group.Goals as goal
 
 abbrev none : Reach

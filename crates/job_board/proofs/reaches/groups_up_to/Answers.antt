@@ -1,6 +1,6 @@
 use Rattle.std.proofs.Common.{leb, leb-true, leb-false, arith, rules}
 use Rattle.std.proofs.lemmas.List.Sorted.{IsPartitionPoint-from_clause, IsPartitionedBy-leb}
-use Rattle.job_board.proofs.Reaching.{own_group, rising_first}
+use Rattle.job_board.proofs.ReachesAfterPuts.{own_group, rising_first}
 use Rattle.job_board.proofs.reaches.groups_up_to.Goals as goal
 
 pub returns-clause-last : goal.returns-clause-last

@@ -1,7 +1,7 @@
 use Rattle.std.proofs.Common.{◌<◌, ◌++◌, ◌∙◌, ℕ, List, length, get_or, append_assoc, ap, arith}
 use Rattle.std.proofs.lemmas.Option.{slice_get-get_or, slice_get_within}
 use Rattle.job_board.specs.declared.reaches.Reach.{Reach}
-use Rattle.job_board.proofs.Reaching.{one_below, one_met, one_waits}
+use Rattle.job_board.proofs.ReachesAfterPuts.{one_below, one_met, one_waits}
 use Rattle.job_board.proofs.reaches.meet.Goals as goal
 
 abbrev none : Reach

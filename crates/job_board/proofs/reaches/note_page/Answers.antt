@@ -1,7 +1,7 @@
 use Rattle.std.proofs.Common.{get_or, sym}
 use Rattle.std.proofs.lemmas.Option.{same_Some, none-some}
 use Rattle.job_board.specs.declared.reaches.Cursor.{Cursor}
-use Rattle.job_board.proofs.Reaching.{put_here, put_none, put_one}
+use Rattle.job_board.proofs.ReachesAfterPuts.{put_here, put_none, put_one}
 use Rattle.job_board.proofs.reaches.note_page.Goals as goal
 
 abbrev start : Cursor

@@ -3,7 +3,7 @@ use Rattle.std.specs.List.{slice_get}
 use Rattle.page_jobs.specs.Page.{PageView}
 use Rattle.rim_chain.specs.Links.{PlanView, keys_of}
 use Rattle.job_board.specs.Tasks.{IsOwnRow, IsRoomy}
-use Rattle.job_board.proofs.OwnRows.{own_row}
+use Rattle.job_board.proofs.RowsOfOwnPages.{own_row}
 use Rattle.job_board.proofs.state.lent_task.Goals as goal
 
 pub new-requires : goal.new-requires

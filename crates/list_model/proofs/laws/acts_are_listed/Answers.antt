@@ -1,4 +1,4 @@
-use Rattle.list_model.proofs.Acts.{acts-of-pages, acts-of-runs}
+use Rattle.list_model.proofs.EntriesOfActs.{acts-of-pages, acts-of-runs}
 use Rattle.list_model.proofs.laws.acts_are_listed.Goals as goal
 
 pub returns-clause-runs : goal.returns-clause-runs

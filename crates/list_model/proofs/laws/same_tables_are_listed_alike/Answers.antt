@@ -1,4 +1,4 @@
-use Rattle.list_model.proofs.Acts.{pages-alike, runs-alike}
+use Rattle.list_model.proofs.EntriesOfActs.{pages-alike, runs-alike}
 use Rattle.list_model.proofs.laws.same_tables_are_listed_alike.Goals as goal
 
 pub returns-clause-runs : goal.returns-clause-runs

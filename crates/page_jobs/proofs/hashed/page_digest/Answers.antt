@@ -1,6 +1,6 @@
 use Rattle.std.proofs.Common.{rules}
 use Rattle.page_jobs.specs.Lent.{front_of}
-use Rattle.page_jobs.proofs.Contents.{contents-whole}
+use Rattle.page_jobs.proofs.BytesOfPages.{contents-whole}
 use Rattle.page_jobs.proofs.hashed.page_digest.Goals as goal
 
 pub returns-then-page-eq-PAGE_SIZE : goal.returns-then-page-eq-PAGE_SIZE

@@ -1,6 +1,6 @@
 use Rattle.std.proofs.Common.{refl}
 use Rattle.page_jobs.specs.Lent.{front_of}
-use Rattle.page_jobs.proofs.Contents.{contents-whole}
+use Rattle.page_jobs.proofs.BytesOfPages.{contents-whole}
 use Rattle.page_jobs.proofs.hashed.whole_page_digest.Goals as goal
 
 pub returns : goal.returns

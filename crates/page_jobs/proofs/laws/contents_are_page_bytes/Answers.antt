@@ -1,4 +1,4 @@
-use Rattle.page_jobs.proofs.Contents.{contents-page_bytes}
+use Rattle.page_jobs.proofs.BytesOfPages.{contents-page_bytes}
 use Rattle.page_jobs.proofs.laws.contents_are_page_bytes.Goals as goal
 
 pub returns : goal.returns

@@ -1,4 +1,4 @@
-use Rattle.page_jobs.proofs.Keys.{pages-named, same-page}
+use Rattle.page_jobs.proofs.SearchByKey.{pages-named, same-page}
 use Rattle.page_jobs.proofs.laws.pages_go_by_keys.Goals as goal
 
 pub returns-clause-one : goal.returns-clause-one

@@ -1,4 +1,4 @@
-use Rattle.page_jobs.proofs.Rising.{rising-only, rising_keys-rise, rising_keys-same}
+use Rattle.page_jobs.proofs.RisingKeys.{rising-only, rising_keys-rise, rising_keys-same}
 use Rattle.page_jobs.proofs.laws.rising_keys_are_the_keys_once.Goals as goal
 
 pub returns-clause-rising : goal.returns-clause-rising

@@ -1,5 +1,5 @@
-use Rattle.page_jobs.proofs.Keys.{slot-key, slot-page}
-use Rattle.page_jobs.proofs.Neighbours.{slot-next, slots-there}
+use Rattle.page_jobs.proofs.SearchByKey.{slot-key, slot-page}
+use Rattle.page_jobs.proofs.SlotOfNextPage.{slot-next, slots-there}
 use Rattle.page_jobs.proofs.laws.slots_go_by_keys.Goals as goal
 
 pub returns-clause-page : goal.returns-clause-page

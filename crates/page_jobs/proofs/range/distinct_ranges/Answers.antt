@@ -4,9 +4,9 @@ use Rattle.page_jobs.specs.Ranges.{range_keys}
 use Rattle.std.proofs.Common.{◌+◌, false, get_or, is_lt}
 use Rattle.page_jobs.specs.Key.{key_cmp}
 use Rattle.page_jobs.specs.contracts.page.PageKeyOrd.TheImpl.{ghosts as order}
-use Rattle.page_jobs.proofs.Fresh.{fresh_ranges}
+use Rattle.page_jobs.proofs.FreshPagesOfItems.{fresh_ranges}
 use Rattle.page_jobs.specs.declared.page.PageKey.{PageKey}
-use Rattle.page_jobs.proofs.Fresh.{fresh-distinct, fresh-end, fresh-next}
+use Rattle.page_jobs.proofs.FreshPagesOfItems.{fresh-distinct, fresh-end, fresh-next}
 use Rattle.page_jobs.proofs.range.distinct_ranges.Goals as goal
 
 -- the order of keys that the sort goes by

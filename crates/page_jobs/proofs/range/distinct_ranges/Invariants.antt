@@ -1,6 +1,6 @@
 use Rattle.std.proofs.Common.{◌≡◌, ◌++◌, None}
 use Rattle.std.proofs.Math.ListN.{drop}
-use Rattle.page_jobs.proofs.Fresh.{fresh_ranges}
+use Rattle.page_jobs.proofs.FreshPagesOfItems.{fresh_ranges}
 use Rattle.page_jobs.proofs.range.distinct_ranges.Given as goal
 
 -- the ranges that are left are those of the ends that are left

@@ -2,7 +2,7 @@ use Rattle.std.proofs.Common.{◌∙◌, rules}
 use Rattle.std.proofs.lemmas.Fn.{always_returns_same}
 use Rattle.page_jobs.specs.Key.{key_cmp}
 use Rattle.page_jobs.specs.Page.{page_view}
-use Rattle.page_jobs.proofs.Keys.{search-slot_of}
+use Rattle.page_jobs.proofs.SearchByKey.{search-slot_of}
 use Rattle.page_jobs.proofs.table.search.Goals as goal
 
 pub returns : goal.returns

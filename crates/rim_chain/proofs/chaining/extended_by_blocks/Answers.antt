@@ -1,5 +1,5 @@
 use Rattle.std.proofs.Common.{◌≡◌, ◌∙◌, ◌+◌, ◌-◌, ◌<◌, sym, refl, arith}
-use Rattle.rim_chain.proofs.Extending.{blocks-end, blocks-next, place-fits, place-next}
+use Rattle.rim_chain.proofs.ExtendedByParts.{blocks-end, blocks-next, place-fits, place-next}
 use Rattle.rim_chain.proofs.chaining.extended_by_blocks.Goals as goal
 
 pub loop-init : goal.loop-init

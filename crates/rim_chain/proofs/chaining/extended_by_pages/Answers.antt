@@ -1,5 +1,5 @@
 use Rattle.std.proofs.Common.{◌∙◌, sym, arith}
-use Rattle.rim_chain.proofs.Extending.{pages-end, pages-next}
+use Rattle.rim_chain.proofs.ExtendedByParts.{pages-end, pages-next}
 use Rattle.rim_chain.proofs.chaining.extended_by_pages.Goals as goal
 
 pub loop-digest-preserved : goal.loop-digest-preserved

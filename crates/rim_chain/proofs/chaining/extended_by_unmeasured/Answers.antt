@@ -1,5 +1,5 @@
 use Rattle.std.proofs.Common.{◌≡◌, ◌∙◌, ◌+◌, ◌-◌, ◌<◌, sym, refl, arith}
-use Rattle.rim_chain.proofs.Extending.{unmeasured-end, unmeasured-next}
+use Rattle.rim_chain.proofs.ExtendedByParts.{unmeasured-end, unmeasured-next}
 use Rattle.rim_chain.proofs.chaining.extended_by_unmeasured.Goals as goal
 
 pub loop-init : goal.loop-init

@@ -1,6 +1,6 @@
 use Rattle.std.proofs.Common.{arith}
 use Rattle.std.proofs.lemmas.List.{length_push}
-use Rattle.rim_chain.proofs.Rows.{added-more, missing-at}
+use Rattle.rim_chain.proofs.RowsLinkByLink.{added-more, missing-at}
 use Rattle.rim_chain.proofs.filling.push_pages.Goals as goal
 
 pub returns-in_default-clause-missing : goal.returns-in_default-clause-missing

@@ -1,4 +1,4 @@
-use Rattle.rim_chain.proofs.Own.{row-own}
+use Rattle.rim_chain.proofs.ChainsOfOwnPages.{row-own}
 use Rattle.rim_chain.proofs.laws.a_row_has_the_digests_of_its_pages.Goals as goal
 
 pub returns : goal.returns

@@ -1,4 +1,4 @@
-use Rattle.rim_chain.proofs.Own.{chain-held}
+use Rattle.rim_chain.proofs.ChainsOfOwnPages.{chain-held}
 use Rattle.rim_chain.proofs.laws.the_chain_is_what_a_monitor_holds.Goals as goal
 
 pub returns : goal.returns

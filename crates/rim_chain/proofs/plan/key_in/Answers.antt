@@ -1,4 +1,4 @@
-use Rattle.rim_chain.proofs.Keys.{key-at, key-past}
+use Rattle.rim_chain.proofs.KeysByPlace.{key-at, key-past}
 use Rattle.rim_chain.proofs.plan.key_in.Goals as goal
 
 pub returns-then-number-count : goal.returns-then-number-count

@@ -1,7 +1,7 @@
 use Rattle.std.proofs.Common.{◌∙◌, ◌++◌, sym, ap, refl, map}
 use Rattle.std.proofs.lemmas.List.{append-nil}
-use Rattle.rtt_plan.proofs.Joins.{runs-end}
-use Rattle.rtt_plan.proofs.Steps.{at-base}
+use Rattle.rtt_plan.proofs.GrowingRuns.{runs-end}
+use Rattle.rtt_plan.proofs.EntryByEntry.{at-base}
 use Rattle.rim_chain.specs.inside.Steps.{run_link}
 use Rattle.rim_chain.proofs.reading.push_region.Goals as goal
 

@@ -1,4 +1,4 @@
-use Rattle.rim_chain.proofs.Readable.{least-low}
+use Rattle.rim_chain.proofs.ListedCanBeRead.{least-low}
 use Rattle.rim_chain.proofs.reading.push_step.Goals as goal
 
 pub push_region-requires-clause-low : goal.push_region-requires-clause-low

@@ -1,4 +1,4 @@
-use Rattle.rim_check.proofs.Refusals.{is-refused, own-refusal, says-nothing, says-why}
+use Rattle.rim_check.proofs.SaidOfLaunches.{is-refused, own-refusal, says-nothing, says-why}
 use Rattle.rim_check.proofs.launches.check_launch.Goals as goal
 use Rattle.rim_check.proofs.launches.check_launch.Goals.{in-Ok, in-Err+in_ok-own_fault-in-Err+in_ok-push_refused-in-Err}
 

@@ -1,7 +1,7 @@
 use Rattle.std.proofs.Common.{◌∙◌, ◌++◌, ℕ, List, Option, Some, ap, codes}
 use Rattle.std.proofs.lemmas.Result.{on_ok_weaker}
 use Rattle.rim_check.specs.Lines.{AddsLine, IsFront}
-use Rattle.rim_check.proofs.Plain.{adds-both}
+use Rattle.rim_check.proofs.PlainBytes.{adds-both}
 use Rattle.rim_check.proofs.line.push_file.Goals as goal
 
 pub returns : goal.returns

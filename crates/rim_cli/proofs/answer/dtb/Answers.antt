@@ -6,7 +6,7 @@ use Rattle.rim_release.specs.declared.audit_fault.AuditFault.TheVariants as audi
 use Rattle.rim_cli.specs.Done.{IsDevicetree, RefusesDtb}
 use Rattle.rim_cli.specs.Files.{Known}
 use Rattle.rim_cli.specs.declared.fault.Fault.TheVariants.{NoDevicetree, Refused}
-use Rattle.rim_cli.proofs.Releases.{found_launch, given, of_release, own_or}
+use Rattle.rim_cli.proofs.ReleaseOfManifest.{found_launch, given, of_release, own_or}
 use Rattle.rim_cli.proofs.answer.dtb.Goals as goal
 
 pub returns-in-Ok-Some-clause-answered : goal.returns-in-Ok-Some-clause-answered

@@ -4,7 +4,7 @@ use Rattle.std.specs.Prelude.{is_err, if◌then◌else◌}
 use Rattle.rim_release.specs.Listing.{listing_of, shown_of}
 use Rattle.rim_cli.specs.Done.{IsListing}
 use Rattle.rim_cli.specs.Files.{Known}
-use Rattle.rim_cli.proofs.Releases.{found_launch, listed, of_release}
+use Rattle.rim_cli.proofs.ReleaseOfManifest.{found_launch, listed, of_release}
 use Rattle.rim_cli.proofs.answer.list.Goals as goal
 
 pub returns-in-Ok-clause-answered : goal.returns-in-Ok-clause-answered

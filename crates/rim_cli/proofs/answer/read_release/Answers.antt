@@ -1,7 +1,7 @@
 use Rattle.std.proofs.Common.{◌≡◌}
 use Rattle.std.specs.Prelude.{Ok}
 use Rattle.rim_manifest.specs.Manifest.{manifest_of}
-use Rattle.rim_cli.proofs.Reading.{of_bytes}
+use Rattle.rim_cli.proofs.ReadFileByFile.{of_bytes}
 use Rattle.rim_cli.proofs.answer.read_release.Goals as goal
 
 pub returns-in-Ok-clause-read : goal.returns-in-Ok-clause-read

@@ -3,7 +3,7 @@ use Rattle.std.specs.Prelude.{if◌then◌else◌}
 use Rattle.std.proofs.lemmas.List.{length-map}
 use Rattle.rim_manifest.specs.Launches.{ReleaseData}
 use Rattle.rim_cli.specs.Files.{AreRead, Known}
-use Rattle.rim_cli.proofs.Found.{all_files, read_count}
+use Rattle.rim_cli.proofs.FaultsOfFiles.{all_files, read_count}
 use Rattle.rim_cli.proofs.checking.check_release.Goals as goal
 
 pub check_launches-requires : goal.check_launches-requires

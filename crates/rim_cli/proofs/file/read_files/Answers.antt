@@ -2,7 +2,7 @@ use Rattle.std.proofs.Common.{◌≡◌, ◌+◌, ◌++◌, [], ◌∷◌, ℕ, 
 use Rattle.std.proofs.lemmas.List.{map-append}
 use Rattle.std.proofs.lemmas.Result.{err_from_is_err_and}
 use Rattle.rim_cli.specs.Files.{AreRead, IsFileFault, IsRead, Known}
-use Rattle.rim_cli.proofs.Reading.{first_fault, read_next}
+use Rattle.rim_cli.proofs.ReadFileByFile.{first_fault, read_next}
 use Rattle.rim_cli.proofs.file.read_files.Goals as goal
 
 pub loop-i-preserved : goal.loop-i-preserved

@@ -3,9 +3,9 @@ use Rattle.std.proofs.lemmas.Bool.{and_parts}
 use Rattle.clap.specs.Words.{App, HasKind, HasMatchesOf, Kinds, Text, fault_of, found_of, is_simple, is_simple_and_free, rows_of, subcommand_of, subcommand_rows_of, takes}
 use Rattle.clap.specs.declared.parser.matches.ArgMatches.{ArgMatches}
 use Rattle.rim_cli.specs.Command.{IsRefusalOf, mistakes_of, rim}
-use Rattle.rim_cli.proofs.Entering.{entered_good, rows_met}
-use Rattle.rim_cli.proofs.Formats.{known_mistakes, known_taken}
-use Rattle.rim_cli.proofs.Refusing.{kind_or_else}
+use Rattle.rim_cli.proofs.EnteredSubcommand.{entered_good, rows_met}
+use Rattle.rim_cli.proofs.ReportFormats.{known_mistakes, known_taken}
+use Rattle.rim_cli.proofs.KindsOfRefusal.{kind_or_else}
 use Rattle.rim_cli.proofs.words.command.Goals as goal
 
 -- what the definition has on the words is what the matches have

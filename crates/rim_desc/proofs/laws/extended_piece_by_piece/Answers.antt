@@ -1,4 +1,4 @@
-use Rattle.rim_desc.proofs.Parts.{extended_by-append}
+use Rattle.rim_desc.proofs.PieceByPiece.{extended_by-append}
 use Rattle.rim_desc.proofs.laws.extended_piece_by_piece.Goals as goal
 
 pub returns : goal.returns

@@ -1,5 +1,5 @@
 use Rattle.rim_desc.specs.Page.{zeros}
-use Rattle.rim_desc.proofs.Pages.{length-zeros, get_or-zeros, zero_beside}
+use Rattle.rim_desc.proofs.BytesBesideFields.{length-zeros, get_or-zeros, zero_beside}
 use Rattle.rim_desc.proofs.laws.zero_elsewhere.Goals as goal
 
 pub returns : goal.returns

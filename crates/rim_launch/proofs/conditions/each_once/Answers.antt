@@ -2,7 +2,7 @@ use Rattle.std.proofs.Common.{◌∙◌, refl, subst, arith, List}
 use Rattle.std.proofs.lemmas.List.{take_all}
 use Rattle.rim_launch.specs.declared.step.Step.{Step}
 use Rattle.rim_launch.specs.inside.StepViews.{AreMarks}
-use Rattle.rim_launch.proofs.Marks.{no_marks, all_marked}
+use Rattle.rim_launch.proofs.NamedNumbers.{no_marks, all_marked}
 use Rattle.rim_launch.proofs.conditions.each_once.Goals as goal
 
 pub loop-step-init : goal.loop-step-init

@@ -1,6 +1,6 @@
 use Rattle.std.proofs.Common.{◌≡◌, ◌∙◌, sym, true, false, Bool, refl, get_or}
 use Rattle.std.specs.Prelude.{not}
-use Rattle.rim_launch.proofs.Marks.{named_twice}
+use Rattle.rim_launch.proofs.NamedNumbers.{named_twice}
 use Rattle.rim_launch.proofs.conditions.mark_step.Goals as goal
 
 pub returns-in-Some-clause-twice : goal.returns-in-Some-clause-twice

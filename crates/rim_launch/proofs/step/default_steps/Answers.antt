@@ -1,7 +1,7 @@
 use Rattle.std.proofs.Common.{◌≡◌, List, length, rules, true, sym, subst}
 use Rattle.rim_launch.specs.declared.step.Step.{Step}
 use Rattle.rim_launch.specs.Steps.{default_steps, steps_complete}
-use Rattle.rim_launch.proofs.Defaults.{default-complete}
+use Rattle.rim_launch.proofs.DefaultStepsComplete.{default-complete}
 use Rattle.rim_launch.proofs.step.default_steps.Goals as goal
 
 pub returns-clause-complete : goal.returns-clause-complete

@@ -7,7 +7,7 @@ use Rattle.rim_manifest.specs.Checks.{has_unknown_key, rule_faults}
 use Rattle.rim_manifest.specs.Faults.{fault_if}
 use Rattle.rim_manifest.specs.Rules.{rule_of}
 use Rattle.rim_manifest.specs.inside.Findings.{kept, with_faults}
-use Rattle.rim_manifest.proofs.Notes.{flat_map_map, noted_two}
+use Rattle.rim_manifest.proofs.FaultsInTurn.{flat_map_map, noted_two}
 use Rattle.rim_manifest.proofs.check.check_table.Goals as goal
 
 pub returns : goal.returns

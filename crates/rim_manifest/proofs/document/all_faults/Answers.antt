@@ -2,7 +2,7 @@ use Rattle.std.proofs.Common.{ap, ◌∙◌}
 use Rattle.toml.specs.View.{table_view}
 use Rattle.rim_manifest.specs.Manifest.{manifest_faults}
 use Rattle.rim_manifest.specs.inside.Findings.{All, faults_in, with_faults}
-use Rattle.rim_manifest.proofs.Notes.{all_are, not_lowest}
+use Rattle.rim_manifest.proofs.FaultsInTurn.{all_are, not_lowest}
 use Rattle.rim_manifest.proofs.document.all_faults.Goals as goal
 
 pub returns : goal.returns

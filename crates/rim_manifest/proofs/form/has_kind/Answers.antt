@@ -1,6 +1,6 @@
 use Rattle.std.proofs.Common.{inl, inr, rules}
 use Rattle.toml.proofs.Views.{view-Array}
-use Rattle.rim_manifest.proofs.Trees.{all_items}
+use Rattle.rim_manifest.proofs.ListsOfValues.{all_items}
 use Rattle.rim_manifest.proofs.form.has_kind.Goals as goal
 
 pub returns-in-Array : goal.returns-in-Array

@@ -1,5 +1,5 @@
 use Rattle.toml.proofs.Views.{view-Array}
-use Rattle.rim_manifest.proofs.Trees.{length-items_list}
+use Rattle.rim_manifest.proofs.ListsOfValues.{length-items_list}
 use Rattle.rim_manifest.proofs.form.is_over.Goals as goal
 
 pub returns-in-Tables-Array : goal.returns-in-Tables-Array

@@ -1,5 +1,5 @@
 use Rattle.toml.proofs.Views.{view-Array}
-use Rattle.rim_manifest.proofs.Trees.{all_items, length-items_list}
+use Rattle.rim_manifest.proofs.ListsOfValues.{all_items, length-items_list}
 use Rattle.rim_manifest.proofs.form.is_pair.Goals as goal
 
 pub returns-in-Array : goal.returns-in-Array

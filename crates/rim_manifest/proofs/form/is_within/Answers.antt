@@ -1,6 +1,6 @@
 use Rattle.std.proofs.Common.{rules}
 use Rattle.toml.proofs.Views.{view-Array, view-Integer, view-String}
-use Rattle.rim_manifest.proofs.Trees.{all_items}
+use Rattle.rim_manifest.proofs.ListsOfValues.{all_items}
 use Rattle.rim_manifest.proofs.form.is_within.Goals as goal
 
 pub returns-then-len-count : goal.returns-then-len-count

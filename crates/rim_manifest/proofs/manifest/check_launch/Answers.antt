@@ -14,7 +14,7 @@ use Rattle.rim_manifest.specs.Names.{has_asked}
 use Rattle.rim_manifest.specs.Rules.{launch_rules, rec_rules}
 use Rattle.rim_manifest.specs.Values.{array_at}
 use Rattle.rim_manifest.specs.inside.Findings.{Kept, kept, with_faults}
-use Rattle.rim_manifest.proofs.Notes.{flat_map_map, noted_two}
+use Rattle.rim_manifest.proofs.FaultsInTurn.{flat_map_map, noted_two}
 use Rattle.rim_manifest.proofs.manifest.check_launch.Goals as goal
 
 -- the four kinds of faults of a launch, found one after another

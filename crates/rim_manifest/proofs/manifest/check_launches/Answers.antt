@@ -2,7 +2,7 @@ use Rattle.std.proofs.Common.{◌∙◌, ap}
 use Rattle.toml.specs.View.{view}
 use Rattle.rim_manifest.specs.Manifest.{launch_faults}
 use Rattle.rim_manifest.specs.inside.Findings.{kept, with_faults}
-use Rattle.rim_manifest.proofs.Notes.{noted_step}
+use Rattle.rim_manifest.proofs.FaultsInTurn.{noted_step}
 use Rattle.rim_manifest.proofs.manifest.check_launches.Goals as goal
 
 pub loop-number-preserved : goal.loop-number-preserved

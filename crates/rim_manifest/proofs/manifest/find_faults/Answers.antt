@@ -11,7 +11,7 @@ use Rattle.rim_manifest.specs.Faults.{fault_if}
 use Rattle.rim_manifest.specs.Manifest.{files_at, has_version, launch_faults, launches_at, manifest_faults}
 use Rattle.rim_manifest.specs.Rules.{file_rules, top_rules}
 use Rattle.rim_manifest.specs.inside.Findings.{Kept, kept, with_faults}
-use Rattle.rim_manifest.proofs.Notes.{flat_map_map, noted_two}
+use Rattle.rim_manifest.proofs.FaultsInTurn.{flat_map_map, noted_two}
 use Rattle.rim_manifest.proofs.manifest.find_faults.Goals as goal
 
 -- the four kinds of faults of a manifest, found one after another

@@ -1,6 +1,6 @@
 use Rattle.toml.specs.View.{table_view}
 use Rattle.rim_manifest.specs.Manifest.{manifest_faults}
-use Rattle.rim_manifest.proofs.Notes.{lowest_is, not_all}
+use Rattle.rim_manifest.proofs.FaultsInTurn.{lowest_is, not_all}
 use Rattle.rim_manifest.proofs.manifest.lowest_fault.Goals as goal
 
 pub returns : goal.returns

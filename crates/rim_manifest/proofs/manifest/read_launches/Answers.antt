@@ -2,8 +2,8 @@ use Rattle.std.proofs.Common.{map, inl, inr}
 use Rattle.std.proofs.lemmas.Result.{err_from_is_err_and}
 use Rattle.toml.specs.View.{view}
 use Rattle.rim_manifest.specs.Launches.{launch_of}
-use Rattle.rim_manifest.proofs.Made.{made_step, one_not_made, read_made}
-use Rattle.rim_manifest.proofs.Numbered.{launches_step}
+use Rattle.rim_manifest.proofs.MadeWithoutFaults.{made_step, one_not_made, read_made}
+use Rattle.rim_manifest.proofs.LaunchesNumbered.{launches_step}
 use Rattle.rim_manifest.proofs.manifest.read_launches.Goals as goal
 
 pub loop-number-preserved : goal.loop-number-preserved

@@ -1,7 +1,7 @@
 use Rattle.std.proofs.Common.{◌∙◌, ◌≡◌, true, Some, None, sym, inr}
 use Rattle.std.proofs.lemmas.Bool.{false≢true}
 use Rattle.toml.specs.Errors.{IsMemory}
-use Rattle.rim_manifest.proofs.Answering.{answered, document_read, document_refused, refused}
+use Rattle.rim_manifest.proofs.ReadStepByStep.{answered, document_read, document_refused, refused}
 use Rattle.rim_manifest.proofs.manifest.read_manifest.Goals as goal
 
 pub returns : goal.returns

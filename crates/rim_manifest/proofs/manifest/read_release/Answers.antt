@@ -9,11 +9,11 @@ use Rattle.rim_manifest.specs.Launches.{launches_from}
 use Rattle.rim_manifest.specs.Manifest.{all_made, files_at, has_no_file, has_two_names, launches_at, path_of}
 use Rattle.rim_manifest.specs.StepTexts.{has_bad_steps, is_miscounted, is_misnamed}
 use Rattle.rim_manifest.specs.Names.{lacks_file, repeats, share_names}
-use Rattle.rim_manifest.proofs.Answering.{named, no_name_fault, refused_steps, refused_twice, refused_without}
-use Rattle.rim_manifest.proofs.Made.{all_read, all_refused}
-use Rattle.rim_manifest.proofs.Notes.{list_any_map}
-use Rattle.rim_manifest.proofs.Numbered.{are_numbered}
-use Rattle.rim_manifest.proofs.Trees.{map_of_views}
+use Rattle.rim_manifest.proofs.ReadStepByStep.{named, no_name_fault, refused_steps, refused_twice, refused_without}
+use Rattle.rim_manifest.proofs.MadeWithoutFaults.{all_read, all_refused}
+use Rattle.rim_manifest.proofs.FaultsInTurn.{list_any_map}
+use Rattle.rim_manifest.proofs.LaunchesNumbered.{are_numbered}
+use Rattle.rim_manifest.proofs.ListsOfValues.{map_of_views}
 use Rattle.rim_manifest.proofs.manifest.read_release.Goals as goal
 
 twice : (ms : Members) (files launches : List Value) (b : Bool) → map view files ≡ files_at ms → map view launches ≡ launches_at ms

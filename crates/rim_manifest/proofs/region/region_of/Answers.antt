@@ -1,5 +1,5 @@
 use Rattle.std.proofs.Common.{refl, sym, true≢false}
-use Rattle.rim_manifest.proofs.Regions.{region_is, region_is_not}
+use Rattle.rim_manifest.proofs.SameRegions.{region_is, region_is_not}
 use Rattle.rim_manifest.proofs.region.region_of.Goals as goal
 
 pub returns : goal.returns

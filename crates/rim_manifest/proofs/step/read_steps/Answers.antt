@@ -7,7 +7,7 @@ use Rattle.rim_launch.specs.declared.step.Step.{Step}
 use Rattle.rim_manifest.specs.Forms.{items_of}
 use Rattle.rim_manifest.specs.StepTexts.{step_in, steps_in}
 use Rattle.rim_manifest.specs.Values.{array_at}
-use Rattle.rim_manifest.proofs.Trees.{map_of_views}
+use Rattle.rim_manifest.proofs.ListsOfValues.{map_of_views}
 use Rattle.rim_manifest.proofs.step.read_steps.Goals as goal
 
 spelled : (tables texts : List Value) (launch d : Data) (o : Option Data) (regions : ℕ) (things : List Item) (recs : ℕ) (steps : List Step) → map view tables ≡ array_at (codes "item") launch

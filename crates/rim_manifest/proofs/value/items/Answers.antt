@@ -1,5 +1,5 @@
 use Rattle.toml.proofs.Views.{view-Array}
-use Rattle.rim_manifest.proofs.Trees.{items_list-view}
+use Rattle.rim_manifest.proofs.ListsOfValues.{items_list-view}
 use Rattle.rim_manifest.proofs.value.items.Goals as goal
 
 pub returns-in-Array : goal.returns-in-Array

@@ -1,7 +1,7 @@
 use Rattle.std.proofs.Common.{arith}
 use Rattle.std.proofs.lemmas.Int.Digits.{digits_value_more}
 use Rattle.std.proofs.lemmas.List.{take_all}
-use Rattle.rim_manifest.proofs.Digits.{room_for_digit}
+use Rattle.rim_manifest.proofs.RoomForDigits.{room_for_digit}
 use Rattle.rim_manifest.proofs.word.spelled.Goals as goal
 
 pub overflow_mul-number : goal.overflow_mul-number

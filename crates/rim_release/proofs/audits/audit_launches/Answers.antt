@@ -6,8 +6,8 @@ use Rattle.rim_release.specs.Report.{lines_of, seen}
 use Rattle.rim_release.specs.inside.Lines.{lines_with}
 use Rattle.std.specs.Prelude.{is_err}
 use Rattle.std.specs.List.{list_any}
-use Rattle.rim_release.proofs.Lines.{own-lines}
-use Rattle.rim_release.proofs.Refused.{any-refused}
+use Rattle.rim_release.proofs.LinesOfLaunches.{own-lines}
+use Rattle.rim_release.proofs.RefusedLaunches.{any-refused}
 use Rattle.rim_release.proofs.audits.audit_launches.Goals as goal
 
 pub returns-clause-text : goal.returns-clause-text

@@ -1,5 +1,5 @@
 use Rattle.std.proofs.Common.{inl, inr}
-use Rattle.rim_release.proofs.JsonValues.{values-over}
+use Rattle.rim_release.proofs.ReportAsJson.{values-over}
 use Rattle.rim_release.proofs.json.launch_values.Goals as goal
 
 pub returns : goal.returns

@@ -1,4 +1,4 @@
-use Rattle.rim_release.proofs.Headlines.{accepted-are-measured, refused-are-named}
+use Rattle.rim_release.proofs.LinesAreTrue.{accepted-are-measured, refused-are-named}
 use Rattle.rim_release.proofs.laws.a_line_says_what_a_monitor_holds.Goals as goal
 
 pub returns-clause-accepted : goal.returns-clause-accepted

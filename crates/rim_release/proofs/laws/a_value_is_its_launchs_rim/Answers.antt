@@ -1,4 +1,4 @@
-use Rattle.rim_release.proofs.RunValues.{values-are-rims}
+use Rattle.rim_release.proofs.LinesOfAnyRun.{values-are-rims}
 use Rattle.rim_release.proofs.laws.a_value_is_its_launchs_rim.Goals as goal
 
 pub returns : goal.returns

@@ -1,4 +1,4 @@
-use Rattle.rim_release.proofs.Devicetrees.{devicetrees-are-measured}
+use Rattle.rim_release.proofs.DevicetreeGivenOut.{devicetrees-are-measured}
 use Rattle.rim_release.proofs.laws.devicetrees_are_measured.Goals as goal
 
 pub returns : goal.returns

@@ -1,4 +1,4 @@
-use Rattle.rim_release.proofs.RunValues.{values-make-lines}
+use Rattle.rim_release.proofs.LinesOfAnyRun.{values-make-lines}
 use Rattle.rim_release.proofs.laws.values_make_the_lines.Goals as goal
 
 pub returns : goal.returns

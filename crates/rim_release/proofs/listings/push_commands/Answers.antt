@@ -1,6 +1,6 @@
 use Rattle.rim_release.specs.Listing.{command_line}
 use Rattle.rim_release.specs.inside.Commands.{commands_in}
-use Rattle.rim_release.proofs.Lines.{line-next}
+use Rattle.rim_release.proofs.LinesOfLaunches.{line-next}
 use Rattle.rim_release.proofs.listings.push_commands.Goals as goal
 
 pub loop-index-preserved : goal.loop-index-preserved

@@ -1,4 +1,4 @@
-use Rattle.rim_manifest.proofs.Notes.{list_any_map}
+use Rattle.rim_manifest.proofs.FaultsInTurn.{list_any_map}
 use Rattle.rim_release.specs.Accepted.{accepted_of}
 use Rattle.std.specs.Prelude.{is_err}
 use Rattle.std.proofs.Common.{◌≡◌, ◌∙◌, ℕ, List, Vec, Global, ap, length, map, subst, true, sym, Ok, Result}
@@ -21,7 +21,7 @@ use Rattle.rim_release.specs.inside.Chains.{outcomes_of}
 use Rattle.rim_release.specs.inside.Lines.{lines_with}
 use Rattle.rim_release.specs.inside.Preparing.{ArePrepared}
 use Rattle.rim_release.specs.inside.Sources.{pages_of}
-use Rattle.rim_release.proofs.Held.{all-have, found-pages, report-is, rising-pages}
+use Rattle.rim_release.proofs.ChainsAreRims.{all-have, found-pages, report-is, rising-pages}
 use Rattle.rim_release.proofs.one_thread.report_alone.Goals as goal
 
 pub hashed-requires : goal.hashed-requires

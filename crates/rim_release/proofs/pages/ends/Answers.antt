@@ -1,5 +1,5 @@
 use Rattle.std.proofs.Common.{inl, inr}
-use Rattle.rim_release.proofs.PageKeys.{ends-over}
+use Rattle.rim_release.proofs.DifferentPages.{ends-over}
 use Rattle.rim_release.proofs.pages.ends.Goals as goal
 
 pub returns : goal.returns

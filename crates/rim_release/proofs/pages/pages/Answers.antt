@@ -5,7 +5,7 @@ use Rattle.ipa_layout.specs.Files.{bytes_of_files}
 use Rattle.page_jobs.specs.Page.{PageView, page_named}
 use Rattle.rim_release.specs.Pages.{page_keys, source_bytes}
 use Rattle.rim_release.specs.declared.audit_fault.AuditFault.{AuditFault}
-use Rattle.rim_release.proofs.PageKeys.{few-enough, files-there, keys-found, ranges-usable, too-many}
+use Rattle.rim_release.proofs.DifferentPages.{few-enough, files-there, keys-found, ranges-usable, too-many}
 use Rattle.rim_release.proofs.pages.pages.Goals as goal
 
 pub returns : goal.returns

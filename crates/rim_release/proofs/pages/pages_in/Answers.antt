@@ -1,5 +1,5 @@
 use Rattle.page_jobs.specs.Page.{page_view}
-use Rattle.rim_release.proofs.PageKeys.{pages-next}
+use Rattle.rim_release.proofs.DifferentPages.{pages-next}
 use Rattle.rim_release.proofs.pages.pages_in.Goals as goal
 
 pub loop-range-preserved : goal.loop-range-preserved

@@ -1,6 +1,6 @@
 use Rattle.std.proofs.Common.{◌∙◌, refl}
 use Rattle.page_jobs.specs.Page.{page_named, page_view}
-use Rattle.rim_release.proofs.PageKeys.{page-next}
+use Rattle.rim_release.proofs.DifferentPages.{page-next}
 use Rattle.rim_release.proofs.pages.push_range.Goals as goal
 
 pub loop-index-preserved : goal.loop-index-preserved

@@ -1,4 +1,4 @@
-use Rattle.rim_release.proofs.Preparing.{prepared-at}
+use Rattle.rim_release.proofs.LaunchesLaidOut.{prepared-at}
 use Rattle.rim_release.proofs.prepare.prepare.Goals as goal
 
 pub loop-launch-preserved : goal.loop-launch-preserved

@@ -3,7 +3,7 @@ use Rattle.std.proofs.Common.{◌≡◌, ◌∙◌, ◌+◌, ◌<◌, ◌∷◌,
 use Rattle.std.specs.Prelude.{vec_capacity}
 use Rattle.rim_manifest.specs.Launches.{NamedData}
 use Rattle.rim_release.specs.inside.Lines.{line_with_outcome, lines_with}
-use Rattle.rim_release.proofs.Lines.{lines-over, no-room}
+use Rattle.rim_release.proofs.LinesOfLaunches.{lines-over, no-room}
 use Rattle.rim_release.proofs.report.push_lines.Goals as goal
 
 pub returns-clause-text : goal.returns-clause-text

@@ -1,7 +1,7 @@
 use Rattle.std.proofs.Common.{◌≡◌, ◌∙◌, ◌++◌, List, ℕ, ap, codes, rules}
 use Rattle.std.specs.Fmt.{decimal}
 use Rattle.rim_release.specs.inside.Lines.{lines_with}
-use Rattle.rim_release.proofs.Lines.{report-joined}
+use Rattle.rim_release.proofs.LinesOfLaunches.{report-joined}
 use Rattle.rim_release.proofs.report.push_report.Goals as goal
 
 pub returns-clause-text : goal.returns-clause-text

@@ -11,9 +11,9 @@ use Rattle.page_jobs.specs.declared.page.Page.{Page}
 use Rattle.page_jobs.specs.declared.page.PageKey.{PageKey}
 use Rattle.rim_chain.specs.Links.{PlanView, keys_of}
 use Rattle.rim_chain.specs.Rows.{value_in}
-use Rattle.rim_desc.proofs.Pages.{length-zeros}
+use Rattle.rim_desc.proofs.BytesBesideFields.{length-zeros}
 use Rattle.rim_desc.specs.declared.measurement.Measurement.{Measurement}
-use Rattle.rim_manifest.proofs.Notes.{list_any_map}
+use Rattle.rim_manifest.proofs.FaultsInTurn.{list_any_map}
 use Rattle.rim_manifest.specs.Launches.{NamedData}
 use Rattle.rim_release.specs.Accepted.{accepted_of}
 use Rattle.rim_release.specs.Report.{is_crew, report_with, seen}
@@ -23,9 +23,9 @@ use Rattle.rim_release.specs.inside.Chains.{outcomes_of, unknown_rim, with_rims}
 use Rattle.rim_release.specs.inside.Lines.{lines_with}
 use Rattle.rim_release.specs.inside.Preparing.{ArePrepared}
 use Rattle.rim_release.specs.inside.Sources.{pages_of}
-use Rattle.rim_release.proofs.ChainValues.{rims-placed}
-use Rattle.rim_release.proofs.Held.{all-known, found-keys, outcomes-is, report-is, rising-pages}
-use Rattle.rim_release.proofs.Rooms.{HasSize, chains-size, report-size, same-size}
+use Rattle.rim_release.proofs.MeasurementsReplaced.{rims-placed}
+use Rattle.rim_release.proofs.ChainsAreRims.{all-known, found-keys, outcomes-is, report-is, rising-pages}
+use Rattle.rim_release.proofs.LengthOfReport.{HasSize, chains-size, report-size, same-size}
 use Rattle.rim_release.proofs.workers.measure_release.Goals as goal
 
 pub run-requires-clause-rising : goal.run-requires-clause-rising

@@ -1,4 +1,4 @@
-use Rattle.rmi_line.proofs.Again.{same_line}
+use Rattle.rmi_line.proofs.OneLineOneCommand.{same_line}
 use Rattle.rmi_line.proofs.laws.one_command_a_line.Goals as goal
 
 pub returns : goal.returns

@@ -1,4 +1,4 @@
-use Rattle.rmi_line.proofs.Spaces.{line_of-one_line, line_of-split}
+use Rattle.rmi_line.proofs.SpacesPartWords.{line_of-one_line, line_of-split}
 use Rattle.rmi_line.proofs.laws.spaces_part_the_words.Goals as goal
 
 pub returns-clause-words : goal.returns-clause-words

@@ -1,5 +1,5 @@
 use Rattle.std.proofs.Common.{rules}
-use Rattle.rmi_line.proofs.Lines.{line_of-grown}
+use Rattle.rmi_line.proofs.LineWordByWord.{line_of-grown}
 use Rattle.rmi_line.proofs.line.realm_create.Goals as goal
 
 pub returns : goal.returns

@@ -1,5 +1,5 @@
 use Rattle.std.proofs.Common.{rules}
-use Rattle.rmi_line.proofs.Lines.{grown-between, line_of-grown}
+use Rattle.rmi_line.proofs.LineWordByWord.{grown-between, line_of-grown}
 use Rattle.rmi_line.proofs.line.rec_create.Goals as goal
 
 pub returns : goal.returns

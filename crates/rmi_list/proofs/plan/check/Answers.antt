@@ -2,9 +2,9 @@ use Rattle.std.proofs.Common.{inr, refl, ◌+◌, subst, arith, drop, slice_inde
 use Rattle.std.proofs.lemmas.List.{drop_all}
 use Rattle.std.proofs.lemmas.Result.{err_from_is_err_and}
 use Rattle.rim_launch.specs.declared.step.Step.TheVariants.{Ram}
-use Rattle.rmi_list.proofs.Listing.{IsChecking, begin-refused, checking-begins, checking-ends, checking-goes-on, checking-refused, listing-begins, too-many}
-use Rattle.rmi_list.proofs.Growing.{drop-at}
-use Rattle.rmi_list.proofs.Listable.{are-listable}
+use Rattle.rmi_list.proofs.ListStepByStep.{IsChecking, begin-refused, checking-begins, checking-ends, checking-goes-on, checking-refused, listing-begins, too-many}
+use Rattle.rmi_list.proofs.EntryByEntry.{drop-at}
+use Rattle.rmi_list.proofs.ItemsAreListable.{are-listable}
 use Rattle.rmi_list.proofs.plan.check.Goals as goal
 
 pub returns-then-recs-gt-REC_LIMIT-clause-fault : goal.returns-then-recs-gt-REC_LIMIT-clause-fault

@@ -1,5 +1,5 @@
 use Rattle.std.proofs.Common.{drop}
-use Rattle.rmi_list.proofs.Listing.{IsChecking}
+use Rattle.rmi_list.proofs.ListStepByStep.{IsChecking}
 use Rattle.rmi_list.proofs.plan.check.Given as goal
 
 abbrev pub invariant-loop-step : goal.invariant-loop-step

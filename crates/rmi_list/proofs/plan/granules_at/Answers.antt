@@ -2,7 +2,7 @@ use Rattle.std.proofs.Common.{◌≡◌, ◌+◌, ◌*◌, ◌∙◌, ◌∷◌,
 use Rattle.std.proofs.lemmas.List.{length-set, take_more_set}
 use Rattle.rmm_model.specs.Blocks.{granules}
 use Rattle.list_model.specs.Entries.{granule}
-use Rattle.list_model.proofs.Delegating.{granules-last}
+use Rattle.list_model.proofs.GranulesDelegated.{granules-last}
 use Rattle.rmi_list.proofs.plan.granules_at.Goals as goal
 
 pub loop-index-init : goal.loop-index-init

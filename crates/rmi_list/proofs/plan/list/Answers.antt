@@ -5,10 +5,10 @@ use Rattle.rim_launch.specs.declared.step.Step.TheVariants.{Ram}
 use Rattle.ipa_layout.specs.Layout.{PlacedData}
 use Rattle.list_model.specs.Entries.{delegated}
 use Rattle.rmi_list.specs.inside.Drafts.{entries_in}
-use Rattle.rmi_list.proofs.Listing.{IsListing}
-use Rattle.rmi_list.proofs.Growing.{drop-at}
-use Rattle.rmi_list.proofs.Listable.{are-listable}
-use Rattle.rmi_list.proofs.Listing.{begin-refused, end-refused, listing-begins, listing-counted, listing-ends, listing-goes-on, listing-refused, plan-answered, too-many}
+use Rattle.rmi_list.proofs.ListStepByStep.{IsListing}
+use Rattle.rmi_list.proofs.EntryByEntry.{drop-at}
+use Rattle.rmi_list.proofs.ItemsAreListable.{are-listable}
+use Rattle.rmi_list.proofs.ListStepByStep.{begin-refused, end-refused, listing-begins, listing-counted, listing-ends, listing-goes-on, listing-refused, plan-answered, too-many}
 use Rattle.rmi_list.proofs.plan.list.Goals as goal
 
 pub returns-then-recs-gt-REC_LIMIT : goal.returns-then-recs-gt-REC_LIMIT

@@ -1,5 +1,5 @@
 use Rattle.std.proofs.Common.{drop}
-use Rattle.rmi_list.proofs.Listing.{IsListing}
+use Rattle.rmi_list.proofs.ListStepByStep.{IsListing}
 use Rattle.rmi_list.proofs.plan.list.Given as goal
 
 abbrev pub invariant-loop-step : goal.invariant-loop-step

@@ -3,7 +3,7 @@ use Rattle.std.proofs.lemmas.Result.{err_from_is_err_and}
 use Rattle.list_model.specs.Entries.{delegated}
 use Rattle.rmi_list.specs.Listed.{opening_entries}
 use Rattle.rmi_list.specs.declared.draft.Draft.{Draft}
-use Rattle.rmi_list.proofs.Beginning.{first-descriptor-refused, first-grows, first-tables-refused}
+use Rattle.rmi_list.proofs.BeginOfList.{first-descriptor-refused, first-grows, first-tables-refused}
 use Rattle.rmi_list.proofs.plan.open.Goals as goal
 
 pub new-requires-clause-width : goal.new-requires-clause-width

@@ -1,7 +1,7 @@
 use Rattle.std.proofs.Common.{ℕ, ◌+◌, ◌*◌, ◌/◌, ap, sym}
 use Rattle.std.specs.Prelude.{None, Some}
 use Rattle.rim_desc.specs.declared.command.Command.TheVariants.{Delegate, DataCreate}
-use Rattle.rmi_list.proofs.Spans.{even-at, odd-at}
+use Rattle.rmi_list.proofs.CommandsOfSpans.{even-at, odd-at}
 use Rattle.rmi_list.proofs.plan.page_command.Goals as goal
 
 pub returns-then-offset-eq0 : goal.returns-then-offset-eq0

@@ -1,7 +1,7 @@
 use Rattle.std.proofs.Common.{◌*◌, ◌<◌, refl, subst}
 use Rattle.rmi_list.specs.declared.span.Span.{Span}
 use Rattle.rmi_list.specs.inside.Spans.{commands_in}
-use Rattle.rmi_list.proofs.Spans.{even-at, none-measured, odd-at}
+use Rattle.rmi_list.proofs.CommandsOfSpans.{even-at, none-measured, odd-at}
 use Rattle.rmi_list.proofs.plan.page_in.Goals as goal
 
 pub returns-then-not-measured : goal.returns-then-not-measured

@@ -1,4 +1,4 @@
-use Rattle.rmm_model.proofs.Same.{same-refl, same-sym, same-trans}
+use Rattle.rmm_model.proofs.SameSpaces.{same-refl, same-sym, same-trans}
 use Rattle.rmm_model.proofs.laws.being_the_same_is_an_equivalence.Goals as goal
 
 pub returns-clause-itself : goal.returns-clause-itself

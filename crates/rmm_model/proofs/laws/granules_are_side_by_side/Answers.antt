@@ -1,4 +1,4 @@
-use Rattle.rmm_model.proofs.Granules.{granules-map, repeats-granules}
+use Rattle.rmm_model.proofs.GranulesInARow.{granules-map, repeats-granules}
 use Rattle.rmm_model.proofs.laws.granules_are_side_by_side.Goals as goal
 
 pub returns-clause-places : goal.returns-clause-places

@@ -1,4 +1,4 @@
-use Rattle.rmm_model.proofs.Owners.{kind_of-here, kind_of-other}
+use Rattle.rmm_model.proofs.KindsAfterGifts.{kind_of-here, kind_of-other}
 use Rattle.rmm_model.proofs.laws.kinds_after_a_gift.Goals as goal
 
 pub returns-clause-given : goal.returns-clause-given

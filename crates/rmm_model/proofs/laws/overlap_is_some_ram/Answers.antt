@@ -1,4 +1,4 @@
-use Rattle.rmm_model.proofs.Ranges.{overlaps-some, some-overlaps}
+use Rattle.rmm_model.proofs.RangesOfRam.{overlaps-some, some-overlaps}
 use Rattle.rmm_model.proofs.laws.overlap_is_some_ram.Goals as goal
 
 pub returns : goal.returns

@@ -1,4 +1,4 @@
-use Rattle.rmm_model.proofs.Spaces.{are_some-insert, is_ram-insert, overlaps-insert}
+use Rattle.rmm_model.proofs.OneMoreInSpace.{are_some-insert, is_ram-insert, overlaps-insert}
 use Rattle.rmm_model.proofs.laws.ram_after_a_run.Goals as goal
 
 pub returns-clause-addresses : goal.returns-clause-addresses

@@ -1,4 +1,4 @@
-use Rattle.rmm_model.proofs.Rims.{rim-run}
+use Rattle.rmm_model.proofs.RimOfShownParts.{rim-run}
 use Rattle.rmm_model.proofs.laws.rim_is_of_its_parts.Goals as goal
 
 pub returns : goal.returns

@@ -1,4 +1,4 @@
-use Rattle.rmm_model.proofs.Same.{deeper-alike, walk-same}
+use Rattle.rmm_model.proofs.SameSpaces.{deeper-alike, walk-same}
 use Rattle.rmm_model.proofs.laws.same_spaces_answer_alike.Goals as goal
 
 pub returns-clause-walk : goal.returns-clause-walk

@@ -1,4 +1,4 @@
-use Rattle.rmm_model.proofs.Same.{same-page, same-run, same-table}
+use Rattle.rmm_model.proofs.SameSpaces.{same-page, same-run, same-table}
 use Rattle.rmm_model.proofs.laws.steps_keep_spaces_the_same.Goals as goal
 
 pub returns-clause-table : goal.returns-clause-table

@@ -1,4 +1,4 @@
-use Rattle.rmm_model.proofs.Spaces.{made-insert}
+use Rattle.rmm_model.proofs.OneMoreInSpace.{made-insert}
 use Rattle.rmm_model.proofs.laws.tables_after_one_more.Goals as goal
 
 pub returns : goal.returns

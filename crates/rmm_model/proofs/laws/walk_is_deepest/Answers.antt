@@ -1,4 +1,4 @@
-use Rattle.rmm_model.proofs.Walks.{walk-from, walk-least}
+use Rattle.rmm_model.proofs.EndsOfWalks.{walk-from, walk-least}
 use Rattle.rmm_model.proofs.laws.walk_is_deepest.Goals as goal
 
 pub returns-clause-start : goal.returns-clause-start

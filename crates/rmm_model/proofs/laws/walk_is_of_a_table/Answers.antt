@@ -1,4 +1,4 @@
-use Rattle.rmm_model.proofs.Walks.{EndsAt, walk-ends}
+use Rattle.rmm_model.proofs.EndsOfWalks.{EndsAt, walk-ends}
 use Rattle.rmm_model.proofs.laws.walk_is_of_a_table.Goals as goal
 
 pub returns : goal.returns

@@ -1,5 +1,5 @@
 use Rattle.std.proofs.Common.{◌∙◌, sym}
-use Rattle.rmm_model.proofs.LookUps.{walk-1, walk-2, walk-3, walk-none}
+use Rattle.rmm_model.proofs.WalksByLookUp.{walk-1, walk-2, walk-3, walk-none}
 use Rattle.rmm_model.proofs.table.walk_level.Goals as goal
 
 pub returns-then-is_made-clause-value : goal.returns-then-is_made-clause-value

@@ -1,5 +1,5 @@
 use Rattle.std.proofs.Common.{◌≡◌, ◌∙◌, ◌+◌, ◌-◌, ◌<◌, sym, refl, arith}
-use Rattle.rmm_monitor.proofs.Stretches.{place-fits, place-next, stretches-end, stretches-next}
+use Rattle.rmm_monitor.proofs.StretchesBecomeRam.{place-fits, place-next, stretches-end, stretches-next}
 use Rattle.rmm_monitor.proofs.measuring.extended_by_stretches.Goals as goal
 
 pub loop-init : goal.loop-init

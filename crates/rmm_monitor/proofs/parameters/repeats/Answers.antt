@@ -1,6 +1,6 @@
 use Rattle.std.proofs.Common.{◌∙◌, ◌+◌, sym, refl, arith}
 use Rattle.std.proofs.lemmas.List.{take_rest}
-use Rattle.rmm_monitor.proofs.Granules.{repeats-end, repeats-next}
+use Rattle.rmm_monitor.proofs.ListsOfGranules.{repeats-end, repeats-next}
 use Rattle.rmm_monitor.proofs.parameters.repeats.Goals as goal
 
 pub returns-then-has : goal.returns-then-has

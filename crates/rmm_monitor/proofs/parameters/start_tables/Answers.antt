@@ -1,7 +1,7 @@
 use Rattle.std.proofs.Common.{◌∙◌, ◌<◌, sym, refl, arith, length}
 use Rattle.std.proofs.Math.ListN.{length-set}
 use Rattle.std.proofs.lemmas.List.{take_more_set}
-use Rattle.rmm_monitor.proofs.Granules.{granules-end, granules-none}
+use Rattle.rmm_monitor.proofs.ListsOfGranules.{granules-end, granules-none}
 use Rattle.rmm_monitor.proofs.parameters.start_tables.Goals as goal
 
 pub loop-index-init : goal.loop-index-init

@@ -1,5 +1,5 @@
 use Rattle.std.proofs.Common.{◌≡◌, ◌∙◌, sym, arith, refl}
-use Rattle.rtt_plan.proofs.Fits.{first_fit-end, first_fit-here, first_fit-next}
+use Rattle.rtt_plan.proofs.LargestBlocks.{first_fit-end, first_fit-here, first_fit-next}
 use Rattle.rtt_plan.proofs.block.block_level.Goals as goal
 
 pub returns-then-fits-clause-value : goal.returns-then-fits-clause-value

@@ -1,6 +1,6 @@
 use Rattle.std.proofs.Common.{arith, refl}
-use Rattle.rtt_plan.proofs.RunCounts.{count-run}
-use Rattle.rtt_plan.proofs.Steps.{at-base, count-end}
+use Rattle.rtt_plan.proofs.EntriesOfRuns.{count-run}
+use Rattle.rtt_plan.proofs.EntryByEntry.{at-base, count-end}
 use Rattle.rtt_plan.proofs.counting.total_entries.Goals as goal
 
 pub loop-x-init : goal.loop-x-init

@@ -1,4 +1,4 @@
-use Rattle.rtt_plan.proofs.Plans.{page-tables, run-tables}
+use Rattle.rtt_plan.proofs.ActsStepByStep.{page-tables, run-tables}
 use Rattle.rtt_plan.proofs.laws.acts_make_the_tables.Goals as goal
 
 pub returns-clause-runs : goal.returns-clause-runs

@@ -1,4 +1,4 @@
-use Rattle.rtt_plan.proofs.Among.{among-pages, among-runs}
+use Rattle.rtt_plan.proofs.AmongActs.{among-pages, among-runs}
 use Rattle.rtt_plan.proofs.laws.acts_set_the_runs_and_the_pages.Goals as goal
 
 pub returns-clause-runs : goal.returns-clause-runs

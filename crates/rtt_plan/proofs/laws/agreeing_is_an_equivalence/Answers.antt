@@ -1,4 +1,4 @@
-use Rattle.rtt_plan.proofs.Alike.{agrees-refl, agrees-sym, agrees-trans}
+use Rattle.rtt_plan.proofs.PlansGoOnAlike.{agrees-refl, agrees-sym, agrees-trans}
 use Rattle.rtt_plan.proofs.laws.agreeing_is_an_equivalence.Goals as goal
 
 pub returns-clause-itself : goal.returns-clause-itself

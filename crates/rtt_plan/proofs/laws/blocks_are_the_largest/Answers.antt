@@ -1,5 +1,5 @@
 use Rattle.std.proofs.Common.{◌-◌}
-use Rattle.rtt_plan.proofs.Fits.{block-fits, first_fit-from, first_fit-least}
+use Rattle.rtt_plan.proofs.LargestBlocks.{block-fits, first_fit-from, first_fit-least}
 use Rattle.rtt_plan.proofs.laws.blocks_are_the_largest.Goals as goal
 
 pub returns-clause-inside : goal.returns-clause-inside

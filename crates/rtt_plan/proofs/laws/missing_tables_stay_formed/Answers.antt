@@ -1,4 +1,4 @@
-use Rattle.rtt_plan.proofs.Agreeing.{formed-after, used-after, used-more}
+use Rattle.rtt_plan.proofs.WithMissingTables.{formed-after, used-after, used-more}
 use Rattle.rtt_plan.proofs.laws.missing_tables_stay_formed.Goals as goal
 
 pub returns-clause-formed : goal.returns-clause-formed

@@ -1,4 +1,4 @@
-use Rattle.rtt_plan.proofs.Kept.{planned-data, planned-nothing, planned-region}
+use Rattle.rtt_plan.proofs.PlansStayFormed.{planned-data, planned-nothing, planned-region}
 use Rattle.rtt_plan.proofs.laws.plans_stay_formed.Goals as goal
 
 pub returns-clause-nothing : goal.returns-clause-nothing

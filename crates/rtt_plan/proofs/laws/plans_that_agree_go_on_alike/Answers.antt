@@ -1,4 +1,4 @@
-use Rattle.rtt_plan.proofs.Alike.{after_data-alike, after_region-alike, plan_data-alike, plan_region-alike, walks-alike}
+use Rattle.rtt_plan.proofs.PlansGoOnAlike.{after_data-alike, after_region-alike, plan_data-alike, plan_region-alike, walks-alike}
 use Rattle.rtt_plan.proofs.laws.plans_that_agree_go_on_alike.Goals as goal
 
 pub returns-clause-region : goal.returns-clause-region

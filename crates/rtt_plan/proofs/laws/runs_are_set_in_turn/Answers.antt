@@ -1,4 +1,4 @@
-use Rattle.rtt_plan.proofs.Setting.{region-in-turn}
+use Rattle.rtt_plan.proofs.RunsAndPagesInTurn.{region-in-turn}
 use Rattle.rtt_plan.proofs.laws.runs_are_set_in_turn.Goals as goal
 
 pub returns : goal.returns

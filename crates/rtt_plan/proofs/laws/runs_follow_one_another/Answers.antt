@@ -1,5 +1,5 @@
 use Rattle.std.proofs.Common.{arith}
-use Rattle.rtt_plan.proofs.Following.{region-runs}
+use Rattle.rtt_plan.proofs.RunsCoverRegion.{region-runs}
 use Rattle.rtt_plan.proofs.laws.runs_follow_one_another.Goals as goal
 
 pub returns : goal.returns

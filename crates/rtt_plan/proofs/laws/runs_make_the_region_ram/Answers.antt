@@ -1,6 +1,6 @@
 use Rattle.std.proofs.Common.{arith}
 use Rattle.rtt_plan.specs.Runs.{runs_of}
-use Rattle.rtt_plan.proofs.Following.{ram-runs, region-runs}
+use Rattle.rtt_plan.proofs.RunsCoverRegion.{ram-runs, region-runs}
 use Rattle.rtt_plan.proofs.laws.runs_make_the_region_ram.Goals as goal
 
 pub returns : goal.returns

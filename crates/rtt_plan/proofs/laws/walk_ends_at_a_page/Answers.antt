@@ -1,4 +1,4 @@
-use Rattle.rtt_plan.proofs.Agreeing.{walk-page}
+use Rattle.rtt_plan.proofs.WithMissingTables.{walk-page}
 use Rattle.rtt_plan.proofs.laws.walk_ends_at_a_page.Goals as goal
 
 pub returns : goal.returns

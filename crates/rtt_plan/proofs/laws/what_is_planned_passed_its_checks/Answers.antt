@@ -1,4 +1,4 @@
-use Rattle.rtt_plan.proofs.Accepted.{data-planned, region-planned}
+use Rattle.rtt_plan.proofs.AcceptedCalls.{data-planned, region-planned}
 use Rattle.rtt_plan.proofs.laws.what_is_planned_passed_its_checks.Goals as goal
 
 pub returns-clause-region : goal.returns-clause-region

@@ -1,5 +1,5 @@
 use Rattle.std.proofs.Common.{sym}
-use Rattle.rtt_plan.proofs.Reaching.{IsLongest, longest}
+use Rattle.rtt_plan.proofs.EndOfRun.{IsLongest, longest}
 use Rattle.rtt_plan.proofs.longest.run_from.Goals as goal
 
 reached : (c : goal.After-min) → IsLongest c.args.base c.args.end c.args.least_level c.args.x c.block_level-level.result c.min.result

@@ -1,10 +1,10 @@
 use Rattle.std.proofs.Common.{◌≡◌, ◌+◌, ◌∙◌, ap, true, false, refl, sym}
 use Rattle.rmm_model.specs.Space.{made}
 use Rattle.rmm_model.specs.declared.table.Table.{Table}
-use Rattle.rmm_model.proofs.Spaces.{made-contains}
+use Rattle.rmm_model.proofs.OneMoreInSpace.{made-contains}
 use Rattle.rtt_plan.specs.inside.Undone.{undone}
-use Rattle.rtt_plan.proofs.Undoing.{undone-made, undone-said}
-use Rattle.rtt_plan.proofs.Wants.{adding-end, adding-made, adding-new, adding-start}
+use Rattle.rtt_plan.proofs.TablesTakenBack.{undone-made, undone-said}
+use Rattle.rtt_plan.proofs.MissingTablesAdded.{adding-end, adding-made, adding-new, adding-start}
 use Rattle.rtt_plan.proofs.missing.push_missing.Goals.{then-not-contains+in_ok-push+in_ok-insert, else-not-contains}
 use Rattle.rtt_plan.proofs.missing.push_missing.Goals as goal
 

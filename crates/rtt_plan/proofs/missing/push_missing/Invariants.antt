@@ -1,6 +1,6 @@
 use Rattle.std.proofs.Common.{◌≡◌}
 use Rattle.rtt_plan.specs.inside.Undone.{undone}
-use Rattle.rtt_plan.proofs.Wants.{IsAdding}
+use Rattle.rtt_plan.proofs.MissingTablesAdded.{IsAdding}
 use Rattle.rtt_plan.proofs.missing.push_missing.Given as goal
 
 abbrev pub invariant-loop-above : goal.invariant-loop-above

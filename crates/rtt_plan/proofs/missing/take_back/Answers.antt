@@ -1,7 +1,7 @@
 use Rattle.std.proofs.Common.{◌++◌, ◌∙◌, [], ◌∷◌, ap, sym}
 use Rattle.rtt_plan.specs.declared.act.Act.{Act}
 use Rattle.rtt_plan.specs.inside.Undone.{undone}
-use Rattle.rtt_plan.proofs.Undoing.{undone-none, undone-other, undone-table}
+use Rattle.rtt_plan.proofs.TablesTakenBack.{undone-none, undone-other, undone-table}
 use Rattle.rtt_plan.proofs.missing.take_back.Goals as goal
 
 pub loop-act-preserved-in-Table : goal.loop-act-preserved-in-Table

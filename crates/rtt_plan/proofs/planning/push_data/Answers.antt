@@ -1,8 +1,8 @@
 use Rattle.std.proofs.Common.{◌∙◌, ap, arith}
-use Rattle.rtt_plan.proofs.Groups.{IsFirstGroup, first-group, no-pages}
-use Rattle.rtt_plan.proofs.Plans.{planning-group, planning-pages_end}
+use Rattle.rtt_plan.proofs.GroupsOfPages.{IsFirstGroup, first-group, no-pages}
+use Rattle.rtt_plan.proofs.ActsStepByStep.{planning-group, planning-pages_end}
 use Rattle.rtt_plan.specs.inside.Undone.{undone}
-use Rattle.rtt_plan.proofs.Undoing.{undone-pages}
+use Rattle.rtt_plan.proofs.TablesTakenBack.{undone-pages}
 use Rattle.rtt_plan.proofs.planning.push_data.Goals as goal
 
 pub loop-left-smaller : goal.loop-left-smaller

@@ -2,7 +2,7 @@ use Rattle.std.proofs.Common.{◌≡◌, ◌+◌, ◌*◌, ◌%◌, ◌≤◌, �
 use Rattle.rmm_model.specs.Blocks.{granules}
 use Rattle.rtt_plan.specs.Missing.{page_acts, page_tables}
 use Rattle.rtt_plan.specs.inside.Undone.{undone}
-use Rattle.rtt_plan.proofs.Plans.{IsPlanning}
+use Rattle.rtt_plan.proofs.ActsStepByStep.{IsPlanning}
 use Rattle.rtt_plan.proofs.planning.push_data.Given as goal
 
 abbrev pub invariant-loop-left : goal.invariant-loop-left

@@ -1,12 +1,12 @@
 use Rattle.std.proofs.Common.{◌≡◌, ◌-◌, ◌++◌, ◌∙◌, ap, arith, refl}
 use Rattle.rmm_model.specs.Space.{SameTables}
 use Rattle.rtt_plan.specs.Missing.{missing}
-use Rattle.rtt_plan.proofs.Fits.{first_fit-from}
-use Rattle.rtt_plan.proofs.Joins.{runs-end}
-use Rattle.rtt_plan.proofs.Plans.{planning-run, planning-runs_end, planning-start}
-use Rattle.rtt_plan.proofs.Steps.{at-base}
+use Rattle.rtt_plan.proofs.LargestBlocks.{first_fit-from}
+use Rattle.rtt_plan.proofs.GrowingRuns.{runs-end}
+use Rattle.rtt_plan.proofs.ActsStepByStep.{planning-run, planning-runs_end, planning-start}
+use Rattle.rtt_plan.proofs.EntryByEntry.{at-base}
 use Rattle.rtt_plan.specs.inside.Undone.{undone}
-use Rattle.rtt_plan.proofs.Undoing.{undone-run}
+use Rattle.rtt_plan.proofs.TablesTakenBack.{undone-run}
 use Rattle.rtt_plan.proofs.planning.push_region.Goals as goal
 
 pub loop-x-init : goal.loop-x-init

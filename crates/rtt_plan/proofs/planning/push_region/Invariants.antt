@@ -3,7 +3,7 @@ use Rattle.rtt_plan.specs.Places.{AtEntry}
 use Rattle.rtt_plan.specs.Runs.{runs_from, runs_of}
 use Rattle.rtt_plan.specs.Missing.{run_acts, run_tables}
 use Rattle.rtt_plan.specs.inside.Undone.{undone}
-use Rattle.rtt_plan.proofs.Plans.{IsPlanning}
+use Rattle.rtt_plan.proofs.ActsStepByStep.{IsPlanning}
 use Rattle.rtt_plan.proofs.planning.push_region.Given as goal
 
 abbrev pub invariant-loop-x : goal.invariant-loop-x

@@ -1,5 +1,5 @@
 use Rattle.std.proofs.Common.{◌+◌, ◌*◌, ◌∙◌, arith, sym}
-use Rattle.rtt_plan.proofs.Asking.{all-end, all-ram_to, all-stop}
+use Rattle.rtt_plan.proofs.AllPagesAreRam.{all-end, all-ram_to, all-stop}
 use Rattle.rtt_plan.proofs.questions.all_ram.Goals as goal
 
 pub loop-x-preserved : goal.loop-x-preserved

@@ -2,7 +2,7 @@ use Rattle.std.proofs.Common.{◌≡◌, ◌-◌, ◌%◌}
 use Rattle.std.specs.List.{list_all}
 use Rattle.rmm_model.specs.Blocks.{granules}
 use Rattle.rmm_model.specs.Space.{is_ram}
-use Rattle.rtt_plan.proofs.Asking.{pages_to}
+use Rattle.rtt_plan.proofs.AllPagesAreRam.{pages_to}
 use Rattle.rtt_plan.proofs.questions.all_ram.Given as goal
 
 abbrev pub invariant-loop-x : goal.invariant-loop-x

@@ -1,5 +1,5 @@
 use Rattle.std.proofs.Common.{◌∙◌}
-use Rattle.rtt_plan.proofs.Filled.{assigned-overlaps}
+use Rattle.rtt_plan.proofs.DataPagesAsRanges.{assigned-overlaps}
 use Rattle.rtt_plan.proofs.questions.any_assigned.Goals as goal
 
 pub returns : goal.returns

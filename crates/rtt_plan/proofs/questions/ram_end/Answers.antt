@@ -7,7 +7,7 @@ use Rattle.std.proofs.lemmas.Bool.Decides.{nat_tests}
 use Rattle.rmm_model.specs.Blocks.{is_multiple}
 use Rattle.rmm_model.specs.Space.{overlaps}
 use Rattle.rmm_model.proofs.LastMeets.{last-all, last-any, last-meets, last-passes, none-meets}
-use Rattle.rmm_model.proofs.Ranges.{no-ram}
+use Rattle.rmm_model.proofs.RangesOfRam.{no-ram}
 use Rattle.rtt_plan.proofs.questions.ram_end.Goals as goal
 
 -- the test of the range up to an address

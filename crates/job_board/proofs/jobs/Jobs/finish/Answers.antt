@@ -5,8 +5,8 @@ use Rattle.job_board.specs.Jobs.{CoreState, is_out, state_of, with_launch}
 use Rattle.job_board.specs.inside.Needs.{groups_of, needs_of}
 use Rattle.job_board.specs.inside.Reaches.{Waits}
 use Rattle.job_board.specs.inside.Lines.{passed_over}
-use Rattle.job_board.proofs.Lined.{done_passes, launches_stay, passed_grows, passed_write}
-use Rattle.job_board.proofs.Noted.{notes_write}
+use Rattle.job_board.proofs.LineOfReady.{done_passes, launches_stay, passed_grows, passed_write}
+use Rattle.job_board.proofs.NotesOfWorkers.{notes_write}
 use Rattle.job_board.proofs.jobs.Jobs.finish.Goals as goal
 
 pub invariant_of-self : goal.invariant_of-self

@@ -3,7 +3,7 @@ use Rattle.std.specs.Prelude.{◌==◌}
 use Rattle.job_board.specs.declared.job.JobId.TheVariants.{Launch}
 use Rattle.job_board.specs.Jobs.{CoreState, is_ready}
 use Rattle.job_board.specs.inside.Needs.{groups_of, needs_of}
-use Rattle.job_board.proofs.Indexed.{ready_index}
+use Rattle.job_board.proofs.ReadyByReaches.{ready_index}
 use Rattle.job_board.proofs.jobs.Jobs.is_launch_ready.Goals as goal
 
 pub returns : goal.returns

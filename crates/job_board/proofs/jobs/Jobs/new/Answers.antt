@@ -2,12 +2,12 @@ use Rattle.std.proofs.Common.{◌≡◌, ◌∙◌, ℕ, length, get_or, replica
 use Rattle.job_board.specs.declared.job.JobState.TheVariants.{Free}
 use Rattle.job_board.specs.inside.Needs.{groups_of, needs_of}
 use Rattle.job_board.specs.inside.Reaches.{AreGroups, all_of}
-use Rattle.job_board.proofs.Indexed.{start, waits_fresh}
+use Rattle.job_board.proofs.ReadyByReaches.{start, waits_fresh}
 use Rattle.job_board.specs.inside.Lines.{IsLine}
 use Rattle.std.specs.Prelude.{vec_capacity}
 use Rattle.std.proofs.lemmas.List.{length-replicate}
-use Rattle.job_board.proofs.Lined.{passed_none}
-use Rattle.job_board.proofs.Noted.{notes_fresh}
+use Rattle.job_board.proofs.LineOfReady.{passed_none}
+use Rattle.job_board.proofs.NotesOfWorkers.{notes_fresh}
 use Rattle.job_board.proofs.jobs.Jobs.new.Goals as goal
 
 pub all_left-requires : goal.all_left-requires

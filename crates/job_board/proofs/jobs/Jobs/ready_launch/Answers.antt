@@ -5,7 +5,7 @@ use Rattle.job_board.specs.declared.job.JobId.TheVariants.{Launch}
 use Rattle.job_board.specs.declared.job.JobState.TheVariants.{Free}
 use Rattle.job_board.specs.Jobs.{CoreState, is_ready}
 use Rattle.job_board.specs.inside.Needs.{groups_of, needs_of}
-use Rattle.job_board.proofs.Lined.{next_none, next_some}
+use Rattle.job_board.proofs.LineOfReady.{next_none, next_some}
 use Rattle.job_board.proofs.jobs.Jobs.ready_launch.Goals as goal
 
 pub returns-clause-some : goal.returns-clause-some

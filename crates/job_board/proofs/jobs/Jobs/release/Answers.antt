@@ -1,6 +1,6 @@
 use Rattle.std.proofs.Common.{◌≤◌, arith, ◌∙◌}
 use Rattle.job_board.specs.Jobs.{held_count}
-use Rattle.job_board.proofs.Noted.{released_none, released_one}
+use Rattle.job_board.proofs.NotesOfWorkers.{released_none, released_one}
 use Rattle.job_board.proofs.jobs.Jobs.release.Goals as goal
 
 pub returns-in-None : goal.returns-in-None

@@ -2,9 +2,9 @@ use Rattle.std.proofs.Common.{◌≡◌, ◌∙◌, false, sym, subst}
 use Rattle.job_board.specs.Jobs.{CoreState, is_out}
 use Rattle.job_board.specs.inside.Needs.{groups_of, needs_of}
 use Rattle.job_board.specs.inside.Notes.{Moves}
-use Rattle.job_board.proofs.Lined.{launches_stay, passed_write}
-use Rattle.job_board.proofs.Noted.{moved_from, notes_write}
-use Rattle.job_board.proofs.Waiting.{waits_write}
+use Rattle.job_board.proofs.LineOfReady.{launches_stay, passed_write}
+use Rattle.job_board.proofs.NotesOfWorkers.{moved_from, notes_write}
+use Rattle.job_board.proofs.WaitsAsJobsChange.{waits_write}
 use Rattle.job_board.proofs.jobs.Jobs.write.Goals as goal
 
 pub invariant_of-self : goal.invariant_of-self

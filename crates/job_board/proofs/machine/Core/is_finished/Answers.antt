@@ -2,7 +2,7 @@ use Rattle.std.proofs.Common.{◌≡◌, ◌∙◌, false, subst}
 use Rattle.std.specs.Prelude.{◌==◌}
 use Rattle.std.proofs.lemmas.Bool.{eq-eqb, ne_eqb}
 use Rattle.job_board.specs.Jobs.{CoreState, is_over}
-use Rattle.job_board.proofs.Marked.{finished_then, finished_else}
+use Rattle.job_board.proofs.CoreCounts.{finished_then, finished_else}
 use Rattle.job_board.proofs.machine.Core.is_finished.Goals as goal
 
 pub returns-then-self-eq0 : goal.returns-then-self-eq0

@@ -2,7 +2,7 @@ use Rattle.std.proofs.Common.{◌≡◌, Ok, subst}
 use Rattle.job_board.specs.declared.job.JobId.{JobId}
 use Rattle.job_board.specs.declared.job.Event.TheVariants.{Put}
 use Rattle.job_board.specs.Step.{core_step}
-use Rattle.job_board.proofs.Marked.{core_next, marks_put_page, marks_put_launch}
+use Rattle.job_board.proofs.CoreCounts.{core_next, marks_put_page, marks_put_launch}
 use Rattle.job_board.proofs.machine.Core.put.Goals as goal
 
 pub overflow_sub-self : goal.overflow_sub-self

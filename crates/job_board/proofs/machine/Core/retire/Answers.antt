@@ -1,5 +1,5 @@
 use Rattle.job_board.specs.declared.job.Event.TheVariants.{Retire}
-use Rattle.job_board.proofs.Marked.{core_next, held_is_job, marks_retire}
+use Rattle.job_board.proofs.CoreCounts.{core_next, held_is_job, marks_retire}
 use Rattle.job_board.proofs.machine.Core.retire.Goals as goal
 
 pub invariant_of-self-2 : goal.invariant_of-self-2

@@ -1,4 +1,4 @@
-use Rattle.job_board.proofs.Marked.{taken_kept}
+use Rattle.job_board.proofs.CoreCounts.{taken_kept}
 use Rattle.job_board.proofs.machine.Core.take.Goals as goal
 
 pub invariant_of-self : goal.invariant_of-self

@@ -1,5 +1,5 @@
 use Rattle.job_board.specs.inside.Needs.{needs_of}
-use Rattle.job_board.proofs.Marked.{core_fresh, marks_fresh}
+use Rattle.job_board.proofs.CoreCounts.{core_fresh, marks_fresh}
 use Rattle.job_board.proofs.machine.Core.with_needs.Goals as goal
 
 pub invariant_of-result : goal.invariant_of-result

@@ -1,7 +1,7 @@
 use Rattle.std.proofs.Common.{◌≡◌, ◌<◌, ◌≤◌, ◌∙◌, ℕ, List, Vec, Global, length, map, ap, subst, arith, rules}
 use Rattle.std.proofs.lemmas.List.{length-map, take_all, take_at}
 use Rattle.job_board.specs.inside.Reaches.{IsListed}
-use Rattle.job_board.proofs.Listing.{list_within, listed_needs, listed_step}
+use Rattle.job_board.proofs.GroupsOfListedNeeds.{list_within, listed_needs, listed_step}
 use Rattle.job_board.proofs.needs.Needs.listed.Goals as goal
 
 pub add_list-requires : goal.add_list-requires

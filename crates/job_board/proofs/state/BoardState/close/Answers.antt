@@ -6,8 +6,8 @@ use Rattle.page_jobs.specs.Page.{PageView, page_view}
 use Rattle.rim_chain.specs.Links.{PlanView}
 use Rattle.job_board.specs.Board.{AreValuesOf, BoardView}
 use Rattle.job_board.specs.Jobs.{is_over}
-use Rattle.job_board.proofs.Boards.{results_are}
-use Rattle.job_board.proofs.Ends.{over_count, over_given, over_values}
+use Rattle.job_board.proofs.EventsKeepBoards.{results_are}
+use Rattle.job_board.proofs.FinishedBoards.{over_count, over_given, over_values}
 use Rattle.job_board.proofs.state.BoardState.close.Goals as goal
 
 pub copy_values-requires-clause-size : goal.copy_values-requires-clause-size

@@ -4,17 +4,17 @@ use Rattle.std.proofs.lemmas.Option.{slice_get_within}
 use Rattle.page_jobs.specs.Page.{PageView}
 use Rattle.rim_chain.specs.Links.{PlanView, keys_of}
 use Rattle.job_board.specs.Tasks.{IsOwnRow}
-use Rattle.job_board.proofs.OwnRows.{own_row}
+use Rattle.job_board.proofs.RowsOfOwnPages.{own_row}
 use Rattle.job_board.specs.declared.job.Event.TheVariants.{Take}
 use Rattle.job_board.specs.declared.job.JobId.TheVariants.{Launch}
 use Rattle.job_board.specs.declared.job.JobState.TheVariants.{Free}
 use Rattle.job_board.specs.Board.{BoardView}
 use Rattle.job_board.specs.Step.{core_step}
-use Rattle.job_board.proofs.Histories.{history_room, same_most}
-use Rattle.job_board.proofs.Boards.{board_other, ready_filled}
-use Rattle.job_board.proofs.Kept.{take_says}
-use Rattle.job_board.proofs.BoardRows.{row_within, rows_take_launch}
-use Rattle.job_board.proofs.Noted.{held_counts}
+use Rattle.job_board.proofs.HistoryGoesOn.{history_room, same_most}
+use Rattle.job_board.proofs.EventsKeepBoards.{board_other, ready_filled}
+use Rattle.job_board.proofs.WhatStepsChange.{take_says}
+use Rattle.job_board.proofs.RowsOfWorkers.{row_within, rows_take_launch}
+use Rattle.job_board.proofs.NotesOfWorkers.{held_counts}
 use Rattle.job_board.specs.Jobs.{CoreState, held_count, is_out}
 use Rattle.job_board.specs.inside.Rows.{HasRows, IsSpare}
 use Rattle.page_jobs.specs.Row.{RowView}

@@ -7,10 +7,10 @@ use Rattle.job_board.specs.declared.job.JobId.TheVariants.{Page}
 use Rattle.job_board.specs.declared.job.JobState.TheVariants.{Free}
 use Rattle.job_board.specs.Board.{BoardView}
 use Rattle.job_board.specs.Step.{core_step}
-use Rattle.job_board.proofs.Histories.{history_room, same_most}
-use Rattle.job_board.proofs.Boards.{board_other}
-use Rattle.job_board.proofs.Kept.{take_says}
-use Rattle.job_board.proofs.BoardRows.{rows_take_page}
+use Rattle.job_board.proofs.HistoryGoesOn.{history_room, same_most}
+use Rattle.job_board.proofs.EventsKeepBoards.{board_other}
+use Rattle.job_board.proofs.WhatStepsChange.{take_says}
+use Rattle.job_board.proofs.RowsOfWorkers.{rows_take_page}
 use Rattle.job_board.proofs.state.BoardState.give_page.Goals as goal
 
 pub push_reserved-requires : goal.push_reserved-requires

@@ -6,8 +6,8 @@ use Rattle.job_board.specs.declared.job.JobState.TheVariants.{Free}
 use Rattle.job_board.specs.Jobs.{opening}
 use Rattle.job_board.specs.History.{most_events}
 use Rattle.job_board.specs.inside.Needs.{needs_of}
-use Rattle.job_board.proofs.Fresh.{board_new, rows_new}
-use Rattle.job_board.proofs.Marked.{core_fresh}
+use Rattle.job_board.proofs.NewBoards.{board_new, rows_new}
+use Rattle.job_board.proofs.CoreCounts.{core_fresh}
 use Rattle.job_board.proofs.state.BoardState.new.Goals as goal
 
 pub invariant_of-result : goal.invariant_of-result

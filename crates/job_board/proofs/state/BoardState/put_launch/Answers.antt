@@ -17,11 +17,11 @@ use Rattle.job_board.specs.Step.{core_step}
 use Rattle.job_board.specs.Tasks.{IsOwnRow, IsRoomy}
 use Rattle.job_board.specs.inside.Rows.{IsSpare}
 use Rattle.page_jobs.specs.Row.{RowView}
-use Rattle.job_board.proofs.Histories.{history_room, same_most}
-use Rattle.job_board.proofs.Boards.{board_put_launch, held_filled, results_are, value_is}
-use Rattle.job_board.proofs.Kept.{put_says}
-use Rattle.job_board.proofs.BoardRows.{rows_put_launch}
-use Rattle.job_board.proofs.OwnRows.{row_of_own}
+use Rattle.job_board.proofs.HistoryGoesOn.{history_room, same_most}
+use Rattle.job_board.proofs.EventsKeepBoards.{board_put_launch, held_filled, results_are, value_is}
+use Rattle.job_board.proofs.WhatStepsChange.{put_says}
+use Rattle.job_board.proofs.RowsOfWorkers.{rows_put_launch}
+use Rattle.job_board.proofs.RowsOfOwnPages.{row_of_own}
 use Rattle.rim_chain.proofs.KnownPrefixes.{own-checkpoints}
 use Rattle.job_board.proofs.state.BoardState.put_launch.Goals as goal
 

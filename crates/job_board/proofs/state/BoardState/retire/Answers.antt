@@ -2,9 +2,9 @@ use Rattle.std.proofs.Common.{◌≡◌, Ok, arith, refl}
 use Rattle.job_board.specs.declared.job.Event.TheVariants.{Retire}
 use Rattle.job_board.specs.Board.{BoardView}
 use Rattle.job_board.specs.Step.{core_step}
-use Rattle.job_board.proofs.Histories.{history_room, same_most}
-use Rattle.job_board.proofs.Boards.{board_other}
-use Rattle.job_board.proofs.BoardRows.{rows_retire}
+use Rattle.job_board.proofs.HistoryGoesOn.{history_room, same_most}
+use Rattle.job_board.proofs.EventsKeepBoards.{board_other}
+use Rattle.job_board.proofs.RowsOfWorkers.{rows_retire}
 use Rattle.job_board.proofs.state.BoardState.retire.Goals as goal
 
 pub push_reserved-requires : goal.push_reserved-requires

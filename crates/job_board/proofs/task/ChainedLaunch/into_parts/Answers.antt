@@ -1,6 +1,6 @@
 use Rattle.std.proofs.Common.{ℕ, subst, sym}
 use Rattle.job_board.specs.Tasks.{IsOwnValue}
-use Rattle.job_board.proofs.OwnRows.{own_value}
+use Rattle.job_board.proofs.RowsOfOwnPages.{own_value}
 use Rattle.job_board.proofs.task.ChainedLaunch.into_parts.Goals as goal
 
 pub invariant_of-result : goal.invariant_of-result

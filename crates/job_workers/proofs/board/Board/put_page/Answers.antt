@@ -1,4 +1,4 @@
-use Rattle.job_workers.proofs.Putting.{puts}
+use Rattle.job_workers.proofs.PutsTakenOrNot.{puts}
 use Rattle.job_workers.proofs.board.Board.put_page.Goals as goal
 
 pub returns-then-is_ok-clause-found : goal.returns-then-is_ok-clause-found

@@ -1,4 +1,4 @@
-use Rattle.page_jobs.proofs.Contents.{contents-page_bytes}
+use Rattle.page_jobs.proofs.BytesOfPages.{contents-page_bytes}
 use Rattle.page_jobs.proofs.page.Blob.page.Goals as goal
 
 pub returns-clause-contents : goal.returns-clause-contents

@@ -1,5 +1,5 @@
 use Rattle.std.proofs.Common.{◌∙◌, sym}
-use Rattle.page_jobs.proofs.Slots.{own-at}
+use Rattle.page_jobs.proofs.OneMoreDigest.{own-at}
 use Rattle.page_jobs.proofs.table.Table.get.Goals as goal
 
 pub returns-clause-own : goal.returns-clause-own

@@ -6,7 +6,7 @@ use Rattle.page_jobs.specs.Page.{page_view}
 use Rattle.page_jobs.specs.Table.{TableView, page_keys_of, slot_of}
 use Rattle.page_jobs.specs.declared.page.Page.{Page}
 use Rattle.page_jobs.specs.declared.page.PageKey.{PageKey}
-use Rattle.page_jobs.proofs.Keys.{slot-page}
+use Rattle.page_jobs.proofs.SearchByKey.{slot-page}
 use Rattle.page_jobs.proofs.table.Table.has_key.Goals as goal
 
 slot-at : (pages : List Page) (slot : ℕ) (page : Page) (key : PageKey) → IsRising (page_keys_of (map page_view pages)) → slot < length pages

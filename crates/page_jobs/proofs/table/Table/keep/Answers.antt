@@ -3,7 +3,7 @@ use Rattle.std.specs.Prelude.{slice_get}
 use Rattle.std.proofs.lemmas.Option.{slice_get_within}
 use Rattle.page_jobs.specs.Page.{page_view}
 use Rattle.page_jobs.specs.Table.{TableView}
-use Rattle.page_jobs.proofs.Slots.{filled_table}
+use Rattle.page_jobs.proofs.OneMoreDigest.{filled_table}
 use Rattle.page_jobs.proofs.table.Table.keep.Goals as goal
 
 pub index_mut-requires : goal.index_mut-requires

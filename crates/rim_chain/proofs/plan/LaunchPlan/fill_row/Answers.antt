@@ -2,7 +2,7 @@ use Rattle.rim_chain.specs.Links.{keys_of}
 use Rattle.std.proofs.Common.{arith, refl}
 use Rattle.rim_chain.specs.declared.link.Link.TheVariants as link
 use Rattle.std.proofs.lemmas.List.{take_all}
-use Rattle.rim_chain.proofs.Rows.{part-missing, row-length, row-room}
+use Rattle.rim_chain.proofs.RowsLinkByLink.{part-missing, row-length, row-room}
 use Rattle.rim_chain.proofs.plan.LaunchPlan.fill_row.Goals as goal
 
 pub push_digests-requires-clause-room : goal.push_digests-requires-clause-room

@@ -1,5 +1,5 @@
 use Rattle.std.proofs.Common.{refl}
-use Rattle.rim_chain.proofs.Keys.{count-past, further, here}
+use Rattle.rim_chain.proofs.KeysByPlace.{count-past, further, here}
 use Rattle.rim_chain.proofs.plan.LaunchPlan.key.Goals as goal
 
 pub returns-in-Some : goal.returns-in-Some

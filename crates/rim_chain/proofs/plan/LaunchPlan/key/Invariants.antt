@@ -1,6 +1,6 @@
 use Rattle.std.specs.List.{slice_get}
 use Rattle.rim_chain.specs.Links.{keys_of}
-use Rattle.rim_chain.proofs.Keys.{IsFurther}
+use Rattle.rim_chain.proofs.KeysByPlace.{IsFurther}
 use Rattle.rim_chain.proofs.plan.LaunchPlan.key.Given as goal
 
 abbrev pub invariant-loop-link : goal.invariant-loop-link

@@ -1,7 +1,7 @@
 use Rattle.std.proofs.Common.{arith}
-use Rattle.rim_chain.proofs.Begins.{steps-begin}
-use Rattle.rim_chain.proofs.Readable.{listed-readable, least-low}
-use Rattle.rim_chain.proofs.ReadParts.{read-of}
+use Rattle.rim_chain.proofs.LinksBeginItems.{steps-begin}
+use Rattle.rim_chain.proofs.ListedCanBeRead.{listed-readable, least-low}
+use Rattle.rim_chain.proofs.KeysAndPartsOfLinks.{read-of}
 use Rattle.rim_chain.proofs.plan.LaunchPlan.of_launch.Goals as goal
 
 pub push_steps-requires-clause-readable : goal.push_steps-requires-clause-readable

@@ -1,6 +1,6 @@
 use Rattle.std.proofs.Common.{rules}
 use Rattle.std.proofs.lemmas.List.Folds.{list_all-append}
-use Rattle.rim_check.proofs.Plain.{plain-inside}
+use Rattle.rim_check.proofs.PlainBytes.{plain-inside}
 use Rattle.rim_check.proofs.line.Line.push_plain.Goals as goal
 
 pub invariant_of-self : goal.invariant_of-self

@@ -1,4 +1,4 @@
-use Rattle.rim_manifest.proofs.Answering.{document_read, document_refused}
+use Rattle.rim_manifest.proofs.ReadStepByStep.{document_read, document_refused}
 use Rattle.rim_manifest.proofs.document.Document.read.Goals as goal
 
 pub returns-in-Ok-clause-document : goal.returns-in-Ok-clause-document

@@ -6,7 +6,7 @@ use Rattle.ipa_layout.specs.declared.placed.PlacedItem.{PlacedItem}
 use Rattle.ipa_layout.specs.Files.{bytes_of_files}
 use Rattle.page_jobs.specs.Page.{PageView, digest_of, page_view}
 use Rattle.page_jobs.specs.declared.page.Page.{Page}
-use Rattle.rim_chain.proofs.Own.{lead-low}
+use Rattle.rim_chain.proofs.ChainsOfOwnPages.{lead-low}
 use Rattle.rim_release.proofs.ListedPages.{content-is, item-there, page-low}
 use Rattle.rim_release.proofs.commands.LaunchCommands.content_of.Goals as goal
 

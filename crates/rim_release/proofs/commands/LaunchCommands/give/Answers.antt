@@ -2,7 +2,7 @@ use Rattle.std.proofs.Common.{◌≡◌, ◌∙◌, ap, subst}
 use Rattle.std.specs.Prelude.{Ok, is_ok}
 use Rattle.rmm_model.specs.State.{State}
 use Rattle.rmm_model.specs.Step.{step}
-use Rattle.rim_release.proofs.Followed.{given, never-refused, only-memory}
+use Rattle.rim_release.proofs.MonitorFollows.{given, never-refused, only-memory}
 use Rattle.rim_release.proofs.commands.LaunchCommands.give.Goals as goal
 
 pub want_of_memory-requires : goal.want_of_memory-requires

@@ -1,4 +1,4 @@
-use Rattle.rim_release.proofs.Followed.{has-rim}
+use Rattle.rim_release.proofs.MonitorFollows.{has-rim}
 use Rattle.rim_release.proofs.commands.LaunchCommands.rim.Goals as goal
 
 pub unreachable-requires : goal.unreachable-requires

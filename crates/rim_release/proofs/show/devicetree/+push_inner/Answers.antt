@@ -3,7 +3,7 @@ use Rattle.std.specs.List.{flat_map}
 use Rattle.fdt_tree.specs.NodeViews.{property_data}
 use Rattle.fdt_tree.specs.declared.node.Node.TheViews.{out-Node}
 use Rattle.rim_release.specs.ShownDevicetree.{node_line, path_below, property_line}
-use Rattle.rim_release.proofs.Nodes.{all_told, child_step, cut_back, none_yet}
+use Rattle.rim_release.proofs.TextsOfNodes.{all_told, child_step, cut_back, none_yet}
 use Rattle.rim_release.proofs.show.devicetree.+push_inner.Goals as goal
 
 pub loop-child-init : goal.loop-child-init

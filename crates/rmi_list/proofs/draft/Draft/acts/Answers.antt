@@ -4,7 +4,7 @@ use Rattle.std.proofs.lemmas.Result.{err_from_is_err_and}
 use Rattle.rtt_plan.specs.declared.act.Act.TheVariants.{Table}
 use Rattle.list_model.specs.inside.Acts.{act_entries, pages_in}
 use Rattle.rmi_list.specs.inside.Acts.{item_of}
-use Rattle.rmi_list.proofs.Growing.{act_here, acts_left, going-ends, going-on, going-refused, going-starts, next-act, room-here}
+use Rattle.rmi_list.proofs.EntryByEntry.{act_here, acts_left, going-ends, going-on, going-refused, going-starts, next-act, room-here}
 use Rattle.rmi_list.proofs.draft.Draft.acts.Goals as goal
 
 pub loop-act-init : goal.loop-act-init

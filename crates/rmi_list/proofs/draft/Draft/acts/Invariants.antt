@@ -1,8 +1,8 @@
 use Rattle.std.proofs.Common.{drop}
 use Rattle.list_model.specs.inside.Acts.{act_entries}
 use Rattle.rmi_list.specs.inside.Acts.{HaveRoom, item_of}
-use Rattle.rmi_list.proofs.Growing.{Going}
-use Rattle.rmi_list.proofs.Growing.{acts_left, pool_of}
+use Rattle.rmi_list.proofs.EntryByEntry.{Going}
+use Rattle.rmi_list.proofs.EntryByEntry.{acts_left, pool_of}
 use Rattle.rmi_list.proofs.draft.Draft.acts.Given as goal
 
 abbrev pub invariant-loop-act : goal.invariant-loop-act

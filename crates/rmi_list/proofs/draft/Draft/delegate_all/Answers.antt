@@ -1,7 +1,7 @@
 use Rattle.std.proofs.Common.{◌≡◌, ◌-◌, ◌+◌, ap, arith}
 use Rattle.std.proofs.lemmas.Result.{err_from_is_err_and}
 use Rattle.list_model.specs.Entries.{delegate_all}
-use Rattle.rmi_list.proofs.Growing.{delegation, delegations_left, going-ends, going-on, going-refused, going-starts, next-delegation, no-granules}
+use Rattle.rmi_list.proofs.EntryByEntry.{delegation, delegations_left, going-ends, going-on, going-refused, going-starts, next-delegation, no-granules}
 use Rattle.rmi_list.proofs.draft.Draft.delegate_all.Goals as goal
 
 pub loop-init : goal.loop-init

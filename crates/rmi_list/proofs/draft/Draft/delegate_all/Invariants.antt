@@ -1,7 +1,7 @@
 use Rattle.rmm_model.specs.Blocks.{granules}
 use Rattle.list_model.specs.Entries.{delegate_all, granule}
-use Rattle.rmi_list.proofs.Growing.{Going}
-use Rattle.rmi_list.proofs.Growing.{delegations_left, pool_of}
+use Rattle.rmi_list.proofs.EntryByEntry.{Going}
+use Rattle.rmi_list.proofs.EntryByEntry.{delegations_left, pool_of}
 use Rattle.rmi_list.proofs.draft.Draft.delegate_all.Given as goal
 
 abbrev pub invariant-loop : goal.invariant-loop

@@ -1,9 +1,9 @@
 use Rattle.std.proofs.Common.{◌≡◌, ◌∙◌, arith, false, true, eqb}
 use Rattle.std.proofs.lemmas.Bool.Decides.{nat_tests}
 use Rattle.std.proofs.lemmas.Result.{err_from_is_err_and}
-use Rattle.rtt_plan.proofs.Accepted.{data-planned}
+use Rattle.rtt_plan.proofs.AcceptedCalls.{data-planned}
 use Rattle.rmi_list.specs.Measured.{page_base}
-use Rattle.rmi_list.proofs.Stepping.{item-continues, item-idle, item-refused, pages-room}
+use Rattle.rmi_list.proofs.StepsAreListed.{item-continues, item-idle, item-refused, pages-room}
 use Rattle.rmi_list.proofs.draft.Draft.item.Goals as goal
 
 pub returns-then-item-eq0 : goal.returns-then-item-eq0

@@ -4,8 +4,8 @@ use Rattle.rmm_model.specs.Blocks.{granules}
 use Rattle.list_model.specs.Entries.{delegated}
 use Rattle.list_model.specs.inside.Acts.{entries_of_pages}
 use Rattle.rmi_list.specs.inside.Drafts.{entries_in}
-use Rattle.rmi_list.proofs.Growing.{pool_of}
-use Rattle.rmi_list.proofs.Spans.{granules-of_pages, no-page, one-more, spans-more}
+use Rattle.rmi_list.proofs.EntryByEntry.{pool_of}
+use Rattle.rmi_list.proofs.CommandsOfSpans.{granules-of_pages, no-page, one-more, spans-more}
 use Rattle.rim_launch.specs.Realm.{realm_params}
 use Rattle.rim_launch.specs.declared.config.Config.{Config}
 use Rattle.rmi_list.proofs.draft.Draft.pages.Goals as goal

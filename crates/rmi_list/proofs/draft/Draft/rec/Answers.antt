@@ -1,8 +1,8 @@
 use Rattle.std.proofs.Common.{inr, ◌++◌}
 use Rattle.std.proofs.lemmas.Result.{err_from_is_err_and}
 use Rattle.rmi_list.specs.inside.Drafts.{Grows}
-use Rattle.rmi_list.proofs.Growing.{Refuses}
-use Rattle.rmi_list.proofs.Stepping.{aux-same, aux_granules, grows-then, own_granule, rec-makes, rec-not-runnable, rec-out-of-order, rec-refused, rec-same, rec_itself, refused-first, refused-later}
+use Rattle.rmi_list.proofs.EntryByEntry.{Refuses}
+use Rattle.rmi_list.proofs.StepsAreListed.{aux-same, aux_granules, grows-then, own_granule, rec-makes, rec-not-runnable, rec-out-of-order, rec-refused, rec-same, rec_itself, refused-first, refused-later}
 use Rattle.rmi_list.proofs.draft.Draft.rec.Goals as goal
 
 pub returns-then-number-self : goal.returns-then-number-self

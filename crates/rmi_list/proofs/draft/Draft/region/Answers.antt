@@ -1,5 +1,5 @@
 use Rattle.std.proofs.lemmas.Result.{err_from_is_err_and}
-use Rattle.rmi_list.proofs.Stepping.{no-room, region-continues, region-refused}
+use Rattle.rmi_list.proofs.StepsAreListed.{no-room, region-continues, region-refused}
 use Rattle.rmi_list.proofs.draft.Draft.region.Goals as goal
 
 pub returns-in_err-acts : goal.returns-in_err-acts

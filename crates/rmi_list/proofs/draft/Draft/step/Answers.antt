@@ -1,7 +1,7 @@
 use Rattle.std.proofs.Common.{◌≡◌, ◌∙◌, ap, sym}
 use Rattle.std.specs.Prelude.{Some, None, slice_get}
 use Rattle.std.proofs.lemmas.Option.{slice_get_past}
-use Rattle.rmi_list.proofs.Stepping.{found-at, nothing-named}
+use Rattle.rmi_list.proofs.StepsAreListed.{found-at, nothing-named}
 use Rattle.rmi_list.proofs.draft.Draft.step.Goals as goal
 
 pub returns-in-None : goal.returns-in-None

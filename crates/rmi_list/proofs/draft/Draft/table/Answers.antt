@@ -1,4 +1,4 @@
-use Rattle.rmi_list.proofs.Spans.{table-lists}
+use Rattle.rmi_list.proofs.CommandsOfSpans.{table-lists}
 use Rattle.rmi_list.proofs.draft.Draft.table.Goals as goal
 
 pub returns : goal.returns

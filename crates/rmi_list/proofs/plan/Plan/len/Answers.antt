@@ -1,5 +1,5 @@
 use Rattle.std.proofs.Common.{◌≡◌, ◌+◌, ◌<◌, ◌∙◌, ap, arith, get_or, length}
-use Rattle.rmi_list.proofs.Spans.{any-default, last-start}
+use Rattle.rmi_list.proofs.CommandsOfSpans.{any-default, last-start}
 use Rattle.rmi_list.proofs.plan.Plan.len.Goals as goal
 
 pub returns : goal.returns

@@ -1,6 +1,6 @@
 use Rattle.std.proofs.Common.{arith}
 use Rattle.rim_launch.specs.Realm.{realm_params}
-use Rattle.rmi_list.proofs.Spans.{few-of}
+use Rattle.rmi_list.proofs.CommandsOfSpans.{few-of}
 use Rattle.rmi_list.proofs.plan.Plan.of.Goals as goal
 
 pub number-requires : goal.number-requires

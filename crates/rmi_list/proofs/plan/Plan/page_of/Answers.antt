@@ -2,7 +2,7 @@ use Rattle.std.proofs.Common.{◌≡◌, ◌+◌, ◌-◌, ◌<◌, ◌≤◌, �
 use Rattle.std.specs.Prelude.{option_and_then, slice_get}
 use Rattle.list_model.specs.Entries.{page_of}
 use Rattle.rmi_list.specs.inside.Spans.{entries_of_span}
-use Rattle.rmi_list.proofs.Spans.{any-default, below-last, found-span}
+use Rattle.rmi_list.proofs.CommandsOfSpans.{any-default, below-last, found-span}
 use Rattle.rmi_list.proofs.plan.Plan.page_of.Goals as goal
 
 pub span_at-at-requires-clause-last : goal.span_at-at-requires-clause-last

@@ -2,7 +2,7 @@ use Rattle.std.proofs.Common.{◌≡◌, ◌∙◌, ◌<◌, ◌-◌, ◌/◌, s
 use Rattle.std.proofs.lemmas.Grind.{common_steps}
 use Rattle.rmm_model.specs.Blocks.{size}
 use Rattle.rmm_model.specs.Checks.{is_cut, walk_of}
-use Rattle.rmm_monitor.proofs.Stretches.{count-some, measured-stretches}
+use Rattle.rmm_monitor.proofs.StretchesBecomeRam.{count-some, measured-stretches}
 use Rattle.rmm_monitor.proofs.monitor.Monitor.init_ripas.Goals as goal
 
 pub returns : goal.returns

@@ -1,5 +1,5 @@
 use Rattle.std.proofs.Common.{take}
-use Rattle.rmm_monitor.proofs.Gifts.{all_owned-give}
+use Rattle.rmm_monitor.proofs.KindsGivenInTurn.{all_owned-give}
 use Rattle.rmm_monitor.proofs.monitor.Monitor.realm_create.Goals as goal
 
 pub give_all-requires : goal.give_all-requires

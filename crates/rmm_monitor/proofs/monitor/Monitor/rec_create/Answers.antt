@@ -1,6 +1,6 @@
 use Rattle.std.proofs.Common.{arith}
 use Rattle.std.proofs.lemmas.Grind.{common_steps}
-use Rattle.rmm_monitor.proofs.Gifts.{all_owned-give}
+use Rattle.rmm_monitor.proofs.KindsGivenInTurn.{all_owned-give}
 use Rattle.rmm_monitor.proofs.monitor.Monitor.rec_create.Goals as goal
 
 pub give_all-requires : goal.give_all-requires

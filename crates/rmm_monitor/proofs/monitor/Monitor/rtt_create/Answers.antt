@@ -1,7 +1,7 @@
 use Rattle.std.proofs.lemmas.Grind.{common_steps}
 use Rattle.std.proofs.Common.{◌≡◌, ◌-◌, ◌<◌, ◌≤◌, ◌%◌, ℕ, suc, arith}
 use Rattle.rmm_model.specs.Blocks.{down, size, span}
-use Rattle.rmm_model.proofs.Blocks.{down-multiple, size-pos, span-size}
+use Rattle.rmm_model.proofs.BlockArithmetic.{down-multiple, size-pos, span-size}
 use Rattle.rmm_monitor.proofs.monitor.Monitor.rtt_create.Goals as goal
 
 -- a multiple of an entry one level above is the first address that a table covers

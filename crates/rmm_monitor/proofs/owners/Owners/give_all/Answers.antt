@@ -1,5 +1,5 @@
 use Rattle.std.proofs.Common.{◌+◌, ◌∙◌, sym, drop, get_or, arith}
-use Rattle.rmm_monitor.proofs.Gifts.{all_owned-give, all_owned-next, give_all-end, give_all-next}
+use Rattle.rmm_monitor.proofs.KindsGivenInTurn.{all_owned-give, all_owned-next, give_all-end, give_all-next}
 use Rattle.rmm_monitor.proofs.owners.Owners.give_all.Goals as goal
 
 pub give-requires : goal.give-requires

@@ -2,10 +2,10 @@ use Rattle.std.proofs.Common.{◌≡◌, ◌+◌, ◌*◌, ◌∙◌, arith, sym
 use Rattle.rmm_model.specs.Blocks.{granules}
 use Rattle.rmm_model.specs.Space.{has, overlaps}
 use Rattle.rmm_model.proofs.LastMeets.{apart-insert}
-use Rattle.rmm_model.proofs.Same.{placed-alike}
+use Rattle.rmm_model.proofs.SameSpaces.{placed-alike}
 use Rattle.rtt_plan.specs.inside.PageRanges.{pages_of}
-use Rattle.rtt_plan.proofs.Filled.{assigned-overlaps}
-use Rattle.rtt_plan.proofs.Kept.{pages-placed}
+use Rattle.rtt_plan.proofs.DataPagesAsRanges.{assigned-overlaps}
+use Rattle.rtt_plan.proofs.PlansStayFormed.{pages-placed}
 use Rattle.rtt_plan.proofs.OneMoreRange.{assigned-more, pages-more}
 use Rattle.rtt_plan.proofs.tables.Tables.data_pages.Goals as goal
 

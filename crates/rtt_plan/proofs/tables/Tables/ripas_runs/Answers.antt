@@ -1,10 +1,10 @@
 use Rattle.std.proofs.Common.{◌≡◌, ◌∙◌, ap, arith, false, refl, sym}
 use Rattle.rmm_model.specs.Space.{is_ram, overlaps}
 use Rattle.rmm_model.proofs.LastMeets.{apart-insert}
-use Rattle.rmm_model.proofs.Same.{placed-alike}
-use Rattle.rtt_plan.proofs.Fits.{whole-region}
-use Rattle.rtt_plan.proofs.Following.{region-runs}
-use Rattle.rtt_plan.proofs.Kept.{runs-placed}
+use Rattle.rmm_model.proofs.SameSpaces.{placed-alike}
+use Rattle.rtt_plan.proofs.LargestBlocks.{whole-region}
+use Rattle.rtt_plan.proofs.RunsCoverRegion.{region-runs}
+use Rattle.rtt_plan.proofs.PlansStayFormed.{runs-placed}
 use Rattle.rtt_plan.proofs.OneMoreRange.{overlaps-more, pages-more, ram-more}
 use Rattle.rtt_plan.proofs.tables.Tables.ripas_runs.Goals as goal
 

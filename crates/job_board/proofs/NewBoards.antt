@@ -1,0 +1,60 @@
+-- A new board keeps what every board keeps, and has its rows.
+use Rattle.std.proofs.Common.{◌≡◌, ◌<◌, ◌≤◌, ℕ, zero, suc, Bool, false, cond, List, [], ◌∷◌, length, map, replicate, Option, Some, None, refl, sym, ap, ◌∙◌, arith}
+use Rattle.std.specs.Prelude.{is_some}
+use Rattle.std.specs.List.{slice_get}
+use Rattle.std.proofs.lemmas.List.{length-replicate}
+use Rattle.std.proofs.lemmas.Option.{slice_get_within}
+use Rattle.rim_desc.specs.declared.measurement.Measurement.{Measurement}
+use Rattle.page_jobs.specs.Row.{RowView}
+use Rattle.page_jobs.specs.Table.{IsTable, TableView}
+use Rattle.rim_chain.specs.Links.{PlanView, keys_of}
+use Rattle.job_board.specs.declared.job.JobState.TheVariants.{Free}
+use Rattle.job_board.specs.Jobs.{IsCore, is_done, opening}
+use Rattle.job_board.specs.Board.{IsBoard, NeedsOwn}
+use Rattle.job_board.specs.inside.Rows.{HasRows}
+use Rattle.job_board.proofs.OneJobChanges.{not_out}
+use Rattle.job_board.proofs.CountsOfJobs.{sum_by-replicate_zero}
+use Rattle.job_board.proofs.HistoryGoesOn.{history_empty}
+
+pub rows_new : (workers pages : ℕ) (needs : List (List ℕ)) (plans : List PlanView) (rows : List (Option RowView)) (room : ℕ) → length rows ≡ workers
+    → ((w : ℕ) → w < workers → (r : RowView) × (slice_get rows w ≡ Some (Some r)) × (r.digests ≡ []) × (r.room ≡ room))
+    → ((l : ℕ) (p : PlanView) → slice_get plans l ≡ Some p → length (keys_of p.links) ≤ room)
+    → HasRows (opening workers pages needs) plans rows room
+rows_new workers pages needs plans rows room size there most = record {
+  size = size ∙ sym (length-replicate workers false);
+  there = λ w known none.
+      let within = slice_get_within (replicate workers false) w false (not_out (opening workers pages needs) w known) in
+      let r = there w (omega (arith, within, length-replicate workers false)) in
+      (r.0, r.1, r.2, λ l p at. let few = most l p at in let same = r.3 in omega (arith, few, same));
+  most = most;
+}
+
+-- ---- the board
+
+abbrev no_digest : ℕ → Option Measurement
+no_digest n = None
+
+none_filled : (n : ℕ) → map is_some (replicate n (no_digest n)) ≡ map is_done (replicate n Free)
+none_filled zero = refl
+none_filled (suc n) = ap (λ (bs : List Bool). false ∷ bs) (none_filled n)
+
+none_there : (n l : ℕ) (m : Measurement) → slice_get (replicate n (no_digest n)) l ≡ Some (Some m) → ⊥
+none_there zero l m at = cc
+none_there (suc n) zero m at = cc
+none_there (suc n) (suc l) m at = none_there n l m at
+
+pub board_new : (workers : ℕ) (t : TableView) (plans : List PlanView) (needs : List (List ℕ)) → IsCore (opening workers (length t.pages) needs) → IsTable t → t.digests ≡ replicate (length t.pages) None
+    → NeedsOwn t plans needs
+    → IsBoard (record { core = opening workers (length t.pages) needs; history = []; table = t; plans = plans; results = replicate (length plans) None; book = 0 })
+board_new workers t plans needs core table empty own = record {
+  core = core;
+  history = history_empty workers (length t.pages) needs;
+  table = table;
+  slots = sym (length-replicate (length t.pages) Free);
+  filled = ap (map is_some) empty ∙ none_filled (length t.pages);
+  booked = sum_by-replicate_zero (λ x. cond (is_done x) 1 0) (length t.pages) Free refl;
+  plans = omega (arith, own.size, length-replicate (length needs) Free);
+  needs = own.all;
+  given = none_filled (length plans) ∙ ap (λ (n : ℕ). map is_done (replicate n Free)) (sym own.size);
+  own = λ l p m plan at. absurd (none_there (length plans) l m at);
+}

@@ -1,0 +1,182 @@
+-- A command comes back from its words, so no two commands have the same line.
+use Rattle.std.proofs.Common.{◌≡◌, ℕ, zero, suc, ◌^◌, ◌<◌, cond, List, [], ◌∷◌, ◌++◌, length, map, take, drop, get_or, refl, sym, ap, ◌∙◌, arith, codes, Option, Some, None}
+use Rattle.std.proofs.Math.Seq.{drop-append_seam, take-append_seam}
+use Rattle.std.proofs.lemmas.Fmt.{decimal_is_IsNumeral}
+use Rattle.std.proofs.lemmas.List.{length-map}
+use Rattle.std.proofs.lemmas.List.Elements.{All-tail}
+use Rattle.std.proofs.lemmas.Nat.{from_be_bytes-to_be_bytes_8}
+use Rattle.std.specs.Fmt.{decimal}
+use Rattle.std.specs.Int.{bytes_high_first, from_be_bytes, to_be_bytes, w64}
+use Rattle.std.specs.List.{slice_split}
+use Rattle.std.specs.Prelude.{◌==◌}
+use Rattle.std.specs.Result.{result_unwrap_or}
+use Rattle.std.specs.Str.{bytes_eq}
+use Rattle.std.specs.Str.Parse.{digits_value}
+use Rattle.hex.specs.Hex.{IsBytes, decode_of, encode_lower}
+use Rattle.hex.proofs.HexLemmas.{decode_of-encode_lower}
+use Rattle.rim_desc.specs.Number.{digits_of}
+use Rattle.rim_desc.specs.Rec.{RecData}
+use Rattle.rim_desc.specs.declared.command.Command.{Command}
+use Rattle.rim_desc.specs.declared.command.Command.TheVariants.{Delegate, RealmCreate, RttCreate, InitRipas, DataCreate, RecCreate, Activate}
+use Rattle.rim_desc.specs.declared.measurement.Algo.{Algo}
+use Rattle.rim_desc.specs.declared.measurement.Algo.TheVariants.{Sha256, Sha512}
+use Rattle.rim_desc.specs.declared.measurement.Measurement.{Measurement}
+use Rattle.rim_desc.specs.declared.realm.RealmParams.{RealmParams}
+use Rattle.rmi_line.specs.Line.{content_words, line_of, realm_words, rec_words, words_of}
+use Rattle.rmi_line.specs.inside.Typed.{FitBytes, FitWords, IsTyped, content_bytes}
+use Rattle.rmi_line.proofs.SpacesPartWords.{line_of-split}
+use Rattle.rim_desc.specs.Measurement.{algo_word}
+
+-- ---- what words say
+
+bytes_said : List ℕ → List ℕ
+bytes_said word = result_unwrap_or (decode_of word) []
+
+address_said : List ℕ → ℕ
+address_said word = from_be_bytes w64 (bytes_said word)
+
+number_said : List ℕ → ℕ
+number_said word = digits_value 10 word
+
+algo_said : List ℕ → Algo
+algo_said word = cond (bytes_eq word (codes "sha256")) Sha256 Sha512
+
+abbrev at : List (List ℕ) → ℕ → List ℕ
+at words k = get_or words k []
+
+content_said : List (List ℕ) → Option Measurement
+content_said words = cond (bytes_eq (at words 0) (codes "measured")) (Some (record { bytes = bytes_said (at words 1) })) None
+
+realm_said : List (List ℕ) → RealmParams
+realm_said words = record {
+  rtt_base = address_said (at words 0);
+  rtt_level_start = number_said (at words 1);
+  rtt_num_start = number_said (at words 2);
+  s2sz = number_said (at words 3);
+  algo = algo_said (at words 4);
+  flags = address_said (at words 5);
+  sve_vl = number_said (at words 6);
+  num_bps = number_said (at words 7);
+  num_wps = number_said (at words 8);
+  pmu_num_ctrs = number_said (at words 9);
+  rpv = bytes_said (at words 10);
+}
+
+rec_said : List (List ℕ) → RecData
+rec_said words = record {
+  flags = address_said (at words 0);
+  mpidr = address_said (at words 1);
+  pc = address_said (at words 2);
+  gprs = map address_said (take 8 (drop 3 words));
+  aux = map address_said (drop 1 (drop 8 (drop 3 words)));
+}
+
+command_said : List (List ℕ) → Command
+command_said words =
+    let name = at words 0 in
+    cond (bytes_eq name (codes "delegate")) (Delegate (address_said (at words 1)))
+    (cond (bytes_eq name (codes "realm_create")) (RealmCreate (address_said (at words 1)) (realm_said (drop 2 words)))
+    (cond (bytes_eq name (codes "rtt_create")) (RttCreate (address_said (at words 1)) (address_said (at words 2)) (number_said (at words 3)))
+    (cond (bytes_eq name (codes "init_ripas")) (InitRipas (address_said (at words 1)) (address_said (at words 2)))
+    (cond (bytes_eq name (codes "data_create")) (DataCreate (address_said (at words 1)) (address_said (at words 2)) (content_said (drop 3 words)))
+    (cond (bytes_eq name (codes "rec_create")) (RecCreate (address_said (at words 1)) (rec_said (drop 2 words)))
+    Activate)))))
+
+-- ---- each word says what it was made of
+
+to_is_bytes : (bytes : List ℕ) → FitBytes bytes → IsBytes bytes
+to_is_bytes [] fit i = omega arith
+to_is_bytes (b ∷ bytes) fit zero = fit 0 0 (omega arith)
+to_is_bytes (b ∷ bytes) fit (suc i) = to_is_bytes bytes (All-tail (λ n. n < 2 ^ 8) b bytes fit) i
+
+high_first : (k n : ℕ) → IsBytes (bytes_high_first k n)
+high_first zero n i = omega arith
+high_first (suc k) n zero = search (arith)
+high_first (suc k) n (suc i) = high_first k n i
+
+bytes_again : (bytes : List ℕ) → FitBytes bytes → bytes_said (encode_lower bytes) ≡ bytes
+unfolding bytes_said
+bytes_again bytes fit = ap (λ r. result_unwrap_or r []) (decode_of-encode_lower bytes (to_is_bytes bytes fit))
+
+address_again : (n : ℕ) → n < 2 ^ 64 → address_said (digits_of n) ≡ n
+unfolding address_said bytes_said
+address_again n fits =
+    ap (λ r. from_be_bytes w64 (result_unwrap_or r [])) (decode_of-encode_lower (to_be_bytes w64 n) (high_first 8 n))
+    ∙ from_be_bytes-to_be_bytes_8 n fits
+
+number_again : (n : ℕ) → n < 2 ^ 8 → number_said (decimal n) ≡ n
+unfolding number_said
+number_again n fits = (decimal_is_IsNumeral n (omega arith)).1
+
+algo_again : (algo : Algo) → algo_said (algo_word algo) ≡ algo
+unfolding algo_said
+algo_again Sha256 = refl
+algo_again Sha512 = refl
+
+addresses_again : (numbers : List ℕ) → FitWords numbers → map address_said (map digits_of numbers) ≡ numbers
+addresses_again [] fit = refl
+addresses_again (n ∷ numbers) fit =
+    rw (address_again n (fit 0 0 (omega arith)), addresses_again numbers (All-tail (λ n. n < 2 ^ 64) n numbers fit)) refl
+
+content_again : (content : Option Measurement) → FitBytes (content_bytes content) → content_said (content_words content) ≡ content
+unfolding content_said
+content_again (Some m) fit = rw (bytes_again m.bytes fit) refl
+content_again None fit = refl
+
+realm_again : (rd : ℕ) (p : RealmParams) → IsTyped (RealmCreate rd p) → realm_said (realm_words p) ≡ p
+unfolding realm_said
+realm_again rd p (words, bytes, rpv) = rw (
+  address_again p.rtt_base (words 1 0 (omega arith)),
+  address_again p.flags (words 2 0 (omega arith)),
+  number_again p.rtt_level_start (bytes 0 0 (omega arith)),
+  number_again p.rtt_num_start (bytes 1 0 (omega arith)),
+  number_again p.s2sz (bytes 2 0 (omega arith)),
+  number_again p.sve_vl (bytes 3 0 (omega arith)),
+  number_again p.num_bps (bytes 4 0 (omega arith)),
+  number_again p.num_wps (bytes 5 0 (omega arith)),
+  number_again p.pmu_num_ctrs (bytes 6 0 (omega arith)),
+  algo_again p.algo,
+  bytes_again p.rpv rpv,
+) refl
+
+rec_again : (rec : ℕ) (r : RecData) → IsTyped (RecCreate rec r) → rec_said (rec_words r) ≡ r
+unfolding rec_said
+rec_again rec r (words, gprs, aux, eight) =
+    let xs = map digits_of r.gprs in
+    let others = decimal (length r.aux) ∷ map digits_of r.aux in
+    let count : length xs ≡ 8 = length-map r.gprs digits_of ∙ eight in
+    let front : take 8 (xs ++ others) ≡ xs = ap (λ k. take k (xs ++ others)) (sym count) ∙ take-append_seam xs others in
+    let back : drop 8 (xs ++ others) ≡ others = ap (λ k. drop k (xs ++ others)) (sym count) ∙ drop-append_seam xs others in
+    rw (
+      address_again r.flags (words 1 0 (omega arith)),
+      address_again r.mpidr (words 2 0 (omega arith)),
+      address_again r.pc (words 3 0 (omega arith)),
+      front,
+      back,
+      addresses_again r.gprs gprs,
+      addresses_again r.aux aux,
+    ) refl
+
+command_again : (command : Command) → IsTyped command → command_said (words_of command) ≡ command
+unfolding command_said
+command_again (Delegate granule) fit = ap Delegate (address_again granule (fit 0 0 (omega arith)))
+command_again (RealmCreate rd p) fit = rw (address_again rd (fit.0 0 0 (omega arith)), realm_again rd p fit) refl
+command_again (RttCreate rtt ipa level) (words, bytes) = rw (
+  address_again rtt (words 0 0 (omega arith)),
+  address_again ipa (words 1 0 (omega arith)),
+  number_again level (bytes 0 0 (omega arith)),
+) refl
+command_again (InitRipas base top) fit = rw (address_again base (fit 0 0 (omega arith)), address_again top (fit 1 0 (omega arith))) refl
+command_again (DataCreate granule ipa content) (words, bytes) = rw (
+  address_again granule (words 0 0 (omega arith)),
+  address_again ipa (words 1 0 (omega arith)),
+  content_again content bytes,
+) refl
+command_again (RecCreate rec r) fit = rw (address_again rec (fit.0 0 0 (omega arith)), rec_again rec r fit) refl
+command_again Activate fit = refl
+
+pub same_line : (first second : Command) → IsTyped first → IsTyped second → line_of first ≡ line_of second → first ≡ second
+same_line first second f s same =
+    sym (command_again first f)
+    ∙ ap command_said (sym (line_of-split first) ∙ ap (slice_split (λ b. b == 32)) same ∙ line_of-split second)
+    ∙ command_again second s

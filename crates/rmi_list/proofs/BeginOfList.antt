@@ -1,0 +1,125 @@
+-- The begin of a list: the granules of the start tables, that of the realm descriptor, and the realm.
+use Rattle.std.proofs.Common.{inl, inr, ◌≡◌, ℕ, ◌+◌, ◌*◌, ◌<◌, ◌∙◌, sym, refl, ap, subst, arith, List, [], ◌∷◌, ◌++◌, ◌⊎◌, append_assoc}
+use Rattle.std.proofs.lemmas.List.{map-append}
+use Rattle.rim_desc.specs.declared.command.Command.TheVariants.{Delegate, RealmCreate}
+use Rattle.rmm_model.specs.Blocks.{granules}
+use Rattle.rmm_model.specs.Start.{start_count}
+use Rattle.list_model.specs.Entries.{Entry, Whole, delegate_all, delegated, granule}
+use Rattle.list_model.proofs.GranulesOfEntries.{count-all}
+use Rattle.list_model.proofs.GranulesDelegated.{granules-last}
+use Rattle.rim_launch.specs.Realm.{realm_params}
+use Rattle.rim_launch.specs.declared.config.Config.{Config}
+use Rattle.rmi_list.specs.declared.draft.Draft.{Draft}
+use Rattle.rmi_list.specs.declared.fault.ListFault.{ListFault}
+use Rattle.rmi_list.specs.declared.fault.ListFault.TheVariants as fault
+use Rattle.rmi_list.specs.declared.span.Span.TheVariants as span
+use Rattle.rmi_list.specs.Listed.{opening_entries}
+use Rattle.rmi_list.specs.inside.Drafts.{Grows, span_in}
+use Rattle.rmi_list.proofs.EntryByEntry.{Refuses, pool_of}
+use Rattle.rmi_list.proofs.StepsAreListed.{grows-then, refused-first, refused-later}
+
+abbrev pub table_granules : Config → List Entry
+table_granules c = delegate_all (granules (start_count c.s2sz) (granule c.pool_base 0))
+
+abbrev pub descriptor_granule : Config → List Entry
+descriptor_granule c = Whole (Delegate (granule c.pool_base (start_count c.s2sz))) ∷ []
+
+abbrev pub realm_itself : Config → List Entry
+realm_itself c = Whole (RealmCreate (granule c.pool_base (start_count c.s2sz)) (realm_params c)) ∷ []
+
+pub opening-split : (c : Config) → opening_entries c ≡ table_granules c ++ (descriptor_granule c ++ realm_itself c)
+opening-split c =
+    let n : ℕ = start_count c.s2sz in
+    let first : granule c.pool_base 0 ≡ c.pool_base = omega arith in
+    let delegates : delegate_all (granules (n + 1) c.pool_base) ≡ delegate_all (granules n c.pool_base) ++ descriptor_granule c =
+    ap delegate_all (granules-last n c.pool_base) ∙ map-append (λ (g : ℕ). Whole (Delegate g)) (granules n c.pool_base) ((c.pool_base + 4096 * n) ∷ []) in
+    ap (λ es. es ++ realm_itself c) delegates ∙ append_assoc (delegate_all (granules n c.pool_base)) (descriptor_granule c) (realm_itself c)
+    ∙ ap (λ (x : ℕ). delegate_all (granules n x) ++ (descriptor_granule c ++ realm_itself c)) (sym first)
+
+-- a draft of this launch that has taken nothing
+pub record IsFresh (c : Config) (d : Draft) : Type 0 where
+  pub config : d.launch.now.config ≡ c
+  pub taken : d.taken ≡ 0
+
+pub tables-same : (c : Config) (d : Draft) (n : ℕ) → IsFresh c d → n ≡ start_count c.s2sz
+    → delegate_all (granules n (granule (pool_of d) d.taken)) ≡ table_granules c
+tables-same c d n fresh count =
+    ap (λ (m : ℕ). delegate_all (granules m (granule (pool_of d) d.taken))) count
+    ∙ ap (λ (t : ℕ). delegate_all (granules (start_count c.s2sz) (granule (pool_of d) t))) fresh.taken
+    ∙ ap (λ (k : Config). delegate_all (granules (start_count c.s2sz) (granule k.pool_base 0))) fresh.config
+
+-- after the start tables their number was taken
+pub descriptor-next : (c : Config) (d e : Draft) → IsFresh c d → Grows d e (table_granules c) → e.taken ≡ start_count c.s2sz
+descriptor-next c d e fresh grows =
+    let more : e.taken ≡ d.taken + delegated (table_granules c) = grows.taken in
+    let count : delegated (table_granules c) ≡ start_count c.s2sz = count-all (start_count c.s2sz) (granule c.pool_base 0) in
+    let none : d.taken ≡ 0 = fresh.taken in
+    omega arith
+
+pub descriptor-same : (c : Config) (d e : Draft) → IsFresh c d → Grows d e (table_granules c)
+    → (let es : List Entry = Whole (Delegate (granule (pool_of e) e.taken)) ∷ [] in es) ≡ descriptor_granule c
+descriptor-same c d e fresh grows =
+    let config : e.launch.now.config ≡ c = ap (λ (l : _). l.now.config) grows.launch ∙ fresh.config in
+    ap (λ (t : ℕ). (let es : List Entry = Whole (Delegate (granule (pool_of e) t)) ∷ [] in es)) (descriptor-next c d e fresh grows)
+    ∙ ap (λ (k : Config). (let es : List Entry = Whole (Delegate (granule k.pool_base (start_count c.s2sz))) ∷ [] in es)) config
+
+pub realm-same : (c : Config) (e : Draft) (rd : ℕ) → e.launch.now.config ≡ c → rd ≡ start_count c.s2sz
+    → (let es : List Entry = span_in e (span.RealmCreate rd) in es) ≡ realm_itself c
+realm-same c e rd config at =
+    ap (λ (k : Config). (let es : List Entry = Whole (RealmCreate (granule k.pool_base rd) (realm_params k)) ∷ [] in es)) config
+    ∙ ap (λ (n : ℕ). (let es : List Entry = Whole (RealmCreate (granule c.pool_base n) (realm_params c)) ∷ [] in es)) at
+
+-- the whole begin
+pub opening-grows : (c : Config) (d e f g : Draft) (rd : ℕ) → IsFresh c d → Grows d e (table_granules c) → Grows e f (descriptor_granule c) → rd ≡ e.taken
+    → Grows f g (span_in f (span.RealmCreate rd)) → Grows d g (opening_entries c)
+opening-grows c d e f g rd fresh tables descriptor at realm =
+    let config : f.launch.now.config ≡ c = ap (λ (l : _). l.now.config) (descriptor.launch ∙ tables.launch) ∙ fresh.config in
+    let last : Grows f g (realm_itself c) = subst (Grows f g) (realm-same c f rd config (at ∙ descriptor-next c d e fresh tables)) realm in
+    rw (opening-split c) (grows-then d e g (table_granules c) (descriptor_granule c ++ realm_itself c) tables (grows-then e f g (descriptor_granule c) (realm_itself c) descriptor last))
+
+-- what is refused for a part of it is refused for all of it
+pub opening-refused : (c : Config) (d : Draft) (e : ListFault) → IsFresh c d → Refuses d e (table_granules c ++ (descriptor_granule c ++ realm_itself c))
+    → (e ≡ fault.NoMemory) ⊎ ((e ≡ fault.PoolEnd) × (c.pool_count < delegated (opening_entries c)))
+opening-refused c d e fresh (inl memory) = inl memory
+opening-refused c d e fresh (inr full) =
+    let es : List Entry = table_granules c ++ (descriptor_granule c ++ realm_itself c) in
+    let small : d.launch.now.config.pool_count < d.taken + delegated es = full.1 in
+    let none : d.taken ≡ 0 = fresh.taken in
+    let size : d.launch.now.config.pool_count ≡ c.pool_count = ap (λ (k : Config). k.pool_count) fresh.config in
+    let same : delegated (opening_entries c) ≡ delegated es = ap delegated (opening-split c) in
+    inr (full.0, omega arith)
+
+-- ---- the begin as the code makes it, from a draft that has taken nothing
+
+-- the granules of n start tables are those of the launch's, where n is the number that its configuration asks for
+first-tables : (d : Draft) (asked : Config) (n : ℕ) → asked ≡ d.launch.now.config → n ≡ start_count asked.s2sz → d.taken ≡ 0
+    → delegate_all (granules n (granule (pool_of d) d.taken)) ≡ table_granules d.launch.now.config
+first-tables d asked n config count none =
+    tables-same d.launch.now.config d n (record { config = refl; taken = none }) (count ∙ ap (λ (c : Config). start_count c.s2sz) config)
+
+pub first-grows : (d e f g : Draft) (asked : Config) (n rd : ℕ) → asked ≡ d.launch.now.config → n ≡ start_count asked.s2sz → d.taken ≡ 0
+    → Grows d e (delegate_all (granules n (granule (pool_of d) d.taken))) → Grows e f (Whole (Delegate (granule (pool_of e) e.taken)) ∷ []) → rd ≡ e.taken
+    → Grows f g (span_in f (span.RealmCreate rd)) → Grows d g (opening_entries d.launch.now.config)
+first-grows d e f g asked n rd config count none grown next at realm =
+    let c : Config = d.launch.now.config in
+    let fresh : IsFresh c d = record { config = refl; taken = none } in
+    let tables : Grows d e (table_granules c) = rw (← first-tables d asked n config count none) grown in
+    let descriptor : Grows e f (descriptor_granule c) = rw (← descriptor-same c d e fresh tables) next in
+    opening-grows c d e f g rd fresh tables descriptor at realm
+
+pub first-tables-refused : (d : Draft) (e : ListFault) (asked : Config) (n : ℕ) → asked ≡ d.launch.now.config → n ≡ start_count asked.s2sz → d.taken ≡ 0
+    → Refuses d e (delegate_all (granules n (granule (pool_of d) d.taken)))
+    → (e ≡ fault.NoMemory) ⊎ ((e ≡ fault.PoolEnd) × (d.launch.now.config.pool_count < delegated (opening_entries d.launch.now.config)))
+first-tables-refused d e asked n config count none refuses =
+    let c : Config = d.launch.now.config in
+    let refused : Refuses d e (table_granules c) = rw (← first-tables d asked n config count none) refuses in
+    opening-refused c d e (record { config = refl; taken = none }) (refused-first d e (table_granules c) (descriptor_granule c ++ realm_itself c) refused)
+
+pub first-descriptor-refused : (d b : Draft) (e : ListFault) (asked : Config) (n : ℕ) → asked ≡ d.launch.now.config → n ≡ start_count asked.s2sz → d.taken ≡ 0
+    → Grows d b (delegate_all (granules n (granule (pool_of d) d.taken))) → Refuses b e (descriptor_granule d.launch.now.config)
+    → (e ≡ fault.NoMemory) ⊎ ((e ≡ fault.PoolEnd) × (d.launch.now.config.pool_count < delegated (opening_entries d.launch.now.config)))
+first-descriptor-refused d b e asked n config count none grown refuses =
+    let c : Config = d.launch.now.config in
+    let tables : Grows d b (table_granules c) = rw (← first-tables d asked n config count none) grown in
+    opening-refused c d e (record { config = refl; taken = none })
+    (refused-later d b e (table_granules c) (descriptor_granule c ++ realm_itself c) tables (refused-first b e (descriptor_granule c) (realm_itself c) refuses))

@@ -1,0 +1,69 @@
+-- What checks answer one after another: the planner's first, then the list's own.
+use Rattle.std.proofs.Common.{inl, inr, ◌≡◌, refl, false, ◌⊎◌, List, [], ◌∷◌, ◌++◌}
+use Rattle.std.specs.Prelude.{Ok, Err, Result}
+use Rattle.std.proofs.lemmas.Bool.{cases_Bool, or_parts}
+use Rattle.refusal.specs.Answer.{◌>>=◌, with_front}
+use Rattle.refusal.specs.Checks.{Check, unless_refused}
+use Rattle.rmm_model.proofs.AnswersOfChecks.{holds}
+use Rattle.rtt_plan.specs.declared.fault.PlanFault.{PlanFault}
+use Rattle.rtt_plan.specs.declared.fault.PlanFault.TheVariants as plan
+use Rattle.rmi_list.specs.declared.fault.ListFault.{ListFault}
+use Rattle.rmi_list.specs.declared.fault.ListFault.TheVariants as fault
+use Rattle.rmi_list.specs.Listed.{plan_fault, plan_checks}
+
+-- an answer is what was asked for
+pub is-done : {A E : Type 0} (checks : List (Check E)) (done answer : A) → unless_refused checks done ≡ Ok answer → done ≡ answer
+is-done [] done answer = λ at. cc
+is-done (check ∷ others) done answer = elim (cases_Bool check.1) [
+  | inl on ↦ rw on (λ at. absurd (cc))
+  | inr off ↦ rw off (λ at. is-done others done answer at)
+]
+
+pub bound : {A B E : Type 0} (r : Result A E) (f : A → Result B E) (b : B) → (r >>= f) ≡ Ok b → (a : A) × (r ≡ Ok a) × (f a ≡ Ok b)
+bound (Ok a) f b h = (a, refl, h)
+bound (Err e) f b h = absurd (cc)
+
+pub fronted : {A E : Type 0} (front : List A) (r : Result (List A) E) (all : List A) → with_front front r ≡ Ok all → (others : List A) × (r ≡ Ok others) × (all ≡ front ++ others)
+fronted front (Ok others) all h = (others, refl, cc)
+fronted front (Err e) all h = absurd (cc)
+
+-- ---- the planner's checks, in front of a list's own
+
+pub plan-off : (checks : List (Check PlanFault)) (others : List (Check ListFault)) → holds (plan_checks checks ++ others) ≡ false → holds checks ≡ false
+plan-off [] others off = refl
+plan-off (c ∷ cs) others off =
+    let both = or_parts (c.1) (holds (plan_checks cs ++ others)) off in
+    rw (both.0, plan-off cs others both.1) refl
+
+pub passed-front : {A B : Type 0} (checks : List (Check PlanFault)) (a ok : A) (others : List (Check ListFault)) (b : B) → unless_refused checks a ≡ Ok ok
+    → unless_refused (plan_checks checks ++ others) b ≡ unless_refused others b
+passed-front [] a ok others b = λ at. refl
+passed-front (c ∷ cs) a ok others b = elim (cases_Bool c.1) [
+  | inl on ↦ rw on (λ at. absurd (cc))
+  | inr off ↦ rw off (λ at. passed-front cs a ok others b at)
+]
+
+pub refused-front : {A B : Type 0} (checks : List (Check PlanFault)) (a : A) (e : PlanFault) (others : List (Check ListFault)) (b : B) → unless_refused checks a ≡ Err e
+    → unless_refused (plan_checks checks ++ others) b ≡ Err (fault.Plan e)
+refused-front [] a e others b = λ at. absurd (cc)
+refused-front (c ∷ cs) a e others b = elim (cases_Bool c.1) [
+  | inl on ↦ rw on (λ at. (let same : c.0 ≡ e = cc in rw same refl))
+  | inr off ↦ rw off (λ at. refused-front cs a e others b at)
+]
+
+-- what the planner answered, as the list answers it
+pub plan-refused : {A B : Type 0} (e : PlanFault) (planned : Result A PlanFault) (listed : Result B ListFault) → (planned ≡ Err e → listed ≡ Err (fault.Plan e))
+    → (e ≡ plan.NoMemory) ⊎ (planned ≡ Err e) → (plan_fault e ≡ fault.NoMemory) ⊎ (listed ≡ Err (plan_fault e))
+plan-refused plan.NoMemory planned listed on h = inl refl
+plan-refused plan.OutsideProtected planned listed on (inl h) = absurd (cc)
+plan-refused plan.OutsideProtected planned listed on (inr h) = inr (on h)
+plan-refused plan.Unaligned planned listed on (inl h) = absurd (cc)
+plan-refused plan.Unaligned planned listed on (inr h) = inr (on h)
+plan-refused plan.RipasTwice planned listed on (inl h) = absurd (cc)
+plan-refused plan.RipasTwice planned listed on (inr h) = inr (on h)
+plan-refused plan.NotRam planned listed on (inl h) = absurd (cc)
+plan-refused plan.NotRam planned listed on (inr h) = inr (on h)
+plan-refused plan.DataTwice planned listed on (inl h) = absurd (cc)
+plan-refused plan.DataTwice planned listed on (inr h) = inr (on h)
+plan-refused plan.TooManyEntries planned listed on (inl h) = absurd (cc)
+plan-refused plan.TooManyEntries planned listed on (inr h) = inr (on h)
