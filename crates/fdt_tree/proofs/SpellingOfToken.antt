@@ -186,9 +186,6 @@ property_takes strings p bytes t rest fits deep e whole shape =
 abbrev Taken : List ℕ → Place → List ℕ → Token → List ℕ → Type 0
 Taken strings p whole t rest = Taking strings p whole t rest ⊎ ((t ≡ finish) × TookEnd p whole rest)
 
-no_fault : {A : Type 0} (d : FdtFault) (y : A) (B : Type 0) → (let r : Result A FdtFault = Err d in r) ≡ Ok y → B
-no_fault d y B e = absurd cc
-
 plain : (strings : List ℕ) (p : Place) (whole body : List ℕ) (kind : ℕ) (own t : Token) (rest : List ℕ) → IsBytes body → whole ≡ to_be_bytes w32 kind ++ body
     → IsTokenText strings own (to_be_bytes w32 kind) → Allowed p own → (own ≡ finish → ⊥) → (own ≡ t) × (body ≡ rest) → Taking strings p whole t rest
 plain strings p whole body kind own t rest fits shape text ok other is =

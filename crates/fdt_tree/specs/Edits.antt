@@ -7,7 +7,6 @@ use Rattle.fdt_tree.specs.declared.fault.FdtFault.TheVariants.{BadName, TooDeep}
 use Rattle.fdt_tree.specs.Devicetree.{Branch, Devicetree, Nodes, PropertyData, Root, bare, branch_of_root, node, none}
 use Rattle.fdt_tree.specs.Names.{legal}
 use Rattle.fdt_tree.specs.Lookup.{names_on}
-use Rattle.refusal.specs.Answer.{◌>>=◌}
 use Rattle.fdt_tree.specs.declared.reading.lexing.TheConstants.{DEPTH_LIMIT}
 
 -- the first property of the name gets the value; where none has the name, one is added at the end

@@ -6,7 +6,6 @@ use Rattle.fdt_tree.specs.declared.fault.FdtFault.{FdtFault}
 use Rattle.fdt_tree.specs.declared.fault.FdtFault.TheVariants.{NoMemory}
 use Rattle.fdt_tree.specs.declared.reading.header.Header.{Header}
 use Rattle.fdt_tree.specs.declared.tree.Reservation.{Reservation}
-use Rattle.refusal.specs.Answer.{◌>>=◌}
 use Rattle.fdt_tree.specs.Devicetree.{Devicetree, Token, root_tokens}
 use Rattle.fdt_tree.specs.Blocks.{HasHeader, reserve_block, structure_block, strings_block, header_at}
 use Rattle.fdt_tree.specs.Reservations.{SpellsReservations, reservations_at}

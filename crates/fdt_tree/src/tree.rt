@@ -1,6 +1,6 @@
 //! A devicetree in memory.
 
-ghost use Rattle.std.specs.Prelude.{◌^◌, ◌≡◌, []};
+ghost use Rattle.std.specs.Prelude.{◌≡◌, []};
 ghost use Rattle.fdt_tree.specs.NodeViews.{branch};
 ghost use Rattle.fdt_tree.specs.Wholeness.{IsWhole, IsWhole-prop, tree_in};
 ghost use Rattle.fdt_tree.specs.declared.reading.header.TheConstants.{SIZE_LIMIT};

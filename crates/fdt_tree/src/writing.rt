@@ -1,6 +1,6 @@
 //! Writing a tree in the flattened format.
 
-ghost use Rattle.std.specs.Prelude.{◌^◌, ◌≡◌, ◌+◌, ◌++◌, ◌∷◌, [], ◌≤◌, ℕ, List, length, IfOk, IfErr, OnOk, Ok, Err, if◌then◌else◌};
+ghost use Rattle.std.specs.Prelude.{◌≡◌, ◌+◌, ◌++◌, ◌∷◌, [], ◌≤◌, ℕ, List, length, IfOk, IfErr, OnOk, Ok, Err};
 ghost use Rattle.std.specs.Int.{w32, w64, to_be_bytes};
 ghost use Rattle.fdt_tree.specs.Devicetree.{property, begin_node, end_node};
 ghost use Rattle.fdt_tree.specs.NodeViews.{property_data, branch};

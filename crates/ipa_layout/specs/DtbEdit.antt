@@ -3,7 +3,6 @@
 -- the edits is this project's choice.
 use Rattle.std.specs.Prelude.{ℕ, ◌-◌, List, [], ◌∷◌, ◌++◌, Option, Some, None, Result, Ok, codes}
 use Rattle.std.specs.Int.{w64, to_be_bytes}
-use Rattle.refusal.specs.Answer.{◌>>=◌}
 use Rattle.fdt_tree.specs.declared.fault.FdtFault.{FdtFault}
 use Rattle.fdt_tree.specs.Devicetree.{Devicetree}
 use Rattle.fdt_tree.specs.TreeAt.{tree_at}

@@ -78,11 +78,6 @@ pub sum_by-replicate_zero : {X : Type 0} (f : X → ℕ) (n : ℕ) (x : X) → f
 sum_by-replicate_zero f zero x none = refl
 sum_by-replicate_zero f (suc n) x none = omega (arith, none, sum_by-replicate_zero f n x none, sum_by-cons f x (replicate n x))
 
--- a sum of two functions
-pub sum_by-add : {X : Type 0} (f g : X → ℕ) (xs : List X) → sum_by (λ x. f x + g x) xs ≡ sum_by f xs + sum_by g xs
-sum_by-add f g [] = refl
-sum_by-add f g (x ∷ xs) = omega (arith, sum_by-add f g xs, sum_by-cons (λ y. f y + g y) x xs, sum_by-cons f x xs, sum_by-cons g x xs)
-
 pub sum_by-zero : {X : Type 0} (xs : List X) → sum_by (λ (x : X). 0) xs ≡ 0
 sum_by-zero [] = refl
 sum_by-zero (x ∷ xs) = omega (arith, sum_by-zero xs, sum_by-cons (λ y. 0) x xs)

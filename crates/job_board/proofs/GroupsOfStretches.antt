@@ -7,7 +7,7 @@ use Rattle.std.proofs.lemmas.List.Concat.{flat_map-append}
 use Rattle.std.proofs.lemmas.List.Folds.{list_all-append}
 use Rattle.std.proofs.lemmas.List.Sums.{count_by-le-length, sum_by_push}
 use Rattle.std.proofs.lemmas.Bool.{cases_eq, cases_lt, ne_eqb}
-use Rattle.std.proofs.lemmas.Option.{get_or_from_slice_get, slice_get_within, none-some, slice_get-get_or, same_Some}
+use Rattle.std.proofs.lemmas.Option.{get_or_from_slice_get, slice_get_within, slice_get-get_or, same_Some}
 use Rattle.job_board.specs.declared.grouping.Stretch.{Stretch}
 use Rattle.job_board.specs.declared.reaches.Reach.{Reach}
 use Rattle.job_board.specs.declared.reaches.PageGroup.{PageGroup}
@@ -216,15 +216,6 @@ grouped_more pages launches ss gs s g h comes is last same first count items = r
     origin_by k u at (inr other) = let o = is.origin k u (before_at k u at other) in (o.0, o.1, kept_at ss s o.1 o.0 o.2, o.3, o.4, o.5)
 
 -- ---- all stretches
-
-pub grouped_none : (pages launches : ℕ) → IsGrouped pages launches [] []
-grouped_none pages launches = record {
-  apart = λ i k a b lt aat bat. cc;
-  each = λ k g at. cc;
-  origin = λ k g at. absurd (none-some g at);
-  counted = λ l. refl;
-  index = λ l f. refl;
-}
 
 pub grouped_are : (pages launches : ℕ) (ss : List Stretch) (gs : List PageGroup) → length ss < 2 ^ 64 → IsGrouped pages launches ss gs → AreGroups pages launches gs
 grouped_are pages launches ss gs few is = record {

@@ -2,7 +2,7 @@
 use Rattle.std.proofs.Common.{◌≡◌, ◌≢◌, ℕ, ◌+◌, ◌<◌, ◌≤◌, true, false, cond, eqb, List, [], ◌∷◌, ◌++◌, length, get_or, set, take, Option, Some, None, refl, sym, ap, ◌∙◌, subst, arith, inl, inr}
 use Rattle.std.specs.Prelude.{◌⊎◌, nat_lt, IfNone, IfSome}
 use Rattle.std.specs.List.{All, Contains, count_by, slice_get}
-use Rattle.std.proofs.lemmas.List.{get_or-set_same, get_or-set_other, get_or_past, get_or_append_left, get_or_default, length-set, length-append, length_push, take_all}
+use Rattle.std.proofs.lemmas.List.{get_or-set_same, get_or-set_other, get_or_past, get_or_append_left, get_or_default, length-set, length-append, length_push}
 use Rattle.std.proofs.lemmas.List.Elements.{All-push, Contains-append_left, Contains-push}
 use Rattle.std.proofs.lemmas.List.Sums.{count_by_more_no, count_by_more_yes, sum_by-set}
 use Rattle.std.proofs.lemmas.Bool.{cases_eq, cases_lt, eq-eqb, ne_eqb}
@@ -45,23 +45,6 @@ only_set lefts ready a n some only = λ k d lt. by k d lt (cases_eq (get_or read
     by k d lt (inl same) = let none = only k d lt in let e : get_or lefts (get_or ready k d) 0 ≡ get_or lefts a 0 = ap (λ (l : ℕ). get_or lefts l 0) same in absurd (omega (arith, none, e, some))
     by k d lt (inr other) = get_or-set_other lefts a (get_or ready k d) n 0 other ∙ only k d lt
 
--- it waits for more
-pub line_wait : (lefts ready : List ℕ) (room a n : ℕ) → 1 ≤ get_or lefts a 0 → 1 ≤ n → IsLine lefts ready room → IsLine (set lefts a n) ready room
-line_wait lefts ready room a n some more line = record {
-  every = λ l lt none. every_by l lt none (cases_eq l a);
-  only = only_set lefts ready a n some line.only;
-  room_left = let c = count_set lefts a n some in omega (arith, c, one_of n more, line.room_left);
-}
-  where
-    every_by : (l : ℕ) → l < length (set lefts a n) → get_or (set lefts a n) l 0 ≡ 0 → (l ≡ a) ⊎ (l ≡ a → ⊥) → Contains ready l
-    every_by l lt none (inl same) =
-        let now : get_or (set lefts a n) a 0 ≡ n = get_or-set_same lefts a n 0 (there lefts a some) in
-        let e : get_or (set lefts a n) l 0 ≡ get_or (set lefts a n) a 0 = ap (λ (k : ℕ). get_or (set lefts a n) k 0) same in
-        absurd (omega (arith, now, e, none, more))
-    every_by l lt none (inr other) =
-        let lt' : l < length lefts = omega (arith, lt, length-set lefts a n) in
-        line.every l lt' (sym (get_or-set_other lefts a l n 0 other) ∙ none)
-
 -- it comes into line
 pub line_join : (lefts ready : List ℕ) (room a : ℕ) → 1 ≤ get_or lefts a 0 → IsLine lefts ready room → IsLine (set lefts a 0) (ready ++ a ∷ []) room
 line_join lefts ready room a some line = record {
@@ -76,10 +59,6 @@ line_join lefts ready room a some line = record {
         let lt' : l < length lefts = omega (arith, lt, length-set lefts a 0) in
         Contains-append_left ready (a ∷ []) l (line.every l lt' (sym (get_or-set_other lefts a l 0 0 other) ∙ none))
 
--- there is room for it
-pub line_room : (lefts ready : List ℕ) (room a : ℕ) → 1 ≤ get_or lefts a 0 → IsLine lefts ready room → length ready < room
-line_room lefts ready room a some line = let c = count_set lefts a 0 some in omega (arith, c, line.room_left)
-
 -- ---- the line at first
 
 pub record IsBegun (lefts ready : List ℕ) (n room : ℕ) : Type 0 where
@@ -87,14 +66,6 @@ pub record IsBegun (lefts ready : List ℕ) (n room : ℕ) : Type 0 where
   pub only : All (λ l. get_or lefts l 0 ≡ 0) ready
   pub count : length ready + count_by (nat_lt 0) (take n lefts) ≡ n
   pub room_is : length lefts ≤ room
-
-pub begun_none : (lefts : List ℕ) (room : ℕ) → length lefts ≤ room → IsBegun lefts [] 0 room
-begun_none lefts room le = record {
-  every = λ l lt none. absurd (omega (arith, lt));
-  only = λ k d lt. absurd (omega (arith, lt));
-  count = refl;
-  room_is = le;
-}
 
 pub begun_more : (lefts ready : List ℕ) (n room : ℕ) → n < length lefts → get_or lefts n 0 ≡ 0 → IsBegun lefts ready n room → IsBegun lefts (ready ++ n ∷ []) (n + 1) room
 begun_more lefts ready n room lt none b = record {
@@ -119,16 +90,6 @@ begun_skip lefts ready n room lt some b = record {
     every_by : (l : ℕ) → l < n + 1 → get_or lefts l 0 ≡ 0 → (l < n) ⊎ (n ≤ l) → Contains ready l
     every_by l below zero_at (inl less) = b.every l less zero_at
     every_by l below zero_at (inr past) = let same : l ≡ n = omega (arith, below, past) in absurd (some (ap (λ (k : ℕ). get_or lefts k 0) (sym same) ∙ zero_at))
-
-pub begun_room : (lefts ready : List ℕ) (n room : ℕ) → n < length lefts → IsBegun lefts ready n room → length ready < room
-begun_room lefts ready n room lt b = omega (arith, b.count, b.room_is, lt)
-
-pub begun_all : (lefts ready : List ℕ) (n room : ℕ) → length lefts ≡ n → IsBegun lefts ready n room → IsLine lefts ready room
-begun_all lefts ready n room end b = record {
-  every = λ l lt none. let lt' : l < n = omega (arith, lt, end) in b.every l lt' none;
-  only = b.only;
-  room_left = let all = ap (count_by (nat_lt 0)) (take_all n lefts (omega (arith, end))) in omega (arith, all, b.count, b.room_is, end);
-}
 
 -- ---- as jobs change
 

@@ -11,29 +11,17 @@ use Rattle.job_board.specs.declared.job.JobId.{JobId}
 use Rattle.job_board.specs.declared.job.JobId.TheVariants.{Page, Launch}
 use Rattle.job_board.specs.declared.job.JobState.{JobState}
 use Rattle.job_board.specs.declared.job.JobState.TheVariants.{Free, Held}
-use Rattle.job_board.specs.Jobs.{CoreState, is_held_by, is_out, state_of, with_job, with_page, held_count, freed}
+use Rattle.job_board.specs.Jobs.{CoreState, is_held_by, is_out, state_of, with_job, held_count, freed}
 use Rattle.job_board.specs.Events.{same_job}
-use Rattle.job_board.specs.inside.Notes.{held_of, released, Notes, Moves, IsJob}
+use Rattle.job_board.specs.inside.Notes.{held_of, released, Notes, Moves}
 use Rattle.job_board.proofs.CountsOfJobs.{bit, total-with_job, sum_by-replicate_zero}
 use Rattle.job_board.proofs.OneJobChanges.{not_out, state_of-same, state_of-other, same_job-is, slice_get-set_same, slice_get-set_other}
 
 abbrev no_job : ℕ → Option JobId
 no_job n = None
 
-pub job_in : (s : CoreState) (job : JobId) (x : JobState) → state_of s job ≡ Some x → IsJob job (length s.pages) (length s.launches)
-job_in s (Page j) x at = slice_get_within s.pages j x at
-job_in s (Launch l) x at = slice_get_within s.launches l x at
-
--- as many pages after one job changes
-pub pages_stay : (s : CoreState) (job : JobId) (x : JobState) → length (with_page job x s.pages) ≡ length s.pages
-pages_stay s (Page j) x = length-set s.pages j x
-pages_stay s (Launch l) x = refl
-
 pub worker_in : (s : CoreState) (holding : List (Option JobId)) (w : ℕ) → Notes holding s → is_out s w ≡ false → w < length holding
 worker_in s holding w n known = let r = slice_get_within s.retired w false (not_out s w known) in omega (arith, r, n.size)
-
-held_same : (v w : ℕ) → Held v ≡ Held w → v ≡ w
-held_same v w e = cc
 
 -- the state of another worker's job stays
 other_job : (s : CoreState) (v w : ℕ) (job j : JobId) (x y : JobState) → state_of s job ≡ Some x → is_held_by v x ≡ false → state_of s j ≡ Some (Held v) → state_of (with_job s job y) j ≡ Some (Held v)
@@ -186,10 +174,6 @@ released_one s w (Launch l) at one =
     let b : count_by (is_held_by w) s.launches ≤ 1 = omega arith in
     let made : List JobState → List JobState → CoreState = λ ps ls. record { retired = s.retired; pages = ps; launches = ls; needs = s.needs } in
     ap (λ ps. made ps (set s.launches l Free)) (sym (map-freed_none w s.pages a)) ∙ ap (λ ls. made (map (freed w) s.pages) ls) (sym (map-freed_one w s.launches l at b))
-
-pub held_of-le : (o : Option JobId) → held_of o ≤ 1
-held_of-le None = omega arith
-held_of-le (Some job) = omega arith
 
 -- a fresh core holds nothing
 nothing_held : (n v : ℕ) (j : JobId) → slice_get (replicate n (no_job n)) v ≡ Some (Some j) → ⊥

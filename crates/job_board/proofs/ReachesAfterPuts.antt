@@ -14,7 +14,7 @@ use Rattle.job_board.specs.declared.reaches.Reach.{Reach}
 use Rattle.job_board.specs.declared.reaches.PageGroup.{PageGroup}
 use Rattle.job_board.specs.declared.reaches.Cursor.{Cursor}
 use Rattle.job_board.specs.Jobs.{is_done, is_page_done}
-use Rattle.job_board.specs.inside.Reaches.{AreApart, AreGroups, AreRising, IsAt, HasPut, IsGroup, Waits, all_of, count_of, IsIn, left_of}
+use Rattle.job_board.specs.inside.Reaches.{AreApart, AreGroups, IsAt, HasPut, IsGroup, Waits, all_of, count_of, IsIn, left_of}
 use Rattle.job_board.proofs.CountsOfJobs.{bit}
 use Rattle.job_board.proofs.OneJobChanges.{slice_get-set_other, slice_get-set_same}
 
@@ -99,18 +99,6 @@ one_met now old qs from k d lt named is enough n = by (cases_eq n (get_or qs k d
         let none : bit (b == n) ≡ 0 = ap bit (ne_eqb b n (λ e. other (sym e))) in
         let at = get_or-set_other now b n (get_or now b 0 - 1) 0 other in
         omega (arith, at, is n, more, none)
-
--- a reach with more pages than are done, and all after it, are not done
-pub rest_open : (qs : List Reach) (k done : ℕ) (d : Reach) → AreRising qs → k < length qs → done < (get_or qs k d).count
-    → (j : ℕ) (q : Reach) → k ≤ j → slice_get qs j ≡ Some q → done < q.count
-rest_open qs k done d rising lt more j q le at = by (cases_lt k j)
-  where
-    by : (k < j) ⊎ (j ≤ k) → done < q.count
-    by (inl below) = omega (arith, more, rising k j (get_or qs k d) q below (slice_get-get_or qs k d lt) at)
-    by (inr here) =
-        let same : k ≡ j = omega (arith, le, here) in
-        let is : (get_or qs k d).count ≡ q.count = ap (λ (n : ℕ). (get_or qs n d).count) same ∙ ap (λ (r : Reach). r.count) (get_or_from_slice_get qs j q d at) in
-        omega (arith, more, is)
 
 pub one_below : (qs : List Reach) (from k done : ℕ) (d : Reach) → k < length qs → (get_or qs k d).count ≤ done
     → ((j : ℕ) (q : Reach) → from ≤ j → j < k → slice_get qs j ≡ Some q → q.count ≤ done)

@@ -8,12 +8,12 @@ use Rattle.std.proofs.lemmas.Option.{get_or_from_slice_get, slice_get_within}
 use Rattle.job_board.specs.declared.job.JobId.{JobId}
 use Rattle.job_board.specs.declared.job.JobId.TheVariants.{Page, Launch}
 use Rattle.job_board.specs.declared.job.JobState.{JobState}
-use Rattle.job_board.specs.declared.job.JobState.TheVariants.{Free, Held, Done}
+use Rattle.job_board.specs.declared.job.JobState.TheVariants.{Free, Held}
 use Rattle.job_board.specs.declared.reaches.PageGroup.{PageGroup}
 use Rattle.job_board.specs.declared.reaches.Cursor.{Cursor}
 use Rattle.job_board.specs.Jobs.{CoreState, is_done, is_page_done, state_of, with_page}
 use Rattle.job_board.specs.inside.Notes.{Moves}
-use Rattle.job_board.specs.inside.Reaches.{AreGroups, HasPutJob, Waits}
+use Rattle.job_board.specs.inside.Reaches.{AreGroups, Waits}
 use Rattle.job_board.proofs.ReachesAfterPuts.{at_same}
 
 -- no page is done or undone
@@ -46,9 +46,3 @@ waits_write s w (Launch l) x held gs cs lefts m open_ waits = waits
 waits_write s w (Page j) x held gs cs lefts m open_ waits =
     let old = old_open s w (Page j) x held m in
     waits_same s.pages (set s.pages j x) gs cs lefts (length-set s.pages j x) (page_open s.pages j x old.0 old.1 old.2 open_) waits
-
--- a job that is done now
-pub has_put : (s : CoreState) (w : ℕ) (job : JobId) (gs : List PageGroup) (cs : List Cursor) (lefts : List ℕ) → state_of s job ≡ Some (Held w) → Waits s.pages gs cs lefts
-    → HasPutJob (with_page job Done s.pages) job gs cs lefts
-has_put s w (Launch l) gs cs lefts at waits = waits
-has_put s w (Page j) gs cs lefts at waits = (s.pages, waits, slice_get_within s.pages j (Held w) at, refl)

@@ -1,5 +1,5 @@
 //! Which pages each launch needs.
-ghost use Rattle.std.specs.Prelude.{◌≡◌, ◌<◌, List, [], length, map, IfOk, OnOk};
+ghost use Rattle.std.specs.Prelude.{◌≡◌, ◌<◌, [], length, map, IfOk, OnOk};
 ghost use Rattle.std.specs.List.{All};
 ghost use Rattle.job_board.specs.Jobs.{NeedsWithin};
 ghost use Rattle.job_board.specs.inside.Needs.{AreNeeds, groups_of, needs_of};

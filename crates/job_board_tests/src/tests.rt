@@ -7,7 +7,7 @@ mod runs;
 mod searches;
 mod sizes;
 
-ghost use Rattle.std.specs.Prelude.{◌<◌, ◌≤◌, map, IfOk};
+ghost use Rattle.std.specs.Prelude.{◌<◌, map, IfOk};
 ghost use Rattle.std.specs.List.{All};
 ghost use Rattle.job_board.specs.Jobs.{NeedsWithin};
 

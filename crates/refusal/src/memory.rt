@@ -1,5 +1,4 @@
 //! The error of a call that can fail by want of memory alone.
-ghost use Rattle.std.specs.Prelude.{◌≡◌};
 ghost use Rattle.refusal.specs.declared.memory.NoMemory.{NoMemory};
 
 use std::alloc::{AllocError, AllocFailed};

@@ -1,13 +1,12 @@
 -- What the prefixes of a plan chain to, one link after another.
 use Rattle.std.proofs.Common.{◌≡◌, ℕ, ◌+◌, ◌<◌, ◌∙◌, refl, ap, arith, List, [], ◌∷◌, length, take, drop, get_or}
-use Rattle.std.proofs.lemmas.List.{append-nil, drop-take, take-take, take_all, take_more}
+use Rattle.std.proofs.lemmas.List.{append-nil, drop-take, take-take, take_more}
 use Rattle.rim_desc.specs.Measurement.{measurement_of}
 use Rattle.rim_desc.specs.Part.{extended_by}
 use Rattle.rim_desc.specs.Realm.{realm_page_of}
 use Rattle.rim_desc.specs.declared.measurement.Measurement.{Measurement}
 use Rattle.rim_chain.specs.Prefixes.{prefix_value}
 use Rattle.rim_chain.specs.Links.{PlanView, chain_of, keys_of, link_parts, page_count, parts_with}
-use Rattle.rim_chain.specs.Rows.{IsFilled}
 use Rattle.rim_chain.specs.declared.link.Link.{Link}
 use Rattle.rim_chain.proofs.LinkByLink.{chain-cut, keys-so-far}
 
@@ -39,9 +38,3 @@ prefix-next p digests i d inside =
     let rest : drop n (take (n + c) digests) ≡ take c (drop n digests) = drop-take n c digests in
     rw (more, take_more links i d inside)
     (rw (own, rest) at cut ∙ ap (extended_by p.params.algo _) (one-link l (drop n digests)))
-
--- the prefix of all links is the plan
-pub prefix-all : (p : PlanView) (digests : List Measurement) (n : ℕ) → n ≡ length p.links → IsFilled p digests → prefix_value n p digests ≡ chain_of p digests
-prefix-all p digests n all filled =
-    let links : take n p.links ≡ p.links = take_all n p.links (omega (arith, all)) in
-    rw links (ap (chain_of p) (take_all (length (keys_of p.links)) digests (omega (arith, filled))))

@@ -12,7 +12,7 @@ use Rattle.rim_chain.specs.Links.{key_after, keys_in, keys_of, page_count}
 use Rattle.rim_chain.specs.Rows.{IsRowOf, has_all}
 use Rattle.rim_chain.specs.declared.link.Link.{Link}
 use Rattle.rim_chain.specs.inside.Filling.{AreAdded}
-use Rattle.rim_chain.proofs.LinkByLink.{keys-taken, keys-within}
+use Rattle.rim_chain.proofs.LinkByLink.{keys-within}
 
 -- ---- one key more
 
@@ -48,13 +48,6 @@ row-room t links i d digests n inside count row =
     let size : length digests ≡ length (keys_of (take i links)) = row-length t (keys_of (take i links)) digests row in
     let room : length (keys_of (take i links)) + n ≤ length (keys_of links) = keys-within links i d n inside count in
     omega arith
-
-pub row-longer : (t : TableView) (links : List Link) (i : ℕ) (d : Link) (old new : List Measurement) → i < length links
-    → AreAdded t (keys_in (get_or links i d)) old new → IsRowOf t (keys_of (take i links)) old → IsRowOf t (keys_of (take (i + 1) links)) new
-row-longer t links i d old new inside added row =
-    ap (map (digest_at t)) (keys-taken links i d inside)
-    ∙ (map-append (digest_at t) (keys_of (take i links)) (keys_in (get_or links i d))
-    ∙ (ap (λ xs. xs ++ map (digest_at t) (keys_in (get_or links i d))) row ∙ sym added))
 
 pub part-missing : (t : TableView) (links : List Link) (i : ℕ) (d : Link) → i < length links → has_all t (keys_in (get_or links i d)) ≡ false
     → has_all t (keys_of links) ≡ false

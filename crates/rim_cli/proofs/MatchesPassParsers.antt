@@ -50,11 +50,6 @@ module _ (c : List Rule) (again : Bool) (IsSound : Rule → Type 0) (fits : Row 
   option_fits a (Some v) h s e f = reacted_fits a (v ∷ []) h s e f
   option_fits a None h s e f = settled_fits h e f
 
-  flag_fits : (a : Rule) (v : Option Text) (h : Held) → IsSound a → react_fault c again a [] h ≡ []
-      → Fit h.rows → Fit (flag_met c a v h).0.rows
-  flag_fits a (Some v) h s e f = f
-  flag_fits a None h s e f = reacted_fits a [] h s e f
-
   long_fits : (name : Text) (o : Option Rule) (v : Option Text) (h : Held) → arg_by_long c name ≡ o → long_fault c again o v h ≡ []
       → Fit h.rows → Fit (long_met c o v h).0.rows
   long_fits name None v h is e f = f

@@ -5,7 +5,6 @@ use Rattle.std.proofs.lemmas.List.{length-take, take_all}
 use Rattle.std.proofs.lemmas.Option.{same_Some}
 use Rattle.rim_cli.specs.Files.{AreRead, IfFile, IsFileFault, IsFirstFault, IsRead, Known}
 use Rattle.rim_cli.specs.declared.fault.Fault.{Fault}
-use Rattle.rim_cli.specs.declared.fault.Fault.TheVariants.{Manifest, NoSuchLaunch, Start, Refused, NoDevicetree, Show, FileUnreadable, FileTooLarge, OutputIsTerminal, OutputFailed, NoMemory}
 use Rattle.rim_cli.specs.declared.file.TheConstants.{FILE_LIMIT}
 
 -- fewer bytes than the limit allows are all bytes
@@ -15,33 +14,6 @@ all_read None n bytes read few = tt
 all_read (Some xs) n bytes read few =
     let short : length xs ≤ n = omega (arith, ap length read, length-take n xs) in
     read ∙ take_all n xs short
-
--- what is known of a path is known of what was read of the reader that was opened there
-pub read_there : (known : Known) (o : Option (List ℕ)) (bytes : List ℕ) → IfFile known (λ held. o ≡ Some held)
-    → length bytes ≤ FILE_LIMIT → IfSome o (λ held. bytes ≡ held) → IsRead known bytes
-read_there None o bytes opened limit whole = (limit, tt)
-read_there (Some None) o bytes opened limit whole = absurd opened
-read_there (Some (Some held)) o bytes opened limit whole =
-    (limit, ap (λ (xs : List ℕ). Some xs) (sym (subst (λ (q : Option (List ℕ)). IfSome q (λ h. bytes ≡ h)) opened whole)))
-
--- and of its fault
-too_large : (known : Known) (o : Option (List ℕ)) → IfFile known (λ held. o ≡ Some held) → IsFileFault (option_map Some o) FileTooLarge → IsFileFault known FileTooLarge
-too_large None o opened is = tt
-too_large (Some None) o opened is = absurd opened
-too_large (Some (Some held)) o opened is = subst (λ (q : Option (List ℕ)). IsFileFault (option_map Some q) FileTooLarge) opened is
-
-pub fault_there : (known : Known) (o : Option (List ℕ)) (fault : Fault) → IfFile known (λ held. o ≡ Some held) → IsFileFault (option_map Some o) fault → IsFileFault known fault
-fault_there known o FileUnreadable opened is = tt
-fault_there known o FileTooLarge opened is = too_large known o opened is
-fault_there known o NoMemory opened is = tt
-fault_there known o (Manifest fault) opened is = absurd is
-fault_there known o NoSuchLaunch opened is = absurd is
-fault_there known o (Start fault) opened is = absurd is
-fault_there known o (Refused fault) opened is = absurd is
-fault_there known o NoDevicetree opened is = absurd is
-fault_there known o (Show fault) opened is = absurd is
-fault_there known o OutputIsTerminal opened is = absurd is
-fault_there known o OutputFailed opened is = absurd is
 
 -- one more file is read, at the next path
 read_after : (held : List ℕ → Known) (paths : List (List ℕ)) (i : ℕ) (files : List (List ℕ)) (path file : List ℕ)

@@ -1,5 +1,5 @@
 //! Laws for readers of the definitions, proved.
-ghost use Rattle.std.specs.Prelude.{◌≡◌, IsOkAnd};
+ghost use Rattle.std.specs.Prelude.{IsOkAnd};
 ghost use Rattle.rim_cli.specs.Examples.{IsSmallest, ReadsExamples, RefusesExamples, TakesExamples, smallest};
 ghost use Rattle.rim_manifest.specs.Manifest.{manifest_of};
 

@@ -1,12 +1,12 @@
 -- Each number has a mark exactly where steps name it, once.
-use Rattle.std.proofs.Common.{◌≡◌, ℕ, zero, suc, ◌+◌, ◌<◌, ◌≤◌, Bool, true, false, cond, eqb, List, [], ◌∷◌, length, get_or, set, take, drop, replicate, Option, Some, None, refl, sym, ap, ◌∙◌, arith}
+use Rattle.std.proofs.Common.{◌≡◌, ℕ, zero, suc, ◌+◌, ◌<◌, ◌≤◌, Bool, true, false, cond, eqb, List, [], ◌∷◌, length, get_or, take, drop, replicate, Option, Some, refl, sym, ap, ◌∙◌, arith}
 use Rattle.std.specs.Prelude.{◌==◌, count_by}
 use Rattle.std.specs.List.{list_all, range_with_len}
-use Rattle.std.proofs.lemmas.Bool.{eqb-true, eq-eqb, ne_eqb}
-use Rattle.std.proofs.lemmas.List.{get_or-set_same, get_or-set_other, get_or-replicate, take-append-drop}
+use Rattle.std.proofs.lemmas.Bool.{eq-eqb, ne_eqb}
+use Rattle.std.proofs.lemmas.List.{get_or-replicate, take-append-drop}
 use Rattle.std.proofs.lemmas.List.Folds.{list_all_at}
 use Rattle.std.proofs.lemmas.List.FromFn.{get_or-range_with_len, length-range_with_len}
-use Rattle.std.proofs.lemmas.List.Sums.{count_by_more_yes, count_by_more_no, sum_by-append}
+use Rattle.std.proofs.lemmas.List.Sums.{count_by_more_yes, sum_by-append}
 use Rattle.rim_launch.specs.declared.step.Step.{Step}
 use Rattle.rim_launch.specs.declared.conditions.StepTarget.{StepTarget}
 use Rattle.rim_launch.specs.Steps.{number_of, is_number, names, times, each_once}
@@ -18,33 +18,6 @@ count_in t n xs = omega (arith, ap (count_by t) (sym (take-append-drop n xs)), s
 module _ (p : StepTarget) (count : ℕ) (steps : List Step) (named : List Bool) (i : ℕ) (x : Step) (lt : i < length steps) (is : x ≡ get_or steps i x) (marks : AreMarks p count (take i steps) named) where
   here : (k : ℕ) (o : Option ℕ) → number_of p x ≡ o → names p k (get_or steps i x) ≡ is_number k o
   here k o e = ap (λ (s : Step). names p k s) (sym is) ∙ ap (is_number k) e
-
-  -- a step of another part
-  pub marks_kept : number_of p x ≡ None → AreMarks p count (take (i + 1) steps) named
-  marks_kept e k below = count_by_more_no (names p k) steps i x lt (here k None e) ∙ marks k below
-
-  -- a number past the last
-  pub marks_past : (n : ℕ) → number_of p x ≡ Some n → count ≤ n → AreMarks p count (take (i + 1) steps) named
-  marks_past n e past k below = count_by_more_no (names p k) steps i x lt (here k (Some n) e ∙ ne_eqb n k (λ same. omega (arith, same))) ∙ marks k below
-
-  -- a number that had no mark
-  pub marks_more : (n : ℕ) → number_of p x ≡ Some n → n < count → count ≤ length named → get_or named n false ≡ false → AreMarks p count (take (i + 1) steps) (set named n true)
-  marks_more n e low room free k below = go (eqb n k) refl
-    where
-      go : (b : Bool) → eqb n k ≡ b → times p k (take (i + 1) steps) ≡ cond (get_or (set named n true) k false) 1 0
-      go true q =
-          let same : n ≡ k = eqb-true n k q in
-          let before : times p k (take i steps) ≡ 0 = marks k below ∙ ap (λ (b : Bool). cond b 1 0) (ap (λ (m : ℕ). get_or named m false) (sym same) ∙ free) in
-          let more = count_by_more_yes (names p k) steps i x lt (here k (Some n) e ∙ q) in
-          let mark : get_or (set named n true) k false ≡ true = ap (λ (m : ℕ). get_or (set named n true) m false) (sym same) ∙ get_or-set_same named n true false (omega arith) in
-          more ∙ ap (λ (m : ℕ). m + 1) before ∙ ap (λ (b : Bool). cond b 1 0) (sym mark)
-      go false q =
-          let more = count_by_more_no (names p k) steps i x lt (here k (Some n) e ∙ q) in
-          let other : get_or (set named n true) k false ≡ get_or named k false = get_or-set_other named n k true false (λ same. differ (sym same)) in
-          more ∙ marks k below ∙ ap (λ (b : Bool). cond b 1 0) (sym other)
-        where
-          differ : n ≡ k → ⊥
-          differ same = let t : eqb n k ≡ true = eq-eqb n k same in let r : true ≡ false = sym t ∙ q in absurd cc
 
   -- a number that had one
   pub named_twice : (n : ℕ) → number_of p x ≡ Some n → n < count → get_or named n false ≡ true → each_once p steps count ≡ false

@@ -28,10 +28,6 @@ map_of_views f vs ds e = each vs ∙ ap (map f) e
     each [] = refl
     each (u ∷ us) = ap (λ xs. f (view u) ∷ xs) (each us)
 
-pub keys_list-view : (es : List Entry) → keys_list (members_view es) ≡ map string_bytes (keys_of es)
-keys_list-view [] = refl
-keys_list-view (e ∷ es) = ap (λ ks. string_bytes e.0 ∷ ks) (keys_list-view es)
-
 pub any_key : (p : List ℕ → Bool) (es : List Entry) → list_any p (keys_list (members_view es)) ≡ list_any (λ k. p (string_bytes k)) (keys_of es)
 any_key p [] = refl
 any_key p (e ∷ es) = ap (λ b. p (string_bytes e.0) || b) (any_key p es)

@@ -5,7 +5,6 @@ use Rattle.std.specs.Str.Parse.{digits_value}
 use Rattle.hex.specs.Hex.{decode_sized}
 use Rattle.toml.specs.Data.{Data, string, integer, boolean, at, get}
 use Rattle.rim_desc.specs.Page.{zeros}
-use Rattle.rim_desc.specs.declared.measurement.Algo.{Algo}
 use Rattle.rim_launch.specs.Kinds.{file_of, role_of}
 use Rattle.rim_launch.specs.LaunchData.{LaunchData}
 use Rattle.rim_launch.specs.Steps.{default_steps}

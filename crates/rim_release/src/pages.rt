@@ -1,5 +1,5 @@
 //! The different measured pages of a release.
-ghost use Rattle.std.specs.Prelude.{◌≡◌, ◌++◌, ◌≤◌, None, Some, IfOk, OnOk, Ok, Err, Result, length, map, nat_lt, option_map, sum_by, if◌then◌else◌};
+ghost use Rattle.std.specs.Prelude.{◌≡◌, ◌++◌, None, Some, IfOk, OnOk, Ok, Err, Result, length, map, nat_lt, option_map, sum_by, if◌then◌else◌};
 ghost use Rattle.std.specs.List.{All, flat_map, slice_get};
 ghost use Rattle.refusal.specs.Answer.{Answers};
 ghost use Rattle.ipa_layout.specs.Files.{bytes_of_files};

@@ -10,7 +10,6 @@ use Rattle.rim_desc.specs.Number.{digits_of}
 use Rattle.rim_desc.specs.Rec.{RecData}
 use Rattle.rim_desc.specs.declared.command.Command.{Command}
 use Rattle.rim_desc.specs.declared.command.Command.TheVariants.{Delegate, RealmCreate, RttCreate, InitRipas, DataCreate, RecCreate, Activate}
-use Rattle.rim_desc.specs.declared.measurement.Algo.{Algo}
 use Rattle.rim_desc.specs.declared.measurement.Measurement.{Measurement}
 use Rattle.rim_desc.specs.declared.realm.RealmParams.{RealmParams}
 use Rattle.rim_desc.specs.Measurement.{algo_word}

@@ -4,7 +4,6 @@ ghost use Rattle.std.specs.List.{flat_map};
 ghost use Rattle.rim_desc.specs.declared.command.Command.TheVariants.{DataCreate, Delegate, InitRipas, RealmCreate, RecCreate, RttCreate};
 ghost use Rattle.rmi_line.specs.Line.{content_words, line_of};
 ghost use Rattle.rmi_line.specs.inside.Words.{spaced};
-ghost use Rattle.rim_desc.specs.Measurement.{algo_word};
 
 use crate::words::{push_address, push_addresses, push_bytes, push_number, push_word};
 use refusal::NoMemory;

@@ -110,9 +110,6 @@ no-some : {A : Type 0} (o : Option A) → is_some o ≡ false → o ≡ None
 no-some None h = refl
 no-some (Some a) h = absurd (cc)
 
-nothing : (c : Command) → taken_by c ≡ [] → (h : ℕ) → has (taken_by c) h ≡ true → ⊥
-nothing c none h = rw none (λ there. cc)
-
 -- one granule, which was DELEGATED
 one : (owners : List (ℕ × Kind)) (g h : ℕ) → has (g ∷ []) h ≡ true → g ≡ h
 one owners g h there = eqb-true g h (grind (arith, nat_tests))

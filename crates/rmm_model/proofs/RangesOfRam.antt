@@ -41,16 +41,6 @@ no-ram rs b t y free lo hi = elim (cases_Bool (is_ram rs y)) [
   | inl h ↦ (let some : overlaps rs b t ≡ true = some-overlaps rs b t y lo hi h in absurd (cc))
 ]
 
-pub overlaps-none : (rs : List (ℕ × ℕ)) (b t : ℕ) → are_some rs ≡ true → b < t → ((y : ℕ) → b ≤ y → y < t → is_ram rs y ≡ false) → overlaps rs b t ≡ false
-overlaps-none rs b t some lt free = elim (cases_Bool (overlaps rs b t)) [
-  | inr n ↦ n
-  | inl h ↦
-      let o = overlaps-some rs b t some lt h in
-      let no : is_ram rs (o.0) ≡ false = free (o.0) (o.1) (o.2) in
-      let yes : is_ram rs (o.0) ≡ true = o.3 in
-      absurd (cc)
-]
-
 -- a part of such a range has none
 pub overlaps-part : (rs : List (ℕ × ℕ)) (x end b t : ℕ) → overlaps rs x end ≡ false → x ≤ b → t ≤ end → overlaps rs b t ≡ false
 overlaps-part [] x end b t h lo hi = refl

@@ -1,6 +1,6 @@
 //! The strings block, and the names in it.
 
-ghost use Rattle.std.specs.Prelude.{◌≡◌, length, take, drop, IfOk};
+ghost use Rattle.std.specs.Prelude.{◌≡◌, take, drop, IfOk};
 ghost use Rattle.fdt_tree.specs.Names.{is_name_character};
 ghost use Rattle.fdt_tree.specs.inside.NameRuns.{name_runs, zero_end};
 ghost use Rattle.fdt_tree.specs.Scanning.{name_at};

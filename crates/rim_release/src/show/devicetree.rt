@@ -1,5 +1,5 @@
 //! The text that shows a devicetree.
-ghost use Rattle.std.specs.Prelude.{◌≡◌, ◌++◌, IfErr, IfOk, OnOk, List, map};
+ghost use Rattle.std.specs.Prelude.{◌≡◌, ◌++◌, IfErr, IfOk, OnOk, map};
 ghost use Rattle.std.specs.List.{flat_map};
 ghost use Rattle.fdt_tree.specs.NodeViews.{branch, property_data};
 ghost use Rattle.fdt_tree.specs.Trees.{devicetree_of};

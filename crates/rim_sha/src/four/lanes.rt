@@ -1,6 +1,6 @@
 //! Vectors of four words, lane by lane: what the schedule and the rounds (FIPS 180-4, 6.2.2) make of them, and the
 //! functions of 4.1.2.
-ghost use Rattle.std.specs.Prelude.{◌≡◌, ◌+◌, ◌<◌, slice_index};
+ghost use Rattle.std.specs.Prelude.{◌+◌, ◌<◌, slice_index};
 ghost use Rattle.std.specs.Int.{w32, rotate_right};
 ghost use Rattle.sha2.specs.Sha256.{add32, big_sigma0, big_sigma1, ch, maj, small_sigma0, small_sigma1};
 ghost use Rattle.rim_sha.specs.inside.Lanes.{IsLanes};

@@ -1,4 +1,4 @@
-use Rattle.std.proofs.Common.{◌≡◌, ◌∙◌, ◌++◌, ℕ, Global, List, Vec, ap, codes, map}
+use Rattle.std.proofs.Common.{◌∙◌, ◌++◌, ℕ, Global, List, Vec, ap, codes, map}
 use Rattle.serde_json.specs.Written.{compact_text, has_float}
 use Rattle.rim_release.specs.Report.{seen}
 use Rattle.rim_release.proofs.ReportAsJson.{no-float}

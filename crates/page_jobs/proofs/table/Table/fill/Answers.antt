@@ -1,7 +1,6 @@
-use Rattle.std.proofs.Common.{refl, ◌≡◌, Some, ◌∙◌, sym, ap, is_some, false}
+use Rattle.std.proofs.Common.{refl, ◌≡◌, Some, ◌∙◌, sym, is_some, false}
 use Rattle.std.specs.Prelude.{slice_get}
 use Rattle.page_jobs.specs.Page.{page_view}
-use Rattle.page_jobs.specs.Table.{TableView, CanFill, with_digest}
 use Rattle.page_jobs.proofs.OneMoreDigest.{empty_slot}
 use Rattle.page_jobs.proofs.table.Table.fill.Goals as goal
 

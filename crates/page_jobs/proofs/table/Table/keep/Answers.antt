@@ -1,4 +1,4 @@
-use Rattle.std.proofs.Common.{arith, ◌≡◌, length, Some, ◌∙◌, ap}
+use Rattle.std.proofs.Common.{arith, length, ◌∙◌, ap}
 use Rattle.std.specs.Prelude.{slice_get}
 use Rattle.std.proofs.lemmas.Option.{slice_get_within}
 use Rattle.page_jobs.specs.Page.{page_view}
