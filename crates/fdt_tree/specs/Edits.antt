@@ -8,6 +8,7 @@ use Rattle.fdt_tree.specs.Devicetree.{Branch, Devicetree, Nodes, PropertyData, R
 use Rattle.fdt_tree.specs.Names.{legal}
 use Rattle.fdt_tree.specs.Lookup.{names_on}
 use Rattle.fdt_tree.specs.declared.reading.lexing.TheConstants.{DEPTH_LIMIT}
+use Rattle.refusal.specs.Answer.{◌>>=◌}
 
 -- the first property of the name gets the value; where none has the name, one is added at the end
 abbrev pub with_value : List ℕ → List ℕ → List PropertyData → List PropertyData

@@ -9,6 +9,7 @@ use Rattle.fdt_tree.specs.declared.fault.FdtFault.TheVariants.{BadCells}
 use Rattle.fdt_tree.specs.Devicetree.{PropertyData, Branch, branch_of_root, Devicetree, bare}
 use Rattle.fdt_tree.specs.Lookup.{first_value}
 use Rattle.fdt_tree.specs.Edits.{value_put, first_such, with_root}
+use Rattle.refusal.specs.Answer.{◌>>=◌}
 
 -- how many cells (words of 4 bytes) the value of such a property asks for: one or two
 abbrev pub cells_said : List ℕ → Result ℕ FdtFault

@@ -11,6 +11,7 @@ use Rattle.fdt_tree.specs.Blocks.{HasHeader, reserve_block, structure_block, str
 use Rattle.fdt_tree.specs.Reservations.{SpellsReservations, reservations_at}
 use Rattle.fdt_tree.specs.Grammar.{SpellsRoot}
 use Rattle.fdt_tree.specs.Scanning.{structure_at}
+use Rattle.refusal.specs.Answer.{◌>>=◌}
 
 -- The bytes spell the tree in the flattened format (Devicetree Specification 0.4, chapter 5).
 pub record Spells (bytes : List ℕ) (t : Devicetree) : Type 0 where

@@ -4,6 +4,7 @@ use Rattle.std.specs.Prelude.{ℕ, List, [], ◌∷◌, Result, Ok}
 use Rattle.fdt_tree.specs.declared.fault.FdtFault.{FdtFault}
 use Rattle.fdt_tree.specs.Devicetree.{PropertyData, Nodes, none, node, Token, begin_node, property, end_node, Root, Devicetree}
 use Rattle.fdt_tree.specs.Reading.{Parts, parts_at}
+use Rattle.refusal.specs.Answer.{◌>>=◌}
 
 -- a node whose end was read, and whose begin was not read yet: its properties and its children so far
 pub record Pending : Type 0 where

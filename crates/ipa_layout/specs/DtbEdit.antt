@@ -11,6 +11,7 @@ use Rattle.fdt_tree.specs.Memory.{set_memory_at}
 use Rattle.fdt_tree.specs.Writing.{file_of}
 use Rattle.ipa_layout.specs.declared.dtb_edit.Span.{Span}
 use Rattle.rim_launch.specs.declared.item.Region.{Region}
+use Rattle.refusal.specs.Answer.{◌>>=◌}
 
 -- what it is to have, if anything: the command line, the addresses of the initrd's bytes, and the first
 -- region of RAM

@@ -27,6 +27,7 @@ use Rattle.ipa_layout.specs.Extent.{lead_of, page_count_of}
 use Rattle.ipa_layout.specs.ItemCheck.{checked_item}
 use Rattle.ipa_layout.specs.Overlap.{checked_all}
 use Rattle.ipa_layout.specs.Rec.{rec_of}
+use Rattle.refusal.specs.Answer.{◌>>=◌}
 
 -- ---- the bytes of items
 

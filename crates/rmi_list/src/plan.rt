@@ -131,7 +131,7 @@ impl Plan {
             params: realm_params(draft.launch),
             num_aux: draft.launch.config().num_aux,
             recs: Vec::from_slice(alloc, draft.placed.recs())?,
-            span: draft.spans,
+            spans: draft.spans,
             starts,
         })
     }
@@ -226,13 +226,13 @@ fn commands_in(span: &Span) -> usize
 
 /// How many commands come before each span, and how many there are in all.
 fn number(alloc: Global, spans: &[Span]) -> Result<Vec<usize>, NoMemory>
-    requires { sum_by commands_in span.now < 2 ^ 64 }
-    ensures { IfOk result (λ starts. AreStarts span.now starts.items) }
+    requires { sum_by commands_in spans.now < 2 ^ 64 }
+    ensures { IfOk result (λ starts. AreStarts spans.now starts.items) }
 {
     let mut starts = Vec::new(alloc);
     let mut len = 0;
     starts.push(len)?;
-    for span in span {
+    for span in spans {
         len += commands_in(span);
         starts.push(len)?;
     }

@@ -12,9 +12,9 @@ abbrev pub shown_plan : Inside → List Entry
 shown_plan p = entries_of p.params p.num_aux p.recs.items p.spans.items
 
 -- of some spans, how many commands come before each, and at last how many there are in all
-pub record AreStarts (span : List Span) (starts : List ℕ) : Type 0 where
-  pub count : length starts ≡ length span + 1
-  pub at : (i : ℕ) → i ≤ length span → slice_index starts i ≡ sum_by commands_in (take i span)
+pub record AreStarts (spans : List Span) (starts : List ℕ) : Type 0 where
+  pub count : length starts ≡ length spans + 1
+  pub at : (i : ℕ) → i ≤ length spans → slice_index starts i ≡ sum_by commands_in (take i spans)
 
 -- the pool begins below 2^48, and there are no more auxiliary granules and RECs than a list may have
 pub record IsWellFormed (p : Inside) : Type 0 where
