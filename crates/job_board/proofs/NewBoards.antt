@@ -1,9 +1,9 @@
 -- A new board keeps what every board keeps, and has its rows.
-use Rattle.std.proofs.Common.{◌≡◌, ◌<◌, ◌≤◌, ℕ, zero, suc, Bool, false, cond, List, [], ◌∷◌, length, map, replicate, Option, Some, None, refl, sym, ap, ◌∙◌, arith}
+use Rattle.std.proofs.Common.{◌≡◌, ◌<◌, ◌≤◌, ℕ, zero, suc, Bool, false, cond, List, [], ◌∷◌, length, get_or, map, replicate, Option, subst, Some, None, refl, sym, ap, ◌∙◌, arith}
 use Rattle.std.specs.Prelude.{is_some}
-use Rattle.std.specs.List.{slice_get}
+use Rattle.std.specs.List.{All, slice_get}
 use Rattle.std.proofs.lemmas.List.{length-replicate}
-use Rattle.std.proofs.lemmas.Option.{slice_get_within}
+use Rattle.std.proofs.lemmas.Option.{same_Some, slice_get-get_or, slice_get_within}
 use Rattle.rim_desc.specs.declared.measurement.Measurement.{Measurement}
 use Rattle.page_jobs.specs.Row.{RowView}
 use Rattle.page_jobs.specs.Table.{IsTable, TableView}
@@ -18,9 +18,9 @@ use Rattle.job_board.proofs.HistoryGoesOn.{history_empty}
 
 pub rows_new : (workers pages : ℕ) (needs : List (List ℕ)) (plans : List PlanView) (rows : List (Option RowView)) (room : ℕ) → length rows ≡ workers
     → ((w : ℕ) → w < workers → (r : RowView) × (slice_get rows w ≡ Some (Some r)) × (r.digests ≡ []) × (r.room ≡ room))
-    → ((l : ℕ) (p : PlanView) → slice_get plans l ≡ Some p → length (keys_of p.links) ≤ room)
+    → All (λ (p : PlanView). length (keys_of p.links) ≤ room) plans
     → HasRows (opening workers pages needs) plans rows room
-rows_new workers pages needs plans rows room size there most = record {
+rows_new workers pages needs plans rows room size there all = record {
   size = size ∙ sym (length-replicate workers false);
   there = λ w known none.
       let within = slice_get_within (replicate workers false) w false (not_out (opening workers pages needs) w known) in
@@ -28,6 +28,12 @@ rows_new workers pages needs plans rows room size there most = record {
       (r.0, r.1, r.2, λ l p at. let few = most l p at in let same = r.3 in omega (arith, few, same));
   most = most;
 }
+  where
+    most : (l : ℕ) (p : PlanView) → slice_get plans l ≡ Some p → length (keys_of p.links) ≤ room
+    most l p at =
+        let within = slice_get_within plans l p at in
+        let same : get_or plans l p ≡ p = same_Some (get_or plans l p) p (sym (slice_get-get_or plans l p within) ∙ at) in
+        subst (λ (q : PlanView). length (keys_of q.links) ≤ room) same (all l p within)
 
 -- ---- the board
 

@@ -5,7 +5,6 @@ mod closing;
 mod grouping;
 mod job;
 mod jobs;
-mod known;
 mod laws;
 mod lending;
 mod line;
@@ -22,7 +21,6 @@ mod task;
 mod work;
 
 pub use job::{CoreFault, Event, JobId, JobState};
-pub use known::has_all_keys;
 pub use laws::{
     a_job_has_one_holder, a_job_is_put_once, a_step_keeps_needs_and_numbers, events_are_few,
     no_launch_is_early, no_state_is_stuck, pages_done_are_the_puts, values_are_own,

@@ -1,25 +1,12 @@
 //! Rows of digests: one for each worker, and some for launches that are lent.
 ghost use Rattle.std.specs.Prelude.{◌≡◌, ◌<◌, ◌≤◌, ℕ, [], length, IfOk, None, Some, slice_get, slice_set};
 ghost use Rattle.page_jobs.specs.Row.{RowView};
-ghost use Rattle.rim_chain.specs.Links.{PlanView, keys_of};
 ghost use Rattle.job_board.specs.declared.machine.TheConstants.{WORKER_LIMIT};
 
 use page_jobs::{DigestRow, LANES};
 use refusal::NoMemory;
 use rim_chain::LaunchPlan;
 use std::alloc::Global;
-
-/// The most pages that a plan has.
-pub(crate) fn most_pages(plans: &[LaunchPlan]) -> usize
-    ensures { (l : ℕ) (p : PlanView) → slice_get plans.now l ≡ Some p
-        → length (keys_of p.links) ≤ result }
-{
-    let mut most = 0;
-    for number in 0..plans.len() {
-        most = plan_at(plans, number).pages().max(most);
-    }
-    most
-}
 
 /// An empty row for each worker, with this room.
 pub(crate) fn worker_rows(

@@ -12,7 +12,8 @@ ghost use Rattle.rim_chain.specs.Links.{keys_of as link_keys};
 
 use job_board::{BoardState, Run};
 use job_workers::{Board, Gate, run_workers_on};
-use page_jobs::{Blob, Page, PageKey, Table, distinct_pages};
+use page_jobs::{Blob, Page, PageKey, Table};
+use page_jobs_tests::distinct_pages;
 use refusal::NoMemory;
 use rim_chain::{LaunchPlan, Link};
 use rim_desc::{Algo, Measurement, RealmParams, Source};

@@ -8,8 +8,6 @@ pub mod OrderOfKeys
 pub mod SearchByKey
 -- keys that rise are in order, each once, and are the only such list of these keys
 pub mod RisingKeys
--- keys that are sorted, and lose their repeats, rise
-pub mod SortedKeysOnce
 -- where keys rise, the slot of an item's next page is the next slot
 pub mod SlotOfNextPage
 -- A table is one still after a digest more, where the digest is its page's own.

@@ -1,7 +1,6 @@
 //! Pages of measured items, their digests, and the table that keeps them.
 #![tactic(auto)]
 
-mod distinct;
 mod hashed;
 mod laws;
 mod page;
@@ -9,7 +8,6 @@ mod range;
 mod row;
 mod table;
 
-pub use distinct::distinct_pages;
 pub use hashed::{Hashed, LANES, PageJob, run_four};
 pub use laws::{
     contents_are_page_bytes, keys_are_ordered, pages_go_by_keys, rising_keys_are_the_keys_once,

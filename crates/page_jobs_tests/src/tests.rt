@@ -8,7 +8,8 @@ ghost use Rattle.page_jobs.specs.Key.{IsRising};
 ghost use Rattle.page_jobs.specs.Page.{page_view};
 ghost use Rattle.page_jobs.specs.Table.{page_keys_of};
 
-use page_jobs::{Blob, Page, PageJob, PageKey, distinct_pages};
+use crate::distinct_pages;
+use page_jobs::{Blob, Page, PageJob, PageKey};
 use rim_desc::{Algo, Measurement, Source};
 use std::alloc::{AllocError, Global};
 use std::process::Abort;

@@ -16,7 +16,7 @@ use Rattle.rim_chain.specs.Links.{keys_in, keys_of, link_parts, page_count, page
 use Rattle.rim_chain.specs.declared.link.Link.{Link}
 use Rattle.rim_chain.specs.declared.link.Link.TheVariants.{Blocks, Pages, Unmeasured, Rec}
 use Rattle.rim_chain.specs.inside.UnderWay.{AreLeft, IsEmpty}
-use Rattle.rim_chain.proofs.ExtendedByParts.{place-fits, place-next}
+use Rattle.rmm_model.proofs.StretchByStretch.{place-fits, place-next}
 use Rattle.rim_chain.proofs.KeysByPlace.{length-keys_in}
 
 module _ (algo : Algo) (rim : List ℕ) (links : List Link) (digests : List Measurement) where

@@ -2,8 +2,7 @@
 ghost use Rattle.std.specs.Prelude.{◌≡◌, ◌+◌, ◌*◌, ◌^◌, ◌<◌, ◌≤◌, List, length, map, IfSome, None};
 ghost use Rattle.rim_desc.specs.Part.{Data, extended_by};
 ghost use Rattle.rim_desc.specs.declared.measurement.Measurement.{Measurement};
-ghost use Rattle.rmm_model.specs.Blocks.{granules, stretches};
-ghost use Rattle.rmm_model.specs.Effects.{ripas_parts};
+ghost use Rattle.rmm_model.specs.Blocks.{granules};
 ghost use Rattle.rim_chain.specs.Prefixes.{AreCheckpoints, IsPrefix, IsCheckpoint, prefix_value};
 ghost use Rattle.rim_chain.specs.Links.{chain_of, link_parts, page_count, pages_with};
 ghost use Rattle.rim_chain.specs.Rows.{IsFilled};
@@ -17,23 +16,8 @@ use crate::prefix::{Checkpoint, Prefix};
 use page_jobs::DigestRow;
 use rim_desc::{
     Algo, GRANULE_SIZE, Measurement, data_descriptor, extend, hash, realm_page, rec_descriptor,
-    ripas_descriptor,
 };
-
-/// A measurement extended once for each of `count` blocks of `size` bytes, from `base` on, that become RAM.
-fn extended_by_blocks(algo: Algo, rim: Measurement, base: u64, size: u64, count: u64) -> Measurement
-    requires { base + count * size < 2 ^ 64 }
-    ensures { result.bytes ≡ extended_by algo rim.bytes (ripas_parts (stretches count size base)) }
-{
-    let mut rim = rim;
-    let mut from = base;
-    for _ in 0..count {
-        let top = from + size;
-        rim = extend(algo, &ripas_descriptor(&rim, from, top));
-        from = top;
-    }
-    rim
-}
+use rmm_model::extended_by_stretches;
 
 /// A measurement extended by pages from an IPA on, with these digests.
 fn extended_by_pages(algo: Algo, rim: Measurement, ipa: u64, digests: &[Measurement]) -> Measurement
@@ -76,7 +60,9 @@ pub(crate) fn extended_by_link(
     ensures { result.bytes ≡ extended_by algo rim.bytes (link_parts link.now digests.now) }
 {
     match link {
-        Link::Blocks { base, size, count } => extended_by_blocks(algo, rim, *base, *size, *count),
+        Link::Blocks { base, size, count } => {
+            extended_by_stretches(algo, rim, *base, *size, *count)
+        }
         Link::Pages { ipa, .. } => extended_by_pages(algo, rim, *ipa, digests),
         Link::Unmeasured { ipa, count } => extended_by_unmeasured(algo, rim, *ipa, *count),
         Link::Rec { content } => extend(algo, &rec_descriptor(&rim, content)),

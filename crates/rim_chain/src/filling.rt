@@ -1,6 +1,6 @@
 //! Rows of the digests of a launch's pages.
 ghost use Rattle.std.specs.Prelude.{◌≡◌, ◌+◌, ◌^◌, ◌<◌, ◌≤◌, [], length, map, true, false, option_map};
-ghost use Rattle.std.specs.List.{range_with_len};
+ghost use Rattle.std.specs.List.{All, range_with_len};
 ghost use Rattle.page_jobs.specs.Table.{digest_at};
 ghost use Rattle.rim_chain.specs.Links.{key_after, keys_in, keys_of, page_count};
 ghost use Rattle.rim_chain.specs.Rows.{IsFilled, IsRowOf, has_all};
@@ -34,6 +34,17 @@ impl LaunchPlan {
         }
         true
     }
+}
+
+/// The most measured pages of a plan: a row with room for them can be any plan's.
+pub fn most_pages(plans: &[LaunchPlan]) -> usize
+    ensures { All (λ v. length (keys_of v.links) ≤ result) plans.now }
+{
+    let mut most = 0;
+    for plan in plans {
+        most = most.max(plan.pages());
+    }
+    most
 }
 
 /// Adds the digests of a link's pages to a row that has room for them, or answers false where the table has none for

@@ -16,6 +16,7 @@ mod starting;
 mod under_way;
 
 pub use chaining::{chain, chain_from};
+pub use filling::most_pages;
 pub use job::{LaunchJob, LaunchRim};
 pub use laws::{
     a_chain_goes_on_from_its_prefix, a_row_has_the_digests_of_its_pages,

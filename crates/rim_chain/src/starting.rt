@@ -46,7 +46,7 @@ pub fn first_prefixes(
     if groups == 0 {
         return Ok(prefixes);
     }
-    let mut rows = reserve_rows(alloc, most_pages(plans, starts.as_slice()))?;
+    let mut rows = reserve_rows(alloc, room_for(plans, starts.as_slice()))?;
     for group in 0..groups {
         let at = LANES * group;
         let four = [starts[at], starts[at + 1], starts[at + 2], starts[at + 3]];
@@ -62,8 +62,8 @@ fn no_prefixes(alloc: Global, launches: usize) -> Result<Vec<Option<Prefix>>, No
     Ok(vec![in alloc; None; launches]?)
 }
 
-/// The most measured pages of these launches.
-fn most_pages(plans: &[LaunchPlan], starts: &[Start]) -> usize {
+/// The most measured pages of these launches. It is a measure of the work alone.
+fn room_for(plans: &[LaunchPlan], starts: &[Start]) -> usize {
     let mut most = 0;
     for start in starts {
         most = most.max(plans.get(start.number).map_or(0, |plan| plan.pages()));

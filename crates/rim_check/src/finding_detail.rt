@@ -2,12 +2,12 @@
 use crate::expected::Expected;
 use crate::line::{Line, Quoted};
 use crate::nearest::Nearest;
-use crate::place::{array_at, text_at};
+use crate::place::text_at;
 use crate::shown::{Shown, bad_element};
 use rim_launch::Role;
 use rim_manifest::{
     DTB_RULES, Document, FILE_RULES, Finding, Form, ITEM_RULES, LAUNCH_RULES, ManifestFault, Place,
-    REC_RULES, Rule, Subject, TOP_RULES, cell, name, role, truth,
+    REC_RULES, Rule, Subject, TOP_RULES, asks_for, cell, entries, name, role,
 };
 use std::alloc::Global;
 use std::fmt;
@@ -91,7 +91,7 @@ fn write_no_file(
 ) -> fmt::Result {
     let text = text_at(table, "file").unwrap_or("");
     let mut nearest = Nearest::new(text);
-    for file in array_at(&document.table, "file") {
+    for file in entries(&document.table, "file") {
         nearest.add(alloc, name(file))?;
     }
     let quoted = Quoted(text);
@@ -122,10 +122,10 @@ fn write_other_key(alloc: Global, line: &mut Line, key: &str, rules: &[Rule]) ->
 
 /// What a launch's devicetree asks for and the launch has not.
 fn write_asked(line: &mut Line, launch: &Table) -> fmt::Result {
-    let parts = array_at(launch, "item");
+    let parts = entries(launch, "item");
     let has_initrd = parts.iter().any(|part| role(part) == Role::Initrd);
-    let lacks_initrd = asks(parts, "initrd") && !has_initrd;
-    let lacks_ram = asks(parts, "memory") && array_at(launch, "ram").is_empty();
+    let lacks_initrd = asks_for(parts, "initrd") && !has_initrd;
+    let lacks_ram = asks_for(parts, "memory") && entries(launch, "ram").is_empty();
     match (lacks_initrd, lacks_ram) {
         (true, true) => write!(
             line,
@@ -140,16 +140,9 @@ fn write_asked(line: &mut Line, launch: &Table) -> fmt::Result {
     }
 }
 
-/// Whether a devicetree among the items has a key that is true.
-fn asks(parts: &[Value], key: &str) -> bool {
-    parts
-        .iter()
-        .any(|part| role(part) == Role::Dtb && truth(part, key, false))
-}
-
 /// A step that names what is not there, or what an earlier step names.
 fn write_step(line: &mut Line, launch: &Table, step: usize) -> fmt::Result {
-    match array_at(launch, "steps").get(step) {
+    match entries(launch, "steps").get(step) {
         Some(text) => {
             let text = Shown(text);
             write!(
@@ -163,10 +156,10 @@ fn write_step(line: &mut Line, launch: &Table, step: usize) -> fmt::Result {
 
 /// Steps that are not as many as what they have to name.
 fn write_steps(line: &mut Line, launch: &Table) -> fmt::Result {
-    let steps = array_at(launch, "steps").len();
-    let regions = array_at(launch, "ram").len();
-    let parts = array_at(launch, "item").len();
-    let recs = array_at(launch, "rec").len();
+    let steps = entries(launch, "steps").len();
+    let regions = entries(launch, "ram").len();
+    let parts = entries(launch, "item").len();
+    let recs = entries(launch, "rec").len();
     write!(
         line,
         ": {steps} steps, expected one for each of {regions} regions, {parts} items and {recs} RECs"

@@ -1,6 +1,6 @@
 //! The place of a fault: its table by name, and its key.
 use crate::line::{Line, Quoted};
-use rim_manifest::{Document, Finding, Place, Subject, cell, items};
+use rim_manifest::{Document, Finding, Place, Subject, cell};
 use std::fmt;
 use std::fmt::Write;
 use toml::{Table, Value};
@@ -10,14 +10,6 @@ pub(crate) fn text_at<'a>(table: &'a Table, key: &str) -> Option<&'a str> {
     match cell(table, key)? {
         Value::String(text) => Some(text.as_str()),
         _ => None,
-    }
-}
-
-/// The values of the array at a key of a table; none where it is not given.
-pub(crate) fn array_at<'a>(table: &'a Table, key: &str) -> &'a [Value] {
-    match cell(table, key) {
-        Some(value) => items(value),
-        None => &[],
     }
 }
 

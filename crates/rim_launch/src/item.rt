@@ -74,8 +74,8 @@ impl Bootargs {
     }
 }
 
-/// Whether no byte is zero.
-fn has_no_zero(bytes: &[u8]) -> bool
+/// Whether no byte is zero, as a command line may be.
+pub fn has_no_zero(bytes: &[u8]) -> bool
     ensures { result ≡ has_no_zero bytes.now }
 {
     bytes.iter().all(|byte| *byte != 0)

@@ -11,7 +11,7 @@ mod rec;
 mod step;
 
 pub use config::{Config, POOL_LIMIT};
-pub use item::{Bootargs, Edits, Item, ItemKind, Region, Role};
+pub use item::{Bootargs, Edits, Item, ItemKind, Region, Role, has_no_zero};
 pub use launch::{ITEM_LIMIT, Launch, NAMED_REC_LIMIT, REGION_LIMIT};
 pub use realm::realm_params;
 pub use rec::Rec;

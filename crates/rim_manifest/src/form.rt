@@ -9,6 +9,7 @@ ghost use Rattle.rim_manifest.specs.Forms.{has_kind, is_algorithm, is_base, is_i
 
 use crate::word::is_word;
 use rim_desc::Algo;
+use rim_launch::has_no_zero;
 use toml::Value;
 
 /// The most characters of a name: 64. This project's choice.
@@ -156,12 +157,6 @@ fn is_item_kind(word: &str) -> bool
     ensures { result ≡ is_item_kind word.now }
 {
     matches!(word, "kernel" | "initrd" | "dtb" | "raw")
-}
-
-fn has_no_zero(text: &[u8]) -> bool
-    ensures { result ≡ has_no_zero text.now }
-{
-    text.iter().all(|byte| *byte != 0)
 }
 
 fn are_integers(items: &[Value]) -> bool

@@ -78,7 +78,7 @@ fn kinds_once(items: &[Value]) -> bool
 }
 
 /// Whether a devicetree among the items has a key that is true.
-fn asks_for(items: &[Value], key: &str) -> bool
+pub fn asks_for(items: &[Value], key: &str) -> bool
     ensures { result ≡ asks_for key.now (map view items.now) }
 {
     items.iter().any(|item| has_role(item, Role::Dtb) && truth(item, key, false))

@@ -1,6 +1,6 @@
 //! The audit of a release: a monitor is given the commands of each launch.
-ghost use Rattle.std.specs.Prelude.{◌≡◌, ◌<◌, is_err, length, map, vec_len, true, IfOk, IfSome};
-ghost use Rattle.std.specs.List.{list_any, slice_get};
+ghost use Rattle.std.specs.Prelude.{◌≡◌, ◌<◌, length, map, vec_len, true, IfOk, IfSome};
+ghost use Rattle.std.specs.List.{slice_get};
 ghost use Rattle.refusal.specs.Answer.{Answers};
 ghost use Rattle.rim_launch.specs.LaunchData.{has_files};
 ghost use Rattle.ipa_layout.specs.Files.{bytes_of_files};
@@ -10,7 +10,7 @@ ghost use Rattle.rim_release.specs.inside.Commands.{commands_in};
 
 use crate::audit_fault::AuditFault;
 use crate::commands::{LaunchCommands, lay_out};
-use crate::one_thread::{Files, Report};
+use crate::one_thread::{Files, Report, has_refused};
 use crate::report::push_lines;
 use refusal::NoMemory;
 use rim_desc::Measurement;
@@ -59,15 +59,8 @@ pub fn audit_launches(alloc: Global, release: &Release, files: &Files) -> Result
     push_lines(&mut text, release.all_launches(), &outcomes)?;
     Ok(Report {
         text,
-        has_refused: any_refused(&outcomes),
+        has_refused: has_refused(&outcomes),
     })
-}
-
-/// Whether some launch is refused.
-fn any_refused(outcomes: &[Result<Measurement, AuditFault>]) -> bool
-    ensures { result ≡ list_any is_err outcomes.now }
-{
-    outcomes.iter().any(|outcome| outcome.is_err())
 }
 
 /// What came of each launch.

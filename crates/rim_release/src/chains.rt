@@ -11,7 +11,7 @@ use crate::audit_fault::AuditFault;
 use ipa_layout::Placed;
 use page_jobs::{DigestRow, Table};
 use refusal::NoMemory;
-use rim_chain::{LaunchPlan, Prefix, SharedPrefixes, chain_from, first_prefixes};
+use rim_chain::{LaunchPlan, Prefix, SharedPrefixes, chain_from, first_prefixes, most_pages};
 use rim_desc::Measurement;
 use std::alloc::Global;
 
@@ -42,17 +42,6 @@ fn known_prefix(prefixes: &[Option<Prefix>], number: usize) -> Option<Prefix>
     ensures { IfSome result (λ f. slice_get prefixes.now number ≡ Some (Some f)) }
 {
     *prefixes.get(number)?
-}
-
-/// The most measured pages of a plan.
-fn most_pages(plans: &[LaunchPlan]) -> usize
-    ensures { All (λ v. length (keys_of v.links) ≤ result) plans.now }
-{
-    let mut most = 0;
-    for plan in plans {
-        most = most.max(plan.pages());
-    }
-    most
 }
 
 /// The Realm Initial Measurement of a launch, whose digests are put into a row in the place of others. It goes on from

@@ -12,7 +12,6 @@ use crate::hashing::hashed;
 use crate::pages::pages;
 use crate::prepare::prepare;
 use crate::report::report;
-use ipa_layout::Placed;
 use rim_manifest::Release;
 use std::alloc::Global;
 
@@ -58,9 +57,9 @@ pub fn report_alone(alloc: Global, release: &Release, files: &Files) -> Result<R
     })
 }
 
-/// Whether some launch is refused.
-pub(crate) fn has_refused(places: &[Result<Placed, AuditFault>]) -> bool
-    ensures { result ≡ list_any is_err places.now }
+/// Whether some launch is refused, by what came of each.
+pub(crate) fn has_refused<T>(outcomes: &[Result<T, AuditFault>]) -> bool
+    ensures { result ≡ list_any is_err outcomes.now }
 {
-    places.iter().any(|place| place.is_err())
+    outcomes.iter().any(|outcome| outcome.is_err())
 }

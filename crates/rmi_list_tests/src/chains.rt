@@ -5,7 +5,8 @@ ghost use Rattle.rmi_list.specs.Listed.{listed};
 
 use crate::launches::{Parts, WIDE, check, config, files_of, launch_of, placed_of};
 use ipa_layout::{Placed, PlacedItem};
-use page_jobs::{Blob, DigestRow, Page, PageJob, Table, distinct_pages};
+use page_jobs::{Blob, DigestRow, Page, PageJob, Table};
+use page_jobs_tests::distinct_pages;
 use rim_chain::{LaunchPlan, chain};
 use rim_desc::{Algo, Measurement};
 use rim_launch::{Config, Launch, Step};

@@ -32,3 +32,5 @@ pub mod CommandsTaken
 pub mod RimOfShownParts
 -- a command takes granules that were not in use, and they stay in use: none is taken twice
 pub mod NoGranuleTwice
+-- a measurement is extended by stretches one by one
+pub mod StretchByStretch

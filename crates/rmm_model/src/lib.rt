@@ -1,9 +1,11 @@
 //! The model of the Realm Management Monitor (Arm DEN0137 1.0) up to activation: its state, the checks
 //! and effects of each command, and what a list of commands measures. The definitions are in
-//! `specs/`; the code here has the words that they share with programs, and laws for their readers.
+//! `specs/`; the code here has the words that they share with programs, what several programs compute, and laws
+//! for their readers.
 #![tactic(auto)]
 
 mod laws;
+mod measuring;
 mod outcome;
 mod size;
 mod start;
@@ -17,6 +19,7 @@ pub use laws::{
     steps_keep_spaces_the_same, tables_after_one_more, tables_come_in_order, walk_is_deepest,
     walk_is_of_a_table, worked_listing_is_accepted,
 };
+pub use measuring::extended_by_stretches;
 pub use outcome::{Kind, Phase, Refused};
 pub use size::{size_of_level, span_of_level, table_base};
 pub use start::{LEAST_WIDTH, MOST_WIDTH, is_width, protected_end, start_count, start_level};

@@ -1,16 +1,14 @@
 //! Measuring on the way of commands.
-ghost use Rattle.std.specs.Prelude.{◌≡◌, ◌+◌, ◌*◌, ◌<◌, ◌^◌, option_map};
+ghost use Rattle.std.specs.Prelude.{◌≡◌, option_map};
 ghost use Rattle.rim_desc.specs.Page.{zeros};
 ghost use Rattle.rim_desc.specs.Measurement.{measurement_of};
-ghost use Rattle.rim_desc.specs.Part.{Data, Rec, extended, extended_by};
+ghost use Rattle.rim_desc.specs.Part.{Data, Rec, extended};
 ghost use Rattle.rim_desc.specs.Rec.{rec_page_of};
-ghost use Rattle.rmm_model.specs.Blocks.{stretches};
-ghost use Rattle.rmm_model.specs.Effects.{ripas_parts};
 ghost use Rattle.rmm_model.specs.State.{algo_of, measured_so_far};
 
 use rim_desc::{
     Algo, Measurement, RealmParams, RecParams, data_descriptor, extend, hash, rec_descriptor,
-    rec_page, ripas_descriptor,
+    rec_page,
 };
 
 /// The hash algorithm of a realm with these parameters.
@@ -37,28 +35,6 @@ fn zero_measurement() -> Measurement
     ensures { result.bytes ≡ zeros 64 }
 {
     Measurement { bytes: [0; 64] }
-}
-
-/// A measurement extended once for each of `count` stretches of `size` bytes, from `base` on, that
-/// become RAM. It takes a hash for each.
-pub fn extended_by_stretches(
-    algo: Algo,
-    rim: Measurement,
-    base: u64,
-    size: u64,
-    count: u64,
-) -> Measurement
-    requires { base + count * size < 2 ^ 64 }
-    ensures { result.bytes ≡ extended_by algo rim.bytes (ripas_parts (stretches count size base)) }
-{
-    let mut rim = rim;
-    let mut from = base;
-    for _ in 0..count {
-        let top = from + size;
-        rim = extend(algo, &ripas_descriptor(&rim, from, top));
-        from = top;
-    }
-    rim
 }
 
 /// A measurement extended by a page of data.

@@ -11,9 +11,7 @@ ghost use Rattle.rmm_monitor.specs.Growth.{adds_something};
 ghost use Rattle.rmm_monitor.specs.inside.Owned.{all_owned};
 ghost use Rattle.rim_desc.specs.declared.rec.TheConstants.{AUX_LIMIT};
 
-use crate::measuring::{
-    algo_of, extended_by_data, extended_by_rec, extended_by_stretches, measured_so_far,
-};
+use crate::measuring::{algo_of, extended_by_data, extended_by_rec, measured_so_far};
 use crate::owners::Owners;
 use crate::parameters::{
     all_aligned, has, is_bad_content, is_bad_realm, is_bad_rec, is_cut, rec_index, repeats,
@@ -21,7 +19,7 @@ use crate::parameters::{
 };
 use crate::space::IpaSpace;
 use rim_desc::{Command, GRANULE_SIZE, Measurement, RealmParams, RecParams, hash, realm_page};
-use rmm_model::{Kind, Phase, Refused, protected_end, size_of_level};
+use rmm_model::{Kind, Phase, Refused, extended_by_stretches, protected_end, size_of_level};
 use std::alloc::Global;
 use std::marker::Model;
 

@@ -6,8 +6,10 @@ ghost use Rattle.page_jobs.specs.Page.{page_view};
 ghost use Rattle.page_jobs.specs.Table.{page_keys_of as page_keys};
 ghost use Rattle.rim_chain.specs.Links.{keys_of};
 
-use job_board::{BoardState, ChainedLaunch, PageTask, Run, Share, Work, has_all_keys};
-use page_jobs::{Blob, Page, PageKey, Table, distinct_pages};
+use crate::has_all_keys;
+use job_board::{BoardState, ChainedLaunch, PageTask, Run, Share, Work};
+use page_jobs::{Blob, Page, PageKey, Table};
+use page_jobs_tests::distinct_pages;
 use refusal::NoMemory;
 use rim_chain::{LaunchPlan, Link};
 use rim_desc::{Algo, RealmParams, Source};

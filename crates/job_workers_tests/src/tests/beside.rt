@@ -1,6 +1,6 @@
 //! Runs in which a worker chains launches beside others.
 use super::{check, pages_of, plan_at, run_by};
-use job_board::has_all_keys;
+use job_board_tests::has_all_keys;
 use job_workers::FreeGate;
 use page_jobs::{DigestRow, Page, PageJob, Table};
 use refusal::NoMemory;

@@ -1,6 +1,7 @@
 //! A run whose last page is late: launches are shared all the same.
 use super::{check, pages_of, plans_of, run_two};
-use job_board::{JobId, has_all_keys};
+use job_board::JobId;
+use job_board_tests::has_all_keys;
 use job_workers::Gate;
 use page_jobs::Table;
 use std::marker::Brand;

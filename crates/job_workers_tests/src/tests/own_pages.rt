@@ -5,9 +5,11 @@ ghost use Rattle.page_jobs.specs.Page.{page_view};
 ghost use Rattle.page_jobs.specs.Table.{page_keys_of};
 
 use super::{check, plan_of, run_two};
-use job_board::{JobId, has_all_keys};
+use job_board::JobId;
+use job_board_tests::has_all_keys;
 use job_workers::Gate;
-use page_jobs::{Blob, Page, Table, distinct_pages};
+use page_jobs::{Blob, Page, Table};
+use page_jobs_tests::distinct_pages;
 use refusal::NoMemory;
 use rim_desc::{Algo, Measurement, Source};
 use std::alloc::Global;

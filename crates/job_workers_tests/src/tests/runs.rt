@@ -5,7 +5,8 @@ ghost use Rattle.page_jobs.specs.Table.{page_keys_of};
 ghost use Rattle.rim_chain.specs.Links.{keys_of as link_keys};
 
 use super::{STACK, check, pages_of, plans_of};
-use job_board::{BoardState, JobId, PageTask, Run, Share, Work, has_all_keys};
+use job_board::{BoardState, JobId, PageTask, Run, Share, Work};
+use job_board_tests::has_all_keys;
 use job_workers::{Board, FreeGate, Gate, run_workers_on};
 use page_jobs::Table;
 use refusal::NoMemory;

@@ -5,7 +5,8 @@ ghost use Rattle.page_jobs.specs.Page.{page_view};
 ghost use Rattle.page_jobs.specs.Table.{page_keys_of};
 
 use super::{Row, check, digest_of, item, key_of, page_of, pages_of};
-use page_jobs::{DigestRow, Page, PageJob, PageKey, Table, distinct_pages};
+use crate::distinct_pages;
+use page_jobs::{DigestRow, Page, PageJob, PageKey, Table};
 use rim_desc::{Algo, Measurement, Source};
 use std::alloc::{AllocError, Global};
 use std::process::Abort;

@@ -29,4 +29,4 @@ returns-clause-refused c =
     let launches : List NamedData = c.args.release.now.launches in
     let came = c.in_ok-outcomes.ensures
     ∙ ap (λ (fs : List (Vec ℕ Global)). map (λ (l : NamedData). rim_for l.launch (bytes_of_files fs)) launches) c.deref.ensures.value in
-    c.any_refused.ensures ∙ ap (list_any is_err) c.deref-3.ensures.value ∙ any-refused files launches _ came
+    c.has_refused.ensures ∙ ap (list_any is_err) c.deref-3.ensures.value ∙ any-refused files launches _ came

@@ -2,7 +2,7 @@ use Rattle.std.proofs.Common.{◌≡◌, ◌+◌, ◌*◌, ◌-◌}
 use Rattle.rim_desc.specs.Part.{extended_by}
 use Rattle.rmm_model.specs.Blocks.{stretches}
 use Rattle.rmm_model.specs.Effects.{ripas_parts}
-use Rattle.rim_chain.proofs.chaining.extended_by_blocks.Given as goal
+use Rattle.rmm_model.proofs.measuring.extended_by_stretches.Given as goal
 
 abbrev pub invariant-loop : goal.invariant-loop
 invariant-loop l = record {

@@ -1,6 +1,6 @@
 use Rattle.std.proofs.Common.{◌≡◌, ◌∙◌, ◌+◌, ◌-◌, ◌<◌, sym, refl, arith}
-use Rattle.rmm_monitor.proofs.StretchesBecomeRam.{place-fits, place-next, stretches-end, stretches-next}
-use Rattle.rmm_monitor.proofs.measuring.extended_by_stretches.Goals as goal
+use Rattle.rmm_model.proofs.StretchByStretch.{place-fits, place-next, stretches-end, stretches-next}
+use Rattle.rmm_model.proofs.measuring.extended_by_stretches.Goals as goal
 
 pub loop-init : goal.loop-init
 loop-init c = let e : c.args.count - 0 ≡ c.args.count = omega arith in rw e (record { place = refl; left = refl })

@@ -3,8 +3,8 @@ use Rattle.std.specs.List.{dedup}
 use Rattle.std.specs.List.Sorted.{IsSortedByKey}
 use Rattle.std.proofs.lemmas.Fn.{always_returns_same, dedup_same}
 use Rattle.page_jobs.specs.Key.{key_cmp}
-use Rattle.page_jobs.proofs.SortedKeysOnce.{contains-after, keys-after, one_key, page_key, rising-after}
-use Rattle.page_jobs.proofs.distinct.distinct_pages.Goals as goal
+use Rattle.page_jobs_tests.proofs.SortedKeysOnce.{contains-after, keys-after, one_key, page_key, rising-after}
+use Rattle.page_jobs_tests.proofs.distinct.distinct_pages.Goals as goal
 
 in_order : (c : goal.After-dedup_by_key) → IsSortedByKey page_key key_cmp c.sort_unstable_by_key.new.self.items
 in_order c = λ k d low high.

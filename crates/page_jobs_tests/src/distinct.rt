@@ -5,7 +5,7 @@ ghost use Rattle.page_jobs.specs.Key.{IsRising, rising_keys};
 ghost use Rattle.page_jobs.specs.Page.{page_view};
 ghost use Rattle.page_jobs.specs.Table.{page_keys_of};
 
-use crate::page::Page;
+use page_jobs::Page;
 
 /// Sorts pages by their keys, and keeps one page of each key. It takes no memory.
 pub fn distinct_pages(pages: &mut Vec<Page>)

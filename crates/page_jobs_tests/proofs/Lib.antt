@@ -1,0 +1,2 @@
+-- Keys that are sorted, and lose their repeats, rise.
+pub mod SortedKeysOnce
