@@ -25,7 +25,7 @@ rows_new workers pages needs plans rows room size there all = record {
   there = λ w known none.
       let within = slice_get_within (replicate workers false) w false (not_out (opening workers pages needs) w known) in
       let r = there w (omega (arith, within, length-replicate workers false)) in
-      (r.0, r.1, r.2, λ l p at. let few = most l p at in let same = r.3 in omega (arith, few, same));
+      (r.0, r.1, (r.2, λ l p at. let few = most l p at in let same = r.3 in omega (arith, few, same)));
   most = most;
 }
   where

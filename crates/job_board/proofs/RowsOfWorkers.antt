@@ -3,8 +3,8 @@ use Rattle.std.proofs.Common.{◌≡◌, ℕ, ◌<◌, Bool, true, false, cond, 
 use Rattle.std.specs.Prelude.{option_map, unwrap_or}
 use Rattle.std.specs.List.{slice_get}
 use Rattle.std.proofs.lemmas.Bool.Decides.{nat_tests}
-use Rattle.std.proofs.lemmas.List.{length-set, slice_get-map}
-use Rattle.std.proofs.lemmas.Option.{same_Some, slice_get-get_or, slice_get_within}
+use Rattle.std.proofs.lemmas.List.{length-set}
+use Rattle.std.proofs.lemmas.Option.{same_Some, slice_get-get_or, slice_get-map, slice_get_within}
 use Rattle.page_jobs.specs.Row.{RowView}
 use Rattle.rim_chain.specs.Links.{PlanView}
 use Rattle.job_board.specs.declared.job.JobId.TheVariants.{Page, Launch}
@@ -40,70 +40,65 @@ held_stays xs k l v x y at other held false is = slice_get-set_other xs k l y is
 free_not_held : (v : ℕ) → Free ≡ Held v → ⊥
 free_not_held v e = cc
 
+held_apart : (a b : ℕ) → Held a ≡ Held b → eqb b a ≡ false → ⊥
+held_apart a b both e = let same : a ≡ b = cc in absurd (grind (arith, nat_tests, same, e))
+
 -- a launch is taken with the worker's row
 pub rows_take_launch : (s t : CoreState) (plans : List PlanView) (rows : List (Option RowView)) (room w k : ℕ) → HasRows s plans rows room → core_step s (Take w (Launch k)) ≡ Ok t → HasRows t plans (set rows w None) room
 rows_take_launch s t plans rows room w k h is =
+    let p = take_says s t w (Launch k) is in
     subst (λ (u : CoreState). HasRows u plans (set rows w None) room) (sym p.2) (record {
       size = length-set rows w None ∙ h.size;
-      there = λ v known none. there_at v known none (eqb v w) refl;
+      there = λ v known none. there_at p.0 v known none (eqb v w) refl;
       most = h.most;
     })
   where
-    p = take_says s t w (Launch k) is
-
-    there_at : (v : ℕ) → is_out s v ≡ false → HoldsNoLaunch (with_job s (Launch k) (Held w)) v → (b : Bool) → eqb v w ≡ b → (r : RowView) × (slice_get (set rows w None) v ≡ Some (Some r)) × IsSpare plans r
-    there_at v known none true e =
+    there_at : slice_get s.launches k ≡ Some Free → (v : ℕ) → is_out s v ≡ false → HoldsNoLaunch (with_job s (Launch k) (Held w)) v → (b : Bool) → eqb v w ≡ b → (r : RowView) × (slice_get (set rows w None) v ≡ Some (Some r)) × IsSpare plans r
+    there_at free v known none true e =
         let same : w ≡ v = grind (arith, nat_tests) in
-        absurd (none k (slice_get-set_same s.launches k Free (Held w) p.0 ∙ ap (λ (n : ℕ). Some (Held n)) same))
-    there_at v known none false e =
-        let r = h.there v known (λ l at. none l (held_stays s.launches k l v Free (Held w) p.0 (free_not_held v) at (eqb l k) refl)) in
+        absurd (none k (slice_get-set_same s.launches k Free (Held w) free ∙ ap (λ (n : ℕ). Some (Held n)) same))
+    there_at free v known none false e =
+        let r = h.there v known (λ l at. none l (held_stays s.launches k l v Free (Held w) free (free_not_held v) at (eqb l k) refl)) in
         (r.0, slice_get-set_other rows w v None e ∙ r.1, r.2)
 
 -- a launch is put, and its row is the worker's again
 pub rows_put_launch : (s t : CoreState) (plans : List PlanView) (rows : List (Option RowView)) (room w k : ℕ) (r : RowView) → HasRows s plans rows room → IsSpare plans r → core_step s (Put w (Launch k)) ≡ Ok t
     → HasRows t plans (set rows w (Some r)) room
 rows_put_launch s t plans rows room w k r h spare is =
+    let p = put_says s t w (Launch k) is in
     subst (λ (u : CoreState). HasRows u plans (set rows w (Some r)) room) (sym p.2) (record {
       size = length-set rows w (Some r) ∙ h.size;
-      there = λ v known none. there_at v known none (eqb v w) refl;
+      there = λ v known none. there_at p.0 p.1 v known none (eqb v w) refl;
       most = h.most;
     })
   where
-    p = put_says s t w (Launch k) is
-
-    there_at : (v : ℕ) → is_out s v ≡ false → HoldsNoLaunch (with_job s (Launch k) Done) v → (b : Bool) → eqb v w ≡ b → (u : RowView) × (slice_get (set rows w (Some r)) v ≡ Some (Some u)) × IsSpare plans u
-    there_at v known none true e =
+    there_at : is_out s w ≡ false → slice_get s.launches k ≡ Some (Held w) → (v : ℕ) → is_out s v ≡ false → HoldsNoLaunch (with_job s (Launch k) Done) v → (b : Bool) → eqb v w ≡ b → (u : RowView) × (slice_get (set rows w (Some r)) v ≡ Some (Some u)) × IsSpare plans u
+    there_at out held v known none true e =
         let same : v ≡ w = grind (arith, nat_tests) in
-        let within = row_within s plans rows room w h p.0 in
+        let within = row_within s plans rows room w h out in
         let here : slice_get (set rows w (Some r)) w ≡ Some (Some r) = slice_get-set_same rows w (get_or rows w None) (Some r) (slice_get-get_or rows w None within) in
         (r, ap (slice_get (set rows w (Some r))) same ∙ here, spare)
-    there_at v known none false e =
+    there_at out held v known none false e =
         let other : Held w ≡ Held v → ⊥ = λ both. held_apart w v both e in
-        let u = h.there v known (λ l at. none l (held_stays s.launches k l v (Held w) Done p.1 other at (eqb l k) refl)) in
+        let u = h.there v known (λ l at. none l (held_stays s.launches k l v (Held w) Done held other at (eqb l k) refl)) in
         (u.0, slice_get-set_other rows w v (Some r) e ∙ u.1, u.2)
-
-    held_apart : (a b : ℕ) → Held a ≡ Held b → eqb b a ≡ false → ⊥
-    held_apart a b both e =
-        let same : a ≡ b = cc in
-        absurd (grind (arith, nat_tests, same, e))
 
 -- a worker that retires leaves the others' rows
 pub rows_retire : (s t : CoreState) (plans : List PlanView) (rows : List (Option RowView)) (room w : ℕ) → HasRows s plans rows room → core_step s (Retire w) ≡ Ok t → HasRows t plans rows room
 rows_retire s t plans rows room w h is =
+    let p = retire_says s t w is in
     subst (λ (u : CoreState). HasRows u plans rows room) (sym p.1) (record {
       size = h.size ∙ sym (length-set s.retired w true);
-      there = λ v known none. there_at v known none (eqb v w) refl;
+      there = λ v known none. there_at p.0 v known none (eqb v w) refl;
       most = h.most;
     })
   where
-    p = retire_says s t w is
-
-    there_at : (v : ℕ) → is_out (without_worker s w) v ≡ false → HoldsNoLaunch (without_worker s w) v → (b : Bool) → eqb v w ≡ b → (r : RowView) × (slice_get rows v ≡ Some (Some r)) × IsSpare plans r
-    there_at v known none true e =
+    there_at : is_out s w ≡ false → (v : ℕ) → is_out (without_worker s w) v ≡ false → HoldsNoLaunch (without_worker s w) v → (b : Bool) → eqb v w ≡ b → (r : RowView) × (slice_get rows v ≡ Some (Some r)) × IsSpare plans r
+    there_at in_s v known none true e =
         let same : v ≡ w = grind (arith, nat_tests) in
-        let out : is_out (without_worker s w) v ≡ true = ap (λ (o : Option Bool). unwrap_or o true) (ap (slice_get (set s.retired w true)) same ∙ slice_get-set_same s.retired w false true (not_out s w p.0)) in
+        let out : is_out (without_worker s w) v ≡ true = ap (λ (o : Option Bool). unwrap_or o true) (ap (slice_get (set s.retired w true)) same ∙ slice_get-set_same s.retired w false true (not_out s w in_s)) in
         let both : true ≡ false = sym out ∙ known in
         absurd (cc)
-    there_at v known none false e =
+    there_at out v known none false e =
         let in_s : is_out s v ≡ false = ap (λ (o : Option Bool). unwrap_or o true) (sym (slice_get-set_other s.retired w v true e)) ∙ known in
         h.there v in_s (λ l at. none l (slice_get-map (freed w) s.launches l ∙ (ap (option_map (freed w)) at ∙ ap (λ (b : Bool). Some (cond b Free (Held v))) e)))

@@ -68,7 +68,7 @@ pub(crate) fn take_row(rows: &mut Vec<Option<DigestRow>>, worker: usize) -> Opti
 pub(crate) fn keep_row(rows: &mut Vec<Option<DigestRow>>, worker: usize, row: DigestRow)
     requires { worker < length rows.old.items }
     ensures { rows.new.items
-        ≡ slice_set rows.old.items worker (Some (record row.entry { digests = [] })) }
+        ≡ slice_set rows.old.items worker (Some (record row { digests = [] })) }
 {
     let mut row = row;
     row.truncate(0);

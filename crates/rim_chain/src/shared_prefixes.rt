@@ -18,7 +18,7 @@ use std::marker::Model;
 use std::mem::replace;
 
 /// For each launch of a run whose prefix it begins with, and its own checkpoints. A launch goes on from the prefix of an
-/// earlier one. No value depends on which: a prefix is handed out just where it is the launch's own.
+/// earlier one. No value depends on which: a prefix is handed out only where it is the launch's own.
 #[derive(Drop)]
 pub struct SharedPrefixes {
     shared: Vec<Option<SharedPrefix>>,

@@ -24,7 +24,7 @@ both_refused {P = P} {X = X} {A = A} {B = B} {E = E} place next a b = at place
     at (Err e) = refl
     at (Ok p) = at_next p (next p)
 
--- a launch has no commands just where it is not accepted
+-- a launch has no commands exactly where it is not accepted
 same_refusal : (l : LaunchData) (files : List (List ℕ)) → is_err (commands_for l files) ≡ is_err (accepted_of l files)
 unfolding commands_for accepted_of
 same_refusal l files = both_refused (placed_of l files) (entries_of l) _ _

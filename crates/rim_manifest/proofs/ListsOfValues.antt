@@ -20,7 +20,7 @@ pub all_items : (p : Data → Bool) (vs : List Value) → list_all p (items_list
 all_items p [] = refl
 all_items p (v ∷ vs) = ap (λ b. p (view v) && b) (all_items p vs)
 
--- what is read of values, as read of what they stand for
+-- What is read of values of TOML, by the definitions of what they are read as
 pub map_of_views : {X : Type 0} (f : Data → X) (vs : List Value) (ds : List Data) → map view vs ≡ ds → map (λ v. f (view v)) vs ≡ map f ds
 map_of_views f vs ds e = each vs ∙ ap (map f) e
   where

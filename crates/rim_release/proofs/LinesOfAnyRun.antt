@@ -74,9 +74,13 @@ launch-put own workers pages needs es legal over k lt =
     let put = (done_are_put workers pages needs es legal (Launch k)).0 done in
     put-value own (jobs_put es) k put.0 put.1 put.2
 
+-- jobs with their own values
+abbrev with_own : (JobId → List ℕ) → List JobId → List (JobId × List ℕ)
+with_own own jobs = map (λ job. (job, own job)) jobs
+
 -- a value that was given for a launch is the launch's own, and was put
-given-at : (own : JobId → List ℕ) (jobs : List JobId) (k i : ℕ) (value : List ℕ) → i < length (map (λ job. (job, own job)) jobs)
-    → get_or (map (λ job. (job, own job)) jobs) i (Launch k, value) ≡ (Launch k, value) → (i < length jobs) × (get_or jobs i (Launch k) ≡ Launch k) × (value ≡ own (Launch k))
+given-at : (own : JobId → List ℕ) (jobs : List JobId) (k i : ℕ) (value : List ℕ) → i < length (with_own own jobs)
+    → get_or (with_own own jobs) i (Launch k, value) ≡ (Launch k, value) → (i < length jobs) × (get_or jobs i (Launch k) ≡ Launch k) × (value ≡ own (Launch k))
 given-at own [] k i value lt at = absurd (omega (arith, lt))
 given-at own (job ∷ jobs) k zero value lt at =
     let same : job ≡ Launch k = ap (λ (x : JobId × List ℕ). x.0) at in
@@ -230,7 +234,7 @@ module _ (files : List (List ℕ)) (r : ReleaseData) (numbered : AreNumbered r) 
       let pages : List PageView = release_pages files r.launches in
       let own : JobId → List ℕ = own_value (makes_of pages plans) in
       let given = own_values (makes_of pages plans) workers (length pages) needs es hold legal in
-      let all : Contains (map (λ job. (job, own job)) (jobs_put es)) (Launch k, value) = subst (λ (vs : List (JobId × List ℕ)). Contains vs (Launch k, value)) given has in
+      let all : Contains (with_own own (jobs_put es)) (Launch k, value) = subst (λ (vs : List (JobId × List ℕ)). Contains vs (Launch k, value)) given has in
       let put = given-at own (jobs_put es) k all.0 value all.1 all.2 in
       let low = put-low workers (length pages) needs es legal k (all.0, put.0, put.1) in
       let plan = plan-there plans k (omega (arith, size, low)) in

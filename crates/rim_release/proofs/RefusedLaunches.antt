@@ -14,7 +14,7 @@ use Rattle.rim_release.specs.Accepted.{accepted_of, commands_for, entries_of, pl
 use Rattle.rim_release.specs.Report.{has_refused, seen}
 use Rattle.rim_release.specs.declared.audit_fault.AuditFault.{AuditFault}
 
--- a launch has no measurement just where it is not accepted
+-- a launch has no measurement exactly where it is not accepted
 same_refusal : (l : LaunchData) (files : List (List ℕ)) → is_err (rim_for l files) ≡ is_err (accepted_of l files)
 unfolding rim_for commands_for accepted_of
 same_refusal l files = by_place (placed_of l files)
@@ -38,7 +38,7 @@ seen_refused [] = refl
 seen_refused (Ok rim ∷ outcomes) = seen_refused outcomes
 seen_refused (Err fault ∷ outcomes) = refl
 
--- some launch is refused just where some outcome is a refusal
+-- some launch is refused exactly where some outcome is a refusal
 pub any-refused : (files : List (List ℕ)) (ls : List NamedData) (outcomes : List (Result Measurement AuditFault))
     → map seen outcomes ≡ map (λ l. rim_for l.launch files) ls → list_any is_err outcomes ≡ has_refused files ls
 any-refused files ls outcomes same =

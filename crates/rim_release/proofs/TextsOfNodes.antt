@@ -62,7 +62,7 @@ pub cut_back : (above path stepped name : List ℕ) → stepped ≡ path_below p
 cut_back above path stepped name step same =
     ap (take (length above)) (step ∙ ap (λ p. path_below p name) same ∙ append_assoc above (codes "/") name) ∙ take-append_seam above (codes "/" ++ name)
 
--- all children were gone through
+-- all children were visited
 pub all_told : (path strings text props told : List ℕ) (ns : List Node) (i : ℕ) (n : Node) → length ns ≤ i → ns ≡ (out-Node n).children.items
     → props ≡ text ++ flat_map property_line (map (property_data strings) (out-Node n).properties.items)
     → told ≡ props ++ nodes_text path (joined (branches strings (take i ns)))

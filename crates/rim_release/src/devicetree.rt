@@ -9,7 +9,7 @@ ghost use Rattle.rim_release.specs.Devicetree.{devicetree_in, devicetree_number,
 
 use crate::audit_fault::AuditFault;
 use crate::one_thread::Files;
-use crate::prepare::accepted;
+use crate::prepared::accepted;
 use ipa_layout::Placed;
 use refusal::NoMemory;
 use rim_launch::{Launch, Role};

@@ -14,7 +14,7 @@ mod listings;
 mod one_thread;
 mod pages;
 mod pending_report;
-mod prepare;
+mod prepared;
 mod report;
 mod show;
 mod workers;
@@ -33,7 +33,7 @@ pub use laws::{
 };
 pub use listings::{listing, listing_or_refusal};
 pub use one_thread::{Files, Report, measure_alone, report_alone};
-pub use prepare::{Prepared, prepare};
+pub use prepared::{Prepared, prepare};
 pub use rim_launch::{Config, Launch};
 pub use rim_manifest::{ManifestFault, NamedLaunch, Release, read_manifest};
 pub use show::devicetree::show_fdt;

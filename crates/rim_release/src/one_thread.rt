@@ -10,7 +10,7 @@ use crate::chains::{chains, outcomes};
 use crate::fault::StartFault;
 use crate::hashing::hashed;
 use crate::pages::pages;
-use crate::prepare::prepare;
+use crate::prepared::prepare;
 use crate::report::report;
 use rim_manifest::Release;
 use std::alloc::Global;

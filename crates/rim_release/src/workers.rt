@@ -17,7 +17,7 @@ use crate::fault::StartFault;
 use crate::one_thread::{Files, has_refused};
 use crate::pages::pages;
 use crate::pending_report::{PendingReport, unknown_rims};
-use crate::prepare::prepare;
+use crate::prepared::prepare;
 use job_board::{BoardState, Run, WORKER_LIMIT};
 use job_workers::{Board, Gate, run_workers};
 use page_jobs::{Page, Table};

@@ -27,7 +27,7 @@ use Rattle.rmm_model.proofs.CommandsTaken.{activate-taken}
 use Rattle.rmm_model.proofs.NoGranuleTwice.{accepted-once}
 use Rattle.rtt_plan.specs.Planned.{IsPlanned, after_data, after_region, data_checks, region_checks}
 use Rattle.rtt_plan.proofs.AcceptedCalls.{data-accepted, region-accepted}
-use Rattle.rtt_plan.proofs.Span.{planned-data, planned-nothing, planned-region}
+use Rattle.rtt_plan.proofs.PlansStayFormed.{planned-data, planned-nothing, planned-region}
 use Rattle.list_model.specs.Entries.{Contents, Entry, Whole, command_of, commands_of, delegate_all, delegated, granule, item_entries, rec_entries, rec_granules, region_entries}
 use Rattle.list_model.specs.Leading.{Build, Built, IsBuilt, IsNextRec, planned}
 use Rattle.list_model.specs.Parts.{AreContents, block_parts, page_parts}

@@ -11,7 +11,7 @@ use Rattle.rtt_plan.specs.inside.PageRanges.{are_pages, pages_of}
 
 -- ---- pages by their numbers
 
--- page j is one of n pages from page i on just where j is from i on and below i + n
+-- page j is one of n pages from page i on exactly where j is from i on and below i + n
 has-numbered : (n i j : ℕ) → has (granules n (4096 * i)) (4096 * j) ≡ (leb i j && ltb j (i + n))
 unfolding granules
 has-numbered zero i j = grind (arith, nat_tests)
@@ -20,7 +20,7 @@ has-numbered (suc n) i j =
     let h : has (granules n (4096 * (i + 1))) (4096 * j) ≡ (leb (i + 1) j && ltb j (i + 1 + n)) = has-numbered n (i + 1) j in
     rw (e, h) (grind (arith, nat_tests))
 
--- pages of one range are among those of another just where the ranges meet
+-- pages of one range are among those of another exactly where the ranges meet
 any-numbered : (n m i j : ℕ) → 0 < m → list_any (has (granules m (4096 * i))) (granules (suc n) (4096 * j)) ≡ (ltb i (j + suc n) && ltb j (i + m))
 unfolding granules
 any-numbered zero m i j some = rw (has-numbered m i j) (grind (arith, nat_tests))
@@ -37,7 +37,7 @@ meets-numbered n m i j base top from low high at some =
     let same : (ltb i (j + suc n) && ltb j (i + m)) ≡ (ltb (4096 * i) (4096 * j + 4096 * suc n) && ltb (4096 * j) (4096 * (i + m))) = grind (arith, nat_tests) in
     rw (low, high, at) (any-numbered n m i j some ∙ same)
 
--- a range of whole pages has one of some pages just where it meets them
+-- a range of whole pages has one of some pages exactly where it meets them
 range-meets : (n base top from : ℕ) → base % 4096 ≡ 0 → top % 4096 ≡ 0 → base < top → from % 4096 ≡ 0
     → list_any (has (granules ((top - base) / 4096) base)) (granules (suc n) from) ≡ (ltb base (from + 4096 * suc n) && ltb from top)
 range-meets n base top from low high some at =
@@ -57,7 +57,7 @@ any-of_none : (xs : List ℕ) → list_any (has []) xs ≡ false
 any-of_none [] = refl
 any-of_none (x ∷ xs) = any-of_none xs
 
--- ranges of whole pages have one of some pages just where one of them meets the range of these
+-- ranges of whole pages have one of some pages exactly where one of them meets the range of these
 any-assigned : (ranges : List (ℕ × ℕ)) (n from : ℕ) → are_pages ranges ≡ true → from % 4096 ≡ 0
     → list_any (has (pages_of ranges)) (granules (suc n) from) ≡ overlaps ranges from (from + 4096 * suc n)
 any-assigned [] n from whole at = any-of_none (granules (suc n) from)

@@ -33,7 +33,7 @@ loop-at-preserved c =
         links = omega (arith, inside);
         pages = omega (arith, pages, more, own);
         value =
-            rw (c.links.ensures.links, c.split_at-in-loop-at.ensures.prefix, c.split_at.ensures.back, c.digests.ensures.digests, count, value, c.params-algo.ensures, pages) at c.extended_by_link.ensures
+            rw (c.links.ensures.links, c.split_at-in-loop-at.ensures.front, c.split_at.ensures.back, c.digests.ensures.digests, count, value, c.params-algo.ensures, pages) at c.extended_by_link.ensures
             ∙ sym (prefix-next c.args.plan.now c.args.row.now.digests c.loop-at.at _ inside);
       };
       links = refl;

@@ -17,7 +17,7 @@ loop-link-preserved c =
     let back = c.split_at.ensures.back_len in
     record {
       filled = omega (arith, left, filled, back);
-      left = rw (c.extended_by_link-rim.ensures, c.split_at.ensures.prefix, c.split_at.ensures.back, count)
+      left = rw (c.extended_by_link-rim.ensures, c.split_at.ensures.front, c.split_at.ensures.back, count)
           (sym (links-next _ c.loop-link.rim.bytes c.args.links.now c.loop-link.link-index _ c.loop-link.digests.now inside) ∙ c.loop-link.invariant.left);
     }
 

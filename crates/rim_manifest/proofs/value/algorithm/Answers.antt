@@ -9,6 +9,7 @@ returns-in-Some-String c = rw (
   view-String,
   ← c.in-Some-String.text-is,
   ← c.as_str.ensures.value,
+  ← c.word.ensures,
   ← c.if-eq.ensures,
 )
 

@@ -23,7 +23,7 @@ loop-step-init c =
     rw c.steps-step-items.ensures.value (checking-begins c.args.launch.now c.args.placed.now c.in_ok-draft.draft _ begun)
 
 pub step-requires-clause-items : goal.step-requires-clause-items
-step-requires-clause-items c = rw c.loop-step.invariant.placed (are-listable c.args.launch.now c.args.placed.now c.steps-step-items.ensures.spans c.requires)
+step-requires-clause-items c = rw c.loop-step.invariant.placed (are-listable c.args.launch.now c.args.placed.now c.steps-step-items.ensures.kept c.requires)
 
 pub returns-in_err-step-clause-fault : goal.returns-in_err-step-clause-fault
 returns-in_err-step-clause-fault c =

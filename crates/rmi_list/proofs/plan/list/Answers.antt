@@ -29,7 +29,7 @@ pub step-requires-clause-pool : goal.step-requires-clause-pool
 step-requires-clause-pool c = c.loop-step.invariant.pool
 
 pub step-requires-clause-items : goal.step-requires-clause-items
-step-requires-clause-items c = rw c.loop-step.invariant.placed (are-listable c.args.launch.now c.args.placed.now c.steps-step-items.ensures.spans c.requires)
+step-requires-clause-items c = rw c.loop-step.invariant.placed (are-listable c.args.launch.now c.args.placed.now c.steps-step-items.ensures.kept c.requires)
 
 pub step-requires-clause-recs : goal.step-requires-clause-recs
 step-requires-clause-recs c = rw (c.loop-step.invariant.placed, ← c.recs.ensures) c.if-recs-gt-REC_LIMIT.false

@@ -18,7 +18,7 @@ start_count-requires c = c.config-config.result.width
 pub returns-in_err-delegate_all-clause-fault : goal.returns-in_err-delegate_all-clause-fault
 returns-in_err-delegate_all-clause-fault c =
     let p = err_from_is_err_and c.from_residual.result c.from_residual.ensures.1 in
-    let first : Draft = record { launch = c.args.launch; placed = c.args.placed; tables = c.new.result; span = c.new-2.result; taken = 0; num_recs = 0 } in
+    let first : Draft = record { launch = c.args.launch; placed = c.args.placed; tables = c.new.result; spans = c.new-2.result; taken = 0; num_recs = 0 } in
     rw (p.1, p.2) (first-tables-refused first _ _ _ c.config-config.ensures.value c.start_count.ensures.value refl c.in_err-delegate_all.ensures)
 
 pub returns-in_err-rd-clause-fault : goal.returns-in_err-rd-clause-fault

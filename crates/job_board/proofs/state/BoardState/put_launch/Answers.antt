@@ -69,16 +69,16 @@ invariant_of-self-2 g c =
     let own : IsOwnRow i.table.pages (keys_of job.plan.links) job.row.digests = subst (λ (pages : List PageView). IsOwnRow pages (keys_of job.plan.links) job.row.digests) (sym c.self.invariant.4.0) c.into_rim-rim.ensures.own.1 in
     let put = is_put b c.step.new.self c.args.worker job c.self.invariant.0 (rw (← number) step) plan own in
     let at : slice_get i.plans.now n ≡ Some job.plan = ap (slice_get i.plans.now) number ∙ plan in
-    let roomy : IsRoomy i.plans.now c.into_parts.result.0 =
-    subst (λ (r : RowView). IsRoomy i.plans.now r) (sym (c.into_parts.ensures.row ∙ ap (λ (r : RimView). r.job.row) c.into_rim-rim.ensures.rim))
+    let roomy : IsRoomy i.plans.now c.into_parts-row.result.0 =
+    subst (λ (r : RowView). IsRoomy i.plans.now r) (sym (c.into_parts-row.ensures.row ∙ ap (λ (r : RimView). r.job.row) c.into_rim-rim.ensures.rim))
     (subst (λ (plans : List PlanView). IsRoomy plans job.row) (sym c.self.invariant.4.1) c.into_rim-rim.ensures.own.2) in
-    let spare : IsSpare i.plans.now (record c.into_parts.result.0 { digests = [] }) = (refl, roomy) in
+    let spare : IsSpare i.plans.now (record c.into_parts-row.result.0 { digests = [] }) = (refl, roomy) in
     let value : c.value.result.bytes ≡ value_in i.table job.plan =
     c.value.ensures.own ∙ (ap (λ (r : RimView). chain_of r.job.plan r.job.row.digests) c.into_rim-rim.ensures.rim ∙ value_is i.table job.plan job.row.digests put.row) in (
       rw c.push_reserved.ensures.items (board_put_launch b c.step.new.self c.args.worker n job.plan c.value.result c.self.invariant.0 step at value),
       omega (arith, most, c.self.invariant.1, c.push_reserved.ensures.capacity),
       rw c.keep_row.ensures (rows_put_launch i.core c.step.new.self i.plans.now i.rows.items i.room c.args.worker n _ c.self.invariant.2 spare step),
-      c.keep.ensures.shared i.table i.plans.now job.plan at (own-checkpoints (λ v. v.items) i.table job.plan job.row.digests c.into_parts.result.1 put.row (subst (λ (r : RimView). IfSome c.into_parts.result.1 (λ checkpoints. AreCheckpoints r.job.plan r.job.row.digests checkpoints.items)) c.into_rim-rim.ensures.rim c.into_parts.ensures.checkpoints)) c.self.invariant.3,
+      c.keep.ensures.shared i.table i.plans.now job.plan at (own-checkpoints (λ v. v.items) i.table job.plan job.row.digests c.into_parts-row.result.1 put.row (subst (λ (r : RimView). IfSome c.into_parts-row.result.1 (λ checkpoints. AreCheckpoints r.job.plan r.job.row.digests checkpoints.items)) c.into_rim-rim.ensures.rim c.into_parts-row.ensures.checkpoints)) c.self.invariant.3,
       c.self.invariant.4,
     )
 

@@ -22,5 +22,5 @@ extended_by_links-requires-clause-filled c =
     omega (arith, size, c.page_count.ensures, c.split_at.ensures.back_len)
 
 pub returns : goal.returns
-returns c = rw (c.extended_by_links.ensures, c.extended_by_link.ensures, c.split_at.ensures.prefix, c.split_at.ensures.back, c.page_count.ensures)
+returns c = rw (c.extended_by_links.ensures, c.extended_by_link.ensures, c.split_at.ensures.front, c.split_at.ensures.back, c.page_count.ensures)
     (sym (link-first c.self.inside.algo c.self.inside.value.bytes c.self.inside.rest c.self.inside.links.now c.self.inside.digests.now) ∙ ap chains_to c.self.view_is)

@@ -13,5 +13,5 @@ returns-clause-value c =
     let links = take c.args.links p.links in
     let digests = take (length (keys_of links)) c.args.row.now.digests in
     let value = c.realm_value.ensures digests ∙ prefix-first p digests in
-    rw (c.split_at.ensures.prefix, c.links.ensures.links, c.split_at-2.ensures.prefix, c.digests.ensures.digests, c.pages_before-pages.ensures, c.params.ensures, value)
+    rw (c.split_at.ensures.front, c.links.ensures.links, c.split_at-2.ensures.front, c.digests.ensures.digests, c.pages_before-pages.ensures, c.params.ensures, value)
     (ap (extended_by p.params.algo _) (empty-first (Unmeasured 0 0) links digests none-left))

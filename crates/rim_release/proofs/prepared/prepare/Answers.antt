@@ -1,5 +1,5 @@
 use Rattle.rim_release.proofs.LaunchesLaidOut.{prepared-at}
-use Rattle.rim_release.proofs.prepare.prepare.Goals as goal
+use Rattle.rim_release.proofs.prepared.prepare.Goals as goal
 
 pub loop-launch-preserved : goal.loop-launch-preserved
 loop-launch-preserved c =
