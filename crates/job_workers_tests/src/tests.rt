@@ -99,7 +99,9 @@ fn run_two<'a, L: Run + Send + Sync, G: Gate + Sync, R: Threads + Wait + Sync>(
     requires parts { (blank.parts ≡ L.parts) × (blank.parts ≡ 2) }
     requires pages { table.pages ≡ L.pages }
     requires plans { plans.now ≡ L.plans }
-    requires keys { All (λ p. All (Contains (page_keys_of table.pages)) (link_keys p.links)) plans.now }
+    requires keys { All
+        (λ p. All (Contains (page_keys_of table.pages)) (link_keys p.links))
+        plans.now }
     requires empty { table.digests ≡ replicate (length table.pages) None }
 {
     run_by::<L, G, R>(rt, alloc, blank, 2, table, plans, gate)
@@ -120,7 +122,9 @@ fn run_by<'a, L: Run + Send + Sync, G: Gate + Sync, R: Threads + Wait + Sync>(
     requires workers { (1 ≤ workers) × (workers ≤ 64) }
     requires pages { table.pages ≡ L.pages }
     requires plans { plans.now ≡ L.plans }
-    requires keys { All (λ p. All (Contains (page_keys_of table.pages)) (link_keys p.links)) plans.now }
+    requires keys { All
+        (λ p. All (Contains (page_keys_of table.pages)) (link_keys p.links))
+        plans.now }
     requires empty { table.digests ≡ replicate (length table.pages) None }
 {
     let mut counts = vec![in alloc; 0; workers]?;

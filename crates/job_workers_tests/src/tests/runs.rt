@@ -214,7 +214,9 @@ fn put_once<'a, L: Run>(
     requires parts { (blank.parts ≡ L.parts) × (blank.parts ≡ 2) }
     requires pages { table.pages ≡ L.pages }
     requires plans { plans.now ≡ L.plans }
-    requires keys { All (λ p. All (Contains (page_keys_of table.pages)) (link_keys p.links)) plans.now }
+    requires keys { All
+        (λ p. All (Contains (page_keys_of table.pages)) (link_keys p.links))
+        plans.now }
     requires empty { table.digests ≡ replicate (length table.pages) None }
 {
     let (state, mut shares) = BoardState::<L>::new(alloc, blank, 2, table, plans)?;
