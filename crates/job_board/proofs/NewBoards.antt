@@ -5,7 +5,6 @@ use Rattle.std.specs.List.{All, slice_get}
 use Rattle.std.proofs.lemmas.List.{length-replicate}
 use Rattle.std.proofs.lemmas.Option.{same_Some, slice_get-get_or, slice_get_within}
 use Rattle.rim_desc.specs.declared.measurement.Measurement.{Measurement}
-use Rattle.page_jobs.specs.Row.{RowView}
 use Rattle.page_jobs.specs.Table.{IsTable, TableView}
 use Rattle.rim_chain.specs.Links.{PlanView, keys_of}
 use Rattle.job_board.specs.declared.job.JobState.TheVariants.{Free}
@@ -16,24 +15,31 @@ use Rattle.job_board.proofs.OneJobChanges.{not_out}
 use Rattle.job_board.proofs.CountsOfJobs.{sum_by-replicate_zero}
 use Rattle.job_board.proofs.HistoryGoesOn.{history_empty}
 
-pub rows_new : (workers pages : ℕ) (needs : List (List ℕ)) (plans : List PlanView) (rows : List (Option RowView)) (room : ℕ) → length rows ≡ workers
-    → ((w : ℕ) → w < workers → (r : RowView) × (slice_get rows w ≡ Some (Some r)) × (r.digests ≡ []) × (r.room ≡ room))
-    → All (λ (p : PlanView). length (keys_of p.links) ≤ room) plans
-    → HasRows (opening workers pages needs) plans rows room
-rows_new workers pages needs plans rows room size there all = record {
-  size = size ∙ sym (length-replicate workers false);
+-- what holds of each plan holds of the plan of a number
+pub plan_fits : (plans : List PlanView) (room : ℕ) → All (λ (p : PlanView). length (keys_of p.links) ≤ room) plans
+    → (l : ℕ) (p : PlanView) → slice_get plans l ≡ Some p → length (keys_of p.links) ≤ room
+plan_fits plans room all l p at =
+    let within = slice_get_within plans l p at in
+    let same : get_or plans l p ≡ p = same_Some (get_or plans l p) p (sym (slice_get-get_or plans l p within) ∙ at) in
+    subst (λ (q : PlanView). length (keys_of q.links) ≤ room) same (all l p within)
+
+same_for_each : {X : Type 0} (x : X) (n k : ℕ) → k < n → slice_get (replicate n x) k ≡ Some x
+same_for_each x zero k lt = absurd (omega (arith, lt))
+same_for_each x (suc n) zero lt = refl
+same_for_each x (suc n) (suc k) lt = same_for_each x n k (omega (arith, lt))
+
+abbrev there : Option (Unit {0})
+there = Some tt
+
+pub rows_new : (workers pages : ℕ) (needs : List (List ℕ)) (plans : List PlanView) (room : ℕ) → All (λ (p : PlanView). length (keys_of p.links) ≤ room) plans
+    → HasRows (opening workers pages needs) plans (replicate workers (Some tt)) room
+rows_new workers pages needs plans room all = record {
+  size = length-replicate workers (Some tt) ∙ sym (length-replicate workers false);
   there = λ w known none.
       let within = slice_get_within (replicate workers false) w false (not_out (opening workers pages needs) w known) in
-      let r = there w (omega (arith, within, length-replicate workers false)) in
-      (r.0, r.1, (r.2, λ l p at. let few = most l p at in let same = r.3 in omega (arith, few, same)));
-  most = most;
+      same_for_each there workers w (omega (arith, within, length-replicate workers false));
+  most = plan_fits plans room all;
 }
-  where
-    most : (l : ℕ) (p : PlanView) → slice_get plans l ≡ Some p → length (keys_of p.links) ≤ room
-    most l p at =
-        let within = slice_get_within plans l p at in
-        let same : get_or plans l p ≡ p = same_Some (get_or plans l p) p (sym (slice_get-get_or plans l p within) ∙ at) in
-        subst (λ (q : PlanView). length (keys_of q.links) ≤ room) same (all l p within)
 
 -- ---- the board
 

@@ -1,17 +1,22 @@
 -- A row of a table's digests is the row of a run's own pages, so a launch chains to its own value.
-use Rattle.std.proofs.Common.{◌≡◌, ℕ, zero, suc, ◌<◌, true, List, [], ◌∷◌, length, map, Option, Some, None, is_some, refl, sym, ap, ◌∙◌, subst, arith}
-use Rattle.std.specs.Prelude.{option_and_then, option_map}
+use Rattle.std.proofs.Common.{◌≡◌, ℕ, zero, suc, ◌<◌, true, List, [], ◌∷◌, ◌++◌, length, map, take, drop, Option, Some, None, is_some, refl, sym, ap, ◌∙◌, subst, arith}
+use Rattle.std.specs.Prelude.{IfNone, IfSome, option_and_then, option_map}
 use Rattle.std.specs.List.{slice_get}
 use Rattle.std.proofs.lemmas.Bool.{and_parts}
+use Rattle.std.proofs.lemmas.List.{take-append-drop}
+use Rattle.std.proofs.lemmas.List.Concat.{flat_map-append}
+use Rattle.std.proofs.lemmas.List.Folds.{list_all-append}
 use Rattle.std.proofs.lemmas.Option.{same_Some, slice_get_within}
 use Rattle.rim_desc.specs.declared.measurement.Measurement.{Measurement}
 use Rattle.page_jobs.specs.Page.{PageView, digest_of}
 use Rattle.page_jobs.specs.Table.{IsTable, TableView, digest_at, digest_in, slot_of}
 use Rattle.page_jobs.specs.declared.page.PageKey.{PageKey}
 use Rattle.rim_chain.specs.Jobs.{JobView}
-use Rattle.rim_chain.specs.Links.{PlanView, chain_of, keys_of}
-use Rattle.rim_chain.specs.Rows.{IsRowOf, has_all}
+use Rattle.rim_chain.specs.Links.{PlanView, chain_of, keys_in, keys_of}
+use Rattle.rim_chain.specs.declared.link.Link.{Link}
+use Rattle.rim_chain.specs.Rows.{HaveFirstPages, IsRowOf, has_all}
 use Rattle.job_board.specs.Tasks.{IsOwnLaunch, IsOwnRow, IsOwnValue, digest_among}
+use Rattle.job_board.specs.inside.Rows.{AreDigestsFor}
 
 page_there : (pages : List PageView) (k : ℕ) → k < length pages → (p : PageView) × (slice_get pages k ≡ Some p)
 page_there [] k lt = absurd (omega (arith, lt))
@@ -67,6 +72,40 @@ module _ (t : TableView) (table : IsTable t) where
       let here : digest_among t.pages key ≡ Some d.bytes = cc in
       let rest : map (digest_among t.pages) keys ≡ map (λ (e : Measurement). Some e.bytes) digests = cc in
       rw (key_row key d here parts.0, row_of_own keys digests rest parts.1) refl
+
+-- the first digests are those of the first keys
+own_front : (pages : List PageView) (front back : List PageKey) (digests : List Measurement) → IsOwnRow pages (front ++ back) digests → IsOwnRow pages front (take (length front) digests)
+own_front pages [] back digests own = refl
+own_front pages (key ∷ front) back [] own = cc
+own_front pages (key ∷ front) back (d ∷ digests) own =
+    let here : digest_among pages key ≡ Some d.bytes = cc in
+    let rest : map (digest_among pages) (front ++ back) ≡ map (λ (e : Measurement). Some e.bytes) digests = cc in
+    rw (here, own_front pages front back digests rest) refl
+
+-- the pages of the first n links of a plan are the first ones of another: of a row of the other, the first digests are theirs
+own_begun : (pages : List PageView) (kept links : List Link) (n : ℕ) (digests : List Measurement) → HaveFirstPages n links kept → IsOwnRow pages (keys_of kept) digests
+    → IsOwnRow pages (keys_of (take n links)) (take (length (keys_of (take n links))) digests)
+own_begun pages kept links n digests (m, same) own =
+    rw same (own_front pages (keys_of (take m kept)) (keys_of (drop m kept)) digests
+    (subst (λ (keys : List PageKey). IsOwnRow pages keys digests) (ap keys_of (sym (take-append-drop m kept)) ∙ flat_map-append keys_in (take m kept) (drop m kept)) own))
+
+-- a table with a digest for each key of a plan has one for each of its first links
+begun_filled : (t : TableView) (links : List Link) (n : ℕ) → has_all t (keys_of links) ≡ true → has_all t (keys_of (take n links)) ≡ true
+begun_filled t links n all =
+    (and_parts (has_all t (keys_of (take n links))) (has_all t (keys_of (drop n links)))
+    (sym (list_all-append (λ key. is_some (digest_at t key)) (keys_of (take n links)) (keys_of (drop n links)))
+    ∙ (ap (has_all t) (sym (ap keys_of (sym (take-append-drop n links)) ∙ flat_map-append keys_in (take n links) (drop n links))) ∙ all))).0
+
+-- so a row that was filled for another launch, or for none, has the table's digests of the pages that both begin with
+pub row_begun : {X : Type 0} (view : X → PlanView) (t : TableView) (pages : List PageView) (links : List Link) (n : ℕ) (kept : Option X) (digests : List Measurement) → IsTable t → t.pages ≡ pages
+    → AreDigestsFor pages (option_map view kept) digests → IfSome kept (λ k. HaveFirstPages n links (view k).links) → IfNone kept (n ≡ 0) → has_all t (keys_of links) ≡ true
+    → IsRowOf t (keys_of (take n links)) (take (length (keys_of (take n links))) digests)
+row_begun view t pages links n None digests table same empty begun none all =
+    subst (λ (m : ℕ). IsRowOf t (keys_of (take m links)) (take (length (keys_of (take m links))) digests)) (sym none) refl
+row_begun view t pages links n (Some k) digests table same own begun none all =
+    row_of_own t table (keys_of (take n links)) (take (length (keys_of (take n links))) digests)
+    (own_begun t.pages (view k).links links n digests begun (subst (λ (ps : List PageView). IsOwnRow ps (keys_of (view k).links) digests) (sym same) own))
+    (begun_filled t links n all)
 
 -- ---- what a launch of a run chains to
 

@@ -5,7 +5,6 @@ use Rattle.std.specs.List.{slice_get}
 use Rattle.std.proofs.lemmas.Bool.Decides.{nat_tests}
 use Rattle.std.proofs.lemmas.List.{length-set}
 use Rattle.std.proofs.lemmas.Option.{same_Some, slice_get-get_or, slice_get-map, slice_get_within}
-use Rattle.page_jobs.specs.Row.{RowView}
 use Rattle.rim_chain.specs.Links.{PlanView}
 use Rattle.job_board.specs.declared.job.JobId.TheVariants.{Page, Launch}
 use Rattle.job_board.specs.declared.job.JobState.{JobState}
@@ -13,20 +12,20 @@ use Rattle.job_board.specs.declared.job.JobState.TheVariants.{Free, Held, Done}
 use Rattle.job_board.specs.declared.job.Event.TheVariants.{Take, Put, Retire}
 use Rattle.job_board.specs.Jobs.{CoreState, freed, is_out, with_job, without_worker}
 use Rattle.job_board.specs.Step.{core_step}
-use Rattle.job_board.specs.inside.Rows.{HasRows, HoldsNoLaunch, IsSpare}
+use Rattle.job_board.specs.inside.Rows.{HasRows, HoldsNoLaunch}
 use Rattle.job_board.proofs.OneJobChanges.{not_out, slice_get-set_other, slice_get-set_same}
 use Rattle.job_board.proofs.WhatStepsChange.{put_says, retire_says, take_says}
 
 -- a worker that is not retired has a place among the rows
-pub row_within : (s : CoreState) (plans : List PlanView) (rows : List (Option RowView)) (room w : ℕ) → HasRows s plans rows room → is_out s w ≡ false → w < length rows
+pub row_within : (s : CoreState) (plans : List PlanView) (rows : List (Option (Unit {0}))) (room w : ℕ) → HasRows s plans rows room → is_out s w ≡ false → w < length rows
 row_within s plans rows room w h known = let a = slice_get_within s.retired w false (not_out s w known) in omega (arith, a, h.size)
 
 -- an event of a page changes no row
-pub rows_take_page : (s t : CoreState) (plans : List PlanView) (rows : List (Option RowView)) (room w j : ℕ) → HasRows s plans rows room → core_step s (Take w (Page j)) ≡ Ok t → HasRows t plans rows room
+pub rows_take_page : (s t : CoreState) (plans : List PlanView) (rows : List (Option (Unit {0}))) (room w j : ℕ) → HasRows s plans rows room → core_step s (Take w (Page j)) ≡ Ok t → HasRows t plans rows room
 rows_take_page s t plans rows room w j h is =
     subst (λ (u : CoreState). HasRows u plans rows room) (sym (take_says s t w (Page j) is).2) (record { size = h.size; there = h.there; most = h.most })
 
-pub rows_put_page : (s t : CoreState) (plans : List PlanView) (rows : List (Option RowView)) (room w j : ℕ) → HasRows s plans rows room → core_step s (Put w (Page j)) ≡ Ok t → HasRows t plans rows room
+pub rows_put_page : (s t : CoreState) (plans : List PlanView) (rows : List (Option (Unit {0}))) (room w j : ℕ) → HasRows s plans rows room → core_step s (Put w (Page j)) ≡ Ok t → HasRows t plans rows room
 rows_put_page s t plans rows room w j h is =
     subst (λ (u : CoreState). HasRows u plans rows room) (sym (put_says s t w (Page j) is).2) (record { size = h.size; there = h.there; most = h.most })
 
@@ -44,7 +43,7 @@ held_apart : (a b : ℕ) → Held a ≡ Held b → eqb b a ≡ false → ⊥
 held_apart a b both e = let same : a ≡ b = cc in absurd (grind (arith, nat_tests, same, e))
 
 -- a launch is taken with the worker's row
-pub rows_take_launch : (s t : CoreState) (plans : List PlanView) (rows : List (Option RowView)) (room w k : ℕ) → HasRows s plans rows room → core_step s (Take w (Launch k)) ≡ Ok t → HasRows t plans (set rows w None) room
+pub rows_take_launch : (s t : CoreState) (plans : List PlanView) (rows : List (Option (Unit {0}))) (room w k : ℕ) → HasRows s plans rows room → core_step s (Take w (Launch k)) ≡ Ok t → HasRows t plans (set rows w None) room
 rows_take_launch s t plans rows room w k h is =
     let p = take_says s t w (Launch k) is in
     subst (λ (u : CoreState). HasRows u plans (set rows w None) room) (sym p.2) (record {
@@ -53,38 +52,37 @@ rows_take_launch s t plans rows room w k h is =
       most = h.most;
     })
   where
-    there_at : slice_get s.launches k ≡ Some Free → (v : ℕ) → is_out s v ≡ false → HoldsNoLaunch (with_job s (Launch k) (Held w)) v → (b : Bool) → eqb v w ≡ b → (r : RowView) × (slice_get (set rows w None) v ≡ Some (Some r)) × IsSpare plans r
+    there_at : slice_get s.launches k ≡ Some Free → (v : ℕ) → is_out s v ≡ false → HoldsNoLaunch (with_job s (Launch k) (Held w)) v → (b : Bool) → eqb v w ≡ b → slice_get (set rows w None) v ≡ Some (Some tt)
     there_at free v known none true e =
         let same : w ≡ v = grind (arith, nat_tests) in
         absurd (none k (slice_get-set_same s.launches k Free (Held w) free ∙ ap (λ (n : ℕ). Some (Held n)) same))
     there_at free v known none false e =
-        let r = h.there v known (λ l at. none l (held_stays s.launches k l v Free (Held w) free (free_not_held v) at (eqb l k) refl)) in
-        (r.0, slice_get-set_other rows w v None e ∙ r.1, r.2)
+        slice_get-set_other rows w v None e
+        ∙ h.there v known (λ l at. none l (held_stays s.launches k l v Free (Held w) free (free_not_held v) at (eqb l k) refl))
 
 -- a launch is put, and its row is the worker's again
-pub rows_put_launch : (s t : CoreState) (plans : List PlanView) (rows : List (Option RowView)) (room w k : ℕ) (r : RowView) → HasRows s plans rows room → IsSpare plans r → core_step s (Put w (Launch k)) ≡ Ok t
-    → HasRows t plans (set rows w (Some r)) room
-rows_put_launch s t plans rows room w k r h spare is =
+pub rows_put_launch : (s t : CoreState) (plans : List PlanView) (rows : List (Option (Unit {0}))) (room w k : ℕ) → HasRows s plans rows room → core_step s (Put w (Launch k)) ≡ Ok t
+    → HasRows t plans (set rows w (Some tt)) room
+rows_put_launch s t plans rows room w k h is =
     let p = put_says s t w (Launch k) is in
-    subst (λ (u : CoreState). HasRows u plans (set rows w (Some r)) room) (sym p.2) (record {
-      size = length-set rows w (Some r) ∙ h.size;
+    subst (λ (u : CoreState). HasRows u plans (set rows w (Some tt)) room) (sym p.2) (record {
+      size = length-set rows w (Some tt) ∙ h.size;
       there = λ v known none. there_at p.0 p.1 v known none (eqb v w) refl;
       most = h.most;
     })
   where
-    there_at : is_out s w ≡ false → slice_get s.launches k ≡ Some (Held w) → (v : ℕ) → is_out s v ≡ false → HoldsNoLaunch (with_job s (Launch k) Done) v → (b : Bool) → eqb v w ≡ b → (u : RowView) × (slice_get (set rows w (Some r)) v ≡ Some (Some u)) × IsSpare plans u
+    there_at : is_out s w ≡ false → slice_get s.launches k ≡ Some (Held w) → (v : ℕ) → is_out s v ≡ false → HoldsNoLaunch (with_job s (Launch k) Done) v → (b : Bool) → eqb v w ≡ b → slice_get (set rows w (Some tt)) v ≡ Some (Some tt)
     there_at out held v known none true e =
         let same : v ≡ w = grind (arith, nat_tests) in
         let within = row_within s plans rows room w h out in
-        let here : slice_get (set rows w (Some r)) w ≡ Some (Some r) = slice_get-set_same rows w (get_or rows w None) (Some r) (slice_get-get_or rows w None within) in
-        (r, ap (slice_get (set rows w (Some r))) same ∙ here, spare)
+        ap (slice_get (set rows w (Some tt))) same ∙ slice_get-set_same rows w (get_or rows w None) (Some tt) (slice_get-get_or rows w None within)
     there_at out held v known none false e =
         let other : Held w ≡ Held v → ⊥ = λ both. held_apart w v both e in
-        let u = h.there v known (λ l at. none l (held_stays s.launches k l v (Held w) Done held other at (eqb l k) refl)) in
-        (u.0, slice_get-set_other rows w v (Some r) e ∙ u.1, u.2)
+        slice_get-set_other rows w v (Some tt) e
+        ∙ h.there v known (λ l at. none l (held_stays s.launches k l v (Held w) Done held other at (eqb l k) refl))
 
 -- a worker that retires leaves the others' rows
-pub rows_retire : (s t : CoreState) (plans : List PlanView) (rows : List (Option RowView)) (room w : ℕ) → HasRows s plans rows room → core_step s (Retire w) ≡ Ok t → HasRows t plans rows room
+pub rows_retire : (s t : CoreState) (plans : List PlanView) (rows : List (Option (Unit {0}))) (room w : ℕ) → HasRows s plans rows room → core_step s (Retire w) ≡ Ok t → HasRows t plans rows room
 rows_retire s t plans rows room w h is =
     let p = retire_says s t w is in
     subst (λ (u : CoreState). HasRows u plans rows room) (sym p.1) (record {
@@ -93,7 +91,7 @@ rows_retire s t plans rows room w h is =
       most = h.most;
     })
   where
-    there_at : is_out s w ≡ false → (v : ℕ) → is_out (without_worker s w) v ≡ false → HoldsNoLaunch (without_worker s w) v → (b : Bool) → eqb v w ≡ b → (r : RowView) × (slice_get rows v ≡ Some (Some r)) × IsSpare plans r
+    there_at : is_out s w ≡ false → (v : ℕ) → is_out (without_worker s w) v ≡ false → HoldsNoLaunch (without_worker s w) v → (b : Bool) → eqb v w ≡ b → slice_get rows v ≡ Some (Some tt)
     there_at in_s v known none true e =
         let same : v ≡ w = grind (arith, nat_tests) in
         let out : is_out (without_worker s w) v ≡ true = ap (λ (o : Option Bool). unwrap_or o true) (ap (slice_get (set s.retired w true)) same ∙ slice_get-set_same s.retired w false true (not_out s w in_s)) in

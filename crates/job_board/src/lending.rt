@@ -38,7 +38,7 @@ impl Lending {
         self.rows.pop()
     }
 
-    /// Whether so many launches are waiting that each worker is left some, where this one is lent three.
+    /// Whether enough launches are waiting that each worker is left some, where this one is lent three.
     pub(crate) fn is_enough(&self, waiting: usize) -> bool {
         waiting / LANES >= self.lent.len()
     }

@@ -1,27 +1,110 @@
 //! Rows of digests: one for each worker, and some for launches that are lent.
-ghost use Rattle.std.specs.Prelude.{◌≡◌, ◌<◌, ◌≤◌, ℕ, [], length, IfOk, None, Some, slice_get, slice_set};
-ghost use Rattle.page_jobs.specs.Row.{RowView};
+ghost use Rattle.std.specs.Prelude.{◌≡◌, ◌<◌, ◌≤◌, ℕ, [], length, replicate, true, IfNone, IfOk, IfSome, None, Some, slice_get, slice_set};
+ghost use Rattle.rim_chain.specs.Links.{PlanView, keys_of};
+ghost use Rattle.rim_chain.specs.Rows.{HaveFirstPages, IsRowOf, has_all};
+ghost use Rattle.job_board.specs.Tasks.{IsOwnRow, IsRoomy};
 ghost use Rattle.job_board.specs.declared.machine.TheConstants.{WORKER_LIMIT};
 
-use page_jobs::{DigestRow, LANES};
+use crate::run::Run;
+use page_jobs::{DigestRow, LANES, Table};
 use refusal::NoMemory;
 use rim_chain::LaunchPlan;
 use std::alloc::Global;
+use std::marker::{Model, PhantomData};
+
+/// A row that a worker's launches are given in, with room for any launch of the run. It keeps the digests of the launch that
+/// it was filled for last, so those of pages that the next one begins with too are not copied again.
+#[derive(Drop)]
+pub(crate) struct WorkerRow<'a, L: Run> {
+    /// The plan of that launch; `None` where the row is empty.
+    plan: Option<&'a LaunchPlan>,
+    row: DigestRow,
+    run: PhantomData<L>,
+}
+
+impl<'a, L: Run> Model for WorkerRow<'a, L> {
+    ghost use Rattle.std.specs.Prelude.{option_map};
+    ghost use Rattle.job_board.specs.Tasks.{IsRoomy};
+    ghost use Rattle.job_board.specs.inside.Rows.{AreDigestsFor};
+
+    ghost Value = { Unit {0} };
+
+    ghost view = { λ w. tt };
+
+    ghost invariant = { λ w. IsRoomy L.plans w.row
+        × AreDigestsFor L.pages (option_map (λ p. p.now) w.plan) w.row.digests };
+}
+
+impl<'a, L: Run> WorkerRow<'a, L> {
+    /// An empty row.
+    pub(crate) fn new(row: DigestRow) -> WorkerRow<'a, L>
+        requires empty { row.digests ≡ [] }
+        requires roomy { IsRoomy L.plans row }
+    {
+        WorkerRow {
+            plan: None,
+            row,
+            run: PhantomData,
+        }
+    }
+
+    /// A row that has the digests of a launch's pages.
+    pub(crate) fn of_launch(plan: &'a LaunchPlan, row: DigestRow) -> WorkerRow<'a, L>
+        requires own { IsOwnRow L.pages (keys_of plan.now.links) row.digests }
+        requires roomy { IsRoomy L.plans row }
+    {
+        WorkerRow {
+            plan: Some(plan),
+            row,
+            run: PhantomData,
+        }
+    }
+
+    /// The row, with the digests of the pages of another launch of the run, which the table has all.
+    pub(crate) fn filled_for(self, table: &Table, plan: &LaunchPlan) -> DigestRow
+        requires pages { table.now.pages ≡ L.pages }
+        requires plan { (l : ℕ) × (slice_get L.plans l ≡ Some plan.now) }
+        requires all { has_all table.now (keys_of plan.now.links) ≡ true }
+        ensures row { IsRowOf table.now (keys_of plan.now.links) result.digests }
+        ensures roomy { IsRoomy L.plans result }
+    {
+        let mut row = self.row;
+        let links = kept_links(plan, self.plan);
+        row.truncate(plan.pages_before(links));
+        // Each filled slot of a table has the digest of its own page.
+        let _pages = table.pages();
+        if !plan.fill_row_on(table, links, &mut row) {
+            unreachable!()
+        }
+        row
+    }
+}
+
+/// How many of a plan's first links have pages that the plan begins with that a row was filled for, if it was filled for one.
+fn kept_links(plan: &LaunchPlan, kept: Option<&LaunchPlan>) -> usize
+    ensures within { result ≤ length plan.now.links }
+    ensures first { IfSome kept.entry (λ k. HaveFirstPages result plan.now.links k.now.links) }
+    ensures none { IfNone kept.entry (result ≡ 0) }
+{
+    match kept {
+        Some(kept) => plan.common_pages(kept),
+        None => 0,
+    }
+}
 
 /// An empty row for each worker, with this room.
-pub(crate) fn worker_rows(
+pub(crate) fn worker_rows<'a, L: Run>(
     alloc: Global,
     room: usize,
     workers: usize,
-) -> Result<Vec<Option<DigestRow>>, NoMemory>
-    ensures size { IfOk result (λ rows. length rows.items ≡ workers) }
-    ensures there { IfOk result (λ rows. (w : ℕ) → w < workers
-        → (r : RowView) × (slice_get rows.items w ≡ Some (Some r)) × (r.digests ≡ [])
-        × (r.room ≡ room)) }
+) -> Result<Vec<Option<WorkerRow<'a, L>>>, NoMemory>
+    requires most { (l : ℕ) (p : PlanView) → slice_get L.plans l ≡ Some p
+        → length (keys_of p.links) ≤ room }
+    ensures { IfOk result (λ rows. rows.items ≡ replicate workers (Some tt)) }
 {
     let mut rows = Vec::with_capacity(alloc, workers)?;
     for _i in 0..workers {
-        rows.push(Some(DigestRow::reserve(alloc, room)?))?;
+        rows.push(Some(WorkerRow::new(DigestRow::reserve(alloc, room)?)))?;
     }
     Ok(rows)
 }
@@ -56,7 +139,10 @@ pub(crate) fn plan_at<'a>(plans: &'a [LaunchPlan], number: usize) -> &'a LaunchP
 }
 
 /// Takes the row of a worker.
-pub(crate) fn take_row(rows: &mut Vec<Option<DigestRow>>, worker: usize) -> Option<DigestRow>
+pub(crate) fn take_row<'a, L: Run>(
+    rows: &mut Vec<Option<WorkerRow<'a, L>>>,
+    worker: usize,
+) -> Option<WorkerRow<'a, L>>
     requires { worker < length rows.old.items }
     ensures row { slice_get rows.old.items worker ≡ Some result }
     ensures rest { rows.new.items ≡ slice_set rows.old.items worker None }
@@ -64,13 +150,14 @@ pub(crate) fn take_row(rows: &mut Vec<Option<DigestRow>>, worker: usize) -> Opti
     rows[worker].take()
 }
 
-/// Empties a row, and keeps it for its worker.
-pub(crate) fn keep_row(rows: &mut Vec<Option<DigestRow>>, worker: usize, row: DigestRow)
+/// Keeps a row for its worker.
+pub(crate) fn keep_row<'a, L: Run>(
+    rows: &mut Vec<Option<WorkerRow<'a, L>>>,
+    worker: usize,
+    row: WorkerRow<'a, L>,
+)
     requires { worker < length rows.old.items }
-    ensures { rows.new.items
-        ≡ slice_set rows.old.items worker (Some (record row { digests = [] })) }
+    ensures { rows.new.items ≡ slice_set rows.old.items worker (Some tt) }
 {
-    let mut row = row;
-    row.truncate(0);
     rows[worker] = Some(row);
 }

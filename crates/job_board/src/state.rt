@@ -19,7 +19,7 @@ use crate::job::{Event, JobId, JobState};
 use crate::lending::Lending;
 use crate::machine::Core;
 use crate::own_needs::own_needs;
-use crate::rows::{keep_row, lent_rows, plan_at, take_row, worker_rows};
+use crate::rows::{WorkerRow, keep_row, lent_rows, plan_at, take_row, worker_rows};
 use crate::run::Run;
 use crate::share::{Share, cut};
 use crate::side_by_side::SideBySide;
@@ -44,7 +44,7 @@ pub struct BoardState<'a, L: Run> {
     table: Table<'a>,
     plans: &'a [LaunchPlan],
     /// Of each worker the row that its next launch is given in; it is with the launch as long as the worker holds one.
-    rows: Vec<Option<DigestRow>>,
+    rows: Vec<Option<WorkerRow<'a, L>>>,
     /// The most pages of a launch, for which each row has room.
     room: usize,
     results: Vec<Option<Measurement>>,
@@ -167,6 +167,7 @@ impl<'a, L: Run> BoardState<'a, L> {
             core,
             history,
             table,
+            plans,
             rows,
             results,
             prefixes,
@@ -186,7 +187,11 @@ impl<'a, L: Run> BoardState<'a, L> {
         history.push_reserved(event);
         results[number] = Some(rim.value());
         let (row, checkpoints) = rim.into_parts();
-        keep_row(rows, worker, row);
+        keep_row(
+            rows,
+            worker,
+            WorkerRow::of_launch(plan_at(plans, number), row),
+        );
         prefixes.keep(number, checkpoints);
         Ok(())
     }
@@ -381,12 +386,10 @@ impl<'a, L: Run> BoardState<'a, L> {
         };
         history.push_reserved(event);
         let plan = plan_at(plans, number);
-        let Some(mut row) = take_row(rows, worker) else {
+        let Some(row) = take_row(rows, worker) else {
             unreachable!()
         };
-        if !plan.fill_row(table, &mut row) {
-            unreachable!()
-        }
+        let row = row.filled_for(table, plan);
         // Each filled slot of a table has the digest of its own page.
         let _pages = table.pages();
         let shared_prefix = prefixes.prefix(plans, number);

@@ -13,24 +13,32 @@ struct Follower {
     number: usize,
 }
 
-/// A launch that may be chained, and how many parts the longest way has that begins with it.
+/// A launch that may be chained, in the order in which that is best done: the greatest of some is the next.
 #[derive(Clone, Copy, Debug, PartialEq, Eq, PartialOrd, Ord)]
 struct Candidate {
+    /// How many parts the longest way has that begins with the launch; of a launch that goes on from another, in whole steps.
     parts: u64,
-    /// Of two with as long a way the one with the least number comes first.
+    /// The launch that it goes on from, or the launch itself: the one with the least number comes first.
+    first: Reverse<usize>,
+    /// Of launches that go on from the same one, the one with the least number comes first.
     number: Reverse<usize>,
 }
+
+/// Launches that go on from others are not set apart by fewer parts than this, which take about a millisecond. So those that
+/// begin with the same pages come one after another, and a worker has most digests in its row already.
+const STEP: u64 = 1_024;
 
 /// Launches of which no prefix is still to be chained, the one with the longest way first. A way is a launch, one that goes
 /// on from it, one that goes on from that, and so on: no number of workers chains it in less time. So launches that others
 /// wait for are chained early, and few are chained without their prefixes.
 #[derive(Drop)]
 pub(crate) struct ChainOrder {
-    /// Of each launch, how many parts its longest way has.
-    ways: Vec<u64>,
+    /// Each launch of the run.
+    launches: Vec<Candidate>,
     /// The launches that go on from others, by the one that each goes on from.
     followers: Vec<Follower>,
-    candidates: BinaryHeap<Candidate>,
+    /// Those that may be chained.
+    waiting: BinaryHeap<Candidate>,
 }
 
 impl ChainOrder {
@@ -40,29 +48,26 @@ impl ChainOrder {
         shared: &[Option<SharedPrefix>],
     ) -> Result<ChainOrder, NoMemory> {
         let followers = followers_of(alloc, shared)?;
-        let ways = ways_of(alloc, plans, shared)?;
+        let launches = candidates_of(alloc, plans, shared)?;
         // Each launch is offered when it is ready, and again when the launch that it goes on from is chained.
-        let candidates = BinaryHeap::with_capacity(alloc, 2 * plans.len())?;
+        let waiting = BinaryHeap::with_capacity(alloc, 2 * plans.len())?;
         Ok(ChainOrder {
-            ways,
+            launches,
             followers,
-            candidates,
+            waiting,
         })
     }
 
     /// Offers a launch, where room was reserved for it.
     pub(crate) fn offer(&mut self, number: usize) {
-        let (Some(parts), true) = (self.ways.get(number).copied(), self.has_room()) else {
+        let (Some(candidate), true) = (self.launches.get(number).copied(), self.has_room()) else {
             return;
         };
-        let _ = self.candidates.push(Candidate {
-            parts,
-            number: Reverse(number),
-        });
+        let _ = self.waiting.push(candidate);
     }
 
     fn has_room(&self) -> bool {
-        self.candidates.len() < self.candidates.capacity()
+        self.waiting.len() < self.waiting.capacity()
     }
 
     /// Offers the launches that go on from one that was chained.
@@ -80,12 +85,12 @@ impl ChainOrder {
 
     /// How many launches were offered and not taken.
     pub(crate) fn waiting(&self) -> usize {
-        self.candidates.len()
+        self.waiting.len()
     }
 
     /// Takes the launch that is to be chained next.
     pub(crate) fn next(&mut self) -> Option<usize> {
-        let candidate = self.candidates.pop()?;
+        let candidate = self.waiting.pop()?;
         Some(candidate.number.0)
     }
 }
@@ -103,6 +108,29 @@ fn followers_of(alloc: Global, shared: &[Option<SharedPrefix>]) -> Result<Vec<Fo
     }
     followers.sort_unstable();
     Ok(followers)
+}
+
+/// Each launch, with its place in the order.
+fn candidates_of(
+    alloc: Global,
+    plans: &[LaunchPlan],
+    shared: &[Option<SharedPrefix>],
+) -> Result<Vec<Candidate>, NoMemory> {
+    let ways = ways_of(alloc, plans, shared)?;
+    let mut candidates = Vec::with_capacity(alloc, ways.len())?;
+    for number in 0..ways.len() {
+        let way = ways[number];
+        let (parts, first) = match shared.get(number) {
+            Some(Some(shared_prefix)) => (way - way % STEP, shared_prefix.launch),
+            _ => (way, number),
+        };
+        candidates.push(Candidate {
+            parts,
+            first: Reverse(first),
+            number: Reverse(number),
+        })?;
+    }
+    Ok(candidates)
 }
 
 /// Of each launch, how many parts its longest way has. Whoever goes on from a launch has a greater number.

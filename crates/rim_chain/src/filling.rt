@@ -1,5 +1,5 @@
 //! Rows of the digests of a launch's pages.
-ghost use Rattle.std.specs.Prelude.{◌≡◌, ◌+◌, ◌^◌, ◌<◌, ◌≤◌, [], length, map, true, false, option_map};
+ghost use Rattle.std.specs.Prelude.{◌≡◌, ◌+◌, ◌^◌, ◌<◌, ◌≤◌, [], length, map, take, true, false, option_map};
 ghost use Rattle.std.specs.List.{All, range_with_len};
 ghost use Rattle.page_jobs.specs.Table.{digest_at};
 ghost use Rattle.rim_chain.specs.Links.{key_after, keys_in, keys_of, page_count};
@@ -14,8 +14,7 @@ use rim_desc::Measurement;
 
 impl LaunchPlan {
     /// Fills an empty row with the digests that a table has for the plan's pages, in order; or answers false, and
-    /// leaves the row as it was, where the table has none for some page. It takes no memory. It searches the table
-    /// once for each item whose pages are in neighbouring slots.
+    /// leaves the row as it was, where the table has none for some page. It takes no memory.
     pub fn fill_row(&self, table: &Table, row: &mut DigestRow) -> bool
         requires empty { row.old.digests ≡ [] }
         requires room { length (keys_of self.now.links) ≤ row.old.room }
@@ -26,8 +25,25 @@ impl LaunchPlan {
         ensures kept { result ≡ false → row.new ≡ row.old }
         ensures room { row.new.room ≡ row.old.room }
     {
-        for link in self.links() {
-            if !push_digests(table, link, row) {
+        self.fill_row_on(table, 0, row)
+    }
+
+    /// The same for a row that has the digests of the plan's first links already: it goes on from there. Where the table has
+    /// no digest for some page it empties the row. It searches the table once for each item whose pages are in
+    /// neighbouring slots.
+    pub fn fill_row_on(&self, table: &Table, links: usize, row: &mut DigestRow) -> bool
+        requires within { links ≤ length self.now.links }
+        requires begun { IsRowOf table.now (keys_of (take links self.now.links)) row.old.digests }
+        requires room { length (keys_of self.now.links) ≤ row.old.room }
+        ensures filled { result ≡ true
+            → IsRowOf table.now (keys_of self.now.links) row.new.digests }
+        ensures size { result ≡ true → IsFilled self.now row.new.digests }
+        ensures missing { result ≡ false → has_all table.now (keys_of self.now.links) ≡ false }
+        ensures emptied { result ≡ false → row.new.digests ≡ [] }
+        ensures room { row.new.room ≡ row.old.room }
+    {
+        for at in links..self.links().len() {
+            if !push_digests(table, &self.links()[at], row) {
                 row.truncate(0);
                 return false;
             }

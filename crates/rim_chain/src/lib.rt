@@ -4,6 +4,7 @@
 mod chain_order;
 mod chaining;
 mod filling;
+mod first_pages;
 mod job;
 mod laws;
 mod link;

@@ -64,7 +64,7 @@ impl LaunchPlan {
     }
 
     /// How many measured pages its first links have.
-    pub(crate) fn pages_before(&self, links: usize) -> usize
+    pub fn pages_before(&self, links: usize) -> usize
         requires { links ≤ length self.now.links }
         ensures { result ≡ length (keys_of (take links self.now.links)) }
     {

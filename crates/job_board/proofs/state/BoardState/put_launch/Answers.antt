@@ -3,7 +3,7 @@ use Rattle.std.specs.Prelude.{IfSome}
 use Rattle.std.specs.List.{slice_get}
 use Rattle.rim_desc.specs.declared.measurement.Measurement.{Measurement}
 use Rattle.rim_chain.specs.Prefixes.{AreCheckpoints}
-use Rattle.std.proofs.lemmas.Option.{slice_get_within}
+use Rattle.std.proofs.lemmas.Option.{same_Some, slice_get_within}
 use Rattle.page_jobs.specs.Page.{PageView}
 use Rattle.rim_chain.specs.Jobs.{JobView, RimView}
 use Rattle.rim_chain.specs.Links.{PlanView, chain_of, keys_of}
@@ -15,7 +15,6 @@ use Rattle.job_board.specs.Board.{BoardView, CanPutLaunch, IsBoard}
 use Rattle.job_board.specs.Jobs.{CoreState}
 use Rattle.job_board.specs.Step.{core_step}
 use Rattle.job_board.specs.Tasks.{IsOwnRow, IsRoomy}
-use Rattle.job_board.specs.inside.Rows.{IsSpare}
 use Rattle.page_jobs.specs.Row.{RowView}
 use Rattle.job_board.proofs.HistoryGoesOn.{history_room, same_most}
 use Rattle.job_board.proofs.EventsKeepBoards.{board_put_launch, held_filled, results_are, value_is}
@@ -69,18 +68,39 @@ invariant_of-self-2 g c =
     let own : IsOwnRow i.table.pages (keys_of job.plan.links) job.row.digests = subst (λ (pages : List PageView). IsOwnRow pages (keys_of job.plan.links) job.row.digests) (sym c.self.invariant.4.0) c.into_rim-rim.ensures.own.1 in
     let put = is_put b c.step.new.self c.args.worker job c.self.invariant.0 (rw (← number) step) plan own in
     let at : slice_get i.plans.now n ≡ Some job.plan = ap (slice_get i.plans.now) number ∙ plan in
-    let roomy : IsRoomy i.plans.now c.into_parts-row.result.0 =
-    subst (λ (r : RowView). IsRoomy i.plans.now r) (sym (c.into_parts-row.ensures.row ∙ ap (λ (r : RimView). r.job.row) c.into_rim-rim.ensures.rim))
-    (subst (λ (plans : List PlanView). IsRoomy plans job.row) (sym c.self.invariant.4.1) c.into_rim-rim.ensures.own.2) in
-    let spare : IsSpare i.plans.now (record c.into_parts-row.result.0 { digests = [] }) = (refl, roomy) in
     let value : c.value.result.bytes ≡ value_in i.table job.plan =
     c.value.ensures.own ∙ (ap (λ (r : RimView). chain_of r.job.plan r.job.row.digests) c.into_rim-rim.ensures.rim ∙ value_is i.table job.plan job.row.digests put.row) in (
       rw c.push_reserved.ensures.items (board_put_launch b c.step.new.self c.args.worker n job.plan c.value.result c.self.invariant.0 step at value),
       omega (arith, most, c.self.invariant.1, c.push_reserved.ensures.capacity),
-      rw c.keep_row.ensures (rows_put_launch i.core c.step.new.self i.plans.now i.rows.items i.room c.args.worker n _ c.self.invariant.2 spare step),
+      rw c.keep_row.ensures (rows_put_launch i.core c.step.new.self i.plans.now i.rows.items i.room c.args.worker n c.self.invariant.2 step),
       c.keep.ensures.shared i.table i.plans.now job.plan at (own-checkpoints (λ v. v.items) i.table job.plan job.row.digests c.into_parts-row.result.1 put.row (subst (λ (r : RimView). IfSome c.into_parts-row.result.1 (λ checkpoints. AreCheckpoints r.job.plan r.job.row.digests checkpoints.items)) c.into_rim-rim.ensures.rim c.into_parts-row.ensures.checkpoints)) c.self.invariant.3,
       c.self.invariant.4,
     )
+
+pub plan_at-requires : goal.plan_at-requires
+plan_at-requires g c =
+    let i = c.self.inside in
+    let step : core_step i.core (Put c.args.worker (Launch c.number-number.result)) ≡ Ok c.step.new.self = c.in-Ok.ensures.step in
+    let within = slice_get_within i.core.launches c.number-number.result (Held c.args.worker) (put_says i.core c.step.new.self c.args.worker (Launch c.number-number.result) step).1 in
+    omega (arith, within, c.self.invariant.0.plans)
+
+-- the plan of the launch's number is that of the job
+plan_same : (plans run : List PlanView) (n : ℕ) (job : JobView) (p : PlanView) → plans ≡ run → slice_get run job.number ≡ Some job.plan → n ≡ job.number → slice_get plans n ≡ Some p → job.plan ≡ p
+plan_same plans run n job p same own number at =
+    same_Some job.plan p (sym own ∙ (ap (slice_get run) (sym number) ∙ (ap (λ (ps : List PlanView). slice_get ps n) (sym same) ∙ at)))
+
+pub of_launch-requires-clause-own : goal.of_launch-requires-clause-own
+of_launch-requires-clause-own g c =
+    let job = c.args.launch.job in
+    let row : c.into_parts-row.result.0 ≡ job.row = c.into_parts-row.ensures.row ∙ ap (λ (r : RimView). r.job.row) c.into_rim-rim.ensures.rim in
+    let plan : job.plan ≡ c.plan_at.result.now =
+    plan_same c.self.inside.plans.now g.L.Run.plans c.number-number.result job c.plan_at.result.now c.self.invariant.4.1 c.into_rim-rim.ensures.own.0 c.number-number.ensures c.plan_at.ensures in
+    subst (λ (r : RowView). IsOwnRow g.L.Run.pages (keys_of c.plan_at.result.now.links) r.digests) (sym row)
+    (subst (λ (p : PlanView). IsOwnRow g.L.Run.pages (keys_of p.links) job.row.digests) plan c.into_rim-rim.ensures.own.1)
+
+pub of_launch-requires-clause-roomy : goal.of_launch-requires-clause-roomy
+of_launch-requires-clause-roomy g c =
+    subst (λ (r : RowView). IsRoomy g.L.Run.plans r) (sym (c.into_parts-row.ensures.row ∙ ap (λ (r : RimView). r.job.row) c.into_rim-rim.ensures.rim)) c.into_rim-rim.ensures.own.2
 
 pub returns-clause-can : goal.returns-clause-can
 returns-clause-can g c =
