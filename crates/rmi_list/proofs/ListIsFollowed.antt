@@ -1,6 +1,6 @@
 -- The monitor follows the list of a launch, step by step.
 use Rattle.std.proofs.Common.{inl, inr, ◌≡◌, ℕ, ◌+◌, ◌%◌, ◌<◌, ◌≤◌, ◌∙◌, sym, refl, ap, subst, arith, Bool, true, false, cond, not, ◌&&◌, eqb, List, [], ◌∷◌, ◌++◌, length}
-use Rattle.std.specs.Prelude.{Option, Ok, None, Some, nat_lt}
+use Rattle.std.specs.Prelude.{Option, Ok, None, Some, nat_lt, option_map}
 use Rattle.std.specs.List.{flat_map, slice_get}
 use Rattle.std.proofs.lemmas.Bool.{cases_Bool, eqb-true, not-false}
 use Rattle.std.proofs.lemmas.Bool.Decides.{nat_tests}
@@ -272,5 +272,6 @@ list-is-followed l p contents entries good at =
       accepted = ends.accepted;
       shown = ends.shown;
       once = accepted-once s (commands_of contents entries) ends.accepted;
+      by_algo = ap (option_map (λ (q : RealmParams). q.algo)) ends.realm;
       rim = rim-run c.num_aux (commands_of contents entries) (realm_params c) ends.realm ∙ ap (λ ps. Some (rim_of c.algo ps)) ends.shown;
     }

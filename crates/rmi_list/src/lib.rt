@@ -11,4 +11,3 @@ mod step;
 pub use fault::ListFault;
 pub use laws::{contents_of_a_launch, list_is_followed};
 pub use plan::{Plan, check, list};
-pub use rmi_line::print_line;

@@ -2,7 +2,8 @@
 use crate::launches::{CONFIG, Parts, WIDE, check, launch_of, list_of};
 use rim_desc::{Command, Measurement};
 use rim_launch::{Config, Step};
-use rmi_list::{Plan, print_line};
+use rmi_line::print_line;
+use rmi_list::Plan;
 use std::alloc::Global;
 use std::process::Abort;
 
