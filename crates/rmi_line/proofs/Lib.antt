@@ -5,3 +5,14 @@ pub mod LineWordByWord
 pub mod SpacesPartWords
 -- so the words come back from the line, the command from its words, and two commands with one line are the same.
 pub mod OneLineOneCommand
+-- To prove: a line is read as the command that it spells.
+-- Each pair of digits spells the byte at its place.
+pub mod HexPairs
+-- A short number is read digit by digit.
+pub mod ShortDecimal
+-- Words are taken from the front of a line.
+pub mod TakenWords
+-- A line is read as a command of its name, if that command's words are all of it.
+pub mod ReadNamed
+-- The first and the last line are spelled and read word by word too.
+pub mod EndsWordByWord

@@ -40,11 +40,24 @@ joined : (word : List ℕ) (words : List (List ℕ)) → join_with_byte 32 (word
 joined word [] = sym (append-nil word)
 joined word (next ∷ words) = ap (λ t. word ++ (32 ∷ t)) (joined next words)
 
-from_first-joined : (words : List (List ℕ)) → join_with_byte 32 words ≡ from_first words
-from_first-joined [] = refl
-from_first-joined (word ∷ words) = joined word words ∙ sym (grown-spaced word words)
+-- the first word, and the others with the space before each
+abbrev pub line_from : List (List ℕ) → List ℕ
+line_from [] = []
+line_from (word ∷ words) = word ++ flat_map spaced words
+
+line_from-joined : (words : List (List ℕ)) → join_with_byte 32 words ≡ line_from words
+line_from-joined [] = refl
+line_from-joined (word ∷ words) = joined word words
+
+-- the line of a command, its words with the spaces before them
+pub line_of-from : (command : Command) → line_of command ≡ line_from (words_of command)
+unfolding line_of
+line_of-from command = line_from-joined (words_of command)
+
+from_first-line_from : (words : List (List ℕ)) → line_from words ≡ from_first words
+from_first-line_from [] = refl
+from_first-line_from (word ∷ words) = sym (grown-spaced word words)
 
 -- the line of a command, from its name on
 pub line_of-grown : (command : Command) → line_of command ≡ from_first (words_of command)
-unfolding line_of
-line_of-grown command = from_first-joined (words_of command)
+line_of-grown command = line_of-from command ∙ from_first-line_from (words_of command)

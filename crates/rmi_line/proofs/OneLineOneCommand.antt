@@ -1,13 +1,13 @@
--- A command comes back from its words, so no two commands have the same line.
+-- A command comes back from its words, so no two commands have the same line, and what is read of a command's line is it.
 use Rattle.std.proofs.Common.{◌≡◌, ℕ, zero, suc, ◌^◌, ◌<◌, cond, List, [], ◌∷◌, ◌++◌, length, map, take, drop, get_or, refl, sym, ap, ◌∙◌, arith, codes, Option, Some, None}
 use Rattle.std.proofs.Math.Seq.{drop-append_seam, take-append_seam}
 use Rattle.std.proofs.lemmas.Fmt.{decimal_is_IsNumeral}
 use Rattle.std.proofs.lemmas.List.{length-map}
-use Rattle.std.proofs.lemmas.List.Elements.{All-tail}
+use Rattle.std.proofs.lemmas.List.Elements.{All-cons, All-nil, All-tail}
 use Rattle.std.proofs.lemmas.Nat.{from_be_bytes-to_be_bytes_8}
 use Rattle.std.specs.Fmt.{decimal}
 use Rattle.std.specs.Int.{bytes_high_first, from_be_bytes, to_be_bytes, w64}
-use Rattle.std.specs.List.{slice_split}
+use Rattle.std.specs.List.{All, slice_split}
 use Rattle.std.specs.Prelude.{◌==◌}
 use Rattle.std.specs.Result.{result_unwrap_or}
 use Rattle.std.specs.Str.{bytes_eq}
@@ -23,7 +23,8 @@ use Rattle.rim_desc.specs.declared.measurement.Algo.TheVariants.{Sha256, Sha512}
 use Rattle.rim_desc.specs.declared.measurement.Measurement.{Measurement}
 use Rattle.rim_desc.specs.declared.realm.RealmParams.{RealmParams}
 use Rattle.rmi_line.specs.Line.{content_words, line_of, realm_words, rec_words, words_of}
-use Rattle.rmi_line.specs.inside.Typed.{FitBytes, FitWords, IsTyped, content_bytes}
+use Rattle.rmi_line.specs.Spelled.{Reads}
+use Rattle.rmi_line.specs.Typed.{IsByte, IsContent, IsRealm, IsRec, IsTyped, IsWord}
 use Rattle.rmi_line.proofs.SpacesPartWords.{line_of-split}
 use Rattle.rim_desc.specs.Measurement.{algo_word}
 
@@ -84,24 +85,28 @@ command_said words =
 
 -- ---- each word says what it was made of
 
-to_is_bytes : (bytes : List ℕ) → FitBytes bytes → IsBytes bytes
+-- what fits is a byte at each place
+pub to_is_bytes : (bytes : List ℕ) → All IsByte bytes → IsBytes bytes
 to_is_bytes [] fit i = omega arith
 to_is_bytes (b ∷ bytes) fit zero = fit 0 0 (omega arith)
-to_is_bytes (b ∷ bytes) fit (suc i) = to_is_bytes bytes (All-tail (λ n. n < 2 ^ 8) b bytes fit) i
+to_is_bytes (b ∷ bytes) fit (suc i) = to_is_bytes bytes (All-tail IsByte b bytes fit) i
 
-high_first : (k n : ℕ) → IsBytes (bytes_high_first k n)
-high_first zero n i = omega arith
-high_first (suc k) n zero = search (arith)
-high_first (suc k) n (suc i) = high_first k n i
+-- each byte of a number is one
+high_first : (k n : ℕ) → All IsByte (bytes_high_first k n)
+high_first zero n = All-nil IsByte
+high_first (suc k) n = All-cons IsByte _ _ (search (arith)) (high_first k n)
 
-bytes_again : (bytes : List ℕ) → FitBytes bytes → bytes_said (encode_lower bytes) ≡ bytes
+pub to_be_bytes-fit : (n : ℕ) → All IsByte (to_be_bytes w64 n)
+to_be_bytes-fit n = high_first 8 n
+
+bytes_again : (bytes : List ℕ) → All IsByte bytes → bytes_said (encode_lower bytes) ≡ bytes
 unfolding bytes_said
 bytes_again bytes fit = ap (λ r. result_unwrap_or r []) (decode_of-encode_lower bytes (to_is_bytes bytes fit))
 
 address_again : (n : ℕ) → n < 2 ^ 64 → address_said (digits_of n) ≡ n
 unfolding address_said bytes_said
 address_again n fits =
-    ap (λ r. from_be_bytes w64 (result_unwrap_or r [])) (decode_of-encode_lower (to_be_bytes w64 n) (high_first 8 n))
+    ap (λ r. from_be_bytes w64 (result_unwrap_or r [])) (decode_of-encode_lower (to_be_bytes w64 n) (to_is_bytes (to_be_bytes w64 n) (to_be_bytes-fit n)))
     ∙ from_be_bytes-to_be_bytes_8 n fits
 
 number_again : (n : ℕ) → n < 2 ^ 8 → number_said (decimal n) ≡ n
@@ -113,66 +118,60 @@ unfolding algo_said
 algo_again Sha256 = refl
 algo_again Sha512 = refl
 
-addresses_again : (numbers : List ℕ) → FitWords numbers → map address_said (map digits_of numbers) ≡ numbers
+addresses_again : (numbers : List ℕ) → All IsWord numbers → map address_said (map digits_of numbers) ≡ numbers
 addresses_again [] fit = refl
 addresses_again (n ∷ numbers) fit =
-    rw (address_again n (fit 0 0 (omega arith)), addresses_again numbers (All-tail (λ n. n < 2 ^ 64) n numbers fit)) refl
+    rw (address_again n (fit 0 0 (omega arith)), addresses_again numbers (All-tail IsWord n numbers fit)) refl
 
-content_again : (content : Option Measurement) → FitBytes (content_bytes content) → content_said (content_words content) ≡ content
+content_again : (content : Option Measurement) → IsContent content → content_said (content_words content) ≡ content
 unfolding content_said
-content_again (Some m) fit = rw (bytes_again m.bytes fit) refl
+content_again (Some m) fit = rw (bytes_again m.bytes fit.1) refl
 content_again None fit = refl
 
-realm_again : (rd : ℕ) (p : RealmParams) → IsTyped (RealmCreate rd p) → realm_said (realm_words p) ≡ p
+realm_again : (p : RealmParams) → IsRealm p → realm_said (realm_words p) ≡ p
 unfolding realm_said
-realm_again rd p (words, bytes, rpv) = rw (
-  address_again p.rtt_base (words 1 0 (omega arith)),
-  address_again p.flags (words 2 0 (omega arith)),
-  number_again p.rtt_level_start (bytes 0 0 (omega arith)),
-  number_again p.rtt_num_start (bytes 1 0 (omega arith)),
-  number_again p.s2sz (bytes 2 0 (omega arith)),
-  number_again p.sve_vl (bytes 3 0 (omega arith)),
-  number_again p.num_bps (bytes 4 0 (omega arith)),
-  number_again p.num_wps (bytes 5 0 (omega arith)),
-  number_again p.pmu_num_ctrs (bytes 6 0 (omega arith)),
+realm_again p fit = rw (
+  address_again p.rtt_base fit.rtt_base,
+  address_again p.flags fit.flags,
+  number_again p.rtt_level_start fit.rtt_level_start,
+  number_again p.rtt_num_start fit.rtt_num_start,
+  number_again p.s2sz fit.s2sz,
+  number_again p.sve_vl fit.sve_vl,
+  number_again p.num_bps fit.num_bps,
+  number_again p.num_wps fit.num_wps,
+  number_again p.pmu_num_ctrs fit.pmu_num_ctrs,
   algo_again p.algo,
-  bytes_again p.rpv rpv,
+  bytes_again p.rpv fit.rpv.1,
 ) refl
 
-rec_again : (rec : ℕ) (r : RecData) → IsTyped (RecCreate rec r) → rec_said (rec_words r) ≡ r
+rec_again : (r : RecData) → IsRec r → rec_said (rec_words r) ≡ r
 unfolding rec_said
-rec_again rec r (words, gprs, aux, eight) =
+rec_again r fit =
     let xs = map digits_of r.gprs in
     let others = decimal (length r.aux) ∷ map digits_of r.aux in
-    let count : length xs ≡ 8 = length-map r.gprs digits_of ∙ eight in
+    let count : length xs ≡ 8 = length-map r.gprs digits_of ∙ fit.gprs.0 in
     let front : take 8 (xs ++ others) ≡ xs = ap (λ k. take k (xs ++ others)) (sym count) ∙ take-append_seam xs others in
     let back : drop 8 (xs ++ others) ≡ others = ap (λ k. drop k (xs ++ others)) (sym count) ∙ drop-append_seam xs others in
     rw (
-      address_again r.flags (words 1 0 (omega arith)),
-      address_again r.mpidr (words 2 0 (omega arith)),
-      address_again r.pc (words 3 0 (omega arith)),
+      address_again r.flags fit.flags,
+      address_again r.mpidr fit.mpidr,
+      address_again r.pc fit.pc,
       front,
       back,
-      addresses_again r.gprs gprs,
-      addresses_again r.aux aux,
+      addresses_again r.gprs fit.gprs.1,
+      addresses_again r.aux fit.aux.1,
     ) refl
 
 command_again : (command : Command) → IsTyped command → command_said (words_of command) ≡ command
 unfolding command_said
-command_again (Delegate granule) fit = ap Delegate (address_again granule (fit 0 0 (omega arith)))
-command_again (RealmCreate rd p) fit = rw (address_again rd (fit.0 0 0 (omega arith)), realm_again rd p fit) refl
-command_again (RttCreate rtt ipa level) (words, bytes) = rw (
-  address_again rtt (words 0 0 (omega arith)),
-  address_again ipa (words 1 0 (omega arith)),
-  number_again level (bytes 0 0 (omega arith)),
-) refl
-command_again (InitRipas base top) fit = rw (address_again base (fit 0 0 (omega arith)), address_again top (fit 1 0 (omega arith))) refl
-command_again (DataCreate granule ipa content) (words, bytes) = rw (
-  address_again granule (words 0 0 (omega arith)),
-  address_again ipa (words 1 0 (omega arith)),
-  content_again content bytes,
-) refl
-command_again (RecCreate rec r) fit = rw (address_again rec (fit.0 0 0 (omega arith)), rec_again rec r fit) refl
+command_again (Delegate granule) fit = ap Delegate (address_again granule fit)
+command_again (RealmCreate rd p) (rd_fits, fit) = rw (address_again rd rd_fits, realm_again p fit) refl
+command_again (RttCreate rtt ipa level) (rtt_fits, ipa_fits, fit) =
+    rw (address_again rtt rtt_fits, address_again ipa ipa_fits, number_again level fit) refl
+command_again (InitRipas base top) (base_fits, top_fits) = rw (address_again base base_fits, address_again top top_fits) refl
+command_again (DataCreate granule ipa content) (granule_fits, ipa_fits, fit) =
+    rw (address_again granule granule_fits, address_again ipa ipa_fits, content_again content fit) refl
+command_again (RecCreate rec r) (rec_fits, fit) = rw (address_again rec rec_fits, rec_again r fit) refl
 command_again Activate fit = refl
 
 pub same_line : (first second : Command) → IsTyped first → IsTyped second → line_of first ≡ line_of second → first ≡ second
@@ -180,3 +179,7 @@ same_line first second f s same =
     sym (command_again first f)
     ∙ ap command_said (sym (line_of-split first) ∙ ap (slice_split (λ b. b == 32)) same ∙ line_of-split second)
     ∙ command_again second s
+
+pub read_again : (command : Command) → IsTyped command → (read : Option Command) → Reads (line_of command) read → read ≡ Some command
+read_again command fit None none = absurd (none command (refl, fit))
+read_again command fit (Some read) (same, typed) = ap Some (sym (same_line command read fit typed same))

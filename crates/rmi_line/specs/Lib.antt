@@ -1,2 +1,5 @@
 pub mod Line
+pub mod Ends
+pub mod Typed
+pub mod Spelled
 pub mod inside

@@ -1,7 +1,7 @@
 -- How a listing spells a command of the monitor: a line of words, without its newline. This project's choice;
 -- the commands and their parts are those of DEN0137. An address, or another number of 64 bits, is 16 lower
--- case hexadecimal digits; a number of 8 bits is decimal, without leading zeros; 64 bytes are 128 lower case
--- hexadecimal digits.
+-- case hexadecimal digits, the highest first; a number of 8 bits is decimal, without leading zeros; 64 bytes
+-- are 128 lower case hexadecimal digits, two for each byte in their order, its high four bits first.
 use Rattle.std.specs.Prelude.{ℕ, List, [], ◌∷◌, ◌++◌, Option, Some, None, codes, length, map}
 use Rattle.std.specs.Fmt.{decimal}
 use Rattle.std.specs.List.{join_with_byte}

@@ -1,3 +1,4 @@
--- What the loops of this crate keep, and what the types of a command keep.
+-- What the loops of this crate keep, what is left of a line that is read, and what digits spell.
 pub mod Words
-pub mod Typed
+pub mod Left
+pub mod Digits

@@ -1,8 +1,9 @@
 //! Laws for readers of the definitions, proved.
-ghost use Rattle.std.specs.Prelude.{◌≡◌, ◌≢◌, ◌==◌};
+ghost use Rattle.std.specs.Prelude.{◌≡◌, ◌≢◌, ◌==◌, Option, Some};
 ghost use Rattle.std.specs.List.{All, slice_split};
 ghost use Rattle.rim_desc.specs.declared.command.Command.{Command};
 ghost use Rattle.rmi_line.specs.Line.{line_of, words_of};
+ghost use Rattle.rmi_line.specs.Spelled.{Reads};
 
 use crate::typed::typed;
 
@@ -18,6 +19,13 @@ pub fn spaces_part_the_words()
 pub fn one_command_a_line(first: rim_desc::Command, second: rim_desc::Command)
     ensures { line_of first ≡ line_of second → first ≡ second }
 {
-    typed(first);
-    typed(second);
+    typed(&first);
+    typed(&second);
+}
+
+/// What is read of a command's line is that command.
+pub fn a_line_gives_its_command(command: rim_desc::Command)
+    ensures { (read : Option Command) → Reads (line_of command) read → read ≡ Some command }
+{
+    typed(&command);
 }

@@ -1,10 +1,17 @@
-//! The one spelling of a command of the monitor in a listing: a line of words.
+//! The one spelling of a command of the monitor in a listing: a line of words, which is printed and read; and the first and
+//! the last line of a listing.
 #![tactic(auto)]
 
+mod digits;
+mod ends;
 mod laws;
 mod line;
+mod reader;
+mod reading;
 mod typed;
 mod words;
 
-pub use laws::{one_command_a_line, spaces_part_the_words};
+pub use ends::{digest, read_first, read_last};
+pub use laws::{a_line_gives_its_command, one_command_a_line, spaces_part_the_words};
 pub use line::print_line;
+pub use reading::read_line;

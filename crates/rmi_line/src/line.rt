@@ -3,8 +3,10 @@ ghost use Rattle.std.specs.Prelude.{◌≡◌, ◌++◌, IfOk, OnOk};
 ghost use Rattle.std.specs.List.{flat_map};
 ghost use Rattle.rim_desc.specs.declared.command.Command.TheVariants.{DataCreate, Delegate, InitRipas, RealmCreate, RecCreate, RttCreate};
 ghost use Rattle.rmi_line.specs.Line.{content_words, line_of};
+ghost use Rattle.rmi_line.specs.Spelled.{Spells};
 ghost use Rattle.rmi_line.specs.inside.Words.{spaced};
 
+use crate::typed::typed;
 use crate::words::{push_address, push_addresses, push_bytes, push_number, push_word};
 use refusal::NoMemory;
 use rim_desc::{Command, Measurement, RealmParams, RecParams};
@@ -13,8 +15,9 @@ use std::alloc::Global;
 /// The line of a command, without its newline: the command's name and its other words, parted by one space.
 /// A command has this one line, and no other command has it.
 pub fn print_line(alloc: Global, command: &Command) -> Result<Vec<u8>, NoMemory>
-    ensures { IfOk result (λ line. line.items ≡ line_of command.now) }
+    ensures { IfOk result (λ line. Spells line.items command.now) }
 {
+    typed(command);
     match *command {
         Command::Delegate { granule } => delegate(alloc, granule),
         Command::RealmCreate { rd, params } => realm_create(alloc, rd, &params),

@@ -1,0 +1,20 @@
+use Rattle.std.proofs.Common.{◌++◌, Some, None, sym, ◌∷◌}
+use Rattle.std.specs.List.{flat_map}
+use Rattle.rmi_line.specs.Line.{content_words}
+use Rattle.hex.specs.Hex.{encode_lower}
+use Rattle.rmi_line.specs.inside.Left.{AreLeft}
+use Rattle.rmi_line.specs.inside.Words.{spaced}
+use Rattle.rmi_line.proofs.TakenWords.{left_alike}
+use Rattle.rmi_line.proofs.reader.Words.content.Goals as goal
+
+pub returns : goal.returns
+returns c =
+    let kept = c.takes.ensures.kept c.if-takes.false in
+    record {
+      found = λ others left.
+          left_alike c.takes.new.self c.args.self.now _ (sym c.takes.ensures.whole) (sym kept) (c.word.ensures.found others left);
+      only = λ value others fit. elim value as (λ v. AreLeft c.args.self.now (content_words v ++ others) → AreLeft c.word.new.self others) [
+        | Some m ↦ λ left. absurd (c.takes.ensures.other c.if-takes.false (flat_map spaced (encode_lower m.bytes ∷ others)) left.rest)
+        | None ↦ λ left. c.word.ensures.only _ others _ (left_alike c.args.self.now c.takes.new.self _ c.takes.ensures.whole kept left)
+      ];
+    }

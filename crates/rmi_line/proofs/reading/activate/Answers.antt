@@ -1,0 +1,20 @@
+use Rattle.std.proofs.Common.{◌≡◌, ◌++◌, [], codes, refl}
+use Rattle.rim_desc.specs.declared.command.Command.{Command}
+use Rattle.rim_desc.specs.declared.command.Command.TheVariants.{Activate}
+use Rattle.rmi_line.specs.Line.{words_of}
+use Rattle.rmi_line.specs.Typed.{IsTyped}
+use Rattle.rmi_line.specs.inside.Left.{AreLeft}
+use Rattle.rmi_line.proofs.LineWordByWord.{line_from}
+use Rattle.rmi_line.proofs.ReadNamed.{left_named, other_name, read_named}
+use Rattle.rmi_line.proofs.reading.activate.Goals as goal
+
+pub returns : goal.returns
+returns c =
+    read_named (codes "activate") _ _ c.new-words.result c.new-words.result (Activate) c.end.result refl c.new-words.ensures c.end.ensures
+    (λ left. left) only
+  where
+    only : (other : Command) → IsTyped other → codes "activate" ++ c.args.rest.now ≡ line_from (words_of other) → AreLeft c.new-words.result []
+    only (Activate) fit same =
+        let left = left_named (codes "activate") _ _ _ c.new-words.ensures same in
+        left
+    only other fit same = other_name _ _ same refl

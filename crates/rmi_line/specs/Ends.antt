@@ -1,0 +1,28 @@
+-- The first and the last line of a listing, without their newlines. This project's choice.
+use Rattle.std.specs.Prelude.{ℕ, List, ◌++◌, codes, take}
+use Rattle.std.specs.Fmt.{decimal}
+use Rattle.hex.specs.Hex.{encode_lower}
+use Rattle.rim_desc.specs.Measurement.{algo_word}
+use Rattle.rim_desc.specs.declared.measurement.Algo.{Algo}
+use Rattle.rim_desc.specs.declared.measurement.Algo.TheVariants.{Sha256, Sha512}
+
+-- the first line has the monitor's number of auxiliary granules
+abbrev pub first_line : ℕ → List ℕ
+first_line num_aux = codes "rim-list 1 aux " ++ decimal num_aux
+
+-- the word of an algorithm, between spaces
+abbrev pub spaced_word : Algo → List ℕ
+spaced_word algo = codes " " ++ (algo_word algo ++ codes " ")
+
+-- the bytes of a measurement that are a digest
+abbrev pub digest_bytes : Algo → List ℕ → List ℕ
+digest_bytes Sha256 rim = take 32 rim
+digest_bytes Sha512 rim = rim
+
+-- a measurement: its algorithm, and two lower case hexadecimal digits for each byte of the digest
+abbrev pub rim_text : Algo → List ℕ → List ℕ
+rim_text algo rim = spaced_word algo ++ encode_lower (digest_bytes algo rim)
+
+-- the last line has the measurement that the monitor holds
+abbrev pub last_line : Algo → List ℕ → List ℕ
+last_line algo rim = codes "rim" ++ rim_text algo rim

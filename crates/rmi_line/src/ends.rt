@@ -1,0 +1,53 @@
+//! The first and the last line of a listing.
+ghost use Rattle.std.specs.Prelude.{◌≡◌, ◌≤◌, length};
+ghost use Rattle.rmi_line.specs.Ends.{digest_bytes};
+ghost use Rattle.rmi_line.specs.Spelled.{ReadsFirst, ReadsLast};
+
+use crate::reader::{Words, after};
+use crate::typed::bytes_fit;
+use rim_desc::{AUX_LIMIT, Algo, Measurement};
+
+/// The monitor's number of auxiliary granules, at most 16, that the first line of a listing spells, if it spells one.
+pub fn read_first(line: &[u8]) -> Option<u8>
+    ensures { ReadsFirst line.now result }
+{
+    let Some(rest) = after(line, b"rim-list 1 aux") else {
+        return None;
+    };
+    let mut words = Words::new(rest);
+    let num_aux = words.number();
+    if !words.are_taken() {
+        return None;
+    }
+    if num_aux as usize > AUX_LIMIT {
+        return None;
+    }
+    Some(num_aux)
+}
+
+/// The measurement that the last line of a listing spells, and its algorithm, if it spells one. The bytes after a digest
+/// are zero.
+pub fn read_last(line: &[u8]) -> Option<(Algo, Measurement)>
+    ensures { ReadsLast line.now result }
+{
+    let mut words = Words::new(after(line, b"rim")?);
+    let algo = words.algo();
+    let bytes = words.digest(algo);
+    bytes_fit(&bytes);
+    if words.are_taken() {
+        Some((algo, Measurement { bytes }))
+    } else {
+        None
+    }
+}
+
+/// The bytes of a measurement that are a digest of its algorithm.
+pub fn digest(algo: Algo, rim: &Measurement) -> &[u8]
+    ensures value { result.now ≡ digest_bytes algo rim.now.bytes }
+    ensures size { length result.now ≤ 64 }
+{
+    match algo {
+        Algo::Sha256 => &rim.bytes[..32],
+        Algo::Sha512 => &rim.bytes,
+    }
+}
