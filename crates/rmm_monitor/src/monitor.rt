@@ -18,7 +18,7 @@ use crate::parameters::{
     start_tables,
 };
 use crate::space::IpaSpace;
-use rim_desc::{Command, GRANULE_SIZE, Measurement, RealmParams, RecParams, hash, realm_page};
+use rim_desc::{Algo, Command, GRANULE_SIZE, Measurement, RealmParams, RecParams, hash, realm_page};
 use rmm_model::{Kind, Phase, Refused, extended_by_stretches, protected_end, size_of_level};
 use std::alloc::Global;
 use std::marker::Model;
@@ -62,6 +62,13 @@ impl Monitor {
             rim: None,
             alloc,
         }
+    }
+
+    /// The hash algorithm of the realm; none before the realm was created.
+    pub fn algo(&self) -> Option<Algo>
+        ensures { result ≡ option_map (λ p. p.algo) self.now.params }
+    {
+        self.params.map(|params| params.algo)
     }
 
     /// The Realm Initial Measurement; none before the realm was created.
