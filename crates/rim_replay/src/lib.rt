@@ -1,0 +1,9 @@
+//! A listing from a stranger is given to a monitor, line by line: whether it is what it says.
+#![tactic(auto)]
+
+mod fault;
+mod lines;
+mod listing;
+
+pub use fault::{ReplayFault, refused_kind};
+pub use listing::replay;
