@@ -21,7 +21,8 @@ use Rattle.page_jobs.specs.Table.{TableView}
 use Rattle.rim_chain.specs.Links.{PlanView, chain_of, parts_of}
 use Rattle.rim_chain.specs.Rows.{value_in}
 use Rattle.rim_manifest.specs.Launches.{NamedData}
-use Rattle.rim_release.specs.Report.{spaced_word, digest_bytes, line_with, report_with, rim_text}
+use Rattle.rmi_line.specs.Ends.{spaced_word, digest_bytes, rim_text}
+use Rattle.rim_release.specs.Report.{line_with, report_with}
 use Rattle.rim_release.specs.inside.Chains.{outcomes_of}
 use Rattle.rim_release.specs.inside.Lines.{lines_with}
 use Rattle.rim_release.specs.declared.audit_fault.AuditFault.{AuditFault}

@@ -8,7 +8,8 @@ use Rattle.ipa_layout.specs.Layout.{PlacedData}
 use Rattle.rim_manifest.specs.Launches.{NamedData}
 use Rattle.rim_release.specs.Accepted.{accepted_of, commands_for}
 use Rattle.rim_release.specs.AuditFaults.{audit_kind_of}
-use Rattle.rim_release.specs.Report.{line_of, rim_text}
+use Rattle.rmi_line.specs.Ends.{rim_text}
+use Rattle.rim_release.specs.Report.{line_of}
 use Rattle.rim_release.specs.declared.audit_fault.AuditFault.{AuditFault}
 
 -- A launch that is accepted has a list of commands. A monitor takes all of them, measures just the launch's measured

@@ -8,7 +8,8 @@ use Rattle.rim_desc.specs.declared.measurement.Algo.{Algo}
 use Rattle.rim_manifest.specs.Launches.{NamedData}
 use Rattle.rim_release.specs.AuditFaults.{audit_kind_of}
 use Rattle.rim_release.specs.Pages.{page_keys}
-use Rattle.rim_release.specs.Report.{digest_bytes, outcomes_for}
+use Rattle.rmi_line.specs.Ends.{digest_bytes}
+use Rattle.rim_release.specs.Report.{outcomes_for}
 use Rattle.rim_release.specs.declared.audit_fault.AuditFault.{AuditFault}
 use Rattle.rim_desc.specs.Measurement.{algo_word}
 

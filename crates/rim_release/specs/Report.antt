@@ -1,13 +1,12 @@
 -- The report of a release, and that of its audit. This project's choice.
-use Rattle.std.specs.Prelude.{ℕ, Bool, ◌&&◌, is_err, List, ◌++◌, length, map, nat_le, nat_lt, take, codes, Result, Ok, Err, if◌then◌else◌}
+use Rattle.std.specs.Prelude.{ℕ, Bool, ◌&&◌, is_err, List, ◌++◌, length, map, nat_le, nat_lt, codes, Result, Ok, Err, if◌then◌else◌}
 use Rattle.std.specs.Fmt.{decimal}
 use Rattle.std.specs.List.{flat_map, list_any}
 use Rattle.std.specs.Result.{result_map_both}
-use Rattle.hex.specs.Hex.{encode_lower}
 use Rattle.rim_desc.specs.declared.measurement.Algo.{Algo}
 use Rattle.rim_desc.specs.declared.measurement.Measurement.{Measurement}
-use Rattle.rim_desc.specs.declared.measurement.Algo.TheVariants.{Sha256, Sha512}
 use Rattle.rim_manifest.specs.Launches.{NamedData}
+use Rattle.rmi_line.specs.Ends.{rim_text}
 use Rattle.rim_release.specs.Accepted.{accepted_of, rim_for}
 use Rattle.rim_release.specs.AuditFaults.{audit_kind_of}
 use Rattle.rim_release.specs.Pages.{page_keys}
@@ -15,21 +14,7 @@ use Rattle.rim_release.specs.declared.audit_fault.AuditFault.{AuditFault}
 use Rattle.rim_release.specs.declared.fault.StartFault.{StartFault}
 use Rattle.rim_release.specs.declared.fault.StartFault.TheVariants.{TooManyPages, Workers}
 use Rattle.rim_release.specs.declared.pages.TheConstants.{DISTINCT_LIMIT}
-use Rattle.rim_desc.specs.Measurement.{algo_word}
 use Rattle.job_board.specs.declared.machine.TheConstants.{WORKER_LIMIT}
-
--- the word of an algorithm, between spaces
-abbrev pub spaced_word : Algo → List ℕ
-spaced_word algo = codes " " ++ (algo_word algo ++ codes " ")
-
--- the bytes of a measurement that are a digest
-abbrev pub digest_bytes : Algo → List ℕ → List ℕ
-digest_bytes Sha256 rim = take 32 rim
-digest_bytes Sha512 rim = rim
-
--- a measurement: its algorithm, and two lower case hexadecimal digits for each byte of the digest
-abbrev pub rim_text : Algo → List ℕ → List ℕ
-rim_text algo rim = spaced_word algo ++ encode_lower (digest_bytes algo rim)
 
 -- what came of a launch, with the bytes of its measurement
 abbrev pub seen : Result Measurement AuditFault → Result (List ℕ) AuditFault

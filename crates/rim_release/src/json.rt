@@ -5,10 +5,10 @@ ghost use Rattle.rim_release.specs.Json.{json_with, launch_json, launches_json, 
 ghost use Rattle.rim_release.specs.Report.{seen};
 
 use crate::audit_fault::AuditFault;
-use crate::report::digest;
 use refusal::NoMemory;
 use rim_desc::Measurement;
 use rim_manifest::NamedLaunch;
+use rmi_line::digest;
 use serde_json::{Value, json};
 use std::alloc::{AllocError, Global};
 

@@ -36,6 +36,7 @@ pub use one_thread::{Files, Report, measure_alone, report_alone};
 pub use prepared::{Prepared, prepare};
 pub use rim_launch::{Config, Launch};
 pub use rim_manifest::{ManifestFault, NamedLaunch, Release, read_manifest};
+pub use rim_replay::{ReplayFault, refused_kind, replay};
 pub use show::devicetree::show_fdt;
 pub use show::fault::ShowFault;
 pub use show::image::show_image;

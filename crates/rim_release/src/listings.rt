@@ -5,7 +5,8 @@ ghost use Rattle.refusal.specs.Answer.{Answers};
 ghost use Rattle.rim_launch.specs.LaunchData.{has_files};
 ghost use Rattle.ipa_layout.specs.Files.{bytes_of_files};
 ghost use Rattle.rim_release.specs.Accepted.{rim_after};
-ghost use Rattle.rim_release.specs.Listing.{command_line, first_line, last_line, listing_of, listing_with, shown_of};
+ghost use Rattle.rmi_line.specs.Ends.{first_line, last_line};
+ghost use Rattle.rim_release.specs.Listing.{command_line, ended, listing_of, listing_with, shown_of};
 ghost use Rattle.rim_release.specs.Report.{line_with};
 ghost use Rattle.rim_release.specs.inside.Commands.{commands_in};
 
@@ -124,7 +125,7 @@ fn print(alloc: Global, commands: &LaunchCommands) -> Result<Vec<u8>, NoMemory>
 
 /// Adds the first line.
 fn push_first(text: &mut Vec<u8>, num_aux: u8) -> Result<(), NoMemory>
-    ensures { OnOk result (text.new.items ≡ text.old.items ++ first_line num_aux) }
+    ensures { OnOk result (text.new.items ≡ text.old.items ++ ended (first_line num_aux)) }
 {
     text.extend_from_slice(b"rim-list 1 aux ")?;
     text.extend_from_slice(Buffer::new().format(num_aux).as_bytes())?;
@@ -163,7 +164,8 @@ fn push_command(alloc: Global, text: &mut Vec<u8>, command: &Command) -> Result<
 
 /// Adds the last line.
 fn push_last(text: &mut Vec<u8>, algo: Algo, rim: &Measurement) -> Result<(), NoMemory>
-    ensures { OnOk result (text.new.items ≡ text.old.items ++ last_line algo rim.now.bytes) }
+    ensures { OnOk result (text.new.items
+        ≡ text.old.items ++ ended (last_line algo rim.now.bytes)) }
 {
     text.extend_from_slice(b"rim")?;
     push_rim(text, algo, rim)?;

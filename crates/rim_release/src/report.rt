@@ -1,6 +1,7 @@
 //! The report of what came of each launch of a release.
-ghost use Rattle.std.specs.Prelude.{◌≡◌, ◌≤◌, ◌++◌, IfOk, OnErr, OnOk, length, vec_capacity};
-ghost use Rattle.rim_release.specs.Report.{digest_bytes, outcome_text, report_with, rim_text, seen};
+ghost use Rattle.std.specs.Prelude.{◌≡◌, ◌≤◌, ◌++◌, IfOk, OnErr, OnOk, vec_capacity};
+ghost use Rattle.rmi_line.specs.Ends.{rim_text};
+ghost use Rattle.rim_release.specs.Report.{outcome_text, report_with, seen};
 ghost use Rattle.rim_release.specs.inside.Lines.{HasNoRoom, line_with_outcome, lines_with};
 
 use crate::audit_fault::AuditFault;
@@ -8,6 +9,7 @@ use itoa::Buffer;
 use refusal::NoMemory;
 use rim_desc::{Algo, Measurement};
 use rim_manifest::NamedLaunch;
+use rmi_line::digest;
 use std::alloc::Global;
 
 /// The report of launches of which this came, and which have this many different measured pages.
@@ -119,15 +121,4 @@ pub fn push_rim(text: &mut Vec<u8>, algo: Algo, rim: &Measurement) -> Result<(),
     text.push(b' ')?;
     text.extend_from_slice(&digits[..size])?;
     Ok(())
-}
-
-/// The bytes of a measurement that are a digest of its algorithm.
-pub(crate) fn digest(algo: Algo, rim: &Measurement) -> &[u8]
-    ensures value { result.now ≡ digest_bytes algo rim.now.bytes }
-    ensures size { length result.now ≤ 64 }
-{
-    match algo {
-        Algo::Sha256 => &rim.bytes[..32],
-        Algo::Sha512 => &rim.bytes,
-    }
 }
