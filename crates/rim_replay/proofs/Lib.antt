@@ -3,3 +3,5 @@
 pub mod PiecesOfTexts
 -- So the first line of a text decides, or the text comes to what the lines after it come to.
 pub mod LineByLine
+-- A listing of commands that a monitor takes comes to yes, line by line.
+pub mod TrueListings

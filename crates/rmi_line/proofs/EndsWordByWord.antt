@@ -1,14 +1,18 @@
 -- The first and the last line of a listing, word by word.
-use Rattle.std.proofs.Common.{◌≡◌, ℕ, List, [], ◌∷◌, ◌++◌, get_or, ap, refl, sym, arith, ◌∙◌}
-use Rattle.std.specs.Prelude.{codes}
+use Rattle.std.proofs.Common.{◌≡◌, ℕ, List, [], ◌∷◌, ◌++◌, get_or, ap, refl, subst, sym, arith, ◌∙◌, ◌≢◌}
+use Rattle.std.specs.Prelude.{None, codes}
 use Rattle.std.specs.Fmt.{decimal}
-use Rattle.std.specs.List.{flat_map}
+use Rattle.std.specs.List.{All, flat_map, join_with_byte}
 use Rattle.std.proofs.lemmas.List.{append-nil, append_cancel_left}
 use Rattle.rim_desc.specs.Measurement.{algo_word}
 use Rattle.rim_desc.specs.declared.measurement.Algo.{Algo}
 use Rattle.rim_desc.specs.declared.measurement.Algo.TheVariants.{Sha256, Sha512}
-use Rattle.rmi_line.specs.Ends.{spaced_word}
+use Rattle.hex.specs.Hex.{encode_lower}
+use Rattle.rmi_line.specs.Ends.{digest_bytes, first_line, last_line, spaced_word}
+use Rattle.rmi_line.specs.Spelled.{Reads}
 use Rattle.rmi_line.specs.inside.Words.{spaced}
+use Rattle.rmi_line.proofs.ReadNamed.{not_named}
+use Rattle.rmi_line.proofs.SpacesPartWords.{is_word-algo, is_word-decimal, is_word-encoded, name_is_word, one_line}
 
 pub first-words : (n : ℕ) → flat_map spaced (decimal n ∷ []) ≡ codes " " ++ decimal n
 first-words n = ap (λ t. codes " " ++ t) (append-nil (decimal n))
@@ -27,3 +31,40 @@ same-algo Sha256 Sha256 words same = refl
 same-algo Sha256 Sha512 words same = let differs : 50 ≡ 53 = ap (λ line. get_or line 4 0) same in absurd (omega (arith, differs))
 same-algo Sha512 Sha256 words same = let differs : 53 ≡ 50 = ap (λ line. get_or line 4 0) same in absurd (omega (arith, differs))
 same-algo Sha512 Sha512 words same = refl
+
+-- ---- beside the lines of commands
+
+-- no byte of either is a newline
+pub first-one_line : (n : ℕ) → All (λ b. b ≢ 10) (first_line n)
+first-one_line n =
+    one_line (codes "rim-list" ∷ codes "1" ∷ codes "aux" ∷ decimal n ∷ [])
+    (simp (name_is_word (codes "rim-list") refl, name_is_word (codes "1") refl, name_is_word (codes "aux") refl, is_word-decimal))
+
+pub last-one_line : (algo : Algo) (rim : List ℕ) → All (λ b. b ≢ 10) (last_line algo rim)
+last-one_line algo rim = subst (All (λ b. b ≢ 10)) (joined algo) (one_line (codes "rim" ∷ algo_word algo ∷ digits ∷ []) (simp (name_is_word (codes "rim") refl, is_word-algo, is_word-encoded)))
+  where
+    digits : List ℕ
+    digits = encode_lower (digest_bytes algo rim)
+
+    joined : (a : Algo) → join_with_byte 32 (codes "rim" ∷ algo_word a ∷ digits ∷ []) ≡ codes "rim" ++ (spaced_word a ++ digits)
+    joined Sha256 = refl
+    joined Sha512 = refl
+
+-- the last line spells no command: no name has its second byte
+pub last-no_command : (algo : Algo) (rim : List ℕ) → Reads (last_line algo rim) None
+last-no_command algo rim =
+    not_named (last_line algo rim)
+    (λ rest e. apart 101 (second algo ∙ ap (λ line. get_or line 1 0) e) (λ i. omega (arith, i)))
+    (λ rest e. apart 97 (second algo ∙ ap (λ line. get_or line 1 0) e) (λ i. omega (arith, i)))
+    (λ rest e. apart 116 (second algo ∙ ap (λ line. get_or line 1 0) e) (λ i. omega (arith, i)))
+    (λ rest e. apart 110 (second algo ∙ ap (λ line. get_or line 1 0) e) (λ i. omega (arith, i)))
+    (λ rest e. apart 101 (second algo ∙ ap (λ line. get_or line 1 0) e) (λ i. omega (arith, i)))
+    (λ rest e. apart 101 (second algo ∙ ap (λ line. get_or line 1 0) e) (λ i. omega (arith, i)))
+    (λ rest e. apart 99 (second algo ∙ ap (λ line. get_or line 1 0) e) (λ i. omega (arith, i)))
+  where
+    second : (a : Algo) → 105 ≡ get_or (last_line a rim) 1 0
+    second Sha256 = refl
+    second Sha512 = refl
+
+    apart : (byte : ℕ) → 105 ≡ byte → (105 ≡ byte → ⊥) → ⊥
+    apart byte same differs = differs same

@@ -39,7 +39,7 @@ unfolding encode_with
 encoded [] = refl
 encoded (b ∷ rest) = rw (digit_inner lower_digits (b / 16) refl, digit_inner lower_digits (b % 16) refl, encoded rest) refl
 
-is_word-encoded : (bytes : List ℕ) → is_word (encode_with lower_digits bytes) ≡ true
+pub is_word-encoded : (bytes : List ℕ) → is_word (encode_with lower_digits bytes) ≡ true
 unfolding is_word
 is_word-encoded bytes = encoded bytes
 
@@ -53,11 +53,11 @@ onto (suc k) n rest h =
     elim (n / 10 == 0) as (λ t. list_all is_inner (cond t (digit_glyph false (n % 10) ∷ rest) (digits_onto k 10 false (n / 10) (digit_glyph false (n % 10) ∷ rest))) ≡ true)
     [ true ↦ more | false ↦ onto k (n / 10) (digit_glyph false (n % 10) ∷ rest) more ]
 
-is_word-decimal : (n : ℕ) → is_word (decimal n) ≡ true
+pub is_word-decimal : (n : ℕ) → is_word (decimal n) ≡ true
 unfolding is_word digits
 is_word-decimal n = onto 64 n [] refl
 
-is_word-algo : (algo : Algo) → is_word (algo_word algo) ≡ true
+pub is_word-algo : (algo : Algo) → is_word (algo_word algo) ≡ true
 unfolding is_word
 is_word-algo Sha256 = refl
 is_word-algo Sha512 = refl
@@ -73,7 +73,7 @@ unfolding is_word
 is_word-content (Some m) = rw (encoded m.bytes) refl
 is_word-content None = refl
 
-name_is_word : (name : List ℕ) → list_all is_inner name ≡ true → is_word name ≡ true
+pub name_is_word : (name : List ℕ) → list_all is_inner name ≡ true → is_word name ≡ true
 unfolding is_word
 name_is_word name h = h
 
@@ -109,7 +109,7 @@ parted word (next ∷ words) h =
     slice_split_at (λ b. b == 32) word 32 (join_with_byte 32 (next ∷ words)) (lacks (λ b. (b == 32) ≡ false) no_space word parts.0) refl
     ∙ ap (λ ws. word ∷ ws) (parted next words parts.1)
 
-one_line : (words : List (List ℕ)) → list_all is_word words ≡ true → All (λ b. b ≢ 10) (join_with_byte 32 words)
+pub one_line : (words : List (List ℕ)) → list_all is_word words ≡ true → All (λ b. b ≢ 10) (join_with_byte 32 words)
 one_line [] h = All-nil (λ b. b ≢ 10)
 one_line (word ∷ []) h = lacks (λ b. b ≢ 10) no_newline word (and_parts (is_word word) true h).0
 one_line (word ∷ next ∷ words) h =

@@ -1,10 +1,13 @@
--- The first and the last line of a listing, without their newlines. This project's choice.
+-- The first and the last line of a listing, without their newlines, and its text. This project's choice.
 use Rattle.std.specs.Prelude.{ℕ, List, ◌++◌, codes, take}
 use Rattle.std.specs.Fmt.{decimal}
+use Rattle.std.specs.List.{flat_map}
 use Rattle.hex.specs.Hex.{encode_lower}
 use Rattle.rim_desc.specs.Measurement.{algo_word}
+use Rattle.rim_desc.specs.declared.command.Command.{Command}
 use Rattle.rim_desc.specs.declared.measurement.Algo.{Algo}
 use Rattle.rim_desc.specs.declared.measurement.Algo.TheVariants.{Sha256, Sha512}
+use Rattle.rmi_line.specs.Line.{line_of}
 
 -- the first line has the monitor's number of auxiliary granules
 abbrev pub first_line : ℕ → List ℕ
@@ -26,3 +29,15 @@ rim_text algo rim = spaced_word algo ++ encode_lower (digest_bytes algo rim)
 -- the last line has the measurement that the monitor holds
 abbrev pub last_line : Algo → List ℕ → List ℕ
 last_line algo rim = codes "rim" ++ rim_text algo rim
+
+-- a line with its newline
+abbrev pub with_newline : List ℕ → List ℕ
+with_newline line = line ++ codes "\n"
+
+abbrev pub command_line : Command → List ℕ
+command_line command = with_newline (line_of command)
+
+-- the text of a listing: a line for each command, between the first and the last one
+abbrev pub listing_text : ℕ → List Command → Algo → List ℕ → List ℕ
+listing_text num_aux commands algo rim =
+    (with_newline (first_line num_aux) ++ flat_map command_line commands) ++ with_newline (last_line algo rim)

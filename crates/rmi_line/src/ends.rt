@@ -2,6 +2,7 @@
 ghost use Rattle.std.specs.Prelude.{◌≡◌, ◌≤◌, length};
 ghost use Rattle.rmi_line.specs.Ends.{digest_bytes};
 ghost use Rattle.rmi_line.specs.Spelled.{ReadsFirst, ReadsLast};
+ghost use Rattle.rmi_line.specs.Typed.{Are64Bytes};
 
 use crate::reader::{Words, after};
 use crate::typed::bytes_fit;
@@ -43,9 +44,11 @@ pub fn read_last(line: &[u8]) -> Option<(Algo, Measurement)>
 
 /// The bytes of a measurement that are a digest of its algorithm.
 pub fn digest(algo: Algo, rim: &Measurement) -> &[u8]
+    ensures bytes { Are64Bytes rim.now.bytes }
     ensures value { result.now ≡ digest_bytes algo rim.now.bytes }
     ensures size { length result.now ≤ 64 }
 {
+    bytes_fit(&rim.bytes);
     match algo {
         Algo::Sha256 => &rim.bytes[..32],
         Algo::Sha512 => &rim.bytes,

@@ -1,7 +1,9 @@
 //! Laws for readers of the definitions, proved.
-ghost use Rattle.std.specs.Prelude.{◌≡◌, ◌≢◌, ◌==◌, Option, Some};
+ghost use Rattle.std.specs.Prelude.{◌≡◌, ◌≢◌, ◌==◌, ℕ, List, Option, None, Some};
 ghost use Rattle.std.specs.List.{All, slice_split};
 ghost use Rattle.rim_desc.specs.declared.command.Command.{Command};
+ghost use Rattle.rim_desc.specs.declared.measurement.Algo.{Algo};
+ghost use Rattle.rmi_line.specs.Ends.{first_line, last_line};
 ghost use Rattle.rmi_line.specs.Line.{line_of, words_of};
 ghost use Rattle.rmi_line.specs.Spelled.{Reads};
 
@@ -29,3 +31,10 @@ pub fn a_line_gives_its_command(command: rim_desc::Command)
 {
     typed(&command);
 }
+
+/// Neither the first nor the last line of a listing has a newline, and the last one spells no command.
+pub fn the_ends_are_lines()
+    ensures first { (num_aux : ℕ) → All (λ b. b ≢ 10) (first_line num_aux) }
+    ensures last { (algo : Algo) (rim : List ℕ) → All (λ b. b ≢ 10) (last_line algo rim) }
+    ensures apart { (algo : Algo) (rim : List ℕ) → Reads (last_line algo rim) None }
+{}

@@ -12,6 +12,8 @@ mod typed;
 mod words;
 
 pub use ends::{digest, read_first, read_last};
-pub use laws::{a_line_gives_its_command, one_command_a_line, spaces_part_the_words};
+pub use laws::{
+    a_line_gives_its_command, one_command_a_line, spaces_part_the_words, the_ends_are_lines,
+};
 pub use line::print_line;
 pub use reading::read_line;
