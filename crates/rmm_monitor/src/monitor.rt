@@ -18,7 +18,9 @@ use crate::parameters::{
     start_tables,
 };
 use crate::space::IpaSpace;
-use rim_desc::{Algo, Command, GRANULE_SIZE, Measurement, RealmParams, RecParams, hash, realm_page};
+use rim_desc::{
+    Algo, Command, GRANULE_SIZE, Measurement, RealmParams, RecParams, hash, realm_page,
+};
 use rmm_model::{Kind, Phase, Refused, extended_by_stretches, protected_end, size_of_level};
 use std::alloc::Global;
 use std::marker::Model;
