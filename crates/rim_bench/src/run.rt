@@ -1,0 +1,125 @@
+//! A job, done through the public calls of rim.
+ghost use Rattle.std.specs.Prelude.{◌≡◌, length, vec_len};
+
+use crate::contents::{bytes, image};
+use crate::digest::Digest;
+use crate::job::{Job, Shape, Size};
+use crate::manifest::manifest;
+use rim_release::{
+    Files, FreeGate, Release, audit_launches, listing, measure_release, read_manifest, replay,
+    report_alone,
+};
+use std::alloc::{AllocError, Global};
+use std::sync::Wait;
+use std::thread::Threads;
+
+/// Why a job was not done.
+#[derive(Clone, Copy, Debug)]
+pub enum Fault {
+    NoMemory,
+    /// A call refused what it was given.
+    Refused,
+    Output,
+}
+
+impl From<AllocError> for Fault {
+    fn from(_error: AllocError) -> Fault {
+        Fault::NoMemory
+    }
+}
+
+/// How many workers measure, which is the program's default.
+const WORKERS: usize = 4;
+
+/// Does a job, and digests its results.
+pub fn run<R: Threads + Wait + Sync>(
+    rt: &R,
+    alloc: Global,
+    job: Job,
+    size: Size,
+    seed: u32,
+    devicetree: &[u8],
+) -> Result<Digest, Fault> {
+    let shape = job.shape(size);
+    let text = manifest(alloc, &shape, !devicetree.is_empty())?;
+    let files = files(alloc, &shape, seed, devicetree)?;
+    let release = read_manifest(alloc, text.as_bytes()).map_err(|_| Fault::Refused)?;
+    if files.len() != release.file_count() {
+        return Err(Fault::Refused);
+    }
+    let mut found = Digest::EMPTY;
+    match job {
+        Job::Audit => audited(alloc, &release, &files, &mut found)?,
+        Job::List => listed(alloc, &release, &files, &mut found)?,
+        Job::Guest => alone(alloc, &release, &files, &mut found)?,
+        Job::Release | Job::Recs | Job::Alike => {
+            measured(rt, alloc, &release, &files, &mut found)?
+        }
+    }
+    Ok(found)
+}
+
+fn files(alloc: Global, shape: &Shape, seed: u32, devicetree: &[u8]) -> Result<Files, AllocError> {
+    let seed = u64::from(seed) << 16;
+    let mut files = Vec::new(alloc);
+    for n in 0..shape.kernels {
+        files.push(image(alloc, seed.wrapping_add(n), shape.kernel_size)?)?;
+    }
+    for n in 0..shape.initrds {
+        let own = seed.wrapping_add(256).wrapping_add(n);
+        files.push(bytes(alloc, own, shape.initrd_size)?)?;
+    }
+    if !devicetree.is_empty() {
+        files.push(Vec::from_slice(alloc, devicetree)?)?;
+    }
+    Ok(files)
+}
+
+/// The audit of all launches.
+fn audited(alloc: Global, release: &Release, files: &Files, found: &mut Digest) -> Result<(), Fault>
+    requires { vec_len files.now ≡ length release.now.paths }
+{
+    let report = audit_launches(alloc, release, files).map_err(|_| Fault::NoMemory)?;
+    found.add(report.text.as_slice());
+    Ok(())
+}
+
+/// The listing of each launch, and whether its replay confirms it.
+fn listed(alloc: Global, release: &Release, files: &Files, found: &mut Digest) -> Result<(), Fault>
+    requires { vec_len files.now ≡ length release.now.paths }
+{
+    for i in 0..release.launches() {
+        let text = listing(alloc, release, files, i).map_err(|_| Fault::Refused)?;
+        found.add(text.as_slice());
+        if replay(alloc, text.as_slice()).is_err() {
+            return Err(Fault::Refused);
+        }
+    }
+    Ok(())
+}
+
+/// The report, made on this thread.
+fn alone(alloc: Global, release: &Release, files: &Files, found: &mut Digest) -> Result<(), Fault>
+    requires { vec_len files.now ≡ length release.now.paths }
+{
+    let report = report_alone(alloc, release, files).map_err(|_| Fault::Refused)?;
+    found.add(report.text.as_slice());
+    Ok(())
+}
+
+/// The report, made by workers.
+fn measured<R: Threads + Wait + Sync>(
+    rt: &R,
+    alloc: Global,
+    release: &Release,
+    files: &Files,
+    found: &mut Digest,
+) -> Result<(), Fault>
+    requires { vec_len files.now ≡ length release.now.paths }
+{
+    let outcome = measure_release(rt, alloc, &mut FreeGate, release, files, WORKERS).map_err(
+        |_| Fault::Refused,
+    )?;
+    found.add(outcome.report.as_slice());
+    Ok(())
+}
