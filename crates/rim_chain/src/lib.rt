@@ -11,6 +11,7 @@ mod link;
 mod plan;
 mod prefix;
 mod reading;
+mod rec_content;
 mod shared_prefixes;
 mod siblings;
 mod starting;

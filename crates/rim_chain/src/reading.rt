@@ -1,22 +1,20 @@
 //! The plan of a launch that has its place.
-ghost use Rattle.std.specs.Prelude.{◌≡◌, [], ◌++◌, ◌^◌, ◌<◌, ◌≤◌, length, map, Some, Ok, IfOk, IsOk, OnErr, OnOk};
+ghost use Rattle.std.specs.Prelude.{◌≡◌, ◌++◌, ◌^◌, ◌<◌, ◌≤◌, length, map, Some, Ok, IfOk, IsOk, OnErr, OnOk};
 ghost use Rattle.std.specs.List.{All, flat_map, slice_get};
-ghost use Rattle.rim_desc.specs.Measurement.{measurement_of};
-ghost use Rattle.rim_desc.specs.Rec.{rec_page_of};
 ghost use Rattle.rtt_plan.specs.Places.{IsRegion};
 ghost use Rattle.rtt_plan.specs.Runs.{runs_of};
 ghost use Rattle.rmi_list.specs.Listed.{listed};
 ghost use Rattle.rmi_list.specs.Measured as measured;
-ghost use Rattle.rmi_list.specs.RecParams.{rec_params};
 ghost use Rattle.rim_chain.specs.Links.{keys_of};
 ghost use Rattle.rim_chain.specs.Reading.{IsReadOf};
 ghost use Rattle.rim_chain.specs.inside.Steps.{IsReadable, item_links, rec_links, run_link, step_links};
 
 use crate::link::Link;
 use crate::plan::{LaunchPlan, page_count};
+use crate::rec_content::{HashedRec, rec_content};
 use ipa_layout::{Placed, PlacedItem, PlacedRec};
 use page_jobs::PageKey;
-use rim_desc::{Algo, Measurement, NoMemory, RecParams, hash, rec_page};
+use rim_desc::{Algo, NoMemory};
 use rim_launch::{Config, Launch, Region, Step, realm_params};
 use rmi_list::Plan;
 use rmm_model::{size_of_level, start_level};
@@ -76,19 +74,21 @@ fn push_steps(
         ≡ links.old.items ++ flat_map (step_links launch.now placed.now) steps.now) }
     ensures growth { OnErr result (0 < length steps.now) }
 {
+    let mut last = None;
     for step in steps {
-        push_step(links, algo, launch, placed, *step)?;
+        push_step(links, algo, launch, placed, *step, &mut last)?;
     }
     Ok(())
 }
 
-/// Adds the links of a step.
+/// Adds the links of a step. The REC that was hashed last is kept.
 fn push_step(
     links: &mut Vec<Link>,
     algo: Algo,
     launch: &Launch,
     placed: &Placed,
     step: Step,
+    last: &mut Option<HashedRec>,
 ) -> Result<(), NoMemory>
     requires algo { algo ≡ launch.now.config.algo }
     requires readable { IsReadable launch.now step }
@@ -105,7 +105,7 @@ fn push_step(
             None => Ok(()),
         },
         Step::Rec(number) => match rec_at(placed, number) {
-            Some(rec) => push_rec(links, algo, &rec),
+            Some(rec) => push_rec(links, algo, &rec, last),
             None => Ok(()),
         },
     }
@@ -193,23 +193,18 @@ fn push_item(links: &mut Vec<Link>, algo: Algo, item: &PlacedItem) -> Result<(),
     Ok(())
 }
 
-/// Adds the link of a REC.
-fn push_rec(links: &mut Vec<Link>, algo: Algo, rec: &PlacedRec) -> Result<(), NoMemory>
+/// Adds the link of a REC. The REC that was hashed last is kept.
+fn push_rec(
+    links: &mut Vec<Link>,
+    algo: Algo,
+    rec: &PlacedRec,
+    last: &mut Option<HashedRec>,
+) -> Result<(), NoMemory>
     ensures { OnOk result (links.new.items ≡ links.old.items ++ rec_links algo (Some rec.now)) }
 {
-    links.push(Link::Rec {
-        content: rec_content(algo, rec),
-    })?;
+    let content = rec_content(algo, rec, last);
+    links.push(Link::Rec { content })?;
     Ok(())
-}
-
-/// The measurement of a REC's page. Its MPIDR and its auxiliary granules are not measured.
-fn rec_content(algo: Algo, rec: &PlacedRec) -> Measurement
-    ensures { result.bytes ≡ measurement_of algo (rec_page_of (rec_params 0 rec.now [])) }
-{
-    let flags = if rec.runnable { 1 } else { 0 };
-    let params = RecParams::new(flags, 0, rec.pc, rec.x, &[]);
-    hash(algo, &rec_page(&params))
 }
 
 /// How many measured pages some links have.
