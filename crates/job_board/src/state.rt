@@ -1,11 +1,12 @@
 //! A board's state: what each call makes of it.
-ghost use Rattle.std.specs.Prelude.{◌≡◌, ℕ, ◌<◌, ◌≤◌, ◌+◌, ◌⊎◌, [], false, true, length, map, replicate, sum, vec_len, IfErr, IfNone, IfOk, IfSome, None, OnOk, Some, slice_get, slice_set, vec_capacity};
+ghost use Rattle.std.specs.Prelude.{◌≡◌, ◌≢◌, ℕ, ◌<◌, ◌≤◌, ◌+◌, ◌⊎◌, [], false, true, length, map, replicate, sum, vec_len, IfErr, IfNone, IfOk, IfSome, None, OnOk, Some, slice_get, slice_set, vec_capacity};
 ghost use Rattle.std.specs.List.{All, Contains};
 ghost use Rattle.job_board.specs.declared.job.Event.{Event};
 ghost use Rattle.job_board.specs.declared.job.JobId.{JobId};
 ghost use Rattle.job_board.specs.declared.job.JobState.{JobState};
 ghost use Rattle.job_board.specs.Board.{Adds, AreValuesOf, CanPutJob, CanPutPage, IsBoard, IsOfRun, NeedsOwn, SameRest};
 ghost use Rattle.job_board.specs.Gives.{Gives};
+ghost use Rattle.job_board.specs.declared.work.Work.{Work};
 ghost use Rattle.job_board.specs.Jobs.{IsOpen, NoneFree, held_count, is_out, is_over, is_ready, opening, state_of};
 ghost use Rattle.rim_desc.specs.declared.measurement.Algo.TheVariants as algo;
 ghost use Rattle.page_jobs.specs.Page.{page_view};
@@ -221,6 +222,44 @@ impl<'a, L: Run> BoardState<'a, L> {
         ensures board { IsBoard self.old × IsOfRun L.pages L.plans self.old }
         ensures gives { Gives self.old worker result self.new }
     {
+        let work = self.preferred_work(worker);
+        if !matches!(work, Work::Later) {
+            return work;
+        }
+        match self.core.ready_launch() {
+            Some(number) => Work::Launch(self.give_launch(worker, number)),
+            None => Work::Later,
+        }
+    }
+
+    /// The same for a worker that may come again when a launch is put or a worker retires. `Later` is also answered where each
+    /// free launch that is ready had best wait for one that another worker holds, since both begin alike.
+    pub fn take_or_wait(&mut self, worker: usize) -> Work<'a, L>
+        ensures board { IsBoard self.old × IsOfRun L.pages L.plans self.old }
+        ensures gives { result ≢ Work.Later → Gives self.old worker result self.new }
+        ensures later { result ≡ Work.Later → self.new ≡ self.old }
+    {
+        let work = self.preferred_work(worker);
+        if !matches!(work, Work::Later) {
+            return work;
+        }
+        match self.launch_to_begin() {
+            Some(number) => Work::Launch(self.give_launch(worker, number)),
+            None => Work::Later,
+        }
+    }
+
+    /// What a worker is given, unless only launches are left that go on from others whose prefixes are not known; then, and where
+    /// nothing is left, it is `Later`.
+    fn preferred_work(&mut self, worker: usize) -> Work<'a, L>
+        ensures board { IsBoard self.old × IsOfRun L.pages L.plans self.old }
+        ensures gives { result ≢ Work.Later → Gives self.old worker result self.new }
+        ensures same { result ≡ Work.Later → self.new ≡ self.old }
+        ensures known { result ≡ Work.Later → is_out self.old.core worker ≡ false }
+        ensures idle { result ≡ Work.Later → held_count self.old.core worker ≡ 0 }
+        ensures open { result ≡ Work.Later → is_over self.old.core ≡ false }
+        ensures pages { result ≡ Work.Later → NoneFree self.old.core.pages }
+    {
         if self.core.is_out(worker) || self.core.is_finished() {
             return Work::Done;
         }
@@ -233,10 +272,22 @@ impl<'a, L: Run> BoardState<'a, L> {
         if let Some(page) = self.next_page(worker) {
             return Work::Page(self.give_page(worker, page));
         }
-        if let Some(number) = self.core.ready_launch() {
-            return Work::Launch(self.give_launch(worker, number));
-        }
         Work::Later
+    }
+
+    /// A free launch that is ready, of those that are chained from the start: the first that had not best wait for another.
+    fn launch_to_begin(&mut self) -> Option<usize>
+        ensures same { self.new ≡ self.old }
+        ensures some { IfSome result (IsOpen self.old.core) }
+    {
+        let BoardState { core, prefixes, .. } = self;
+        core.ready_launch()?;
+        for number in 0..core.launches() {
+            if core.is_open(number) && !waits(core, prefixes, number) {
+                return Some(number);
+            }
+        }
+        None
     }
 
     /// A free launch that is ready and is to be chained before more pages are hashed, if one is known. A worker within a
@@ -570,6 +621,16 @@ fn free_of(core: &Core, page: usize, other: usize) -> usize
         Some(JobState::Free) => page,
         _ => other,
     }
+}
+
+/// Whether a launch had best wait for an earlier one, where those that are free and ready of the earlier ones wait too: each
+/// of these waits for one that a worker holds, or for another that waits.
+fn waits(core: &Core, prefixes: &SharedPrefixes, number: usize) -> bool {
+    let Some(earlier) = prefixes.waits_for(number) else {
+        return false;
+    };
+    let state = core.state(JobId::Launch(earlier));
+    matches!(state, Some(JobState::Held(_))) || core.is_open(earlier)
 }
 
 /// The job of a launch whose pages all have digests, in a row that has room for any launch; or the row, for others.

@@ -37,8 +37,9 @@ impl<'a, L: Run> Board<'a, L> {
         self.state.lock(rt).pages()
     }
 
-    /// A free job that is ready, or why none is given. Where nothing that is free is ready, the worker sleeps. Each put and
-    /// each retirement that is accepted wakes all that sleep.
+    /// A free job that is ready, or why none is given. Where nothing that is free is ready, the worker sleeps, and so it does
+    /// where each launch that is had best wait for one that another worker holds. Each put and each retirement that is accepted
+    /// wakes all that sleep. A worker that holds a job does not sleep here: it puts the job or retires, so the others wake.
     pub fn take(&self, rt: &impl Wait, worker: usize) -> Work<'a, L>
         ensures found { (found : BoardView) × (left : BoardView) × IsBoard found
             × IsOfRun L.pages L.plans found × Gives found worker result left }
@@ -46,7 +47,7 @@ impl<'a, L: Run> Board<'a, L> {
     {
         let mut state = self.state.lock(rt);
         for _ in rt.forever() {
-            let given = state.take(worker);
+            let given = state.take_or_wait(worker);
             if !matches!(given, Work::Later) {
                 return given;
             }

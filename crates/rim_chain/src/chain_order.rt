@@ -1,4 +1,6 @@
 //! The order in which the launches of a run are to be chained. No value depends on it.
+ghost use Rattle.std.specs.Prelude.{◌<◌, IfSome};
+
 use crate::plan::LaunchPlan;
 use crate::siblings::SharedPrefix;
 use refusal::NoMemory;
@@ -22,11 +24,18 @@ struct Candidate {
     first: Reverse<usize>,
     /// Of launches that go on from the same one, the one with the least number comes first.
     number: Reverse<usize>,
+    /// How many parts are chained one after another until the launch is done, where each waits that had best do so.
+    until: u64,
+    /// Whether it had best wait for the launch that it goes on from, where another worker has that one.
+    waits: bool,
 }
 
 /// Launches that go on from others are not set apart by fewer parts than this, which take about a millisecond. So those that
 /// begin with the same pages come one after another, and a worker has most digests in its row already.
 const STEP: u64 = 1_024;
+
+/// No worker waits for a prefix of fewer parts than this: to sleep and to wake takes a part of a millisecond too.
+const LEAST_WAIT: u64 = 1_024;
 
 /// Launches of which no prefix is still to be chained, the one with the longest way first. A way is a launch, one that goes
 /// on from it, one that goes on from that, and so on: no number of workers chains it in less time. So launches that others
@@ -88,6 +97,19 @@ impl ChainOrder {
         self.waiting.len()
     }
 
+    /// The launch, of a lower number, that a launch goes on from and had best wait for, where another worker has that one.
+    pub(crate) fn waits_for(&self, number: usize) -> Option<usize>
+        ensures { IfSome result (λ earlier. earlier < number) }
+    {
+        let candidate = self.launches.get(number)?;
+        let earlier = candidate.first.0;
+        if candidate.waits && earlier < number {
+            Some(earlier)
+        } else {
+            None
+        }
+    }
+
     /// Takes the launch that is to be chained next.
     pub(crate) fn next(&mut self) -> Option<usize> {
         let candidate = self.waiting.pop()?;
@@ -117,20 +139,62 @@ fn candidates_of(
     shared: &[Option<SharedPrefix>],
 ) -> Result<Vec<Candidate>, NoMemory> {
     let ways = ways_of(alloc, plans, shared)?;
-    let mut candidates = Vec::with_capacity(alloc, ways.len())?;
-    for number in 0..ways.len() {
-        let way = ways[number];
-        let (parts, first) = match shared.get(number) {
-            Some(Some(shared_prefix)) => (way - way % STEP, shared_prefix.launch),
-            _ => (way, number),
+    let mut candidates = Vec::with_capacity(alloc, plans.len())?;
+    for number in 0..plans.len() {
+        let way = ways.get(number).copied().unwrap_or(0);
+        let candidate = match shared.get(number) {
+            Some(Some(shared_prefix)) => {
+                following(&candidates, &plans[number], *shared_prefix, number, way)
+            }
+            _ => beginning(&plans[number], number, way),
         };
-        candidates.push(Candidate {
-            parts,
-            first: Reverse(first),
-            number: Reverse(number),
-        })?;
+        candidates.push(candidate)?;
     }
     Ok(candidates)
+}
+
+/// A launch that goes on from no other.
+fn beginning(plan: &LaunchPlan, number: usize, way: u64) -> Candidate {
+    Candidate {
+        parts: way,
+        first: Reverse(number),
+        number: Reverse(number),
+        until: plan.parts_after(0),
+        waits: false,
+    }
+}
+
+/// A launch that goes on from one of those with lower numbers.
+fn following(
+    earlier: &[Candidate],
+    plan: &LaunchPlan,
+    shared_prefix: SharedPrefix,
+    number: usize,
+    way: u64,
+) -> Candidate {
+    let anew = plan.parts_before(shared_prefix.links);
+    let until = earlier
+        .get(shared_prefix.launch)
+        .map_or(u64::MAX, |candidate| candidate.until);
+    let waits = is_best_to_wait(anew, until, way);
+    let begin = if waits { until } else { anew };
+    Candidate {
+        parts: way - way % STEP,
+        first: Reverse(shared_prefix.launch),
+        number: Reverse(number),
+        until: begin.saturating_add(plan.parts_after(shared_prefix.links)),
+        waits,
+    }
+}
+
+/// Whether a launch had best wait for another, that has its prefix and is done after `until` parts. The prefix takes `anew`
+/// parts, and the longest way that begins with the launch has `way` parts after that.
+///
+/// It does where the prefix takes a worker of its own about as long; and where it is most of the work, so that few workers
+/// are idle for less than they would have to do.
+fn is_best_to_wait(anew: u64, until: u64, way: u64) -> bool {
+    let quarter = anew / 4;
+    anew >= LEAST_WAIT && (until <= anew.saturating_add(quarter) || way <= quarter)
 }
 
 /// Of each launch, how many parts its longest way has. Whoever goes on from a launch has a greater number.

@@ -1,5 +1,5 @@
 //! The prefixes that launches of a run have in common, so that each is chained once.
-ghost use Rattle.std.specs.Prelude.{◌≡◌, true, List, map, None, Some, IfOk, IfSome, slice_set, option_and_then, option_map};
+ghost use Rattle.std.specs.Prelude.{◌≡◌, ◌<◌, true, List, map, None, Some, IfOk, IfSome, slice_set, option_and_then, option_map};
 ghost use Rattle.std.specs.List.{Contains, slice_get};
 ghost use Rattle.page_jobs.specs.Table.{TableView};
 ghost use Rattle.rim_chain.specs.Links.{PlanView};
@@ -172,6 +172,14 @@ impl SharedPrefixes {
         checkpoints_at(self.checkpoints.as_slice(), number).is_some_and(
             |checkpoints| checkpoints.is_empty(),
         )
+    }
+
+    /// The earlier launch that a launch goes on from, where it had best not be chained before that one: another worker that
+    /// has that one is about as soon done as the prefix would be chained anew, or has to be waited for in any case.
+    pub fn waits_for(&self, number: usize) -> Option<usize>
+        ensures { IfSome result (λ earlier. earlier < number) }
+    {
+        self.order.waits_for(number)
     }
 
     /// Takes the launch that is to be chained next, of those that were noted and may be chained.
