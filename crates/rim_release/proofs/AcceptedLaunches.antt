@@ -1,15 +1,20 @@
 -- A launch that is accepted has a place and a list.
-use Rattle.std.proofs.Common.{◌≡◌, ℕ, ◌∙◌, List, refl, ap, sym}
-use Rattle.std.specs.Prelude.{Result, Ok, Err}
+use Rattle.std.proofs.Common.{◌≡◌, ℕ, ◌∙◌, List, Vec, Global, length, true, refl, ap, sym}
+use Rattle.std.specs.Prelude.{Result, Ok, Err, IfOk}
+use Rattle.std.proofs.lemmas.List.{length-map}
+use Rattle.refusal.specs.declared.memory.NoMemory.{NoMemory}
+use Rattle.rim_desc.specs.declared.measurement.Measurement.{Measurement}
 use Rattle.std.specs.Result.{result_map_both}
 use Rattle.refusal.specs.Answer.{◌>>=◌}
-use Rattle.list_model.specs.Entries.{Entry}
-use Rattle.rim_launch.specs.LaunchData.{LaunchData}
-use Rattle.ipa_layout.specs.Layout.{PlacedData, places}
+use Rattle.list_model.specs.Entries.{Entry, commands_of}
+use Rattle.rim_launch.specs.LaunchData.{LaunchData, has_files}
+use Rattle.ipa_layout.specs.Files.{bytes_of_files}
+use Rattle.ipa_layout.specs.Layout.{IsPlaced, PlacedData, places}
 use Rattle.ipa_layout.specs.declared.fault.LayoutFault.{LayoutFault}
 use Rattle.rmi_list.specs.Listed.{listed}
+use Rattle.rmi_list.specs.Measured.{page_contents}
 use Rattle.rmi_list.specs.declared.fault.ListFault.{ListFault}
-use Rattle.rim_release.specs.Accepted.{accepted_of, layout_fault, list_fault}
+use Rattle.rim_release.specs.Accepted.{accepted_of, commands_for, layout_fault, list_fault, rim_after, rim_for}
 use Rattle.rim_release.specs.declared.audit_fault.AuditFault.{AuditFault}
 
 -- the place of a launch that is accepted, and its list
@@ -35,3 +40,28 @@ accepted-is l files p accepted = by_place (places l files) refl accepted
         → (result_map_both (λ q. q) layout_fault place >>= λ q. at_list l q (listed l q)) ≡ Ok p → IsAccepted l files p
     by_place (Err fault) is same = absurd (cc)
     by_place (Ok q) is same = by_list q is (listed l q) refl same
+
+-- and so it is accepted
+pub accepted-by : (l : LaunchData) (files : List (List ℕ)) (p : PlacedData) (entries : List Entry) → places l files ≡ Ok p → listed l p ≡ Ok entries → accepted_of l files ≡ Ok p
+unfolding accepted_of
+accepted-by l files p entries placed is = rw placed (rw is refl)
+
+-- where it is
+pub placed-by : (l : LaunchData) (files : List (Vec ℕ Global)) (p : PlacedData) → has_files l (length files) ≡ true → accepted_of l (bytes_of_files files) ≡ Ok p → IsPlaced l (bytes_of_files files) p
+placed-by l files p there accepted = record {
+  there = ap (has_files l) (length-map files (λ f. f.items)) ∙ there;
+  placed = (accepted-is l (bytes_of_files files) p accepted).placed;
+}
+
+-- what a monitor holds after the commands of its list is its measurement
+rim-by : (l : LaunchData) (files : List (List ℕ)) (p : PlacedData) (entries : List Entry) → places l files ≡ Ok p → listed l p ≡ Ok entries
+    → rim_for l files ≡ Ok (rim_after l (commands_of (page_contents l files p) entries))
+unfolding rim_for commands_for
+rim-by l files p entries placed is = rw placed (rw is refl)
+
+pub held-by : (l : LaunchData) (files : List (List ℕ)) (p : PlacedData) (entries : List Entry) (found : Result Measurement NoMemory)
+    → accepted_of l files ≡ Ok p → listed l p ≡ Ok entries → IfOk found (λ m. m.bytes ≡ rim_after l (commands_of (page_contents l files p) entries))
+    → IfOk found (λ m. rim_for l files ≡ Ok m.bytes)
+held-by l files p entries (Err fault) accepted is held = tt
+held-by l files p entries (Ok m) accepted is held =
+    rim-by l files p entries (accepted-is l files p accepted).placed is ∙ ap (λ (rim : List ℕ). Ok rim) (sym held)

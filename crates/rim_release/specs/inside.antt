@@ -6,3 +6,5 @@ pub mod Filled
 pub mod Chains
 pub mod Lines
 pub mod Commands
+pub mod Digests
+pub mod Beside

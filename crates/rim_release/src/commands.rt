@@ -1,17 +1,20 @@
 //! The commands that build the realm of a launch, one by one, each given to a monitor.
-ghost use Rattle.std.specs.Prelude.{◌≡◌, length, true, IfOk, Ok};
+ghost use Rattle.std.specs.Prelude.{◌≡◌, length, option_map, true, IfOk, Ok, Some};
 ghost use Rattle.refusal.specs.Answer.{Answers};
 ghost use Rattle.list_model.specs.Entries.{commands_of};
 ghost use Rattle.rim_launch.specs.LaunchData.{has_files};
 ghost use Rattle.ipa_layout.specs.Layout.{IsPlaced};
 ghost use Rattle.ipa_layout.specs.Files.{bytes_of_files};
+ghost use Rattle.page_jobs.specs.Table.{TableView};
 ghost use Rattle.rmi_list.specs.Listed.{listed};
 ghost use Rattle.rmi_list.specs.Measured.{page_contents};
 ghost use Rattle.rim_release.specs.Accepted.{commands_for};
+ghost use Rattle.rim_release.specs.inside.Digests.{HasOwnPages};
 
 use crate::audit_fault::AuditFault;
-use ipa_layout::{Placed, place};
-use page_jobs::{Blob, PageJob};
+use crate::beside::{Beside, Group};
+use ipa_layout::{Placed, PlacedItem, place};
+use page_jobs::{Blob, LANES, PageJob, PageKey, Table, run_four};
 use refusal::NoMemory;
 use rim_desc::{Command, Measurement};
 use rim_launch::Launch;
@@ -19,15 +22,19 @@ use rmi_list::{Plan, list};
 use rmm_monitor::{Monitor, Refused};
 use std::alloc::Global;
 
-/// A launch that has its place and its list of commands, and the files of its release.
+/// A launch that has its place and its list of commands, the files of its release, and a table with digests of its pages
+/// where there is one.
 #[derive(Clone, Copy)]
-pub struct LaunchCommands<'a> {
+pub struct LaunchCommands<'a, 't> {
     pub launch: &'a Launch,
     pub files: &'a [Vec<u8>],
     pub placed: &'a Placed,
     pub plan: &'a Plan,
+    pub table: Option<&'t Table<'t>>,
     pub ghost is_placed: { IsPlaced launch.now (bytes_of_files files.now) placed.now },
     pub ghost is_listed: { listed launch.now placed.now ≡ Ok plan.now },
+    pub ghost has_own: { (t : TableView) → option_map (λ table. table.now) table ≡ Some t
+        → HasOwnPages (bytes_of_files files.now) placed.now t },
 }
 
 /// The place of a launch and its list of commands, or why it is refused.
@@ -52,12 +59,14 @@ pub fn lay_out(
 /// What a command is given for its page where it creates no measured one. It does not use it.
 const NO_CONTENT: Measurement = Measurement { bytes: [0; 64] };
 
-impl<'a> LaunchCommands<'a> {
-    ghost use Rattle.std.specs.Prelude.{◌≡◌, ◌+◌, ◌<◌, length, Some, IfOk, OnOk};
+impl<'a, 't> LaunchCommands<'a, 't> {
+    ghost use Rattle.std.specs.Prelude.{◌≡◌, ◌+◌, ◌<◌, length, Some, IfOk, IfSome, OnOk};
     ghost use Rattle.std.specs.List.{slice_get};
-    ghost use Rattle.rmi_list.specs.Measured.{page_contents};
+    ghost use Rattle.page_jobs.specs.Page.{page_view};
+    ghost use Rattle.rim_chain.specs.Keys.{key_at};
     ghost use Rattle.rim_release.specs.Accepted.{rim_after};
     ghost use Rattle.rim_release.specs.inside.Commands.{HasPage, commands_in, state_after};
+    ghost use Rattle.rim_release.specs.inside.Beside.{DigestIsContent, IsGroup, IsOwn, content_in};
 
     /// How many commands there are.
     pub fn len(&self) -> usize
@@ -76,13 +85,20 @@ impl<'a> LaunchCommands<'a> {
 
     /// Gives a monitor the command of this number, after those before it. The monitor never refuses it but for want of
     /// memory. It answers the command.
-    pub fn give(&self, monitor: &mut Monitor, index: usize) -> Result<Command, NoMemory>
+    pub fn give(
+        &self,
+        monitor: &mut Monitor,
+        beside: &mut Beside,
+        index: usize,
+    ) -> Result<Command, NoMemory>
         requires inside { index < length (commands_in self.now) }
         requires before { monitor.old ≡ state_after self.now index }
+        requires own { IsOwn self.now beside.old }
         ensures command { IfOk result (λ c. slice_get (commands_in self.now) index ≡ Some c) }
         ensures after { OnOk result (monitor.new ≡ state_after self.now (index + 1)) }
+        ensures own { IsOwn self.now beside.new }
     {
-        let command = self.command_at(index);
+        let command = self.command_at(beside, index);
         match monitor.apply(&command) {
             Ok(()) => Ok(command),
             Err(refused) => Err(want_of_memory(refused)),
@@ -100,28 +116,104 @@ impl<'a> LaunchCommands<'a> {
         }
     }
 
-    /// The command of this number. Where it creates a measured page, the page is hashed for it.
-    pub fn command_at(&self, index: usize) -> Command
-        requires { index < length (commands_in self.now) }
-        ensures { slice_get (commands_in self.now) index ≡ Some result }
+    /// The command of this number. Where it creates a measured page, it has the page's measurement.
+    pub fn command_at(&self, beside: &mut Beside, index: usize) -> Command
+        requires inside { index < length (commands_in self.now) }
+        requires own { IsOwn self.now beside.old }
+        ensures command { slice_get (commands_in self.now) index ≡ Some result }
+        ensures own { IsOwn self.now beside.new }
     {
         match self.plan.page_of(index) {
-            Some((item, page)) => self.plan.command(index, &self.content_of(item, page)),
+            Some((item, page)) => {
+                let content = self.content_of(beside, item, page);
+                self.plan.command(index, &content)
+            }
             None => self.plan.command(index, &NO_CONTENT),
         }
     }
 
-    /// The measurement of a page of an item. No byte of the item is copied but those of its first and its last page.
-    fn content_of(&self, item: usize, page: u64) -> Measurement
+    /// The measurement of a page of an item: the one that is known already, or else the page is hashed.
+    fn content_of(&self, beside: &mut Beside, item: usize, page: u64) -> Measurement
+        requires page { HasPage self.now.placed.now item page }
+        requires own { IsOwn self.now beside.old }
+        ensures content { result ≡ content_in self.now item page }
+        ensures own { IsOwn self.now beside.new }
+    {
+        if let Some(digest) = beside.digest(item, page) {
+            return digest;
+        }
+        if let Some(digest) = self.in_table(beside, item, page) {
+            return digest;
+        }
+        if self.placed.items()[item].pages - page < LANES as u64 {
+            return self.job(item, page).run().digest;
+        }
+        let (digest, group) = self.hash_group(item, page);
+        beside.set_group(group);
+        digest
+    }
+
+    /// The measurement of a page, where a table has it. A page's slot is mostly the one after that of the page before.
+    fn in_table(&self, beside: &mut Beside, item: usize, page: u64) -> Option<Measurement>
+        requires page { HasPage self.now.placed.now item page }
+        requires own { IsOwn self.now beside.old }
+        ensures content { IfSome result (λ m. m ≡ content_in self.now item page) }
+        ensures own { IsOwn self.now beside.new }
+    {
+        let table = self.table?;
+        let slot = table.slot_near(beside.slot(), &self.key(item, page))?;
+        beside.set_slot(slot.saturating_add(1));
+        table.digest(slot)
+    }
+
+    /// The key of a page of an item.
+    fn key(&self, item: usize, page: u64) -> PageKey
         requires { HasPage self.now.placed.now item page }
-        ensures { result
-            ≡ page_contents self.now.launch.now (bytes_of_files self.now.files.now)
-            self.now.placed.now item page }
+        ensures { IfSome (slice_get self.now.placed.now.items item)
+            (λ i. result ≡ key_at self.now.launch.now.config.algo i page) }
+    {
+        let item = self.placed.items()[item];
+        PageKey {
+            algo: self.launch.config().algo,
+            source: item.source,
+            lead: item.lead,
+            number: page,
+        }
+    }
+
+    /// Hashes a page and the three after it in its item, side by side where they are whole.
+    fn hash_group(&self, item: usize, page: u64) -> (Measurement, Group)
+        requires { HasPage self.now.placed.now item (page + 3) }
+        ensures content { result.0 ≡ content_in self.now item page }
+        ensures group { IsGroup self.now result.1 }
+    {
+        let (a, b, c, d) = run_four(
+            self.job(item, page),
+            self.job(item, page + 1),
+            self.job(item, page + 2),
+            self.job(item, page + 3),
+        );
+        (
+            a.digest,
+            Group {
+                item,
+                first: page,
+                second: b.digest,
+                third: c.digest,
+                fourth: d.digest,
+            },
+        )
+    }
+
+    /// The work of hashing a page of an item. No byte of the item is copied but those of its first and its last page.
+    fn job(&self, item: usize, page: u64) -> PageJob<'_>
+        requires { HasPage self.now.placed.now item page }
+        ensures { DigestIsContent self.now item page (page_view result.page) }
     {
         let item = self.placed.items()[item];
         let bytes = self.placed.bytes(self.files, item.source);
         let page = Blob::new(item.source, item.lead, bytes).page(self.launch.config().algo, page);
-        PageJob::new(page).run().digest
+        PageJob::new(page)
     }
 }
 

@@ -3,6 +3,7 @@
 
 mod audit_fault;
 mod audits;
+mod beside;
 mod chains;
 mod commands;
 mod devicetree;

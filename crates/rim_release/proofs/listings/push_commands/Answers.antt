@@ -8,4 +8,5 @@ loop-index-preserved c = (
   c.in_ok-command.ensures.after,
   line-next command_line _ _ _ (commands_in c.args.commands.now) c.loop-index.index c.in_ok-command.command
       c.in_ok-command.ensures.command c.loop-index.invariant.1 c.in_ok-push_command.ensures,
+  c.in_ok-command.ensures.own,
 )

@@ -5,23 +5,23 @@ use Rattle.rmi_list.specs.Measured.{page_contents}
 use Rattle.rim_release.proofs.ListedPages.{command-is, page-there}
 use Rattle.rim_release.proofs.commands.LaunchCommands.command_at.Goals as goal
 
-pub content_of-requires : goal.content_of-requires
-content_of-requires c =
+pub content_of-content-requires-clause-page : goal.content_of-content-requires-clause-page
+content_of-content-requires-clause-page c =
     let s = c.args.self.now in
     page-there s.launch.now s.placed.now s.plan.now c.args.index c.in-Some.item c.in-Some.page s.is_listed (sym c.page_of.ensures ∙ c.in-Some.is)
 
-pub returns-in-Some : goal.returns-in-Some
-returns-in-Some c =
+pub returns-in-Some-clause-command : goal.returns-in-Some-clause-command
+returns-in-Some-clause-command c =
     let s = c.args.self.now in
     let pages = page_contents s.launch.now (bytes_of_files s.files.now) s.placed.now in
-    command-is pages c.content_of.result s.plan.now c.args.index c.command.result
+    command-is pages c.content_of-content.result s.plan.now c.args.index c.command.result
     (λ number k at.
     let same = same_Some (c.in-Some.item, c.in-Some.page) (number, k) (sym c.in-Some.is ∙ c.page_of.ensures ∙ at) in
-    c.content_of.ensures ∙ ap (λ (x : ℕ × ℕ). pages x.0 x.1) same)
+    c.content_of-content.ensures.content ∙ ap (λ (x : ℕ × ℕ). pages x.0 x.1) same)
     c.command.ensures
 
-pub returns-in-None : goal.returns-in-None
-returns-in-None c =
+pub returns-in-None-clause-command : goal.returns-in-None-clause-command
+returns-in-None-clause-command c =
     let s = c.args.self.now in
     let pages = page_contents s.launch.now (bytes_of_files s.files.now) s.placed.now in
     command-is pages _ s.plan.now c.args.index c.command-in-None.result

@@ -1,35 +1,12 @@
-use Rattle.std.proofs.Common.{◌∙◌, ℕ, List, Bor, ap}
-use Rattle.rim_desc.specs.PageBytes.{page_bytes}
-use Rattle.rim_launch.specs.declared.config.Config.{Config}
-use Rattle.ipa_layout.specs.Layout.{bytes_of_source}
-use Rattle.ipa_layout.specs.declared.placed.PlacedItem.{PlacedItem}
-use Rattle.ipa_layout.specs.Files.{bytes_of_files}
-use Rattle.page_jobs.specs.Page.{PageView, digest_of, page_view}
+use Rattle.std.proofs.Common.{◌∙◌, ap}
+use Rattle.page_jobs.specs.Page.{digest_of, page_view}
 use Rattle.page_jobs.specs.declared.page.Page.{Page}
-use Rattle.rim_chain.proofs.ChainsOfOwnPages.{lead-low}
-use Rattle.rim_release.proofs.ListedPages.{content-is, item-there, page-low}
+use Rattle.rim_release.proofs.DigestsInTables.{third-after}
 use Rattle.rim_release.proofs.commands.LaunchCommands.content_of.Goals as goal
 
-pub new-requires : goal.new-requires
-new-requires c =
-    let p = c.args.self.now.placed.now in
-    rw (item-there p.items c.items.result.now c.args.item c.requires.item _ c.items.ensures c.requires.at)
-    (lead-low c.args.self.now.launch.now (bytes_of_files c.args.self.now.files.now) p c.args.item c.requires.item c.args.self.now.is_placed c.requires.at)
+pub returns-then-items-item-clause-content : goal.returns-then-items-item-clause-content
+returns-then-items-item-clause-content c =
+    c.job.ensures c.run.result.digest (c.run.result.own ∙ ap (λ (q : Page). digest_of (page_view q)) c.run.ensures)
 
-pub page-page-requires : goal.page-page-requires
-page-page-requires c =
-    page-low c.args.self.now.launch.now (bytes_of_files c.args.self.now.files.now) c.args.self.now.placed.now c.args.item c.args.page c.args.self.now.is_placed c.requires
-
-pub returns : goal.returns
-returns c =
-    let p = c.args.self.now.placed.now in
-    let files : List (List ℕ) = bytes_of_files c.args.self.now.files.now in
-    let item : PlacedItem = c.requires.item in
-    let is = item-there p.items c.items.result.now c.args.item item _ c.items.ensures c.requires.at in
-    content-is c.args.self.now.launch.now files p c.args.item c.args.page item (page_view c.page-page.result) c.run.result.digest c.requires.at
-    (ap (λ (v : PageView). v.key.algo) c.page-page.ensures.page ∙ ap (λ (x : Config). x.algo) c.config.ensures.value)
-    (c.page-page.ensures.contents
-    ∙ ap (λ (lead : ℕ). page_bytes lead c.new.result.bytes.now c.args.page) (c.new.ensures.lead ∙ ap (λ (i : PlacedItem). i.lead) is)
-    ∙ ap (λ (bytes : List ℕ). page_bytes item.lead bytes c.args.page)
-    (ap (λ (b : Bor (List ℕ)). b.now) c.new.ensures.bytes ∙ c.bytes-bytes.ensures ∙ ap (λ (i : PlacedItem). bytes_of_source files p i.source) is))
-    (c.run.result.own ∙ ap (λ (q : Page). digest_of (page_view q)) (c.run.ensures ∙ c.new-2.ensures))
+pub hash_group-requires : goal.hash_group-requires
+hash_group-requires c = third-after c.args.self.now.placed.now c.items.result.now c.args.item c.args.page _ c.items.ensures c.requires.page c.if-items-item.false
