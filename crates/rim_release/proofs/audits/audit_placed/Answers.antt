@@ -1,10 +1,7 @@
-use Rattle.std.proofs.Common.{◌≡◌, ◌∙◌, ℕ, List, ap, length, true}
-use Rattle.std.proofs.lemmas.List.{length-map}
-use Rattle.rim_launch.specs.LaunchData.{has_files}
+use Rattle.std.proofs.Common.{ℕ, List}
 use Rattle.ipa_layout.specs.Files.{bytes_of_files}
-use Rattle.ipa_layout.specs.Layout.{IsPlaced}
 use Rattle.rim_release.specs.inside.Digests.{IsTableFor}
-use Rattle.rim_release.proofs.AcceptedLaunches.{accepted-is, held-by, placed-by}
+use Rattle.rim_release.proofs.AcceptedLaunches.{held-by, placed-by}
 use Rattle.rim_release.proofs.DigestsInTables.{mapped}
 use Rattle.rim_release.proofs.audits.audit_placed.Goals as goal
 
