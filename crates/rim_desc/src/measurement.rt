@@ -5,7 +5,7 @@ ghost use Rattle.rim_desc.specs.Page.{zeros};
 ghost use Rattle.rim_desc.specs.declared.measurement.Algo.TheVariants as algo;
 
 use crate::descriptor::DESCRIPTOR_SIZE;
-use rim_sha::{sha256_descriptor, sha256_descriptors};
+use rim_sha::{sha256_descriptor, sha256_descriptors, sha512_descriptor};
 use sha2::{Digest, Sha256, Sha512};
 
 /// The hash algorithm of a realm (DEN0137, RmiHashAlgorithm).
@@ -65,7 +65,9 @@ pub fn extend(algo: Algo, descriptor: &[u8; DESCRIPTOR_SIZE]) -> Measurement
 {
     match algo {
         Algo::Sha256 => Measurement::of_sha256(sha256_descriptor(descriptor)),
-        Algo::Sha512 => hash(algo, descriptor),
+        Algo::Sha512 => Measurement {
+            bytes: sha512_descriptor(descriptor),
+        },
     }
 }
 

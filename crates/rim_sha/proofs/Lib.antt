@@ -4,3 +4,6 @@ pub mod KnownBlocks
 pub mod Messages
 pub mod Vectors
 pub mod FourMessages
+pub mod Pairs
+pub mod WideSchedule
+pub mod WideMessages

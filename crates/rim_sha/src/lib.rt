@@ -1,20 +1,23 @@
-//! SHA-256 of what a Realm Initial Measurement is made of, beside the kit's `sha2` and with its contract. What a
-//! descriptor says is in its first 128 bytes, and zeros follow, so three of the five blocks that are hashed are known
-//! beforehand. Four messages go side by side: each has a lane of the vectors that the rounds compute with, so four
+//! SHA-256 and SHA-512 of what a Realm Initial Measurement is made of, beside the kit's `sha2` and with its contract.
+//! What a descriptor says is in its first 128 bytes, and zeros follow, so three of the five blocks that SHA-256 hashes are
+//! known beforehand, and two of the three of SHA-512. Four messages go side by side: each has a lane of the vectors that the rounds compute with, so four
 //! messages take less than twice the time of one.
 #![tactic(auto)]
 
 ghost use Rattle.std.specs.Prelude.{◌≡◌, ◌%◌, ◌++◌, [], ◌∷◌, length, take, replicate, true};
 ghost use Rattle.sha2.specs.Sha256.{sha256};
+ghost use Rattle.sha2.specs.Sha512.{sha512};
 
 mod constants;
 mod four;
 mod one;
+mod wide;
 mod words;
 
 use four::messages::{digests, final_hashes, headed_hashes};
 use one::headed::sha256_headed;
-use sha2::{Digest, Sha256};
+use sha2::{Digest, Sha256, Sha512};
+use wide::messages::sha512_headed;
 
 const ZEROS: [u8; 128] = [0; 128];
 
@@ -63,4 +66,16 @@ pub fn sha256_four(m0: &[u8], m1: &[u8], m2: &[u8], m3: &[u8]) -> [[u8; 32]; 4]
     ensures { result ≡ sha256 m0.now ∷ sha256 m1.now ∷ sha256 m2.now ∷ sha256 m3.now ∷ [] }
 {
     digests(final_hashes(m0, m1, m2, m3))
+}
+
+/// The SHA-512 digest of a descriptor (FIPS 180-4, 6.4). It is quicker where the last 128 bytes are zero, and else that
+/// of `sha2`.
+pub fn sha512_descriptor(descriptor: &[u8; 256]) -> [u8; 64]
+    ensures { result ≡ sha512 descriptor.now }
+{
+    if has_zero_tail(descriptor) {
+        sha512_headed(&descriptor[..128])
+    } else {
+        Sha512::digest(descriptor)
+    }
 }
