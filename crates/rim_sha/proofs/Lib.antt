@@ -7,3 +7,4 @@ pub mod FourMessages
 pub mod Pairs
 pub mod WideSchedule
 pub mod WideMessages
+pub mod TwoBlocks

@@ -1,5 +1,5 @@
 //! Four messages side by side, each in a lane of vectors.
 mod known_blocks;
-mod lanes;
+pub(crate) mod lanes;
 pub(crate) mod messages;
 mod rounds;

@@ -2,3 +2,4 @@
 pub(crate) mod headed;
 mod known_blocks;
 mod rounds;
+mod schedule;

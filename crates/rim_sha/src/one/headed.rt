@@ -4,7 +4,7 @@ ghost use Rattle.sha2.specs.Sha256.{sha256};
 
 use crate::constants::{INITIAL, PADDING_SUMS, ZEROS_SUMS};
 use crate::one::known_blocks::compress_sums;
-use crate::one::rounds::compress;
+use crate::one::schedule::all_sums;
 use crate::words::digest;
 
 /// The SHA-256 digest of 128 bytes and as many zeros after them. Two blocks are given, two are zero, and
@@ -15,8 +15,11 @@ pub(crate) fn sha256_headed(head: &[u8]) -> [u8; 32]
 {
     let mut state = INITIAL;
     let (first, second) = head.split_at(64);
-    compress(&mut state, first);
-    compress(&mut state, second);
+    let mut first_sums = [0; 64];
+    let mut second_sums = [0; 64];
+    all_sums(&mut first_sums, &mut second_sums, first, second);
+    compress_sums(&mut state, &first_sums);
+    compress_sums(&mut state, &second_sums);
     compress_sums(&mut state, &ZEROS_SUMS);
     compress_sums(&mut state, &ZEROS_SUMS);
     compress_sums(&mut state, &PADDING_SUMS);

@@ -1,4 +1,4 @@
-//! A block that is known beforehand. No schedule is computed for it: a table has each word with its round's
+//! The rounds over a block (FIPS 180-4, 6.2.2) whose schedule is known by then: an array has each word with its round's
 //! constant.
 ghost use Rattle.std.specs.Prelude.{◌≡◌, ℕ, List, ◌+◌, ◌<◌, ◌≤◌};
 ghost use Rattle.sha2.specs.Sha256.{compress, rounds, schedule};
@@ -6,7 +6,7 @@ ghost use Rattle.rim_sha.specs.Sums.{AreSums};
 
 use crate::one::rounds::{added, round};
 
-/// Adds a known block to a hash value (FIPS 180-4, 6.2.2).
+/// Adds a block to a hash value.
 pub(crate) fn compress_sums(state: &mut [u32; 8], sums: &[u32; 64])
     ensures { (b : List ℕ) → AreSums sums.now b → state.new ≡ compress state.old b }
 {
