@@ -2,6 +2,7 @@ mod beside;
 mod late;
 mod own_pages;
 mod runs;
+mod waiting;
 
 ghost use Rattle.std.specs.Prelude.{◌≡◌, ◌≤◌, length, map, replicate, IfOk, None};
 ghost use Rattle.std.specs.List.{All, Contains};
