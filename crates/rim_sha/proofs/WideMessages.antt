@@ -1,5 +1,5 @@
--- Messages of whole blocks of SHA-512, and those whose last 128 of 256 bytes are zero.
-use Rattle.std.proofs.Common.{◌≡◌, ℕ, ◌+◌, ◌*◌, ◌/◌, ◌%◌, List, ◌++◌, length, take, drop, replicate, refl, sym, ap, ◌∙◌, arith, length-append}
+-- Messages of whole blocks of SHA-512, and those of two.
+use Rattle.std.proofs.Common.{◌≡◌, ℕ, ◌+◌, ◌*◌, ◌/◌, ◌%◌, List, ◌++◌, length, take, drop, refl, sym, ap, ◌∙◌, arith, length-append}
 use Rattle.std.proofs.lemmas.List.{drop-append-le, drop_all, take-append-le, take_all}
 use Rattle.sha2.specs.Sha512.{compress, final_hash, hash_after, padding}
 use Rattle.sha2.proofs.Absorbing512.{hash_after-append, hash_after_next}
@@ -25,10 +25,10 @@ hash_padded ini m whole =
     let last : take 128 (drop (q * 128) (m ++ p)) ≡ p = rw rest (take_all 128 p (omega arith)) in
     rw (count, hash_after_next ini (m ++ p) q, hash_after-append ini m p q (omega arith), last) refl
 
--- a head of one block and as many zeros
-module _ (ini m : List ℕ) (long : length m ≡ 128) where
+-- two blocks
+module _ (ini m n : List ℕ) (long : length m ≡ 128) (long-n : length n ≡ 128) where
   whole : List ℕ
-  whole = m ++ replicate 128 0
+  whole = m ++ n
 
   -- a block of the whole, by what it is
   block : (i : ℕ) (b : List ℕ) → take 128 (drop (128 * i) whole) ≡ b → compress (hash_after ini whole i) b ≡ hash_after ini whole (i + 1)
@@ -38,16 +38,16 @@ module _ (ini m : List ℕ) (long : length m ≡ 128) where
   unfolding hash_after
   hash_none = refl
 
-  pub hash_headed : compress (compress (compress ini m) (replicate 128 0)) (padding 256) ≡ final_hash ini (m ++ replicate 128 0)
+  pub hash_of_two : compress (compress (compress ini m) n) (padding 256) ≡ final_hash ini (m ++ n)
   unfolding whole
-  hash_headed =
-      let size : length whole ≡ 256 = length-append m (replicate 128 0) ∙ ap (λ (n : ℕ). n + 128) long in
-      let first : take 128 (drop 0 whole) ≡ m = take-append-le 128 m (replicate 128 0) (omega arith) ∙ take_all 128 m (omega arith) in
-      let tail : drop 128 whole ≡ replicate 128 0 = drop-append-le 128 m (replicate 128 0) (omega arith) ∙ ap (λ (x : List ℕ). x ++ replicate 128 0) (drop_all 128 m (omega arith)) in
-      let second : take 128 (drop 128 whole) ≡ replicate 128 0 = ap (take 128) tail in
+  hash_of_two =
+      let size : length whole ≡ 256 = length-append m n ∙ rw (long, long-n) refl in
+      let first : take 128 (drop 0 whole) ≡ m = take-append-le 128 m n (omega arith) ∙ take_all 128 m (omega arith) in
+      let tail : drop 128 whole ≡ n = drop-append-le 128 m n (omega arith) ∙ ap (λ (x : List ℕ). x ++ n) (drop_all 128 m (omega arith)) in
+      let second : take 128 (drop 128 whole) ≡ n = rw tail (take_all 128 n (omega arith)) in
       let h1 : compress ini m ≡ hash_after ini whole 1 = ap (λ (h : List ℕ). compress h m) (sym hash_none) ∙ block 0 m first in
       let count : 2 ≡ length whole / 128 = omega arith in
       let last : compress (hash_after ini whole 2) (padding 256) ≡ final_hash ini whole =
       ap (λ (n : ℕ). compress (hash_after ini whole n) (padding 256)) count
       ∙ ap (λ (n : ℕ). compress (hash_after ini whole (length whole / 128)) (padding n)) (sym size) ∙ hash_padded ini whole (omega arith) in
-      rw (h1, block 1 (replicate 128 0) second) last
+      rw (h1, block 1 n second) last

@@ -1,7 +1,8 @@
 //! SHA-256 and SHA-512 of what a Realm Initial Measurement is made of, beside the kit's `sha2` and with its contract.
-//! What a descriptor says is in its first 128 bytes, and zeros follow, so three of the five blocks that SHA-256 hashes are
-//! known beforehand, and two of the three of SHA-512. Four messages go side by side: each has a lane of the vectors that the rounds compute with, so four
-//! messages take less than twice the time of one.
+//! The last of the blocks that are hashed for a descriptor is its padding, which is known beforehand. Where what it says is
+//! in its first 128 bytes, as it always is by SHA-256, and of RAM by SHA-512, zeros follow, and their blocks are known too.
+//! Four messages go side by side: each has a lane of the vectors that the rounds compute with, so four messages take less
+//! than twice the time of one.
 #![tactic(auto)]
 
 ghost use Rattle.std.specs.Prelude.{◌≡◌, ◌%◌, ◌++◌, [], ◌∷◌, length, take, replicate, true};
@@ -16,8 +17,8 @@ mod words;
 
 use four::messages::{digests, final_hashes, headed_hashes};
 use one::headed::sha256_headed;
-use sha2::{Digest, Sha256, Sha512};
-use wide::messages::sha512_headed;
+use sha2::{Digest, Sha256};
+use wide::messages::{sha512_headed, sha512_of_two};
 
 const ZEROS: [u8; 128] = [0; 128];
 
@@ -68,14 +69,14 @@ pub fn sha256_four(m0: &[u8], m1: &[u8], m2: &[u8], m3: &[u8]) -> [[u8; 32]; 4]
     digests(final_hashes(m0, m1, m2, m3))
 }
 
-/// The SHA-512 digest of a descriptor (FIPS 180-4, 6.4). It is quicker where the last 128 bytes are zero, and else that
-/// of `sha2`.
+/// The SHA-512 digest of a descriptor (FIPS 180-4, 6.4). It is quickest where the last 128 bytes are zero.
 pub fn sha512_descriptor(descriptor: &[u8; 256]) -> [u8; 64]
     ensures { result ≡ sha512 descriptor.now }
 {
+    let (head, tail) = descriptor.split_at(128);
     if has_zero_tail(descriptor) {
-        sha512_headed(&descriptor[..128])
+        sha512_headed(head)
     } else {
-        Sha512::digest(descriptor)
+        sha512_of_two(head, tail)
     }
 }

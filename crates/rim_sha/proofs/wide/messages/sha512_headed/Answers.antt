@@ -1,6 +1,6 @@
 use Rattle.std.proofs.Common.{ℕ, List, replicate, refl, ap, ◌∙◌}
 use Rattle.sha2.specs.Sha512.{compress, digest_bytes, first_words, initial_hash_512, padding, schedule, sha512}
-use Rattle.rim_sha.proofs.WideMessages.{hash_headed}
+use Rattle.rim_sha.proofs.WideMessages.{hash_of_two}
 use Rattle.rim_sha.proofs.wide.messages.sha512_headed.Goals as goal
 
 pub returns : goal.returns
@@ -13,4 +13,4 @@ returns c =
     let s3 = c.compress_sums-3.ensures (padding 256) refl in
     c.digest.ensures ∙ ap (λ (h : List ℕ). digest_bytes h 8)
     (s3 ∙ ap (λ (h : List ℕ). compress h (padding 256)) (s2 ∙ ap (λ (h : List ℕ). compress h zero_block) s1)
-    ∙ hash_headed initial_hash_512 m c.requires)
+    ∙ hash_of_two initial_hash_512 m zero_block c.requires refl)
