@@ -29,7 +29,8 @@ BODIES = [
         "job_workers/src/worker.rt",
         [
             (
-                "        let given = board.take(rt, worker);\n",
+                "        let given = if gate.lets_launches_wait() {\n            board.take_or_wait(rt, worker)\n        } else {\n"
+                "            board.take(rt, worker)\n        };\n",
                 "        let mut state = board.lock(rt);\n        let given = state.take(worker);\n"
                 "        match &given {\n            Work::Page(task) => gate.before(worker, JobId::Page(task.number())),\n"
                 "            Work::Launch(task) => gate.before(worker, JobId::Launch(task.number())),\n            _ => {}\n        }\n"
@@ -47,6 +48,18 @@ BODIES = [
             ("            work(rt, gate, board, 0, mine);\n        },\n    )", "            let _ = mine;\n        },\n    )"),
             ("    let lent = shares.as_mut_slice();", "    work(rt, gate, board, 0, &mut shares[0]);\n    let lent = shares.as_mut_slice();"),
         ],
+        "job_workers_tests",
+    ),
+    (
+        "no launch waits for another",
+        "job_board/src/state.rt",
+        [("    matches!(state, Some(JobState::Free | JobState::Held(_)))\n", "    false && matches!(state, Some(JobState::Free | JobState::Held(_)))\n")],
+        "job_workers_tests",
+    ),
+    (
+        "no launch waits for the pages of another",
+        "job_board/src/state.rt",
+        [("    matches!(state, Some(JobState::Free | JobState::Held(_)))\n", "    matches!(state, Some(JobState::Held(_)))\n")],
         "job_workers_tests",
     ),
     (

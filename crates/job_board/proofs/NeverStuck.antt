@@ -33,7 +33,7 @@ free_or_done xs j (Held v) at none =
     absurd (omega (arith, none v))
 
 -- where not all are done, some job is not
-abbrev SomeOpen : List JobState → Type 0
+abbrev pub SomeOpen : List JobState → Type 0
 SomeOpen xs = (j : ℕ) × (x : JobState) × (slice_get xs j ≡ Some x) × (is_done x ≡ false)
 
 open_later : (x : JobState) (xs : List JobState) → SomeOpen xs → SomeOpen (x ∷ xs)
@@ -43,7 +43,7 @@ open_at : (x : JobState) (xs : List JobState) (b : Bool) → is_done x ≡ b →
 open_at x xs false is h more = (0, x, refl, is)
 open_at x xs true is h more = open_later x xs (more (sym (ap (λ (b : Bool). b && list_all is_done xs) is) ∙ h))
 
-some_open : (xs : List JobState) → list_all is_done xs ≡ false → SomeOpen xs
+pub some_open : (xs : List JobState) → list_all is_done xs ≡ false → SomeOpen xs
 some_open [] e = absurd (true≢false e)
 some_open (x ∷ xs) e = open_at x xs (is_done x) refl e (λ h. some_open xs h)
 

@@ -72,6 +72,10 @@ NoneOpen s = (l : ℕ) → slice_get s.launches l ≡ Some Free → is_ready s (
 abbrev pub NoneFree : List JobState → Type 0
 NoneFree states = (j : ℕ) → slice_get states j ≢ Some Free
 
+-- some worker holds a job
+abbrev pub SomeHeld : CoreState → Type 0
+SomeHeld s = (job : JobId) × (w : ℕ) × (state_of s job ≡ Some (Held w))
+
 abbrev pub pages_done : CoreState → ℕ
 pages_done s = count_by is_done s.pages
 

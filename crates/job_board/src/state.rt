@@ -7,7 +7,8 @@ ghost use Rattle.job_board.specs.declared.job.JobState.{JobState};
 ghost use Rattle.job_board.specs.Board.{Adds, AreValuesOf, CanPutJob, CanPutPage, IsBoard, IsOfRun, NeedsOwn, SameRest};
 ghost use Rattle.job_board.specs.Gives.{Gives};
 ghost use Rattle.job_board.specs.declared.work.Work.{Work};
-ghost use Rattle.job_board.specs.Jobs.{IsOpen, NoneFree, held_count, is_out, is_over, is_ready, opening, state_of};
+ghost use Rattle.job_board.specs.Jobs.{IsOpen, NoneFree, SomeHeld, held_count, is_out, is_over, is_ready, opening, state_of};
+ghost use Rattle.job_board.specs.inside.Waiting.{AllWait, HasEarlier};
 ghost use Rattle.rim_desc.specs.declared.measurement.Algo.TheVariants as algo;
 ghost use Rattle.page_jobs.specs.Page.{page_view};
 ghost use Rattle.page_jobs.specs.Table.{page_keys_of as page_keys, with_digest};
@@ -232,12 +233,16 @@ impl<'a, L: Run> BoardState<'a, L> {
         }
     }
 
-    /// The same for a worker that may come again when a launch is put or a worker retires. `Later` is also answered where each
-    /// free launch that is ready had best wait for one that another worker holds, since both begin alike.
+    /// The same for a worker that may come again when a job is put or a worker retires. `Later` is also answered where each
+    /// free launch that is ready should wait for one that begins alike, and that another worker holds or has a page of. Another
+    /// worker holds a job then.
     pub fn take_or_wait(&mut self, worker: usize) -> Work<'a, L>
         ensures board { IsBoard self.old × IsOfRun L.pages L.plans self.old }
         ensures gives { result ≢ Work.Later → Gives self.old worker result self.new }
         ensures later { result ≡ Work.Later → self.new ≡ self.old }
+        ensures known { result ≡ Work.Later → is_out self.old.core worker ≡ false }
+        ensures idle { result ≡ Work.Later → held_count self.old.core worker ≡ 0 }
+        ensures held { result ≡ Work.Later → SomeHeld self.old.core }
     {
         let work = self.preferred_work(worker);
         if !matches!(work, Work::Later) {
@@ -275,10 +280,11 @@ impl<'a, L: Run> BoardState<'a, L> {
         Work::Later
     }
 
-    /// A free launch that is ready, of those that are chained from the start: the first that had not best wait for another.
+    /// A free launch that is ready, of those that are chained from the start: the first that should not wait for another.
     fn launch_to_begin(&mut self) -> Option<usize>
         ensures same { self.new ≡ self.old }
         ensures some { IfSome result (IsOpen self.old.core) }
+        ensures none { IfNone result (AllWait self.old.core) }
     {
         let BoardState { core, prefixes, .. } = self;
         core.ready_launch()?;
@@ -623,14 +629,16 @@ fn free_of(core: &Core, page: usize, other: usize) -> usize
     }
 }
 
-/// Whether a launch had best wait for an earlier one, where those that are free and ready of the earlier ones wait too: each
-/// of these waits for one that a worker holds, or for another that waits.
-fn waits(core: &Core, prefixes: &SharedPrefixes, number: usize) -> bool {
+/// Whether a launch should wait for an earlier one, where no page is free and those of the earlier ones that are free and ready
+/// wait too. A worker holds that one; or it holds a page of it, since it is not ready; or that one waits in its turn.
+fn waits(core: &Core, prefixes: &SharedPrefixes, number: usize) -> bool
+    ensures { result ≡ true → HasEarlier core.now number }
+{
     let Some(earlier) = prefixes.waits_for(number) else {
         return false;
     };
     let state = core.state(JobId::Launch(earlier));
-    matches!(state, Some(JobState::Held(_))) || core.is_open(earlier)
+    matches!(state, Some(JobState::Free | JobState::Held(_)))
 }
 
 /// The job of a launch whose pages all have digests, in a row that has room for any launch; or the row, for others.

@@ -9,7 +9,7 @@ pub enum Work<'a, L: Run> {
     Page(PageTask<'a, L>),
     /// A launch to chain.
     Launch(LaunchTask<'a, L>),
-    /// Nothing that is free is ready, and something is not done.
+    /// Nothing that is free is ready, and something is not done; or what is ready should wait, where the call says so.
     Later,
     /// The worker holds a job.
     Busy,

@@ -37,17 +37,39 @@ impl<'a, L: Run> Board<'a, L> {
         self.state.lock(rt).pages()
     }
 
-    /// A free job that is ready, or why none is given. Where nothing that is free is ready, the worker sleeps, and so it does
-    /// where each launch that is had best wait for one that another worker holds. Each put and each retirement that is accepted
-    /// wakes all that sleep. A worker that holds a job does not sleep here: it puts the job or retires, so the others wake.
+    /// A free job that is ready, or why none is given. Where nothing that is free is ready, the worker sleeps. Each put and
+    /// each retirement that is accepted wakes all that sleep.
     pub fn take(&self, rt: &impl Wait, worker: usize) -> Work<'a, L>
+        ensures found { (found : BoardView) × (left : BoardView) × IsBoard found
+            × IsOfRun L.pages L.plans found × Gives found worker result left }
+        ensures waited { result ≢ Work.Later }
+    {
+        self.given(rt, worker, false)
+    }
+
+    /// The same, but the worker also sleeps where each launch that is free and ready should wait for one that another worker
+    /// holds or has a page of. It is for workers that put each job that they take, or retire, before they come again: both wake
+    /// those that sleep.
+    pub(crate) fn take_or_wait(&self, rt: &impl Wait, worker: usize) -> Work<'a, L>
+        ensures found { (found : BoardView) × (left : BoardView) × IsBoard found
+            × IsOfRun L.pages L.plans found × Gives found worker result left }
+        ensures waited { result ≢ Work.Later }
+    {
+        self.given(rt, worker, true)
+    }
+
+    fn given(&self, rt: &impl Wait, worker: usize, launches_wait: bool) -> Work<'a, L>
         ensures found { (found : BoardView) × (left : BoardView) × IsBoard found
             × IsOfRun L.pages L.plans found × Gives found worker result left }
         ensures waited { result ≢ Work.Later }
     {
         let mut state = self.state.lock(rt);
         for _ in rt.forever() {
-            let given = state.take_or_wait(worker);
+            let given = if launches_wait {
+                state.take_or_wait(worker)
+            } else {
+                state.take(worker)
+            };
             if !matches!(given, Work::Later) {
                 return given;
             }

@@ -9,6 +9,12 @@ pub trait Gate {
     fn before(&self, worker: usize, job: JobId);
 
     fn after(&self, worker: usize, job: JobId);
+
+    /// Whether a worker may sleep while launches are ready, where another worker is at work on what they begin with. A gate that
+    /// holds up a job until another one is done answers no, as this does: the other may be a launch that is left for later.
+    fn lets_launches_wait(&self) -> bool {
+        false
+    }
 }
 
 /// A gate that does nothing.
@@ -19,4 +25,8 @@ impl Gate for FreeGate {
     fn before(&self, _worker: usize, _job: JobId) {}
 
     fn after(&self, _worker: usize, _job: JobId) {}
+
+    fn lets_launches_wait(&self) -> bool {
+        true
+    }
 }

@@ -35,7 +35,11 @@ pub(crate) fn work<'a, L: Run, G: Gate, R: Wait>(
     share.note_start();
     let mut early = Early::new(rt, board);
     for _ in rt.forever() {
-        let given = board.take(rt, worker);
+        let given = if gate.lets_launches_wait() {
+            board.take_or_wait(rt, worker)
+        } else {
+            board.take(rt, worker)
+        };
         if !run_job(rt, gate, board, worker, share, &mut early, given) {
             break;
         }

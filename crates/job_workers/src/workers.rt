@@ -26,8 +26,9 @@ pub struct Tally {
 /// plans.
 ///
 /// A launch is ready when its own pages are done. A worker that finds nothing ready sleeps until a put or a retirement is
-/// accepted. When all workers have ended, the others are retired, and worker 0 does what is left, until a take finds all
-/// jobs done. What is written is read under the same lock.
+/// accepted; so does one that finds only launches that should wait for others, where the gate lets launches wait. When all
+/// workers have ended, the others are retired, and worker 0 does what is left, until a take finds all jobs done. What is
+/// written is read under the same lock.
 ///
 /// The gate is borrowed to be changed, and no clause says what it is after the run. So a caller whose own contract says
 /// that the gate is as it was has started no worker with this gate.

@@ -63,6 +63,10 @@ impl<R: Wait + Clock + Eprint> Gate for Progress<'_, R> {
             let _ = line.show(self.rt);
         }
     }
+
+    fn lets_launches_wait(&self) -> bool {
+        true
+    }
 }
 
 impl Line {

@@ -24,9 +24,9 @@ struct Candidate {
     first: Reverse<usize>,
     /// Of launches that go on from the same one, the one with the least number comes first.
     number: Reverse<usize>,
-    /// How many parts are chained one after another until the launch is done, where each waits that had best do so.
+    /// How many parts are chained one after another until the launch is done, where each waits that should.
     until: u64,
-    /// Whether it had best wait for the launch that it goes on from, where another worker has that one.
+    /// Whether it should wait for the launch that it goes on from, where another worker has that one.
     waits: bool,
 }
 
@@ -97,7 +97,7 @@ impl ChainOrder {
         self.waiting.len()
     }
 
-    /// The launch, of a lower number, that a launch goes on from and had best wait for, where another worker has that one.
+    /// The launch, of a lower number, that a launch goes on from and should wait for, where another worker has that one.
     pub(crate) fn waits_for(&self, number: usize) -> Option<usize>
         ensures { IfSome result (λ earlier. earlier < number) }
     {
@@ -187,11 +187,11 @@ fn following(
     }
 }
 
-/// Whether a launch had best wait for another, that has its prefix and is done after `until` parts. The prefix takes `anew`
+/// Whether a launch should wait for another, that has its prefix and is done after `until` parts. The prefix takes `anew`
 /// parts, and the longest way that begins with the launch has `way` parts after that.
 ///
-/// It does where the prefix takes a worker of its own about as long; and where it is most of the work, so that few workers
-/// are idle for less than they would have to do.
+/// It should where the prefix would take about as long anew; and where the prefix is most of the work, since more workers would
+/// then only do the same again.
 fn is_best_to_wait(anew: u64, until: u64, way: u64) -> bool {
     let quarter = anew / 4;
     anew >= LEAST_WAIT && (until <= anew.saturating_add(quarter) || way <= quarter)

@@ -1,22 +1,26 @@
 //! Launches that begin alike: a worker waits for the one that another chains.
-ghost use Rattle.std.specs.Prelude.{◌≡◌, length, replicate, None};
+ghost use Rattle.std.specs.Prelude.{◌≡◌, ◌≤◌, length, map, replicate, None};
 ghost use Rattle.std.specs.List.{All, Contains};
+ghost use Rattle.page_jobs.specs.Key.{IsRising};
+ghost use Rattle.page_jobs.specs.Page.{page_view};
 ghost use Rattle.page_jobs.specs.Table.{page_keys_of};
 ghost use Rattle.rim_chain.specs.Links.{keys_of as link_keys};
 
 use super::{REALM, check, pages_of, run_by};
-use job_board::{BoardState, LaunchTask, Run, Work};
+use job_board::{BoardState, LaunchTask, PageTask, Run, Work};
 use job_board_tests::has_all_keys;
 use job_workers::FreeGate;
-use page_jobs::{DigestRow, Table};
+use page_jobs::{DigestRow, Page, PageKey, Table};
 use refusal::NoMemory;
 use rim_chain::{LaunchPlan, Link, chain};
-use rim_desc::Measurement;
+use rim_desc::{Algo, Measurement, Source};
 use std::alloc::Global;
 use std::marker::Brand;
 use std::process::Abort;
+use std::sync::Wait;
 use std::sync::ledger::Blank;
 use std::test::Fail;
+use std::thread::Threads;
 
 /// How many launches there are, and how often workers measure them.
 const LAUNCHES: u64 = 8;
@@ -155,5 +159,163 @@ fn a_launch_waits_for_another(rt: HostRuntime) -> Result<(), Fail> {
         panic!(rt; "no launch has pages");
     }
     wait_for_first::<Brand>(&rt, alloc, Blank::new(3), table, plans)?;
+    Ok(())
+}
+
+/// The bytes of four pages.
+const BYTES: [u8; 16384] = [7; 16384];
+
+/// The plans of launches that begin alike, of which only the first has pages, this many.
+fn plans_with_pages(rt: &impl Abort, alloc: Global, launches: u64, pages: u16) -> Vec<LaunchPlan> {
+    let mut plans = Vec::new(alloc);
+    for number in 0..launches {
+        let own = if number == 0 {
+            pages_link(pages)
+        } else {
+            blocks(5, number)
+        };
+        let links = Vec::from_slice(alloc, &[blocks(0, 1_100), own]).expect(rt, "memory");
+        plans
+            .push(LaunchPlan::new(REALM, links).expect(rt, "the links fit"))
+            .expect(rt, "memory");
+    }
+    plans
+}
+
+/// The first pages of a file.
+fn pages_link(pages: u16) -> Link {
+    let key = PageKey {
+        algo: Algo::Sha256,
+        source: Source::File(0),
+        lead: 0,
+        number: 0,
+    };
+    Link::Pages {
+        ipa: 0x4000_0000,
+        key,
+        count: u64::from(pages),
+    }
+}
+
+/// The values of a run by this many workers.
+fn values_by<R: Threads + Wait + Abort + Sync>(
+    rt: &R,
+    alloc: Global,
+    workers: usize,
+    pages: &[Page<'_>],
+    plans: &[LaunchPlan],
+) -> Result<Vec<Measurement>, NoMemory>
+    requires workers { (1 ≤ workers) × (workers ≤ 64) }
+    requires rising { IsRising (page_keys_of (map page_view pages.now)) }
+{
+    let table = Table::reserve(alloc, pages)?;
+    if !has_all_keys(&table, plans) {
+        panic!(rt; "the pages exist");
+    }
+    run_by::<Brand, FreeGate, R>(
+        rt,
+        alloc,
+        Blank::new(workers as u64),
+        workers,
+        table,
+        plans,
+        &mut FreeGate,
+    )
+}
+
+/// Each of many runs of workers ends, where workers wait for a launch whose pages another hashes. The values are those of one
+/// worker.
+#[test]
+fn runs_end_where_pages_are_waited_for(rt: HostRuntime) -> Result<(), Fail> {
+    let alloc = rt.alloc();
+    let pages = pages_of(alloc, &BYTES, 4)?;
+    let plans = plans_with_pages(&rt, alloc, LAUNCHES, 4);
+    let alone = values_by(&rt, alloc, 1, &pages, &plans)?;
+    for _run in 0..RUNS {
+        let values = values_by(&rt, alloc, 4, &pages, &plans)?;
+        check(&rt, values.as_slice() == alone.as_slice(), "the values");
+    }
+    Ok(())
+}
+
+/// The page that a worker is given, if it does not wait.
+fn page_given<'a, L: Run>(
+    rt: &impl Abort,
+    board: &mut BoardState<'a, L>,
+    worker: usize,
+) -> Option<PageTask<'a, L>> {
+    match board.take_or_wait(worker) {
+        Work::Page(task) => Some(task),
+        Work::Later => None,
+        _ => panic!(rt; "no launch is to be begun"),
+    }
+}
+
+/// Launch 1, which needs no page, is not given while a worker has the page of launch 0, from which it goes on.
+fn wait_for_page<'a, L: Run>(
+    rt: &impl Abort,
+    alloc: Global,
+    blank: Blank,
+    table: Table<'a>,
+    plans: &'a [LaunchPlan],
+) -> Result<(), NoMemory>
+    requires name { blank.name ≡ L.name }
+    requires parts { (blank.parts ≡ L.parts) × (blank.parts ≡ 3) }
+    requires pages { table.pages ≡ L.pages }
+    requires plans { plans.now ≡ L.plans }
+    requires keys { All
+        (λ p. All (Contains (page_keys_of table.pages)) (link_keys p.links))
+        plans.now }
+    requires empty { table.digests ≡ replicate (length table.pages) None }
+{
+    let (mut board, mut shares) = BoardState::<L>::new(alloc, blank, 3, table, plans)?;
+    let mut share = shares.pop().expect(rt, "a share");
+    let page = page_given(rt, &mut board, 1).expect(rt, "the page");
+    check(rt, page.number() == 0, "page 0");
+    check(
+        rt,
+        page_given(rt, &mut board, 2).is_none(),
+        "worker 2 waits",
+    );
+    check(rt, board.retire(1), "worker 1 retires");
+    let page = page_given(rt, &mut board, 2).expect(rt, "the page again");
+    check(
+        rt,
+        page_given(rt, &mut board, 0).is_none(),
+        "worker 0 waits",
+    );
+    check(
+        rt,
+        board.put_page(2, page.run(), &mut share).is_ok(),
+        "the page is taken",
+    );
+    let first = given(rt, &mut board, 0).expect(rt, "launch 0");
+    check(rt, first.number() == 0, "launch 0");
+    check(
+        rt,
+        given(rt, &mut board, 2).is_none(),
+        "worker 2 waits for it",
+    );
+    check(
+        rt,
+        board.put_launch(0, first.run()).is_ok(),
+        "launch 0 is taken",
+    );
+    let second = given(rt, &mut board, 2).expect(rt, "launch 1");
+    check(rt, second.number() == 1, "launch 1");
+    Ok(())
+}
+
+#[test]
+fn a_launch_waits_for_the_page_of_another(rt: HostRuntime) -> Result<(), Fail> {
+    let alloc = rt.alloc();
+    let pages = pages_of(alloc, &BYTES, 1)?;
+    let plans = plans_with_pages(&rt, alloc, 2, 1);
+    let plans = plans.as_slice();
+    let table = Table::reserve(alloc, &pages)?;
+    if !has_all_keys(&table, plans) {
+        panic!(rt; "the page exists");
+    }
+    wait_for_page::<Brand>(&rt, alloc, Blank::new(3), table, plans)?;
     Ok(())
 }
