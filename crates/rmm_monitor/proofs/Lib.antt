@@ -7,6 +7,8 @@ pub mod OneMoreTable
 pub mod DeeperByLevel
 -- such a look-up finds the first table of its level in the range, where the range has one.
 pub mod FirstPasses
+-- A granule that is taken may be given back.
+pub mod GivenBack
 -- Lists of granules, one by one: the start tables, and whether one is named twice
 pub mod ListsOfGranules
 -- INIT_RIPAS measures stretches in turn, and stops at the end of its range

@@ -1,5 +1,5 @@
 //! The monitor.
-ghost use Rattle.std.specs.Prelude.{◌≡◌, ◌≤◌, not, ◌||◌, ◌∷◌, Err, length, option_map, true};
+ghost use Rattle.std.specs.Prelude.{◌≡◌, ◌≤◌, not, ◌||◌, ◌∷◌, Err, IfOk, length, option_map, true};
 ghost use Rattle.std.specs.Bool.{OnFalse};
 ghost use Rattle.refusal.specs.Answer.{Applies};
 ghost use Rattle.rim_desc.specs.declared.command.Command.TheVariants.{Delegate, RealmCreate, RttCreate, InitRipas, DataCreate, RecCreate, Activate};
@@ -8,6 +8,7 @@ ghost use Rattle.rmm_model.specs.Owners.{all_delegated, is_delegated, kind_of, r
 ghost use Rattle.rmm_model.specs.Space.{has};
 ghost use Rattle.rmm_model.specs.Step.{step};
 ghost use Rattle.rmm_monitor.specs.Growth.{adds_something};
+ghost use Rattle.rmm_monitor.specs.inside.Monitor.{assigned};
 ghost use Rattle.rmm_monitor.specs.inside.Owned.{all_owned};
 ghost use Rattle.rim_desc.specs.declared.rec.TheConstants.{AUX_LIMIT};
 
@@ -18,6 +19,7 @@ use crate::parameters::{
     start_tables,
 };
 use crate::space::IpaSpace;
+use refusal::NoMemory;
 use rim_desc::{
     Algo, Command, GRANULE_SIZE, Measurement, RealmParams, RecParams, hash, realm_page,
 };
@@ -66,6 +68,24 @@ impl Monitor {
         }
     }
 
+    /// A monitor that is where this one is. It takes memory for each granule, table, range and page that this one knows.
+    pub fn try_clone(&self) -> Result<Monitor, NoMemory>
+        ensures { IfOk result (λ copy. copy ≡ self.now) }
+    {
+        let owners = self.owners.try_clone()?;
+        let space = self.space.try_clone()?;
+        Ok(Monitor {
+            phase: self.phase,
+            params: self.params,
+            num_aux: self.num_aux,
+            owners,
+            space,
+            num_recs: self.num_recs,
+            rim: self.rim,
+            alloc: self.alloc,
+        })
+    }
+
     /// The hash algorithm of the realm; none before the realm was created.
     pub fn algo(&self) -> Option<Algo>
         ensures { result ≡ option_map (λ p. p.algo) self.now.params }
@@ -101,10 +121,9 @@ impl Monitor {
         if granule % GRANULE_SIZE != 0 {
             return Err(Refused::Unaligned);
         }
-        if self.owners.kind_of(granule).is_some() {
+        if !self.owners.delegate(granule)? {
             return Err(Refused::NotUndelegated);
         }
-        self.owners.add(granule, Kind::Delegated)?;
         Ok(())
     }
 
@@ -226,16 +245,35 @@ impl Monitor {
         if !self.space.is_ram(ipa) {
             return Err(Refused::NotRam);
         }
-        if self.space.has_data(ipa) {
-            return Err(Refused::Assigned);
-        }
-        if !self.owners.is_delegated(granule) {
-            return Err(Refused::NotDelegated);
-        }
-        self.space.add_page(ipa)?;
-        self.owners.give(granule, Kind::DataPage);
+        self.assign(granule, ipa)?;
         self.rim = Some(extended_by_data(algo, measured_so_far(self.rim), ipa, content));
         Ok(())
+    }
+
+    /// Gives a page data in a granule. The granule is taken first, so that each tree is searched once, and is given back
+    /// where the page cannot have it.
+    fn assign(&mut self, granule: u64, ipa: u64) -> Result<(), Refused>
+        ensures { Applies Refused.NoMemory self.old self.new result
+            (assigned self.old granule ipa) }
+    {
+        if !self.owners.take(granule, Kind::DataPage) {
+            return Err(if self.space.has_data(ipa) {
+                Refused::Assigned
+            } else {
+                Refused::NotDelegated
+            });
+        }
+        match self.space.add_page(ipa) {
+            Ok(true) => Ok(()),
+            Ok(false) => {
+                self.owners.give(granule, Kind::Delegated);
+                Err(Refused::Assigned)
+            }
+            Err(fault) => {
+                self.owners.give(granule, Kind::Delegated);
+                Err(fault.into())
+            }
+        }
     }
 
     fn rec_create(&mut self, rec: u64, params: &RecParams) -> Result<(), Refused>

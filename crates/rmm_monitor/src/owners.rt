@@ -1,6 +1,7 @@
 //! The kinds of granules.
-ghost use Rattle.std.specs.Prelude.{◌≡◌, true, OnOk, OnErr, is_some, length, []};
+ghost use Rattle.std.specs.Prelude.{◌≡◌, true, false, not, IfOk, OnErr, Ok, None, is_some, length, []};
 ghost use Rattle.rmm_model.specs.Owners.{all_delegated, give, give_all, is_delegated, kind_of};
+ghost use Rattle.rmm_model.specs.declared.outcome.Kind.TheVariants.{Delegated};
 ghost use Rattle.rmm_monitor.specs.inside.Owned.{all_owned};
 
 use refusal::NoMemory;
@@ -34,6 +35,14 @@ impl Owners {
         }
     }
 
+    /// The same granules, each with its kind.
+    pub fn try_clone(&self) -> Result<Owners, NoMemory>
+        ensures { IfOk result (λ copy. copy ≡ self.now) }
+    {
+        let by_granule = self.by_granule.clone()?;
+        Ok(Owners { by_granule })
+    }
+
     /// How many granules have a kind.
     pub fn count(&self) -> usize
         ensures { result ≡ length self.now }
@@ -62,13 +71,39 @@ impl Owners {
         granules.iter().all(|granule| self.is_delegated(*granule))
     }
 
-    /// Gives a granule a kind; where it had none, that may need memory.
-    pub fn add(&mut self, granule: u64, kind: Kind) -> Result<(), NoMemory>
-        ensures ok { OnOk result (self.new ≡ give self.old granule kind) }
+    /// Makes a granule DELEGATED that has no kind, which needs memory; one that has a kind keeps it. Answers whether it had
+    /// none.
+    pub fn delegate(&mut self, granule: u64) -> Result<bool, NoMemory>
+        ensures value { IfOk result (λ done. done ≡ not (is_some (kind_of self.old granule))) }
+        ensures done { result ≡ Ok true → self.new ≡ give self.old granule Delegated }
+        ensures kept { result ≡ Ok false → self.new ≡ self.old }
         ensures err { OnErr result (self.new ≡ self.old) }
+        ensures absent { OnErr result (kind_of self.old granule ≡ None) }
     {
-        self.by_granule.insert(granule, kind)?;
-        Ok(())
+        match self.by_granule.insert(granule, Kind::Delegated)? {
+            None => Ok(true),
+            Some(kind) => {
+                self.give(granule, kind);
+                Ok(false)
+            }
+        }
+    }
+
+    /// Gives a granule another kind where it is DELEGATED, and answers whether it was.
+    pub fn take(&mut self, granule: u64, kind: Kind) -> bool
+        ensures value { result ≡ is_delegated self.old granule }
+        ensures taken { result ≡ true → self.new ≡ give self.old granule kind }
+        ensures back { result ≡ true → give self.new granule Delegated ≡ self.old }
+        ensures kept { result ≡ false → self.new ≡ self.old }
+    {
+        let Some(found) = self.by_granule.get_mut(&granule) else {
+            return false;
+        };
+        if !matches!(*found, Kind::Delegated) {
+            return false;
+        }
+        *found = kind;
+        true
     }
 
     /// Gives a granule that has a kind another.

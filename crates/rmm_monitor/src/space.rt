@@ -1,5 +1,5 @@
 //! The IPA space of the realm.
-ghost use Rattle.std.specs.Prelude.{◌≡◌, ◌+◌, ◌-◌, ◌<◌, ◌≤◌, ◌^◌, ◌&&◌, nat_lt, OnOk, OnErr, false};
+ghost use Rattle.std.specs.Prelude.{◌≡◌, ◌+◌, ◌-◌, ◌<◌, ◌≤◌, ◌^◌, ◌&&◌, nat_lt, not, IfOk, OnOk, OnErr, Ok, true, false};
 ghost use Rattle.rmm_model.specs.Blocks.{down, span};
 ghost use Rattle.rmm_model.specs.Space.{after_page, after_run, after_table, deeper, empty_space, has, has_table_in, is_ram, overlaps, walk};
 ghost use Rattle.rmm_model.specs.Checks.{is_not_fresh};
@@ -47,6 +47,22 @@ impl IpaSpace {
             ram: BTreeMap::new(alloc),
             assigned: BTreeSet::new(alloc),
         }
+    }
+
+    /// The same tables, RAM and pages.
+    pub fn try_clone(&self) -> Result<IpaSpace, NoMemory>
+        ensures { IfOk result (λ copy. copy ≡ self.now) }
+    {
+        let tables = self.tables.clone()?;
+        let ram = self.ram.clone()?;
+        let assigned = self.assigned.clone()?;
+        Ok(IpaSpace {
+            start: self.start,
+            protected_end: self.protected_end,
+            tables,
+            ram,
+            assigned,
+        })
     }
 
     /// The level of the start tables.
@@ -139,13 +155,15 @@ impl IpaSpace {
         Ok(())
     }
 
-    /// Gives a page data.
-    pub fn add_page(&mut self, ipa: u64) -> Result<(), NoMemory>
-        ensures ok { OnOk result (self.new ≡ after_page self.old ipa) }
+    /// Gives data to a page that has none, which needs memory. Answers whether it had none.
+    pub fn add_page(&mut self, ipa: u64) -> Result<bool, NoMemory>
+        ensures value { IfOk result (λ done. done ≡ not (has self.old.assigned ipa)) }
+        ensures done { result ≡ Ok true → self.new ≡ after_page self.old ipa }
+        ensures kept { result ≡ Ok false → self.new ≡ self.old }
         ensures err { OnErr result (self.new ≡ self.old) }
+        ensures absent { OnErr result (has self.old.assigned ipa ≡ false) }
     {
-        self.assigned.insert(ipa)?;
-        Ok(())
+        Ok(self.assigned.insert(ipa)?)
     }
 }
 

@@ -5,5 +5,5 @@ use Rattle.rmm_monitor.proofs.monitor.Monitor.delegate.Goals as goal
 pub returns : goal.returns
 returns c = grind (arith, common_steps) steps 300000
 
-pub returns-in_err-add : goal.returns-in_err-add
-returns-in_err-add c = grind (arith, common_steps) steps 300000
+pub returns-in_err-delegate : goal.returns-in_err-delegate
+returns-in_err-delegate c = grind (arith, common_steps) steps 300000
