@@ -21,3 +21,5 @@ pub mod ItemsAreListable
 pub mod ListStepByStep
 -- Spans hold entries of many pages in one: each command of the list is one of a span, found by a search in the starts.
 pub mod CommandsOfSpans
+-- Lists that begin with the same spans begin with the same commands.
+pub mod SpansInCommon

@@ -3,3 +3,4 @@ pub mod Measured
 pub mod Listed
 pub mod Following
 pub mod inside
+pub mod Common

@@ -2,3 +2,4 @@ pub mod Spans
 pub mod Drafts
 pub mod Acts
 pub mod Plans
+pub mod Common

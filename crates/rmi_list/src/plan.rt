@@ -1,4 +1,6 @@
 //! The list of a launch.
+mod common;
+
 ghost use Rattle.std.specs.Prelude.{◌≡◌, ℕ, List, ◌+◌, ◌-◌, ◌*◌, ◌<◌, ◌≤◌, ◌^◌, ◌⊎◌, slice_index, length, take, Some, option_map, option_and_then, slice_get, IfOk, IfErr, IsOk, Err};
 ghost use Rattle.refusal.specs.Answer.{Answers};
 ghost use Rattle.rmm_model.specs.Blocks.{granules};

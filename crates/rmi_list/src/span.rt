@@ -2,7 +2,7 @@
 
 /// One command of a list, or the commands of neighbouring pages, in at most 32 bytes. A granule is kept by its number in the pool. What is one for the whole list is
 /// kept beside it: the realm's parameters, which say where the pool begins, and those of the RECs.
-#[derive(Clone, Copy)]
+#[derive(Clone, Copy, PartialEq, Eq)]
 pub enum Span {
     Delegate {
         granule: u32,
