@@ -1,8 +1,7 @@
 -- A launch that is accepted has a place and a list.
 use Rattle.std.proofs.Common.{◌≡◌, ℕ, ◌∙◌, List, Vec, Global, length, true, refl, ap, sym}
-use Rattle.std.specs.Prelude.{Result, Ok, Err, IfOk}
+use Rattle.std.specs.Prelude.{Result, Ok, Err}
 use Rattle.std.proofs.lemmas.List.{length-map}
-use Rattle.refusal.specs.declared.memory.NoMemory.{NoMemory}
 use Rattle.rim_desc.specs.declared.measurement.Measurement.{Measurement}
 use Rattle.std.specs.Result.{result_map_both}
 use Rattle.refusal.specs.Answer.{◌>>=◌}
@@ -59,9 +58,7 @@ rim-by : (l : LaunchData) (files : List (List ℕ)) (p : PlacedData) (entries : 
 unfolding rim_for commands_for
 rim-by l files p entries placed is = rw placed (rw is refl)
 
-pub held-by : (l : LaunchData) (files : List (List ℕ)) (p : PlacedData) (entries : List Entry) (found : Result Measurement NoMemory)
-    → accepted_of l files ≡ Ok p → listed l p ≡ Ok entries → IfOk found (λ m. m.bytes ≡ rim_after l (commands_of (page_contents l files p) entries))
-    → IfOk found (λ m. rim_for l files ≡ Ok m.bytes)
-held-by l files p entries (Err fault) accepted is held = tt
-held-by l files p entries (Ok m) accepted is held =
+pub held-by : (l : LaunchData) (files : List (List ℕ)) (p : PlacedData) (entries : List Entry) (m : Measurement)
+    → accepted_of l files ≡ Ok p → listed l p ≡ Ok entries → m.bytes ≡ rim_after l (commands_of (page_contents l files p) entries) → rim_for l files ≡ Ok m.bytes
+held-by l files p entries m accepted is held =
     rim-by l files p entries (accepted-is l files p accepted).placed is ∙ ap (λ (rim : List ℕ). Ok rim) (sym held)

@@ -8,3 +8,4 @@ pub mod Lines
 pub mod Commands
 pub mod Digests
 pub mod Beside
+pub mod Copies

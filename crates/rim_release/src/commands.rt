@@ -132,6 +132,14 @@ impl<'a, 't> LaunchCommands<'a, 't> {
         }
     }
 
+    /// Whether a measured item begins with the command of this number: it delegates the granule of the item's first page.
+    pub fn begins_item(&self, index: usize) -> bool
+        requires { index < length (commands_in self.now) }
+    {
+        let next = index.saturating_add(1);
+        next < self.len() && matches!(self.plan.page_of(next), Some((_, 0)))
+    }
+
     /// The measurement of a page of an item: the one that is known already, or else the page is hashed.
     fn content_of(&self, beside: &mut Beside, item: usize, page: u64) -> Measurement
         requires page { HasPage self.now.placed.now item page }

@@ -9,12 +9,12 @@ use Rattle.rim_release.proofs.audits.outcomes_hashed.Goals as goal
 
 pub hashed-requires : goal.hashed-requires
 hashed-requires c =
-    subst (λ (pages : List PageView). IsRising (table.page_keys_of pages)) (sym c.requires.pages)
-    (release-rises (bytes_of_files c.args.files.now) c.args.release.now.launches)
+    subst (λ (pages : List PageView). IsRising (table.page_keys_of pages)) (sym c.requires)
+    (release-rises (bytes_of_files c.args.launches.now.files.now) c.args.launches.now.release.now.launches)
 
-pub outcomes_with-requires-clause-table : goal.outcomes_with-requires-clause-table
-outcomes_with-requires-clause-table c =
-    let files : List (List ℕ) = bytes_of_files c.args.files.now in
-    let size : length files ≡ length c.args.release.now.paths = length-map c.args.files.now (λ f. f.items) ∙ c.requires.files in
-    table-for files c.args.release.now c.in-Ok.table c.all_launches-launches.ensures.kept size
-    (subst table.IsTable c.table.view_is c.table.invariant) (c.in-Ok.ensures.pages ∙ c.requires.pages) c.in-Ok.ensures.full
+pub outcomes_with-requires : goal.outcomes_with-requires
+outcomes_with-requires c =
+    let files : List (List ℕ) = bytes_of_files c.args.launches.now.files.now in
+    let size : length files ≡ length c.args.launches.now.release.now.paths = length-map c.args.launches.now.files.now (λ f. f.items) ∙ c.args.launches.now.has_files in
+    table-for files c.args.launches.now.release.now c.in-Ok.table c.all_launches-launches.ensures.kept size
+    (subst table.IsTable c.table.view_is c.table.invariant) (c.in-Ok.ensures.pages ∙ c.requires) c.in-Ok.ensures.full

@@ -1,0 +1,10 @@
+use Rattle.std.proofs.Common.{◌≡◌}
+use Rattle.std.specs.List.{All}
+use Rattle.rim_release.specs.inside.Beside.{IsOwn}
+use Rattle.rim_release.specs.inside.Commands.{state_after}
+use Rattle.rim_release.specs.inside.Copies.{IsCopyIn}
+use Rattle.rim_release.proofs.audits.go_on.Given as goal
+
+-- the monitor was given the commands before this one, what is known is of the launch, and copies are what they say
+abbrev pub invariant-loop-index : goal.invariant-loop-index
+invariant-loop-index l = (l.monitor ≡ state_after l.commands l.index) × IsOwn l.commands l.beside × All (IsCopyIn l.commands) l.copies.items
