@@ -46,7 +46,7 @@ left_at s l Free at undone = inl at
 left_at s l (Held w) at undone = inr (w, at)
 left_at s l Done at undone = absurd (true≢false undone)
 
--- some job is not done, and is held or stands behind one that is held
+-- some job is not done, and it is held, or it waits for one that is held
 pub some_held : (s : CoreState) → IsCore s → NoneFree s.pages → is_over s ≡ false → AllWait s → SomeHeld s
 some_held s core none more wait = by (list_all is_done s.pages) refl
   where

@@ -175,7 +175,7 @@ impl SharedPrefixes {
     }
 
     /// The earlier launch that a launch goes on from, where it should not be chained before that one: another worker that
-    /// has that one is about as soon done as the prefix would be chained anew, or the prefix is most of the work.
+    /// has that one is done in about the time in which the prefix would be chained anew, or the prefix is most of the work.
     pub fn waits_for(&self, number: usize) -> Option<usize>
         ensures { IfSome result (λ earlier. earlier < number) }
     {

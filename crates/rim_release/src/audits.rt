@@ -274,7 +274,7 @@ fn go_on(
 }
 
 /// Whether a copy is made before a command, where the last one was made, or the launch begun, before the command `last`: where an
-/// item begins, and as many commands were given since then as before. So copies take less time than the commands.
+/// item begins, and as many commands were given since then as before. So a launch's copies were given less than twice its commands.
 fn is_worth_a_copy(commands: &LaunchCommands, index: usize, last: usize) -> bool
     requires { index < length (commands_in commands.now) }
 {
