@@ -151,7 +151,7 @@ impl Job {
                 kernel_size: 2 * MIB,
                 initrds: 1,
                 initrd_size: 3 * MIB + 5,
-                launches: 256,
+                launches: 768,
                 hashing: Hashing::Both,
                 ram: 256 * RAM_MIB,
                 ram_sizes: 16,
