@@ -26,7 +26,7 @@ struct Candidate {
     number: Reverse<usize>,
     /// How many parts are chained one after another until the launch is done, where each waits that should.
     until: u64,
-    /// Whether it should wait for the launch that it goes on from, where another worker has that one.
+    /// Whether it should wait for the launch that it goes on from, until that one is done.
     waits: bool,
 }
 
@@ -97,7 +97,7 @@ impl ChainOrder {
         self.waiting.len()
     }
 
-    /// The launch, of a lower number, that a launch goes on from and should wait for, where another worker has that one.
+    /// The launch, of a lower number, that a launch goes on from and should wait for, until that one is done.
     pub(crate) fn waits_for(&self, number: usize) -> Option<usize>
         ensures { IfSome result (λ earlier. earlier < number) }
     {
@@ -190,11 +190,14 @@ fn following(
 /// Whether a launch should wait for another, that has its prefix and is done after `until` parts. The prefix takes `anew`
 /// parts, and the longest way that begins with the launch has `way` parts after that.
 ///
-/// It should where the prefix would take about as long anew; and where the prefix is most of the work, since more workers would
-/// then only do the same again.
+/// It should where the prefix would take about as long anew. It should too where the prefix is most of the work, since more
+/// workers would then only do the same again; but not where a worker could chain the prefix twice until then, since it would have
+/// done a launch or more meanwhile.
 fn is_best_to_wait(anew: u64, until: u64, way: u64) -> bool {
     let quarter = anew / 4;
-    anew >= LEAST_WAIT && (until <= anew.saturating_add(quarter) || way <= quarter)
+    let is_about_as_long = until <= anew.saturating_add(quarter);
+    let is_most_of_the_work = way <= quarter && until / 2 <= anew;
+    anew >= LEAST_WAIT && (is_about_as_long || is_most_of_the_work)
 }
 
 /// Of each launch, how many parts its longest way has. Whoever goes on from a launch has a greater number.
