@@ -234,8 +234,8 @@ impl<'a, L: Run> BoardState<'a, L> {
     }
 
     /// The same for a worker that may come again when a job is put or a worker retires. `Later` is also answered where each
-    /// free launch that is ready should wait for one that begins alike, and that another worker holds or has a page of. Another
-    /// worker holds a job then.
+    /// free launch that is ready should wait for an earlier one that begins alike and is not done. Another worker holds a job
+    /// then: that launch, a page of it, or a launch that it waits for in its turn.
     pub fn take_or_wait(&mut self, worker: usize) -> Work<'a, L>
         ensures board { IsBoard self.old × IsOfRun L.pages L.plans self.old }
         ensures gives { result ≢ Work.Later → Gives self.old worker result self.new }
@@ -280,14 +280,18 @@ impl<'a, L: Run> BoardState<'a, L> {
         Work::Later
     }
 
-    /// A free launch that is ready, of those that are chained from the start: the first that should not wait for another.
+    /// A free launch that is ready, of those that are chained from the start: the first that should not wait for another. In a run
+    /// of too many launches to look at each, none waits.
     fn launch_to_begin(&mut self) -> Option<usize>
         ensures same { self.new ≡ self.old }
         ensures some { IfSome result (IsOpen self.old.core) }
         ensures none { IfNone result (AllWait self.old.core) }
     {
         let BoardState { core, prefixes, .. } = self;
-        core.ready_launch()?;
+        let ready = core.ready_launch()?;
+        if core.launches() > LAUNCHES_LOOKED_AT {
+            return Some(ready);
+        }
         for number in 0..core.launches() {
             if core.is_open(number) && !waits(core, prefixes, number) {
                 return Some(number);
@@ -609,6 +613,10 @@ impl<'a, L: Run> BoardState<'a, L> {
         table.pages().len() as u64
     }
 }
+
+/// In a run of more launches none waits for another: a worker that finds nothing to do but launches that wait looks at each of them
+/// under the lock. This project's choice: as many launches as a release may have.
+const LAUNCHES_LOOKED_AT: usize = 1_024;
 
 /// A list with room for this many events.
 fn room_for(alloc: Global, count: usize) -> Result<Vec<Event>, NoMemory>

@@ -47,9 +47,8 @@ impl<'a, L: Run> Board<'a, L> {
         self.given(rt, worker, false)
     }
 
-    /// The same, but the worker also sleeps where each launch that is free and ready should wait for one that another worker
-    /// holds or has a page of. It is for workers that put each job that they take, or retire, before they come again: both wake
-    /// those that sleep.
+    /// The same, but the worker also sleeps where each launch that is free and ready should wait for an earlier one that is not
+    /// done. It is for workers that put each job that they take, or retire, before they come again: both wake those that sleep.
     pub(crate) fn take_or_wait(&self, rt: &impl Wait, worker: usize) -> Work<'a, L>
         ensures found { (found : BoardView) × (left : BoardView) × IsBoard found
             × IsOfRun L.pages L.plans found × Gives found worker result left }
