@@ -235,7 +235,8 @@ fn audit_placed<'t>(
         plan: &plan,
         table,
     };
-    let (rim, copies) = go_on(alloc, launches, &commands, kept)?;
+    let is_last = number.saturating_add(1) >= launches.release.launches();
+    let (rim, copies) = go_on(alloc, launches, &commands, kept, is_last)?;
     let of_launch = LaunchCopies {
         number,
         plan,
@@ -245,13 +246,14 @@ fn audit_placed<'t>(
     Ok(rim)
 }
 
-/// The measurement that a monitor holds after the commands of a launch, and copies of the monitor for later launches. It goes on
-/// from a copy that is kept, where one serves.
+/// The measurement that a monitor holds after the commands of a launch, and copies of the monitor for later launches, unless it is
+/// the last one. It goes on from a copy that is kept, where one serves.
 fn go_on(
     alloc: Global,
     launches: &PlacedLaunches,
     commands: &LaunchCommands,
     kept: &[LaunchCopies],
+    is_last: bool,
 ) -> Result<(Measurement, Vec<MonitorCopy>), NoMemory>
     requires files { commands.now.files.now ≡ launches.now.files.now }
     requires kept { All (IsKeptOf launches.now) kept.now }
@@ -264,7 +266,7 @@ fn go_on(
     let mut copies = Vec::new(alloc);
     let mut last = first;
     for index in first..commands.len() {
-        if is_worth_a_copy(commands, index, last) {
+        if !is_last && is_worth_a_copy(commands, index, last) {
             push_copy(&mut copies, commands, index, &monitor);
             last = index;
         }

@@ -192,7 +192,7 @@ fn alone(alloc: Global, manifest: &[u8]) -> Result<Vec<u8>, Fail> {
     Ok(measure_alone(alloc, &release, &files)?)
 }
 
-/// Its audit, in which the measurements are worked out one launch at a time.
+/// Its audit, in which a monitor is given the commands of each launch.
 fn audited(alloc: Global, manifest: &[u8]) -> Result<Vec<u8>, Fail> {
     let release = read_manifest(alloc, manifest)?;
     let files = vec![in alloc; NINES.to_vec(alloc)?; release.file_count()]?;
