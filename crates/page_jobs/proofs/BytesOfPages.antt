@@ -2,7 +2,7 @@
 use Rattle.std.proofs.Common.{◌≡◌, ℕ, ◌+◌, ◌-◌, ◌*◌, ◌<◌, ◌≤◌, ◌&&◌, ◌⊎◌, cond, false, zero, suc, List, [], ◌++◌, length, take, drop, get_or, refl, ap, sym, ◌∙◌, arith, inl, inr, length-drop, nat_lt, lt-ltb, min, append-nil}
 use Rattle.std.specs.Prelude.{nat_le}
 use Rattle.std.proofs.lemmas.Bool.Decides.{nat_tests}
-use Rattle.std.proofs.lemmas.List.{ext_get_or, get_or-drop, get_or-take, get_or_past, length-take, length-take-le, nil_from_length}
+use Rattle.std.proofs.lemmas.List.{ext_get_or, get_or-drop, get_or-take, get_or_past, length-take, length-take-le, nil_from_length, take-append-drop}
 use Rattle.std.proofs.Math.ListN.{get_or-append}
 use Rattle.std.proofs.Math.Seq.{get_or-append_right}
 use Rattle.rim_desc.specs.Page.{with_part, zeros}
@@ -98,6 +98,11 @@ contents-page_bytes lead (suc k) item low =
 
     same : (j : ℕ) → 4096 * suc k - lead + (j - 0) ≡ 4096 * suc k + j - lead
     same j = omega arith
+
+-- a page that nothing falls in is all zeros
+pub contents-none : (f : ℕ) (bytes : List ℕ) → length bytes ≡ 0 → with_part (zeros 4096) f bytes ≡ zeros 4096
+unfolding with_part
+contents-none f bytes none = rw (nil_from_length bytes none) (take-append-drop f (zeros 4096))
 
 -- a page of 4096 lent bytes is those
 pub contents-whole : (f : ℕ) (bytes : List ℕ) → f + length bytes ≤ 4096 → length bytes ≡ 4096 → with_part (zeros 4096) f bytes ≡ bytes

@@ -2,6 +2,8 @@
 -- are put in it are those of their pages.
 -- Bytes: what is lent of an item, over zeros, is the page
 pub mod BytesOfPages
+-- a page that nothing is lent of is all zeros, whose digests are known
+pub mod DigestsOfZeros
 -- Keys: their order is total, and keys that are equal in it are one
 pub mod OrderOfKeys
 -- so a binary search finds the slot of a key

@@ -5,6 +5,7 @@ ghost use Rattle.page_jobs.specs.Page.{digest_of, page_view};
 ghost use Rattle.page_jobs.specs.inside.Lanes.{FillsLane};
 
 use crate::page::Page;
+use crate::zeros::zeros_digest;
 use rim_desc::{Algo, Measurement, PAGE_SIZE, hash};
 use rim_sha::sha256_four;
 
@@ -33,8 +34,8 @@ impl<'a> PageJob<'a> {
         PageJob { page }
     }
 
-    /// Hashes the page. A whole page is hashed where it lies; only a page with zeros before or after its
-    /// bytes is copied first.
+    /// Hashes the page. A whole page is hashed where it lies, and only a page with zeros before or after its
+    /// bytes is copied first. A page without bytes of its item is all zeros, whose measurement is known.
     pub fn run(self) -> Hashed<'a>
         ensures { result.page ≡ self.entry.page }
     {
@@ -127,6 +128,9 @@ fn page_digest(page: &Page) -> Measurement
     ensures { result.bytes ≡ digest_of (page_view page.now) }
 {
     let algo = page.key.algo;
+    if page.bytes.is_empty() {
+        return zeros_digest(algo);
+    }
     if page.bytes.len() == PAGE_SIZE {
         hash(algo, page.bytes)
     } else {

@@ -7,6 +7,7 @@ mod page;
 mod range;
 mod row;
 mod table;
+mod zeros;
 
 pub use hashed::{Hashed, LANES, PageJob, run_four};
 pub use laws::{

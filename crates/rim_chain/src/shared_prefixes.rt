@@ -175,7 +175,8 @@ impl SharedPrefixes {
     }
 
     /// The earlier launch that a launch goes on from, where it should not be chained before that one: another worker that
-    /// has that one is done in about the time in which the prefix would be chained anew, or the prefix is most of the work.
+    /// has that one is done in about the time in which the prefix would be chained anew; or the prefix is most of the work, and
+    /// could not be chained twice until then.
     pub fn waits_for(&self, number: usize) -> Option<usize>
         ensures { IfSome result (λ earlier. earlier < number) }
     {

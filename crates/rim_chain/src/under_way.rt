@@ -186,7 +186,7 @@ fn extended_by_links(
 }
 
 /// What four chains by SHA-256 come to. The next parts of all four are hashed side by side, `parts` times at most and no
-/// longer than each has one, so `parts` had best be the number of parts of the shortest.
+/// longer than each has one, so `parts` should be the number of parts of the shortest.
 pub(crate) fn side_by_side(
     a: Chain,
     b: Chain,

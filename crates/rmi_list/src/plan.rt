@@ -145,6 +145,11 @@ impl Plan {
         self.starts[self.spans.len()]
     }
 
+    /// How many spans it keeps. This says how much memory it takes, and nothing of its commands.
+    pub fn span_count(&self) -> usize {
+        self.spans.len()
+    }
+
     /// The number of the item and of its page, where a command creates a measured page.
     pub fn page_of(&self, index: usize) -> Option<(usize, u64)>
         requires { index < length self.now }

@@ -13,8 +13,9 @@ impl Plan {
     ghost use Rattle.rmi_list.specs.Common.{AgreeOn};
 
     /// How many of its first commands are those of another plan too, where the pages of the items that are marked have the same
-    /// measurements in both launches. It looks at spans and at no page, and may answer fewer commands than there are.
-    pub fn common_commands(&self, other: &Plan, marks: &[bool]) -> usize
+    /// measurements in both launches. It looks at no page and at `looks` spans at most, and takes those that it looked at from
+    /// that number. It may answer fewer commands than there are.
+    pub fn common_commands(&self, other: &Plan, marks: &[bool], looks: &mut usize) -> usize
         ensures own { result ≤ length self.now }
         ensures others { result ≤ length other.now }
         ensures same { (f g : Contents) → AgreeOn marks.now f g
@@ -23,25 +24,34 @@ impl Plan {
         if !is_same_realm(&self.params, &other.params) || self.num_aux != other.num_aux {
             return 0;
         }
-        let spans = common_spans(&self.recs, &self.spans, &other.recs, &other.spans, marks);
+        let spans = common_spans(
+            &self.recs,
+            &self.spans,
+            &other.recs,
+            &other.spans,
+            marks,
+            *looks,
+        );
+        *looks = looks.saturating_sub(spans.saturating_add(1));
         self.starts[spans]
     }
 }
 
-/// How many of their first spans two lists have in common.
+/// How many of their first spans two lists have in common, of this many at most.
 fn common_spans(
     recs: &[PlacedRec],
     spans: &[Span],
     other_recs: &[PlacedRec],
     others: &[Span],
     marks: &[bool],
+    most: usize,
 ) -> usize
     ensures own { result ≤ length spans.now }
     ensures others { result ≤ length others.now }
     ensures common { AreCommon marks.now recs.now (take result spans.now) other_recs.now
         (take result others.now) }
 {
-    let end = spans.len().min(others.len());
+    let end = spans.len().min(others.len()).min(most);
     for at in 0..end {
         if !is_common(recs, &spans[at], other_recs, &others[at], marks) {
             return at;
