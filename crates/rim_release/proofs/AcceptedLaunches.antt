@@ -39,26 +39,3 @@ accepted-is l files p accepted = by_place (places l files) refl accepted
         → (result_map_both (λ q. q) layout_fault place >>= λ q. at_list l q (listed l q)) ≡ Ok p → IsAccepted l files p
     by_place (Err fault) is same = absurd (cc)
     by_place (Ok q) is same = by_list q is (listed l q) refl same
-
--- and so it is accepted
-pub accepted-by : (l : LaunchData) (files : List (List ℕ)) (p : PlacedData) (entries : List Entry) → places l files ≡ Ok p → listed l p ≡ Ok entries → accepted_of l files ≡ Ok p
-unfolding accepted_of
-accepted-by l files p entries placed is = rw placed (rw is refl)
-
--- where it is
-pub placed-by : (l : LaunchData) (files : List (Vec ℕ Global)) (p : PlacedData) → has_files l (length files) ≡ true → accepted_of l (bytes_of_files files) ≡ Ok p → IsPlaced l (bytes_of_files files) p
-placed-by l files p there accepted = record {
-  there = ap (has_files l) (length-map files (λ f. f.items)) ∙ there;
-  placed = (accepted-is l (bytes_of_files files) p accepted).placed;
-}
-
--- what a monitor holds after the commands of its list is its measurement
-rim-by : (l : LaunchData) (files : List (List ℕ)) (p : PlacedData) (entries : List Entry) → places l files ≡ Ok p → listed l p ≡ Ok entries
-    → rim_for l files ≡ Ok (rim_after l (commands_of (page_contents l files p) entries))
-unfolding rim_for commands_for
-rim-by l files p entries placed is = rw placed (rw is refl)
-
-pub held-by : (l : LaunchData) (files : List (List ℕ)) (p : PlacedData) (entries : List Entry) (m : Measurement)
-    → accepted_of l files ≡ Ok p → listed l p ≡ Ok entries → m.bytes ≡ rim_after l (commands_of (page_contents l files p) entries) → rim_for l files ≡ Ok m.bytes
-held-by l files p entries m accepted is held =
-    rim-by l files p entries (accepted-is l files p accepted).placed is ∙ ap (λ (rim : List ℕ). Ok rim) (sym held)

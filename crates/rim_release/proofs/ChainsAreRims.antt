@@ -49,7 +49,6 @@ use Rattle.rim_release.specs.Pages.{keys_at, launch_keys, page_keys, release_pag
 use Rattle.rim_release.specs.Report.{lines_of, measured_of, outcomes_for, report_of, report_with, seen}
 use Rattle.rim_release.specs.Plans.{ArePlans, BeginsWith, places_of}
 use Rattle.rim_release.specs.inside.Chains.{outcomes_of}
-use Rattle.rim_release.specs.inside.Digests.{IsTableFor}
 use Rattle.rim_release.specs.inside.Lines.{lines_with}
 use Rattle.rim_release.specs.inside.Sources.{pages_of}
 use Rattle.rim_release.specs.declared.audit_fault.AuditFault.{AuditFault}
@@ -208,24 +207,6 @@ module _ (files : List (List ℕ)) (r : ReleaseData) (t : TableView)
           let asked : slice_get l.launch.items number ≡ Some (get_or (first ∷ others) number first) = ap (λ xs. slice_get xs number) (sym e) ∙ slice_get-get_or (first ∷ others) number first within in
           by_source item.source (get_or (first ∷ others) number first)
           (source-is l.launch files p is_placed number (get_or (first ∷ others) number first) item (record { in_launch = asked; placed = here }))
-
-  -- the pages that the table has of a launch's sources are the launch's
-  pub table-for : All (λ l. IsTableFor files t l.launch) r.launches
-  unfolding items page_keys
-  table-for i d low p accepted number item here key q same found =
-      let l : NamedData = get_or r.launches i d in
-      let at : slice_get r.launches i ≡ Some l = slice_get-get_or r.launches i d low in
-      let source : items key.source ≡ bytes_of_source files p key.source
-      = ap items same ∙ own-source i l p at accepted number item here ∙ ap (bytes_of_source files p) (sym same) in
-      by_slot (slot_of t.pages key) refl found source
-    where
-      by_slot : (o : Option ℕ) → slot_of t.pages key ≡ o → option_and_then (slice_get t.pages) o ≡ Some q
-          → items key.source ≡ bytes_of_source files p key.source → q ≡ page_named (bytes_of_source files p) key
-      by_slot None is none source = absurd (cc)
-      by_slot (Some j) is at source =
-          named-at items (page_keys files r.launches) j q (ap (λ (ps : List PageView). slice_get ps j) (sym has_pages) ∙ at)
-          ∙ ap (page_named items) (slot-key t.pages key j q is at)
-          ∙ ap (λ (bytes : List ℕ). page_named (λ s. bytes) key) source
 
   -- the table has the page of a key of the release
   page-of : (key : PageKey) → Contains (page_keys files r.launches) key

@@ -16,19 +16,11 @@ use Rattle.list_model.specs.Entries.{Entry}
 use Rattle.rim_launch.specs.LaunchData.{LaunchData}
 use Rattle.ipa_layout.specs.Layout.{PlacedData, bytes_of_source}
 use Rattle.rmi_list.specs.Common.{AgreeOn}
-use Rattle.rmi_list.specs.Listed.{listed}
 use Rattle.rmi_list.specs.Measured.{page_contents}
-use Rattle.page_jobs.specs.Table.{TableView}
-use Rattle.rim_manifest.specs.Launches.{NamedData}
-use Rattle.rim_release.specs.Accepted.{accepted_of}
-use Rattle.rim_release.specs.Plans.{places_of}
-use Rattle.rim_release.specs.declared.audit_fault.AuditFault.{AuditFault}
 use Rattle.rim_release.specs.declared.commands.LaunchCommands.{LaunchCommands}
-use Rattle.rim_release.specs.declared.copies.LaunchCopies.{LaunchCopies}
 use Rattle.rim_release.specs.declared.copies.MonitorCopy.{MonitorCopy}
 use Rattle.rim_release.specs.inside.Commands.{commands_in, state_after}
-use Rattle.rim_release.specs.inside.Copies.{AreMarked, IsKept, ServesWithin, state_of}
-use Rattle.rim_release.specs.inside.Digests.{IsTableFor}
+use Rattle.rim_release.specs.inside.Copies.{AreMarked, ServesWithin, state_of}
 
 -- ---- marks
 
@@ -75,15 +67,6 @@ serve-within c files launch p plan ks None within same all = tt
 serve-within c files launch p plan ks (Some shared) within same all =
     λ i d lt le. (let low : (get_or ks i d).count ≤ length (commands_in c) = omega (arith, le, within) in low, all i d lt ∙ same (get_or ks i d).count le)
 
--- what is kept of a launch that has this place is what it says
-pub kept-of : (files : List (List ℕ)) (ls : List NamedData) (launch : LaunchData) (placed : PlacedData) (k : LaunchCopies)
-    → IfSome (slice_get ls k.number) (λ l. l.launch ≡ launch) → accepted_of launch files ≡ Ok placed → listed launch placed ≡ Ok k.plan
-    → All (λ m. m.monitor ≡ state_of launch files placed k.plan m.count) k.copies.items → IsKept files ls k
-kept-of files ls launch placed k at place list all = λ l p here own.
-    let same : l.launch ≡ launch = rw here at at in
-    let placed-same : p ≡ placed = (let both : Ok p ≡ Ok placed = sym own ∙ ap (λ (x : LaunchData). accepted_of x files) same ∙ place in cc) in
-    rw (same, placed-same) (list, all)
-
 -- ---- copies that are kept, and dropped
 
 all-of-one : {X : Type 0} (P : X → Type 0) (x : X) → P x → All P (x ∷ [])
@@ -97,19 +80,3 @@ all-pushed P old new x false is all p = subst (All P) (sym is) all
 pub all-after-first : {X : Type 0} (P : X → Type 0) (xs : List X) → All P xs → All P (remove xs 0)
 all-after-first P [] all = all
 all-after-first P (x ∷ xs) all = All-drop P 1 (x ∷ xs) all
-
--- ---- the launch of a number
-
--- its place is that of its number
-pub own-place : (files : List (List ℕ)) (ls : List NamedData) (n : ℕ) (launch : LaunchData) (d : Result PlacedData AuditFault)
-    → n < length ls → IfSome (slice_get ls n) (λ l. l.launch ≡ launch) → get_or (places_of files ls) n d ≡ accepted_of launch files
-own-place files [] n launch d low is = absurd (omega (arith, low))
-own-place files (l ∷ ls) zero launch d low is = ap (λ (x : LaunchData). accepted_of x files) is
-own-place files (l ∷ ls) (suc n) launch d low is = own-place files ls n launch d (omega (arith, low)) is
-
--- a table for all launches is one for it
-pub own-table : {T : Type 0} (view : T → TableView) (o : Option T) (files : List (List ℕ)) (ls : List NamedData) (n : ℕ) (l : NamedData) (launch : LaunchData)
-    → n < length ls → l ≡ get_or ls n l → launch ≡ l.launch → IfSome o (λ t. All (λ x. IsTableFor files (view t) x.launch) ls) → IfSome o (λ t. IsTableFor files (view t) launch)
-own-table view None files ls n l launch low is same all = tt
-own-table view (Some t) files ls n l launch low is same all =
-    subst (IsTableFor files (view t)) (sym (same ∙ ap (λ (x : NamedData). x.launch) is)) (all n l low)

@@ -1,5 +1,5 @@
 -- Each measured page that a launch's list of commands creates is a page of one of its items.
-use Rattle.std.proofs.Common.{◌≡◌, ℕ, ◌+◌, ◌<◌, ◌≤◌, ◌∙◌, inl, inr, zero, suc, Bool, true, false, not, List, [], ◌∷◌, ◌++◌, length, slice_index_or, refl, ap, sym, subst, arith}
+use Rattle.std.proofs.Common.{◌≡◌, ℕ, ◌+◌, ◌-◌, ◌<◌, ◌≤◌, ◌∙◌, inl, inr, zero, suc, Bool, true, false, not, List, [], ◌∷◌, ◌++◌, length, slice_index_or, refl, ap, sym, subst, arith}
 use Rattle.std.specs.Prelude.{Option, Some, None, Result, Ok, eqb}
 use Rattle.std.specs.List.{AllByRecursion, slice_get}
 use Rattle.std.specs.Option.{option_and_then, option_map}
@@ -188,6 +188,14 @@ page-there l p entries i number k is at = own-at p entries i number k (listed-ow
 
 pub item-there : (items seen : List PlacedItem) (number : ℕ) (item d : PlacedItem) → seen ≡ items → slice_get items number ≡ Some item → slice_index_or seen number d ≡ item
 item-there items seen number item d same at = get_or_from_slice_get seen number item d (ap (λ (xs : List PlacedItem). slice_get xs number) same ∙ at)
+
+-- an item of which four pages or more are left has the third page after this one
+pub third-after : (p : PlacedData) (items : List PlacedItem) (number k : ℕ) (d : PlacedItem) → items ≡ p.items → HasPage p number k
+    → 4 ≤ (slice_index_or items number d).pages - k → HasPage p number (k + 3)
+third-after p items number k d same has left =
+    let is : slice_index_or items number d ≡ has.item = item-there p.items items number has.item d same has.at in
+    let pages : (slice_index_or items number d).pages ≡ has.item.pages = ap (λ (i : PlacedItem). i.pages) is in
+    record { item = has.item; at = has.at; low = omega (arith, left, pages) }
 
 -- a placed launch has few pages
 pub page-low : (l : LaunchData) (files : List (List ℕ)) (p : PlacedData) (number k : ℕ) → IsPlaced l files p → HasPage p number k → k < 4503599627370496

@@ -6,6 +6,6 @@ pub mod Filled
 pub mod Chains
 pub mod Lines
 pub mod Commands
-pub mod Digests
+pub mod Known
 pub mod Beside
 pub mod Copies

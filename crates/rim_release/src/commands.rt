@@ -1,40 +1,35 @@
 //! The commands that build the realm of a launch, one by one, each given to a monitor.
-ghost use Rattle.std.specs.Prelude.{◌≡◌, length, option_map, true, IfOk, Ok, Some};
+ghost use Rattle.std.specs.Prelude.{◌≡◌, length, true, IfOk, Ok, Some};
 ghost use Rattle.refusal.specs.Answer.{Answers};
 ghost use Rattle.list_model.specs.Entries.{commands_of};
 ghost use Rattle.rim_launch.specs.LaunchData.{has_files};
 ghost use Rattle.ipa_layout.specs.Layout.{IsPlaced};
 ghost use Rattle.ipa_layout.specs.Files.{bytes_of_files};
-ghost use Rattle.page_jobs.specs.Table.{TableView};
 ghost use Rattle.rmi_list.specs.Listed.{listed};
 ghost use Rattle.rmi_list.specs.Measured.{page_contents};
 ghost use Rattle.rim_release.specs.Accepted.{commands_for};
-ghost use Rattle.rim_release.specs.inside.Digests.{HasOwnPages};
 
 use crate::audit_fault::AuditFault;
 use crate::beside::{Beside, Group};
+use crate::known_pages::FileKey;
 use ipa_layout::{Placed, PlacedItem, place};
-use page_jobs::{Blob, LANES, PageJob, PageKey, Table, run_four};
+use page_jobs::{Blob, LANES, PageJob, run_four};
 use refusal::NoMemory;
-use rim_desc::{Command, Measurement};
+use rim_desc::{Command, Measurement, Source};
 use rim_launch::Launch;
 use rmi_list::{Plan, list};
 use rmm_monitor::{Monitor, Refused};
 use std::alloc::Global;
 
-/// A launch that has its place and its list of commands, the files of its release, and a table with digests of its pages
-/// where there is one.
+/// A launch that has its place and its list of commands, and the files of its release.
 #[derive(Clone, Copy)]
-pub struct LaunchCommands<'a, 't> {
+pub struct LaunchCommands<'a> {
     pub launch: &'a Launch,
     pub files: &'a [Vec<u8>],
     pub placed: &'a Placed,
     pub plan: &'a Plan,
-    pub table: Option<&'t Table<'t>>,
     pub ghost is_placed: { IsPlaced launch.now (bytes_of_files files.now) placed.now },
     pub ghost is_listed: { listed launch.now placed.now ≡ Ok plan.now },
-    pub ghost has_own: { (t : TableView) → option_map (λ table. table.now) table ≡ Some t
-        → HasOwnPages (bytes_of_files files.now) placed.now t },
 }
 
 /// The place of a launch and its list of commands, or why it is refused.
@@ -59,14 +54,15 @@ pub fn lay_out(
 /// What a command is given for its page where it creates no measured one. It does not use it.
 const NO_CONTENT: Measurement = Measurement { bytes: [0; 64] };
 
-impl<'a, 't> LaunchCommands<'a, 't> {
-    ghost use Rattle.std.specs.Prelude.{◌≡◌, ◌+◌, ◌<◌, length, Some, IfOk, IfSome, OnOk};
+impl<'a> LaunchCommands<'a> {
+    ghost use Rattle.std.specs.Prelude.{◌≡◌, ℕ, ◌+◌, ◌<◌, ◌^◌, length, Some, IfOk, IfSome, OnOk};
     ghost use Rattle.std.specs.List.{slice_get};
+    ghost use Rattle.ipa_layout.specs.Files.{bytes_of_files};
     ghost use Rattle.page_jobs.specs.Page.{page_view};
-    ghost use Rattle.rim_chain.specs.Keys.{key_at};
     ghost use Rattle.rim_release.specs.Accepted.{rim_after};
     ghost use Rattle.rim_release.specs.inside.Commands.{HasPage, commands_in, state_after};
     ghost use Rattle.rim_release.specs.inside.Beside.{DigestIsContent, IsGroup, IsOwn, content_in};
+    ghost use Rattle.rim_release.specs.inside.Known.{page_digest};
 
     /// How many commands there are.
     pub fn len(&self) -> usize
@@ -147,45 +143,70 @@ impl<'a, 't> LaunchCommands<'a, 't> {
         ensures content { result ≡ content_in self.now item page }
         ensures own { IsOwn self.now beside.new }
     {
-        if let Some(digest) = beside.digest(item, page) {
+        if let Some(digest) = beside.in_group(item, page) {
             return digest;
         }
-        if let Some(digest) = self.in_table(beside, item, page) {
+        if let Some(digest) = self.in_file(beside, item, page) {
             return digest;
         }
         if self.placed.items()[item].pages - page < LANES as u64 {
-            return self.job(item, page).run().digest;
+            let digest = self.job(item, page).run().digest;
+            self.keep(beside, item, page, digest);
+            return digest;
         }
         let (digest, group) = self.hash_group(item, page);
-        beside.set_group(group);
+        self.keep(beside, item, page, digest);
+        self.keep_group(beside, &group);
         digest
     }
 
-    /// The measurement of a page, where a table has it. A page's slot is mostly the one after that of the page before.
-    fn in_table(&self, beside: &mut Beside, item: usize, page: u64) -> Option<Measurement>
-        requires page { HasPage self.now.placed.now item page }
+    /// The measurement of a page of an item, where it is a page of a file and is known.
+    fn in_file(&self, beside: &mut Beside, item: usize, page: u64) -> Option<Measurement>
         requires own { IsOwn self.now beside.old }
         ensures content { IfSome result (λ m. m ≡ content_in self.now item page) }
         ensures own { IsOwn self.now beside.new }
     {
-        let table = self.table?;
-        let slot = table.slot_near(beside.slot(), &self.key(item, page))?;
-        beside.set_slot(slot.saturating_add(1));
-        table.digest(slot)
+        let key = self.file_key(item)?;
+        beside.in_file(item, key, page)
     }
 
-    /// The key of a page of an item.
-    fn key(&self, item: usize, page: u64) -> PageKey
-        requires { HasPage self.now.placed.now item page }
-        ensures { IfSome (slice_get self.now.placed.now.items item)
-            (λ i. result ≡ key_at self.now.launch.now.config.algo i page) }
+    /// Keeps the measurement of a page of an item for later launches, where it is a page of a file.
+    fn keep(&self, beside: &mut Beside, item: usize, page: u64, content: Measurement)
+        requires content { content ≡ content_in self.now item page }
+        requires own { IsOwn self.now beside.old }
+        ensures own { IsOwn self.now beside.new }
     {
-        let item = self.placed.items()[item];
-        PageKey {
-            algo: self.launch.config().algo,
-            source: item.source,
-            lead: item.lead,
-            number: page,
+        if let Some(key) = self.file_key(item) {
+            beside.keep(item, key, page, content);
+        }
+    }
+
+    /// Keeps the measurements of pages that were hashed beside another.
+    fn keep_group(&self, beside: &mut Beside, group: &Group)
+        requires group { IsGroup self.now group.now }
+        requires low { group.now.first < 2 ^ 52 }
+        requires own { IsOwn self.now beside.old }
+        ensures own { IsOwn self.now beside.new }
+    {
+        self.keep(beside, group.item, group.first + 1, group.second);
+        self.keep(beside, group.item, group.first + 2, group.third);
+        self.keep(beside, group.item, group.first + 3, group.fourth);
+        beside.set_group(*group);
+    }
+
+    /// How the file of an item is read into pages; none where its bytes are an edited devicetree's.
+    fn file_key(&self, item: usize) -> Option<FileKey>
+        ensures { IfSome result (λ key. (page : ℕ) → (content_in self.now item page).bytes
+            ≡ page_digest (bytes_of_files self.now.files.now) key page) }
+    {
+        let item = self.placed.items().get(item)?;
+        match item.source {
+            Source::File(file) => Some(FileKey {
+                algo: self.launch.config().algo,
+                file,
+                lead: item.lead,
+            }),
+            Source::Edited(_) => None,
         }
     }
 
@@ -194,6 +215,7 @@ impl<'a, 't> LaunchCommands<'a, 't> {
         requires { HasPage self.now.placed.now item (page + 3) }
         ensures content { result.0 ≡ content_in self.now item page }
         ensures group { IsGroup self.now result.1 }
+        ensures low { result.1.first < 2 ^ 52 }
     {
         let (a, b, c, d) = run_four(
             self.job(item, page),

@@ -1,16 +1,13 @@
-//! What an audit keeps of launches, so that later ones which begin with the same commands go on from a copy of a monitor.
-ghost use Rattle.std.specs.Prelude.{◌≡◌, ◌≤◌, ℕ, IfSome, Ok, length, true};
+//! Copies of monitors: a launch that begins with the same commands as an earlier one goes on from a copy of that one's monitor.
+ghost use Rattle.std.specs.Prelude.{◌≡◌, ◌≤◌, ℕ, IfSome, length, true};
 ghost use Rattle.std.specs.List.{All, slice_get};
 ghost use Rattle.rim_desc.specs.declared.source.Source.TheVariants.{File};
 ghost use Rattle.ipa_layout.specs.Files.{bytes_of_files};
-ghost use Rattle.rmi_list.specs.Listed.{listed};
-ghost use Rattle.rim_release.specs.Accepted.{accepted_of};
 ghost use Rattle.rim_release.specs.inside.Commands.{commands_in, state_after};
-ghost use Rattle.rim_release.specs.inside.Copies.{AreMarked, IsCopyIn, IsKeptOf, IsSameItem, Serves, ServesWithin, state_of};
+ghost use Rattle.rim_release.specs.inside.Copies.{AreMarked, IsKept, IsSameItem, Serves, ServesWithin};
 
 use crate::commands::LaunchCommands;
-use crate::placed_launches::PlacedLaunches;
-use ipa_layout::{Placed, PlacedItem};
+use ipa_layout::PlacedItem;
 use rim_desc::{Algo, Source};
 use rim_launch::{Config, ITEM_LIMIT, Launch};
 use rmi_list::Plan;
@@ -24,35 +21,24 @@ pub struct MonitorCopy {
     pub monitor: Monitor,
 }
 
-/// The list of the launch of a number, and monitors that were given its first commands.
+/// A launch with its items as they are placed, its list, and monitors that were given its first commands. Its edited devicetree
+/// is not kept.
 #[derive(Drop)]
-pub struct LaunchCopies {
-    pub number: usize,
+pub struct LaunchCopies<'a> {
+    pub launch: &'a Launch,
+    pub items: Vec<PlacedItem>,
     pub plan: Plan,
     pub copies: Vec<MonitorCopy>,
 }
 
-/// How many launches copies are kept of, at most. This project's choice.
-const LAUNCH_LIMIT: usize = 32;
-
-/// How many commands all copies were given that are kept, at most, and those of the launch that is audited. A monitor takes some
-/// 30 bytes for each. This project's choice.
-const COMMAND_LIMIT: usize = 1_048_576;
-
 /// A monitor for a launch and how many of its commands it was given: a copy of the one that was given most, of launches that
 /// begin with the same commands; else one that was given none.
-pub fn begin(
-    alloc: Global,
-    launches: &PlacedLaunches,
-    commands: &LaunchCommands,
-    kept: &[LaunchCopies],
-) -> (Monitor, usize)
-    requires files { commands.now.files.now ≡ launches.now.files.now }
-    requires kept { All (IsKeptOf launches.now) kept.now }
+pub fn begin(alloc: Global, commands: &LaunchCommands, kept: &[LaunchCopies]) -> (Monitor, usize)
+    requires { All (IsKept (bytes_of_files commands.now.files.now)) kept.now }
     ensures within { result.1 ≤ length (commands_in commands.now) }
     ensures monitor { result.0 ≡ state_after commands.now result.1 }
 {
-    let Some(copy) = best(launches, commands, kept) else {
+    let Some(copy) = best(commands, kept) else {
         return (commands.monitor(alloc), 0);
     };
     match copy.monitor.try_clone() {
@@ -61,40 +47,43 @@ pub fn begin(
     }
 }
 
-/// The copy that was given most commands, of those that a launch can go on from.
-fn best<'c>(
-    launches: &PlacedLaunches,
-    commands: &LaunchCommands,
-    kept: &'c [LaunchCopies],
-) -> Option<&'c MonitorCopy>
-    requires files { commands.now.files.now ≡ launches.now.files.now }
-    requires kept { All (IsKeptOf launches.now) kept.now }
+/// The copy that was given most commands, of those that a launch can go on from and that are found. Lists are compared from that
+/// of the last launch on, up to as many spans in all as the launch has twice, so this takes little of an audit's time.
+fn best<'c>(commands: &LaunchCommands, kept: &'c [LaunchCopies]) -> Option<&'c MonitorCopy>
+    requires { All (IsKept (bytes_of_files commands.now.files.now)) kept.now }
     ensures { IfSome result (λ copy. Serves commands.now copy.now) }
 {
+    let mut looks = commands.plan.span_count().saturating_mul(2);
     let mut most = 0;
     let mut found = None;
-    for of_launch in kept {
-        if let Some(copy) = best_of(launches, commands, of_launch) {
-            if copy.count > most {
-                most = copy.count;
-                found = Some(copy);
+    for of_launch in kept.iter().rev() {
+        if has_longer(&of_launch.copies, most) {
+            if let Some(copy) = best_of(commands, of_launch, &mut looks) {
+                if copy.count > most {
+                    most = copy.count;
+                    found = Some(copy);
+                }
             }
         }
     }
     found
 }
 
+/// Whether some copy was given more commands than this many.
+fn has_longer(copies: &[MonitorCopy], count: usize) -> bool {
+    copies.iter().any(|copy| copy.count > count)
+}
+
 /// The same of the copies of one launch.
 fn best_of<'c>(
-    launches: &PlacedLaunches,
     commands: &LaunchCommands,
     of_launch: &'c LaunchCopies,
+    looks: &mut usize,
 ) -> Option<&'c MonitorCopy>
-    requires files { commands.now.files.now ≡ launches.now.files.now }
-    requires kept { IsKeptOf launches.now of_launch.now }
+    requires { IsKept (bytes_of_files commands.now.files.now) of_launch.now }
     ensures { IfSome result (λ copy. Serves commands.now copy.now) }
 {
-    let shared = shared_with(launches, commands, of_launch)?;
+    let shared = shared_with(commands, of_launch, looks)?;
     longest(commands, &of_launch.copies, shared)
 }
 
@@ -120,48 +109,19 @@ fn longest<'c>(
 
 /// How many first commands of a launch are those too of one of which copies are kept.
 fn shared_with(
-    launches: &PlacedLaunches,
     commands: &LaunchCommands,
     of_launch: &LaunchCopies,
+    looks: &mut usize,
 ) -> Option<usize>
-    requires files { commands.now.files.now ≡ launches.now.files.now }
-    requires kept { IsKeptOf launches.now of_launch.now }
+    requires { IsKept (bytes_of_files commands.now.files.now) of_launch.now }
     ensures { IfSome result
         (λ shared. All (ServesWithin commands.now shared) of_launch.now.copies.items) }
 {
-    let named = launches.release.all_launches();
-    if of_launch.number >= named.len() {
+    if !has_same_settings(&of_launch.launch.config(), &commands.launch.config()) {
         return None;
     }
-    match &launches.places[of_launch.number] {
-        Ok(placed) => {
-            let launch = named[of_launch.number].launch();
-            shared_commands(launch, placed, &of_launch.plan, commands)
-        }
-        Err(_) => None,
-    }
-}
-
-/// How many first commands of a launch are those too of another, which has this place and this list.
-fn shared_commands(
-    launch: &Launch,
-    placed: &Placed,
-    plan: &Plan,
-    commands: &LaunchCommands,
-) -> Option<usize>
-    requires place { accepted_of launch.now (bytes_of_files commands.now.files.now)
-        ≡ Ok placed.now }
-    requires listed { listed launch.now placed.now ≡ Ok plan.now }
-    ensures within { IfSome result (λ shared. shared ≤ length (commands_in commands.now)) }
-    ensures same { IfSome result (λ shared. (count : ℕ) → count ≤ shared
-        → state_of launch.now (bytes_of_files commands.now.files.now) placed.now plan.now count
-        ≡ state_after commands.now count) }
-{
-    if !has_same_settings(&launch.config(), &commands.launch.config()) {
-        return None;
-    }
-    let marks = marked(placed.items(), commands.placed.items());
-    Some(plan.common_commands(commands.plan, &marks))
+    let marks = marked(&of_launch.items, commands.placed.items());
+    Some(of_launch.plan.common_commands(commands.plan, &marks, looks))
 }
 
 /// Whether two launches have RECs with as many auxiliary granules, and the same algorithm.
@@ -215,69 +175,4 @@ fn is_same_file(source: Source, other: Source) -> bool
         (Source::File(a), Source::File(b)) => a == b,
         _ => false,
     }
-}
-
-/// Adds a copy of a monitor that was given this many commands, where there is memory for it and the copies are not too many.
-pub fn push_copy(
-    copies: &mut Vec<MonitorCopy>,
-    commands: &LaunchCommands,
-    count: usize,
-    monitor: &Monitor,
-)
-    requires copies { All (IsCopyIn commands.now) copies.old.items }
-    requires monitor { monitor.now ≡ state_after commands.now count }
-    ensures { All (IsCopyIn commands.now) copies.new.items }
-{
-    if given(copies).saturating_add(count) > COMMAND_LIMIT {
-        return;
-    }
-    if let Ok(monitor) = monitor.try_clone() {
-        let _ = copies.push(MonitorCopy { count, monitor });
-    }
-}
-
-/// Keeps the copies of a launch, where there is memory for them. Those of the launches that were audited first are dropped
-/// where all would be too many.
-pub fn keep(kept: &mut Vec<LaunchCopies>, launches: &PlacedLaunches, of_launch: LaunchCopies)
-    requires kept { All (IsKeptOf launches.now) kept.old.items }
-    requires launch { IsKeptOf launches.now of_launch }
-    ensures { All (IsKeptOf launches.now) kept.new.items }
-{
-    if of_launch.copies.is_empty() {
-        return;
-    }
-    make_room(kept, launches, given(&of_launch.copies));
-    let _ = kept.push(of_launch);
-}
-
-/// Drops the copies of the launches that were audited first, where those of one more, which were given this many commands,
-/// would be too many.
-fn make_room(kept: &mut Vec<LaunchCopies>, launches: &PlacedLaunches, count: usize)
-    requires { All (IsKeptOf launches.now) kept.old.items }
-    ensures { All (IsKeptOf launches.now) kept.new.items }
-{
-    for _ in 0..kept.len() {
-        if kept.is_empty() || has_room(kept, count) {
-            return;
-        }
-        kept.remove(0);
-    }
-}
-
-/// Whether the copies of one launch more, which were given this many commands, are not too many. It is a measure of memory alone.
-fn has_room(kept: &[LaunchCopies], count: usize) -> bool {
-    let mut all = count;
-    for of_launch in kept {
-        all = all.saturating_add(given(&of_launch.copies));
-    }
-    kept.len() < LAUNCH_LIMIT && all <= COMMAND_LIMIT
-}
-
-/// How many commands some copies were given. It is a measure of memory alone.
-fn given(copies: &[MonitorCopy]) -> usize {
-    let mut count = 0usize;
-    for copy in copies {
-        count = count.saturating_add(copy.count);
-    }
-    count
 }

@@ -13,6 +13,7 @@ ghost use Rattle.rim_release.specs.inside.Commands.{commands_in};
 use crate::audit_fault::AuditFault;
 use crate::beside::Beside;
 use crate::commands::{LaunchCommands, lay_out};
+use crate::known_pages::KnownPages;
 use crate::one_thread::{Files, Report};
 use crate::report::{push_line, push_rim};
 use itoa::Buffer;
@@ -106,7 +107,6 @@ fn list_launch(alloc: Global, launch: &Launch, files: &[Vec<u8>]) -> Result<Vec<
         files,
         placed: &placed,
         plan: &plan,
-        table: None,
     };
     let text = print(alloc, &commands)?;
     Ok(text)
@@ -147,7 +147,7 @@ fn push_commands(
         (λ m. m.bytes ≡ rim_after commands.now.launch.now (commands_in commands.now)) }
 {
     let mut monitor = commands.monitor(alloc);
-    let mut beside = Beside::NOTHING;
+    let mut beside = Beside::new(KnownPages::new(alloc, commands.files, 0));
     for index in 0..commands.len() {
         let command = commands.give(&mut monitor, &mut beside, index)?;
         push_command(alloc, text, &command)?;

@@ -6,7 +6,6 @@ ghost use Rattle.ipa_layout.specs.Files.{bytes_of_files};
 ghost use Rattle.rmi_list.specs.Listed.{listed};
 ghost use Rattle.rim_chain.specs.Reading.{IsReadOf};
 ghost use Rattle.rim_release.specs.Accepted.{accepted_of};
-ghost use Rattle.rim_release.specs.Plans.{places_of};
 ghost use Rattle.rim_release.specs.inside.Preparing.{ArePrepared, IsKept};
 
 use crate::audit_fault::AuditFault;
@@ -41,39 +40,6 @@ pub fn prepare(alloc: Global, release: &Release, files: &[Vec<u8>]) -> Result<Pr
         keep(&mut prepared, found)?;
     }
     Ok(prepared)
-}
-
-/// Where the items of each launch of a release are, or why it is refused. Nothing else is kept.
-pub(crate) fn places(
-    alloc: Global,
-    release: &Release,
-    files: &[Vec<u8>],
-) -> Result<Vec<Result<Placed, AuditFault>>, NoMemory>
-    requires { length files.now ≡ length release.now.paths }
-    ensures { IfOk result
-        (λ p. p.items ≡ places_of (bytes_of_files files.now) release.now.launches) }
-{
-    let mut places = Vec::with_capacity(alloc, release.launches())?;
-    for launch in release.all_launches() {
-        places.push(place_or_refusal(alloc, launch.launch(), files)?)?;
-    }
-    Ok(places)
-}
-
-/// The place of a launch, or its own refusal.
-fn place_or_refusal(
-    alloc: Global,
-    launch: &Launch,
-    files: &[Vec<u8>],
-) -> Result<Result<Placed, AuditFault>, NoMemory>
-    requires { has_files launch.now (length files.now) ≡ true }
-    ensures { IfOk result (λ place. place
-        ≡ accepted_of launch.now (bytes_of_files files.now)) }
-{
-    match accepted(alloc, launch, files) {
-        Ok(placed) => Ok(Ok(placed)),
-        Err(fault) => Ok(Err(fault.own_fault()?)),
-    }
 }
 
 /// The place of a launch that is accepted, or why it is refused: the first refusal of its layout, else of its list. No list is

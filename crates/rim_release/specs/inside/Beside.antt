@@ -22,6 +22,7 @@ pub record IsGroup (c : LaunchCommands) (g : Group) : Type 0 where
   pub third : g.third ≡ content_in c g.item (g.first + 2)
   pub fourth : g.fourth ≡ content_in c g.item (g.first + 3)
 
--- what is known is of the launch
-abbrev pub IsOwn : LaunchCommands → Beside → Type 0
-IsOwn c b = IfSome b.group (IsGroup c)
+-- what is known is of the launch: digests are those of its files' pages, and a group is of its own pages
+pub record IsOwn (c : LaunchCommands) (b : Beside) : Type 0 where
+  pub known : b.known ≡ bytes_of_files c.files.now
+  pub group : IfSome b.group (IsGroup c)

@@ -6,18 +6,16 @@ use Rattle.rmm_model.specs.Run.{run}
 use Rattle.rmm_model.specs.State.{State, empty_state}
 use Rattle.list_model.specs.Entries.{Entry, commands_of}
 use Rattle.ipa_layout.specs.Files.{bytes_of_files}
-use Rattle.ipa_layout.specs.Layout.{PlacedData}
+use Rattle.ipa_layout.specs.Layout.{IsPlaced, PlacedData}
 use Rattle.ipa_layout.specs.declared.placed.PlacedItem.{PlacedItem}
 use Rattle.rim_launch.specs.LaunchData.{LaunchData}
-use Rattle.rim_manifest.specs.Launches.{NamedData}
 use Rattle.rmi_list.specs.Listed.{listed}
 use Rattle.rmi_list.specs.Measured.{page_contents}
-use Rattle.rim_release.specs.Accepted.{accepted_of}
 use Rattle.rim_release.specs.inside.Commands.{commands_in, state_after}
 use Rattle.rim_release.specs.declared.commands.LaunchCommands.{LaunchCommands}
 use Rattle.rim_release.specs.declared.copies.LaunchCopies.{LaunchCopies}
 use Rattle.rim_release.specs.declared.copies.MonitorCopy.{MonitorCopy}
-use Rattle.rim_release.specs.declared.placed_launches.PlacedLaunches.{PlacedLaunches}
+use Rattle.rim_release.specs.declared.kept.Kept.{Kept}
 
 -- the state after some first commands of a launch, which has this place and this list
 abbrev pub state_of : LaunchData → List (List ℕ) → PlacedData → List Entry → ℕ → State
@@ -27,14 +25,18 @@ state_of l files p entries count = run (empty_state l.config.num_aux) (take coun
 abbrev pub IsCopyIn : LaunchCommands → MonitorCopy → Type 0
 IsCopyIn c k = k.monitor ≡ state_after c k.count
 
--- the list is that of the launch that has the number, and each copy was given some of its first commands
-abbrev pub IsKept : List (List ℕ) → List NamedData → LaunchCopies → Type 0
-IsKept files ls k = (l : NamedData) (p : PlacedData) → slice_get ls k.number ≡ Some l → accepted_of l.launch files ≡ Ok p
-    → (listed l.launch p ≡ Ok k.plan) × All (λ m. m.monitor ≡ state_of l.launch files p k.plan m.count) k.copies.items
+-- a launch has its place and its list, and each copy was given some of its first commands
+pub record IsKept (files : List (List ℕ)) (k : LaunchCopies) : Type 0 where
+  pub placed : PlacedData
+  pub is_placed : IsPlaced k.launch.now files placed
+  pub items : k.items.items ≡ placed.items
+  pub is_listed : listed k.launch.now placed ≡ Ok k.plan
+  pub copies : All (λ m. m.monitor ≡ state_of k.launch.now files placed k.plan m.count) k.copies.items
 
--- the same, of launches that have their places
-abbrev pub IsKeptOf : PlacedLaunches → LaunchCopies → Type 0
-IsKeptOf ls k = IsKept (bytes_of_files ls.files.now) ls.release.now.launches k
+-- what an audit keeps is of these files
+pub record AreKept (files : List (List ℕ)) (k : Kept) : Type 0 where
+  pub known : k.beside.known ≡ files
+  pub launches : All (IsKept files) k.launches.items
 
 -- a launch can go on from a copy
 abbrev pub Serves : LaunchCommands → MonitorCopy → Type 0

@@ -1,8 +1,12 @@
 use Rattle.std.proofs.Common.{◌∙◌, ap}
 use Rattle.page_jobs.specs.Page.{digest_of, page_view}
 use Rattle.page_jobs.specs.declared.page.Page.{Page}
-use Rattle.rim_release.proofs.DigestsInTables.{third-after}
+use Rattle.rim_release.proofs.ListedPages.{third-after}
 use Rattle.rim_release.proofs.commands.LaunchCommands.content_of.Goals as goal
+
+pub keep-requires-clause-content : goal.keep-requires-clause-content
+keep-requires-clause-content c =
+    c.job.ensures c.run.result.digest (c.run.result.own ∙ ap (λ (q : Page). digest_of (page_view q)) c.run.ensures)
 
 pub returns-then-items-item-clause-content : goal.returns-then-items-item-clause-content
 returns-then-items-item-clause-content c =

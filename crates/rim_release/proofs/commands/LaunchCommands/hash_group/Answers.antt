@@ -32,3 +32,9 @@ returns-clause-group c = record {
   third = c.job-3.ensures c.run_four.result.2.digest (c.run_four.result.2.own ∙ ap (λ (q : Page). digest_of (page_view q)) c.run_four.ensures.third);
   fourth = c.job-4.ensures c.run_four.result.3.digest (c.run_four.result.3.own ∙ ap (λ (q : Page). digest_of (page_view q)) c.run_four.ensures.fourth);
 }
+
+pub returns-clause-low : goal.returns-clause-low
+returns-clause-low c =
+    let low : c.args.page + 3 < 4503599627370496
+    = page-low c.args.self.now.launch.now (bytes_of_files c.args.self.now.files.now) c.args.self.now.placed.now c.args.item (c.args.page + 3) c.args.self.now.is_placed c.requires in
+    omega (arith, low)
