@@ -1,0 +1,147 @@
+#!/usr/bin/env python3
+"""Compares the audit of a release with audits and listings of its launches, each by itself.
+
+    tests/apart.py [PROGRAM]        by default the program that `rt ci` has built
+
+An audit of many launches hashes what they share once, and gives it to a monitor once. Here each launch is measured again in a run
+of its own, which hashes each page for its command:
+
+- of each release of tests/cases and tests/rows, by `rim list`, whose last line has the measurement;
+- of releases that are made at random from the numbers of SEEDS, by `rim audit` of a manifest that has the one launch alone.
+
+The last line is 'N passed, M failed' over the releases.
+"""
+import concurrent.futures
+import os
+import random
+import shutil
+import subprocess
+import sys
+import tempfile
+
+import run
+
+SEEDS = range(1, 25)
+PAGE = 4096
+RAM = 0x4000_0000
+# A file of so many pages that launches over it go on from copies of a monitor.
+LARGE = 600 * PAGE
+
+
+def output(program, folder, *words):
+    """What a run prints, as lines."""
+    ran = subprocess.run([program, *words], cwd=folder, stdin=subprocess.DEVNULL, capture_output=True, timeout=run.SECONDS, check=False)
+    return ran.stdout.decode(errors="replace").splitlines()
+
+
+# ---- releases of the tests
+
+
+def releases():
+    """The files of each release of the tests that is measured or audited: those that make up one release come once."""
+    found = {}
+    for each in run.all_runs():
+        if each["words"][:1] in (["measure"], ["audit"]) and each.get("status", 0) in (0, 1) and "manifest.toml" in each["files"]:
+            found.setdefault(repr(sorted(each["files"].items())), each)
+    return list(found.values())
+
+
+def by_listings(program, each):
+    """How the audit of a release of the tests differs from the listings of its launches, as lines."""
+    files = {path: run.contents(said) for path, said in each["files"].items()}
+    wrong = []
+    with tempfile.TemporaryDirectory() as folder:
+        run.write(folder, files)
+        for line in output(program, folder, "audit", "manifest.toml")[1:]:
+            name, *said = line.split(" ")
+            listed = output(program, folder, "list", "manifest.toml", name)[-1:]
+            if said[0] == "refused":
+                is_same = listed == [line]
+            else:
+                is_same = listed == [" ".join(["rim", *said])]
+            if not is_same:
+                wrong.append(f"the audit has {line!r}, and the listing ends with {listed}")
+    return each["name"], wrong
+
+
+# ---- releases at random
+
+
+def item(dice, name, file, size, at):
+    """A raw item, whose bytes may begin inside a page and be followed by zeros."""
+    lead = dice.choice([0, 0, 0, 8, dice.randrange(PAGE)])
+    keys = [f'name = "{name}"', 'kind = "raw"', f'file = "{file}"', f"at = {at + lead}"]
+    if dice.random() < 0.3:
+        keys.append(f"size = {size + dice.randrange(5 * PAGE)}")
+    if dice.random() < 0.15:
+        keys.append("measured = false")
+    return "{ " + ", ".join(keys) + " }"
+
+
+def launch(dice, number, sizes):
+    """The table of a launch. Few things differ from launch to launch, so that many begin alike."""
+    items = [item(dice, "large", "large", sizes["large"], RAM)]
+    if dice.random() < 0.7:
+        items.append(item(dice, "small", dice.choice(["small", "other"]), sizes["small"], RAM + 0x40_0000))
+    if dice.random() < 0.5:
+        tree = f'name = "tree", kind = "dtb", file = "tree", at = {RAM + 0x50_0000}, bootargs = "{dice.choice(["a", "b"])}"'
+        items.append("{ " + tree + " }")
+    recs = ["{ pc = 0x40000000 }"] * dice.randrange(3)
+    return f"""
+[[launch]]
+name = "launch-{number}"
+algo = "{dice.choice(["sha256", "sha256", "sha512"])}"
+s2sz = 40
+num_aux = {dice.choice([0, 0, 0, 2])}
+block_level = {dice.choice([2, 2, 2, 3])}
+ram = [[{RAM}, {RAM + dice.choice([0x60_0000, 0x80_0000, 0x50_0000])}]]
+item = [
+  {f",{chr(10)}  ".join(items)},
+]
+rec = [{", ".join(recs)}]
+"""
+
+
+def by_itself(program, seed):
+    """How the audit of a release that follows from a number differs from those of its launches, as lines."""
+    dice = random.Random(seed)
+    files = {"large": dice.randbytes(LARGE), "small": dice.randbytes(9_000), "other": dice.randbytes(9_000)}
+    head = 'rim_manifest = 1\nfile = [{ name = "tree", path = "tree" }, ' + ", ".join(f'{{ name = "{name}", path = "{name}" }}' for name in files) + "]\n"
+    sizes = {name: len(data) for name, data in files.items()}
+    launches = [launch(dice, number, sizes) for number in range(24)]
+    with tempfile.TemporaryDirectory() as folder:
+        run.write(folder, files | {"all.toml": (head + "".join(launches)).encode()})
+        shutil.copy(os.path.join(run.TOP, "bench", "virt.dtb"), os.path.join(folder, "tree"))
+        together = output(program, folder, "audit", "all.toml")[1:]
+        alone = []
+        for text in launches:
+            run_alone = os.path.join(folder, "alone.toml")
+            with open(run_alone, "w", encoding="ascii") as file:
+                file.write(head + text)
+            alone += output(program, folder, "audit", "alone.toml")[1:]
+    wrong = [f"together {a!r}, and alone {b!r}" for a, b in zip(together, alone) if a != b]
+    if len(together) != len(launches) or len(alone) != len(launches):
+        wrong.append(f"{len(launches)} launches have {len(together)} lines together, and {len(alone)} alone")
+    if not any(" refused " not in line for line in together):
+        wrong.append("no launch is accepted")
+    return f"the release of {seed}", wrong
+
+
+def main():
+    program = os.path.abspath(sys.argv[1] if len(sys.argv) > 1 else os.path.join(run.TOP, "crates", "rim", "out", "rim"))
+    if not os.path.exists(program):
+        raise SystemExit(f"{program} is not built")
+    with concurrent.futures.ProcessPoolExecutor(len(os.sched_getaffinity(0))) as pool:
+        waiting = [pool.submit(by_listings, program, each) for each in releases()]
+        waiting += [pool.submit(by_itself, program, seed) for seed in SEEDS]
+        outcomes = [each.result() for each in waiting]
+    for name, wrong in outcomes:
+        if wrong:
+            print(f"WRONG: {name}", *wrong, sep="\n  ")
+    failed = sum(bool(wrong) for _, wrong in outcomes)
+    print(f"{len(outcomes) - failed} passed, {failed} failed")
+    sys.exit(1 if failed or not outcomes else 0)
+
+
+if __name__ == "__main__":
+    main()
