@@ -233,9 +233,9 @@ impl<'a, L: Run> BoardState<'a, L> {
         }
     }
 
-    /// The same for a worker that may come again when a job is put or a worker retires. `Later` is also answered where each
-    /// free launch that is ready should wait for an earlier one that begins alike and is not done. Another worker holds a job
-    /// then: that launch, a page of it, or a launch that it waits for in its turn.
+    /// The same for a worker that may come again when a job is put or a worker retires. `Later` may also be answered where free
+    /// launches are ready. It says that this worker holds no job, that another one holds some job, and that nothing is changed.
+    /// Which launches are left for later is not promised; they should wait for an earlier one that begins alike and is not done.
     pub fn take_or_wait(&mut self, worker: usize) -> Work<'a, L>
         ensures board { IsBoard self.old × IsOfRun L.pages L.plans self.old }
         ensures gives { result ≢ Work.Later → Gives self.old worker result self.new }

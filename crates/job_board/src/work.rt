@@ -9,7 +9,8 @@ pub enum Work<'a, L: Run> {
     Page(PageTask<'a, L>),
     /// A launch to chain.
     Launch(LaunchTask<'a, L>),
-    /// Nothing that is free is ready, and something is not done; or what is ready should wait, where the call says so.
+    /// Something is not done, and nothing that is free is ready. Of `BoardState::take_or_wait`: another worker holds a job; a
+    /// launch that is free and ready may be left for later.
     Later,
     /// The worker holds a job.
     Busy,
