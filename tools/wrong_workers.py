@@ -69,6 +69,12 @@ BODIES = [
         "job_workers_tests",
     ),
     (
+        "a worker that may leave launches for later ends where nothing is ready",
+        "job_workers/src/worker.rt",
+        [("            board.take_or_wait(rt, worker)\n", "            board.lock(rt).take_or_wait(worker)\n")],
+        "job_workers_tests",
+    ),
+    (
         "a page's put wakes nobody",
         "job_workers/src/board.rt",
         [("put_page(worker, page, share);\n        if answer.is_ok() {\n", "put_page(worker, page, share);\n        if false {\n")],

@@ -4,11 +4,16 @@ use job_board::JobId;
 use job_board_tests::has_all_keys;
 use job_workers::Gate;
 use page_jobs::Table;
+use refusal::NoMemory;
+use std::alloc::Global;
 use std::marker::Brand;
+use std::process::Abort;
+use std::sync::Wait;
 use std::sync::atomic::{AtomicU64, Ordering};
 use std::sync::ledger::Blank;
 use std::test::Fail;
 use std::thread;
+use std::thread::Threads;
 
 /// Two pages.
 const BYTES: [u8; 8192] = [7; 8192];
@@ -20,8 +25,11 @@ const TURNS: u64 = 10_000_000;
 /// first was put, and for some turns more, in which the worker that put it finds nothing ready; the first launch until the
 /// second is begun; and worker 0's launch until the other was put, and for some turns more, in which worker 1 finds nothing
 /// ready. It counts what it waited for in vain.
+///
+/// The launches are too short to wait for another, also where the gate lets launches wait. So both are begun at a time.
 #[derive(Drop)]
 struct Late {
+    lets_wait: bool,
     pages: AtomicU64,
     pages_put: AtomicU64,
     launches: AtomicU64,
@@ -30,8 +38,9 @@ struct Late {
 }
 
 impl Late {
-    fn new() -> Late {
+    fn new(lets_wait: bool) -> Late {
         Late {
+            lets_wait,
             pages: AtomicU64::new(0),
             pages_put: AtomicU64::new(0),
             launches: AtomicU64::new(0),
@@ -88,22 +97,37 @@ impl Gate for Late {
         };
         count.fetch_add(1, Ordering::SeqCst);
     }
+
+    fn lets_launches_wait(&self) -> bool {
+        self.lets_wait
+    }
+}
+
+/// A run by the gate, which waits for nothing in vain.
+fn share<R: Threads + Wait + Abort + Sync>(
+    rt: &R,
+    alloc: Global,
+    lets_wait: bool,
+) -> Result<(), NoMemory> {
+    let pages = pages_of(alloc, &BYTES, 2)?;
+    let table = Table::reserve(alloc, &pages)?;
+    let plans = plans_of(rt, alloc, 2, 2);
+    let plans = plans.as_slice();
+    if !has_all_keys(&table, plans) {
+        panic!(rt; "the launches' pages exist");
+    }
+    let mut gate = Late::new(lets_wait);
+    run_two::<Brand, Late, R>(rt, alloc, Blank::new(2), table, plans, &mut gate)?;
+    check(rt, gate.in_vain.load(Ordering::SeqCst) == 0, "in vain");
+    Ok(())
 }
 
 /// A worker that finds nothing ready sleeps until the last page is put. Then it shares the launches with the worker that
 /// held that page. Worker 1 then sleeps until the last launch is put.
 #[test]
 fn launches_are_shared_where_a_page_is_late(rt: HostRuntime) -> Result<(), Fail> {
-    let alloc = rt.alloc();
-    let pages = pages_of(alloc, &BYTES, 2)?;
-    let table = Table::reserve(alloc, &pages)?;
-    let plans = plans_of(&rt, alloc, 2, 2);
-    let plans = plans.as_slice();
-    if !has_all_keys(&table, plans) {
-        panic!(rt; "the launches' pages exist");
+    for lets_wait in [false, true] {
+        share(&rt, rt.alloc(), lets_wait)?;
     }
-    let mut gate = Late::new();
-    run_two::<Brand, Late, HostRuntime>(&rt, alloc, Blank::new(2), table, plans, &mut gate)?;
-    check(&rt, gate.in_vain.load(Ordering::SeqCst) == 0, "in vain");
     Ok(())
 }

@@ -15,10 +15,12 @@ use rim_desc::{Algo, Measurement, Source};
 use std::alloc::Global;
 use std::marker::Brand;
 use std::process::Abort;
+use std::sync::Wait;
 use std::sync::atomic::{AtomicU64, Ordering};
 use std::sync::ledger::Blank;
 use std::test::Fail;
 use std::thread;
+use std::thread::Threads;
 
 /// The page of file 0.
 const SEVENS: [u8; 4096] = [7; 4096];
@@ -33,9 +35,11 @@ const VALUES: [u64; 2] = [0x57a1_3a8f_129f_ba3d, 0xe00b_3704_aced_9207];
 /// How often page 1 looks whether it may go on.
 const TURNS: u64 = 10_000_000;
 
-/// Holds page 1 until launch 0 was put, for a number of turns. It counts what it waited for in vain.
+/// Holds page 1 until launch 0 was put, for a number of turns. It counts what it waited for in vain. Launch 0 waits for no
+/// other, also where the gate lets launches wait.
 #[derive(Drop)]
 struct Held {
+    lets_wait: bool,
     put: AtomicU64,
     in_vain: AtomicU64,
 }
@@ -58,6 +62,10 @@ impl Gate for Held {
         if matches!(job, JobId::Launch(0)) {
             self.put.fetch_add(1, Ordering::SeqCst);
         }
+    }
+
+    fn lets_launches_wait(&self) -> bool {
+        self.lets_wait
     }
 }
 
@@ -84,30 +92,35 @@ fn check_values(rt: &impl Abort, values: &[Measurement]) {
     }
 }
 
-/// A launch is done where its own page is, though another page is held.
-#[test]
-fn a_launch_needs_its_own_pages_alone(rt: HostRuntime) -> Result<(), Fail> {
-    let alloc = rt.alloc();
+/// A run by the gate, which waits for nothing in vain. The launches' values are the known ones.
+fn run_held<R: Threads + Wait + Abort + Sync>(
+    rt: &R,
+    alloc: Global,
+    lets_wait: bool,
+) -> Result<(), NoMemory> {
     let pages = pages_of_files(alloc)?;
     let table = Table::reserve(alloc, &pages)?;
-    let plans = [plan_of(&rt, alloc, 0, 1), plan_of(&rt, alloc, 1, 1)];
+    let plans = [plan_of(rt, alloc, 0, 1), plan_of(rt, alloc, 1, 1)];
     let plans = plans.as_slice();
     if !has_all_keys(&table, plans) {
         panic!(rt; "the launches' pages exist");
     }
     let mut gate = Held {
+        lets_wait,
         put: AtomicU64::new(0),
         in_vain: AtomicU64::new(0),
     };
-    let values = run_two::<Brand, Held, HostRuntime>(
-        &rt,
-        alloc,
-        Blank::new(2),
-        table,
-        plans,
-        &mut gate,
-    )?;
-    check_values(&rt, values.as_slice());
-    check(&rt, gate.in_vain.load(Ordering::SeqCst) == 0, "in vain");
+    let values = run_two::<Brand, Held, R>(rt, alloc, Blank::new(2), table, plans, &mut gate)?;
+    check_values(rt, values.as_slice());
+    check(rt, gate.in_vain.load(Ordering::SeqCst) == 0, "in vain");
+    Ok(())
+}
+
+/// A launch is done where its own page is, though another page is held.
+#[test]
+fn a_launch_needs_its_own_pages_alone(rt: HostRuntime) -> Result<(), Fail> {
+    for lets_wait in [false, true] {
+        run_held(&rt, rt.alloc(), lets_wait)?;
+    }
     Ok(())
 }

@@ -25,7 +25,7 @@ use std::thread::Threads;
 const BYTES: [u8; 25_000] = [7; 25_000];
 
 /// Holds the first page until another was put, for a number of turns; and counts the pages that worker 0 and the others
-/// put.
+/// put. There are no launches, but a worker takes by another call where launches may wait.
 #[derive(Drop)]
 struct Hold {
     begun: AtomicU64,
@@ -33,6 +33,7 @@ struct Hold {
     others: AtomicU64,
     in_vain: AtomicU64,
     turns: u64,
+    lets_wait: bool,
 }
 
 impl Gate for Hold {
@@ -57,15 +58,20 @@ impl Gate for Hold {
         };
         count.fetch_add(1, Ordering::SeqCst);
     }
+
+    fn lets_launches_wait(&self) -> bool {
+        self.lets_wait
+    }
 }
 
-fn holding(turns: u64) -> Hold {
+fn holding(turns: u64, lets_wait: bool) -> Hold {
     Hold {
         begun: AtomicU64::new(0),
         first: AtomicU64::new(0),
         others: AtomicU64::new(0),
         in_vain: AtomicU64::new(0),
         turns,
+        lets_wait,
     }
 }
 
@@ -109,38 +115,58 @@ fn run<L: Run + Send + Sync, R: Threads + Wait + Abort + Sync>(
     Ok(())
 }
 
+/// Runs two workers over seven pages, of whom this many are started.
+fn run_over_seven<R: Threads + Wait + Abort + Sync>(
+    rt: &R,
+    alloc: Global,
+    gate: &mut Hold,
+    stack_size: usize,
+    started: usize,
+) -> Result<(), NoMemory> {
+    let pages = pages_of(alloc, &BYTES, 7)?;
+    let table = Table::reserve(alloc, &pages)?;
+    run::<Brand, R>(rt, alloc, Blank::new(2), table, gate, stack_size, started)
+}
+
 /// Both put pages, and none waited in vain.
-fn check_both(rt: &impl Abort, gate: &Hold) {
+fn check_both<R: Threads + Wait + Abort + Sync>(
+    rt: &R,
+    alloc: Global,
+    lets_wait: bool,
+) -> Result<(), NoMemory> {
+    let mut gate = holding(100_000_000, lets_wait);
+    run_over_seven(rt, alloc, &mut gate, STACK, 2)?;
     check(rt, gate.first.load(Ordering::SeqCst) > 0, "worker 0");
     check(rt, gate.others.load(Ordering::SeqCst) > 0, "the other");
     check(rt, gate.in_vain.load(Ordering::SeqCst) == 0, "none in vain");
+    Ok(())
 }
 
 #[test]
 fn two_workers_at_a_time(rt: HostRuntime) -> Result<(), Fail> {
-    let pages = pages_of(rt.alloc(), &BYTES, 7)?;
-    let table = Table::reserve(rt.alloc(), &pages)?;
-    let mut gate = holding(100_000_000);
-    run::<Brand, HostRuntime>(&rt, rt.alloc(), Blank::new(2), table, &mut gate, STACK, 2)?;
-    check_both(&rt, &gate);
+    for lets_wait in [false, true] {
+        check_both(&rt, rt.alloc(), lets_wait)?;
+    }
+    Ok(())
+}
+
+/// Worker 0 puts all pages where no other can be started.
+fn check_alone<R: Threads + Wait + Abort + Sync>(
+    rt: &R,
+    alloc: Global,
+    lets_wait: bool,
+) -> Result<(), NoMemory> {
+    let mut gate = holding(0, lets_wait);
+    run_over_seven(rt, alloc, &mut gate, usize::MAX, 1)?;
+    check(rt, gate.first.load(Ordering::SeqCst) == 7, "worker 0");
     Ok(())
 }
 
 #[test]
 fn no_worker_can_be_started(rt: HostRuntime) -> Result<(), Fail> {
-    let pages = pages_of(rt.alloc(), &BYTES, 7)?;
-    let table = Table::reserve(rt.alloc(), &pages)?;
-    let mut gate = holding(0);
-    run::<Brand, HostRuntime>(
-        &rt,
-        rt.alloc(),
-        Blank::new(2),
-        table,
-        &mut gate,
-        usize::MAX,
-        1,
-    )?;
-    check(&rt, gate.first.load(Ordering::SeqCst) == 7, "worker 0");
+    for lets_wait in [false, true] {
+        check_alone(&rt, rt.alloc(), lets_wait)?;
+    }
     Ok(())
 }
 

@@ -1,5 +1,5 @@
 use Rattle.std.proofs.Common.{[]}
-use Rattle.job_workers_tests.proofs.tests.runs.two_workers_at_a_time.Given as goal
+use Rattle.job_workers_tests.proofs.tests.runs.run_over_seven.Given as goal
 
 abbrev pub ghosts-run-L-Run : goal.ghosts-run-L-Run
 ghosts-run-L-Run g a = record { pages = a.table.pages; plans = [] }

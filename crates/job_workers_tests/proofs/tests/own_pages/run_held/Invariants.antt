@@ -1,4 +1,4 @@
-use Rattle.job_workers_tests.proofs.tests.own_pages.a_launch_needs_its_own_pages_alone.Given as goal
+use Rattle.job_workers_tests.proofs.tests.own_pages.run_held.Given as goal
 
 abbrev pub ghosts-run_two-L-Run : goal.ghosts-run_two-L-Run
 ghosts-run_two-L-Run g a = record { pages = a.table.pages; plans = a.plans.now }

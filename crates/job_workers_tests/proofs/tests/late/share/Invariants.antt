@@ -1,4 +1,4 @@
-use Rattle.job_workers_tests.proofs.tests.late.launches_are_shared_where_a_page_is_late.Given as goal
+use Rattle.job_workers_tests.proofs.tests.late.share.Given as goal
 
 abbrev pub ghosts-run_two-L-Run : goal.ghosts-run_two-L-Run
 ghosts-run_two-L-Run g a = record { pages = a.table.pages; plans = a.plans.now }
