@@ -95,7 +95,8 @@ fn one_of(job: JobId) -> u64 {
 }
 
 /// Holds the first page until two others were put, for a number of turns. It counts the calls before and after each
-/// job, the pages that were begun, and the calls after pages for worker 0 and for the others.
+/// job, the pages that were begun, and the calls after pages for worker 0 and for the others. Pages are given whether or not
+/// launches may wait.
 #[derive(Drop)]
 struct Hold {
     begun: AtomicU64,
@@ -104,13 +105,14 @@ struct Hold {
     first: AtomicU64,
     others: AtomicU64,
     in_vain: AtomicU64,
+    lets_wait: bool,
 }
 
 /// How often it looks for the pages that were put.
 const TURNS: u64 = 100_000_000;
 
 impl Hold {
-    fn new() -> Hold {
+    fn new(lets_wait: bool) -> Hold {
         Hold {
             begun: AtomicU64::new(0),
             pages_begun: AtomicU64::new(0),
@@ -118,6 +120,7 @@ impl Hold {
             first: AtomicU64::new(0),
             others: AtomicU64::new(0),
             in_vain: AtomicU64::new(0),
+            lets_wait,
         }
     }
 
@@ -170,6 +173,10 @@ impl Gate for Hold {
         };
         count.fetch_add(1, Ordering::SeqCst);
     }
+
+    fn lets_launches_wait(&self) -> bool {
+        self.lets_wait
+    }
 }
 
 /// The run of this many workers on a manifest, all of whose files are the same.
@@ -199,6 +206,14 @@ fn audited(alloc: Global, manifest: &[u8]) -> Result<Vec<u8>, Fail> {
     Ok(audit_report(alloc, &release, &files)?)
 }
 
+/// Whether the gate lets launches wait, the manifest, a count of 1 of each job, and whether a launch is refused.
+const RUNS: [(bool, &str, u64, bool); 4] = [
+    (false, BOTH, SIX_ONCE, false),
+    (false, LAUNCHES, SEVEN_ONCE, true),
+    (true, BOTH, SIX_ONCE, false),
+    (true, LAUNCHES, SEVEN_ONCE, true),
+];
+
 /// A run of two workers has done each job once, and each worker's number of pages is its own. Its report is that of one
 /// thread.
 fn check_two(
@@ -206,8 +221,9 @@ fn check_two(
     manifest: &[u8],
     once: u64,
     has_refused: bool,
+    lets_wait: bool,
 ) -> Result<(), Fail> {
-    let mut gate = Hold::new();
+    let mut gate = Hold::new(lets_wait);
     let outcome = measured(rt, &mut gate, manifest, 2)?;
     let found = (outcome.started, outcome.pages, outcome.has_refused);
     assert_eq!(rt; found, (2, 4, has_refused));
@@ -222,8 +238,10 @@ fn check_two(
 
 #[test]
 fn two_workers_at_a_time(rt: HostRuntime) -> Result<(), Fail> {
-    check_two(&rt, BOTH.as_bytes(), SIX_ONCE, false)?;
-    check_two(&rt, LAUNCHES.as_bytes(), SEVEN_ONCE, true)
+    for (lets_wait, manifest, once, has_refused) in RUNS {
+        check_two(&rt, manifest.as_bytes(), once, has_refused, lets_wait)?;
+    }
+    Ok(())
 }
 
 /// The launches and their file.
@@ -242,19 +260,24 @@ impl Opener for Given {
     }
 }
 
-/// The words of a command line say how many workers there are, and all of them call the program's gate.
-#[test]
-fn workers_of_a_command_line(rt: HostRuntime) {
+/// Two workers of a command line have called the gate around each job, and both have put pages.
+fn check_words(rt: &(impl Abort + AllocGlobal + Threads + Wait + Sync), lets_wait: bool) {
     let alloc = rt.alloc();
-    let mut gate = Hold::new();
+    let mut gate = Hold::new(lets_wait);
     let words = ["rim", "measure", "--workers", "2", "manifest.toml"];
     let mut out = Vec::new(alloc);
     let mut err = Vec::new(alloc);
-    let status = run(
-        &rt, alloc, &mut gate, &words, &mut Given, &mut out, &mut err,
-    );
+    let status = run(rt, alloc, &mut gate, &words, &mut Given, &mut out, &mut err);
     assert_eq!(rt; (status, gate.calls()), (1, (SEVEN_ONCE, SEVEN_ONCE, 0)));
     assert!(rt; gate.pages().1 > 0);
+}
+
+/// The words of a command line say how many workers there are, and all of them call the program's gate.
+#[test]
+fn workers_of_a_command_line(rt: HostRuntime) {
+    for lets_wait in [false, true] {
+        check_words(&rt, lets_wait);
+    }
 }
 
 /// A worker is counted where it was started, though there is no page for it.
@@ -357,6 +380,7 @@ fn no_worker_and_too_many(rt: HostRuntime) -> Result<(), Fail> {
 struct Delay {
     calls: AtomicU64,
     late: u64,
+    lets_wait: bool,
 }
 
 impl Delay {
@@ -382,16 +406,24 @@ impl Gate for Delay {
     fn after(&self, _worker: usize, _job: JobId) {
         self.call();
     }
+
+    fn lets_launches_wait(&self) -> bool {
+        self.lets_wait
+    }
 }
 
 /// The report of two workers is this one, where the call of this number is late.
 fn check_late(
     rt: &(impl Abort + AllocGlobal + Threads + Wait + Sync),
     late: u64,
+    lets_wait: bool,
     report: &[u8],
 ) -> Result<(), Fail> {
-    let calls = AtomicU64::new(0);
-    let mut gate = Delay { calls, late };
+    let mut gate = Delay {
+        calls: AtomicU64::new(0),
+        late,
+        lets_wait,
+    };
     let outcome = measured(rt, &mut gate, LAUNCHES.as_bytes(), 2)?;
     assert_eq!(rt; outcome.report.as_slice(), report, "{late}");
     assert_eq!(rt; gate.calls.load(Ordering::SeqCst), 2 * JOBS);
@@ -401,8 +433,8 @@ fn check_late(
 #[test]
 fn each_call_late_in_turn(rt: HostRuntime) -> Result<(), Fail> {
     let report = alone(rt.alloc(), LAUNCHES.as_bytes())?;
-    for late in 0..2 * JOBS {
-        check_late(&rt, late, report.as_slice())?;
+    for case in 0..4 * JOBS {
+        check_late(&rt, case / 2, case % 2 == 1, report.as_slice())?;
     }
     Ok(())
 }
