@@ -11,6 +11,7 @@ ghost use Rattle.rim_cli.specs.Files.{AreRead, IfFile};
 use crate::checking::check;
 use crate::fault::Fault;
 use crate::file::{Opener, read_file, read_files};
+use crate::freed::keep_freed_memory;
 use crate::words::{Format, Request};
 use rim_release::{
     Files, Gate, Outcome, Release, Report, StartFault, audit_launches, json_report,
@@ -196,6 +197,7 @@ fn audit<O: Opener>(alloc: Global, opener: &mut O, path: &str) -> Result<Answer,
 {
     let release = read_release(alloc, opener, path)?;
     let files = read_files(alloc, opener, &release)?;
+    keep_freed_memory(alloc);
     let report = audit_launches(alloc, &release, &files).map_err(|_| Fault::NoMemory)?;
     Ok(answer_of(report))
 }

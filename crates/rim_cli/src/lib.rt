@@ -6,6 +6,7 @@ mod checking;
 mod definition;
 mod fault;
 mod file;
+mod freed;
 mod in_memory;
 mod laws;
 mod patient;
