@@ -24,7 +24,7 @@ import run
 SEEDS = range(1, 25)
 PAGE = 4096
 RAM = 0x4000_0000
-# A file of so many pages that launches over it go on from copies of a monitor.
+# A file with enough pages for a copy of a monitor after it, from which later launches go on.
 LARGE = 600 * PAGE
 
 
