@@ -1,10 +1,11 @@
 -- From a page that a region holds, all pages below the region's end are held.
-use Rattle.std.proofs.Common.{◌≡◌, ℕ, ◌+◌, ◌-◌, ◌*◌, ◌/◌, ◌<◌, ◌≤◌, min, true, false, List, Some, None, arith, sym}
-use Rattle.std.specs.List.{find, list_all, range_with_len}
+use Rattle.std.proofs.Common.{◌≡◌, ℕ, ◌+◌, ◌-◌, ◌*◌, ◌/◌, ◌<◌, ◌≤◌, min, Bool, true, List, Some, None, ap, arith, sym}
+use Rattle.std.specs.Prelude.{not}
+use Rattle.std.specs.List.{find, range_with_len}
 use Rattle.std.proofs.lemmas.Grind.{common_steps}
 use Rattle.rim_launch.specs.declared.item.Region.{Region}
-use Rattle.ipa_layout.specs.Memory.{all_held, holds, is_held}
-use Rattle.ipa_layout.proofs.TestsOfNumbers.{all-end, all-jump, all-stop}
+use Rattle.ipa_layout.specs.Memory.{first_unheld, holds, is_held}
+use Rattle.ipa_layout.proofs.TestsOfNumbers.{find-end, find-jump, find-stop}
 use Rattle.ipa_layout.proofs.FoundInLists.{found-any, found-none, found-passes}
 
 -- what a region that holds a page says of its numbers
@@ -27,21 +28,24 @@ held-below ram page r e k low high =
     found-any (holds page) (holds k) ram r e (says-holds k r base top)
 
 -- so the search may go on after it
-pub held-jump : (ram : List Region) (page end next : ℕ) (r : Region) → find (holds page) ram ≡ Some r → page < end → next ≡ min end (r.end / 4096) → all_held ram next (end - next) ≡ all_held ram page (end - page)
-unfolding all_held
+pub held-jump : (ram : List Region) (page end next : ℕ) (r : Region) → find (holds page) ram ≡ Some r → page < end → next ≡ min end (r.end / 4096)
+    → first_unheld ram next (end - next) ≡ first_unheld ram page (end - page)
+unfolding first_unheld
 held-jump ram page end next r e below is =
+    let unheld : ℕ → Bool = λ k. not (is_held ram k) in
     let behind : page + 1 ≤ r.end / 4096 = holder-behind ram page r e in
     let parts : end - page ≡ (next - page) + (end - next) = omega arith in
     let there : page + (next - page) ≡ next = omega arith in
-    let jump : list_all (is_held ram) (range_with_len page ((next - page) + (end - next))) ≡ list_all (is_held ram) (range_with_len (page + (next - page)) (end - next)) =
-    all-jump (is_held ram) page (next - page) (end - next) (λ k low high. held-below ram page r e k low (omega arith)) in
+    let jump : find unheld (range_with_len page ((next - page) + (end - next))) ≡ find unheld (range_with_len (page + (next - page)) (end - next)) =
+    find-jump unheld page (next - page) (end - next) (λ k low high. ap not (held-below ram page r e k low (omega arith))) in
     rw parts (rw there at (sym jump))
 
 -- a page that none holds
-pub held-stop : (ram : List Region) (page end : ℕ) → find (holds page) ram ≡ None → page < end → all_held ram page (end - page) ≡ false
-unfolding all_held
-held-stop ram page end e below = all-stop (is_held ram) page (end - page) (end - page - 1) (omega arith) (found-none (holds page) ram e)
+pub held-stop : (ram : List Region) (page end : ℕ) → find (holds page) ram ≡ None → page < end → first_unheld ram page (end - page) ≡ Some page
+unfolding first_unheld
+held-stop ram page end e below =
+    find-stop (λ k. not (is_held ram k)) page (end - page) (end - page - 1) (omega arith) (ap not (found-none (holds page) ram e))
 
-pub held-end : (ram : List Region) (page end : ℕ) → end ≤ page → all_held ram page (end - page) ≡ true
-unfolding all_held
-held-end ram page end h = all-end (is_held ram) page (end - page) (omega arith)
+pub held-end : (ram : List Region) (page end : ℕ) → end ≤ page → first_unheld ram page (end - page) ≡ None
+unfolding first_unheld
+held-end ram page end h = find-end (λ k. not (is_held ram k)) page (end - page) (omega arith)

@@ -1,7 +1,9 @@
 -- Extents that do not meet share no page, and each item that is placed has its own extent.
 use Rattle.std.proofs.Common.{◌≡◌, ℕ, zero, suc, ◌+◌, ◌-◌, ◌*◌, ◌^◌, ◌<◌, ◌≤◌, max, Bool, true, false, cond, eqb, List, [], ◌∷◌, length, Option, Some, Result, Ok, Err, refl, sym, ap, subst, ◌∙◌, arith}
-use Rattle.std.specs.Prelude.{◌==◌, ◌&&◌, not, sum_by}
+use Rattle.std.specs.Prelude.{◌==◌, ◌&&◌, not, None, option_map, sum_by}
 use Rattle.std.specs.List.{list_any, slice_get}
+use Rattle.std.specs.Option.{option_or}
+use Rattle.std.specs.Result.{result_map_both}
 use Rattle.std.proofs.lemmas.Bool.{eqb-false, leb-false, lt-ltb, ltb-false, ne_eqb, or_parts}
 use Rattle.std.proofs.lemmas.List.Sums.{sum_by-cons}
 use Rattle.refusal.specs.Answer.{◌>>=◌}
@@ -15,13 +17,15 @@ use Rattle.rim_launch.specs.declared.item.Region.{Region}
 use Rattle.ipa_layout.specs.declared.extent.WantedExtent.{WantedExtent}
 use Rattle.ipa_layout.specs.declared.extent.Extent.{Extent}
 use Rattle.ipa_layout.specs.declared.placed.PlacedItem.{PlacedItem}
-use Rattle.ipa_layout.specs.declared.fault.LayoutFault.{LayoutFault}
+use Rattle.ipa_layout.specs.declared.reason.ItemExtent.{ItemExtent}
+use Rattle.ipa_layout.specs.declared.reason.ItemReason.{ItemReason}
+use Rattle.ipa_layout.specs.declared.reason.LayoutReason.TheVariants as reason
 use Rattle.rim_launch.specs.declared.item.Role.TheVariants as role
 use Rattle.rim_launch.specs.Kinds.{has_role}
 use Rattle.ipa_layout.specs.Extent.{end_page, first_page, kernel_at, page_count_of, size_of, wanted_of}
-use Rattle.ipa_layout.specs.ItemCheck.{checked_if, checked_item, checked_wanted, checks_of, is_outside, is_too_small}
-use Rattle.ipa_layout.specs.Overlap.{any_overlap, overlaps}
-use Rattle.ipa_layout.specs.Layout.{bytes_of, extents_of, item_at, items_at}
+use Rattle.ipa_layout.specs.ItemCheck.{checked_if, checked_item, checked_wanted, checks_of, pages_with}
+use Rattle.ipa_layout.specs.Overlap.{first_met, first_overlap, overlaps}
+use Rattle.ipa_layout.specs.Layout.{bytes_of, extent_after, extents_of, item_at, items_at, of_item}
 
 -- ---- one item
 
@@ -35,7 +39,7 @@ wanted-fits : (i : Item) (bytes : List ℕ) (a : WantedExtent) → wanted_of i b
 unfolding wanted_of
 wanted-fits i bytes a e = go (has_role role.Kernel i) (read_of bytes) e
   where
-    go : (b : Bool) (r : Result Header ImageFault) → (let q : Result WantedExtent LayoutFault = cond b (kernel_at i (length bytes) r) (Ok (record { address = i.at; size = size_of i (length bytes); len = size_of i (length bytes) })) in q) ≡ Ok a → a.size ≤ a.len
+    go : (b : Bool) (r : Result Header ImageFault) → (let q : Result WantedExtent ItemReason = cond b (kernel_at i (length bytes) r) (Ok (record { address = i.at; size = size_of i (length bytes); len = size_of i (length bytes) })) in q) ≡ Ok a → a.size ≤ a.len
     go true (Err f) q = absurd cc
     go true (Ok h) q =
         let n = size_of i (length bytes) in
@@ -66,10 +70,8 @@ unfolding checked_wanted
 checked_wanted-sound ram pages i count a s fits e =
     let stood : Extent = record { address = a.address; size = a.size; len = a.len } in
     let none = none-refuse (checks_of ram pages i count a) stood s e in
-    let small : is_too_small pages a count ≡ false = none.0.1.1.1.0 in
-    let inside : is_outside ram a.address a.len ≡ false = none.0.1.1.1.1.0 in
-    let few = ltb-false 1048576 (pages + page_count_of a.address a.size) (or_parts _ _ small).1 in
-    let past = or_parts _ _ (or_parts _ _ inside).0 in
+    let few = ltb-false 1048576 (pages_with pages a) none.0.1.1.1.1.0 in
+    let past = or_parts _ _ none.0.1.1.1.1.1.0 in
     let low = leb-false (2 ^ 64) a.address past.0 in
     let end = ltb-false (2 ^ 64) (a.address + a.len) past.1 in
     subst (λ (x : Extent). IsSound x × (pages + page_count_of x.address x.size ≤ 1048576)) none.1 (record { size = fits; low = low; end = end }, few)
@@ -77,7 +79,7 @@ checked_wanted-sound ram pages i count a s fits e =
 placed-sound : (ram : List Region) (pages : ℕ) (i : Item) (bytes : List ℕ) (s : Extent) → checked_item ram pages i bytes ≡ Ok s → IsSound s × (pages + page_count_of s.address s.size ≤ 1048576)
 placed-sound ram pages i bytes s e = go (wanted_of i bytes) refl e
   where
-    go : (r : Result WantedExtent LayoutFault) → wanted_of i bytes ≡ r → checked_if ram pages i (length bytes) r ≡ Ok s → IsSound s × (pages + page_count_of s.address s.size ≤ 1048576)
+    go : (r : Result WantedExtent ItemReason) → wanted_of i bytes ≡ r → checked_if ram pages i (length bytes) r ≡ Ok s → IsSound s × (pages + page_count_of s.address s.size ≤ 1048576)
     go (Err f) q h = absurd cc
     go (Ok a) q h = checked_wanted-sound ram pages i (length bytes) a s (wanted-fits i bytes a q) h
 
@@ -130,15 +132,34 @@ none-there t [] k x h e = absurd cc
 none-there t (y ∷ ys) zero x h e = let same : y ≡ x = cc in ap t (sym same) ∙ (or_parts (t y) (list_any t ys) h).0
 none-there t (y ∷ ys) (suc k) x h e = none-there t ys k x (or_parts (t y) (list_any t ys) h).1 e
 
+-- an item that meets none of some others meets each of them not
+met-none : (a : Extent) (n : ℕ) (others : List Extent) (k : ℕ) (b : Extent) → first_met a n others ≡ None → slice_get others k ≡ Some b → overlaps a b ≡ false
+met-none a n [] k b none e = absurd cc
+met-none a n (x ∷ others) zero b none e = let same : x ≡ b = cc in ap (overlaps a) (sym same) ∙ passed (overlaps a x) none
+  where
+    passed : (t : Bool) → cond t (Some (let s : ItemExtent = record { item = n; extent = x } in s)) (first_met a (n + 1) others) ≡ None → t ≡ false
+    passed true h = absurd cc
+    passed false h = refl
+met-none a n (x ∷ others) (suc k) b none e = met-none a (n + 1) others k b (passed (overlaps a x) none) e
+  where
+    passed : (t : Bool) → cond t (Some (let s : ItemExtent = record { item = n; extent = x } in s)) (first_met a (n + 1) others) ≡ None → first_met a (n + 1) others ≡ None
+    passed true h = absurd cc
+    passed false h = h
+
+none-of-both : {X Y : Type 0} (f : X → Y) (o : Option X) (p : Option Y) → option_or (option_map f o) p ≡ None → (o ≡ None) × (p ≡ None)
+none-of-both f None p h = (refl, h)
+none-of-both f (Some x) p h = absurd cc
+
 -- where no two meet
-pub two-checked_together : (ss : List Extent) (j k : ℕ) (a b : Extent) → any_overlap ss ≡ false → j < k → slice_get ss j ≡ Some a → slice_get ss k ≡ Some b → overlaps a b ≡ false
-two-checked_together [] j k a b h lt e f = absurd cc
-two-checked_together (s ∷ ss) zero zero a b h lt e f = absurd (omega arith)
-two-checked_together (s ∷ ss) zero (suc k) a b h lt e f =
+pub two-apart : (ss : List Extent) (n j k : ℕ) (a b : Extent) → first_overlap n ss ≡ None → j < k → slice_get ss j ≡ Some a → slice_get ss k ≡ Some b → overlaps a b ≡ false
+two-apart [] n j k a b h lt e f = absurd cc
+two-apart (s ∷ ss) n zero zero a b h lt e f = absurd (omega arith)
+two-apart (s ∷ ss) n zero (suc k) a b h lt e f =
     let same : s ≡ a = cc in
-    ap (λ (x : Extent). overlaps x b) (sym same) ∙ none-there (overlaps s) ss k b (or_parts (list_any (overlaps s) ss) (any_overlap ss) h).0 f
-two-checked_together (s ∷ ss) (suc j) zero a b h lt e f = absurd (omega arith)
-two-checked_together (s ∷ ss) (suc j) (suc k) a b h lt e f = two-checked_together ss j k a b (or_parts (list_any (overlaps s) ss) (any_overlap ss) h).1 (omega arith) e f
+    ap (λ (x : Extent). overlaps x b) (sym same) ∙ met-none s (n + 1) ss k b (none-of-both _ (first_met s (n + 1) ss) (first_overlap (n + 1) ss) h).0 f
+two-apart (s ∷ ss) n (suc j) zero a b h lt e f = absurd (omega arith)
+two-apart (s ∷ ss) n (suc j) (suc k) a b h lt e f =
+    two-apart ss (n + 1) j k a b (none-of-both _ (first_met s (n + 1) ss) (first_overlap (n + 1) ss) h).1 (omega arith) e f
 
 -- ---- all items
 
@@ -146,52 +167,57 @@ pub bind-ok : {A B E : Type 0} (r : Result A E) (f : A → Result B E) (y : B) �
 bind-ok (Ok x) f y e = (x, refl, e)
 bind-ok (Err g) f y e = absurd cc
 
+-- an answer that is the same but for its error
+pub ok-mapped : {A D E : Type 0} (r : Result A D) (g : D → E) (x : A) → result_map_both (λ (a : A). a) g r ≡ Ok x → r ≡ Ok x
+ok-mapped {A} {D} (Ok y) g x e = let same : y ≡ x = cc in ap (λ (a : A). Ok a) same
+ok-mapped (Err d) g x e = absurd cc
+
 module _ (ram : List Region) (edited : Result (Option (List ℕ)) FdtFault) (files : List (List ℕ)) where
   -- the first item has an extent, and so have the others after it
-  pub record Split (pages : ℕ) (i : Item) (items : List Item) (ss : List Extent) : Type 0 where
+  pub record Split (n pages : ℕ) (i : Item) (items : List Item) (ss : List Extent) : Type 0 where
     pub bytes : List ℕ
     pub first : Extent
     pub others : List Extent
     pub has : bytes_of edited files i ≡ Ok bytes
     pub stands : checked_item ram pages i bytes ≡ Ok first
-    pub rest : extents_of ram edited files (pages + page_count_of first.address first.size) items ≡ Ok others
+    pub rest : extents_of ram edited files (n + 1) (pages + page_count_of first.address first.size) items ≡ Ok others
     pub is : ss ≡ first ∷ others
 
-  split : (pages : ℕ) (i : Item) (items : List Item) (ss : List Extent) → extents_of ram edited files pages (i ∷ items) ≡ Ok ss → Split pages i items ss
-  split pages i items ss e =
-      let b = bind-ok (bytes_of edited files i) _ ss e in
-      let s = bind-ok (checked_item ram pages i b.0) _ ss b.2 in
-      let r = bind-ok (extents_of ram edited files (pages + page_count_of s.0.address s.0.size) items) _ ss s.2 in
-      let same : ss ≡ s.0 ∷ r.0 = cc in
-      record { bytes = b.0; first = s.0; others = r.0; has = b.1; stands = s.1; rest = r.1; is = same }
+  split : (n pages : ℕ) (i : Item) (items : List Item) (ss : List Extent) → extents_of ram edited files n pages (i ∷ items) ≡ Ok ss → Split n pages i items ss
+  split n pages i items ss e =
+      let o = bind-ok (of_item n (extent_after ram edited files pages i)) _ ss e in
+      let b = bind-ok (bytes_of edited files i) (checked_item ram pages i) o.0 (ok-mapped (extent_after ram edited files pages i) (reason.Item n) o.0 o.1) in
+      let r = bind-ok (extents_of ram edited files (n + 1) (pages + page_count_of o.0.address o.0.size) items) _ ss o.2 in
+      let same : ss ≡ o.0 ∷ r.0 = cc in
+      record { bytes = b.0; first = o.0; others = r.0; has = b.1; stands = b.2; rest = r.1; is = same }
 
-  pub rows-length : (pages : ℕ) (items : List Item) (ss : List Extent) → extents_of ram edited files pages items ≡ Ok ss → length ss ≡ length items
-  rows-length pages [] ss e = let same : [] ≡ ss = cc in ap length (sym same)
-  rows-length pages (i ∷ items) ss e =
-      let p = split pages i items ss e in
-      omega (arith, ap length p.is, rows-length (pages + page_count_of p.first.address p.first.size) items p.others p.rest)
+  pub rows-length : (n pages : ℕ) (items : List Item) (ss : List Extent) → extents_of ram edited files n pages items ≡ Ok ss → length ss ≡ length items
+  rows-length n pages [] ss e = let same : [] ≡ ss = cc in ap length (sym same)
+  rows-length n pages (i ∷ items) ss e =
+      let p = split n pages i items ss e in
+      omega (arith, ap length p.is, rows-length (n + 1) (pages + page_count_of p.first.address p.first.size) items p.others p.rest)
 
   -- each of them has bytes and is sound
-  pub rows-at : (pages : ℕ) (items : List Item) (ss : List Extent) (k : ℕ) (i : Item) (s : Extent) → extents_of ram edited files pages items ≡ Ok ss
+  pub rows-at : (n pages : ℕ) (items : List Item) (ss : List Extent) (k : ℕ) (i : Item) (s : Extent) → extents_of ram edited files n pages items ≡ Ok ss
       → slice_get items k ≡ Some i → slice_get ss k ≡ Some s → IsSound s × (bytes : List ℕ) × (bytes_of edited files i ≡ Ok bytes)
-  rows-at pages [] ss k i s e f g = absurd cc
-  rows-at pages (j ∷ items) ss zero i s e f g =
-      let p = split pages j items ss e in
+  rows-at n pages [] ss k i s e f g = absurd cc
+  rows-at n pages (j ∷ items) ss zero i s e f g =
+      let p = split n pages j items ss e in
       let same : j ≡ i = cc in
       let own : slice_get (p.first ∷ p.others) zero ≡ Some s = rw p.is at g in
       let this : p.first ≡ s = cc in
       (subst IsSound this (placed-sound ram pages j p.bytes p.first p.stands).0, p.bytes, ap (bytes_of edited files) (sym same) ∙ p.has)
-  rows-at pages (j ∷ items) ss (suc k) i s e f g =
-      let p = split pages j items ss e in
+  rows-at n pages (j ∷ items) ss (suc k) i s e f g =
+      let p = split n pages j items ss e in
       let own : slice_get (p.first ∷ p.others) (suc k) ≡ Some s = rw p.is at g in
-      rows-at (pages + page_count_of p.first.address p.first.size) items p.others k i s p.rest f own
+      rows-at (n + 1) (pages + page_count_of p.first.address p.first.size) items p.others k i s p.rest f own
 
-  pub rows-total : (pages : ℕ) (items : List Item) (ss : List Extent) → pages ≤ 1048576 → extents_of ram edited files pages items ≡ Ok ss → pages + sum_by (λ s. page_count_of s.address s.size) ss ≤ 1048576
-  rows-total pages [] ss few e = let same : [] ≡ ss = cc in rw (sym same) (omega arith)
-  rows-total pages (i ∷ items) ss few e =
-      let p = split pages i items ss e in
+  pub rows-total : (n pages : ℕ) (items : List Item) (ss : List Extent) → pages ≤ 1048576 → extents_of ram edited files n pages items ≡ Ok ss → pages + sum_by (λ s. page_count_of s.address s.size) ss ≤ 1048576
+  rows-total n pages [] ss few e = let same : [] ≡ ss = cc in rw (sym same) (omega arith)
+  rows-total n pages (i ∷ items) ss few e =
+      let p = split n pages i items ss e in
       let now = (placed-sound ram pages i p.bytes p.first p.stands).1 in
-      let rest = rows-total (pages + page_count_of p.first.address p.first.size) items p.others now p.rest in
+      let rest = rows-total (n + 1) (pages + page_count_of p.first.address p.first.size) items p.others now p.rest in
       rw p.is (omega (arith, sum_by-cons (λ s. page_count_of s.address s.size) p.first p.others, rest))
 
 -- ---- as they are placed

@@ -10,35 +10,36 @@ use Rattle.fdt_tree.specs.declared.fault.FdtFault.{FdtFault}
 use Rattle.rim_launch.specs.declared.item.Item.{Item}
 use Rattle.ipa_layout.specs.declared.extent.Extent.{Extent}
 use Rattle.ipa_layout.specs.declared.placed.PlacedItem.{PlacedItem}
-use Rattle.ipa_layout.specs.declared.fault.LayoutFault.{LayoutFault}
-use Rattle.ipa_layout.specs.declared.fault.LayoutFault.TheVariants.{Overlap}
+use Rattle.ipa_layout.specs.declared.reason.ItemExtent.{ItemExtent}
+use Rattle.ipa_layout.specs.declared.reason.ItemReason.{ItemReason}
 use Rattle.rim_launch.specs.LaunchData.{LaunchData}
 use Rattle.rim_desc.specs.declared.source.Source.TheVariants.{File, Edited}
 use Rattle.rim_launch.specs.Kinds.{file_of, has_edits}
-use Rattle.ipa_layout.specs.Overlap.{any_overlap, checked_all}
-use Rattle.ipa_layout.specs.Layout.{IsPlaced, PlacedData, bytes_of, checked_together, edited_bytes, edited_dtb, edited_item, extents_of, file_bytes, item_at, items_at, placed_at}
+use Rattle.ipa_layout.specs.Overlap.{apart_unless, checked_all, first_overlap}
+use Rattle.ipa_layout.specs.Reason.{fault_of}
+use Rattle.ipa_layout.specs.Layout.{IsPlaced, PlacedData, bytes_of, checked_together, edited_bytes, edited_dtb, edited_item, extents_of, file_bytes, item_at, items_at, laid_out, placed_at}
 use Rattle.ipa_layout.specs.Laws.{HasPage, IsItem, IsSourceOf, page_end, page_total}
 use Rattle.ipa_layout.proofs.FoundInLists.{found-none}
-use Rattle.ipa_layout.proofs.PlacedExtents.{IsSound, bind-ok, item-there, items-length, items-total, no-page-shared, none-there, pages-low, rows-at, rows-length, rows-total, two-checked_together}
+use Rattle.ipa_layout.proofs.PlacedExtents.{IsSound, bind-ok, item-there, items-length, items-total, no-page-shared, none-there, ok-mapped, pages-low, rows-at, rows-length, rows-total, two-apart}
 
 -- the extents of a placed launch's items
 record Parts (l : LaunchData) (files : List (List ℕ)) (p : PlacedData) : Type 0 where
   extents : List Extent
-  stood : extents_of l.ram (edited_dtb l files) files 0 l.items ≡ Ok extents
-  none_meet : any_overlap extents ≡ false
+  stood : extents_of l.ram (edited_dtb l files) files 0 0 l.items ≡ Ok extents
+  none_meet : first_overlap 0 extents ≡ None
   is : p ≡ placed_at l (result_unwrap_or (edited_dtb l files) None) extents
 
-not-met : (items : List Item) (ss : List Extent) (u : Unit {0}) → checked_together items ss ≡ Ok u → any_overlap ss ≡ false
+not-met : (items : List Item) (ss : List Extent) (u : Unit {0}) → checked_together items ss ≡ Ok u → first_overlap 0 ss ≡ None
 unfolding checked_all
-not-met items ss u e = go (any_overlap ss) _ refl e
+not-met items ss u e = let b = bind-ok (apart_unless (first_overlap 0 ss)) _ u e in none (first_overlap 0 ss) b.0 b.1
   where
-    go : (b : Bool) (r : Result (Unit {0}) LayoutFault) → any_overlap ss ≡ b → cond b (Err Overlap) r ≡ Ok u → any_overlap ss ≡ false
-    go true r q h = absurd cc
-    go false r q h = q
+    none : (o : Option (ItemExtent × ItemExtent)) (v : Unit {0}) → apart_unless o ≡ Ok v → o ≡ None
+    none None v h = refl
+    none (Some p) v h = absurd cc
 
 parts : (l : LaunchData) (files : List (List ℕ)) (p : PlacedData) → IsPlaced l files p → Parts l files p
 parts l files p h =
-    let s = bind-ok (extents_of l.ram (edited_dtb l files) files 0 l.items) _ p h.placed in
+    let s = bind-ok (extents_of l.ram (edited_dtb l files) files 0 0 l.items) _ p (ok-mapped (laid_out l files) fault_of p h.placed) in
     let a = bind-ok (checked_together l.items s.0) _ p s.2 in
     let same : placed_at l (result_unwrap_or (edited_dtb l files) None) s.0 ≡ p = cc in
     record { extents = s.0; stood = s.1; none_meet = not-met l.items s.0 a.0 a.1; is = sym same }
@@ -50,7 +51,7 @@ module _ (l : LaunchData) (files : List (List ℕ)) (p : PlacedData) (h : IsPlac
   pub as-many-items : length p.items ≡ length l.items
   as-many-items =
       let r = parts l files p h in
-      let rows = rows-length l.ram (edited_dtb l files) files 0 l.items r.extents r.stood in
+      let rows = rows-length l.ram (edited_dtb l files) files 0 0 l.items r.extents r.stood in
       ap (λ (q : PlacedData). length q.items) r.is ∙ items-length l.number l.items r.extents rows
 
   pub as-many-recs : length p.recs ≡ length l.recs
@@ -61,8 +62,8 @@ module _ (l : LaunchData) (files : List (List ℕ)) (p : PlacedData) (h : IsPlac
   pub few-pages : page_total p ≤ 1048576
   few-pages =
       let r = parts l files p h in
-      let rows = rows-length l.ram (edited_dtb l files) files 0 l.items r.extents r.stood in
-      omega (arith, ap page_total r.is, items-total l.number l.items r.extents rows, rows-total l.ram (edited_dtb l files) files 0 l.items r.extents (omega arith) r.stood)
+      let rows = rows-length l.ram (edited_dtb l files) files 0 0 l.items r.extents r.stood in
+      omega (arith, ap page_total r.is, items-total l.number l.items r.extents rows, rows-total l.ram (edited_dtb l files) files 0 0 l.items r.extents (omega arith) r.stood)
 
   -- the extent of an item of the launch, and its bytes
   record Own (k : ℕ) (item : Item) (i : PlacedItem) : Type 0 where
@@ -78,7 +79,7 @@ module _ (l : LaunchData) (files : List (List ℕ)) (p : PlacedData) (h : IsPlac
       let r = parts l files p h in
       let placed : slice_get (items_at l.number l.items r.extents) k ≡ Some i = ap (λ (q : PlacedData). slice_get q.items k) (sym r.is) ∙ it.placed in
       let s = item-there l.number l.items r.extents k item i it.in_launch placed in
-      let row = rows-at l.ram (edited_dtb l files) files 0 l.items r.extents k item s.0 r.stood it.in_launch s.1 in
+      let row = rows-at l.ram (edited_dtb l files) files 0 0 l.items r.extents k item s.0 r.stood it.in_launch s.1 in
       record { extent = s.0; at = s.1; is = s.2; sound = row.0; bytes = row.1; has = row.2 }
 
   pub lead-is : (k : ℕ) (item : Item) (i : PlacedItem) → IsItem l p k item i → i.lead ≡ i.address % 4096
@@ -99,10 +100,10 @@ module _ (l : LaunchData) (files : List (List ℕ)) (p : PlacedData) (h : IsPlac
       let o = own m a i of-a in
       let q = own n b j of-b in
       let r = parts l files p h in
-      let checked_together = two-checked_together r.extents m n o.extent q.extent r.none_meet lt o.at q.at in
+      let apart = two-apart r.extents 0 m n o.extent q.extent r.none_meet lt o.at q.at in
       let x = rw o.is at in-a in
       let y = rw q.is at in-b in
-      no-page-shared o.extent q.extent o.sound q.sound checked_together page x.0 x.1 y.0 y.1
+      no-page-shared o.extent q.extent o.sound q.sound apart page x.0 x.1 y.0 y.1
 
   -- an item with edits is the devicetree that was edited
   with_edits-some : (item : Item) (k : ℕ) (bytes : List ℕ) → slice_get l.items k ≡ Some item → has_edits item.kind ≡ true → edited_bytes (edited_dtb l files) ≡ Ok bytes
@@ -125,7 +126,7 @@ module _ (l : LaunchData) (files : List (List ℕ)) (p : PlacedData) (h : IsPlac
       let o = own k item i it in
       rw o.is (go o.bytes (has_edits item.kind) refl o.has)
     where
-      go : (bytes : List ℕ) (b : Bool) → has_edits item.kind ≡ b → (let r : Result (List ℕ) LayoutFault = cond b (edited_bytes (edited_dtb l files)) (Ok (file_bytes files item.kind)) in r) ≡ Ok bytes
+      go : (bytes : List ℕ) (b : Bool) → has_edits item.kind ≡ b → (let r : Result (List ℕ) ItemReason = cond b (edited_bytes (edited_dtb l files)) (Ok (file_bytes files item.kind)) in r) ≡ Ok bytes
           → IsSourceOf l p item (cond b (Edited l.number) (File (file_of item.kind)))
       go bytes true e q = (e, refl, rw (ap (λ (x : PlacedData). x.edited) (parts l files p h).is) (with_edits-some item k bytes it.in_launch e q))
       go bytes false e q = (e, refl)

@@ -8,8 +8,8 @@ use Rattle.arm64_image.specs.declared.Header.{Header}
 use Rattle.arm64_image.specs.declared.ImageFault.{ImageFault}
 use Rattle.rim_launch.specs.declared.item.Item.{Item}
 use Rattle.ipa_layout.specs.declared.extent.WantedExtent.{WantedExtent}
-use Rattle.ipa_layout.specs.declared.fault.LayoutFault.{LayoutFault}
-use Rattle.ipa_layout.specs.declared.fault.LayoutFault.TheVariants.{Kernel}
+use Rattle.ipa_layout.specs.declared.reason.ItemReason.{ItemReason}
+use Rattle.ipa_layout.specs.declared.reason.ItemReason.TheVariants.{Kernel}
 use Rattle.rim_launch.specs.declared.item.Role.TheVariants as role
 use Rattle.rim_launch.specs.Kinds.{has_role}
 use Rattle.rim_desc.specs.declared.page.TheConstants.{PAGE_SIZE}
@@ -35,8 +35,8 @@ abbrev pub size_of : Item → ℕ → ℕ
 size_of i count = unwrap_or i.size count
 
 -- a kernel begins after its base, and takes its size or what its header says, whichever is more
-abbrev pub kernel_at : Item → ℕ → Result Header ImageFault → Result WantedExtent LayoutFault
-kernel_at i count (Err e) = Err (Kernel e)
+abbrev pub kernel_at : Item → ℕ → Result Header ImageFault → Result WantedExtent ItemReason
+kernel_at i count (Err e) = Err (Kernel e count)
 kernel_at i count (Ok h) = Ok (record {
   address = i.at + load_offset_of h;
   size = size_of i count;
@@ -44,7 +44,7 @@ kernel_at i count (Ok h) = Ok (record {
 })
 
 -- the extent that a launch asks for, of an item with these bytes
-unfoldable pub wanted_of : Item → List ℕ → Result WantedExtent LayoutFault
+unfoldable pub wanted_of : Item → List ℕ → Result WantedExtent ItemReason
 wanted_of i bytes =
     if has_role role.Kernel i then kernel_at i (length bytes) (read_of bytes)
     else Ok (record { address = i.at; size = size_of i (length bytes); len = size_of i (length bytes) })

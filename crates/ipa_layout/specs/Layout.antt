@@ -3,7 +3,7 @@
 use Rattle.std.specs.Prelude.{◌≡◌, ℕ, ◌+◌, List, [], ◌∷◌, length, map, get_or, Option, Some, None, option_map, unwrap_or, Result, Ok, Err, Bool, true, ◌==◌, if◌then◌else◌}
 use Rattle.std.specs.List.{find, position_from, slice_get, enumerate_from, zip}
 use Rattle.std.specs.Option.{option_and_then}
-use Rattle.std.specs.Result.{result_unwrap_or}
+use Rattle.std.specs.Result.{result_map_both, result_unwrap_or}
 use Rattle.fdt_tree.specs.declared.fault.FdtFault.{FdtFault}
 use Rattle.rim_launch.specs.declared.item.ItemKind.{ItemKind}
 use Rattle.rim_launch.specs.declared.item.ItemKind.TheVariants.{Dtb}
@@ -17,7 +17,11 @@ use Rattle.rim_desc.specs.declared.source.Source.{Source}
 use Rattle.rim_desc.specs.declared.source.Source.TheVariants.{File, Edited}
 use Rattle.ipa_layout.specs.declared.placed.PlacedItem.{PlacedItem}
 use Rattle.ipa_layout.specs.declared.fault.LayoutFault.{LayoutFault}
-use Rattle.ipa_layout.specs.declared.fault.LayoutFault.TheVariants as fault
+use Rattle.ipa_layout.specs.declared.reason.ItemExtent.{ItemExtent}
+use Rattle.ipa_layout.specs.declared.reason.ItemReason.{ItemReason}
+use Rattle.ipa_layout.specs.declared.reason.ItemReason.TheVariants.{Edits}
+use Rattle.ipa_layout.specs.declared.reason.LayoutReason.{LayoutReason}
+use Rattle.ipa_layout.specs.declared.reason.LayoutReason.TheVariants as reason
 use Rattle.rim_launch.specs.LaunchData.{LaunchData, has_files}
 use Rattle.rim_launch.specs.declared.item.Role.{Role}
 use Rattle.rim_launch.specs.declared.item.Role.TheVariants as role
@@ -26,6 +30,7 @@ use Rattle.ipa_layout.specs.DtbEdit.{EditData, edited, no_edits}
 use Rattle.ipa_layout.specs.Extent.{lead_of, page_count_of}
 use Rattle.ipa_layout.specs.ItemCheck.{checked_item}
 use Rattle.ipa_layout.specs.Overlap.{checked_all}
+use Rattle.ipa_layout.specs.Reason.{fault_of}
 use Rattle.ipa_layout.specs.Rec.{rec_of}
 use Rattle.refusal.specs.Answer.{◌>>=◌}
 
@@ -61,28 +66,39 @@ edited_item l files (Some i) = do
 abbrev pub edited_dtb : LaunchData → List (List ℕ) → Result (Option (List ℕ)) FdtFault
 edited_dtb l files = edited_item l files (find (λ i. has_edits i.kind) l.items)
 
-abbrev pub edited_bytes : Result (Option (List ℕ)) FdtFault → Result (List ℕ) LayoutFault
+abbrev pub edited_bytes : Result (Option (List ℕ)) FdtFault → Result (List ℕ) ItemReason
 edited_bytes (Ok bytes) = Ok (unwrap_or bytes [])
-edited_bytes (Err e) = Err (fault.Dtb e)
+edited_bytes (Err e) = Err (Edits e)
 
 -- the bytes that are placed: an item's file, or the edited devicetree
-abbrev pub bytes_of : Result (Option (List ℕ)) FdtFault → List (List ℕ) → Item → Result (List ℕ) LayoutFault
+abbrev pub bytes_of : Result (Option (List ℕ)) FdtFault → List (List ℕ) → Item → Result (List ℕ) ItemReason
 bytes_of edited files i = if has_edits i.kind then edited_bytes edited else Ok (file_bytes files i.kind)
 
--- ---- their standings
+-- ---- their extents
 
--- the extents of items, after others that have this many pages
-abbrev pub extents_of : List Region → Result (Option (List ℕ)) FdtFault → List (List ℕ) → ℕ → List Item → Result (List Extent) LayoutFault
-extents_of ram edited files pages [] = Ok []
-extents_of ram edited files pages (i ∷ items) = do
-  bytes ← bytes_of edited files i
-  extent ← checked_item ram pages i bytes
-  others ← extents_of ram edited files (pages + page_count_of extent.address extent.size) items
+-- the extent of an item, after others that have this many pages
+abbrev pub extent_after : List Region → Result (Option (List ℕ)) FdtFault → List (List ℕ) → ℕ → Item → Result Extent ItemReason
+extent_after ram edited files pages i = bytes_of edited files i >>= checked_item ram pages i
+
+-- what is answered of the item of this number
+abbrev pub of_item : ℕ → Result Extent ItemReason → Result Extent LayoutReason
+of_item n r = result_map_both (λ extent. extent) (reason.Item n) r
+
+-- the extents of items, which have the numbers from n on, after others that have this many pages
+abbrev pub extents_of : List Region → Result (Option (List ℕ)) FdtFault → List (List ℕ) → ℕ → ℕ → List Item → Result (List Extent) LayoutReason
+extents_of ram edited files n pages [] = Ok []
+extents_of ram edited files n pages (i ∷ items) = do
+  extent ← of_item n (extent_after ram edited files pages i)
+  others ← extents_of ram edited files (n + 1) (pages + page_count_of extent.address extent.size) items
   Ok (extent ∷ others)
 
--- that of the first item of a kind
-abbrev pub extent_with : Role → List Item → List Extent → Option Extent
-extent_with r items extents = option_and_then (slice_get extents) (position_from (has_role r) 0 items)
+-- the item of this number, with its extent
+abbrev pub item_extent : List Extent → ℕ → Option ItemExtent
+item_extent extents n = option_map (λ extent. record { item = n; extent = extent }) (slice_get extents n)
+
+-- the first item of a kind
+abbrev pub extent_with : Role → List Item → List Extent → Option ItemExtent
+extent_with r items extents = option_and_then (item_extent extents) (position_from (has_role r) 0 items)
 
 -- ---- the whole launch
 
@@ -101,8 +117,8 @@ item_at launch i s = record {
 abbrev pub items_at : ℕ → List Item → List Extent → List PlacedItem
 items_at launch items extents = map (λ p. item_at launch p.0 p.1) (zip items extents)
 
-abbrev pub address_of : Option Extent → ℕ
-address_of o = unwrap_or (option_map (λ s. s.address) o) 0
+abbrev pub address_of : Option ItemExtent → ℕ
+address_of o = unwrap_or (option_map (λ s. s.extent.address) o) 0
 
 -- each REC with its number, where the kernel and the devicetree are at these addresses
 abbrev pub recs_at : ℕ → ℕ → List Rec → List PlacedRec
@@ -124,15 +140,19 @@ placed_at l edited extents = record {
   edited = edited;
 }
 
-abbrev pub checked_together : List Item → List Extent → Result (Unit {0}) LayoutFault
+abbrev pub checked_together : List Item → List Extent → Result (Unit {0}) LayoutReason
 checked_together items extents = checked_all extents (extent_with role.Kernel items extents) (extent_with role.Initrd items extents)
 
--- the launch as it is placed, or the first refusal
-abbrev pub places : LaunchData → List (List ℕ) → Result PlacedData LayoutFault
-places l files = do
-  extents ← extents_of l.ram (edited_dtb l files) files 0 l.items
+-- the launch as it is placed, or the first reason why it cannot be
+abbrev pub laid_out : LaunchData → List (List ℕ) → Result PlacedData LayoutReason
+laid_out l files = do
+  extents ← extents_of l.ram (edited_dtb l files) files 0 0 l.items
   _ ← checked_together l.items extents
   Ok (placed_at l (result_unwrap_or (edited_dtb l files) None) extents)
+
+-- the same, with the fault alone
+abbrev pub places : LaunchData → List (List ℕ) → Result PlacedData LayoutFault
+places l files = result_map_both (λ p. p) fault_of (laid_out l files)
 
 -- The launch is placed so with these files, of which it names no other. What is planned and measured of a
 -- placed launch goes on from this.

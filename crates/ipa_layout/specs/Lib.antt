@@ -1,5 +1,6 @@
 pub mod Files
 pub mod Rec
+pub mod Reason
 pub mod Extent
 pub mod Memory
 pub mod Overlap

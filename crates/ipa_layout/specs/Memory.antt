@@ -1,7 +1,7 @@
 -- Which pages are RAM. A page has to be in one region wholly; the pages of an item may be in several.
 -- This project's choice.
-use Rattle.std.specs.Prelude.{ℕ, ◌+◌, ◌*◌, List, Bool, ◌&&◌, nat_le}
-use Rattle.std.specs.List.{list_all, list_any, range_with_len}
+use Rattle.std.specs.Prelude.{ℕ, ◌+◌, ◌*◌, List, Option, Bool, not, ◌&&◌, nat_le}
+use Rattle.std.specs.List.{find, list_any, range_with_len}
 use Rattle.rim_launch.specs.declared.item.Region.{Region}
 use Rattle.rim_desc.specs.declared.page.TheConstants.{PAGE_SIZE}
 
@@ -13,6 +13,6 @@ holds page r = nat_le r.base (PAGE_SIZE * page) && nat_le (PAGE_SIZE * page + PA
 abbrev pub is_held : List Region → ℕ → Bool
 is_held ram page = list_any (holds page) ram
 
--- whether some region holds each of `count` pages from `first` on
-unfoldable pub all_held : List Region → ℕ → ℕ → Bool
-all_held ram first count = list_all (is_held ram) (range_with_len first count)
+-- the first of `count` pages from `first` on that no region holds
+unfoldable pub first_unheld : List Region → ℕ → ℕ → Option ℕ
+first_unheld ram first count = find (λ page. not (is_held ram page)) (range_with_len first count)

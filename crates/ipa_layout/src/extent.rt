@@ -3,7 +3,7 @@ ghost use Rattle.std.specs.Prelude.{◌≡◌, ◌^◌, ◌<◌, IfOk};
 ghost use Rattle.ipa_layout.specs.Extent.{end_page, first_page, lead_of, page_count_of, size_of, wanted_of};
 ghost use Rattle.rim_desc.specs.declared.page.TheConstants.{PAGE_SIZE};
 
-use crate::fault::LayoutFault;
+use crate::reason::ItemReason;
 use rim_desc::{GRANULE_SIZE, PAGE_SIZE};
 use rim_launch::{Item, Role};
 
@@ -34,11 +34,14 @@ impl Extent {
     }
 }
 
-/// Where a launch asks for an item. A kernel's address may exceed 64 bits, so it is kept as `u128`.
+/// Where a launch asks for an item. All numbers are in bytes.
 #[derive(Clone, Copy, Debug, PartialEq, Eq)]
 pub struct WantedExtent {
+    /// The address of its first byte. A kernel's may exceed 64 bits.
     pub address: u128,
+    /// Its size: the stated one, or the number of its bytes.
     pub size: u64,
+    /// How many bytes from its address on it takes.
     pub len: u64,
 }
 
@@ -87,19 +90,21 @@ fn size(item: &Item, count: u64) -> u64
 
 /// The extent that a launch asks for, of an item with these bytes.
 #[tactic(auto, unfolding(crate::specs::Extent::wanted_of))]
-pub fn wanted_extent(item: &Item, bytes: &[u8]) -> Result<WantedExtent, LayoutFault>
+pub fn wanted_extent(item: &Item, bytes: &[u8]) -> Result<WantedExtent, ItemReason>
     ensures exact { result ≡ wanted_of item.now bytes.now }
     ensures low { IfOk result (λ a. a.address < 2 ^ 65) }
 {
     let count = bytes.len() as u64;
     let size = size(item, count);
     if item.has_role(Role::Kernel) {
-        let header = arm64_image::read(bytes)?;
-        Ok(WantedExtent {
-            address: u128::from(item.at) + u128::from(header.load_offset()),
-            size,
-            len: size.max(header.extent(count)),
-        })
+        match arm64_image::read(bytes) {
+            Ok(header) => Ok(WantedExtent {
+                address: u128::from(item.at) + u128::from(header.load_offset()),
+                size,
+                len: size.max(header.extent(count)),
+            }),
+            Err(fault) => Err(ItemReason::Kernel { fault, count }),
+        }
     } else {
         Ok(WantedExtent {
             address: u128::from(item.at),

@@ -1,14 +1,16 @@
 //! Where the items of a launch are placed and with which bytes, or the first reason why they cannot be.
-ghost use Rattle.std.specs.Prelude.{◌≡◌, ◌+◌, ◌<◌, length, true, None, Ok, IfOk, option_map};
-ghost use Rattle.std.specs.List.{find, position_from, slice_get};
+ghost use Rattle.std.specs.Prelude.{◌≡◌, ◌+◌, ◌<◌, ◌≤◌, length, true, None, Ok, IfOk, option_map};
+ghost use Rattle.std.specs.List.{find, position_from};
 ghost use Rattle.std.specs.Option.{option_and_then};
 ghost use Rattle.refusal.specs.Answer.{Answers, Matches};
 ghost use Rattle.rim_launch.specs.LaunchData.{has_files};
 ghost use Rattle.rim_launch.specs.Kinds.{file_of, has_edits, has_role};
 ghost use Rattle.ipa_layout.specs.inside.DtbEditViews.{edit_data};
-ghost use Rattle.ipa_layout.specs.Layout.{address_of, bytes_of, checked_together, edited_dtb, edits_of, extents_of, file_bytes, initrd_span, item_at, items_at, placed_at, places, recs_at, source_of};
+ghost use Rattle.ipa_layout.specs.Layout.{address_of, bytes_of, checked_together, edited_dtb, edits_of, extent_after, extents_of, file_bytes, initrd_span, item_at, item_extent, items_at, laid_out, placed_at, places, recs_at, source_of};
 ghost use Rattle.ipa_layout.specs.inside.LayoutViews.{seen};
 ghost use Rattle.ipa_layout.specs.Files.{bytes_of_files};
+ghost use Rattle.ipa_layout.specs.Extent.{page_count_of};
+ghost use Rattle.ipa_layout.specs.declared.item_check.TheConstants.{PAGE_LIMIT};
 
 use crate::dtb::Dtb;
 use crate::dtb_edit::{DtbEdits, Span, edited};
@@ -17,10 +19,11 @@ use crate::fault::LayoutFault;
 use crate::item_check::check_item;
 use crate::overlap::check_all;
 use crate::placed::{Placed, PlacedItem};
+use crate::reason::{ItemExtent, ItemReason, LayoutReason};
 use crate::rec::PlacedRec;
 use refusal::NoMemory;
 use rim_desc::Source;
-use rim_launch::{Item, ItemKind, Launch, Rec, Role};
+use rim_launch::{Item, ItemKind, Launch, Rec, Region, Role};
 use std::alloc::{AllocError, Global};
 
 /// Where the items of a launch are and with which bytes, its RECs with their defaults filled in, and the
@@ -36,10 +39,31 @@ pub fn place(alloc: Global, launch: &Launch, files: &[Vec<u8>]) -> Result<Placed
     ensures { Answers LayoutFault.NoMemory (λ p. p) result
         (places launch.now (bytes_of_files files.now)) }
 {
+    match place_with_reason(alloc, launch, files)? {
+        Ok(placed) => Ok(placed),
+        Err(reason) => Err(reason.fault()),
+    }
+}
+
+/// The same, with the whole reason: which item is refused, or which two, and the numbers that the check looked at.
+pub fn place_with_reason(
+    alloc: Global,
+    launch: &Launch,
+    files: &[Vec<u8>],
+) -> Result<Result<Placed, LayoutReason>, NoMemory>
+    requires { has_files launch.now (length files.now) ≡ true }
+    ensures { IfOk result (λ found. Matches (λ p. p) found
+        (laid_out launch.now (bytes_of_files files.now))) }
+{
     let dtb = prepare_dtb(alloc, launch, files)?;
-    let extents = extents_of(alloc, launch, files, &dtb)?;
-    check_together(launch.items(), &extents)?;
-    gather(alloc, launch, &extents, dtb.into_bytes())
+    let extents = match extents_of(alloc, launch, files, &dtb)? {
+        Ok(extents) => extents,
+        Err(reason) => return Ok(Err(reason)),
+    };
+    match check_together(launch.items(), &extents) {
+        Ok(()) => Ok(Ok(gather(alloc, launch, &extents, dtb.into_bytes())?)),
+        Err(reason) => Ok(Err(reason)),
+    }
 }
 
 /// A launch whose items have these extents.
@@ -48,9 +72,9 @@ fn gather(
     launch: &Launch,
     extents: &[Extent],
     edited: Option<Vec<u8>>,
-) -> Result<Placed, LayoutFault>
-    ensures { Answers LayoutFault.NoMemory (λ p. p) result
-        (Ok (placed_at launch.now (option_map (λ v. v.items) edited) extents.now)) }
+) -> Result<Placed, NoMemory>
+    ensures { IfOk result (λ p. p
+        ≡ placed_at launch.now (option_map (λ v. v.items) edited) extents.now) }
 {
     let kernel = extent_at(extents, index_of(launch.items(), Role::Kernel));
     let dtb = extent_at(extents, index_of(launch.items(), Role::Dtb));
@@ -151,7 +175,7 @@ fn prepare_dtb(alloc: Global, launch: &Launch, files: &[Vec<u8>]) -> Result<Dtb,
 }
 
 /// The bytes that are placed: those of an item's file, or the edited devicetree.
-fn bytes_of<'a>(dtb: &'a Dtb, files: &'a [Vec<u8>], item: &Item) -> Result<&'a [u8], LayoutFault>
+fn bytes_of<'a>(dtb: &'a Dtb, files: &'a [Vec<u8>], item: &Item) -> Result<&'a [u8], ItemReason>
     requires { file_of item.now.kind < length files.now }
     ensures { Matches (λ b. b.now) result
         (bytes_of (seen dtb.now) (bytes_of_files files.now) item.now) }
@@ -162,30 +186,55 @@ fn bytes_of<'a>(dtb: &'a Dtb, files: &'a [Vec<u8>], item: &Item) -> Result<&'a [
     match dtb {
         Dtb::Edited(bytes) => Ok(bytes.as_slice()),
         Dtb::AsFile => Ok(&[]),
-        Dtb::Refused(fault) => Err(LayoutFault::Dtb(*fault)),
+        Dtb::Refused(fault) => Err(ItemReason::Edits(*fault)),
     }
 }
 
-/// The extents of a launch's items.
+/// The extent of an item of the launch, whose items before it have `pages_before` pages.
+fn extent_after(
+    ram: &[Region],
+    dtb: &Dtb,
+    files: &[Vec<u8>],
+    pages_before: u64,
+    item: &Item,
+) -> Result<Extent, ItemReason>
+    requires { file_of item.now.kind < length files.now }
+    ensures exact { result
+        ≡ extent_after ram.now (seen dtb.now) (bytes_of_files files.now) pages_before item.now }
+    ensures within { IfOk result (λ s. pages_before + page_count_of s.address s.size ≤ PAGE_LIMIT) }
+{
+    let bytes = bytes_of(dtb, files, item)?;
+    check_item(ram, pages_before, item, bytes)
+}
+
+/// The extents of a launch's items, or the first item that is refused.
 fn extents_of(
     alloc: Global,
     launch: &Launch,
     files: &[Vec<u8>],
     dtb: &Dtb,
-) -> Result<Vec<Extent>, LayoutFault>
+) -> Result<Result<Vec<Extent>, LayoutReason>, NoMemory>
     requires { has_files launch.now (length files.now) ≡ true }
-    ensures { Answers LayoutFault.NoMemory (λ v. v.items) result
-        (extents_of launch.now.ram (seen dtb.now) (bytes_of_files files.now) 0 launch.now.items) }
+    ensures { IfOk result (λ found. Matches (λ v. v.items) found
+        (extents_of launch.now.ram (seen dtb.now) (bytes_of_files files.now) 0 0
+        launch.now.items)) }
 {
     let mut extents = Vec::with_capacity(alloc, launch.items().len())?;
     let mut pages = 0;
-    for item in launch.items() {
-        let bytes = bytes_of(dtb, files, item)?;
-        let extent = check_item(launch.ram(), pages, item, bytes)?;
+    for (number, item) in launch.items().iter().enumerate() {
+        let extent = match extent_after(launch.ram(), dtb, files, pages, item) {
+            Ok(extent) => extent,
+            Err(reason) => {
+                return Ok(Err(LayoutReason::Item {
+                    item: number,
+                    reason,
+                }));
+            }
+        };
         pages += extent.page_count();
         extents.push(extent)?;
     }
-    Ok(extents)
+    Ok(Ok(extents))
 }
 
 /// The number of the first item with a role.
@@ -195,15 +244,17 @@ fn index_of(items: &[Item], role: Role) -> Option<usize>
     items.iter().position(|item| item.has_role(role))
 }
 
-/// The extent of the item of this number, if a number is given.
-fn extent_at(extents: &[Extent], index: Option<usize>) -> Option<Extent>
-    ensures { result ≡ option_and_then (slice_get extents.now) index }
+/// The item of this number with its extent, if a number is given.
+fn extent_at(extents: &[Extent], index: Option<usize>) -> Option<ItemExtent>
+    ensures { result ≡ option_and_then (item_extent extents.now) index }
 {
-    extents.get(index?).copied()
+    let item = index?;
+    let extent = *extents.get(item)?;
+    Some(ItemExtent { item, extent })
 }
 
 /// Refuses the items together.
-fn check_together(items: &[Item], extents: &[Extent]) -> Result<(), LayoutFault>
+fn check_together(items: &[Item], extents: &[Extent]) -> Result<(), LayoutReason>
     ensures { result ≡ checked_together items.now extents.now }
 {
     check_all(
@@ -265,8 +316,8 @@ fn recs_at(alloc: Global, recs: &[Rec], kernel: u64, dtb: u64) -> Result<Vec<Pla
 }
 
 /// The address of an item, or 0 if the launch has none.
-fn address_of(extent: Option<Extent>) -> u64
-    ensures { result ≡ address_of extent }
+fn address_of(item: Option<ItemExtent>) -> u64
+    ensures { result ≡ address_of item }
 {
-    extent.map_or(0, |extent| extent.address)
+    item.map_or(0, |item| item.extent.address)
 }

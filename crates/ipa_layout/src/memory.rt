@@ -1,6 +1,6 @@
-//! Whether pages are in RAM.
+//! Which pages are in RAM.
 ghost use Rattle.std.specs.Prelude.{◌≡◌, ◌-◌, ◌≤◌, ◌<◌, ◌^◌, find};
-ghost use Rattle.ipa_layout.specs.Memory.{all_held, holds};
+ghost use Rattle.ipa_layout.specs.Memory.{first_unheld, holds};
 
 use rim_desc::GRANULE_SIZE;
 use rim_launch::Region;
@@ -21,18 +21,18 @@ fn holder(ram: &[Region], page: u64) -> Option<Region>
     ram.iter().copied().find(|region| holds(page, region))
 }
 
-/// Whether each page from `first` on and below `end` is held by some region. Pages are not visited one by
-/// one: from a page that a region holds the search goes on after that region.
-pub fn all_held(ram: &[Region], first: u64, end: u64) -> bool
+/// The first page from `first` on and below `end` that no region holds. Pages are not visited one by one: from a page
+/// that a region holds the search goes on after that region.
+pub fn first_unheld(ram: &[Region], first: u64, end: u64) -> Option<u64>
     requires { end ≤ 2 ^ 52 }
-    ensures { result ≡ all_held ram.now first (end - first) }
+    ensures { result ≡ first_unheld ram.now first (end - first) }
 {
     let mut page = first;
     while page < end {
         let Some(region) = holder(ram, page) else {
-            return false;
+            return Some(page);
         };
         page = end.min(region.end / GRANULE_SIZE);
     }
-    true
+    None
 }

@@ -1,11 +1,10 @@
-//! Whether items overlap, and whether kernel and initrd are too far from each other.
-ghost use Rattle.std.specs.Prelude.{◌≡◌, ◌+◌};
-ghost use Rattle.std.specs.List.{list_any};
-ghost use Rattle.ipa_layout.specs.Overlap.{any_overlap, checked_all, gib_span, is_too_far, overlaps};
+//! Which items overlap, and whether kernel and initrd are too far from each other.
+ghost use Rattle.std.specs.Prelude.{◌≡◌, ◌+◌, ◌≤◌, drop, length};
+ghost use Rattle.ipa_layout.specs.Overlap.{checked_all, checked_window, first_met, first_overlap, gib_span, is_too_far, overlaps};
 ghost use Rattle.ipa_layout.specs.Extent.{end_page};
 
 use crate::extent::{Extent, end_page};
-use crate::fault::LayoutFault;
+use crate::reason::{ItemExtent, LayoutReason};
 use rim_desc::GRANULE_SIZE;
 
 /// The bytes of a GiB.
@@ -28,24 +27,34 @@ fn end_of(a: &Extent) -> u64
     end_page(u128::from(a.address) + u128::from(a.len))
 }
 
-/// Whether an item's rounded extent overlaps one of some others.
-fn overlaps_any(first: &Extent, others: &[Extent]) -> bool
-    ensures { result ≡ list_any (overlaps first.now) others.now }
+/// The first item from this number on whose rounded extent overlaps that of another item.
+fn first_met(extent: &Extent, items: &[Extent], from: usize) -> Option<ItemExtent>
+    requires { from ≤ length items.now }
+    ensures { result ≡ first_met extent.now from (drop from items.now) }
 {
-    others.iter().any(|other| overlaps(first, other))
-}
-
-/// Whether the rounded extents of any two of these items overlap.
-pub fn any_overlap(items: &[Extent]) -> bool
-    ensures { result ≡ any_overlap items.now }
-{
-    for (index, first) in items.iter().enumerate() {
-        let (_, others) = items.split_at(index + 1);
-        if overlaps_any(first, others) {
-            return true;
+    for item in from..items.len() {
+        let other = items[item];
+        if overlaps(extent, &other) {
+            return Some(ItemExtent {
+                item,
+                extent: other,
+            });
         }
     }
-    false
+    None
+}
+
+/// The first item whose rounded extent overlaps that of a later one, and the first later one.
+pub fn first_overlap(items: &[Extent]) -> Option<(ItemExtent, ItemExtent)>
+    ensures { result ≡ first_overlap 0 items.now }
+{
+    for item in 0..items.len() {
+        let extent = items[item];
+        if let Some(second) = first_met(&extent, items, item + 1) {
+            return Some((ItemExtent { item, extent }, second));
+        }
+    }
+    None
 }
 
 /// How many GiB the smallest range of whole GiB has that covers two extents.
@@ -67,23 +76,29 @@ pub fn is_too_far(kernel: &Extent, initrd: &Extent) -> bool
     initrd.len != 0 && 32 < gib_span(kernel, initrd)
 }
 
-/// Refuses the items together: two of them overlap, or else kernel and initrd, if the launch has both,
-/// are too far from each other.
+/// Refuses a kernel and an initrd that are too far from each other, where the launch has both.
+fn check_window(kernel: Option<ItemExtent>, initrd: Option<ItemExtent>) -> Result<(), LayoutReason>
+    ensures { result ≡ checked_window kernel initrd }
+{
+    match (kernel, initrd) {
+        (Some(kernel), Some(initrd)) if is_too_far(&kernel.extent, &initrd.extent) => {
+            Err(LayoutReason::InitrdWindow { kernel, initrd })
+        }
+        _ => Ok(()),
+    }
+}
+
+/// Refuses the items together: two of them overlap, or else kernel and initrd are too far from each other.
 #[tactic(auto, unfolding(crate::specs::Overlap::checked_all))]
 pub fn check_all(
     items: &[Extent],
-    kernel: Option<Extent>,
-    initrd: Option<Extent>,
-) -> Result<(), LayoutFault>
+    kernel: Option<ItemExtent>,
+    initrd: Option<ItemExtent>,
+) -> Result<(), LayoutReason>
     ensures { result ≡ checked_all items.now kernel initrd }
 {
-    if any_overlap(items) {
-        return Err(LayoutFault::Overlap);
-    }
-    match (kernel, initrd) {
-        (Some(kernel), Some(initrd)) if is_too_far(&kernel, &initrd) => {
-            Err(LayoutFault::InitrdWindow)
-        }
-        _ => Ok(()),
+    match first_overlap(items) {
+        Some((first, second)) => Err(LayoutReason::Overlap { first, second }),
+        None => check_window(kernel, initrd),
     }
 }

@@ -5,7 +5,10 @@ use Rattle.ipa_layout.specs.inside.LayoutViews.{seen}
 use Rattle.ipa_layout.specs.Files.{bytes_of_files}
 use Rattle.ipa_layout.proofs.layout.extents_of.Given as goal
 
-abbrev pub invariant-loop-item : goal.invariant-loop-item
-invariant-loop-item l =
-    (l.item-items ≡ l.launch.items) × (l.pages ≤ 1048576)
-    × (with_front l.extents.items (extents_of l.launch.ram (seen l.dtb) (bytes_of_files l.files) l.pages (drop l.item-index l.item-items)) ≡ extents_of l.launch.ram (seen l.dtb) (bytes_of_files l.files) 0 l.launch.items)
+abbrev pub invariant-loop-number : goal.invariant-loop-number
+invariant-loop-number l = record {
+  items : l.item-items ≡ l.launch.items;
+  few : l.pages ≤ 1048576;
+  exact : with_front l.extents.items (extents_of l.launch.ram (seen l.dtb) (bytes_of_files l.files) l.number l.pages (drop l.number l.item-items))
+      ≡ extents_of l.launch.ram (seen l.dtb) (bytes_of_files l.files) 0 0 l.launch.items;
+}

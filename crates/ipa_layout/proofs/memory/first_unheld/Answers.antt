@@ -2,7 +2,7 @@ use Rattle.std.proofs.Common.{◌≡◌, ◌+◌, ◌/◌, ◌≤◌, arith, ◌
 use Rattle.std.specs.List.{find}
 use Rattle.ipa_layout.specs.Memory.{holds}
 use Rattle.ipa_layout.proofs.PagesHeldByRegions.{held-end, held-jump, held-stop, holder-behind}
-use Rattle.ipa_layout.proofs.memory.all_held.Goals as goal
+use Rattle.ipa_layout.proofs.memory.first_unheld.Goals as goal
 
 pub returns-in_default : goal.returns-in_default
 returns-in_default c =
