@@ -23,3 +23,5 @@ pub mod ListStepByStep
 pub mod CommandsOfSpans
 -- Lists that begin with the same spans begin with the same commands.
 pub mod SpansInCommon
+-- A step is refused by a fault of its own, and by the planner only where it has addresses, which its reason shows.
+pub mod RefusedSteps

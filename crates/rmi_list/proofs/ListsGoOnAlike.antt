@@ -1,5 +1,5 @@
 -- Lists that go on from plans that agree are the same.
-use Rattle.std.proofs.Common.{◌≡◌, ℕ, ◌+◌, ◌∙◌, refl, ap, Bool, true, false, cond, not, eqb, List, [], ◌∷◌, ◌++◌}
+use Rattle.std.proofs.Common.{◌≡◌, ℕ, ◌+◌, ◌∙◌, refl, sym, subst, ap, Bool, true, false, cond, not, eqb, List, [], ◌∷◌, ◌++◌}
 use Rattle.std.specs.Prelude.{Ok, Err, Option, Some, None, Result}
 use Rattle.std.specs.List.{slice_get}
 use Rattle.refusal.specs.Answer.{◌>>=◌, with_front}
@@ -10,7 +10,7 @@ use Rattle.rmm_model.proofs.TestsThatAgree.{list_all-same, list_any-same}
 use Rattle.rtt_plan.specs.Planned.{Planned, after_data, after_region, data_checks, region_checks}
 use Rattle.rtt_plan.specs.declared.fault.PlanFault.{PlanFault}
 use Rattle.rtt_plan.specs.Runs.{runs_of}
-use Rattle.rtt_plan.proofs.PlansGoOnAlike.{after_data-alike, after_region-alike}
+use Rattle.rtt_plan.proofs.PlansGoOnAlike.{after_data-alike, after_region-alike, agrees-refl, agrees-trans}
 use Rattle.list_model.specs.Entries.{Entry, delegated, granule, item_entries, rec_entries, region_entries}
 use Rattle.list_model.proofs.EntriesOfActs.{pages-alike, runs-alike}
 use Rattle.rim_launch.specs.LaunchData.{LaunchData}
@@ -135,6 +135,29 @@ step-alike : (l : LaunchData) (p : PlacedData) (v w : Progress) (s : Step) → S
 step-alike l p v w (step.Ram n) same = named-alike v w _ _ (slice_get l.ram n) same (λ r. region-alike l.config v w r same)
 step-alike l p v w (step.Item n) same = named-alike v w _ _ (slice_get p.items n) same (λ i. item-alike l.config v w n i same)
 step-alike l p v w (step.Rec n) same = named-alike v w _ _ (slice_get p.recs n) same (λ r. rec-alike l.config v w n r same)
+
+-- so a step that one takes is taken by the other, and one that it refuses is refused
+pub step-taken : (l : LaunchData) (p : PlacedData) (v w : Progress) (s : Step) (done : Listing) → SameProgress v w → list_step l p v s ≡ Ok done
+    → (other : Listing) × (list_step l p w s ≡ Ok other) × SameProgress done.next other.next
+step-taken l p v w s done same at = by_answers (list_step l p w s) (subst (λ (r : Result Listing ListFault). AreAlike r (list_step l p w s)) at (step-alike l p v w s same))
+  where
+    by_answers : (r : Result Listing ListFault) → AreAlike (Ok done) r → (other : Listing) × (r ≡ Ok other) × SameProgress done.next other.next
+    by_answers (Ok other) alike = (other, refl, alike.1)
+    by_answers (Err e) alike = absurd alike
+
+pub step-refused : (l : LaunchData) (p : PlacedData) (v w : Progress) (s : Step) (e : ListFault) → SameProgress v w → list_step l p v s ≡ Err e → list_step l p w s ≡ Err e
+step-refused l p v w s e same at = by_answers (list_step l p w s) (subst (λ (r : Result Listing ListFault). AreAlike r (list_step l p w s)) at (step-alike l p v w s same))
+  where
+    by_answers : (r : Result Listing ListFault) → AreAlike (Err e) r → r ≡ Err e
+    by_answers (Ok other) alike = absurd alike
+    by_answers (Err f) alike = ap (λ (g : ListFault). Err g) (sym alike)
+
+pub progress-refl : (v : Progress) → SameProgress v v
+progress-refl v = record { plan = agrees-refl v.plan; taken = refl; num_recs = refl }
+
+pub progress-trans : (u v w : Progress) → SameProgress u v → SameProgress v w → SameProgress u w
+progress-trans u v w first second =
+    record { plan = agrees-trans u.plan v.plan w.plan first.plan second.plan; taken = first.taken ∙ second.taken; num_recs = first.num_recs ∙ second.num_recs }
 
 then-alike : (a b : Result Listing ListFault) (f : Progress → Result (List Entry) ListFault) → AreAlike a b → ((v w : Progress) → SameProgress v w → f v ≡ f w)
     → (a >>= λ done. with_front done.entries (f done.next)) ≡ (b >>= λ done. with_front done.entries (f done.next))

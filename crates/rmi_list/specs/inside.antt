@@ -3,3 +3,4 @@ pub mod Drafts
 pub mod Acts
 pub mod Plans
 pub mod Common
+pub mod Steps

@@ -6,6 +6,7 @@ ghost use Rattle.refusal.specs.Answer.{Answers};
 ghost use Rattle.rmm_model.specs.Blocks.{granules};
 ghost use Rattle.list_model.specs.Entries.{Whole, command_of, delegated, granule, page_of};
 ghost use Rattle.rmi_list.specs.Listed.{HasPlace, IsRefusal, listed, opening_progress, opening_entries};
+ghost use Rattle.rmi_list.specs.Reason.{IsReason};
 ghost use Rattle.rmi_list.specs.declared.fault.ListFault.{ListFault};
 ghost use Rattle.rmi_list.specs.inside.Drafts.{AreSpans, InPool, entries_in, progress_of};
 ghost use Rattle.rmi_list.specs.inside.Spans.{IsCommandAt, IsPageAt, IsSpan, commands_in, entries_of_span, rec_entry};
@@ -18,6 +19,7 @@ ghost use Rattle.rim_desc.specs.declared.rec.TheConstants.{AUX_LIMIT, REC_LIMIT}
 
 use crate::draft::Draft;
 use crate::fault::ListFault;
+use crate::reason::{ListReason, step_reason};
 use crate::span::Span;
 use ipa_layout::{Placed, PlacedRec};
 use refusal::NoMemory;
@@ -75,21 +77,55 @@ pub fn list(alloc: Global, launch: &Launch, placed: &Placed) -> Result<Plan, Lis
 }
 
 /// Whether a launch that has its place has a list of commands; or the first reason why it has none, as `list` answers it. No
-/// list is kept: the commands of a step are dropped before the next step.
+/// list is kept.
 pub fn check<'a>(alloc: Global, launch: &'a Launch, placed: &'a Placed) -> Result<(), ListFault>
     requires { HasPlace launch.now placed.now }
     ensures list { IfOk result (λ done. IsOk (listed launch.now placed.now)) }
     ensures fault { IfErr result (IsRefusal launch.now placed.now) }
 {
-    if placed.recs().len() > REC_LIMIT {
-        return Err(ListFault::TooManyRecs);
+    match check_with_reason(alloc, launch, placed)? {
+        Ok(()) => Ok(()),
+        Err(reason) => Err(reason.fault()),
     }
-    let mut draft = open(alloc, launch, placed)?;
-    for step in launch.steps() {
-        draft.step(step)?;
+}
+
+/// The same, with the whole reason: which part of the list is refused, and the numbers that its check looked at. No list is
+/// kept: the commands of a step are dropped before the next step.
+pub fn check_with_reason<'a>(
+    alloc: Global,
+    launch: &'a Launch,
+    placed: &'a Placed,
+) -> Result<Result<(), ListReason>, NoMemory>
+    requires { HasPlace launch.now placed.now }
+    ensures list { IfOk result (λ found. IfOk found (λ done. IsOk (listed launch.now placed.now))) }
+    ensures reason { IfOk result (λ found. IfErr found (IsReason launch.now placed.now)) }
+{
+    let count = placed.recs().len();
+    if count > REC_LIMIT {
+        return Ok(Err(ListReason::TooManyRecs { count }));
+    }
+    let mut draft = match open(alloc, launch, placed) {
+        Ok(draft) => draft,
+        Err(fault) => {
+            return match fault {
+                ListFault::NoMemory => Err(NoMemory),
+                _ => Ok(Err(ListReason::Opening)),
+            };
+        }
+    };
+    for (number, step) in launch.steps().iter().enumerate() {
+        let listed = draft.num_recs;
+        if let Err(fault) = draft.step(step) {
+            let reason = step_reason(launch, placed, listed, step, fault)?;
+            return Ok(Err(ListReason::Step {
+                number,
+                step: *step,
+                reason,
+            }));
+        }
         draft.spans.clear();
     }
-    Ok(())
+    Ok(Ok(()))
 }
 
 /// The list's begin: the granules of the start tables and of the realm descriptor, and the realm.
