@@ -1,7 +1,7 @@
 -- A line that is added to a text.
 use Rattle.std.proofs.Common.{◌≡◌, ◌∙◌, ℕ, List, [], ◌∷◌, ◌++◌, Option, ap, refl, sym, subst, append_assoc, true}
 use Rattle.std.specs.List.{list_all}
-use Rattle.rim_check.specs.Lines.{AddsLine, IsFront, Saying, Says, SayInTurn, is_inside}
+use Rattle.rim_check.specs.Lines.{AddsLine, IsKnown, Saying, Says, SayInTurn, is_inside}
 
 -- a line alone says what it says
 alone : (s : Saying) (line : List ℕ) → Says s line → SayInTurn (s ∷ []) (line ++ 10 ∷ [])
@@ -24,15 +24,15 @@ lines-append (first ∷ said) s text line says begins = record {
 pub adds-line : (word before after old new : List ℕ)
     → list_all is_inside before ≡ true → list_all is_inside after ≡ true
     → new ≡ ((old ++ before) ++ word) ++ after ++ 10 ∷ []
-    → (known : Option (List ℕ)) → IsFront known before → AddsLine (record { front = known; word = word }) old new
-adds-line word before after old new no-feed-before no-feed-after is known front said says =
+    → (front detail : Option (List ℕ)) → IsKnown front before → IsKnown detail after → AddsLine (record { front = front; word = word; detail = detail }) old new
+adds-line word before after old new no-feed-before no-feed-after is front detail begins ends said says =
     subst (SayInTurn (said ++ s ∷ [])) (sym whole) (lines-append said s old ((before ++ word) ++ after) line-says says)
   where
     s : Saying
-    s = record { front = known; word = word }
+    s = record { front = front; word = word; detail = detail }
 
     line-says : Says s ((before ++ word) ++ after)
-    line-says = record { before = before; after = after; spelled = refl; one = (no-feed-before, no-feed-after); begins = front }
+    line-says = record { before = before; after = after; spelled = refl; one = (no-feed-before, no-feed-after); begins = begins; ends = ends }
 
     whole : new ≡ old ++ (((before ++ word) ++ after) ++ 10 ∷ [])
     whole = is ∙ simp append_assoc

@@ -9,5 +9,9 @@ pub mod FindingLines
 pub mod LaunchLines
 -- bytes that are shown as they are end no line, so a name or a path stays inside its line
 pub mod PlainBytes
--- in each turn of that loop: nothing is said of a launch that is accepted, and one line of one that is refused
+-- in each turn of that loop: nothing is said of a launch that is accepted, and one line of one that is refused, for its reason
 pub mod SaidOfLaunches
+-- The numbers of a reason: their hexadecimal digits
+pub mod HexadecimalDigits
+-- and the names of its items
+pub mod NamesOfItems

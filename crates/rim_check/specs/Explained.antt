@@ -1,6 +1,8 @@
 -- What is said of a manifest's faults and of the launches that are refused. This project's choice.
-use Rattle.std.specs.Prelude.{◌≡◌, ℕ, List, [], ◌∷◌, ◌++◌, map, Some, None, Result, Ok, Err, codes}
-use Rattle.std.specs.List.{flat_map}
+use Rattle.std.specs.Prelude.{◌≡◌, ◌⊎◌, ℕ, List, [], ◌∷◌, ◌++◌, map, Some, None, IsOk, Ok, Err, codes}
+use Rattle.ipa_layout.specs.Layout.{PlacedData, laid_out, places}
+use Rattle.ipa_layout.specs.Reason.{fault_of}
+use Rattle.rim_launch.specs.LaunchData.{LaunchData}
 use Rattle.rim_manifest.specs.declared.fault.ManifestFault.{ManifestFault}
 use Rattle.rim_manifest.specs.Faults.{kind_of, lowest}
 use Rattle.rim_manifest.specs.Launches.{NamedData}
@@ -8,13 +10,21 @@ use Rattle.rim_manifest.specs.Manifest.{Answer}
 use Rattle.rim_release.specs.Accepted.{rim_for}
 use Rattle.rim_release.specs.AuditFaults.{audit_kind_of}
 use Rattle.rim_release.specs.declared.audit_fault.AuditFault.{AuditFault}
+use Rattle.rim_release.specs.declared.audit_fault.AuditFault.TheVariants as fault
+use Rattle.rmi_list.specs.Reason.{IsReason, list_fault_of}
+use Rattle.rim_check.specs.Details.{reason_detail}
 use Rattle.rim_check.specs.Lines.{Saying, SayInTurn}
+use Rattle.rim_check.specs.Readables.{item_name, item_names_in}
 use Rattle.rim_check.specs.declared.manifest.ManifestCheck.{ManifestCheck}
 use Rattle.rim_check.specs.declared.manifest.ManifestCheck.TheVariants.{Faulty, Readable}
+use Rattle.rim_check.specs.declared.reason.LaunchReason.{LaunchReason}
+use Rattle.rim_check.specs.declared.reason.LaunchReason.TheVariants.{Layout, List as Lists}
+
+-- ---- manifests
 
 -- what is said of a fault of a manifest: its word
 abbrev pub fault_said : ManifestFault → Saying
-fault_said fault = record { front = None; word = kind_of fault }
+fault_said fault = record { front = None; word = kind_of fault; detail = None }
 
 -- the text has a line for each of some faults, and the lowest of them is the one that the manifest is refused with
 pub record Explains (fault : ManifestFault) (text : List ℕ) : Type 0 where
@@ -25,22 +35,55 @@ pub record Explains (fault : ManifestFault) (text : List ℕ) : Type 0 where
 -- a manifest is explained as faulty exactly where it is refused
 abbrev pub IsCheckOf : Answer → ManifestCheck → Type 0
 IsCheckOf (Err fault) (Faulty text) = Explains fault text.items
-IsCheckOf (Ok release) (Readable readable) = readable ≡ release
+IsCheckOf (Ok release) (Readable readable) = readable.release ≡ release
 IsCheckOf _ _ = ⊥
+
+-- a manifest that is not faulty has the names of its text's items
+abbrev pub HasNames : List ℕ → ManifestCheck → Type 0
+HasNames bytes (Faulty text) = Unit {0}
+HasNames bytes (Readable readable) = readable.names ≡ item_names_in bytes
+
+-- ---- launches
 
 -- how the line of a launch begins
 abbrev pub launch_front : List ℕ → List ℕ
 launch_front name = codes "launch \"" ++ (name ++ codes "\": ")
 
--- what is said of a launch that is refused: its name and the word of its refusal
-abbrev pub refusal_said : List ℕ → AuditFault → Saying
-refusal_said name fault = record { front = Some (launch_front name); word = audit_kind_of fault }
+-- the fault that a reason is one of
+abbrev pub audit_fault_of : LaunchReason → AuditFault
+audit_fault_of (Layout why) = fault.Layout (fault_of why)
+audit_fault_of (Lists why) = fault.List (list_fault_of why)
 
--- what is said of a launch of which this came
-abbrev pub said_of : {X : Type 0} → List ℕ → Result X AuditFault → List Saying
-said_of name (Ok x) = []
-said_of name (Err fault) = refusal_said name fault ∷ []
+-- the launch has this reason: it cannot be laid out, or it has its place and no list
+abbrev pub HasReason : LaunchData → List (List ℕ) → LaunchReason → Type 0
+HasReason l files (Layout why) = laid_out l files ≡ Err why
+HasReason l files (Lists why) = (p : PlacedData) × (places l files ≡ Ok p) × IsReason l p why
 
--- what is said of the launches: of each that is refused, the word that the report has, in its order
-abbrev pub refusals_said : List (List ℕ) → List NamedData → List Saying
-refusals_said files ls = flat_map (λ l. said_of l.name (rim_for l.launch files)) ls
+-- the launch is refused for this reason, whose fault is the one that the report has
+pub record IsRefusedFor (l : LaunchData) (files : List (List ℕ)) (why : LaunchReason) : Type 0 where
+  pub refused : rim_for l files ≡ Err (audit_fault_of why)
+  pub reason : HasReason l files why
+
+-- what is said of a launch that is refused for this reason: its name, the word of its refusal, and the reason's detail
+abbrev pub refusal_said : List (List (List ℕ)) → NamedData → LaunchReason → Saying
+refusal_said names l why = record {
+  front = Some (launch_front l.name);
+  word = audit_kind_of (audit_fault_of why);
+  detail = Some (codes ": " ++ reason_detail (item_name names l.launch.number) l.launch.config why);
+}
+
+-- what is said of a launch: nothing where it is accepted, else its refusal
+abbrev pub IsSaidOf : List (List (List ℕ)) → List (List ℕ) → NamedData → List Saying → Type 0
+IsSaidOf names files l said = (IsOk (rim_for l.launch files) × (said ≡ []))
+    ⊎ ((why : LaunchReason) × IsRefusedFor l.launch files why × (said ≡ refusal_said names l why ∷ []))
+
+-- what is said of the launches of a manifest, in their order
+abbrev pub AreSaidOf : List (List (List ℕ)) → List (List ℕ) → List NamedData → List Saying → Type 0
+AreSaidOf names files [] said = said ≡ []
+AreSaidOf names files (l ∷ ls) said = (own others : List Saying) × IsSaidOf names files l own × AreSaidOf names files ls others × (said ≡ own ++ others)
+
+-- a text is one line for each launch that is refused
+pub record ShowsRefusals (names : List (List (List ℕ))) (files : List (List ℕ)) (ls : List NamedData) (text : List ℕ) : Type 0 where
+  pub said : List Saying
+  pub are : AreSaidOf names files ls said
+  pub lines : SayInTurn said text

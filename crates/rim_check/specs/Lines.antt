@@ -10,26 +10,28 @@ is_inside b = not (b == 10)
 abbrev pub is_plain : ℕ → Bool
 is_plain b = nat_le 32 b && not (b == 127) && not (b == 194)
 
--- what a line says: a word; and what is before it, where that is known
+-- what a line says: a word; and what is before it and after it, where that is known
 pub record Saying : Type 0 where
   pub front : Option (List ℕ)
   pub word : List ℕ
+  pub detail : Option (List ℕ)
 
 -- what is said of a file that cannot be read: its path and why
 abbrev pub file_said : List ℕ → List ℕ → Saying
-file_said path word = record { front = Some (path ++ codes ": "); word = word }
+file_said path word = record { front = Some (path ++ codes ": "); word = word; detail = Some [] }
 
--- what is before the word is just what is known to be there, if all bytes of that are shown as they are
-abbrev pub IsFront : Option (List ℕ) → List ℕ → Type 0
-IsFront known before = IfSome known (λ front. list_all is_plain front ≡ true → before ≡ front)
+-- a text is what is known of it, if all bytes of that are shown as they are
+abbrev pub IsKnown : Option (List ℕ) → List ℕ → Type 0
+IsKnown known text = IfSome known (λ whole. list_all is_plain whole ≡ true → text ≡ whole)
 
--- the line has the word, with what is known to be before it, and no line feed before or after it
+-- the line has the word, with what is known to be before it and after it, and no line feed there
 pub record Says (s : Saying) (line : List ℕ) : Type 0 where
   pub before : List ℕ
   pub after : List ℕ
   pub spelled : line ≡ (before ++ s.word) ++ after
   pub one : (list_all is_inside before ≡ true) × (list_all is_inside after ≡ true)
-  pub begins : IsFront s.front before
+  pub begins : IsKnown s.front before
+  pub ends : IsKnown s.detail after
 
 -- a line with its line feed, and the text after it
 pub record Begins (s : Saying) (Follows : List ℕ → Type 0) (text : List ℕ) : Type 0 where

@@ -2,20 +2,22 @@
 //! given and what is expected.
 #![tactic(auto)]
 
-mod checked;
+mod detail;
 mod expected;
 mod finding_detail;
 mod launches;
-mod layout_detail;
 mod line;
-mod list_detail;
 mod manifest;
+mod names;
 mod nearest;
 mod place;
+mod readable;
+mod reason;
 mod shown;
 mod syntax;
-mod walk;
 
 pub use launches::check_launches;
 pub use line::push_file;
-pub use manifest::{ManifestCheck, Readable, check_manifest};
+pub use manifest::{ManifestCheck, check_manifest};
+pub use readable::Readable;
+pub use reason::LaunchReason;

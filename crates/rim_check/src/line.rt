@@ -1,7 +1,7 @@
 //! Lines of text.
 ghost use Rattle.std.specs.Prelude.{◌≡◌, ◌<◌, Option, List, ℕ, OnOk, true};
 ghost use Rattle.std.specs.List.{list_all};
-ghost use Rattle.rim_check.specs.Lines.{AddsLine, IsFront, file_said, is_inside, is_plain};
+ghost use Rattle.rim_check.specs.Lines.{AddsLine, IsKnown, file_said, is_inside, is_plain};
 
 use refusal::NoMemory;
 use std::alloc::{AllocError, Global};
@@ -171,8 +171,10 @@ pub fn push_line(
     kind: &str,
     after: &Line,
 ) -> Result<(), NoMemory>
-    ensures { OnOk result ((known : Option (List ℕ)) → IsFront known before.now.text.items
-        → AddsLine (record { front = known; word = kind.now }) text.old.items text.new.items) }
+    ensures { OnOk result ((front detail : Option (List ℕ))
+        → IsKnown front before.now.text.items → IsKnown detail after.now.text.items
+        → AddsLine (record { front = front; word = kind.now; detail = detail })
+        text.old.items text.new.items) }
 {
     text.extend_from_slice(before.as_slice())?;
     text.extend_from_slice(kind.as_bytes())?;

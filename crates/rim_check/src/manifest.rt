@@ -2,18 +2,18 @@
 ghost use Rattle.std.specs.Prelude.{[], ◌∷◌, IfOk, OnOk, map};
 ghost use Rattle.rim_manifest.specs.Manifest.{manifest_of};
 ghost use Rattle.rim_manifest.specs.inside.Findings.{faults_in};
-ghost use Rattle.rim_check.specs.Explained.{IsCheckOf, fault_said};
+ghost use Rattle.rim_check.specs.Explained.{HasNames, IsCheckOf, fault_said};
 ghost use Rattle.rim_check.specs.Lines.{AddsLine, SayInTurn};
 
 use crate::finding_detail::write_detail;
 use crate::line::{Line, push_line};
-use crate::place::{name_at, write_place};
+use crate::place::write_place;
+use crate::readable::Readable;
 use crate::syntax::write_position;
 use refusal::NoMemory;
-use rim_manifest::{Checked, Document, Finding, ManifestFault, Place, Release};
+use rim_manifest::{Checked, Document, Finding, ManifestFault};
 use std::alloc::Global;
 use std::fmt::Write;
-use std::marker::Model;
 use toml::de::Error;
 
 /// A manifest that was checked.
@@ -25,41 +25,11 @@ pub enum ManifestCheck {
     Readable(Readable),
 }
 
-/// A manifest without faults. A clause sees its release.
-#[derive(Drop)]
-pub struct Readable {
-    document: Document,
-    release: Release,
-}
-
-impl Model for Readable {
-    ghost use Rattle.rim_manifest.specs.Launches.{ReleaseData};
-
-    ghost Value = { ReleaseData };
-
-    ghost view = { λ r. r.release };
-}
-
-impl Readable {
-    ghost use Rattle.std.specs.Prelude.{◌≡◌};
-
-    /// The release that it describes.
-    pub fn release(&self) -> &Release
-        ensures { result.now ≡ self.now }
-    {
-        &self.release
-    }
-
-    /// The name of an item of a launch, by their numbers; no text where there is none.
-    pub(crate) fn item_name(&self, launch: usize, item: usize) -> &str {
-        name_at(&self.document, Place::Item { launch, item }).unwrap_or("")
-    }
-}
-
 /// Checks a manifest: a line for each of its faults, which is proved of the lowest alone, or the release that it describes.
 /// A line has the place of the fault, its word, what is given and what is expected.
 pub fn check_manifest(alloc: Global, text: &[u8]) -> Result<ManifestCheck, NoMemory>
-    ensures { IfOk result (IsCheckOf (manifest_of text.now)) }
+    ensures check { IfOk result (IsCheckOf (manifest_of text.now)) }
+    ensures names { IfOk result (HasNames text.now) }
 {
     let document = match Document::read(alloc, text) {
         Ok(document) => document,
@@ -72,7 +42,7 @@ pub fn check_manifest(alloc: Global, text: &[u8]) -> Result<ManifestCheck, NoMem
     };
     match document.check(alloc)? {
         Checked::Accepted(release) => {
-            Ok(ManifestCheck::Readable(Readable { document, release }))
+            Ok(ManifestCheck::Readable(Readable::new(document, release)))
         }
         Checked::Refused(found) => Ok(ManifestCheck::Faulty(lines(alloc, &document, &found)?)),
     }

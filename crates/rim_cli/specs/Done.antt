@@ -15,8 +15,9 @@ use Rattle.rim_release.specs.declared.audit_fault.AuditFault.TheVariants as audi
 use Rattle.rim_release.specs.declared.show.fault.ShowFault.TheVariants as show
 use Rattle.rim_release.specs.declared.fault.StartFault.{StartFault}
 use Rattle.rim_release.specs.declared.fault.StartFault.TheVariants as start
-use Rattle.rim_check.specs.Explained.{Explains, refusals_said}
+use Rattle.rim_check.specs.Explained.{Explains, ShowsRefusals}
 use Rattle.rim_check.specs.Lines.{Saying, SayInTurn}
+use Rattle.rim_check.specs.Readables.{ReadableData, item_names_in}
 use Rattle.rim_cli.specs.declared.words.Format.{Format}
 use Rattle.rim_cli.specs.declared.words.Format.TheVariants as format
 use Rattle.rim_cli.specs.declared.words.Request.{Request}
@@ -71,21 +72,21 @@ pub record ChecksFiles (held : List ℕ → Known) (r : ReleaseData) (shown : Li
   pub status : answer ≡ 3
 
 -- one is checked whose files are read: a line for each launch that is refused, and the status is 1 where there is one
-pub record ChecksLaunches (held : List ℕ → Known) (r : ReleaseData) (shown : List ℕ) (answer : ℕ) : Type 0 where
+pub record ChecksLaunches (held : List ℕ → Known) (m : ReadableData) (shown : List ℕ) (answer : ℕ) : Type 0 where
   pub files : List (List ℕ)
-  pub read : AreRead held r.paths files
-  pub lines : SayInTurn (refusals_said files r.launches) shown
-  pub status : answer ≡ (if has_refused files r.launches then 1 else 0)
+  pub read : AreRead held m.release.paths files
+  pub lines : ShowsRefusals m.names files m.release.launches shown
+  pub status : answer ≡ (if has_refused files m.release.launches then 1 else 0)
 
 -- a release is checked: its files, or its launches where all files are read
-abbrev pub IsReleaseCheck : (List ℕ → Known) → ReleaseData → List ℕ → ℕ → Type 0
-IsReleaseCheck held r text status = ChecksFiles held r text status ⊎ ChecksLaunches held r text status
+abbrev pub IsReleaseCheck : (List ℕ → Known) → ReadableData → List ℕ → ℕ → Type 0
+IsReleaseCheck held m text status = ChecksFiles held m.release text status ⊎ ChecksLaunches held m text status
 
--- a manifest is checked: a line for each of some faults, the lowest of its faults among them, and the status is 3; or
--- else the release that it describes is
-abbrev pub IsCheck : (List ℕ → Known) → Answer → List ℕ → ℕ → Type 0
-IsCheck held (Err fault) text status = Explains fault text × (status ≡ 3)
-IsCheck held (Ok r) text status = IsReleaseCheck held r text status
+-- a manifest whose items have these names is checked: a line for each of some faults, the lowest of its faults among
+-- them, and the status is 3; or else the release that it describes is
+abbrev pub IsCheck : (List ℕ → Known) → List (List (List ℕ)) → Answer → List ℕ → ℕ → Type 0
+IsCheck held names (Err fault) text status = Explains fault text × (status ≡ 3)
+IsCheck held names (Ok r) text status = IsReleaseCheck held (record { names = names; release = r }) text status
 
 -- the launch of a name
 abbrev pub launch_in : ReleaseData → List ℕ → Option NamedData
@@ -112,7 +113,7 @@ abbrev pub IsAnswer : (List ℕ → Known) → Request → List ℕ → List ℕ
 IsAnswer held (Measure path workers format) bytes text status = IsOkAnd (manifest_of bytes) (λ r. IsReport format held r text status)
 IsAnswer held (Lists path launch) bytes text status = IsOkAnd (manifest_of bytes) (λ r. IsListing held r launch.now text status)
 IsAnswer held (Audit path) bytes text status = IsOkAnd (manifest_of bytes) (λ r. IsAudit held r text status)
-IsAnswer held (Check path) bytes text status = IsCheck held (manifest_of bytes) text status
+IsAnswer held (Check path) bytes text status = IsCheck held (item_names_in bytes) (manifest_of bytes) text status
 IsAnswer held (Dtb path launch) bytes text status = IsOkAnd (manifest_of bytes) (λ r. IsDevicetree held r launch.now text status)
 IsAnswer held (Image file) bytes text status = (image_answer_of bytes ≡ Ok text) × (status ≡ 0)
 IsAnswer held (Fdt file) bytes text status = ShowsDevicetree bytes text × (status ≡ 0)

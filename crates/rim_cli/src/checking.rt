@@ -6,6 +6,7 @@ ghost use Rattle.rim_cli.specs.Status.{word_of};
 ghost use Rattle.rim_cli.specs.inside.Found.{AreFound};
 ghost use Rattle.rim_check.specs.Lines.{AddsLine, file_said};
 ghost use Rattle.rim_manifest.specs.Manifest.{manifest_of};
+ghost use Rattle.rim_check.specs.Readables.{item_names_in};
 
 use crate::answer::{Answer, answer_of};
 use crate::fault::Fault;
@@ -17,7 +18,8 @@ use std::alloc::Global;
 /// What is wrong with the manifest at a path; or else with the files and the launches of its release.
 pub fn check<O: Opener>(alloc: Global, opener: &mut O, path: &str) -> Result<Answer, Fault>
     ensures answered { IfOk result (λ a. IfFile (O.held opener.old path.now)
-        (λ bytes. IsCheck (O.held opener.old) (manifest_of bytes) a.text.items a.status)) }
+        (λ bytes. IsCheck (O.held opener.old) (item_names_in bytes) (manifest_of bytes)
+        a.text.items a.status)) }
     ensures refused { IfErr result (IsFileFault (O.held opener.old path.now)) }
     ensures status { IfOk result (λ a. (a.status ≤ 1) ⊎ (a.status ≡ 3)) }
 {

@@ -3,5 +3,5 @@ use Rattle.ipa_layout.specs.Files.{bytes_of_files}
 use Rattle.rim_check.proofs.LaunchLines.{AreChecked}
 use Rattle.rim_check.proofs.launches.check_all.Given as goal
 
-abbrev pub invariant-loop-number : goal.invariant-loop-number
-invariant-loop-number l = AreChecked (bytes_of_files l.files) (take l.number l.launch-items) l.text.items l.has_refused
+abbrev pub invariant-loop-launch : goal.invariant-loop-launch
+invariant-loop-launch l = AreChecked l.readable.names (bytes_of_files l.files) (take l.launch-index l.launch-items) l.text.items l.has_refused

@@ -1,6 +1,6 @@
-use Rattle.std.proofs.Common.{◌∙◌, ◌++◌, ℕ, List, Option, Some, ap, codes}
+use Rattle.std.proofs.Common.{◌∙◌, ◌++◌, ℕ, List, Option, Some, [], ap, codes}
 use Rattle.std.proofs.lemmas.Result.{on_ok_weaker}
-use Rattle.rim_check.specs.Lines.{AddsLine, IsFront}
+use Rattle.rim_check.specs.Lines.{AddsLine, IsKnown}
 use Rattle.rim_check.proofs.PlainBytes.{adds-both}
 use Rattle.rim_check.proofs.line.push_file.Goals as goal
 
@@ -8,11 +8,11 @@ pub returns : goal.returns
 returns c =
     let path : List ℕ = c.args.path.now in
     let before : List ℕ = c.push_text-2.new.self.text.items in
-    let front : IsFront (Some (path ++ codes ": ")) before =
+    let front : IsKnown (Some (path ++ codes ": ")) before =
     λ plain. adds-both c.new-before.result.text.items c.push_text.new.self.text.items before path (codes ": ")
     c.in_ok-push_text.ensures c.in_ok-push_text-2.ensures plain
     ∙ ap (λ (old : List ℕ). old ++ (path ++ codes ": ")) c.new-before.ensures in
     on_ok_weaker _
-    (λ (adds : (known : Option (List ℕ)) → IsFront known before → AddsLine (record { front = known; word = c.args.kind.now }) c.args.text.now.items c.push_line.new.text.items).
-    adds (Some (path ++ codes ": ")) front)
+    (λ (adds : (known detail : Option (List ℕ)) → IsKnown known before → IsKnown detail c.new.result.text.items → AddsLine (record { front = known; word = c.args.kind.now; detail = detail }) c.args.text.now.items c.push_line.new.text.items).
+    adds (Some (path ++ codes ": ")) (Some []) front (λ plain. c.new.ensures))
     c.push_line.ensures

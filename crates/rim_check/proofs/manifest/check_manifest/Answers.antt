@@ -1,4 +1,4 @@
-use Rattle.std.proofs.Common.{◌∙◌, ◌≡◌, List, Ok, Err, map, refl, subst, sym, true}
+use Rattle.std.proofs.Common.{◌∙◌, ◌≡◌, List, Ok, Err, ap, map, subst, sym, true}
 use Rattle.std.proofs.lemmas.Bool.{false≢true}
 use Rattle.toml.specs.Errors.{IsMemory}
 use Rattle.toml.specs.View.{table_view}
@@ -8,22 +8,23 @@ use Rattle.rim_manifest.specs.Found.{AreFound, IsChecked}
 use Rattle.rim_manifest.specs.inside.Findings.{faults_in}
 use Rattle.rim_check.specs.Explained.{fault_said}
 use Rattle.rim_check.specs.Lines.{SayInTurn}
+use Rattle.rim_check.specs.Readables.{ReadableData}
 use Rattle.rim_check.proofs.FaultsAreExplained.{explains-found, explains-syntax, of-document, of-none}
 use Rattle.rim_check.proofs.manifest.check_manifest.Goals as goal
 
-pub returns-in-Err : goal.returns-in-Err
-returns-in-Err c =
+pub returns-in-Err-clause-check : goal.returns-in-Err-clause-check
+returns-in-Err-clause-check c =
     let not_memory : ¬ (IsMemory c.in-Err.error) = λ m. let t : c.is_memory.result ≡ true = c.is_memory.ensures.1 m in false≢true (sym c.if-is_memory.false ∙ t) in
     of-none _ _ (c.in-Err.ensures.refused not_memory) (explains-syntax _ c.in_ok-syntax_line-in-Err.ensures)
 
-pub returns-in-Accepted : goal.returns-in-Accepted
-returns-in-Accepted c =
+pub returns-in-Accepted-clause-check : goal.returns-in-Accepted-clause-check
+returns-in-Accepted-clause-check c =
     let ms = table_view c.in-Ok.document.table in
     let checked : IsChecked ms (Accepted c.in-Accepted.release) = subst (IsChecked ms) c.in-Accepted.is c.in_ok-release.ensures in
-    of-document _ ms (Ok c.in-Accepted.release) _ c.in-Ok.ensures.document checked refl
+    of-document _ ms (Ok c.in-Accepted.release) _ c.in-Ok.ensures.document checked (ap (λ (r : ReadableData). r.release) c.new.ensures)
 
-pub returns-in_ok-lines-in-Refused : goal.returns-in_ok-lines-in-Refused
-returns-in_ok-lines-in-Refused c =
+pub returns-in_ok-lines-in-Refused-clause-check : goal.returns-in_ok-lines-in-Refused-clause-check
+returns-in_ok-lines-in-Refused-clause-check c =
     let ms = table_view c.in-Ok.document.table in
     let found : AreFound ms (faults_in c.in-Refused.found.items) = subst (IsChecked ms) c.in-Refused.is c.in_ok-release.ensures in
     let lines = subst (λ (fs : List Finding). SayInTurn (map fault_said (faults_in fs)) c.in_ok-lines-in-Refused.field-0.items) c.deref.ensures.value c.in_ok-lines-in-Refused.ensures in

@@ -1,0 +1,275 @@
+//! What is at fault in a launch that is refused, in words: the text after the word of its refusal.
+ghost use Rattle.std.specs.Prelude.{◌≡◌, ◌+◌, ◌++◌, IfOk, codes, false, string_bytes};
+ghost use Rattle.std.specs.Fmt.{digits};
+ghost use Rattle.rim_check.specs.Details.{hexadecimal, item_detail, layout_detail, list_detail, pair_text, plan_detail, pool_text, range_text, reason_detail, step_detail, step_text};
+ghost use Rattle.rim_check.specs.inside.Names.{names_of};
+ghost use Rattle.ipa_layout.specs.declared.reason.ItemReason.TheVariants as ItemReason;
+
+use crate::names::ItemNames;
+use crate::reason::LaunchReason;
+use arm64_image::ImageFault;
+use fdt_tree::SIZE_LIMIT;
+use ipa_layout::{Extent, IpaRange, ItemExtent, ItemReason, LayoutReason, PAGE_LIMIT};
+use rim_desc::{GRANULE_SIZE, REC_LIMIT};
+use rim_launch::{Config, Step};
+use rmi_list::{ListReason, StepReason};
+use rmm_model::protected_end;
+use rtt_plan::{ENTRY_LIMIT, PlanFault};
+use std::alloc::{AllocError, Global};
+
+/// A hexadecimal digit, and others after it.
+fn with_digit(alloc: Global, digit: u8, others: &str) -> Result<String, AllocError>
+    ensures { IfOk result (λ s. string_bytes s ≡ digits 16 false digit ++ others.now) }
+{
+    format!(in alloc; "{digit:x}{others}")
+}
+
+/// A number in hexadecimal digits, with `0x` before them.
+fn hexadecimal(alloc: Global, number: u128) -> Result<String, AllocError>
+    ensures { IfOk result (λ s. string_bytes s ≡ hexadecimal number) }
+{
+    let mut digits = String::new(alloc);
+    let mut rest = number;
+    while rest >= 16 {
+        digits = with_digit(alloc, (rest % 16) as u8, digits.as_str())?;
+        rest /= 16;
+    }
+    let whole = with_digit(alloc, rest as u8, digits.as_str())?;
+    format!(in alloc; "0x{whole}")
+}
+
+/// Addresses: the first, and the first after them.
+fn range_text(alloc: Global, range: IpaRange) -> Result<String, AllocError>
+    ensures { IfOk result (λ s. string_bytes s ≡ range_text range.base range.end) }
+{
+    let base = hexadecimal(alloc, range.base)?;
+    let end = hexadecimal(alloc, range.end)?;
+    format!(in alloc; "{base} to {end}")
+}
+
+/// That a kernel's bytes, `count` of them, are no Image.
+fn image_detail(
+    alloc: Global,
+    name: &str,
+    fault: ImageFault,
+    count: u64,
+) -> Result<String, AllocError>
+    ensures { IfOk result
+        (λ s. string_bytes s ≡ item_detail name.now (ItemReason.Kernel fault count)) }
+{
+    match fault {
+        ImageFault::Short => format!(in alloc;
+            "item \"{name}\": its file has {count} bytes, expected at least 64"
+        ),
+        ImageFault::BadMagic => format!(in alloc;
+            "item \"{name}\": bytes 56 to 59 of its file are not those of an arm64 Image"
+        ),
+    }
+}
+
+/// That an item is not at a multiple of what it has to be at.
+fn address_detail(alloc: Global, name: &str, at: u64, multiple: &str) -> Result<String, AllocError>
+    ensures { IfOk result (λ s. string_bytes s ≡ codes "item \"" ++ (name.now
+        ++ (codes "\" at " ++ (hexadecimal at
+        ++ (codes ", expected a multiple of " ++ multiple.now))))) }
+{
+    let at = hexadecimal(alloc, u128::from(at))?;
+    format!(in alloc; "item \"{name}\" at {at}, expected a multiple of {multiple}")
+}
+
+/// That an item ends past 2^64.
+fn end_detail(alloc: Global, name: &str, range: IpaRange) -> Result<String, AllocError>
+    ensures { IfOk result
+        (λ s. string_bytes s ≡ item_detail name.now (ItemReason.PastEnd range)) }
+{
+    let range = range_text(alloc, range)?;
+    format!(in alloc; "item \"{name}\" {range} ends past 2^64")
+}
+
+/// That a page of an item is not RAM.
+fn outside_detail(
+    alloc: Global,
+    name: &str,
+    range: IpaRange,
+    page: u64,
+) -> Result<String, AllocError>
+    ensures { IfOk result
+        (λ s. string_bytes s ≡ item_detail name.now (ItemReason.OutsideRam range page)) }
+{
+    let range = range_text(alloc, range)?;
+    let page = hexadecimal(alloc, u128::from(GRANULE_SIZE) * u128::from(page))?;
+    format!(in alloc; "item \"{name}\" {range} is not in ram: no region has all of the page {page}")
+}
+
+/// Why an item of this name is refused.
+fn item_detail(alloc: Global, name: &str, reason: &ItemReason) -> Result<String, AllocError>
+    ensures { IfOk result (λ s. string_bytes s ≡ item_detail name.now reason.now) }
+{
+    match *reason {
+        ItemReason::Kernel { fault, count } => image_detail(alloc, name, fault, count),
+        ItemReason::Edits(_) => {
+            format!(in alloc; "item \"{name}\": its file cannot be edited as a devicetree")
+        }
+        ItemReason::TooLarge { size } => {
+            format!(in alloc; "item \"{name}\": size {size}, expected at most {SIZE_LIMIT}")
+        }
+        ItemReason::Unaligned { at } => address_detail(alloc, name, at, "8"),
+        ItemReason::KernelBase { at } => address_detail(alloc, name, at, "0x200000"),
+        ItemReason::Short { size, count } => format!(in alloc;
+            "item \"{name}\": size {size}, expected at least its {count} bytes"
+        ),
+        ItemReason::TooManyPages { pages } => format!(in alloc;
+            "with item \"{name}\" the launch has {pages} pages, expected at most {PAGE_LIMIT}"
+        ),
+        ItemReason::PastEnd(range) => end_detail(alloc, name, range),
+        ItemReason::OutsideRam { range, page } => outside_detail(alloc, name, range, page),
+    }
+}
+
+/// The addresses of an item.
+fn extent_text(alloc: Global, extent: Extent) -> Result<String, AllocError>
+    ensures { IfOk result (λ s. string_bytes s
+        ≡ range_text extent.address (extent.address + extent.len)) }
+{
+    let base = u128::from(extent.address);
+    let end = base + u128::from(extent.len);
+    range_text(alloc, IpaRange { base, end })
+}
+
+/// Two items with their addresses.
+fn pair_text(
+    alloc: Global,
+    names: ItemNames,
+    first: ItemExtent,
+    second: ItemExtent,
+) -> Result<String, AllocError>
+    ensures { IfOk result (λ s. string_bytes s ≡ pair_text (names_of names.entry) first second) }
+{
+    let first_name = names.name(first.item);
+    let first_extent = extent_text(alloc, first.extent)?;
+    let second_name = names.name(second.item);
+    let second_extent = extent_text(alloc, second.extent)?;
+    format!(in alloc; "items \"{first_name}\" {first_extent} and \"{second_name}\" {second_extent}")
+}
+
+/// Why a launch cannot be laid out.
+fn layout_detail(
+    alloc: Global,
+    names: ItemNames,
+    reason: &LayoutReason,
+) -> Result<String, AllocError>
+    ensures { IfOk result (λ s. string_bytes s ≡ layout_detail (names_of names.entry) reason.now) }
+{
+    match reason {
+        LayoutReason::Item { item, reason } => item_detail(alloc, names.name(*item), reason),
+        LayoutReason::Overlap { first, second } => pair_text(alloc, names, *first, *second),
+        LayoutReason::InitrdWindow { kernel, initrd } => {
+            let pair = pair_text(alloc, names, *kernel, *initrd)?;
+            format!(in alloc; "{pair}, expected within 32 GiB")
+        }
+    }
+}
+
+/// That a pool has no more granules.
+fn pool_text(alloc: Global, config: &Config) -> Result<String, AllocError>
+    ensures { IfOk result (λ s. string_bytes s ≡ pool_text config.now) }
+{
+    let count = config.pool_count;
+    let base = hexadecimal(alloc, u128::from(config.pool_base))?;
+    format!(in alloc; "the pool of {count} granules from {base} has no more")
+}
+
+/// Why the planner refuses a region, or the pages of an item.
+fn plan_detail(alloc: Global, config: &Config, fault: PlanFault) -> Result<String, AllocError>
+    ensures { IfOk result (λ s. string_bytes s ≡ plan_detail config.now fault) }
+{
+    match fault {
+        PlanFault::OutsideProtected => {
+            let end = hexadecimal(alloc, u128::from(protected_end(config.s2sz)))?;
+            format!(in alloc; "ends above {end}, the end of the protected half")
+        }
+        PlanFault::Unaligned => format!(in alloc; "is not of whole pages"),
+        PlanFault::RipasTwice => format!(in alloc; "has a page that is RAM already"),
+        PlanFault::NotRam => format!(in alloc; "has a page that is not RAM yet"),
+        PlanFault::DataTwice => format!(in alloc; "has a page that has data already"),
+        PlanFault::TooManyEntries => {
+            format!(in alloc; "gives the launch more than {ENTRY_LIMIT} entries")
+        }
+        PlanFault::NoMemory => format!(in alloc; "takes more memory than there is"),
+    }
+}
+
+/// A step as a manifest spells it, with a colon.
+fn step_text(alloc: Global, names: ItemNames, step: &Step) -> Result<String, AllocError>
+    ensures { IfOk result (λ s. string_bytes s ≡ step_text (names_of names.entry) step.now) }
+{
+    match step {
+        Step::Ram(number) => format!(in alloc; "step \"ram {number}\": "),
+        Step::Item(number) => {
+            let name = names.name(*number);
+            format!(in alloc; "step \"item {name}\": ")
+        }
+        Step::Rec(number) => format!(in alloc; "step \"rec {number}\": "),
+    }
+}
+
+/// Why a step is refused.
+fn step_detail(alloc: Global, config: &Config, reason: &StepReason) -> Result<String, AllocError>
+    ensures { IfOk result (λ s. string_bytes s ≡ step_detail config.now reason.now) }
+{
+    match reason {
+        StepReason::Plan { fault, range } => {
+            let range = range_text(alloc, *range)?;
+            let detail = plan_detail(alloc, config, *fault)?;
+            format!(in alloc; "{range} {detail}")
+        }
+        StepReason::PoolEnd => pool_text(alloc, config),
+        StepReason::RecOrder { listed } => {
+            format!(in alloc; "{listed} RECs are listed before it")
+        }
+        StepReason::RecNotRunnable => format!(in alloc; "runnable is false"),
+    }
+}
+
+/// Why a launch has no list of commands.
+fn list_detail(
+    alloc: Global,
+    names: ItemNames,
+    config: &Config,
+    reason: &ListReason,
+) -> Result<String, AllocError>
+    ensures { IfOk result
+        (λ s. string_bytes s ≡ list_detail (names_of names.entry) config.now reason.now) }
+{
+    match reason {
+        ListReason::TooManyRecs { count } => {
+            format!(in alloc; "{count} RECs, expected at most {REC_LIMIT}")
+        }
+        ListReason::Opening => {
+            let pool = pool_text(alloc, config)?;
+            format!(in alloc; "the start tables and the realm descriptor: {pool}")
+        }
+        ListReason::Step { step, reason, .. } => {
+            let step = step_text(alloc, names, step)?;
+            let detail = step_detail(alloc, config, reason)?;
+            format!(in alloc; "{step}{detail}")
+        }
+    }
+}
+
+/// Why a launch is refused, with a colon before it.
+pub(crate) fn reason_detail(
+    alloc: Global,
+    names: ItemNames,
+    config: &Config,
+    reason: &LaunchReason,
+) -> Result<String, AllocError>
+    ensures { IfOk result (λ s. string_bytes s
+        ≡ codes ": " ++ reason_detail (names_of names.entry) config.now reason.now) }
+{
+    let detail = match reason {
+        LaunchReason::Layout(reason) => layout_detail(alloc, names, reason)?,
+        LaunchReason::List(reason) => list_detail(alloc, names, config, reason)?,
+    };
+    format!(in alloc; ": {detail}")
+}
