@@ -36,7 +36,7 @@ led-on s next (x ∷ cs) zero c at taken =
 led-on s next (x ∷ cs) (suc i) c at taken = led-on (after s (step s x)) next cs i c at taken
 
 module _ (l : LaunchCommands) where
-  followed : IsFollowed l.launch.now.config.algo l.launch.now.config.num_aux (commands_in l) (measured l.launch.now l.placed.now (page_contents l.launch.now (bytes_of_files l.files.now) l.placed.now))
+  pub followed : IsFollowed l.launch.now.config.algo l.launch.now.config.num_aux (commands_in l) (measured l.launch.now l.placed.now (page_contents l.launch.now (bytes_of_files l.files.now) l.placed.now))
   followed =
       list-is-followed l.launch.now l.placed.now (page_contents l.launch.now (bytes_of_files l.files.now) l.placed.now) l.plan.now
       (contents-are-good l.launch.now (bytes_of_files l.files.now) l.placed.now) l.is_listed

@@ -1,28 +1,18 @@
 -- The listing of a launch: the commands that build its realm, a line each, and the measurement that they lead to. This
 -- project's choice; the commands are DEN0137's.
-use Rattle.std.specs.Prelude.{ℕ, List, ◌++◌, codes, Result, Ok, Err}
-use Rattle.std.specs.List.{flat_map}
+use Rattle.std.specs.Prelude.{ℕ, List, Result, Ok, Err}
 use Rattle.refusal.specs.Answer.{◌>>=◌}
 use Rattle.rim_desc.specs.declared.command.Command.{Command}
 use Rattle.rim_launch.specs.LaunchData.{LaunchData}
 use Rattle.rim_manifest.specs.Launches.{NamedData}
-use Rattle.rmi_line.specs.Ends.{first_line, last_line}
-use Rattle.rmi_line.specs.Line as command
+use Rattle.rmi_line.specs.Ends.{listing_text}
 use Rattle.rim_release.specs.Accepted.{commands_for, rim_after}
 use Rattle.rim_release.specs.Report.{line_with}
 use Rattle.rim_release.specs.declared.audit_fault.AuditFault.{AuditFault}
 
--- a line with its newline
-abbrev pub ended : List ℕ → List ℕ
-ended line = line ++ codes "\n"
-
--- the line of a command
-abbrev pub command_line : Command → List ℕ
-command_line c = ended (command.line_of c)
-
 -- the lines of a launch that has these commands
 abbrev pub listing_with : LaunchData → List Command → List ℕ
-listing_with l commands = (ended (first_line l.config.num_aux) ++ flat_map command_line commands) ++ ended (last_line l.config.algo (rim_after l commands))
+listing_with l commands = listing_text l.config.num_aux commands l.config.algo (rim_after l commands)
 
 -- the whole listing, or why the launch is refused
 unfoldable pub listing_of : LaunchData → List (List ℕ) → Result (List ℕ) AuditFault

@@ -1,12 +1,14 @@
 //! The listing of a launch: the commands that build its realm, as a monitor takes them.
-ghost use Rattle.std.specs.Prelude.{◌≡◌, ◌++◌, ◌<◌, length, is_err, vec_len, true, Err, IfOk, IfSome, OnOk};
-ghost use Rattle.std.specs.List.{flat_map, slice_get};
+ghost use Rattle.std.specs.Prelude.{◌≡◌, ◌++◌, ◌<◌, length, is_err, vec_len, false, true, Err, Ok, IfOk, IfSome, OnOk};
+ghost use Rattle.std.specs.List.{All, flat_map, slice_get};
 ghost use Rattle.refusal.specs.Answer.{Answers};
 ghost use Rattle.rim_launch.specs.LaunchData.{has_files};
 ghost use Rattle.ipa_layout.specs.Files.{bytes_of_files};
 ghost use Rattle.rim_release.specs.Accepted.{rim_after};
-ghost use Rattle.rmi_line.specs.Ends.{first_line, last_line};
-ghost use Rattle.rim_release.specs.Listing.{command_line, ended, listing_of, listing_with, shown_of};
+ghost use Rattle.rmi_line.specs.Ends.{command_line, first_line, last_line, with_newline};
+ghost use Rattle.rmi_line.specs.Typed.{Are64Bytes, IsTyped};
+ghost use Rattle.rim_replay.specs.Replay.{ReplayAnswer};
+ghost use Rattle.rim_release.specs.Listing.{listing_of, listing_with, shown_of};
 ghost use Rattle.rim_release.specs.Report.{line_with};
 ghost use Rattle.rim_release.specs.inside.Commands.{commands_in};
 
@@ -26,7 +28,7 @@ use std::alloc::Global;
 
 /// The listing of the launch of this number, or why the launch is refused: a line `rim-list 1 aux N`, where a REC has N
 /// auxiliary granules; a line for each command that builds the realm; and a line `rim ALGO HEX` with the Realm Initial
-/// Measurement that a monitor holds then. A monitor is given each command before the command is printed.
+/// Measurement that a monitor holds then. A monitor is given each command before the command is printed. Its replay says yes.
 pub fn listing(
     alloc: Global,
     release: &Release,
@@ -35,8 +37,9 @@ pub fn listing(
 ) -> Result<Vec<u8>, AuditFault>
     requires files { vec_len files.now ≡ length release.now.paths }
     requires launch { i < length release.now.launches }
-    ensures { IfSome (slice_get release.now.launches i) (λ l. Answers AuditFault.NoMemory
+    ensures text { IfSome (slice_get release.now.launches i) (λ l. Answers AuditFault.NoMemory
         (λ text. text.items) result (listing_of l.launch (bytes_of_files files.now.items))) }
+    ensures confirmed { IfOk result (λ text. ReplayAnswer text.items (Ok tt)) }
 {
     list_launch(alloc, release.all_launches()[i].launch(), files)
 }
@@ -54,6 +57,8 @@ pub fn listing_or_refusal(
         (λ l. IfOk result (λ r. r.text.items ≡ shown_of (bytes_of_files files.now.items) l)) }
     ensures refused { IfSome (slice_get release.now.launches i) (λ l. IfOk result
         (λ r. r.has_refused ≡ is_err (listing_of l.launch (bytes_of_files files.now.items)))) }
+    ensures confirmed { IfOk result
+        (λ r. r.has_refused ≡ false → ReplayAnswer r.text.items (Ok tt)) }
 {
     list_or_refuse(alloc, &release.all_launches()[i], files)
 }
@@ -69,6 +74,8 @@ fn list_or_refuse(
         (λ r. r.text.items ≡ shown_of (bytes_of_files files.now) launch.now) }
     ensures refused { IfOk result
         (λ r. r.has_refused ≡ is_err (listing_of launch.now.launch (bytes_of_files files.now))) }
+    ensures confirmed { IfOk result
+        (λ r. r.has_refused ≡ false → ReplayAnswer r.text.items (Ok tt)) }
 {
     match list_launch(alloc, launch.launch(), files) {
         Ok(text) => Ok(Report {
@@ -98,8 +105,9 @@ fn refused_line(alloc: Global, launch: &NamedLaunch, fault: AuditFault) -> Resul
 #[tactic(auto, unfolding(crate::specs::Listing::listing_of))]
 fn list_launch(alloc: Global, launch: &Launch, files: &[Vec<u8>]) -> Result<Vec<u8>, AuditFault>
     requires { has_files launch.now (length files.now) ≡ true }
-    ensures { Answers AuditFault.NoMemory (λ text. text.items) result
+    ensures text { Answers AuditFault.NoMemory (λ text. text.items) result
         (listing_of launch.now (bytes_of_files files.now)) }
+    ensures confirmed { IfOk result (λ text. ReplayAnswer text.items (Ok tt)) }
 {
     let (placed, plan) = lay_out(alloc, launch, files)?;
     let commands = LaunchCommands {
@@ -114,8 +122,9 @@ fn list_launch(alloc: Global, launch: &Launch, files: &[Vec<u8>]) -> Result<Vec<
 
 /// The lines of a launch that is accepted.
 fn print(alloc: Global, commands: &LaunchCommands) -> Result<Vec<u8>, NoMemory>
-    ensures { IfOk result
+    ensures text { IfOk result
         (λ text. text.items ≡ listing_with commands.now.launch.now (commands_in commands.now)) }
+    ensures confirmed { IfOk result (λ text. ReplayAnswer text.items (Ok tt)) }
 {
     let config = commands.launch.config();
     let mut text = Vec::new(alloc);
@@ -127,7 +136,7 @@ fn print(alloc: Global, commands: &LaunchCommands) -> Result<Vec<u8>, NoMemory>
 
 /// Adds the first line.
 fn push_first(text: &mut Vec<u8>, num_aux: u8) -> Result<(), NoMemory>
-    ensures { OnOk result (text.new.items ≡ text.old.items ++ ended (first_line num_aux)) }
+    ensures { OnOk result (text.new.items ≡ text.old.items ++ with_newline (first_line num_aux)) }
 {
     text.extend_from_slice(b"rim-list 1 aux ")?;
     text.extend_from_slice(Buffer::new().format(num_aux).as_bytes())?;
@@ -143,6 +152,7 @@ fn push_commands(
 ) -> Result<Measurement, NoMemory>
     ensures text { OnOk result
         (text.new.items ≡ text.old.items ++ flat_map command_line (commands_in commands.now)) }
+    ensures typed { IfOk result (λ m. All IsTyped (commands_in commands.now)) }
     ensures rim { IfOk result
         (λ m. m.bytes ≡ rim_after commands.now.launch.now (commands_in commands.now)) }
 {
@@ -157,7 +167,8 @@ fn push_commands(
 
 /// Adds the line of a command.
 fn push_command(alloc: Global, text: &mut Vec<u8>, command: &Command) -> Result<(), NoMemory>
-    ensures { OnOk result (text.new.items ≡ text.old.items ++ command_line command.now) }
+    ensures text { OnOk result (text.new.items ≡ text.old.items ++ command_line command.now) }
+    ensures typed { OnOk result (IsTyped command.now) }
 {
     let line = print_line(alloc, command)?;
     text.extend_from_slice(&line)?;
@@ -167,8 +178,9 @@ fn push_command(alloc: Global, text: &mut Vec<u8>, command: &Command) -> Result<
 
 /// Adds the last line.
 fn push_last(text: &mut Vec<u8>, algo: Algo, rim: &Measurement) -> Result<(), NoMemory>
-    ensures { OnOk result (text.new.items
-        ≡ text.old.items ++ ended (last_line algo rim.now.bytes)) }
+    ensures text { OnOk result (text.new.items
+        ≡ text.old.items ++ with_newline (last_line algo rim.now.bytes)) }
+    ensures bytes { OnOk result (Are64Bytes rim.now.bytes) }
 {
     text.extend_from_slice(b"rim")?;
     push_rim(text, algo, rim)?;

@@ -1,6 +1,7 @@
 //! The report of what came of each launch of a release.
 ghost use Rattle.std.specs.Prelude.{◌≡◌, ◌≤◌, ◌++◌, IfOk, OnErr, OnOk, vec_capacity};
 ghost use Rattle.rmi_line.specs.Ends.{rim_text};
+ghost use Rattle.rmi_line.specs.Typed.{Are64Bytes};
 ghost use Rattle.rim_release.specs.Report.{outcome_text, report_with, seen};
 ghost use Rattle.rim_release.specs.inside.Lines.{HasNoRoom, line_with_outcome, lines_with};
 
@@ -107,6 +108,7 @@ fn push_outcome(
 /// Adds the word of an algorithm, and a measurement as its hexadecimal digits.
 pub fn push_rim(text: &mut Vec<u8>, algo: Algo, rim: &Measurement) -> Result<(), NoMemory>
     ensures text { OnOk result (text.new.items ≡ text.old.items ++ rim_text algo rim.now.bytes) }
+    ensures bytes { Are64Bytes rim.now.bytes }
     ensures keeps { vec_capacity text.old ≤ vec_capacity text.new }
     ensures full { OnErr result (HasNoRoom text.old (rim_text algo rim.now.bytes)) }
 {
