@@ -1,19 +1,15 @@
 -- A launch that is accepted has a place and a list.
-use Rattle.std.proofs.Common.{◌≡◌, ℕ, ◌∙◌, List, Vec, Global, length, true, refl, ap, sym}
+use Rattle.std.proofs.Common.{◌≡◌, ℕ, ◌∙◌, List, refl, ap, sym}
 use Rattle.std.specs.Prelude.{Result, Ok, Err}
-use Rattle.std.proofs.lemmas.List.{length-map}
-use Rattle.rim_desc.specs.declared.measurement.Measurement.{Measurement}
 use Rattle.std.specs.Result.{result_map_both}
 use Rattle.refusal.specs.Answer.{◌>>=◌}
-use Rattle.list_model.specs.Entries.{Entry, commands_of}
-use Rattle.rim_launch.specs.LaunchData.{LaunchData, has_files}
-use Rattle.ipa_layout.specs.Files.{bytes_of_files}
-use Rattle.ipa_layout.specs.Layout.{IsPlaced, PlacedData, places}
+use Rattle.list_model.specs.Entries.{Entry}
+use Rattle.rim_launch.specs.LaunchData.{LaunchData}
+use Rattle.ipa_layout.specs.Layout.{PlacedData, places}
 use Rattle.ipa_layout.specs.declared.fault.LayoutFault.{LayoutFault}
 use Rattle.rmi_list.specs.Listed.{listed}
-use Rattle.rmi_list.specs.Measured.{page_contents}
 use Rattle.rmi_list.specs.declared.fault.ListFault.{ListFault}
-use Rattle.rim_release.specs.Accepted.{accepted_of, commands_for, layout_fault, list_fault, rim_after, rim_for}
+use Rattle.rim_release.specs.Accepted.{accepted_of, layout_fault, list_fault}
 use Rattle.rim_release.specs.declared.audit_fault.AuditFault.{AuditFault}
 
 -- the place of a launch that is accepted, and its list

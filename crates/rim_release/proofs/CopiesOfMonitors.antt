@@ -1,6 +1,6 @@
 -- A copy of a monitor is where the monitor of each launch is that begins with the same commands.
-use Rattle.std.proofs.Common.{◌≡◌, ℕ, ◌<◌, ◌≤◌, ◌∙◌, Bool, true, false, zero, suc, List, [], ◌∷◌, ◌++◌, length, get_or, take, ap, sym, subst, arith, slice_set}
-use Rattle.std.specs.Prelude.{if◌then◌else◌, IfSome, None, Ok, Option, Result, Some, replicate}
+use Rattle.std.proofs.Common.{◌≡◌, ℕ, ◌≤◌, ◌∙◌, Bool, true, false, zero, suc, List, [], ◌∷◌, ◌++◌, length, get_or, take, ap, sym, subst, arith, slice_set}
+use Rattle.std.specs.Prelude.{if◌then◌else◌, IfSome, None, Option, Some, replicate}
 use Rattle.std.specs.List.{All, remove, slice_get}
 use Rattle.std.proofs.lemmas.List.{take-take}
 use Rattle.std.proofs.lemmas.List.Elements.{All-append, All-drop}

@@ -32,19 +32,22 @@ own-lines files (l ∷ ls) (outcome ∷ outcomes) same =
     ap (λ (o : Result (List ℕ) AuditFault). line_with l o ++ lines_with ls outcomes) here
     ∙ ap (λ (text : List ℕ). line_of files l ++ text) (own-lines files ls outcomes others)
 
+-- the first elements, and one more
+pub one-more : {X : Type 0} (xs : List X) (i : ℕ) (x : X) → slice_get xs i ≡ Some x → take i xs ++ x ∷ [] ≡ take (i + 1) xs
+one-more xs i x at =
+    let next : suc i ≡ i + 1 = omega arith in
+    ap (λ (y : _). take i xs ++ y ∷ []) (sym (get_or_from_slice_get xs i x x at)) ∙ sym (take-suc xs i x (slice_get_within xs i x at)) ∙ ap (λ (n : ℕ). take n xs) next
+
 -- a line more
 pub line-next : {X : Type 0} (line : X → List ℕ) (old now new : List ℕ) (xs : List X) (i : ℕ) (x : X) → slice_get xs i ≡ Some x
     → now ≡ old ++ flat_map line (take i xs) → new ≡ now ++ line x → new ≡ old ++ flat_map line (take (i + 1) xs)
 line-next line old now new xs i x at so_far added =
-    let next : suc i ≡ i + 1 = omega arith in
-    let one_more : take i xs ++ x ∷ [] ≡ take (i + 1) xs
-    = ap (λ (y : _). take i xs ++ y ∷ []) (sym (get_or_from_slice_get xs i x x at)) ∙ sym (take-suc xs i x (slice_get_within xs i x at)) ∙ ap (λ (n : ℕ). take n xs) next in
     added
     ∙ ap (λ (text : List ℕ). text ++ line x) so_far
     ∙ append_assoc old (flat_map line (take i xs)) (line x)
     ∙ ap (λ (text : List ℕ). old ++ (flat_map line (take i xs) ++ text)) (sym (append-nil (line x)))
     ∙ ap (λ (text : List ℕ). old ++ text) (sym (flat_map-append line (take i xs) (x ∷ [])))
-    ∙ ap (λ (ys : List _). old ++ flat_map line ys) one_more
+    ∙ ap (λ (ys : List _). old ++ flat_map line ys) (one-more xs i x at)
 
 -- what a report is added as
 pub report-joined : (old shared_prefix lines pages number end : List ℕ) → ((((old ++ shared_prefix) ++ lines) ++ pages) ++ number) ++ end ≡ old ++ (((shared_prefix ++ lines) ++ pages) ++ (number ++ end))

@@ -20,14 +20,14 @@ use Rattle.rim_release.specs.declared.commands.LaunchCommands.{LaunchCommands}
 use Rattle.rim_release.specs.inside.Commands.{commands_in, state_after}
 
 -- a command of a list that is accepted is taken in its turn
-taken-in-turn : (s : State) (cs : List Command) (i : ℕ) (c : Command) → accepted s cs ≡ true → slice_get cs i ≡ Some c → is_ok (step (run s (take i cs)) c) ≡ true
+pub taken-in-turn : (s : State) (cs : List Command) (i : ℕ) (c : Command) → accepted s cs ≡ true → slice_get cs i ≡ Some c → is_ok (step (run s (take i cs)) c) ≡ true
 unfolding accepted run
 taken-in-turn s [] i c ok at = absurd (cc)
 taken-in-turn s (x ∷ cs) zero c ok at = let same : x ≡ c = same_Some x c at in subst (λ (y : Command). is_ok (step s y) ≡ true) same (and_parts _ _ ok).0
 taken-in-turn s (x ∷ cs) (suc i) c ok at = taken-in-turn (after s (step s x)) cs i c (and_parts _ _ ok).1 at
 
 -- where it leads
-led-on : (s next : State) (cs : List Command) (i : ℕ) (c : Command) → slice_get cs i ≡ Some c → step (run s (take i cs)) c ≡ Ok next → next ≡ run s (take (suc i) cs)
+pub led-on : (s next : State) (cs : List Command) (i : ℕ) (c : Command) → slice_get cs i ≡ Some c → step (run s (take i cs)) c ≡ Ok next → next ≡ run s (take (suc i) cs)
 unfolding run
 led-on s next [] i c at taken = absurd (cc)
 led-on s next (x ∷ cs) zero c at taken =

@@ -6,6 +6,7 @@ pub mod Pages
 pub mod Report
 pub mod Json
 pub mod Listing
+pub mod Trace
 pub mod Devicetree
 pub mod Headline
 pub mod Values

@@ -18,10 +18,11 @@ listing_with l commands = listing_text l.config.num_aux commands l.config.algo (
 unfoldable pub listing_of : LaunchData → List (List ℕ) → Result (List ℕ) AuditFault
 listing_of l files = commands_for l files >>= λ commands. Ok (listing_with l commands)
 
--- what is printed of a launch: its listing, or its line of a report where it is refused
-abbrev pub listing_or_line : NamedData → Result (List ℕ) AuditFault → List ℕ
-listing_or_line l (Ok text) = text
-listing_or_line l (Err fault) = line_with l (Err fault)
+-- a text about a launch, or the launch's line of a report where it is refused
+abbrev pub text_or_line : NamedData → Result (List ℕ) AuditFault → List ℕ
+text_or_line l (Ok text) = text
+text_or_line l (Err fault) = line_with l (Err fault)
 
+-- what is printed of a launch: its listing, or that line
 abbrev pub shown_of : List (List ℕ) → NamedData → List ℕ
-shown_of files l = listing_or_line l (listing_of l.launch files)
+shown_of files l = text_or_line l (listing_of l.launch files)

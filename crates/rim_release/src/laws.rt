@@ -13,6 +13,7 @@ ghost use Rattle.rim_release.specs.Headline.{AcceptedAreMeasured, RefusedAreName
 ghost use Rattle.rim_release.specs.Pages.{release_pages};
 ghost use Rattle.rim_release.specs.Plans.{ArePlans};
 ghost use Rattle.rim_release.specs.Report.{lines_of};
+ghost use Rattle.rim_release.specs.Trace.{TracesEndWithTheRim, TracesShowWhatIsHeld};
 ghost use Rattle.rim_release.specs.Values.{IsRimOf, lines_by, makes_of};
 
 /// What a line of a report says. Where the launch is accepted, it shows the measurement that a monitor holds after the
@@ -60,4 +61,11 @@ pub fn a_value_is_its_launchs_rim()
 /// devicetree adds just the pages of these bytes to its measured parts. Each item of a launch has one step.
 pub fn devicetrees_are_measured()
     ensures { DevicetreesAreMeasured }
+{}
+
+/// What the lines of a trace show, where the launch is accepted. Each has the measurement that a monitor holds after its command,
+/// and each command that creates or extends the measurement has one. The last line has the measurement that the report shows.
+pub fn a_trace_shows_what_a_monitor_holds()
+    ensures each { TracesShowWhatIsHeld }
+    ensures last { TracesEndWithTheRim }
 {}

@@ -21,6 +21,7 @@ mod pending_report;
 mod prepared;
 mod report;
 mod show;
+mod trace;
 mod workers;
 
 pub use audit_fault::AuditFault;
@@ -32,8 +33,8 @@ pub use job_board::JobId;
 pub use job_workers::{FreeGate, Gate};
 pub use json::json_report;
 pub use laws::{
-    a_line_says_what_a_monitor_holds, a_value_is_its_launchs_rim, devicetrees_are_measured,
-    values_make_the_lines,
+    a_line_says_what_a_monitor_holds, a_trace_shows_what_a_monitor_holds,
+    a_value_is_its_launchs_rim, devicetrees_are_measured, values_make_the_lines,
 };
 pub use listings::{listing, listing_or_refusal};
 pub use one_thread::{Files, Report, measure_alone, report_alone};
@@ -44,4 +45,5 @@ pub use rim_replay::{ReplayFault, refused_kind, replay};
 pub use show::devicetree::show_fdt;
 pub use show::fault::ShowFault;
 pub use show::image::show_image;
+pub use trace::trace_or_refusal;
 pub use workers::{Outcome, measure_release};

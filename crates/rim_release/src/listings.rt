@@ -1,5 +1,5 @@
 //! The listing of a launch: the commands that build its realm, as a monitor takes them.
-ghost use Rattle.std.specs.Prelude.{◌≡◌, ◌++◌, ◌<◌, length, is_err, vec_len, false, true, Err, Ok, IfOk, IfSome, OnOk};
+ghost use Rattle.std.specs.Prelude.{◌≡◌, ◌≢◌, ◌++◌, ◌<◌, length, is_err, vec_len, false, true, Err, Ok, IfOk, IfSome, OnOk};
 ghost use Rattle.std.specs.List.{All, flat_map, slice_get};
 ghost use Rattle.refusal.specs.Answer.{Answers};
 ghost use Rattle.rim_launch.specs.LaunchData.{has_files};
@@ -82,23 +82,27 @@ fn list_or_refuse(
             text,
             has_refused: false,
         }),
-        Err(fault) => {
-            let text = refused_line(alloc, launch, fault.own_fault()?)?;
-            Ok(Report {
-                text,
-                has_refused: true,
-            })
-        }
+        Err(fault) => refused_report(alloc, launch, fault),
     }
 }
 
-/// The line of a launch that is refused.
-fn refused_line(alloc: Global, launch: &NamedLaunch, fault: AuditFault) -> Result<Vec<u8>, NoMemory>
-    ensures { IfOk result (λ text. text.items ≡ line_with launch.now (Err fault)) }
+/// The line of a launch that is refused, as a report. Want of memory is passed on: it is no fault of the launch.
+pub fn refused_report(
+    alloc: Global,
+    launch: &NamedLaunch,
+    fault: AuditFault,
+) -> Result<Report, NoMemory>
+    ensures own { IfOk result (λ r. fault ≢ AuditFault.NoMemory) }
+    ensures text { IfOk result (λ r. r.text.items ≡ line_with launch.now (Err fault)) }
+    ensures refused { IfOk result (λ r. r.has_refused ≡ true) }
 {
+    let fault = fault.own_fault()?;
     let mut text = Vec::new(alloc);
     push_line(&mut text, launch, &Err(fault))?;
-    Ok(text)
+    Ok(Report {
+        text,
+        has_refused: true,
+    })
 }
 
 /// The listing of a launch, or why it is refused.

@@ -1,6 +1,7 @@
 //! The report of what came of each launch of a release.
 ghost use Rattle.std.specs.Prelude.{◌≡◌, ◌≤◌, ◌++◌, IfOk, OnErr, OnOk, vec_capacity};
-ghost use Rattle.rmi_line.specs.Ends.{rim_text};
+ghost use Rattle.hex.specs.Hex.{encode_lower};
+ghost use Rattle.rmi_line.specs.Ends.{digest_bytes, rim_text};
 ghost use Rattle.rmi_line.specs.Typed.{Are64Bytes};
 ghost use Rattle.rim_release.specs.Report.{outcome_text, report_with, seen};
 ghost use Rattle.rim_release.specs.inside.Lines.{HasNoRoom, line_with_outcome, lines_with};
@@ -108,9 +109,24 @@ fn push_outcome(
 /// Adds the word of an algorithm, and a measurement as its hexadecimal digits.
 pub fn push_rim(text: &mut Vec<u8>, algo: Algo, rim: &Measurement) -> Result<(), NoMemory>
     ensures text { OnOk result (text.new.items ≡ text.old.items ++ rim_text algo rim.now.bytes) }
-    ensures bytes { Are64Bytes rim.now.bytes }
+    ensures bytes { OnOk result (Are64Bytes rim.now.bytes) }
     ensures keeps { vec_capacity text.old ≤ vec_capacity text.new }
     ensures full { OnErr result (HasNoRoom text.old (rim_text algo rim.now.bytes)) }
+{
+    text.push(b' ')?;
+    text.extend_from_slice(algo.word().as_bytes())?;
+    text.push(b' ')?;
+    push_digest(text, algo, rim)
+}
+
+/// Adds a measurement as its hexadecimal digits.
+pub fn push_digest(text: &mut Vec<u8>, algo: Algo, rim: &Measurement) -> Result<(), NoMemory>
+    ensures text { OnOk result
+        (text.new.items ≡ text.old.items ++ encode_lower (digest_bytes algo rim.now.bytes)) }
+    ensures bytes { OnOk result (Are64Bytes rim.now.bytes) }
+    ensures keeps { vec_capacity text.old ≤ vec_capacity text.new }
+    ensures full { OnErr result
+        (HasNoRoom text.old (encode_lower (digest_bytes algo rim.now.bytes))) }
 {
     let digest = digest(algo, rim);
     let size = 2 * digest.len();
@@ -118,9 +134,6 @@ pub fn push_rim(text: &mut Vec<u8>, algo: Algo, rim: &Measurement) -> Result<(),
     let Ok(()) = hex::encode_to_slice(digest, &mut digits[..size]) else {
         unreachable!()
     };
-    text.push(b' ')?;
-    text.extend_from_slice(algo.word().as_bytes())?;
-    text.push(b' ')?;
     text.extend_from_slice(&digits[..size])?;
     Ok(())
 }

@@ -1,4 +1,4 @@
--- A line grows word by word, from the command's name on.
+-- A line, in a listing or a trace, grows word by word, from the command's name on.
 use Rattle.std.proofs.Common.{◌≡◌, ℕ, List, [], ◌∷◌, ◌++◌, refl, sym, ap, ◌∙◌, append_assoc}
 use Rattle.std.proofs.lemmas.List.{append-nil}
 use Rattle.std.specs.List.{flat_map, join_with_byte}
@@ -16,7 +16,7 @@ abbrev pub from_first : List (List ℕ) → List ℕ
 from_first [] = []
 from_first (word ∷ words) = grown word words
 
-grown-spaced : (line : List ℕ) (words : List (List ℕ)) → grown line words ≡ line ++ flat_map spaced words
+pub grown-spaced : (line : List ℕ) (words : List (List ℕ)) → grown line words ≡ line ++ flat_map spaced words
 grown-spaced line [] = sym (append-nil line)
 grown-spaced line (word ∷ words) = grown-spaced (line ++ spaced word) words ∙ append_assoc line (spaced word) (flat_map spaced words)
 
@@ -36,7 +36,7 @@ grown-between line word front back =
     grown-append line front (word ∷ back) ∙ grown-spaced (grown line front ++ spaced word) back
     ∙ ap (λ l. (l ++ spaced word) ++ flat_map spaced back) (grown-spaced line front)
 
-joined : (word : List ℕ) (words : List (List ℕ)) → join_with_byte 32 (word ∷ words) ≡ word ++ flat_map spaced words
+pub joined : (word : List ℕ) (words : List (List ℕ)) → join_with_byte 32 (word ∷ words) ≡ word ++ flat_map spaced words
 joined word [] = sym (append-nil word)
 joined word (next ∷ words) = ap (λ t. word ++ (32 ∷ t)) (joined next words)
 

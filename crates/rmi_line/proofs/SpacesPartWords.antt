@@ -83,7 +83,7 @@ all_words (RealmCreate rd p) = simp (name_is_word (codes "realm_create") refl, i
 all_words (RttCreate rtt ipa level) = simp (name_is_word (codes "rtt_create") refl, is_word-encoded, is_word-decimal)
 all_words (InitRipas base top) = simp (name_is_word (codes "init_ripas") refl, is_word-encoded)
 all_words (DataCreate granule ipa content) = simp (name_is_word (codes "data_create") refl, is_word-encoded, is_word-content)
-all_words (RecCreate rec params) = simp (name_is_word (codes "rec_create") refl, is_word-encoded, is_word-decimal, is_word-digits, list_all-append)
+all_words (RecCreate rec params) = simp (name_is_word (codes "rec_create") refl, is_word-encoded, is_word-decimal, is_word-digits, list_all-append is_word (map digits_of params.gprs) (decimal (length params.aux) ∷ map digits_of params.aux))
 all_words Activate = simp (name_is_word (codes "activate") refl)
 
 -- ---- the spaces of a line

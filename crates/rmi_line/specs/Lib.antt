@@ -1,4 +1,5 @@
 pub mod Line
+pub mod Trace
 pub mod Ends
 pub mod Typed
 pub mod Spelled

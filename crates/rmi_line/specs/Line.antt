@@ -25,11 +25,13 @@ abbrev pub content_words : Option Measurement → List (List ℕ)
 content_words (Some m) = codes "measured" ∷ encode_lower m.bytes ∷ []
 content_words None = codes "unmeasured" ∷ []
 
--- the parameters of a REC: x0 to x7 after its program counter, and last the number of its auxiliary
--- granules and their addresses
+-- what a REC starts with: its flags, its MPIDR, its program counter, and x0 to x7
+abbrev pub start_words : RecData → List (List ℕ)
+start_words r = digits_of r.flags ∷ digits_of r.mpidr ∷ digits_of r.pc ∷ map digits_of r.gprs
+
+-- the parameters of a REC: what it starts with, and last the number of its auxiliary granules and their addresses
 abbrev pub rec_words : RecData → List (List ℕ)
-rec_words r = digits_of r.flags ∷ digits_of r.mpidr ∷ digits_of r.pc
-    ∷ (map digits_of r.gprs ++ decimal (length r.aux) ∷ map digits_of r.aux)
+rec_words r = start_words r ++ decimal (length r.aux) ∷ map digits_of r.aux
 
 -- the words of a command, its name first
 abbrev pub words_of : Command → List (List ℕ)

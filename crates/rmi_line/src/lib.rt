@@ -1,5 +1,5 @@
-//! The one spelling of a command of the monitor in a listing: a line of words, which is printed and read; and the first and
-//! the last line of a listing.
+//! The one spelling of a command of the monitor in a listing: a line of words, which is printed and read; its words in a trace;
+//! and the first and the last line of a listing.
 #![tactic(auto)]
 
 mod digits;
@@ -8,6 +8,7 @@ mod laws;
 mod line;
 mod reader;
 mod reading;
+mod trace;
 mod typed;
 mod words;
 
@@ -17,3 +18,4 @@ pub use laws::{
 };
 pub use line::print_line;
 pub use reading::read_line;
+pub use trace::print_traced;

@@ -1,8 +1,8 @@
 //! The line of a command.
-ghost use Rattle.std.specs.Prelude.{◌≡◌, ◌++◌, IfOk, OnOk};
+ghost use Rattle.std.specs.Prelude.{◌≡◌, ◌++◌, drop, IfOk, OnOk};
 ghost use Rattle.std.specs.List.{flat_map};
 ghost use Rattle.rim_desc.specs.declared.command.Command.TheVariants.{DataCreate, Delegate, InitRipas, RealmCreate, RecCreate, RttCreate};
-ghost use Rattle.rmi_line.specs.Line.{content_words, line_of};
+ghost use Rattle.rmi_line.specs.Line.{content_words, line_of, realm_words, start_words};
 ghost use Rattle.rmi_line.specs.Spelled.{Spells};
 ghost use Rattle.rmi_line.specs.inside.Words.{spaced};
 
@@ -34,7 +34,7 @@ pub fn print_line(alloc: Global, command: &Command) -> Result<Vec<u8>, NoMemory>
 }
 
 /// A line that has the name of its command alone.
-fn named(alloc: Global, name: &str) -> Result<Vec<u8>, NoMemory>
+pub fn named(alloc: Global, name: &str) -> Result<Vec<u8>, NoMemory>
     ensures { IfOk result (λ line. line.items ≡ name.now) }
 {
     let line = Vec::from_slice(alloc, name.as_bytes())?;
@@ -57,17 +57,26 @@ fn realm_create(alloc: Global, rd: u64, params: &RealmParams) -> Result<Vec<u8>,
     let mut line = named(alloc, "realm_create")?;
     push_address(&mut line, rd)?;
     push_address(&mut line, params.rtt_base)?;
-    push_number(&mut line, params.rtt_level_start)?;
-    push_number(&mut line, params.rtt_num_start)?;
-    push_number(&mut line, params.s2sz)?;
-    push_word(&mut line, params.algo.word().as_bytes())?;
-    push_address(&mut line, params.flags)?;
-    push_number(&mut line, params.sve_vl)?;
-    push_number(&mut line, params.num_bps)?;
-    push_number(&mut line, params.num_wps)?;
-    push_number(&mut line, params.pmu_num_ctrs)?;
-    push_bytes(&mut line, &params.rpv)?;
+    push_realm(&mut line, params)?;
     Ok(line)
+}
+
+/// Adds the parameters of a realm after the address of its tables.
+pub fn push_realm(line: &mut Vec<u8>, params: &RealmParams) -> Result<(), NoMemory>
+    ensures { OnOk result
+        (line.new.items ≡ line.old.items ++ flat_map spaced (drop 1 (realm_words params.now))) }
+{
+    push_number(line, params.rtt_level_start)?;
+    push_number(line, params.rtt_num_start)?;
+    push_number(line, params.s2sz)?;
+    push_word(line, params.algo.word().as_bytes())?;
+    push_address(line, params.flags)?;
+    push_number(line, params.sve_vl)?;
+    push_number(line, params.num_bps)?;
+    push_number(line, params.num_wps)?;
+    push_number(line, params.pmu_num_ctrs)?;
+    push_bytes(line, &params.rpv)?;
+    Ok(())
 }
 
 #[tactic(auto, unfolding(crate::specs::Line::line_of))]
@@ -107,7 +116,7 @@ fn data_create(
 }
 
 /// Adds the measurement of a page's bytes, or that they are not measured.
-fn push_content(line: &mut Vec<u8>, content: Option<Measurement>) -> Result<(), NoMemory>
+pub fn push_content(line: &mut Vec<u8>, content: Option<Measurement>) -> Result<(), NoMemory>
     ensures { OnOk result
         (line.new.items ≡ line.old.items ++ flat_map spaced (content_words content)) }
 {
@@ -125,11 +134,19 @@ fn rec_create(alloc: Global, rec: u64, params: &RecParams) -> Result<Vec<u8>, No
 {
     let mut line = named(alloc, "rec_create")?;
     push_address(&mut line, rec)?;
-    push_address(&mut line, params.flags())?;
-    push_address(&mut line, params.mpidr())?;
-    push_address(&mut line, params.pc())?;
-    push_addresses(&mut line, params.gprs())?;
+    push_start(&mut line, params)?;
     push_number(&mut line, params.num_aux())?;
     push_addresses(&mut line, params.aux())?;
     Ok(line)
+}
+
+/// Adds what a REC starts with.
+pub fn push_start(line: &mut Vec<u8>, params: &RecParams) -> Result<(), NoMemory>
+    ensures { OnOk result
+        (line.new.items ≡ line.old.items ++ flat_map spaced (start_words params.now)) }
+{
+    push_address(line, params.flags())?;
+    push_address(line, params.mpidr())?;
+    push_address(line, params.pc())?;
+    push_addresses(line, params.gprs())
 }

@@ -5,7 +5,6 @@ use Rattle.rim_desc.specs.declared.source.Source.TheVariants.{File}
 use Rattle.rmm_model.specs.Run.{run}
 use Rattle.rmm_model.specs.State.{State, empty_state}
 use Rattle.list_model.specs.Entries.{Entry, commands_of}
-use Rattle.ipa_layout.specs.Files.{bytes_of_files}
 use Rattle.ipa_layout.specs.Layout.{IsPlaced, PlacedData}
 use Rattle.ipa_layout.specs.declared.placed.PlacedItem.{PlacedItem}
 use Rattle.rim_launch.specs.LaunchData.{LaunchData}
