@@ -123,8 +123,8 @@ launch = [{name = "a", algo = "sha256", s2sz = 40, steps = ["ram 0"]}, {name = "
 """
 
 COMMANDS = [
-    "measure m.toml", "measure --workers 2 m.toml", "measure --format json m.toml", "list m.toml a", "list m.toml b", "audit m.toml",
-    "check m.toml", "check faulty.toml", "check names.toml", "dtb m.toml a", "image Image", "fdt virt.dtb", "--help", "measure",
+    "measure m.toml", "measure --workers 2 m.toml", "measure --json m.toml", "list m.toml a", "list m.toml b", "trace m.toml a", "audit m.toml",
+    "check m.toml", "check faulty.toml", "check names.toml", "dtb m.toml a", "replay listing", "image Image", "fdt virt.dtb", "--help", "measure",
 ]
 
 
@@ -140,6 +140,7 @@ class Runs:
                 it.write(text)
         for name in "Image", "initrd.img", "virt.dtb":
             os.symlink(os.path.join(top, "examples", "vm", name), os.path.join(folder, name))
+        os.symlink(os.path.join(top, "tests", "cases", "virtual-machine-replay", "listing"), os.path.join(folder, "listing"))
 
     def run(self, command, refused=""):
         """How a run ends, and whether the call was made that it was to refuse."""

@@ -1,5 +1,5 @@
 -- The subcommand that a parse entered, and what its matches hold.
-use Rattle.std.proofs.Common.{◌≡◌, Bool, true, false, cond, not, List, [], ◌∷◌, drop, Option, Some, None, option_map, Box, refl, ap, ◌∙◌, inl, inr, ◌||◌, codes, subst}
+use Rattle.std.proofs.Common.{◌≡◌, arith, Bool, true, false, cond, not, List, [], ◌∷◌, drop, Option, Some, None, option_map, Box, refl, ap, inl, inr, ◌||◌, codes, subst}
 use Rattle.std.specs.Prelude.{IfSome, find, fold, pos}
 use Rattle.std.specs.List.{list_all}
 use Rattle.std.specs.Option.{option_map_or}
@@ -9,17 +9,17 @@ use Rattle.std.proofs.lemmas.Slice.Eq.{bytes_eq-Decides}
 use Rattle.clap.specs.Words.{Row, Rule, Shape, Text, built, fault_of, first_of, subcommand_of, subcommand_rows}
 use Rattle.clap.specs.Simple.{argument_words, built_leaf, entered, filled, inherited, label_of, marked_built, names_of, rows_at, with_index, with_leaf_noted}
 use Rattle.clap.specs.Kinds.{check_kinds, or_else}
-use Rattle.clap.specs.Faults.{check_fault, defaults_fault, entered_fault, level_fault, settle_fault, walk_fault}
+use Rattle.clap.specs.Faults.{check_fault, default_fault, defaults_fault, entered_fault, level_fault, settle_fault, walk_fault}
 use Rattle.clap.specs.Takes.{is_given}
 use Rattle.clap.specs.Values.{IsSignedIn}
-use Rattle.clap.specs.Walk.{Held, answers_to, arg_by_id, default_rows, has_row, nothing_held, reading_by, rows_after, settled, stop_after, walk, walk_from, with_default}
+use Rattle.clap.specs.Walk.{Held, answers_to, arg_by_id, nothing_held, rows_after, settled, stop_after, walk, walk_from, with_default}
 use Rattle.clap.specs.declared.parser.matches.SubCommand.{SubCommand}
 use Rattle.clap.specs.declared.parser.matches.ArgMatches.TheViews.{out-SubCommand}
 use Rattle.clap.proofs.ValueTestLemmas.{accepts-Accepts}
 use Rattle.clap.specs.declared.builder.value_parser.ValueParser.TheVariants as parser
 use Rattle.rim_cli.specs.Command.{IsEntered, IsMeasure, IsOfLaunch, IsOne, measure, operand_rule, rim, with_launch, with_operand, workers_rule}
 use Rattle.rim_cli.proofs.MatchesPassParsers.{none_of, settled_fits, walk_fits}
-use Rattle.rim_cli.proofs.ValuesOfArguments.{IsSound, fits, first_given, first_passes, keeps}
+use Rattle.rim_cli.proofs.ValuesOfArguments.{IsSound, fits, first_given, first_passes, keeps, keeps_default}
 
 -- P holds of each member
 abbrev pub Each : {X : Type 0} → (X → Type 0) → List X → Type 0
@@ -34,19 +34,17 @@ find_each P test (y ∷ ys) x each e = go (test y) (find_each P test ys x each.1
     go true later h = subst P (same_Some _ _ h) each.0
     go false later h = later h
 
-no_defaults : (c : List Rule) (rows : List Row) → Each (λ a. a.defaults ≡ []) c → fold with_default rows c ≡ rows
-no_defaults [] rows none = refl
-no_defaults (a ∷ c) rows none = ap (λ r. fold with_default r c) here ∙ no_defaults c rows none.1
-  where
-    go : (b : Bool) → cond b rows rows ≡ rows
-    go true = refl
-    go false = refl
+-- the default values that do not fail
+defaults_fit : (c rules : List Rule) (rows : List Row) → Each (IsSound c) rules → defaults_fault rows rules ≡ []
+    → list_all (fits c) rows ≡ true → list_all (fits c) (fold with_default rows rules) ≡ true
+unfolding defaults_fault
+defaults_fit c [] rows sound e all = all
+defaults_fit c (a ∷ rules) rows sound e all =
+    let parts = none_of (default_fault rows a) (defaults_fault (with_default rows a) rules) e in
+    defaults_fit c rules (with_default rows a) sound.1 parts.1 (keeps_default c a rows sound.0 parts.0 all)
 
-    here : with_default rows a ≡ rows
-    here = ap (λ ds. cond (has_row a.id rows) rows (default_rows a.id (reading_by a) ds rows)) none.0 ∙ go (has_row a.id rows)
-
--- a level of a parse that does not fail, for a subcommand whose arguments have one value and no default
-module _ (s : Shape) (words : List Text) (sound : Each (IsSound s.rules) s.rules) (plain : Each (λ a. a.defaults ≡ []) s.rules)
+-- a level of a parse that does not fail, for a subcommand whose arguments have one value each
+module _ (s : Shape) (words : List Text) (sound : Each (IsSound s.rules) s.rules)
     (passes : level_fault s [] nothing_held words false [] ≡ []) where
   end : Held
   end = (walk s.rules [] nothing_held words).held
@@ -61,11 +59,12 @@ module _ (s : Shape) (words : List Text) (sound : Each (IsSound s.rules) s.rules
   unfolding end
   rows_fit =
       let parts = none_of (walk_fault s [] (walk_from nothing_held) words) _ passes in
+      let rest = none_of (settle_fault s.rules s.args_override_self end) _ after_walk in
       let held = walk_fits s (IsSound s.rules) (fits s.rules) (λ test a. find_each (IsSound s.rules) test s.rules a sound) (keeps s.rules s.args_override_self)
       [] (walk_from nothing_held) words parts.0 refl in
       let done = settled_fits s.rules s.args_override_self (IsSound s.rules) (fits s.rules) (λ test a. find_each (IsSound s.rules) test s.rules a sound)
-      (keeps s.rules s.args_override_self) end (none_of _ _ parts.1).0 held in
-      ap (list_all (fits s.rules)) (no_defaults s.rules (settled s.rules end).rows plain) ∙ done
+      (keeps s.rules s.args_override_self) end rest.0 held in
+      defaults_fit s.rules s.rules (settled s.rules end).rows sound (none_of (defaults_fault (settled s.rules end).rows s.rules) _ rest.1).0 done
 
   -- no check of the whole level fails
   pub checks_pass : check_fault s (rows_after s.rules [] words) false ≡ []
@@ -88,22 +87,22 @@ measure_entered words passes = (refl, first_given measure_shape.rules manifest_b
   where
     sound : Each (IsSound measure_shape.rules) measure_shape.rules
     sound = (
-      inl (record { set = refl; least = refl; own = refl }),
-      (inl (record { set = refl; least = refl; own = refl }), (inl (record { set = refl; least = refl; own = refl }), (inr refl, tt))),
+      inl (record { set = inl refl; some = inl refl; own = refl }),
+      (inl (record { set = inl refl; some = inl refl; own = refl }), (inl (record { set = inr refl; some = inr (omega arith); own = refl }), (inr (refl, refl), tt))),
     )
 
     rows : List Row
     rows = rows_after measure_shape.rules [] words
 
     all : list_all (fits measure_shape.rules) rows ≡ true
-    all = rows_fit measure_shape words sound (refl, (refl, (refl, (refl, tt)))) passes
+    all = rows_fit measure_shape words sound passes
 
     go : (b : Bool) → check_kinds false false (not b || false) ≡ [] → b ≡ true
     go true e = refl
     go false e = cc
 
     given : is_given (codes "manifest") rows ≡ true
-    given = go (is_given (codes "manifest") rows) (checks_pass measure_shape words sound (refl, (refl, (refl, (refl, tt)))) passes)
+    given = go (is_given (codes "manifest") rows) (checks_pass measure_shape words sound passes)
 
     workers : (o : Option Text) → first_of (codes "workers") rows ≡ o → IfSome o (λ text. IsSignedIn (pos 1) (pos 64) text)
     workers None is = tt
@@ -123,13 +122,13 @@ launch_entered verb words passes =
     (refl, first_given (launch_shape verb).rules manifest_built refl rows all given.0, first_given (launch_shape verb).rules launch_built refl rows all given.1)
   where
     sound : Each (IsSound (launch_shape verb).rules) (launch_shape verb).rules
-    sound = (inl (record { set = refl; least = refl; own = refl }), (inl (record { set = refl; least = refl; own = refl }), (inr refl, tt)))
+    sound = (inl (record { set = inl refl; some = inl refl; own = refl }), (inl (record { set = inl refl; some = inl refl; own = refl }), (inr (refl, refl), tt)))
 
     rows : List Row
     rows = rows_after (launch_shape verb).rules [] words
 
     all : list_all (fits (launch_shape verb).rules) rows ≡ true
-    all = rows_fit (launch_shape verb) words sound (refl, (refl, (refl, tt))) passes
+    all = rows_fit (launch_shape verb) words sound passes
 
     go : (manifest launch : Bool) → check_kinds false false (not manifest || (not launch || false)) ≡ [] → (manifest ≡ true) × (launch ≡ true)
     go true true e = (refl, refl)
@@ -137,7 +136,7 @@ launch_entered verb words passes =
     go false launch e = cc
 
     given : (is_given (codes "manifest") rows ≡ true) × (is_given (codes "launch") rows ≡ true)
-    given = go (is_given (codes "manifest") rows) (is_given (codes "launch") rows) (checks_pass (launch_shape verb) words sound (refl, (refl, (refl, tt))) passes)
+    given = go (is_given (codes "manifest") rows) (is_given (codes "launch") rows) (checks_pass (launch_shape verb) words sound passes)
 
 -- a subcommand with one operand, as it is built below `rim`
 abbrev one_shape : Text → Text → Shape
@@ -154,20 +153,20 @@ one_entered verb id words passes = (refl, first_given (one_shape verb id).rules 
     own = ap (λ b. cond b (Some (one_built id)) (arg_by_id (drop 1 (one_shape verb id).rules) id)) ((bytes_eq-Decides id id).1 refl)
 
     sound : Each (IsSound (one_shape verb id).rules) (one_shape verb id).rules
-    sound = (inl (record { set = refl; least = refl; own = own }), (inr refl, tt))
+    sound = (inl (record { set = inl refl; some = inl refl; own = own }), (inr (refl, refl), tt))
 
     rows : List Row
     rows = rows_after (one_shape verb id).rules [] words
 
     all : list_all (fits (one_shape verb id).rules) rows ≡ true
-    all = rows_fit (one_shape verb id) words sound (refl, (refl, tt)) passes
+    all = rows_fit (one_shape verb id) words sound passes
 
     go : (b : Bool) → check_kinds false false (not b || false) ≡ [] → b ≡ true
     go true e = refl
     go false e = cc
 
     given : is_given id rows ≡ true
-    given = go (is_given id rows) (checks_pass (one_shape verb id) words sound (refl, (refl, tt)) passes)
+    given = go (is_given id rows) (checks_pass (one_shape verb id) words sound passes)
 
 -- the matches of each subcommand hold what they are to
 abbrev IsGood : Shape → Type 0
@@ -200,14 +199,20 @@ stopped_good (Some q) p is passes = found_good q.0 q.1 (built rim).subs p each i
       (
         (λ words fits. inr (inl (launch_entered (codes "list") words fits))),
         (
-          (λ words fits. inr (inr (inl (one_entered (codes "audit") (codes "manifest") words fits)))),
+          (λ words fits. inr (inr (inl (launch_entered (codes "trace") words fits)))),
           (
-            (λ words fits. inr (inr (inr (inl (one_entered (codes "check") (codes "manifest") words fits))))),
+            (λ words fits. inr (inr (inr (inl (one_entered (codes "audit") (codes "manifest") words fits))))),
             (
-              (λ words fits. inr (inr (inr (inr (inl (launch_entered (codes "dtb") words fits)))))),
+              (λ words fits. inr (inr (inr (inr (inl (one_entered (codes "check") (codes "manifest") words fits)))))),
               (
-                (λ words fits. inr (inr (inr (inr (inr (inl (one_entered (codes "image") (codes "file") words fits))))))),
-                ((λ words fits. inr (inr (inr (inr (inr (inr (one_entered (codes "fdt") (codes "file") words fits))))))), tt),
+                (λ words fits. inr (inr (inr (inr (inr (inl (launch_entered (codes "dtb") words fits))))))),
+                (
+                  (λ words fits. inr (inr (inr (inr (inr (inr (inl (one_entered (codes "replay") (codes "file") words fits)))))))),
+                  (
+                    (λ words fits. inr (inr (inr (inr (inr (inr (inr (inl (one_entered (codes "image") (codes "file") words fits))))))))),
+                    ((λ words fits. inr (inr (inr (inr (inr (inr (inr (inr (one_entered (codes "fdt") (codes "file") words fits))))))))), tt),
+                  ),
+                ),
               ),
             ),
           ),

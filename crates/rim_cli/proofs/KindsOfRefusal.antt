@@ -1,14 +1,13 @@
 -- The kind of an error that refuses words says whether they are a mistake or ask for help.
 use Rattle.std.proofs.Common.{◌≡◌, Bool, true, false, not, List, [], ◌∷◌, refl, ap, ◌∙◌, subst, inl, inr}
 use Rattle.std.specs.List.{list_all}
-use Rattle.clap.specs.Words.{HasKind, IsAmong, Kinds, Text, kind_of}
-use Rattle.clap.specs.Kinds.{or_else}
+use Rattle.clap.specs.Words.{IsAmong, Kinds, Text, fault_of, kind_of}
 use Rattle.clap.proofs.WalkLemmas.{both}
 use Rattle.clap.specs.declared.error.kind.ErrorKind.{ErrorKind}
 use Rattle.clap.specs.declared.error.Error.{Error}
 use Rattle.rim_cli.specs.declared.words.CommandFault.{CommandFault}
 use Rattle.rim_cli.specs.declared.words.CommandFault.TheVariants.{Usage}
-use Rattle.rim_cli.specs.Command.{AsksForHelp, IsMistaken, IsRefusalOf, is_asked, mistakes_of}
+use Rattle.rim_cli.specs.Command.{AsksForHelp, IsMistaken, IsRefusalOf, is_asked, rim}
 
 -- a kind that is one of some passes a test that all of them pass
 passes_among : (test : ErrorKind → Bool) (kinds : Kinds) (k : ErrorKind) → list_all test kinds ≡ true → IsAmong k kinds → test k ≡ true
@@ -23,17 +22,11 @@ not_asked false e = refl
 
 -- the kind of an error that refuses words which are a mistake, or which ask for help
 pub mistaken_kind : (words : List Text) (fault : CommandFault) (error : Error) → fault ≡ Usage error → IsMistaken words
-    → IsRefusalOf (mistakes_of words) fault → is_asked (kind_of error) ≡ false
+    → IsRefusalOf (fault_of rim words) fault → is_asked (kind_of error) ≡ false
 mistaken_kind words fault error e mistaken refused =
-    not_asked (is_asked (kind_of error)) (passes_among (λ k. not (is_asked k)) (mistakes_of words) (kind_of error) mistaken.1 (subst (IsRefusalOf (mistakes_of words)) e refused))
+    not_asked (is_asked (kind_of error)) (passes_among (λ k. not (is_asked k)) (fault_of rim words) (kind_of error) mistaken.1 (subst (IsRefusalOf (fault_of rim words)) e refused))
 
 pub asked_kind : (words : List Text) (fault : CommandFault) (error : Error) → fault ≡ Usage error → AsksForHelp words
-    → IsRefusalOf (mistakes_of words) fault → is_asked (kind_of error) ≡ true
+    → IsRefusalOf (fault_of rim words) fault → is_asked (kind_of error) ≡ true
 asked_kind words fault error e asks refused =
-    passes_among is_asked (mistakes_of words) (kind_of error) asks.1 (subst (IsRefusalOf (mistakes_of words)) e refused)
-
--- an error of one of some kinds has one of these, or of those that come where there are none
-pub kind_or_else : (kinds next : Kinds) (e : Error) → HasKind kinds e → HasKind (or_else kinds next) e
-kind_or_else [] next e (inl full) = inl full
-kind_or_else [] next e (inr among) = absurd among
-kind_or_else (k ∷ kinds) next e has = has
+    passes_among is_asked (fault_of rim words) (kind_of error) asks.1 (subst (IsRefusalOf (fault_of rim words)) e refused)

@@ -15,7 +15,5 @@ pub mod ReleaseOfManifest
 pub mod RequestsOfSubcommands
 -- A run over a manifest in memory writes the report of the manifest, or of its fault
 pub mod RunInMemory
--- the format of a report is that of the words
-pub mod ReportFormats
 -- what a check says of files that cannot be read
 pub mod FaultsOfFiles

@@ -5,8 +5,9 @@ use Rattle.std.proofs.lemmas.Option.{slice_get_cases}
 use Rattle.rim_manifest.specs.Manifest.{manifest_of, name_in}
 use Rattle.rim_manifest.specs.Launches.{NamedData, ReleaseData}
 use Rattle.rim_manifest.specs.declared.fault.ManifestFault.{ManifestFault}
-use Rattle.rim_release.specs.Listing.{listing_of, shown_of}
-use Rattle.rim_cli.specs.Done.{OfLaunch}
+use Rattle.rim_release.specs.Listing.{text_or_line}
+use Rattle.rim_release.specs.declared.audit_fault.AuditFault.{AuditFault}
+use Rattle.rim_cli.specs.Done.{IsShown, OfLaunch}
 use Rattle.rim_cli.specs.Files.{AreRead, IfFile, Known}
 
 -- what holds of the release that was read holds of the one that the manifest describes
@@ -36,11 +37,11 @@ found_launch held name r number files Holds named low read own = go (slice_get r
     }
 
 -- a text and a status, where the status says whether the text is a refusal
-pub listed : (o : Option NamedData) (files : List (List ℕ)) (text : List ℕ) (refused : Bool) (status : ℕ) → IfSome o (λ l. text ≡ shown_of files l)
-    → IfSome o (λ l. refused ≡ is_err (listing_of l.launch files)) → status ≡ (if refused then 1 else 0)
-    → IfSome o (λ l. (text ≡ shown_of files l) × (status ≡ (if is_err (listing_of l.launch files) then 1 else 0)))
-listed None files text refused status is own e = tt
-listed (Some l) files text refused status is own e = (is, e ∙ ap (λ (b : Bool). if b then 1 else 0) own)
+pub shown : (text_of : NamedData → List (List ℕ) → Result (List ℕ) AuditFault) (o : Option NamedData) (files : List (List ℕ)) (text : List ℕ) (refused : Bool) (status : ℕ)
+    → IfSome o (λ l. text ≡ text_or_line l (text_of l files)) → IfSome o (λ l. refused ≡ is_err (text_of l files)) → status ≡ (if refused then 1 else 0)
+    → IfSome o (λ l. IsShown l (text_of l files) text status)
+shown text_of None files text refused status is own e = tt
+shown text_of (Some l) files text refused status is own e = (is, e ∙ ap (λ (b : Bool). if b then 1 else 0) own)
 
 -- the same of bytes that are given out with this status
 pub given : (o : Option NamedData) (Own : NamedData → Type 0) (Status : Type 0) → IfSome o Own → Status → IfSome o (λ l. Own l × Status)

@@ -5,26 +5,26 @@ use Rattle.std.specs.Str.{bytes_eq}
 use Rattle.std.proofs.lemmas.Option.{same_Some}
 use Rattle.std.proofs.lemmas.Slice.Eq.{bytes_eq-Decides}
 use Rattle.clap.proofs.OnLiterals.{clap_on_literals}
-use Rattle.clap.specs.Words.{subcommand_of}
+use Rattle.clap.specs.Words.{subcommand_of, takes}
 use Rattle.rim_manifest.specs.Launches.{ReleaseData}
 use Rattle.rim_manifest.specs.Manifest.{manifest_of}
 use Rattle.rim_manifest.specs.declared.fault.ManifestFault.{ManifestFault}
 use Rattle.rim_release.specs.Report.{has_refused, measured_of}
-use Rattle.rim_cli.specs.Command.{ReadsRequest, is_taken, rim}
+use Rattle.rim_cli.specs.Command.{ReadsRequest, rim}
 use Rattle.rim_cli.specs.Done.{IsAnswer, IsMade, IsReport, path_of}
 use Rattle.rim_cli.specs.Examples.{plain}
 use Rattle.rim_cli.specs.Files.{AreRead, IfFile, Known}
 use Rattle.rim_cli.specs.declared.words.Format.{Format}
 use Rattle.rim_cli.specs.declared.words.Format.TheVariants as format
 use Rattle.rim_cli.specs.declared.words.Request.{Request}
-use Rattle.rim_cli.specs.declared.words.Request.TheVariants.{Measure, List as Lists, Audit, Check, Dtb, Image, Fdt}
+use Rattle.rim_cli.specs.declared.words.Request.TheVariants.{Measure, List as Lists, Trace, Audit, Check, Dtb, Replay, Image, Fdt}
 use Rattle.rim_cli.proofs.RequestsOfSubcommands.{apart}
 
 -- what is known where there is one manifest
 abbrev pub in_memory : List ℕ → List ℕ → Known
 in_memory manifest path = Some (if bytes_eq path (codes "manifest.toml") then Some manifest else None)
 
-pub plain_taken : is_taken plain ≡ true
+pub plain_taken : takes rim plain ≡ true
 unfolding clap_on_literals
 plain_taken = refl
 
@@ -33,9 +33,11 @@ asked_path : (request : Request) → ReadsRequest (subcommand_of rim plain) requ
 unfolding clap_on_literals
 asked_path (Measure path workers format) asked = sym (same_Some _ _ asked.1)
 asked_path (Lists path launch) asked = absurd (apart (codes "measure") (codes "list") refl asked.0)
+asked_path (Trace path launch) asked = absurd (apart (codes "measure") (codes "trace") refl asked.0)
 asked_path (Audit path) asked = absurd (apart (codes "measure") (codes "audit") refl asked.0)
 asked_path (Check path) asked = absurd (apart (codes "measure") (codes "check") refl asked.0)
 asked_path (Dtb path launch) asked = absurd (apart (codes "measure") (codes "dtb") refl asked.0)
+asked_path (Replay file) asked = absurd (apart (codes "measure") (codes "replay") refl asked.0)
 asked_path (Image file) asked = absurd (apart (codes "measure") (codes "image") refl asked.0)
 asked_path (Fdt file) asked = absurd (apart (codes "measure") (codes "fdt") refl asked.0)
 
@@ -44,11 +46,13 @@ asked_report : (held : List ℕ → Known) (request : Request) (bytes text : Lis
     → IsAnswer held request bytes text status → IsOkAnd (manifest_of bytes) (λ r. IsReport format.Text held r text status)
 unfolding clap_on_literals
 asked_report held (Measure path workers format) bytes text status asked answer =
-    subst (λ (f : Format). IsOkAnd (manifest_of bytes) (λ r. IsReport f held r text status)) (sym (same_Some _ _ asked.3)) answer
+    subst (λ (f : Format). IsOkAnd (manifest_of bytes) (λ r. IsReport f held r text status)) asked.3 answer
 asked_report held (Lists path launch) bytes text status asked answer = absurd (apart (codes "measure") (codes "list") refl asked.0)
+asked_report held (Trace path launch) bytes text status asked answer = absurd (apart (codes "measure") (codes "trace") refl asked.0)
 asked_report held (Audit path) bytes text status asked answer = absurd (apart (codes "measure") (codes "audit") refl asked.0)
 asked_report held (Check path) bytes text status asked answer = absurd (apart (codes "measure") (codes "check") refl asked.0)
 asked_report held (Dtb path launch) bytes text status asked answer = absurd (apart (codes "measure") (codes "dtb") refl asked.0)
+asked_report held (Replay file) bytes text status asked answer = absurd (apart (codes "measure") (codes "replay") refl asked.0)
 asked_report held (Image file) bytes text status asked answer = absurd (apart (codes "measure") (codes "image") refl asked.0)
 asked_report held (Fdt file) bytes text status asked answer = absurd (apart (codes "measure") (codes "fdt") refl asked.0)
 

@@ -1,24 +1,25 @@
 -- The values of the arguments of a command's level, where a parse of it succeeds.
-use Rattle.std.proofs.Common.{◌≡◌, Bool, true, false, cond, List, [], ◌∷◌, ◌++◌, length, Option, Some, None, refl, ap, sym, ◌∙◌, ◌⊎◌, inl, inr, ◌&&◌, nat_lt, arith, ◌<◌, lt-ltb, length-append}
+use Rattle.std.proofs.Common.{◌≡◌, Bool, true, false, cond, List, [], ◌∷◌, ◌++◌, length, Option, Some, None, refl, ap, sym, ◌∙◌, ◌⊎◌, inl, inr, ◌&&◌, ◌||◌, nat_lt, arith, ◌<◌, lt-ltb, length-append}
 use Rattle.std.specs.Prelude.{find, is_some, option_and_then, slice_get}
 use Rattle.std.specs.List.{list_all}
 use Rattle.std.specs.Option.{option_map_or}
 use Rattle.std.specs.Str.{bytes_eq}
 use Rattle.std.proofs.lemmas.List.Folds.{list_all-append}
 use Rattle.std.proofs.lemmas.Option.{same_Some}
+use Rattle.std.proofs.lemmas.Bool.{ne_eqb}
 use Rattle.std.proofs.lemmas.Slice.Eq.{bytes_eq-Decides}
 use Rattle.clap.proofs.WalkLemmas.{both}
 use Rattle.clap.specs.Values.{refused_kind}
 use Rattle.clap.specs.Facts.{explicit_source, parser_of_value, unwrap_or_range}
 use Rattle.clap.specs.ValueTests.{accepts}
-use Rattle.clap.specs.Kinds.{range_kinds, value_kinds, values_kinds}
+use Rattle.clap.specs.Kinds.{range_kinds, request_kinds, value_kinds, values_kinds}
 use Rattle.clap.specs.Takes.{is_given, value_passes, values_pass}
-use Rattle.clap.specs.Faults.{repeat_fault, use_fault, values_fault}
-use Rattle.clap.specs.Walk.{Row, Rule, Text, action_of, arg_by_id, at_row, first_of, more_values, most_values, reading_by, used, used_as, values_or_missing, without}
-use Rattle.clap.specs.declared.builder.action.ArgAction.TheVariants.{Set, Help}
+use Rattle.clap.specs.Faults.{action_fault, default_fault, given_default_fault, repeat_fault, set_fault, use_fault, values_fault}
+use Rattle.clap.specs.Walk.{Row, Rule, Text, action_of, arg_by_id, at_row, default_rows, first_of, has_row, is_empty, more_values, most_values, reading_by, used, used_as, values_or_missing, with_default, with_values, without}
+use Rattle.clap.specs.declared.builder.action.ArgAction.TheVariants.{Set, SetTrue, Help}
 use Rattle.clap.specs.declared.builder.value_parser.ValueParser.{ValueParser}
 use Rattle.clap.specs.declared.parser.matches.ValueSource.{ValueSource}
-use Rattle.clap.specs.declared.parser.matches.ValueSource.TheVariants.{CommandLine}
+use Rattle.clap.specs.declared.parser.matches.ValueSource.TheVariants.{DefaultValue, CommandLine}
 use Rattle.rim_cli.proofs.MatchesPassParsers.{none_of}
 
 values_accepted : (i : Bool) (p : ValueParser) (vs : List Text) → values_kinds i p vs ≡ [] → list_all (accepts i p) vs ≡ true
@@ -39,14 +40,15 @@ has_good_values r a = nat_lt 0 (length r.values) && values_pass a r.values
 abbrev pub fits : List Rule → Row → Bool
 fits c r = option_map_or (has_good_values r) (arg_by_id c r.id) true
 
--- an option or an operand that takes one value, and that its name finds; or a call for help
+-- an option or an operand that takes one value, or a flag that has one where it is given; and its name finds it
 pub record IsValued (c : List Rule) (a : Rule) : Type 0 where
-  pub set : action_of a ≡ Set
-  pub least : (unwrap_or_range a.range).start_inclusive ≡ 1
+  pub set : (action_of a ≡ Set) ⊎ (action_of a ≡ SetTrue)
+  pub some : ((unwrap_or_range a.range).start_inclusive ≡ 1) ⊎ (0 < length a.missing)
   pub own : arg_by_id c a.id ≡ Some a
 
+-- that, or a call for help
 abbrev pub IsSound : List Rule → Rule → Type 0
-IsSound c a = IsValued c a ⊎ (action_of a ≡ Help)
+IsSound c a = IsValued c a ⊎ ((action_of a ≡ Help) × (a.defaults ≡ []))
 
 at_row_fits : (p : Row → Bool) (id : Text) (change : Row → List Row) (missing rows : List Row)
     → ((r : Row) → bytes_eq r.id id ≡ true → p r ≡ true → list_all p (change r) ≡ true) → list_all p missing ≡ true
@@ -72,27 +74,74 @@ module _ (c : List Rule) (a : Rule) (valued : IsValued c a) where
       let each : values_pass a (r.values ++ v ∷ vs) ≡ true = list_all-append (value_passes a) r.values (v ∷ vs) ∙ rw (parts.1, pass) refl in
       rw (found, lt-ltb 0 (length (r.values ++ v ∷ vs)) some) each
 
-  set_fits : (values : List Text) (rows : List Row) → range_kinds (unwrap_or_range a.range).start_inclusive (most_values a) (length values) ≡ []
-      → values_fault a (values_or_missing a values) ≡ [] → list_all (fits c) rows ≡ true
-      → list_all (fits c) (used_as Set a.id (reading_by a) (values_or_missing a values) rows) ≡ true
-  set_fits [] rows range e all = let none = rw valued.least at range in cc
-  set_fits (v ∷ vs) rows range e all =
+  -- values that pass are added to the rows
+  added : (s : ValueSource) (v : Text) (vs : List Text) (rows : List Row) → values_fault a (v ∷ vs) ≡ [] → list_all (fits c) rows ≡ true
+      → list_all (fits c) (with_values a.id (reading_by a) s (v ∷ vs) rows) ≡ true
+  added s v vs rows e all =
       let pass : values_pass a (v ∷ vs) ≡ true = values_accepted a.ignore_case (parser_of_value a.parser) (v ∷ vs) e in
-      at_row_fits (fits c) a.id (more_values CommandLine (v ∷ vs)) _ (without a.id rows)
+      at_row_fits (fits c) a.id (more_values s (v ∷ vs)) _ rows
       (λ r same here. rw (good r v vs pass same here _) refl)
-      (let some : 0 < length (v ∷ vs) = omega arith in rw (valued.own, lt-ltb 0 (length (v ∷ vs)) some, pass) refl)
-      (at_row_fits (fits c) a.id (λ _. []) [] rows (λ r same here. refl) refl all)
+      (let some : 0 < length (v ∷ vs) = omega arith in rw (valued.own, lt-ltb 0 (length (v ∷ vs)) some, pass) refl) all
+
+  -- a use that does not fail has a value
+  has_value : (values : List Text) → range_kinds (unwrap_or_range a.range).start_inclusive (most_values a) (length values) ≡ []
+      → 0 < length (values_or_missing a values)
+  has_value [] range = elim valued.some [
+    | inl one ↦ let none = rw one at range in cc
+    | inr some ↦ some
+  ]
+  has_value (v ∷ vs) range = omega arith
+
+  set_fits : (values : List Text) (rows : List Row) → 0 < length values → values_fault a values ≡ [] → list_all (fits c) rows ≡ true
+      → list_all (fits c) (used_as Set a.id (reading_by a) values rows) ≡ true
+  set_fits [] rows some e all = absurd (omega (arith, some))
+  set_fits (v ∷ vs) rows some e all = added CommandLine v vs (without a.id rows) e (at_row_fits (fits c) a.id (λ _. []) [] rows (λ r same here. refl) refl all)
+
+  -- the argument replaces what it had
+  replaces : (again : Bool) (values : List Text) (rows : List Row)
+      → (action_fault (action_of a) again a values rows ≡ set_fault again a values rows)
+      × (used_as (action_of a) a.id (reading_by a) values rows ≡ used_as Set a.id (reading_by a) values rows)
+  replaces again values rows = elim valued.set [
+    | inl set ↦ (rw set refl, rw set refl)
+    | inr flag ↦ (rw flag refl, rw flag refl)
+  ]
+
+  valued_keeps : (again : Bool) (values : List Text) (rows : List Row) → use_fault again a values rows ≡ []
+      → list_all (fits c) rows ≡ true → list_all (fits c) (used a values rows) ≡ true
+  valued_keeps again values rows e all =
+      let parts = none_of (range_kinds (unwrap_or_range a.range).start_inclusive (most_values a) (length values)) _ e in
+      let own = replaces again (values_or_missing a values) rows in
+      let set = none_of (repeat_fault again a.id rows) (values_fault a (values_or_missing a values)) (sym own.0 ∙ parts.1) in
+      ap (list_all (fits c)) own.1 ∙ set_fits (values_or_missing a values) rows (has_value values parts.0) set.1 all
+
+  valued_default : (rows : List Row) → default_fault rows a ≡ [] → list_all (fits c) rows ≡ true → list_all (fits c) (with_default rows a) ≡ true
+  valued_default rows e all = go (has_row a.id rows) a.defaults e
+    where
+      go : (b : Bool) (ds : List Text) → cond (b || is_empty ds) [] (given_default_fault a ds) ≡ []
+          → list_all (fits c) (cond b rows (default_rows a.id (reading_by a) ds rows)) ≡ true
+      go true ds e = all
+      go false [] e = all
+      go false (v ∷ vs) e =
+          let some : is_empty (v ∷ vs) ≡ false = ne_eqb (length (v ∷ vs)) 0 (λ none. omega (arith, none)) in
+          added DefaultValue v vs rows (none_of (request_kinds (action_of a)) (values_fault a (v ∷ vs)) (rw some at e)).1 all
 
 -- a use of an argument that does not fail keeps what each row is to have
 pub keeps : (c : List Rule) (again : Bool) (a : Rule) (values : List Text) (rows : List Row) → IsSound c a → use_fault again a values rows ≡ []
     → list_all (fits c) rows ≡ true → list_all (fits c) (used a values rows) ≡ true
-keeps c again a values rows (inl valued) e all =
-    let parts = none_of (range_kinds (unwrap_or_range a.range).start_inclusive (most_values a) (length values)) _ e in
-    let set = none_of (repeat_fault again a.id rows) (values_fault a (values_or_missing a values)) (rw valued.set at parts.1) in
-    rw valued.set (set_fits c a valued values rows parts.0 set.1 all)
+keeps c again a values rows (inl valued) e all = valued_keeps c a valued again values rows e all
 keeps c again a values rows (inr help) e all =
     let parts = none_of (range_kinds (unwrap_or_range a.range).start_inclusive (most_values a) (length values)) _ e in
-    let asks = rw help at parts.1 in cc
+    let asks = rw help.0 at parts.1 in cc
+
+-- and so do the default values of one that was not used
+pub keeps_default : (c : List Rule) (a : Rule) (rows : List Row) → IsSound c a → default_fault rows a ≡ []
+    → list_all (fits c) rows ≡ true → list_all (fits c) (with_default rows a) ≡ true
+keeps_default c a rows (inl valued) e all = valued_default c a valued rows e all
+keeps_default c a rows (inr help) e all = go (has_row a.id rows)
+  where
+    go : (b : Bool) → list_all (fits c) (cond b rows (default_rows a.id (reading_by a) a.defaults rows)) ≡ true
+    go true = all
+    go false = rw help.1 all
 
 -- the first row of an argument has good values
 find_fits : (c : List Rule) (p : Row → Bool) (rows : List Row) (r : Row) → list_all (fits c) rows ≡ true → find p rows ≡ Some r

@@ -1,13 +1,13 @@
 -- The command line of `rim`, this project's choice, in the words of `clap`'s definition for simple
 -- commands; and what the words of a command line ask for.
-use Rattle.std.specs.Prelude.{◌≡◌, ◌≢◌, ◌≤◌, ◌⊎◌, ⊤, ℕ, Bool, true, false, not, ◌&&◌, pos, List, [], ◌∷◌, Option, Some, None, IfSome, codes, if◌then◌else◌, is_some}
+use Rattle.std.specs.Prelude.{◌≡◌, ◌≢◌, ◌≤◌, ◌⊎◌, ⊤, ℕ, Bool, true, false, not, pos, List, [], Option, Some, None, IfSome, codes, if◌then◌else◌, is_some}
 use Rattle.std.specs.List.{list_all}
 use Rattle.std.specs.Str.{bytes_eq}
 use Rattle.std.specs.Str.Parse.{digits_value, without_leading_plus}
-use Rattle.clap.specs.Words.{App, IsAmong, Kinds, Row, Rule, Text, fault_of, first_of, kind_of, new_app, new_rule, subcommand_of, takes, with_rule, with_subcommand}
-use Rattle.clap.specs.Kinds.{or_else}
+use Rattle.clap.specs.Words.{App, IsAmong, Kinds, Row, Rule, Text, fault_of, first_of, kind_of, new_app, new_rule, subcommand_of, with_rule, with_subcommand}
 use Rattle.clap.specs.Simple.{on_top}
 use Rattle.clap.specs.Values.{IsSignedIn}
+use Rattle.clap.specs.declared.builder.action.ArgAction.TheVariants.{SetTrue}
 use Rattle.clap.specs.declared.builder.value_parser.ValueParser.TheVariants as parser
 use Rattle.clap.specs.declared.error.kind.ErrorKind.{ErrorKind}
 use Rattle.clap.specs.declared.error.kind.ErrorKind.TheVariants as kind
@@ -17,7 +17,7 @@ use Rattle.rim_cli.specs.declared.words.CommandFault.TheVariants.{Usage, NoMemor
 use Rattle.rim_cli.specs.declared.words.Format.{Format}
 use Rattle.rim_cli.specs.declared.words.Format.TheVariants as format
 use Rattle.rim_cli.specs.declared.words.Request.{Request}
-use Rattle.rim_cli.specs.declared.words.Request.TheVariants.{Measure, List as Lists, Audit, Check, Dtb, Image, Fdt}
+use Rattle.rim_cli.specs.declared.words.Request.TheVariants.{Measure, List as Lists, Trace, Audit, Check, Dtb, Replay, Image, Fdt}
 use Rattle.job_board.specs.declared.machine.TheConstants.{WORKER_LIMIT}
 
 -- an operand that has to be given, with a name that usage texts show
@@ -32,16 +32,15 @@ workers_rule = record (new_rule (codes "workers")) {
   parser = Some (parser.Signed (pos 1) (pos WORKER_LIMIT));
 }
 
--- `--format FORMAT`. This definition takes any text there, since `clap` holds the texts of a choice by reference; a
--- format that is not known is refused after it.
-abbrev pub format_rule : Rule
-format_rule = record (new_rule (codes "format")) { long = Some (codes "format"); value_names = 1 }
+-- `--json`, a flag
+abbrev pub json_rule : Rule
+json_rule = record (new_rule (codes "json")) { long = Some (codes "json"); action = Some SetTrue }
 
--- `measure MANIFEST [--workers N] [--format FORMAT]`
+-- `measure MANIFEST [--workers N] [--json]`
 abbrev pub measure : App
-measure = with_rule (with_rule (with_rule (new_app (codes "measure")) (operand_rule (codes "manifest"))) workers_rule) format_rule
+measure = with_rule (with_rule (with_rule (new_app (codes "measure")) (operand_rule (codes "manifest"))) workers_rule) json_rule
 
--- a subcommand with one operand: `audit MANIFEST`, `check MANIFEST`, `image FILE`, `fdt FILE`
+-- a subcommand with one operand: `audit MANIFEST`, `check MANIFEST`, `replay FILE`, `image FILE`, `fdt FILE`
 abbrev pub with_operand : Text → Text → App
 with_operand name id = with_rule (new_app name) (operand_rule id)
 
@@ -50,6 +49,9 @@ audit = with_operand (codes "audit") (codes "manifest")
 
 abbrev pub check : App
 check = with_operand (codes "check") (codes "manifest")
+
+abbrev pub replay : App
+replay = with_operand (codes "replay") (codes "file")
 
 abbrev pub image : App
 image = with_operand (codes "image") (codes "file")
@@ -64,13 +66,17 @@ with_launch name = with_rule (with_operand name (codes "manifest")) (operand_rul
 abbrev pub list : App
 list = with_launch (codes "list")
 
+abbrev pub trace : App
+trace = with_launch (codes "trace")
+
 abbrev pub dtb : App
 dtb = with_launch (codes "dtb")
 
 -- the program: one of its subcommands has to be given, and it has a version
 abbrev pub rim : App
 rim = on_top (λ s. record s { has_version = true; subcommand_required = true; disable_help_subcommand = true })
-    (with_subcommand (with_subcommand (with_subcommand (with_subcommand (with_subcommand (with_subcommand (with_subcommand (new_app (codes "rim")) measure.top) list.top) audit.top) check.top) dtb.top) image.top) fdt.top)
+    (with_subcommand (with_subcommand (with_subcommand (with_subcommand (with_subcommand (with_subcommand (with_subcommand (with_subcommand (with_subcommand (new_app (codes "rim"))
+    measure.top) list.top) trace.top) audit.top) check.top) dtb.top) replay.top) image.top) fdt.top)
 
 -- the number of workers, 4 where none is given: in words that `clap` takes it is from 1 to 64
 abbrev pub CountsWorkers : Option Text → ℕ → Type 0
@@ -82,35 +88,25 @@ abbrev pub HasCrew : Request → Type 0
 HasCrew (Measure manifest workers format) = is_crew workers ≡ true
 HasCrew request = ⊤
 
--- the format of a report, text where none is given
-abbrev pub format_of : Option Text → Option Format
-format_of None = Some format.Text
-format_of (Some text) = if bytes_eq text (codes "text") then Some format.Text else (if bytes_eq text (codes "json") then Some format.Json else None)
-
--- whether the format that a subcommand has is known
-abbrev pub has_format : Option (Text × List Row) → Bool
-has_format None = true
-has_format (Some p) = is_some (format_of (first_of (codes "format") p.1))
-
--- whether words are a command line of the program: the definition takes them, and the format is known
-abbrev pub is_taken : List Text → Bool
-is_taken words = takes rim words && has_format (subcommand_of rim words)
-
--- the kinds of error that words may be refused with: those of the definition, and else that of their format
-abbrev pub mistakes_of : List Text → Kinds
-mistakes_of words = or_else (fault_of rim words) (if has_format (subcommand_of rim words) then [] else kind.InvalidValue ∷ [])
+-- the format of a report, by the value that `clap` gives the flag: `true` where the words have it, and else `false`
+abbrev pub format_of : Option Text → Format
+format_of None = format.Text
+format_of (Some text) = if bytes_eq text (codes "true") then format.Json else format.Text
 
 -- the request is the one of a subcommand's name, and has what the matches of that subcommand hold
 abbrev pub ReadsRow : Text → List Row → Request → Type 0
 ReadsRow name rows (Measure manifest workers format) = (name ≡ codes "measure")
     × (first_of (codes "manifest") rows ≡ Some manifest.now) × CountsWorkers (first_of (codes "workers") rows) workers
-    × (format_of (first_of (codes "format") rows) ≡ Some format)
+    × (format ≡ format_of (first_of (codes "json") rows))
 ReadsRow name rows (Lists manifest launch) = (name ≡ codes "list")
+    × (first_of (codes "manifest") rows ≡ Some manifest.now) × (first_of (codes "launch") rows ≡ Some launch.now)
+ReadsRow name rows (Trace manifest launch) = (name ≡ codes "trace")
     × (first_of (codes "manifest") rows ≡ Some manifest.now) × (first_of (codes "launch") rows ≡ Some launch.now)
 ReadsRow name rows (Audit manifest) = (name ≡ codes "audit") × (first_of (codes "manifest") rows ≡ Some manifest.now)
 ReadsRow name rows (Check manifest) = (name ≡ codes "check") × (first_of (codes "manifest") rows ≡ Some manifest.now)
 ReadsRow name rows (Dtb manifest launch) = (name ≡ codes "dtb")
     × (first_of (codes "manifest") rows ≡ Some manifest.now) × (first_of (codes "launch") rows ≡ Some launch.now)
+ReadsRow name rows (Replay file) = (name ≡ codes "replay") × (first_of (codes "file") rows ≡ Some file.now)
 ReadsRow name rows (Image file) = (name ≡ codes "image") × (first_of (codes "file") rows ≡ Some file.now)
 ReadsRow name rows (Fdt file) = (name ≡ codes "fdt") × (first_of (codes "file") rows ≡ Some file.now)
 
@@ -148,9 +144,9 @@ IsOne verb id name rows = (name ≡ verb) × HasOperand id rows
 
 -- and of those of some subcommand: a further one is a further case
 abbrev pub IsEntered : Text → List Row → Type 0
-IsEntered name rows = IsMeasure name rows ⊎ (IsOfLaunch (codes "list") name rows ⊎ (IsOne (codes "audit") (codes "manifest") name rows
-    ⊎ (IsOne (codes "check") (codes "manifest") name rows ⊎ (IsOfLaunch (codes "dtb") name rows
-    ⊎ (IsOne (codes "image") (codes "file") name rows ⊎ IsOne (codes "fdt") (codes "file") name rows)))))
+IsEntered name rows = IsMeasure name rows ⊎ (IsOfLaunch (codes "list") name rows ⊎ (IsOfLaunch (codes "trace") name rows
+    ⊎ (IsOne (codes "audit") (codes "manifest") name rows ⊎ (IsOne (codes "check") (codes "manifest") name rows ⊎ (IsOfLaunch (codes "dtb") name rows
+    ⊎ (IsOne (codes "replay") (codes "file") name rows ⊎ (IsOne (codes "image") (codes "file") name rows ⊎ IsOne (codes "fdt") (codes "file") name rows)))))))
 
 -- help and the version are asked for; each other kind of error is a mistake in the words
 abbrev pub is_asked : ErrorKind → Bool
@@ -160,7 +156,7 @@ is_asked _ = false
 
 -- the words are refused, and each kind of error that they may be refused with passes the test
 abbrev pub IsRefusedBy : (ErrorKind → Bool) → List Text → Type 0
-IsRefusedBy test words = (mistakes_of words ≢ []) × (list_all test (mistakes_of words) ≡ true)
+IsRefusedBy test words = (fault_of rim words ≢ []) × (list_all test (fault_of rim words) ≡ true)
 
 abbrev pub IsMistaken : List Text → Type 0
 IsMistaken words = IsRefusedBy (λ k. not (is_asked k)) words

@@ -1,16 +1,18 @@
 -- What a run of the program has written when it is done, and why it is refused. This project's choice.
-use Rattle.std.specs.Prelude.{◌≡◌, ◌≢◌, ◌⊎◌, ℕ, List, [], Option, Some, None, IsOkAnd, Ok, Err, is_err, is_some, true, option_and_then, position, slice_get, if◌then◌else◌}
+use Rattle.std.specs.Prelude.{◌≡◌, ◌≢◌, ◌⊎◌, ℕ, List, [], Option, Some, None, IsOkAnd, Result, Ok, Err, is_err, is_some, true, option_and_then, position, slice_get, if◌then◌else◌}
 use Rattle.std.specs.Io.KnownBytes.{Appends}
 use Rattle.clap.specs.Words.{Text, subcommand_of}
 use Rattle.rim_manifest.specs.Manifest.{Answer, manifest_of, name_in}
 use Rattle.rim_manifest.specs.Launches.{NamedData, ReleaseData}
 use Rattle.rim_manifest.specs.declared.fault.ManifestFault.TheVariants as manifest
 use Rattle.rim_release.specs.Devicetree.{devicetree_of}
-use Rattle.rim_release.specs.Listing.{listing_of, shown_of}
+use Rattle.rim_release.specs.Listing.{listing_of, text_or_line}
+use Rattle.rim_release.specs.Trace.{trace_of}
 use Rattle.rim_release.specs.ShownDevicetree.{IsDevicetreeFault, ShowsDevicetree}
 use Rattle.rim_release.specs.Json.{json_of}
 use Rattle.rim_release.specs.Report.{audit_text_of, has_refused, measured_of, report_of, unless_too_many}
 use Rattle.rim_release.specs.ShownImage.{image_answer_of}
+use Rattle.rim_release.specs.declared.audit_fault.AuditFault.{AuditFault}
 use Rattle.rim_release.specs.declared.audit_fault.AuditFault.TheVariants as audit
 use Rattle.rim_release.specs.declared.show.fault.ShowFault.TheVariants as show
 use Rattle.rim_release.specs.declared.fault.StartFault.{StartFault}
@@ -21,21 +23,24 @@ use Rattle.rim_check.specs.Readables.{ReadableData, item_names_in}
 use Rattle.rim_cli.specs.declared.words.Format.{Format}
 use Rattle.rim_cli.specs.declared.words.Format.TheVariants as format
 use Rattle.rim_cli.specs.declared.words.Request.{Request}
-use Rattle.rim_cli.specs.declared.words.Request.TheVariants.{Measure, List as Lists, Audit, Check, Dtb, Image, Fdt}
+use Rattle.rim_cli.specs.declared.words.Request.TheVariants.{Measure, List as Lists, Trace, Audit, Check, Dtb, Replay, Image, Fdt}
 use Rattle.rim_cli.specs.declared.fault.Fault.{Fault}
 use Rattle.rim_cli.specs.declared.fault.Fault.TheVariants.{Manifest, NoSuchLaunch, Start, Refused, NoDevicetree, Show}
 use Rattle.rim_cli.specs.Command.{ReadsRequest, rim}
 use Rattle.rim_cli.specs.Files.{AreRead, IfFile, IsFileFault, IsFirstFault, Known}
 use Rattle.rim_cli.specs.Unread.{AreUnread}
+use Rattle.rim_cli.specs.Replayed.{IsReplayed}
 use Rattle.rim_cli.specs.Status.{status_of}
 
 -- the path of the file that a request is about
 abbrev pub path_of : Request → List ℕ
 path_of (Measure path workers format) = path.now
 path_of (Lists path launch) = path.now
+path_of (Trace path launch) = path.now
 path_of (Audit path) = path.now
 path_of (Check path) = path.now
 path_of (Dtb path launch) = path.now
+path_of (Replay file) = file.now
 path_of (Image file) = file.now
 path_of (Fdt file) = file.now
 
@@ -88,6 +93,10 @@ abbrev pub IsCheck : (List ℕ → Known) → List (List (List ℕ)) → Answer 
 IsCheck held names (Err fault) text status = Explains fault text × (status ≡ 3)
 IsCheck held names (Ok r) text status = IsReleaseCheck held (record { names = names; release = r }) text status
 
+-- what is shown of a launch of which this came, and its status
+abbrev pub IsShown : NamedData → Result (List ℕ) AuditFault → List ℕ → ℕ → Type 0
+IsShown l outcome text status = (text ≡ text_or_line l outcome) × (status ≡ (if is_err outcome then 1 else 0))
+
 -- the launch of a name
 abbrev pub launch_in : ReleaseData → List ℕ → Option NamedData
 launch_in r name = option_and_then (slice_get r.launches) (position (name_in name) r.launches)
@@ -100,9 +109,15 @@ pub record OfLaunch (held : List ℕ → Known) (r : ReleaseData) (name : List �
   pub named : launch_in r name ≡ Some launch
   pub holds : Holds launch files
 
--- the listing of the launch of a name, or its line where it is refused, and then 1 is the status
+-- a text of the launch of a name, or its line where it is refused, and then 1 is the status
+abbrev pub IsTextOf : (NamedData → List (List ℕ) → Result (List ℕ) AuditFault) → (List ℕ → Known) → ReleaseData → List ℕ → List ℕ → ℕ → Type 0
+IsTextOf text_of held r name text status = OfLaunch held r name (λ l files. IsShown l (text_of l files) text status)
+
 abbrev pub IsListing : (List ℕ → Known) → ReleaseData → List ℕ → List ℕ → ℕ → Type 0
-IsListing held r name text status = OfLaunch held r name (λ l files. (text ≡ shown_of files l) × (status ≡ (if is_err (listing_of l.launch files) then 1 else 0)))
+IsListing held r name text status = IsTextOf (λ l. listing_of l.launch) held r name text status
+
+abbrev pub IsTrace : (List ℕ → Known) → ReleaseData → List ℕ → List ℕ → ℕ → Type 0
+IsTrace held r name text status = IsTextOf (λ l. trace_of l.launch) held r name text status
 
 -- the devicetree of the launch of a name, as it is placed
 abbrev pub IsDevicetree : (List ℕ → Known) → ReleaseData → List ℕ → List ℕ → ℕ → Type 0
@@ -112,9 +127,11 @@ IsDevicetree held r name bytes status = OfLaunch held r name (λ l files. (devic
 abbrev pub IsAnswer : (List ℕ → Known) → Request → List ℕ → List ℕ → ℕ → Type 0
 IsAnswer held (Measure path workers format) bytes text status = IsOkAnd (manifest_of bytes) (λ r. IsReport format held r text status)
 IsAnswer held (Lists path launch) bytes text status = IsOkAnd (manifest_of bytes) (λ r. IsListing held r launch.now text status)
+IsAnswer held (Trace path launch) bytes text status = IsOkAnd (manifest_of bytes) (λ r. IsTrace held r launch.now text status)
 IsAnswer held (Audit path) bytes text status = IsOkAnd (manifest_of bytes) (λ r. IsAudit held r text status)
 IsAnswer held (Check path) bytes text status = IsCheck held (item_names_in bytes) (manifest_of bytes) text status
 IsAnswer held (Dtb path launch) bytes text status = IsOkAnd (manifest_of bytes) (λ r. IsDevicetree held r launch.now text status)
+IsAnswer held (Replay file) bytes text status = IsReplayed bytes text status
 IsAnswer held (Image file) bytes text status = (image_answer_of bytes ≡ Ok text) × (status ≡ 0)
 IsAnswer held (Fdt file) bytes text status = ShowsDevicetree bytes text × (status ≡ 0)
 
@@ -173,9 +190,11 @@ RefusesFdt known fault = IsFileFault known fault
 abbrev pub Refuses : (List ℕ → Known) → Request → Fault → Type 0
 Refuses held (Measure path workers format) fault = RefusesManifest (RefusesReport held) (held path.now) fault
 Refuses held (Lists path launch) fault = RefusesManifest (RefusesListing held launch.now) (held path.now) fault
+Refuses held (Trace path launch) fault = RefusesManifest (RefusesListing held launch.now) (held path.now) fault
 Refuses held (Audit path) fault = RefusesManifest (RefusesAudit held) (held path.now) fault
 Refuses held (Check path) fault = IsFileFault (held path.now) fault
 Refuses held (Dtb path launch) fault = RefusesManifest (RefusesDtb held launch.now) (held path.now) fault
+Refuses held (Replay file) fault = IsFileFault (held file.now) fault
 Refuses held (Image file) fault = RefusesImage (held file.now) fault
 Refuses held (Fdt file) fault = RefusesFdt (held file.now) fault
 

@@ -1,8 +1,11 @@
--- Examples of command lines, read by the definition of `clap`. This project's choice.
-use Rattle.std.specs.Prelude.{◌≡◌, ℕ, true, false, List, [], ◌∷◌, Option, Some, None, codes, length, map, option_map}
-use Rattle.clap.specs.Words.{Text, first_of, subcommand_of}
+-- Examples of command lines, read by the definition of `clap`, and of what is printed of a listing. This project's choice.
+use Rattle.std.specs.Prelude.{◌≡◌, ℕ, true, false, List, [], ◌∷◌, Option, Some, None, Ok, Err, codes, length, map, option_map}
+use Rattle.clap.specs.Words.{Text, first_of, subcommand_of, takes}
+use Rattle.rmm_model.specs.declared.outcome.Refused.TheVariants.{WalkLevel}
 use Rattle.rim_manifest.specs.Launches.{ReleaseData}
-use Rattle.rim_cli.specs.Command.{AsksForHelp, CountsWorkers, IsMistaken, format_of, is_taken, rim}
+use Rattle.rim_replay.specs.declared.fault.ReplayFault.TheVariants as fault
+use Rattle.rim_cli.specs.Command.{AsksForHelp, CountsWorkers, IsMistaken, format_of, rim}
+use Rattle.rim_cli.specs.Replayed.{replay_text}
 use Rattle.rim_cli.specs.declared.words.Format.{Format}
 use Rattle.rim_cli.specs.declared.words.Format.TheVariants as format
 
@@ -13,7 +16,13 @@ abbrev pub with_seven : List Text
 with_seven = codes "rim" ∷ codes "measure" ∷ codes "--workers=7" ∷ codes "manifest.toml" ∷ []
 
 abbrev pub with_json : List Text
-with_json = codes "rim" ∷ codes "measure" ∷ codes "manifest.toml" ∷ codes "--format" ∷ codes "json" ∷ []
+with_json = codes "rim" ∷ codes "measure" ∷ codes "manifest.toml" ∷ codes "--json" ∷ []
+
+abbrev pub a_trace : List Text
+a_trace = codes "rim" ∷ codes "trace" ∷ codes "manifest.toml" ∷ codes "small" ∷ []
+
+abbrev pub a_replay : List Text
+a_replay = codes "rim" ∷ codes "replay" ∷ codes "listing" ∷ []
 
 abbrev pub an_image : List Text
 an_image = codes "rim" ∷ codes "image" ∷ codes "Image" ∷ []
@@ -40,13 +49,21 @@ too_few = codes "rim" ∷ codes "list" ∷ codes "manifest.toml" ∷ []
 abbrev pub too_many : List Text
 too_many = codes "rim" ∷ codes "measure" ∷ codes "manifest.toml" ∷ codes "--workers" ∷ codes "65" ∷ []
 
-abbrev pub other_format : List Text
-other_format = codes "rim" ∷ codes "measure" ∷ codes "manifest.toml" ∷ codes "--format" ∷ codes "xml" ∷ []
+-- the flag takes no value
+abbrev pub json_with_value : List Text
+json_with_value = codes "rim" ∷ codes "measure" ∷ codes "manifest.toml" ∷ codes "--json=no" ∷ []
+
+-- the words are a command line of the program
+abbrev pub Takes : List Text → Type 0
+Takes words = takes rim words ≡ true
+
+abbrev pub TakesNot : List Text → Type 0
+TakesNot words = takes rim words ≡ false
 
 abbrev pub TakesExamples : Type 0
-TakesExamples = (is_taken plain ≡ true) × (is_taken with_seven ≡ true) × (is_taken with_json ≡ true) × (is_taken a_listing ≡ true) × (is_taken an_audit ≡ true) × (is_taken a_check ≡ true)
-    × (is_taken a_placed_devicetree ≡ true) × (is_taken an_image ≡ true) × (is_taken a_devicetree ≡ true) × (is_taken too_many ≡ false) × (is_taken other_format ≡ false) × (is_taken too_few ≡ false)
-    × (is_taken (codes "rim" ∷ codes "help" ∷ []) ≡ false) × (is_taken (codes "rim" ∷ []) ≡ false)
+TakesExamples = Takes plain × Takes with_seven × Takes with_json × Takes a_listing × Takes a_trace × Takes an_audit × Takes a_check × Takes a_placed_devicetree
+    × Takes a_replay × Takes an_image × Takes a_devicetree × TakesNot too_many × TakesNot json_with_value × TakesNot too_few
+    × TakesNot (codes "rim" ∷ codes "help" ∷ []) × TakesNot (codes "rim" ∷ [])
 
 -- the texts of the manifest and of the workers that the words hold
 abbrev pub read_in : List Text → Option (Option Text × Option Text)
@@ -57,21 +74,28 @@ abbrev pub launch_in : List Text → Option (Option Text × Option Text)
 launch_in words = option_map (λ p. (first_of (codes "manifest") p.1, first_of (codes "launch") p.1)) (subcommand_of rim words)
 
 -- the format of the report that the words ask for
-abbrev pub format_in : List Text → Option (Option Format)
-format_in words = option_map (λ p. format_of (first_of (codes "format") p.1)) (subcommand_of rim words)
+abbrev pub format_in : List Text → Option Format
+format_in words = option_map (λ p. format_of (first_of (codes "json") p.1)) (subcommand_of rim words)
 
 abbrev pub ReadsExamples : Type 0
 ReadsExamples = (read_in plain ≡ Some (Some (codes "manifest.toml"), None))
     × (read_in with_seven ≡ Some (Some (codes "manifest.toml"), Some (codes "7")))
     × (launch_in a_listing ≡ Some (Some (codes "manifest.toml"), Some (codes "small")))
+    × (launch_in a_trace ≡ Some (Some (codes "manifest.toml"), Some (codes "small")))
     × (launch_in a_placed_devicetree ≡ Some (Some (codes "manifest.toml"), Some (codes "small")))
-    × (format_in plain ≡ Some (Some format.Text)) × (format_in with_json ≡ Some (Some format.Json)) × (format_in other_format ≡ Some None)
+    × (format_in plain ≡ Some format.Text) × (format_in with_json ≡ Some format.Json)
     × ((n : ℕ) → CountsWorkers None n → n ≡ 4) × ((n : ℕ) → CountsWorkers (Some (codes "7")) n → n ≡ 7)
 
--- help and the version are asked for, and not a mistake; too many workers, another format, a listing of no launch, another subcommand and none are
+-- help and the version are asked for, and not a mistake; too many workers, a flag with a value, a listing of no launch, another subcommand and none are
 abbrev pub RefusesExamples : Type 0
 RefusesExamples = AsksForHelp (codes "rim" ∷ codes "--help" ∷ []) × AsksForHelp (codes "rim" ∷ codes "measure" ∷ codes "--help" ∷ [])
-    × AsksForHelp (codes "rim" ∷ codes "--version" ∷ []) × IsMistaken too_many × IsMistaken other_format × IsMistaken too_few × IsMistaken (codes "rim" ∷ codes "print" ∷ []) × IsMistaken (codes "rim" ∷ [])
+    × AsksForHelp (codes "rim" ∷ codes "--version" ∷ []) × IsMistaken too_many × IsMistaken json_with_value × IsMistaken too_few × IsMistaken (codes "rim" ∷ codes "print" ∷ []) × IsMistaken (codes "rim" ∷ [])
+
+-- what is printed of a listing, by what it comes to
+abbrev pub PrintsExamples : Type 0
+PrintsExamples = (replay_text (Ok tt) ≡ Some (codes "yes\n")) × (replay_text (Err (fault.Line 14)) ≡ Some (codes "no line 14\n"))
+    × (replay_text (Err (fault.Refused 8 WalkLevel)) ≡ Some (codes "no refused 8 walk-level\n"))
+    × (replay_text (Err fault.WrongRim) ≡ Some (codes "no wrong-rim\n")) × (replay_text (Err fault.NoMemory) ≡ None)
 
 -- the smallest manifest: a launch without memory and files
 abbrev pub smallest : List ℕ

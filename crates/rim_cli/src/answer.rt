@@ -5,24 +5,27 @@ ghost use Rattle.rim_cli.specs.Command.{HasCrew};
 ghost use Rattle.rim_manifest.specs.Manifest.{manifest_of, name_in};
 ghost use Rattle.rim_release.specs.ShownDevicetree.{ShowsDevicetree};
 ghost use Rattle.rim_release.specs.ShownImage.{image_answer_of};
-ghost use Rattle.rim_cli.specs.Done.{IsAnswer, IsAudit, IsDevicetree, IsListing, IsManifestFault, IsReport, IsReportOf, Refuses, RefusesAudit, RefusesDtb, RefusesFdt, RefusesImage, RefusesListing, RefusesManifest, RefusesReport, path_of};
+ghost use Rattle.rim_cli.specs.Done.{IsAnswer, IsAudit, IsDevicetree, IsListing, IsManifestFault, IsReport, IsReportOf, IsTrace, Refuses, RefusesAudit, RefusesDtb, RefusesFdt, RefusesImage, RefusesListing, RefusesManifest, RefusesReport, path_of};
 ghost use Rattle.rim_cli.specs.Files.{AreRead, IfFile};
 
 use crate::checking::check;
 use crate::fault::Fault;
 use crate::file::{Opener, read_file, read_files};
 use crate::freed::keep_freed_memory;
+use crate::replaying::replay;
 use crate::words::{Format, Request};
 use rim_release::{
     Files, Gate, Outcome, Release, Report, StartFault, audit_launches, json_report,
     listing_or_refusal, measure_release, placed_devicetree, read_manifest, show_fdt, show_image,
+    trace_or_refusal,
 };
 use std::alloc::Global;
 use std::sync::Wait;
 use std::thread::Threads;
 
 /// The text that a request asks for, or the bytes of a devicetree, and the exit status that it ends with: 0, or 1 where
-/// the text says that some launch is refused, or 3 where it says what a check found at fault in a manifest or its files.
+/// the text says that some launch is refused or that a listing is not what it says, or 3 where it says what a check found
+/// at fault in a manifest or its files.
 #[derive(Drop)]
 pub struct Answer {
     pub text: Vec<u8>,
@@ -50,9 +53,11 @@ pub fn answer_to<R: Threads + Wait + Sync, G: Gate + Sync, O: Opener>(
             format,
         } => measure(rt, alloc, gate, opener, manifest, workers, format),
         Request::List { manifest, launch } => list(alloc, opener, manifest, launch),
+        Request::Trace { manifest, launch } => trace(alloc, opener, manifest, launch),
         Request::Audit { manifest } => audit(alloc, opener, manifest),
         Request::Check { manifest } => check(alloc, opener, manifest),
         Request::Dtb { manifest, launch } => dtb(alloc, opener, manifest, launch),
+        Request::Replay { file } => replay(alloc, opener, file),
         Request::Image { file } => image(alloc, opener, file),
         Request::Fdt { file } => fdt(alloc, opener, file),
     }
@@ -127,6 +132,27 @@ fn list<O: Opener>(alloc: Global, opener: &mut O, path: &str, launch: &str) -> R
 {
     let found = read_launch(alloc, opener, path, launch)?;
     match listing_or_refusal(alloc, &found.release, &found.files, found.number) {
+        Ok(report) => Ok(answer_of(report)),
+        Err(_) => Err(Fault::NoMemory),
+    }
+}
+
+/// The trace of a manifest's launch, or its line where it is refused.
+fn trace<O: Opener>(
+    alloc: Global,
+    opener: &mut O,
+    path: &str,
+    launch: &str,
+) -> Result<Answer, Fault>
+    ensures answered { IfOk result (λ a. IfFile (O.held opener.old path.now) (λ bytes. IsOkAnd
+        (manifest_of bytes)
+        (λ r. IsTrace (O.held opener.old) r launch.now a.text.items a.status))) }
+    ensures refused { IfErr result (RefusesManifest (RefusesListing (O.held opener.old) launch.now)
+        (O.held opener.old path.now)) }
+    ensures status { IfOk result (λ a. a.status ≤ 1) }
+{
+    let found = read_launch(alloc, opener, path, launch)?;
+    match trace_or_refusal(alloc, &found.release, &found.files, found.number) {
         Ok(report) => Ok(answer_of(report)),
         Err(_) => Err(Fault::NoMemory),
     }

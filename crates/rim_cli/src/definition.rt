@@ -2,9 +2,9 @@
 ghost use Rattle.std.specs.Prelude.{◌≡◌, IfOk, codes, true, false};
 ghost use Rattle.clap.specs.Words.{app_of, rule_of, with_subcommand};
 ghost use Rattle.clap.specs.declared.builder.command.Command.TheViews.{out-Command};
-ghost use Rattle.rim_cli.specs.Command.{audit, check, dtb, fdt, format_rule, image, list, measure, operand_rule, rim, with_launch, with_operand, workers_rule};
+ghost use Rattle.rim_cli.specs.Command.{audit, check, dtb, fdt, image, json_rule, list, measure, operand_rule, replay, rim, trace, with_launch, with_operand, workers_rule};
 
-use clap::{Arg, Command};
+use clap::{Arg, ArgAction, Command};
 use job_board::WORKER_LIMIT;
 use std::alloc::{AllocError, Global};
 
@@ -26,14 +26,19 @@ processors (`rec`). docs/FORMATS.md lists all keys.
 
 `rim measure MANIFEST` prints the report: the line `rim-report 1`, a line
 `NAME ALGORITHM MEASUREMENT` or `NAME refused KIND` for each launch, and the line
-`pages N`, the number of different pages that were hashed. With `--format json` it is one
-JSON object; docs/FORMATS.md describes it.
+`pages N`, the number of different pages that were hashed. With `--json` it is one JSON
+object; docs/FORMATS.md describes it.
 
 `rim list MANIFEST LAUNCH` prints the listing of a launch: the line `rim-list 1 aux N`,
 a line for each command that a monitor takes to build the realm, and the line
 `rim ALGORITHM MEASUREMENT`; or the line `NAME refused KIND`. `rim audit MANIFEST` gives
 a monitor the commands of each launch, and prints the line `rim-audit 1` and a line for
 each launch, as the report has it.
+
+`rim trace MANIFEST LAUNCH` prints a line for each command that the monitor measures: the
+measurement after it, and the command without the granules that the host chooses. Two
+traces can be compared by `diff`: the first line that differs is the first step at which
+two measurements part.
 
 `rim check MANIFEST` prints a line for each fault of a manifest, with its place. Where
 there is none, it prints `PATH: file-unreadable` or `PATH: file-too-large` for each file
@@ -43,12 +48,19 @@ what is at fault. It prints nothing where nothing is wrong.
 `rim dtb MANIFEST LAUNCH` writes the devicetree of a launch as it is placed: the bytes
 that are measured, to be given to a hypervisor. They are not written to a terminal.
 
+`rim replay FILE` gives the commands of a listing to a monitor, line by line. It prints
+`yes` where the listing is what it says: the monitor takes each command, and then holds
+the measurement of the last line. Else it prints `no line N` where line N is no line of
+a listing in its place, `no refused N KIND` where the monitor refuses the command of line
+N, or `no wrong-rim` where the measurement is another one.
+
 A fault is one line on standard error, `rim: ` and its name. What `rim check` finds is
 on standard output.
 
 Exit status:
   0  done
-  1  done, and the launch or one of the launches is refused
+  1  done, and the launch or one of the launches is refused, or (`rim replay`) the
+     listing is not what it says
   2  the command line is wrong
   3  the manifest, a file or the output is at fault, or no launch has the name, or
      (`rim dtb`) the launch is refused or has no devicetree
@@ -66,7 +78,7 @@ pub fn rim_command<'a>(alloc: Global) -> Result<Command<'a>, AllocError>
         .after_help(GUIDE);
     let rim = with_release_commands(alloc, rim)?;
     let rim = with_subcommand(rim, dtb_command(alloc)?)?;
-    let rim = with_showing_commands(alloc, rim)?;
+    let rim = with_file_commands(alloc, rim)?;
     Ok(rim.subcommand_required(true).disable_help_subcommand(true))
 }
 
@@ -74,12 +86,13 @@ pub fn rim_command<'a>(alloc: Global) -> Result<Command<'a>, AllocError>
 fn with_release_commands<'a>(alloc: Global, command: Command<'a>) -> Result<Command<'a>, AllocError>
     requires { (out-Command command).has_globals ≡ false }
     ensures shape { IfOk result (λ c. app_of c
-        ≡ with_subcommand (with_subcommand
+        ≡ with_subcommand (with_subcommand (with_subcommand
         (with_subcommand (with_subcommand (app_of command.entry) measure.top) list.top)
-        audit.top) check.top) }
+        trace.top) audit.top) check.top) }
     ensures globals { IfOk result (λ c. (out-Command c).has_globals ≡ false) }
 {
     let command = with_report_commands(alloc, command)?;
+    let command = with_subcommand(command, audit_command(alloc)?)?;
     with_subcommand(command, check_command(alloc)?)
 }
 
@@ -89,33 +102,42 @@ fn with_report_commands<'a>(alloc: Global, command: Command<'a>) -> Result<Comma
     ensures shape { IfOk result (λ c. app_of c
         ≡ with_subcommand
         (with_subcommand (with_subcommand (app_of command.entry) measure.top) list.top)
-        audit.top) }
+        trace.top) }
     ensures globals { IfOk result (λ c. (out-Command c).has_globals ≡ false) }
 {
     let command = with_subcommand(command, measure_command(alloc)?)?;
     let command = with_subcommand(command, list_command(alloc)?)?;
-    with_subcommand(command, audit_command(alloc)?)
+    with_subcommand(command, trace_command(alloc)?)
 }
 
-/// A command with the subcommands that show a file.
-fn with_showing_commands<'a>(alloc: Global, command: Command<'a>) -> Result<Command<'a>, AllocError>
+/// A command with the subcommands about one file that is no manifest.
+fn with_file_commands<'a>(alloc: Global, command: Command<'a>) -> Result<Command<'a>, AllocError>
     requires { (out-Command command).has_globals ≡ false }
     ensures shape { IfOk result (λ c. app_of c
-        ≡ with_subcommand (with_subcommand (app_of command.entry) image.top) fdt.top) }
+        ≡ with_subcommand
+        (with_subcommand (with_subcommand (app_of command.entry) replay.top) image.top)
+        fdt.top) }
     ensures globals { IfOk result (λ c. (out-Command c).has_globals ≡ false) }
 {
-    let image = showing_command(
+    let replay = file_command(
+        alloc,
+        "replay",
+        "Says whether a listing is what it says, by giving its commands to a monitor",
+        "The listing, as `rim list` prints it",
+    )?;
+    let image = file_command(
         alloc,
         "image",
         "Prints the header of an arm64 kernel Image",
         "The Image, as a kernel's build writes it",
     )?;
-    let fdt = showing_command(
+    let fdt = file_command(
         alloc,
         "fdt",
         "Prints a flattened devicetree, node by node",
         "The devicetree, as dtc or QEMU writes it",
     )?;
+    let command = with_subcommand(command, replay)?;
     let command = with_subcommand(command, image)?;
     with_subcommand(command, fdt)
 }
@@ -141,7 +163,7 @@ fn measure_command<'a>(alloc: Global) -> Result<Command<'a>, AllocError>
     let measure = Command::new(alloc, "measure")
         .arg(operand_arg(alloc, "manifest", "MANIFEST", MANIFEST))?
         .arg(workers_arg(alloc))?
-        .arg(format_arg(alloc))?;
+        .arg(json_arg(alloc))?;
     Ok(
         measure
             .about("Prints the measurement of each launch of a manifest")
@@ -155,6 +177,14 @@ fn list_command<'a>(alloc: Global) -> Result<Command<'a>, AllocError>
 {
     let list = launch_command(alloc, "list")?;
     Ok(list.about("Prints the monitor's commands that build the realm of a launch"))
+}
+
+fn trace_command<'a>(alloc: Global) -> Result<Command<'a>, AllocError>
+    ensures shape { IfOk result (λ c. app_of c ≡ trace) }
+    ensures globals { IfOk result (λ c. (out-Command c).has_globals ≡ false) }
+{
+    let trace = launch_command(alloc, "trace")?;
+    Ok(trace.about("Prints the measurement of a launch step by step"))
 }
 
 fn dtb_command<'a>(alloc: Global) -> Result<Command<'a>, AllocError>
@@ -200,8 +230,8 @@ fn check_command<'a>(alloc: Global) -> Result<Command<'a>, AllocError>
     ))
 }
 
-/// A subcommand that shows the file at a path.
-fn showing_command<'a>(
+/// A subcommand about the file at a path.
+fn file_command<'a>(
     alloc: Global,
     name: &'a str,
     about: &'a str,
@@ -236,12 +266,12 @@ fn workers_arg<'a>(alloc: Global) -> Arg<'a>
         .help("Threads that hash pages and chain launches, 1 to 64; 4 where not given")
 }
 
-fn format_arg<'a>(alloc: Global) -> Arg<'a>
-    ensures rule { rule_of result ≡ format_rule }
+fn json_arg<'a>(alloc: Global) -> Arg<'a>
+    ensures rule { rule_of result ≡ json_rule }
     ensures local { result.global ≡ false }
 {
-    Arg::new(alloc, "format")
-        .long("format")
-        .value_name("FORMAT")
-        .help("text, or json for one JSON object; text where not given")
+    Arg::new(alloc, "json")
+        .long("json")
+        .action(ArgAction::SetTrue)
+        .help("The report as one JSON object, and not as lines")
 }

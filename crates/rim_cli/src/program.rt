@@ -1,8 +1,8 @@
 //! A run of the program, over any files and streams.
 ghost use Rattle.std.specs.Prelude.{◌≡◌, ◌≢◌, ◌≤◌, ◌⊎◌, IfErr, IfOk, OnOk, map, false, true};
 ghost use Rattle.std.specs.Io.KnownBytes.{Appends};
-ghost use Rattle.clap.specs.Words.{kind_of};
-ghost use Rattle.rim_cli.specs.Command.{AsksForBytes, AsksForHelp, IsMistaken, is_asked, is_for_bytes, is_taken};
+ghost use Rattle.clap.specs.Words.{kind_of, takes};
+ghost use Rattle.rim_cli.specs.Command.{AsksForBytes, AsksForHelp, IsMistaken, is_asked, is_for_bytes, rim};
 ghost use Rattle.rim_cli.specs.Done.{IsDone, IsRefused, IsUnwritten};
 ghost use Rattle.std.specs.IoError.{error_kind};
 ghost use Rattle.rim_cli.specs.Status.{status_of, unreadable_status};
@@ -11,6 +11,7 @@ use crate::answer::answer_to;
 use crate::fault::Fault;
 use crate::file::Opener;
 use crate::words::{CommandFault, Request, command};
+use clap::error::ErrorKind as UsageKind;
 use rim_release::Gate;
 use std::alloc::{AllocError, Global};
 use std::convert::AsStr;
@@ -22,14 +23,15 @@ use std::thread::Threads;
 /// Runs the program on the words of a command line, of which the first is the program's name.
 ///
 /// `gate` is called around the jobs of `rim measure`. Files are opened by `opener`, output goes to `out`, usage texts and
-/// the one line of a fault go to `err`. The answer is the exit status: 0 done, 1 some launch is refused, 2 usage, 3 a fault of the
-/// manifest, a file or the output, 4 want of memory. Output is made whole before any of it is written.
+/// the one line of a fault go to `err`. The answer is the exit status: 0 done, 1 some launch is refused or a listing is not
+/// what it says, 2 usage, 3 a fault of the manifest, a file or the output, 4 want of memory. Output is made whole before any
+/// of it is written.
 ///
 /// Where the words are taken, 0 and 1 say that the text that they ask for was added to `out`: 1 exactly where that
-/// text says that a launch is refused. 3 says that the request is refused with a fault that holds, and `out` is as it
-/// was; or that the text was made and could not be written; or that it was added to `out`, and is that of a check which
-/// found the manifest or a file of it at fault. 2 is not answered. After 2 and 4 `out` is as it was. No
-/// clause says what is on `err`, since writing there may fail and changes no status.
+/// text says that a launch is refused, or `no` of a listing that was replayed. 3 says that the request is refused with a
+/// fault that holds, and `out` is as it was; or that the text was made and could not be written; or that it was added to
+/// `out`, and is that of a check which found the manifest or a file of it at fault. 2 is not answered. After 2 and 4 `out`
+/// is as it was. No clause says what is on `err`, since writing there may fail and changes no status.
 pub fn run<R: Threads + Wait + Sync, G: Gate + Sync, S: AsStr, O: Opener, W: Write, E: Write>(
     rt: &R,
     alloc: Global,
@@ -40,13 +42,13 @@ pub fn run<R: Threads + Wait + Sync, G: Gate + Sync, S: AsStr, O: Opener, W: Wri
     err: &mut E,
 ) -> u8
     ensures known { result ≤ 4 }
-    ensures done { is_taken (map S.text words.now) ≡ true → result ≤ 1
+    ensures done { takes rim (map S.text words.now) ≡ true → result ≤ 1
         → IsDone (map S.text words.now) (O.held opener.old) (W.contents out.old)
         (W.contents out.new) result }
-    ensures usage { is_taken (map S.text words.now) ≡ true → result ≢ 2 }
+    ensures usage { takes rim (map S.text words.now) ≡ true → result ≢ 2 }
     ensures mistaken { IsMistaken (map S.text words.now) → (result ≡ 2) ⊎ (result ≡ 4) }
     ensures helps { AsksForHelp (map S.text words.now) → result ≢ 2 }
-    ensures refused { is_taken (map S.text words.now) ≡ true → result ≡ 3
+    ensures refused { takes rim (map S.text words.now) ≡ true → result ≡ 3
         → (IsRefused (map S.text words.now) (O.held opener.old) result × (out.new ≡ out.old))
         ⊎ (IsUnwritten (map S.text words.now) (O.held opener.old)
         ⊎ IsDone (map S.text words.now) (O.held opener.old) (W.contents out.old)
@@ -56,7 +58,13 @@ pub fn run<R: Threads + Wait + Sync, G: Gate + Sync, S: AsStr, O: Opener, W: Wri
     let request = match command(alloc, words) {
         Ok(request) => request,
         Err(CommandFault::NoMemory) => return report_fault(Fault::NoMemory, err),
-        Err(CommandFault::Usage(answer)) => return show_usage(alloc, &answer, out, err),
+        Err(CommandFault::Usage(answer)) => {
+            let status = show_usage(alloc, &answer, out, err);
+            if answer.kind() == UsageKind::UnknownArgument {
+                show_new_words(words, err);
+            }
+            return status;
+        }
     };
     match answer_to(rt, alloc, gate, request, opener) {
         Ok(answer) => finish(answer.text.as_slice(), answer.status, out, err),
@@ -85,6 +93,16 @@ fn show_usage<W: Write, E: Write>(
         return 2;
     }
     finish(text.as_bytes(), 0, out, err)
+}
+
+/// Names the flag that asks for the report as JSON, where the words have the option that did so before it.
+fn show_new_words<S: AsStr, E: Write>(words: &[S], err: &mut E) {
+    if words
+        .iter()
+        .any(|word| word.as_str().starts_with("--format"))
+    {
+        let _ = writeln!(err, "\n  tip: '--json' prints the report as JSON");
+    }
 }
 
 /// Writes the text that a request asked for, and answers the exit status: this one, or that of the fault.
@@ -125,7 +143,7 @@ fn report_fault<E: Write>(fault: Fault, err: &mut E) -> u8
 /// command line ask for none.
 pub fn asks_for_bytes<S: AsStr>(alloc: Global, words: &[S]) -> Result<bool, AllocError>
     ensures asked { IfOk result (λ b. b ≡ true → AsksForBytes (map S.text words.now)) }
-    ensures other { IfOk result (λ b. b ≡ false → is_taken (map S.text words.now) ≡ true
+    ensures other { IfOk result (λ b. b ≡ false → takes rim (map S.text words.now) ≡ true
         → ¬ AsksForBytes (map S.text words.now)) }
 {
     match command(alloc, words) {

@@ -1,9 +1,9 @@
 //! What the words of a command line ask for.
-ghost use Rattle.std.specs.Prelude.{◌≡◌, ◌≢◌, [], ◌∷◌, IfOk, IfErr, IfSome, Some, true, pos, map, codes, is_some, option_map};
+ghost use Rattle.std.specs.Prelude.{◌≡◌, ◌≢◌, [], IfOk, IfErr, IfSome, Some, true, pos, map, codes, is_some, option_map};
 ghost use Rattle.clap.specs.Values.{IsSignedIn};
-ghost use Rattle.clap.specs.Words.{HasKind, Kinds, first_of, found_of, kind_of, rows_of, subcommand_of};
+ghost use Rattle.clap.specs.Words.{HasKind, Kinds, fault_of, first_of, found_of, kind_of, rows_of, subcommand_of, takes};
 ghost use Rattle.rim_cli.specs.declared.words.CommandFault.TheVariants as fault;
-ghost use Rattle.rim_cli.specs.Command.{CountsWorkers, HasCrew, IsEntered, IsRefusalOf, ReadsRequest, ReadsRow, format_of, is_taken, mistakes_of, rim};
+ghost use Rattle.rim_cli.specs.Command.{CountsWorkers, HasCrew, IsEntered, IsRefusalOf, ReadsRequest, ReadsRow, format_of, rim};
 ghost use Rattle.job_board.specs.declared.machine.TheConstants.{WORKER_LIMIT};
 
 use crate::definition::rim_command;
@@ -27,6 +27,11 @@ pub enum Request<'a> {
         manifest: &'a str,
         launch: &'a str,
     },
+    /// The trace of a launch of a manifest, at a path, by the launch's name.
+    Trace {
+        manifest: &'a str,
+        launch: &'a str,
+    },
     /// The audit of the launches of a manifest, at a path.
     Audit {
         manifest: &'a str,
@@ -39,6 +44,10 @@ pub enum Request<'a> {
     Dtb {
         manifest: &'a str,
         launch: &'a str,
+    },
+    /// Whether the listing at a path is what it says.
+    Replay {
+        file: &'a str,
     },
     /// The header of the arm64 Image at a path.
     Image {
@@ -83,39 +92,38 @@ pub fn command<'a, S: AsStr>(alloc: Global, words: &'a [S]) -> Result<Request<'a
     // the subcommand, its operands, the workers and the format are those that the words have by `clap`'s definition
     ensures reads { IfOk result (ReadsRequest (subcommand_of rim (map S.text words.entry.now))) }
     ensures crew { IfOk result HasCrew }
-    ensures takes { is_taken (map S.text words.entry.now) ≡ true
+    ensures takes { takes rim (map S.text words.entry.now) ≡ true
         → IfErr result (λ e. e ≡ CommandFault.NoMemory) }
-    ensures sound { IfOk result (λ _. mistakes_of (map S.text words.entry.now) ≡ []) }
-    ensures refused { IfErr result (IsRefusalOf (mistakes_of (map S.text words.entry.now))) }
+    ensures sound { IfOk result (λ _. fault_of rim (map S.text words.entry.now) ≡ []) }
+    ensures refused { IfErr result (IsRefusalOf (fault_of rim (map S.text words.entry.now))) }
 {
     let rim = rim_command(alloc)?;
     let matches = match rim.try_get_matches_from(words) {
         Ok(matches) => matches,
-        Err(error) => return Err(fault_of(error)),
+        Err(error) => return Err(refusal(error)),
     };
     let Some((name, given)) = matches.subcommand() else {
         unreachable!()
     };
-    match known_format(given) {
-        Some(format) => Ok(request_of(name, given, format)),
-        None => Err(unknown_format(alloc)?),
-    }
+    Ok(request_of(name, given))
 }
 
 /// What a subcommand with its matches asks for.
-fn request_of<'a>(name: &str, given: &ArgMatches<'a>, format: Format) -> Request<'a>
-    requires entered { IsEntered name.now (rows_of (found_of given.now)) }
-    requires format { format_of (first_of (codes "format") (rows_of (found_of given.now)))
-        ≡ Some format }
+fn request_of<'a>(name: &str, given: &ArgMatches<'a>) -> Request<'a>
+    requires { IsEntered name.now (rows_of (found_of given.now)) }
     ensures { ReadsRow name.now (rows_of (found_of given.now)) result }
 {
     match name {
         "measure" => Request::Measure {
             manifest: operand(given, "manifest"),
             workers: workers(given),
-            format,
+            format: report_format(given),
         },
         "list" => Request::List {
+            manifest: operand(given, "manifest"),
+            launch: operand(given, "launch"),
+        },
+        "trace" => Request::Trace {
             manifest: operand(given, "manifest"),
             launch: operand(given, "launch"),
         },
@@ -129,6 +137,9 @@ fn request_of<'a>(name: &str, given: &ArgMatches<'a>, format: Format) -> Request
             manifest: operand(given, "manifest"),
             launch: operand(given, "launch"),
         },
+        "replay" => Request::Replay {
+            file: operand(given, "file"),
+        },
         "image" => Request::Image {
             file: operand(given, "file"),
         },
@@ -140,7 +151,7 @@ fn request_of<'a>(name: &str, given: &ArgMatches<'a>, format: Format) -> Request
 }
 
 /// What a refused parse is answered as.
-fn fault_of(error: clap::Error) -> CommandFault
+fn refusal(error: clap::Error) -> CommandFault
     ensures memory { kind_of error ≡ ErrorKind.OutOfMemory → result ≡ CommandFault.NoMemory }
     ensures usage { kind_of error ≢ ErrorKind.OutOfMemory → result ≡ CommandFault.Usage error }
     ensures kinds { (kinds : Kinds) → HasKind kinds error → IsRefusalOf kinds result }
@@ -178,24 +189,14 @@ fn workers(given: &ArgMatches) -> u8
     }
 }
 
-/// The format of a report, text where none is given, if it is known.
-fn known_format(given: &ArgMatches) -> Option<Format>
-    ensures { result ≡ format_of (first_of (codes "format") (rows_of (found_of given.now))) }
+/// The format of a report: JSON where the flag `--json` is given, and else text.
+fn report_format(given: &ArgMatches) -> Format
+    ensures { result ≡ format_of (first_of (codes "json") (rows_of (found_of given.now))) }
 {
-    match value(given, "format") {
-        None | Some("text") => Some(Format::Text),
-        Some("json") => Some(Format::Json),
-        Some(_) => None,
+    match value(given, "json") {
+        Some("true") => Format::Json,
+        _ => Format::Text,
     }
-}
-
-/// The refusal of a format that is not known.
-fn unknown_format(alloc: Global) -> Result<CommandFault, AllocError>
-    ensures { IfOk result (IsRefusalOf (ErrorKind.InvalidValue ∷ [])) }
-{
-    let message = "invalid value for '--format <FORMAT>'\n  [possible values: text, json]";
-    let error = rim_command(alloc)?.error(ErrorKind::InvalidValue, message)?;
-    Ok(CommandFault::Usage(error))
 }
 
 /// The number from 1 to 64 that a text writes.

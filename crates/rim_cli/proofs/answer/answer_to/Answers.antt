@@ -12,6 +12,12 @@ returns-in-List-clause-answered g c = rw c.in-List.is c.list.ensures.answered
 pub returns-in-List-clause-refused : goal.returns-in-List-clause-refused
 returns-in-List-clause-refused g c = rw c.in-List.is c.list.ensures.refused
 
+pub returns-in-Trace-clause-answered : goal.returns-in-Trace-clause-answered
+returns-in-Trace-clause-answered g c = rw c.in-Trace.is c.trace.ensures.answered
+
+pub returns-in-Trace-clause-refused : goal.returns-in-Trace-clause-refused
+returns-in-Trace-clause-refused g c = rw c.in-Trace.is c.trace.ensures.refused
+
 pub returns-in-Audit-clause-answered : goal.returns-in-Audit-clause-answered
 returns-in-Audit-clause-answered g c = rw c.in-Audit.is c.audit.ensures.answered
 
@@ -41,3 +47,9 @@ returns-in-Fdt-clause-answered g c = rw c.in-Fdt.is c.fdt.ensures.answered
 
 pub returns-in-Fdt-clause-refused : goal.returns-in-Fdt-clause-refused
 returns-in-Fdt-clause-refused g c = rw c.in-Fdt.is c.fdt.ensures.refused
+
+pub returns-in-Replay-clause-answered : goal.returns-in-Replay-clause-answered
+returns-in-Replay-clause-answered g c = rw c.in-Replay.is c.replay.ensures.answered
+
+pub returns-in-Replay-clause-refused : goal.returns-in-Replay-clause-refused
+returns-in-Replay-clause-refused g c = rw c.in-Replay.is c.replay.ensures.refused

@@ -1,10 +1,9 @@
-use Rattle.std.proofs.Common.{◌≡◌, ℕ, List, map}
+use Rattle.std.proofs.Common.{ℕ, List, map}
 use Rattle.std.specs.List.{slice_get}
-use Rattle.std.specs.Prelude.{is_err, if◌then◌else◌}
-use Rattle.rim_release.specs.Listing.{listing_of, shown_of}
-use Rattle.rim_cli.specs.Done.{IsListing}
+use Rattle.rim_release.specs.Listing.{listing_of}
+use Rattle.rim_cli.specs.Done.{IsShown, IsListing}
 use Rattle.rim_cli.specs.Files.{Known}
-use Rattle.rim_cli.proofs.ReleaseOfManifest.{found_launch, listed, of_release}
+use Rattle.rim_cli.proofs.ReleaseOfManifest.{found_launch, of_release, shown}
 use Rattle.rim_cli.proofs.answer.list.Goals as goal
 
 pub returns-in-Ok-clause-answered : goal.returns-in-Ok-clause-answered
@@ -14,7 +13,7 @@ returns-in-Ok-clause-answered g c =
     let files : List (List ℕ) = map (λ file. file.items) found.files.items in
     let text = c.answer_of.result.text.items in
     let status = c.answer_of.result.status in
-    let own = listed (slice_get found.release.launches found.number) files text c.in-Ok.report.has_refused status (rw c.answer_of.ensures.text c.in-Ok.ensures.text) c.in-Ok.ensures.refused c.answer_of.ensures.status in
+    let own = shown (λ l. listing_of l.launch) (slice_get found.release.launches found.number) files text c.in-Ok.report.has_refused status (rw c.answer_of.ensures.text c.in-Ok.ensures.text) c.in-Ok.ensures.refused c.answer_of.ensures.status in
     of_release (held c.args.path.now) found.release (λ r. IsListing held r c.args.launch.now text status) c.in_ok-found.ensures.release
-    (found_launch held c.args.launch.now found.release found.number files (λ l fs. (text ≡ shown_of fs l) × (status ≡ (if is_err (listing_of l.launch fs) then 1 else 0)))
+    (found_launch held c.args.launch.now found.release found.number files (λ l fs. IsShown l (listing_of l.launch fs) text status)
     c.in_ok-found.ensures.number found.there c.in_ok-found.ensures.files own)

@@ -4,11 +4,11 @@ use Rattle.rim_cli.proofs.program.run.Goals as goal
 
 pub returns-in-Err-Usage-clause-mistaken : goal.returns-in-Err-Usage-clause-mistaken
 returns-in-Err-Usage-clause-mistaken g c mistaken =
-    c.show_usage.ensures.mistaken (mistaken_kind (map g.S.AsStr.text c.args.words.now) _ _ c.in-Err-Usage.field-0-is mistaken c.in-Err-Usage.ensures.refused)
+    c.show_usage-status.ensures.mistaken (mistaken_kind (map g.S.AsStr.text c.args.words.now) _ _ c.in-Err-Usage.field-0-is mistaken c.in-Err-Usage.ensures.refused)
 
 pub returns-in-Err-Usage-clause-helps : goal.returns-in-Err-Usage-clause-helps
 returns-in-Err-Usage-clause-helps g c asks =
-    c.show_usage.ensures.helps (asked_kind (map g.S.AsStr.text c.args.words.now) _ _ c.in-Err-Usage.field-0-is asks c.in-Err-Usage.ensures.refused)
+    c.show_usage-status.ensures.helps (asked_kind (map g.S.AsStr.text c.args.words.now) _ _ c.in-Err-Usage.field-0-is asks c.in-Err-Usage.ensures.refused)
 
 pub returns-in-Ok-answer_to-clause-done : goal.returns-in-Ok-answer_to-clause-done
 returns-in-Ok-answer_to-clause-done g c taken done = record {
