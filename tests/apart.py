@@ -1,17 +1,19 @@
 #!/usr/bin/env python3
-"""Compares the audit of a release with audits and listings of its launches, each by itself.
+"""Compares the audit of a release with audits, listings and traces of its launches, each by itself, and replays these listings.
 
     tests/apart.py [PROGRAM]        by default the program that `rt ci` has built
 
 An audit of many launches hashes what they share once, and gives it to a monitor once. Here each launch is measured again in a run
 of its own, which hashes each page for its command:
 
-- of each release of tests/cases and tests/rows, by `rim list`, whose last line has the measurement;
+- of each release of tests/cases and tests/rows, by `rim list`, whose last line has the measurement. `rim replay` says yes to it, and
+  `rim trace` prints what tools/replay.py makes of it;
 - of releases that are made at random from the numbers of SEEDS, by `rim audit` of a manifest that has the one launch alone.
 
 The last line is 'N passed, M failed' over the releases.
 """
 import concurrent.futures
+import itertools
 import os
 import random
 import shutil
@@ -20,6 +22,8 @@ import sys
 import tempfile
 
 import run
+
+import replay
 
 SEEDS = range(1, 25)
 PAGE = 4096
@@ -46,6 +50,13 @@ def releases():
     return list(found.values())
 
 
+def replayed(program, folder, listing):
+    """What a replay of a listing says, as lines."""
+    with open(os.path.join(folder, "listing"), "w", encoding="ascii") as file:
+        file.writelines(line + "\n" for line in listing)
+    return output(program, folder, "replay", "listing")
+
+
 def by_listings(program, each):
     """How the audit of a release of the tests differs from the listings of its launches, as lines."""
     files = {path: run.contents(said) for path, said in each["files"].items()}
@@ -54,13 +65,19 @@ def by_listings(program, each):
         run.write(folder, files)
         for line in output(program, folder, "audit", "manifest.toml")[1:]:
             name, *said = line.split(" ")
-            listed = output(program, folder, "list", "manifest.toml", name)[-1:]
-            if said[0] == "refused":
-                is_same = listed == [line]
-            else:
-                is_same = listed == [" ".join(["rim", *said])]
-            if not is_same:
-                wrong.append(f"the audit has {line!r}, and the listing ends with {listed}")
+            listed = output(program, folder, "list", "manifest.toml", name)
+            is_refused = said[0] == "refused"
+            if listed[-1:] != [line if is_refused else " ".join(["rim", *said])]:
+                wrong.append(f"the audit has {line!r}, and the listing ends with {listed[-1:]}")
+            traced = output(program, folder, "trace", "manifest.toml", name)
+            if is_refused:
+                wrong += [f"the trace has {traced}, and not {line!r}"] if traced != [line] else []
+                continue
+            if (answer := replayed(program, folder, listed)) != ["yes"]:
+                wrong.append(f"the replay of the listing of {name} says {answer}")
+            if (made := replay.trace(listed)) != traced:
+                first = next((pair for pair in itertools.zip_longest(made, traced) if pair[0] != pair[1]), None)
+                wrong.append(f"the trace of {name} parts from that of tools/replay.py: {first}")
     return each["name"], wrong
 
 
