@@ -4,7 +4,7 @@ status, and nothing on standard error.
 
     tests/listings.py [PROGRAM]        by default the program that `rt ci` has built
 
-Two listings are changed in each of their places: bytes, words, lines. Others are made of commands at random. What is expected of
+Three listings are changed in each of their places: bytes, words, lines. Others are made of commands at random. What is expected of
 each is the answer of tools/replay.py, a replay of its own. Each kind of change of one listing is a test.
 
 Each large listing is a test too. Its answer is known, and its run has limits on processor time and memory.
@@ -39,7 +39,17 @@ MEMORY = 100 * MB
 TAIL = 4096
 
 FILE = "rim_manifest = 1\nfile = [{name = 'one', path = 'one'}]\n"
-# A page that is measured, in a block of 1 GiB, and a REC.
+# A page that is not measured, in a block of 1 GiB.
+ONE_PAGE = """
+[[launch]]
+name = "a"
+algo = "sha256"
+s2sz = 40
+block_level = 1
+ram = [[0x40000000, 0xc0000000]]
+item = [{name = 'one', kind = 'raw', file = 'one', at = 0x40000000, measured = false}]
+"""
+# A page that is measured there, and a REC.
 ONE_REC = """
 [[launch]]
 name = "a"
@@ -68,7 +78,7 @@ ram = [[0x40000000, 0x40202000]]
 item = [{{name = 'one', kind = 'raw', file = 'one', at = 0x40000000, measured = false}}]
 rec = [{{pc = 0x40000000, x = [1, "0xfedcba9876543210"]}}, {{pc = 0x40001000}}]
 """
-LAUNCHES = {"one REC": ONE_REC, "two RECs": TWO_RECS}
+LAUNCHES = {"one page": ONE_PAGE, "one REC": ONE_REC, "two RECs": TWO_RECS}
 # As many pages as a launch may have.
 MANY_PAGES = """
 [[launch]]

@@ -22,6 +22,7 @@ have the key itself:
   files           a table of what the other files have, by their paths. Those of the top and those of a row are side by side
   status, stdout, stderr          what is expected; 0 and empty where absent
   stdout_begins, stderr_begins    the same, where only the beginning is said
+  stderr_has                      a text that is somewhere on standard error too
   reference       why tools/reference.py is not asked
 
 Any other key of the top or of a row is a value: `{KEY}` in a text is replaced by it. These are at the top alone:
@@ -60,7 +61,7 @@ import reference  # noqa: E402, the path is set above
 SECONDS = 60
 PLACE = re.compile(r"\{(\w+)\}")
 EXPECTED = ("stdout", "stderr")
-SETTINGS = ("name", "words", "manifest", "files", "status", *EXPECTED, "stdout_begins", "stderr_begins", "reference")
+SETTINGS = ("name", "words", "manifest", "files", "status", *EXPECTED, "stdout_begins", "stderr_begins", "stderr_has", "reference")
 
 
 # ---- what the files of rows say
@@ -273,6 +274,8 @@ def outcome(program, run, folder, expected):
     lines = [] if ran.returncode == status else [f"status: expected {status}, found {ran.returncode}"]
     for key, found in zip(EXPECTED, (ran.stdout, ran.stderr)):
         lines += difference(key, expected[key], found, key + "_begins" in run)
+    if run.get("stderr_has", "") not in ran.stderr.decode(errors="replace"):
+        lines.append(f"stderr has no {run['stderr_has']!r}: {ran.stderr!r}")
     return lines
 
 
