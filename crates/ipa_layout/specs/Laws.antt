@@ -1,5 +1,5 @@
 -- What holds of each launch that is placed, for the layers that go on from it. This project's choice.
-use Rattle.std.specs.Prelude.{◌≡◌, ℕ, ◌+◌, ◌<◌, ◌≤◌, true, false, Some, IsSome, sum_by}
+use Rattle.std.specs.Prelude.{◌≡◌, ℕ, ◌+◌, ◌<◌, ◌≤◌, true, false, Option, Some, None, IsSome, sum_by}
 use Rattle.std.specs.List.{slice_get}
 use Rattle.rim_desc.specs.declared.source.Source.{Source}
 use Rattle.rim_desc.specs.declared.source.Source.TheVariants.{File, Edited}
@@ -15,10 +15,12 @@ pub record IsItem (l : LaunchData) (p : PlacedData) (number : ℕ) (item : Item)
   pub in_launch : slice_get l.items number ≡ Some item
   pub placed : slice_get p.items number ≡ Some i
 
--- its bytes are those of its own file, or of the devicetree that this launch edited, which has some
-abbrev pub IsSourceOf : LaunchData → PlacedData → Item → Source → Type 0
-IsSourceOf l p item (File n) = (has_edits item.kind ≡ false) × (n ≡ file_of item.kind)
-IsSourceOf l p item (Edited launch) = (has_edits item.kind ≡ true) × (launch ≡ l.number) × IsSome p.edited
+-- its bytes are those of its own file, or of the devicetree that this launch edited, which has some; an item has none
+-- where the monitor does not know its content
+abbrev pub IsSourceOf : LaunchData → PlacedData → Item → Option Source → Type 0
+IsSourceOf l p item None = file_of item.kind ≡ None
+IsSourceOf l p item (Some (File n)) = (has_edits item.kind ≡ false) × (file_of item.kind ≡ Some n)
+IsSourceOf l p item (Some (Edited launch)) = (has_edits item.kind ≡ true) × (launch ≡ l.number) × IsSome p.edited
 
 -- the number of the first page after an item's pages
 abbrev pub page_end : PlacedItem → ℕ

@@ -36,9 +36,14 @@ use Rattle.refusal.specs.Answer.{◌>>=◌}
 
 -- ---- the bytes of items
 
+-- those of a file; without one there are none
+abbrev pub bytes_in : List (List ℕ) → Option ℕ → List ℕ
+bytes_in files None = []
+bytes_in files (Some file) = get_or files file []
+
 -- those of its file
 abbrev pub file_bytes : List (List ℕ) → ItemKind → List ℕ
-file_bytes files k = get_or files (file_of k) []
+file_bytes files k = bytes_in files (file_of k)
 
 -- the addresses of an initrd's bytes
 abbrev pub initrd_span : List (List ℕ) → Item → Span
@@ -102,8 +107,9 @@ extent_with r items extents = option_and_then (item_extent extents) (position_fr
 
 -- ---- the whole launch
 
-abbrev pub source_of : ℕ → ItemKind → Source
-source_of launch k = if has_edits k then Edited launch else File (file_of k)
+-- where its bytes come from; nowhere where the monitor does not know its content
+abbrev pub source_of : ℕ → ItemKind → Option Source
+source_of launch k = if has_edits k then Some (Edited launch) else option_map File (file_of k)
 
 unfoldable pub item_at : ℕ → Item → Extent → PlacedItem
 item_at launch i s = record {

@@ -5,7 +5,7 @@
 use Rattle.std.specs.Prelude.{ℕ, ◌+◌, ◌*◌, Bool, true, false, List, [], ◌∷◌, ◌++◌, map, length, Option, Some, None}
 use Rattle.std.specs.List.{filter}
 use Rattle.rim_desc.specs.declared.command.Command.{Command}
-use Rattle.rim_desc.specs.declared.command.Command.TheVariants.{Delegate, RealmCreate, RttCreate, InitRipas, DataCreate, RecCreate}
+use Rattle.rim_desc.specs.declared.command.Command.TheVariants.{Delegate, RealmCreate, RttCreate, InitRipas, DataCreate, DataCreateUnknown, RecCreate}
 use Rattle.rim_desc.specs.declared.measurement.Measurement.{Measurement}
 use Rattle.rim_desc.specs.declared.realm.RealmParams.{RealmParams}
 use Rattle.rim_desc.specs.Rec.{RecData}
@@ -15,6 +15,8 @@ use Rattle.rtt_plan.specs.Missing.{missing}
 use Rattle.rtt_plan.specs.Planned.{Planned}
 use Rattle.rtt_plan.specs.Runs.{runs_of}
 use Rattle.rtt_plan.specs.declared.run.Run.{Run}
+use Rattle.list_model.specs.declared.content.PageContent.{PageContent}
+use Rattle.list_model.specs.declared.content.PageContent.TheVariants.{Measured, Unmeasured, Unknown}
 use Rattle.rim_desc.specs.declared.page.TheConstants.{PAGE_SIZE}
 
 -- the measurement of each page of each item, by the item's number and the page's
@@ -79,25 +81,26 @@ run_entries pool n start ts (r ∷ rs) =
     table_entries pool n new ++ (Whole (InitRipas r.base r.top) ∷ run_entries pool (n + length new) start (ts ++ new) rs)
 
 -- a page of an item, in a granule
-abbrev pub page_entry : Bool → ℕ → ℕ → ℕ → ℕ → Entry
-page_entry true granule ipa item page = Page granule ipa item page
-page_entry false granule ipa item page = Whole (DataCreate granule ipa None)
+abbrev pub page_entry : PageContent → ℕ → ℕ → ℕ → ℕ → Entry
+page_entry Measured granule ipa item page = Page granule ipa item page
+page_entry Unmeasured granule ipa item page = Whole (DataCreate granule ipa None)
+page_entry Unknown granule ipa item page = Whole (DataCreateUnknown granule ipa)
 
 -- the pages of an item from its kth on, each after the tables that it needs and that were not made yet
-unfoldable pub page_entries : ℕ → ℕ → ℕ → List Table → Bool → ℕ → ℕ → List ℕ → List Entry
-page_entries pool n start ts measured item k [] = []
-page_entries pool n start ts measured item k (x ∷ xs) =
+unfoldable pub page_entries : ℕ → ℕ → ℕ → List Table → PageContent → ℕ → ℕ → List ℕ → List Entry
+page_entries pool n start ts content item k [] = []
+page_entries pool n start ts content item k (x ∷ xs) =
     let new = missing start ts 3 x in
     let g = granule pool (n + length new) in
     table_entries pool n new
-    ++ (Whole (Delegate g) ∷ page_entry measured g x item k ∷ page_entries pool (n + length new + 1) start (ts ++ new) measured item (k + 1) xs)
+    ++ (Whole (Delegate g) ∷ page_entry content g x item k ∷ page_entries pool (n + length new + 1) start (ts ++ new) content item (k + 1) xs)
 
 -- the entries of a region, and of an item's pages, after what was planned so far, with the nth granule of the pool as the next
 abbrev pub region_entries : ℕ → ℕ → Planned → ℕ → ℕ → List Entry
 region_entries pool n p base end = run_entries pool n p.space.start p.space.tables (runs_of base end p.least_level)
 
-abbrev pub item_entries : ℕ → ℕ → Planned → Bool → ℕ → ℕ → ℕ → List Entry
-item_entries pool n p measured item base count = page_entries pool n p.space.start p.space.tables measured item 0 (granules count base)
+abbrev pub item_entries : ℕ → ℕ → Planned → PageContent → ℕ → ℕ → ℕ → List Entry
+item_entries pool n p content item base count = page_entries pool n p.space.start p.space.tables content item 0 (granules count base)
 
 -- the granules of a REC: its own, and the auxiliary granules after it
 abbrev pub rec_granules : ℕ → ℕ → ℕ → List ℕ

@@ -1,3 +1,4 @@
+pub mod Content
 pub mod Entries
 pub mod Parts
 pub mod Leading

@@ -2,6 +2,7 @@
 use Rattle.std.specs.Prelude.{ℕ, List, [], map, Option, Some, None, if◌then◌else◌}
 use Rattle.std.specs.List.{flat_map, range_with_len, slice_get}
 use Rattle.rim_desc.specs.declared.measurement.Algo.{Algo}
+use Rattle.rim_desc.specs.declared.source.Source.{Source}
 use Rattle.page_jobs.specs.declared.page.PageKey.{PageKey}
 use Rattle.rim_launch.specs.LaunchData.{LaunchData}
 use Rattle.rim_launch.specs.declared.step.Step.{Step}
@@ -9,14 +10,19 @@ use Rattle.rim_launch.specs.declared.step.Step.TheVariants as step
 use Rattle.ipa_layout.specs.Layout.{PlacedData}
 use Rattle.ipa_layout.specs.declared.placed.PlacedItem.{PlacedItem}
 
--- the key of a page of an item, by the page's number
-abbrev pub key_at : Algo → PlacedItem → ℕ → PageKey
-key_at algo item page = record { algo = algo; source = item.source; lead = item.lead; number = page }
+-- the key of a page of an item with this source, by the page's number
+abbrev pub key_at : Algo → Source → PlacedItem → ℕ → PageKey
+key_at algo source item page = record { algo = algo; source = source; lead = item.lead; number = page }
 
--- the keys of an item's pages, where such an item exists and is measured
+-- the keys of an item's pages, where it has a source and is measured
+abbrev pub source_keys : Algo → PlacedItem → Option Source → List PageKey
+source_keys algo item None = []
+source_keys algo item (Some source) = if item.measured then map (key_at algo source item) (range_with_len 0 item.pages) else []
+
+-- the same, where such an item exists
 abbrev pub item_keys : Algo → Option PlacedItem → List PageKey
 item_keys algo None = []
-item_keys algo (Some item) = if item.measured then map (key_at algo item) (range_with_len 0 item.pages) else []
+item_keys algo (Some item) = source_keys algo item item.source
 
 -- those of what a step names
 abbrev pub step_keys : LaunchData → PlacedData → Step → List PageKey

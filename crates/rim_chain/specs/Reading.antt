@@ -2,6 +2,7 @@
 use Rattle.std.specs.Prelude.{◌≡◌, ℕ, map, Some}
 use Rattle.std.specs.List.{slice_get}
 use Rattle.rim_desc.specs.declared.measurement.Measurement.{Measurement}
+use Rattle.rim_desc.specs.declared.source.Source.{Source}
 use Rattle.page_jobs.specs.declared.page.PageKey.{PageKey}
 use Rattle.list_model.specs.Entries.{Contents}
 use Rattle.rim_launch.specs.LaunchData.{LaunchData}
@@ -12,10 +13,10 @@ use Rattle.rmi_list.specs.Measured.{measured}
 use Rattle.rim_chain.specs.Keys.{key_at, measured_keys}
 use Rattle.rim_chain.specs.Links.{PlanView, keys_of, parts_of}
 
--- each page's measurement is the one that belongs to its key
+-- the measurement of each page of an item with a source is the one that belongs to its key
 abbrev pub GoByKeys : LaunchData → PlacedData → (PageKey → Measurement) → Contents → Type 0
-GoByKeys l p digest contents = (number page : ℕ) (item : PlacedItem) → slice_get p.items number ≡ Some item
-    → contents number page ≡ digest (key_at l.config.algo item page)
+GoByKeys l p digest contents = (number page : ℕ) (item : PlacedItem) (source : Source) → slice_get p.items number ≡ Some item → item.source ≡ Some source
+    → contents number page ≡ digest (key_at l.config.algo source item page)
 
 -- A plan reads a launch: it has the parameters of the launch's realm and the keys of its measured pages, and whatever the
 -- digests of the pages are, its parts with them are the launch's.

@@ -3,7 +3,7 @@ use crate::measurement::Measurement;
 use crate::realm::RealmParams;
 use crate::rec::RecParams;
 
-/// A command to the monitor, up to activation (DEN0137, the RMI commands of these names). Addresses
+/// A command to the monitor that builds a realm (DEN0137, the RMI commands of these names). Addresses
 /// of granules are physical, in bytes; an IPA is an address of the realm.
 #[derive(Clone, Copy, Debug, PartialEq, Eq)]
 pub enum Command {
@@ -32,6 +32,11 @@ pub enum Command {
         granule: u64,
         ipa: u64,
         content: Option<Measurement>,
+    },
+    /// RMI_DATA_CREATE_UNKNOWN: puts a page of which the monitor does not know the content at an IPA. It is not measured.
+    DataCreateUnknown {
+        granule: u64,
+        ipa: u64,
     },
     /// RMI_REC_CREATE: makes a REC in granule `rec`.
     RecCreate {

@@ -1,9 +1,9 @@
 -- What an item is for, how many items of each role a launch may have, and what a devicetree's edits need.
 -- This project's choice.
-use Rattle.std.specs.Prelude.{ℕ, List, length, Bool, true, false, not, ◌&&◌, ◌||◌, ◌==◌, nat_le, nat_lt, count_by, is_some}
+use Rattle.std.specs.Prelude.{ℕ, List, length, Bool, true, false, not, ◌&&◌, ◌||◌, ◌==◌, nat_le, nat_lt, count_by, is_some, Option, Some, None}
 use Rattle.std.specs.List.{list_any}
 use Rattle.rim_launch.specs.declared.item.ItemKind.{ItemKind}
-use Rattle.rim_launch.specs.declared.item.ItemKind.TheVariants.{Kernel, Initrd, Dtb, Raw}
+use Rattle.rim_launch.specs.declared.item.ItemKind.TheVariants.{Kernel, Initrd, Dtb, Raw, Unknown}
 use Rattle.rim_launch.specs.declared.item.Role.{Role}
 use Rattle.rim_launch.specs.declared.item.Role.TheVariants as role
 use Rattle.rim_launch.specs.declared.item.Item.{Item}
@@ -14,12 +14,14 @@ role_of (Kernel file) = role.Kernel
 role_of (Initrd file) = role.Initrd
 role_of (Dtb file edits) = role.Dtb
 role_of (Raw file) = role.Raw
+role_of Unknown = role.Unknown
 
 abbrev pub is_role : Role → Role → Bool
 is_role role.Kernel role.Kernel = true
 is_role role.Initrd role.Initrd = true
 is_role role.Dtb role.Dtb = true
 is_role role.Raw role.Raw = true
+is_role role.Unknown role.Unknown = true
 is_role _ _ = false
 
 abbrev pub has_role : Role → Item → Bool
@@ -29,12 +31,18 @@ has_role r i = is_role r (role_of i.kind)
 abbrev pub count_of : Role → List Item → ℕ
 count_of r items = count_by (has_role r) items
 
--- the file that its bytes come from
-abbrev pub file_of : ItemKind → ℕ
-file_of (Kernel file) = file
-file_of (Initrd file) = file
-file_of (Dtb file edits) = file
-file_of (Raw file) = file
+-- the file that its bytes come from; none where the monitor does not know its content
+abbrev pub file_of : ItemKind → Option ℕ
+file_of (Kernel file) = Some file
+file_of (Initrd file) = Some file
+file_of (Dtb file edits) = Some file
+file_of (Raw file) = Some file
+file_of Unknown = None
+
+-- whether it is one of the first `count` files, if there is one
+abbrev pub is_below : ℕ → Option ℕ → Bool
+is_below count None = true
+is_below count (Some file) = nat_lt file count
 
 -- whether it is edited before it is placed
 abbrev pub has_edits : ItemKind → Bool

@@ -1,13 +1,13 @@
 -- A launch as contracts see it, and the conditions of its type, each by its name. The ranges of its numbers are
 -- kept by the types of its parts. This project's choice.
-use Rattle.std.specs.Prelude.{ℕ, List, length, Bool, ◌&&◌, nat_le, nat_lt}
+use Rattle.std.specs.Prelude.{ℕ, List, length, Bool, ◌&&◌, nat_le}
 use Rattle.std.specs.List.{list_all}
 use Rattle.rim_launch.specs.declared.config.Config.{Config}
 use Rattle.rim_launch.specs.declared.item.Region.{Region}
 use Rattle.rim_launch.specs.declared.item.Item.{Item}
 use Rattle.rim_launch.specs.declared.rec.Rec.{Rec}
 use Rattle.rim_launch.specs.declared.step.Step.{Step}
-use Rattle.rim_launch.specs.Kinds.{file_of, once_each, edits_possible}
+use Rattle.rim_launch.specs.Kinds.{file_of, is_below, once_each, edits_possible}
 use Rattle.rim_launch.specs.Steps.{steps_complete}
 use Rattle.rim_launch.specs.declared.launch.TheConstants.{ITEM_LIMIT, NAMED_REC_LIMIT, REGION_LIMIT}
 
@@ -29,6 +29,6 @@ steps_fit l = steps_complete (length l.ram) (length l.items) (length l.recs) l.s
 unfoldable pub is_launch : LaunchData → Bool
 is_launch l = within_limits l && once_each l.items && edits_possible l.ram l.items && steps_fit l
 
--- each item's file is one of the first `count` files
+-- each file that an item has is one of the first `count` files
 abbrev pub has_files : LaunchData → ℕ → Bool
-has_files l count = list_all (λ i. nat_lt (file_of i.kind) count) l.items
+has_files l count = list_all (λ i. is_below count (file_of i.kind)) l.items

@@ -1,4 +1,5 @@
 pub mod Texts
+pub mod Whole
 pub mod Kinds
 pub mod Steps
 pub mod Realm

@@ -50,8 +50,8 @@ steps_complete num_regions num_items num_recs steps = list_all (names_something 
 abbrev pub item_steps : Role → List Item → List Step
 item_steps r items = map (λ p. step.Item p.0) (filter (λ p. has_role r p.1) (enumerate_from 0 items))
 
--- the regions, the kernel, the initrd, the devicetree, the other items, the RECs
+-- the regions, the kernel, the initrd, the devicetree, the raw items, those of unknown content, the RECs
 unfoldable pub default_steps : ℕ → List Item → ℕ → List Step
 default_steps num_regions items num_recs =
     map step.Ram (range_with_len 0 num_regions) ++ item_steps role.Kernel items ++ item_steps role.Initrd items
-    ++ item_steps role.Dtb items ++ item_steps role.Raw items ++ map step.Rec (range_with_len 0 num_recs)
+    ++ item_steps role.Dtb items ++ item_steps role.Raw items ++ item_steps role.Unknown items ++ map step.Rec (range_with_len 0 num_recs)

@@ -85,7 +85,7 @@ is_algorithm s = bytes_eq s (algo_word Sha256) || bytes_eq s (algo_word Sha512)
 
 -- the word of an item's kind
 abbrev pub is_item_kind : List ℕ → Bool
-is_item_kind s = bytes_eq s (codes "kernel") || bytes_eq s (codes "initrd") || bytes_eq s (codes "dtb") || bytes_eq s (codes "raw")
+is_item_kind s = bytes_eq s (codes "kernel") || bytes_eq s (codes "initrd") || bytes_eq s (codes "dtb") || bytes_eq s (codes "raw") || bytes_eq s (codes "unknown")
 
 abbrev pub is_required : Presence → Bool
 is_required Required = true

@@ -1,6 +1,6 @@
 -- What a manifest gives, said apart from the defaults that its reader falls back on: what is read at a key is the
 -- value at it, and a default is read only where the key is absent. This project's choice.
-use Rattle.std.specs.Prelude.{◌≡◌, ℕ, ◌+◌, Bool, true, false, pos, List, [], ◌∷◌, ◌++◌, length, Option, Some, None, Ok, codes, slice_get}
+use Rattle.std.specs.Prelude.{◌≡◌, ℕ, ◌+◌, Bool, true, false, pos, List, [], ◌∷◌, ◌++◌, length, Option, Some, None, IsSome, Ok, codes, slice_get}
 use Rattle.std.specs.Str.Parse.{digits_value}
 use Rattle.hex.specs.Hex.{decode_sized}
 use Rattle.toml.specs.Data.{Data, string, integer, boolean, at, get}
@@ -19,7 +19,7 @@ use Rattle.rim_launch.specs.declared.item.ItemKind.{ItemKind}
 use Rattle.rim_launch.specs.declared.item.ItemKind.TheVariants as kind
 use Rattle.rim_launch.specs.declared.item.Region.{Region}
 use Rattle.rim_launch.specs.declared.item.Role.{Role}
-use Rattle.rim_launch.specs.declared.item.Role.TheVariants.{Kernel, Initrd, Dtb, Raw}
+use Rattle.rim_launch.specs.declared.item.Role.TheVariants.{Kernel, Initrd, Dtb, Raw, Unknown}
 use Rattle.rim_launch.specs.declared.rec.Rec.{Rec}
 use Rattle.rim_manifest.specs.Launches.{NamedData}
 use Rattle.rim_manifest.specs.Values.{array_at}
@@ -97,11 +97,13 @@ role_text Kernel = codes "kernel"
 role_text Initrd = codes "initrd"
 role_text Dtb = codes "dtb"
 role_text Raw = codes "raw"
+role_text Unknown = codes "unknown"
 
--- the file of this number has the name that a key gives
-abbrev pub GivesFile : List Data → Option Data → ℕ → Type 0
-GivesFile files (Some (string name)) n = (file : Data) × (slice_get files n ≡ Some file) × (get (codes "name") file ≡ Some (string name))
-GivesFile files _ n = ⊥
+-- the file of this number has the name that a key gives; where there is none, the key is not given
+abbrev pub GivesFile : List Data → Option Data → Option ℕ → Type 0
+GivesFile files None None = Unit {0}
+GivesFile files (Some (string name)) (Some n) = (file : Data) × (slice_get files n ≡ Some file) × (get (codes "name") file ≡ Some (string name))
+GivesFile files _ _ = ⊥
 
 abbrev pub GivesSize : Option Data → Option ℕ → Type 0
 GivesSize None None = Unit {0}
@@ -118,10 +120,16 @@ pub record GivesEdits (d : Data) (e : Edits) : Type 0 where
   pub initrd : GivesTruth false (get (codes "initrd") d) e.initrd
   pub memory : GivesTruth false (get (codes "memory") d) e.memory
 
--- a devicetree has the edits that are given
+-- a devicetree has the edits that are given, and unknown content is given its size
 abbrev pub GivesKind : Data → ItemKind → Type 0
 GivesKind d (kind.Dtb file edits) = GivesEdits d edits
+GivesKind d kind.Unknown = IsSome (get (codes "size") d)
 GivesKind d _ = Unit {0}
+
+-- unknown content is not measured, and its table says nothing of that
+abbrev pub GivesMeasured : ItemKind → Option Data → Bool → Type 0
+GivesMeasured kind.Unknown o b = (o ≡ None) × (b ≡ false)
+GivesMeasured _ o b = GivesTruth true o b
 
 pub record GivesItem (files : List Data) (d : Data) (i : Item) : Type 0 where
   pub role : get (codes "kind") d ≡ Some (string (role_text (role_of i.kind)))
@@ -129,7 +137,7 @@ pub record GivesItem (files : List Data) (d : Data) (i : Item) : Type 0 where
   pub kind : GivesKind d i.kind
   pub at : get (codes "at") d ≡ Some (integer (pos i.at))
   pub size : GivesSize (get (codes "size") d) i.size
-  pub measured : GivesTruth true (get (codes "measured") d) i.measured
+  pub measured : GivesMeasured i.kind (get (codes "measured") d) i.measured
 
 -- ---- steps
 

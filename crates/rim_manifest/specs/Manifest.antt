@@ -9,11 +9,11 @@ use Rattle.rim_manifest.specs.declared.fault.ManifestFault.{ManifestFault}
 use Rattle.rim_manifest.specs.declared.fault.ManifestFault.TheVariants.{Syntax, Version, MissingKey, TwoNames, NoSuchFile, BadStep}
 use Rattle.rim_launch.specs.LaunchData.{is_launch}
 use Rattle.rim_launch.specs.declared.item.Role.{Role}
-use Rattle.rim_launch.specs.declared.item.Role.TheVariants.{Dtb}
+use Rattle.rim_launch.specs.declared.item.Role.TheVariants.{Dtb, Unknown}
 use Rattle.rim_manifest.specs.Faults.{fault_if, lowest}
 use Rattle.rim_manifest.specs.Forms.{items_in}
 use Rattle.rim_manifest.specs.Names.{has_asked, lacks_file, repeats, role_at, share_names}
-use Rattle.rim_manifest.specs.Rules.{Rule, dtb_rules, file_rules, item_rules, launch_rules, rec_rules, top_rules}
+use Rattle.rim_manifest.specs.Rules.{Rule, dtb_rules, file_rules, item_rules, launch_rules, rec_rules, top_rules, unknown_rules}
 use Rattle.rim_manifest.specs.StepTexts.{has_bad_steps}
 use Rattle.rim_manifest.specs.Values.{array_at, text_in}
 use Rattle.rim_manifest.specs.Checks.{ruled_faults, table_faults}
@@ -50,6 +50,7 @@ paths_of ms = map path_of (files_at ms)
 
 abbrev pub rules_of : Role → List Rule
 rules_of Dtb = dtb_rules
+rules_of Unknown = unknown_rules
 rules_of _ = item_rules
 
 -- an item has the keys of its kind
@@ -75,11 +76,11 @@ manifest_faults ms =
 
 -- ---- the faults of names and of steps, where no table has a fault
 
--- two files, two launches, or two items of a launch share a name; or two items a kind other than raw
+-- two files, two launches, or two items of a launch share a name; or two items a kind other than raw and unknown
 abbrev pub has_two_names : Members → Bool
 has_two_names ms = share_names (files_at ms) || share_names (launches_at ms) || list_any repeats (launches_at ms)
 
--- an item names no file
+-- an item needs a file and names none
 abbrev pub has_no_file : Members → Bool
 has_no_file ms = list_any (lacks_file (files_at ms)) (launches_at ms)
 

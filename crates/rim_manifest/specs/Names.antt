@@ -5,7 +5,7 @@ use Rattle.std.specs.Str.{bytes_eq}
 use Rattle.toml.specs.Data.{Data, get}
 use Rattle.rim_launch.specs.Kinds.{is_role}
 use Rattle.rim_launch.specs.declared.item.Role.{Role}
-use Rattle.rim_launch.specs.declared.item.Role.TheVariants.{Kernel, Initrd, Dtb, Raw}
+use Rattle.rim_launch.specs.declared.item.Role.TheVariants.{Kernel, Initrd, Dtb, Raw, Unknown}
 use Rattle.rim_manifest.specs.Values.{array_at, text_in, truth_in}
 
 abbrev pub name_of : Data → List ℕ
@@ -26,6 +26,7 @@ role_of_word word =
     if bytes_eq word (codes "kernel") then Kernel
     else if bytes_eq word (codes "initrd") then Initrd
     else if bytes_eq word (codes "dtb") then Dtb
+    else if bytes_eq word (codes "unknown") then Unknown
     else Raw
 
 -- what an item's table says that it is for; without a word of the others, it is raw
@@ -53,7 +54,7 @@ has_asked d = let items = array_at (codes "item") d in
     (nat_lt 0 (role_count Initrd items) || not (asks_for (codes "initrd") items))
     && (not (length (array_at (codes "ram") d) == 0) || not (asks_for (codes "memory") items))
 
--- two items of a launch share a name, or a kind other than raw
+-- two items of a launch share a name, or a kind other than raw and unknown
 abbrev pub repeats : Data → Bool
 repeats d = share_names (array_at (codes "item") d) || not (kinds_once (array_at (codes "item") d))
 
@@ -67,6 +68,14 @@ has_file files d = list_any (is_named (text_in (get (codes "file") d))) files
 abbrev pub file_at : List Data → Data → ℕ
 file_at files d = unwrap_or (position (is_named (text_in (get (codes "file") d))) files) 0
 
--- an item of the launch names no file
+-- whether an item for this needs a file: unknown content comes from none
+abbrev pub needs_file : Role → Bool
+needs_file r = not (is_role Unknown r)
+
+-- an item needs a file and names none
+abbrev pub lacks_its_file : List Data → Data → Bool
+lacks_its_file files d = needs_file (role_at d) && not (has_file files d)
+
+-- an item of the launch needs a file and names none
 abbrev pub lacks_file : List Data → Data → Bool
-lacks_file files d = list_any (λ i. not (has_file files i)) (array_at (codes "item") d)
+lacks_file files d = list_any (lacks_its_file files) (array_at (codes "item") d)

@@ -59,7 +59,7 @@ launch_rules =
     ∷ rule (codes "rec") (form.Tables NAMED_REC_LIMIT) Optional
     ∷ rule (codes "steps") form.Texts Optional ∷ []
 
--- the keys of an item that is no devicetree
+-- the keys of an item that is no devicetree, and whose content is known
 abbrev pub item_rules : List Rule
 item_rules =
     rule (codes "name") form.Name Required
@@ -75,6 +75,15 @@ dtb_rules = item_rules
     ++ (rule (codes "bootargs") form.Bootargs Optional
     ∷ rule (codes "initrd") form.Truth Optional
     ∷ rule (codes "memory") form.Truth Optional ∷ [])
+
+-- the keys of an item of unknown content (DEN0137, RMI_DATA_CREATE_UNKNOWN): it has no file and is not measured, so its
+-- size has to be given
+abbrev pub unknown_rules : List Rule
+unknown_rules =
+    rule (codes "name") form.Name Required
+    ∷ rule (codes "kind") form.ItemKind Required
+    ∷ rule (codes "at") (form.Number (pos 0) (pos 9223372036854775807)) Required
+    ∷ rule (codes "size") (form.Number (pos 0) (pos 9223372036854775807)) Required ∷ []
 
 -- the keys of a REC
 abbrev pub rec_rules : List Rule

@@ -23,7 +23,8 @@ devicetree_number l = position (has_role role.Dtb) l.items
 
 -- the bytes that it is placed with: those of its file, or of the edited one
 abbrev pub devicetree_in : LaunchData → List (List ℕ) → PlacedData → Option (List ℕ)
-devicetree_in l files p = option_map (λ i. bytes_of_source files p i.source) (option_and_then (slice_get p.items) (devicetree_number l))
+devicetree_in l files p =
+    option_map (bytes_of_source files p) (option_and_then (λ i. i.source) (option_and_then (slice_get p.items) (devicetree_number l)))
 
 -- the same of a launch that is accepted, or why it is refused
 unfoldable pub devicetree_of : LaunchData → List (List ℕ) → Result (Option (List ℕ)) AuditFault

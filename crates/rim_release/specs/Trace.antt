@@ -7,7 +7,7 @@ use Rattle.hex.specs.Hex.{encode_lower}
 use Rattle.refusal.specs.Answer.{◌>>=◌}
 use Rattle.rim_desc.specs.Part.{Part, rim_of}
 use Rattle.rim_desc.specs.declared.command.Command.{Command}
-use Rattle.rim_desc.specs.declared.command.Command.TheVariants.{Delegate, RealmCreate, RttCreate, InitRipas, DataCreate, RecCreate, Activate}
+use Rattle.rim_desc.specs.declared.command.Command.TheVariants.{Delegate, RealmCreate, RttCreate, InitRipas, DataCreate, DataCreateUnknown, RecCreate, Activate}
 use Rattle.rim_desc.specs.declared.measurement.Algo.{Algo}
 use Rattle.rmm_model.specs.Effects.{parts}
 use Rattle.rmm_model.specs.Run.{after, parts_of, run}
@@ -58,6 +58,7 @@ rim_held s (RealmCreate rd params) = s.rim
 rim_held s (RttCreate rtt ipa level) = None
 rim_held s (InitRipas base top) = s.rim
 rim_held s (DataCreate granule ipa content) = s.rim
+rim_held s (DataCreateUnknown granule ipa) = None
 rim_held s (RecCreate rec params) = s.rim
 rim_held s Activate = None
 

@@ -9,7 +9,7 @@ use Rattle.hex.specs.Hex.{encode_lower}
 use Rattle.rim_desc.specs.Number.{digits_of}
 use Rattle.rim_desc.specs.Rec.{RecData}
 use Rattle.rim_desc.specs.declared.command.Command.{Command}
-use Rattle.rim_desc.specs.declared.command.Command.TheVariants.{Delegate, RealmCreate, RttCreate, InitRipas, DataCreate, RecCreate, Activate}
+use Rattle.rim_desc.specs.declared.command.Command.TheVariants.{Delegate, RealmCreate, RttCreate, InitRipas, DataCreate, DataCreateUnknown, RecCreate, Activate}
 use Rattle.rim_desc.specs.declared.measurement.Measurement.{Measurement}
 use Rattle.rim_desc.specs.declared.realm.RealmParams.{RealmParams}
 use Rattle.rim_desc.specs.Measurement.{algo_word}
@@ -40,6 +40,7 @@ words_of (RealmCreate rd params) = codes "realm_create" ∷ digits_of rd ∷ rea
 words_of (RttCreate rtt ipa level) = codes "rtt_create" ∷ digits_of rtt ∷ digits_of ipa ∷ decimal level ∷ []
 words_of (InitRipas base top) = codes "init_ripas" ∷ digits_of base ∷ digits_of top ∷ []
 words_of (DataCreate granule ipa content) = codes "data_create" ∷ digits_of granule ∷ digits_of ipa ∷ content_words content
+words_of (DataCreateUnknown granule ipa) = codes "data_unknown" ∷ digits_of granule ∷ digits_of ipa ∷ []
 words_of (RecCreate rec params) = codes "rec_create" ∷ digits_of rec ∷ rec_words params
 words_of Activate = codes "activate" ∷ []
 

@@ -5,7 +5,7 @@ use Rattle.std.specs.Fmt.{decimal}
 use Rattle.std.specs.List.{join_with_byte}
 use Rattle.rim_desc.specs.Number.{digits_of}
 use Rattle.rim_desc.specs.declared.command.Command.{Command}
-use Rattle.rim_desc.specs.declared.command.Command.TheVariants.{Delegate, RealmCreate, RttCreate, InitRipas, DataCreate, RecCreate, Activate}
+use Rattle.rim_desc.specs.declared.command.Command.TheVariants.{Delegate, RealmCreate, RttCreate, InitRipas, DataCreate, DataCreateUnknown, RecCreate, Activate}
 use Rattle.rmi_line.specs.Line.{content_words, realm_words, start_words}
 
 -- the words of a command, its name first; of a realm's parameters all but the address of its tables
@@ -15,6 +15,7 @@ traced_words (RealmCreate rd params) = codes "realm_create" ∷ drop 1 (realm_wo
 traced_words (RttCreate rtt ipa level) = codes "rtt_create" ∷ digits_of ipa ∷ decimal level ∷ []
 traced_words (InitRipas base top) = codes "init_ripas" ∷ digits_of base ∷ digits_of top ∷ []
 traced_words (DataCreate granule ipa content) = codes "data_create" ∷ digits_of ipa ∷ content_words content
+traced_words (DataCreateUnknown granule ipa) = codes "data_unknown" ∷ digits_of ipa ∷ []
 traced_words (RecCreate rec params) = codes "rec_create" ∷ start_words params
 traced_words Activate = codes "activate" ∷ []
 

@@ -3,7 +3,7 @@
 use Rattle.std.specs.Prelude.{◌≡◌, ℕ, ◌^◌, ◌<◌, ◌≤◌, List, Option, Some, None, length, ⊤}
 use Rattle.std.specs.List.{All}
 use Rattle.rim_desc.specs.declared.command.Command.{Command}
-use Rattle.rim_desc.specs.declared.command.Command.TheVariants.{Delegate, RealmCreate, RttCreate, InitRipas, DataCreate, RecCreate, Activate}
+use Rattle.rim_desc.specs.declared.command.Command.TheVariants.{Delegate, RealmCreate, RttCreate, InitRipas, DataCreate, DataCreateUnknown, RecCreate, Activate}
 use Rattle.rim_desc.specs.declared.measurement.Measurement.{Measurement}
 use Rattle.rim_desc.specs.declared.realm.RealmParams.{RealmParams}
 use Rattle.rim_desc.specs.declared.rec.TheConstants.{AUX_LIMIT}
@@ -54,5 +54,6 @@ IsTyped (RealmCreate rd params) = IsWord rd × IsRealm params
 IsTyped (RttCreate rtt ipa level) = IsWord rtt × IsWord ipa × IsByte level
 IsTyped (InitRipas base top) = IsWord base × IsWord top
 IsTyped (DataCreate granule ipa content) = IsWord granule × IsWord ipa × IsContent content
+IsTyped (DataCreateUnknown granule ipa) = IsWord granule × IsWord ipa
 IsTyped (RecCreate rec params) = IsWord rec × IsRec params
 IsTyped Activate = ⊤

@@ -20,7 +20,7 @@ use Rattle.ipa_layout.specs.Layout.{IsPlaced, PlacedData}
 use Rattle.ipa_layout.specs.declared.placed.PlacedItem.{PlacedItem}
 use Rattle.ipa_layout.specs.declared.rec.PlacedRec.{PlacedRec}
 use Rattle.rmi_list.specs.RecParams.{rec_params}
-use Rattle.rmi_list.specs.Measured.{page_base}
+use Rattle.rmi_list.specs.Measured.{page_base, page_content}
 use Rattle.rmi_list.specs.declared.fault.ListFault.{ListFault}
 use Rattle.rmi_list.specs.declared.fault.ListFault.TheVariants.{Plan, PoolEnd, TooManyRecs, RecOrder, RecNotRunnable, NoMemory}
 use Rattle.rim_desc.specs.declared.rec.TheConstants.{REC_LIMIT}
@@ -66,7 +66,7 @@ list_region c w r =
 -- the pages of an item are created; an item without pages lists nothing
 unfoldable pub list_item : Config → Progress → ℕ → PlacedItem → Result Listing ListFault
 list_item c w number item =
-    let entries = item_entries c.pool_base w.taken w.plan item.measured number (page_base item) item.pages in
+    let entries = item_entries c.pool_base w.taken w.plan (page_content item) number (page_base item) item.pages in
     if item.pages == 0 then Ok (record { entries = []; next = w })
     else unless_refused (plan_checks (data_checks w.plan (page_base item) item.pages) ++ pool_check c w.taken entries ∷ []) (record {
       entries = entries;

@@ -4,12 +4,12 @@
 -- is modelled. This project's choice are the names of the refusals and their order; that realms have
 -- no LPA2 (flag 0), and tables in the protected half alone; that an InitRipas is taken only where it
 -- can be carried out whole, in the table in which the walk of its base ends (WalkLevel), and only
--- where no page of its range is RAM and no deeper table lies in it (NotFresh); that a DataCreate needs
--- a page that is RAM (NotRam); and that a REC is runnable.
+-- where no page of its range is RAM and no deeper table lies in it (NotFresh); that a DataCreate or a
+-- DataCreateUnknown needs a page that is RAM (NotRam); and that a REC is runnable.
 use Rattle.std.specs.Prelude.{ℕ, ◌+◌, ◌-◌, ◌*◌, ◌/◌, ◌%◌, ◌^◌, ◌==◌, nat_le, nat_lt, not, ◌||◌, Bool, false, List, [], ◌∷◌, length, drop, is_some, Option, Some, None}
 use Rattle.std.specs.List.{list_all}
 use Rattle.rim_desc.specs.declared.command.Command.{Command}
-use Rattle.rim_desc.specs.declared.command.Command.TheVariants.{Delegate, RealmCreate, RttCreate, InitRipas, DataCreate, RecCreate, Activate}
+use Rattle.rim_desc.specs.declared.command.Command.TheVariants.{Delegate, RealmCreate, RttCreate, InitRipas, DataCreate, DataCreateUnknown, RecCreate, Activate}
 use Rattle.rim_desc.specs.declared.measurement.Algo.{Algo}
 use Rattle.rim_desc.specs.declared.measurement.Algo.TheVariants.{Sha256, Sha512}
 use Rattle.rim_desc.specs.declared.measurement.Measurement.{Measurement}
@@ -105,16 +105,25 @@ ripas_checks s base top =
     ∷ (WalkLevel, is_cut (walk_of s.space base) base top)
     ∷ (NotFresh, is_not_fresh s.space (walk_of s.space base) base top) ∷ []
 
-abbrev pub data_checks : monitor.State → ℕ → ℕ → Option Measurement → List (Check Refused)
-data_checks s granule ipa content =
-    (State, not (monitor.is_new s.phase))
-    ∷ (BadParams, is_bad_content (monitor.algo_of s.params) content)
-    ∷ (Unaligned, not (is_multiple PAGE_SIZE granule) || not (is_multiple PAGE_SIZE ipa))
+-- whether a page can get data in a granule, measured or not
+abbrev pub page_checks : monitor.State → ℕ → ℕ → List (Check Refused)
+page_checks s granule ipa =
+    (Unaligned, not (is_multiple PAGE_SIZE granule) || not (is_multiple PAGE_SIZE ipa))
     ∷ (OutsideProtected, nat_le s.space.protected_end ipa)
     ∷ (WalkLevel, not (walk_of s.space ipa == 3))
     ∷ (NotRam, not (is_ram s.space.ram ipa))
     ∷ (Assigned, has s.space.assigned ipa)
     ∷ (NotDelegated, not (is_delegated s.owners granule)) ∷ []
+
+abbrev pub data_checks : monitor.State → ℕ → ℕ → Option Measurement → List (Check Refused)
+data_checks s granule ipa content =
+    (State, not (monitor.is_new s.phase))
+    ∷ (BadParams, is_bad_content (monitor.algo_of s.params) content)
+    ∷ page_checks s granule ipa
+
+-- content that the monitor does not know may come after activation too
+abbrev pub unknown_data_checks : monitor.State → ℕ → ℕ → List (Check Refused)
+unknown_data_checks s granule ipa = (State, monitor.is_empty s.phase) ∷ page_checks s granule ipa
 
 abbrev pub rec_checks : monitor.State → ℕ → RecData → List (Check Refused)
 rec_checks s rec r =
@@ -134,5 +143,6 @@ checks s (RealmCreate rd params) = realm_checks s rd params
 checks s (RttCreate rtt ipa level) = table_checks s rtt ipa level
 checks s (InitRipas base top) = ripas_checks s base top
 checks s (DataCreate granule ipa content) = data_checks s granule ipa content
+checks s (DataCreateUnknown granule ipa) = unknown_data_checks s granule ipa
 checks s (RecCreate rec params) = rec_checks s rec params
 checks s Activate = activate_checks s

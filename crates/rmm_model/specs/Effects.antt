@@ -2,7 +2,7 @@
 -- and "Realm Initial Measurement".
 use Rattle.std.specs.Prelude.{ℕ, ◌+◌, ◌-◌, ◌/◌, List, [], ◌∷◌, map, Some, option_map}
 use Rattle.rim_desc.specs.declared.command.Command.{Command}
-use Rattle.rim_desc.specs.declared.command.Command.TheVariants.{Delegate, RealmCreate, RttCreate, InitRipas, DataCreate, RecCreate, Activate}
+use Rattle.rim_desc.specs.declared.command.Command.TheVariants.{Delegate, RealmCreate, RttCreate, InitRipas, DataCreate, DataCreateUnknown, RecCreate, Activate}
 use Rattle.rim_desc.specs.Measurement.{measurement_of}
 use Rattle.rim_desc.specs.Part.{Part, Realm, Ripas, Data, Rec, extended_by}
 use Rattle.rim_desc.specs.Realm.{realm_page_of}
@@ -28,8 +28,13 @@ parts s (RttCreate rtt ipa level) = []
 parts s (InitRipas base top) =
     let entry = size (walk_of s.space base) in ripas_parts (stretches ((top - base) / entry) entry base)
 parts s (DataCreate granule ipa content) = Data ipa (option_map (λ m. m.bytes) content) ∷ []
+parts s (DataCreateUnknown granule ipa) = []
 parts s (RecCreate rec params) = Rec (measurement_of (algo_of s.params) (rec_page_of params)) ∷ []
 parts s Activate = []
+
+-- the page has data, in this granule
+abbrev pub with_page : State → ℕ → ℕ → State
+with_page s granule ipa = record s { owners = give s.owners granule kind.DataPage; space = after_page s.space ipa }
 
 -- what else it changes: granules get the kind of the command, and the realm goes on
 abbrev pub changed : State → Command → State
@@ -42,7 +47,8 @@ changed s (RealmCreate rd params) = record s {
 }
 changed s (RttCreate rtt ipa level) = record s { owners = give s.owners rtt kind.Rtt; space = after_table s.space level ipa }
 changed s (InitRipas base top) = record s { space = after_run s.space base top }
-changed s (DataCreate granule ipa content) = record s { owners = give s.owners granule kind.DataPage; space = after_page s.space ipa }
+changed s (DataCreate granule ipa content) = with_page s granule ipa
+changed s (DataCreateUnknown granule ipa) = with_page s granule ipa
 changed s (RecCreate rec params) = record s { owners = give_all (give s.owners rec kind.Rec) params.aux kind.RecAux; num_recs = s.num_recs + 1 }
 changed s Activate = record s { phase = Active }
 

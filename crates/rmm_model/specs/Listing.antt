@@ -5,7 +5,7 @@ use Rattle.rim_desc.specs.Page.{zeros}
 use Rattle.rim_desc.specs.Part.{Part, Realm, Ripas, Data}
 use Rattle.rim_desc.specs.Realm.{realm_page_of}
 use Rattle.rim_desc.specs.declared.command.Command.{Command}
-use Rattle.rim_desc.specs.declared.command.Command.TheVariants.{Delegate, RealmCreate, RttCreate, InitRipas, DataCreate, Activate}
+use Rattle.rim_desc.specs.declared.command.Command.TheVariants.{Delegate, RealmCreate, RttCreate, InitRipas, DataCreate, DataCreateUnknown, Activate}
 use Rattle.rim_desc.specs.declared.measurement.Algo.TheVariants.{Sha256}
 use Rattle.rim_desc.specs.declared.realm.RealmParams.{RealmParams}
 
@@ -41,6 +41,12 @@ with_tables = before_tables ++ (table_of_level_2 ∷ Delegate 0x800004000 ∷ ta
 abbrev pub worked_listing : List Command
 worked_listing = with_tables ++ (Delegate 0x800005000 ∷ DataCreate 0x800005000 0x40000000 None ∷ Activate ∷ [])
 
--- what it measures: the realm, an entry of 1 GiB twice, and the page
+-- the same list with two more pages, of which the monitor does not know the content: one before activation, one after it
+abbrev pub listing_with_unknown : List Command
+listing_with_unknown = with_tables ++ (Delegate 0x800005000 ∷ DataCreate 0x800005000 0x40000000 None
+    ∷ Delegate 0x800006000 ∷ DataCreateUnknown 0x800006000 0x40001000 ∷ Activate
+    ∷ Delegate 0x800007000 ∷ DataCreateUnknown 0x800007000 0x40002000 ∷ [])
+
+-- what the first list measures, and so does this one: the realm, an entry of 1 GiB twice, and the page
 abbrev pub worked_parts : List Part
 worked_parts = Realm (realm_page_of worked_params) ∷ Ripas 0x40000000 0x80000000 ∷ Ripas 0x80000000 0xc0000000 ∷ Data 0x40000000 None ∷ []

@@ -1,7 +1,7 @@
 -- Lists of commands. This project's choice: a command that is refused is passed over.
 use Rattle.std.specs.Prelude.{ℕ, List, [], ◌∷◌, ◌++◌, Bool, true, ◌&&◌, Result, Ok, Err, is_ok}
 use Rattle.rim_desc.specs.declared.command.Command.{Command}
-use Rattle.rim_desc.specs.declared.command.Command.TheVariants.{Delegate, RealmCreate, RttCreate, InitRipas, DataCreate, RecCreate, Activate}
+use Rattle.rim_desc.specs.declared.command.Command.TheVariants.{Delegate, RealmCreate, RttCreate, InitRipas, DataCreate, DataCreateUnknown, RecCreate, Activate}
 use Rattle.rim_desc.specs.Part.{Part}
 use Rattle.rmm_model.specs.declared.outcome.Refused.{Refused}
 use Rattle.rmm_model.specs.State.{State}
@@ -41,6 +41,7 @@ taken_by (RealmCreate rd params) = start_tables params ++ (rd ∷ [])
 taken_by (RttCreate rtt ipa level) = rtt ∷ []
 taken_by (InitRipas base top) = []
 taken_by (DataCreate granule ipa content) = granule ∷ []
+taken_by (DataCreateUnknown granule ipa) = granule ∷ []
 taken_by (RecCreate rec params) = rec ∷ params.aux
 taken_by Activate = []
 

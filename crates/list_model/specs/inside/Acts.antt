@@ -1,21 +1,22 @@
 -- The entries of acts: what a loop over the acts of a plan writes. Acts of pages are an item's: where no item is listed,
 -- they have no entries. This project's choice.
-use Rattle.std.specs.Prelude.{ℕ, ◌+◌, Bool, List, [], ◌∷◌, ◌++◌, Option, Some, None}
+use Rattle.std.specs.Prelude.{ℕ, ◌+◌, List, [], ◌∷◌, ◌++◌, Option, Some, None}
 use Rattle.rim_desc.specs.declared.command.Command.TheVariants.{Delegate, RttCreate, InitRipas}
 use Rattle.rmm_model.specs.Blocks.{granules}
 use Rattle.rtt_plan.specs.declared.act.Act.{Act}
 use Rattle.rtt_plan.specs.declared.act.Act.TheVariants as act
+use Rattle.list_model.specs.declared.content.PageContent.{PageContent}
 use Rattle.list_model.specs.Entries.{Entry, Whole, delegated, granule, page_entry}
 
--- an item: whether it is measured, and its number
+-- an item: what is known of its content, and its number
 abbrev pub ItemOf : Type 0
-ItemOf = Option (Bool × ℕ)
+ItemOf = Option (PageContent × ℕ)
 
 -- pages of an item that need no table, from its kth on
-unfoldable pub entries_of_pages : ℕ → ℕ → Bool → ℕ → ℕ → List ℕ → List Entry
-entries_of_pages pool n measured item k [] = []
-entries_of_pages pool n measured item k (x ∷ xs) =
-    Whole (Delegate (granule pool n)) ∷ page_entry measured (granule pool n) x item k ∷ entries_of_pages pool (n + 1) measured item (k + 1) xs
+unfoldable pub entries_of_pages : ℕ → ℕ → PageContent → ℕ → ℕ → List ℕ → List Entry
+entries_of_pages pool n content item k [] = []
+entries_of_pages pool n content item k (x ∷ xs) =
+    Whole (Delegate (granule pool n)) ∷ page_entry content (granule pool n) x item k ∷ entries_of_pages pool (n + 1) content item (k + 1) xs
 
 -- the entries of one act, from granule n and page k of the item on
 abbrev pub entries_of_act : ℕ → ℕ → ItemOf → ℕ → Act → List Entry

@@ -4,6 +4,7 @@ use Rattle.std.specs.List.{slice_get}
 use Rattle.rim_desc.specs.Measurement.{measurement_of}
 use Rattle.rim_desc.specs.Rec.{rec_page_of}
 use Rattle.rim_desc.specs.declared.measurement.Algo.{Algo}
+use Rattle.rim_desc.specs.declared.source.Source.{Source}
 use Rattle.rmm_model.specs.Blocks.{size}
 use Rattle.rtt_plan.specs.Places.{IsRegion}
 use Rattle.rtt_plan.specs.Runs.{runs_of}
@@ -29,15 +30,20 @@ abbrev pub region_links : ℕ → Option Region → List Link
 region_links least_level None = []
 region_links least_level (Some r) = map run_link (runs_of r.base r.end least_level)
 
--- the pages of an item
-abbrev pub pages_link : Algo → PlacedItem → Link
-pages_link algo item =
-    if item.measured then link.Pages (page_base item) (key_at algo item 0) item.pages else link.Unmeasured (page_base item) item.pages
+-- the pages of an item with this source
+abbrev pub pages_link : Algo → PlacedItem → Source → Link
+pages_link algo item source =
+    if item.measured then link.Pages (page_base item) (key_at algo source item 0) item.pages else link.Unmeasured (page_base item) item.pages
 
--- an item without pages has no link
+-- an item without a source is not measured, so it has no link
+abbrev pub source_links : Algo → PlacedItem → Option Source → List Link
+source_links algo item None = []
+source_links algo item (Some source) = pages_link algo item source ∷ []
+
+-- nor has an item without pages
 abbrev pub item_links : Algo → Option PlacedItem → List Link
 item_links algo None = []
-item_links algo (Some item) = if item.pages == 0 then [] else pages_link algo item ∷ []
+item_links algo (Some item) = if item.pages == 0 then [] else source_links algo item item.source
 
 -- the number of a REC is not measured
 abbrev pub rec_links : Algo → Option PlacedRec → List Link

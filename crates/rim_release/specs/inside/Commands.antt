@@ -2,6 +2,7 @@
 use Rattle.std.specs.Prelude.{◌≡◌, ℕ, ◌<◌, List, Some, take}
 use Rattle.std.specs.List.{slice_get}
 use Rattle.rim_desc.specs.declared.command.Command.{Command}
+use Rattle.rim_desc.specs.declared.source.Source.{Source}
 use Rattle.rmm_model.specs.Run.{run}
 use Rattle.rmm_model.specs.State.{State, empty_state}
 use Rattle.list_model.specs.Entries.{commands_of}
@@ -19,8 +20,10 @@ commands_in c = commands_of (page_contents c.launch.now (bytes_of_files c.files.
 abbrev pub state_after : LaunchCommands → ℕ → State
 state_after c count = run (empty_state c.launch.now.config.num_aux) (take count (commands_in c))
 
--- the launch has an item of this number, and the item has a page of this number
+-- the launch has an item of this number, which has a source, and the item has a page of this number
 pub record HasPage (p : PlacedData) (number page : ℕ) : Type 0 where
   pub item : PlacedItem
   pub at : slice_get p.items number ≡ Some item
   pub low : page < item.pages
+  pub source : Source
+  pub from : item.source ≡ Some source

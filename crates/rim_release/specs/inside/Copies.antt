@@ -53,8 +53,8 @@ pub record IsSameItem (items others : List PlacedItem) (number : ℕ) : Type 0 w
   pub at_other : slice_get others number ≡ Some other
   pub lead : item.lead ≡ other.lead
   pub file : ℕ
-  pub source : item.source ≡ File file
-  pub source_other : other.source ≡ File file
+  pub source : item.source ≡ Some (File file)
+  pub source_other : other.source ≡ Some (File file)
 
 -- just such items are marked
 abbrev pub AreMarked : List PlacedItem → List PlacedItem → List Bool → Type 0

@@ -3,6 +3,7 @@ use Rattle.std.specs.Prelude.{List, [], ◌∷◌, ◌++◌, Option, Some, None,
 use Rattle.std.specs.List.{flat_map, slice_get}
 use Rattle.page_jobs.specs.declared.page.PageKey.{PageKey}
 use Rattle.rim_desc.specs.declared.measurement.Algo.{Algo}
+use Rattle.rim_desc.specs.declared.source.Source.{Source}
 use Rattle.rim_launch.specs.LaunchData.{LaunchData}
 use Rattle.rim_launch.specs.declared.step.Step.{Step}
 use Rattle.rim_launch.specs.declared.step.Step.TheVariants as step
@@ -12,9 +13,13 @@ use Rattle.rim_manifest.specs.Launches.{NamedData}
 use Rattle.rim_chain.specs.Keys.{key_at}
 use Rattle.rim_release.specs.declared.audit_fault.AuditFault.{AuditFault}
 
+abbrev pub source_ends : Algo → PlacedItem → Option Source → List PageKey
+source_ends algo item None = []
+source_ends algo item (Some source) = if item.measured then key_at algo source item item.pages ∷ [] else []
+
 abbrev pub item_ends : Algo → Option PlacedItem → List PageKey
 item_ends algo None = []
-item_ends algo (Some item) = if item.measured then key_at algo item item.pages ∷ [] else []
+item_ends algo (Some item) = source_ends algo item item.source
 
 abbrev pub step_ends : LaunchData → PlacedData → Step → List PageKey
 step_ends l p (step.Ram n) = []

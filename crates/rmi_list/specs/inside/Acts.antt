@@ -7,7 +7,7 @@ use Rattle.rmi_list.specs.declared.draft.ItemPages.{ItemPages}
 use Rattle.rim_desc.specs.declared.page.TheConstants.{PAGE_SIZE}
 
 abbrev pub item_of : Option ItemPages → ItemOf
-item_of item = option_map (λ i. (i.measured, i.number)) item
+item_of item = option_map (λ i. (i.known, i.number)) item
 
 -- from page k of an item on, pages are named in 32 bits and have an IPA of 47
 abbrev pub HasRoom : ItemOf → ℕ → Act → Type 0

@@ -25,7 +25,7 @@ entries_of_span params num_aux recs (span.Delegate n) = Whole (Delegate (granule
 entries_of_span params num_aux recs (span.RealmCreate n) = Whole (RealmCreate (granule params.rtt_base n) params) ∷ []
 entries_of_span params num_aux recs (span.RttCreate n ipa level) = Whole (RttCreate (granule params.rtt_base n) ipa level) ∷ []
 entries_of_span params num_aux recs (span.InitRipas base top) = Whole (InitRipas base top) ∷ []
-entries_of_span params num_aux recs (span.Pages n ipa item measured page count) = entries_of_pages params.rtt_base n measured item page (granules count ipa)
+entries_of_span params num_aux recs (span.Pages n ipa item known page count) = entries_of_pages params.rtt_base n known item page (granules count ipa)
 entries_of_span params num_aux recs (span.RecCreate n number) = rec_entry params.rtt_base num_aux n number (slice_get recs number) ∷ []
 entries_of_span params num_aux recs span.Activate = Whole Activate ∷ []
 
@@ -38,13 +38,13 @@ commands_in (span.Delegate n) = 1
 commands_in (span.RealmCreate n) = 1
 commands_in (span.RttCreate n ipa level) = 1
 commands_in (span.InitRipas base top) = 1
-commands_in (span.Pages n ipa item measured page count) = 2 * count
+commands_in (span.Pages n ipa item known page count) = 2 * count
 commands_in (span.RecCreate n number) = 1
 commands_in span.Activate = 1
 
 -- the pages of a span have an IPA of 47 bits, and its commands are few enough to be numbered
 abbrev pub IsSpan : Span → Type 0
-IsSpan (span.Pages n ipa item measured page count) = (count ≤ 2 ^ 32) × (ipa ≤ 2 ^ 47) × (page + count ≤ 2 ^ 32)
+IsSpan (span.Pages n ipa item known page count) = (count ≤ 2 ^ 32) × (ipa ≤ 2 ^ 47) × (page + count ≤ 2 ^ 32)
 IsSpan k = Unit {0}
 
 -- the command at an index of some entries, where each measured page has this content
