@@ -3,7 +3,7 @@ use Rattle.std.proofs.Common.{◌≡◌, ℕ, ◌+◌, ◌-◌, ◌%◌, ◌<◌
 use Rattle.std.specs.Prelude.{Option, Some, None, Ok}
 use Rattle.std.specs.List.{list_all}
 use Rattle.std.proofs.lemmas.Bool.Decides.{nat_tests}
-use Rattle.rim_desc.specs.declared.command.Command.TheVariants.{Delegate, RealmCreate, RttCreate, InitRipas, DataCreate, RecCreate, Activate}
+use Rattle.rim_desc.specs.declared.command.Command.TheVariants.{Delegate, RealmCreate, RttCreate, InitRipas, DataCreate, DataCreateUnknown, RecCreate, Activate}
 use Rattle.rim_desc.specs.declared.measurement.Measurement.{Measurement}
 use Rattle.rim_desc.specs.declared.realm.RealmParams.{RealmParams}
 use Rattle.rim_desc.specs.Rec.{RecData}
@@ -47,6 +47,14 @@ pub data_create-taken : (s : State) (g ipa : ℕ) (content : Option Measurement)
 data_create-taken s g ipa content phase good at place inside walk ram free own =
     let t1 : leb s.space.protected_end ipa ≡ false = grind (arith, nat_tests) in
     rw phase (rw good (rw (at, place) (rw t1 (rw walk (rw ram (rw free (rw own refl)))))))
+
+-- this one measures nothing
+pub data_create_unknown-taken : (s : State) (g ipa : ℕ) → is_empty s.phase ≡ false → g % 4096 ≡ 0 → ipa % 4096 ≡ 0 → ipa < s.space.protected_end
+    → walk_of s.space ipa ≡ 3 → is_ram s.space.ram ipa ≡ true → has s.space.assigned ipa ≡ false → kind_of s.owners g ≡ Some Delegated
+    → step s (DataCreateUnknown g ipa) ≡ Ok (changed s (DataCreateUnknown g ipa))
+data_create_unknown-taken s g ipa phase at place inside walk ram free own =
+    let t1 : leb s.space.protected_end ipa ≡ false = grind (arith, nat_tests) in
+    rw phase (rw (at, place) (rw t1 (rw walk (rw ram (rw free (rw own refl))))))
 
 pub rec_create-taken : (s : State) (g : ℕ) (r : RecData) → is_new s.phase ≡ true → is_bad_rec r ≡ false → g % 4096 ≡ 0 → list_all (is_multiple 4096) r.aux ≡ true
     → rec_index r.mpidr ≡ s.num_recs → length r.aux ≡ s.num_aux → all_delegated s.owners (g ∷ r.aux) ≡ true → repeats (g ∷ r.aux) ≡ false

@@ -3,7 +3,7 @@ use Rattle.std.proofs.Common.{inl, inr, ◌≡◌, ℕ, ◌∙◌, sym, refl, su
 use Rattle.std.specs.Prelude.{Option, Some, None, Result, Ok, Err, is_ok, is_some}
 use Rattle.std.proofs.lemmas.Bool.Decides.{nat_tests}
 use Rattle.rim_desc.specs.declared.command.Command.{Command}
-use Rattle.rim_desc.specs.declared.command.Command.TheVariants.{Delegate, RealmCreate, RttCreate, InitRipas, DataCreate, RecCreate, Activate}
+use Rattle.rim_desc.specs.declared.command.Command.TheVariants.{Delegate, RealmCreate, RttCreate, InitRipas, DataCreate, DataCreateUnknown, RecCreate, Activate}
 use Rattle.rim_desc.specs.Part.{Part}
 use Rattle.rmm_model.specs.declared.outcome.Kind.{Kind}
 use Rattle.rmm_model.specs.declared.outcome.Kind.TheVariants.{Delegated, Rd, Rtt, DataPage, Rec, RecAux}
@@ -140,6 +140,14 @@ takes s (InitRipas base top) off = record {
 }
 takes s (DataCreate granule ipa content) off =
     let own : is_delegated s.owners granule ≡ true = not-false (is_delegated s.owners granule) (off-at (checks s (DataCreate granule ipa content)) 7 refusal.State off) in
+    record {
+      keeps = λ h old. used-give s.owners granule h DataPage refl old;
+      uses = λ h there. rw (← one s.owners granule h there) (used-here s.owners granule DataPage refl);
+      free = λ h there. rw (← one s.owners granule h there) (unused-delegated (kind_of s.owners granule) own);
+      apart = refl;
+    }
+takes s (DataCreateUnknown granule ipa) off =
+    let own : is_delegated s.owners granule ≡ true = not-false (is_delegated s.owners granule) (off-at (checks s (DataCreateUnknown granule ipa)) 6 refusal.State off) in
     record {
       keeps = λ h old. used-give s.owners granule h DataPage refl old;
       uses = λ h there. rw (← one s.owners granule h there) (used-here s.owners granule DataPage refl);

@@ -4,7 +4,7 @@ use Rattle.std.specs.Prelude.{Some, None, Result, Ok, Err}
 use Rattle.std.proofs.lemmas.Option.{same_Some}
 use Rattle.rim_desc.proofs.PieceByPiece.{extended_by-append}
 use Rattle.rim_desc.specs.declared.command.Command.{Command}
-use Rattle.rim_desc.specs.declared.command.Command.TheVariants.{Delegate, RealmCreate, RttCreate, InitRipas, DataCreate, RecCreate, Activate}
+use Rattle.rim_desc.specs.declared.command.Command.TheVariants.{Delegate, RealmCreate, RttCreate, InitRipas, DataCreate, DataCreateUnknown, RecCreate, Activate}
 use Rattle.rim_desc.specs.declared.realm.RealmParams.{RealmParams}
 use Rattle.rim_desc.specs.Part.{Part, extended_by, rim_of}
 use Rattle.rmm_model.specs.declared.outcome.Refused.{Refused}
@@ -54,6 +54,7 @@ changed-realm s (RealmCreate rd params) p rim h = inr (refusal.State, rw h.phase
 changed-realm s (RttCreate rtt ipa level) p rim h = inl (record { phase = h.phase; params = h.params; at = h.at })
 changed-realm s (InitRipas base top) p rim h = inl (record { phase = h.phase; params = h.params; at = h.at })
 changed-realm s (DataCreate granule ipa content) p rim h = inl (record { phase = h.phase; params = h.params; at = h.at })
+changed-realm s (DataCreateUnknown granule ipa) p rim h = inl (record { phase = h.phase; params = h.params; at = h.at })
 changed-realm s (RecCreate rec params) p rim h = inl (record { phase = h.phase; params = h.params; at = h.at })
 changed-realm s Activate p rim h = inl (record { phase = refl; params = h.params; at = h.at })
 
@@ -103,6 +104,7 @@ started s (RealmCreate rd p) h = Begins p _ (λ ps. refl) (record { phase = refl
 started s (RttCreate rtt ipa level) h = IsRefused refusal.State (rw h.phase refl)
 started s (InitRipas base top) h = IsRefused refusal.State (rw (new-not s h.phase) refl)
 started s (DataCreate granule ipa content) h = IsRefused refusal.State (rw (new-not s h.phase) refl)
+started s (DataCreateUnknown granule ipa) h = IsRefused refusal.State (rw h.phase refl)
 started s (RecCreate rec params) h = IsRefused refusal.State (rw (new-not s h.phase) refl)
 started s Activate h = IsRefused refusal.State (rw (new-not s h.phase) refl)
 

@@ -4,8 +4,9 @@ ghost use Rattle.std.specs.List.{range_with_len};
 ghost use Rattle.rim_desc.specs.Part.{rim_of};
 ghost use Rattle.rim_desc.specs.declared.command.Command.{Command};
 ghost use Rattle.rim_desc.specs.declared.realm.RealmParams.{RealmParams};
-ghost use Rattle.rim_desc.specs.declared.command.Command.TheVariants.{Delegate, DataCreate};
+ghost use Rattle.rim_desc.specs.declared.command.Command.TheVariants.{Delegate, DataCreate, DataCreateUnknown};
 ghost use Rattle.rmm_model.specs.declared.outcome.Kind.{Kind};
+ghost use Rattle.rmm_model.specs.declared.outcome.Refused.TheVariants as refused;
 ghost use Rattle.rmm_model.specs.declared.outcome.Refused.TheVariants.{NotDelegated, NotUndelegated, WalkLevel};
 ghost use Rattle.rmm_model.specs.declared.table.Table.{Table};
 ghost use Rattle.rmm_model.specs.Blocks.{granules, span};
@@ -16,7 +17,7 @@ ghost use Rattle.rmm_model.specs.State.{State, empty_state};
 ghost use Rattle.rmm_model.specs.Owners.{give, kind_of, repeats};
 ghost use Rattle.rmm_model.specs.Step.{step};
 ghost use Rattle.rmm_model.specs.Run.{accepted, run, shown, taken};
-ghost use Rattle.rmm_model.specs.Listing.{before_tables, table_of_level_3, with_tables, worked_listing, worked_parts};
+ghost use Rattle.rmm_model.specs.Listing.{before_tables, listing_with_unknown, table_of_level_3, with_tables, worked_listing, worked_parts};
 ghost use Rattle.rim_desc.specs.declared.page.TheConstants.{PAGE_SIZE};
 
 /// The worked list of commands is accepted, measures the realm and three parts more, and leaves six
@@ -25,6 +26,16 @@ pub fn worked_listing_is_accepted()
     ensures taken { accepted (empty_state 0) worked_listing ≡ true }
     ensures measured { shown (empty_state 0) worked_listing ≡ worked_parts }
     ensures owners { length (run (empty_state 0) worked_listing).owners ≡ 6 }
+{}
+
+/// Content that the monitor does not know is not measured, and its page may be given after activation too; its granule is
+/// taken. Before a realm is created it is refused.
+pub fn unknown_data_is_not_measured()
+    ensures taken { accepted (empty_state 0) listing_with_unknown ≡ true }
+    ensures measured { shown (empty_state 0) listing_with_unknown ≡ worked_parts }
+    ensures owners { length (run (empty_state 0) listing_with_unknown).owners ≡ 8 }
+    ensures early { step (empty_state 0) (DataCreateUnknown 0x800006000 0x40001000)
+        ≡ Err refused.State }
 {}
 
 /// Of that list, the table of level 3 before that of level 2: the walk does not end at level 2.
@@ -122,7 +133,7 @@ pub fn ram_after_a_run()
         → are_some (after_run s base top).ram ≡ true }
 {}
 
-/// After DataCreate its page has data, and each page that had.
+/// After DataCreate or DataCreateUnknown its page has data, and each page that had.
 pub fn pages_after_one_more()
     ensures { (s : Space) (page x : ℕ)
         → has (after_page s page).assigned x ≡ ((page == x) || has s.assigned x) }
