@@ -2,13 +2,13 @@
 ghost use Rattle.std.specs.Prelude.{◌≡◌, ◌≤◌, not, ◌||◌, ◌∷◌, Err, IfOk, length, option_map, true};
 ghost use Rattle.std.specs.Bool.{OnFalse};
 ghost use Rattle.refusal.specs.Answer.{Applies};
-ghost use Rattle.rim_desc.specs.declared.command.Command.TheVariants.{Delegate, RealmCreate, RttCreate, InitRipas, DataCreate, RecCreate, Activate};
+ghost use Rattle.rim_desc.specs.declared.command.Command.TheVariants.{Delegate, RealmCreate, RttCreate, InitRipas, DataCreate, DataCreateUnknown, RecCreate, Activate};
 ghost use Rattle.rmm_model.specs.State.{empty_state};
 ghost use Rattle.rmm_model.specs.Owners.{all_delegated, is_delegated, kind_of, repeats};
 ghost use Rattle.rmm_model.specs.Space.{has};
 ghost use Rattle.rmm_model.specs.Step.{step};
 ghost use Rattle.rmm_monitor.specs.Growth.{adds_something};
-ghost use Rattle.rmm_monitor.specs.inside.Monitor.{assigned};
+ghost use Rattle.rmm_monitor.specs.inside.Monitor.{assigned, page_taken};
 ghost use Rattle.rmm_monitor.specs.inside.Owned.{all_owned};
 ghost use Rattle.rim_desc.specs.declared.rec.TheConstants.{AUX_LIMIT};
 
@@ -233,6 +233,26 @@ impl Monitor {
         if is_bad_content(algo, content) {
             return Err(Refused::BadParams);
         }
+        self.take_page(granule, ipa)?;
+        self.rim = Some(extended_by_data(algo, measured_so_far(self.rim), ipa, content));
+        Ok(())
+    }
+
+    fn data_create_unknown(&mut self, granule: u64, ipa: u64) -> Result<(), Refused>
+        ensures { Applies Refused.NoMemory self.old self.new result
+            (step self.old (DataCreateUnknown granule ipa)) }
+    {
+        if self.phase == Phase::Empty {
+            return Err(Refused::State);
+        }
+        self.take_page(granule, ipa)
+    }
+
+    /// Gives a page data in a granule, where both may have it.
+    fn take_page(&mut self, granule: u64, ipa: u64) -> Result<(), Refused>
+        ensures { Applies Refused.NoMemory self.old self.new result
+            (page_taken self.old granule ipa) }
+    {
         if granule % GRANULE_SIZE != 0 || ipa % GRANULE_SIZE != 0 {
             return Err(Refused::Unaligned);
         }
@@ -245,9 +265,7 @@ impl Monitor {
         if !self.space.is_ram(ipa) {
             return Err(Refused::NotRam);
         }
-        self.assign(granule, ipa)?;
-        self.rim = Some(extended_by_data(algo, measured_so_far(self.rim), ipa, content));
-        Ok(())
+        self.assign(granule, ipa)
     }
 
     /// Gives a page data in a granule. The granule is taken first, so that each tree is searched once, and is given back
@@ -322,8 +340,8 @@ impl Monitor {
     /// command that no check refuses needs memory that is refused. After a refusal the monitor is as
     /// it was. RealmCreate, RecCreate and Activate take no memory and are never refused so.
     ///
-    /// Delegate, RttCreate and DataCreate take the logarithm of the number of granules, tables, ranges and
-    /// pages; InitRipas besides a hash for each entry, RealmCreate and DataCreate one, RecCreate two.
+    /// Delegate, RttCreate, DataCreate and DataCreateUnknown take the logarithm of the number of granules, tables, ranges
+    /// and pages; InitRipas besides a hash for each entry, RealmCreate and DataCreate one, RecCreate two.
     pub fn apply(&mut self, command: &Command) -> Result<(), Refused>
         ensures exact { Applies Refused.NoMemory self.old self.new result
             (step self.old command.now) }
@@ -339,6 +357,7 @@ impl Monitor {
                 ipa,
                 content,
             } => self.data_create(*granule, *ipa, *content),
+            Command::DataCreateUnknown { granule, ipa } => self.data_create_unknown(*granule, *ipa),
             Command::RecCreate { rec, params } => self.rec_create(*rec, params),
             Command::Activate => self.activate(),
         }

@@ -5,5 +5,5 @@ use Rattle.rmm_monitor.proofs.monitor.Monitor.data_create.Goals as goal
 pub returns : goal.returns
 returns c = grind (arith, common_steps) steps 500000
 
-pub returns-in_err-assign : goal.returns-in_err-assign
-returns-in_err-assign c = grind (arith, common_steps) steps 4000000
+pub returns-in_err-take_page : goal.returns-in_err-take_page
+returns-in_err-take_page c = grind (arith, common_steps) steps 4000000
