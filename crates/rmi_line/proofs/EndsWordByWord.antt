@@ -56,6 +56,7 @@ last-no_command algo rim =
     not_named (last_line algo rim)
     (λ rest e. apart 101 (second algo ∙ ap (λ line. get_or line 1 0) e) (λ i. omega (arith, i)))
     (λ rest e. apart 97 (second algo ∙ ap (λ line. get_or line 1 0) e) (λ i. omega (arith, i)))
+    (λ rest e. apart 97 (second algo ∙ ap (λ line. get_or line 1 0) e) (λ i. omega (arith, i)))
     (λ rest e. apart 116 (second algo ∙ ap (λ line. get_or line 1 0) e) (λ i. omega (arith, i)))
     (λ rest e. apart 110 (second algo ∙ ap (λ line. get_or line 1 0) e) (λ i. omega (arith, i)))
     (λ rest e. apart 101 (second algo ∙ ap (λ line. get_or line 1 0) e) (λ i. omega (arith, i)))

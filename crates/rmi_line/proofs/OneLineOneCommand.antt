@@ -17,7 +17,7 @@ use Rattle.hex.proofs.HexLemmas.{decode_of-encode_lower}
 use Rattle.rim_desc.specs.Number.{digits_of}
 use Rattle.rim_desc.specs.Rec.{RecData}
 use Rattle.rim_desc.specs.declared.command.Command.{Command}
-use Rattle.rim_desc.specs.declared.command.Command.TheVariants.{Delegate, RealmCreate, RttCreate, InitRipas, DataCreate, RecCreate, Activate}
+use Rattle.rim_desc.specs.declared.command.Command.TheVariants.{Delegate, RealmCreate, RttCreate, InitRipas, DataCreate, DataCreateUnknown, RecCreate, Activate}
 use Rattle.rim_desc.specs.declared.measurement.Algo.{Algo}
 use Rattle.rim_desc.specs.declared.measurement.Algo.TheVariants.{Sha256, Sha512}
 use Rattle.rim_desc.specs.declared.measurement.Measurement.{Measurement}
@@ -80,8 +80,9 @@ command_said words =
     (cond (bytes_eq name (codes "rtt_create")) (RttCreate (address_said (at words 1)) (address_said (at words 2)) (number_said (at words 3)))
     (cond (bytes_eq name (codes "init_ripas")) (InitRipas (address_said (at words 1)) (address_said (at words 2)))
     (cond (bytes_eq name (codes "data_create")) (DataCreate (address_said (at words 1)) (address_said (at words 2)) (content_said (drop 3 words)))
+    (cond (bytes_eq name (codes "data_unknown")) (DataCreateUnknown (address_said (at words 1)) (address_said (at words 2)))
     (cond (bytes_eq name (codes "rec_create")) (RecCreate (address_said (at words 1)) (rec_said (drop 2 words)))
-    Activate)))))
+    Activate))))))
 
 -- ---- each word says what it was made of
 
@@ -171,6 +172,7 @@ command_again (RttCreate rtt ipa level) (rtt_fits, ipa_fits, fit) =
 command_again (InitRipas base top) (base_fits, top_fits) = rw (address_again base base_fits, address_again top top_fits) refl
 command_again (DataCreate granule ipa content) (granule_fits, ipa_fits, fit) =
     rw (address_again granule granule_fits, address_again ipa ipa_fits, content_again content fit) refl
+command_again (DataCreateUnknown granule ipa) (granule_fits, ipa_fits) = rw (address_again granule granule_fits, address_again ipa ipa_fits) refl
 command_again (RecCreate rec r) (rec_fits, fit) = rw (address_again rec rec_fits, rec_again r fit) refl
 command_again Activate fit = refl
 

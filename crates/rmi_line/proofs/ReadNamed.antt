@@ -5,7 +5,7 @@ use Rattle.std.proofs.lemmas.Bool.{false≢true}
 use Rattle.std.proofs.lemmas.List.{append_cancel_left}
 use Rattle.std.specs.List.{flat_map}
 use Rattle.rim_desc.specs.declared.command.Command.{Command}
-use Rattle.rim_desc.specs.declared.command.Command.TheVariants.{Delegate, RealmCreate, RttCreate, InitRipas, DataCreate, RecCreate, Activate}
+use Rattle.rim_desc.specs.declared.command.Command.TheVariants.{Delegate, RealmCreate, RttCreate, InitRipas, DataCreate, DataCreateUnknown, RecCreate, Activate}
 use Rattle.rmi_line.specs.declared.reader.Words.{Words}
 use Rattle.rmi_line.specs.Line.{line_of, words_of}
 use Rattle.rmi_line.specs.Spelled.{Reads}
@@ -43,7 +43,7 @@ read_named name rest words first last command (Some read) named begins (same, fi
 
 -- two bytes of a name, in which no other name is like it
 abbrev pub key : List ℕ → ℕ
-key line = get_or line 0 0 + 256 * get_or line 2 0
+key line = get_or line 2 0 + 256 * get_or line 5 0
 
 -- a line does not begin with two names
 pub other_name : {A : Type 0} (line other : List ℕ) → line ≡ other → (key line == key other) ≡ false → A
@@ -53,13 +53,14 @@ other_name line other same differ = absurd (false≢true (sym differ ∙ eq-eqb 
 pub not_named : (line : List ℕ)
     → ((rest : List ℕ) → line ≢ codes "delegate" ++ rest)
     → ((rest : List ℕ) → line ≢ codes "data_create" ++ rest)
+    → ((rest : List ℕ) → line ≢ codes "data_unknown" ++ rest)
     → ((rest : List ℕ) → line ≢ codes "rtt_create" ++ rest)
     → ((rest : List ℕ) → line ≢ codes "init_ripas" ++ rest)
     → ((rest : List ℕ) → line ≢ codes "rec_create" ++ rest)
     → ((rest : List ℕ) → line ≢ codes "realm_create" ++ rest)
     → ((rest : List ℕ) → line ≢ codes "activate" ++ rest)
     → Reads line None
-not_named line delegate page rtt ripas rec realm activate command spells = none command (spells.0 ∙ line_of-from command)
+not_named line delegate page unknown rtt ripas rec realm activate command spells = none command (spells.0 ∙ line_of-from command)
   where
     none : (command : Command) → line ≢ line_from (words_of command)
     none (Delegate granule) = delegate _
@@ -67,5 +68,6 @@ not_named line delegate page rtt ripas rec realm activate command spells = none 
     none (RttCreate table ipa level) = rtt _
     none (InitRipas base top) = ripas _
     none (DataCreate granule ipa content) = page _
+    none (DataCreateUnknown granule ipa) = unknown _
     none (RecCreate granule params) = rec _
     none Activate = activate _

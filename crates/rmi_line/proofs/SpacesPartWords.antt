@@ -12,7 +12,7 @@ use Rattle.std.specs.List.{All, join_with_byte, list_all, slice_split}
 use Rattle.hex.specs.Hex.{encode_with, lower_digits}
 use Rattle.rim_desc.specs.Number.{digits_of}
 use Rattle.rim_desc.specs.declared.command.Command.{Command}
-use Rattle.rim_desc.specs.declared.command.Command.TheVariants.{Delegate, RealmCreate, RttCreate, InitRipas, DataCreate, RecCreate, Activate}
+use Rattle.rim_desc.specs.declared.command.Command.TheVariants.{Delegate, RealmCreate, RttCreate, InitRipas, DataCreate, DataCreateUnknown, RecCreate, Activate}
 use Rattle.rim_desc.specs.declared.measurement.Algo.{Algo}
 use Rattle.rim_desc.specs.declared.measurement.Algo.TheVariants.{Sha256, Sha512}
 use Rattle.rim_desc.specs.declared.measurement.Measurement.{Measurement}
@@ -83,6 +83,7 @@ all_words (RealmCreate rd p) = simp (name_is_word (codes "realm_create") refl, i
 all_words (RttCreate rtt ipa level) = simp (name_is_word (codes "rtt_create") refl, is_word-encoded, is_word-decimal)
 all_words (InitRipas base top) = simp (name_is_word (codes "init_ripas") refl, is_word-encoded)
 all_words (DataCreate granule ipa content) = simp (name_is_word (codes "data_create") refl, is_word-encoded, is_word-content)
+all_words (DataCreateUnknown granule ipa) = simp (name_is_word (codes "data_unknown") refl, is_word-encoded)
 all_words (RecCreate rec params) = simp (name_is_word (codes "rec_create") refl, is_word-encoded, is_word-decimal, is_word-digits, list_all-append is_word (map digits_of params.gprs) (decimal (length params.aux) ∷ map digits_of params.aux))
 all_words Activate = simp (name_is_word (codes "activate") refl)
 
@@ -131,6 +132,7 @@ line_of-split command = from_name (words_of command) (all_words command) (named 
     named (RttCreate rtt ipa level) = omega arith
     named (InitRipas base top) = omega arith
     named (DataCreate granule ipa content) = omega arith
+    named (DataCreateUnknown granule ipa) = omega arith
     named (RecCreate rec params) = omega arith
     named Activate = omega arith
 

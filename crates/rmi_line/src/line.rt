@@ -1,7 +1,7 @@
 //! The line of a command.
 ghost use Rattle.std.specs.Prelude.{◌≡◌, ◌++◌, drop, IfOk, OnOk};
 ghost use Rattle.std.specs.List.{flat_map};
-ghost use Rattle.rim_desc.specs.declared.command.Command.TheVariants.{DataCreate, Delegate, InitRipas, RealmCreate, RecCreate, RttCreate};
+ghost use Rattle.rim_desc.specs.declared.command.Command.TheVariants.{DataCreate, DataCreateUnknown, Delegate, InitRipas, RealmCreate, RecCreate, RttCreate};
 ghost use Rattle.rmi_line.specs.Line.{content_words, line_of, realm_words, start_words};
 ghost use Rattle.rmi_line.specs.Spelled.{Spells};
 ghost use Rattle.rmi_line.specs.inside.Words.{spaced};
@@ -28,6 +28,7 @@ pub fn print_line(alloc: Global, command: &Command) -> Result<Vec<u8>, NoMemory>
             ipa,
             content,
         } => data_create(alloc, granule, ipa, content),
+        Command::DataCreateUnknown { granule, ipa } => data_create_unknown(alloc, granule, ipa),
         Command::RecCreate { rec, params } => rec_create(alloc, rec, &params),
         Command::Activate => named(alloc, "activate"),
     }
@@ -127,6 +128,16 @@ pub fn push_content(line: &mut Vec<u8>, content: Option<Measurement>) -> Result<
         }
         None => push_word(line, b"unmeasured"),
     }
+}
+
+#[tactic(auto, unfolding(crate::specs::Line::line_of))]
+fn data_create_unknown(alloc: Global, granule: u64, ipa: u64) -> Result<Vec<u8>, NoMemory>
+    ensures { IfOk result (λ line. line.items ≡ line_of (DataCreateUnknown granule ipa)) }
+{
+    let mut line = named(alloc, "data_unknown")?;
+    push_address(&mut line, granule)?;
+    push_address(&mut line, ipa)?;
+    Ok(line)
 }
 
 fn rec_create(alloc: Global, rec: u64, params: &RecParams) -> Result<Vec<u8>, NoMemory>

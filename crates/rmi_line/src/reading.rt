@@ -19,6 +19,9 @@ pub fn read_line(line: &[u8]) -> Option<Command>
     if let Some(rest) = after(line, b"data_create") {
         return data_create(rest);
     }
+    if let Some(rest) = after(line, b"data_unknown") {
+        return data_create_unknown(rest);
+    }
     if let Some(rest) = after(line, b"rtt_create") {
         return rtt_create(rest);
     }
@@ -97,6 +100,15 @@ fn data_create(rest: &[u8]) -> Option<Command>
         ipa,
         content,
     })
+}
+
+fn data_create_unknown(rest: &[u8]) -> Option<Command>
+    ensures { Reads (codes "data_unknown" ++ rest.now) result }
+{
+    let mut words = Words::new(rest);
+    let granule = words.address();
+    let ipa = words.address();
+    words.end(Command::DataCreateUnknown { granule, ipa })
 }
 
 fn rec_create(rest: &[u8]) -> Option<Command>

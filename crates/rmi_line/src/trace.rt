@@ -30,6 +30,7 @@ fn name(command: &Command) -> &'static str
         Command::RttCreate { .. } => "rtt_create",
         Command::InitRipas { .. } => "init_ripas",
         Command::DataCreate { .. } => "data_create",
+        Command::DataCreateUnknown { .. } => "data_unknown",
         Command::RecCreate { .. } => "rec_create",
         Command::Activate => "activate",
     }
@@ -55,6 +56,7 @@ fn push_others(line: &mut Vec<u8>, command: &Command) -> Result<(), NoMemory>
             push_address(line, ipa)?;
             push_content(line, content)
         }
+        Command::DataCreateUnknown { ipa, .. } => push_address(line, ipa),
         Command::RecCreate { params, .. } => push_start(line, &params),
         Command::Activate => Ok(()),
     }

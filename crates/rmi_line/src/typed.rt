@@ -41,6 +41,7 @@ pub fn typed(command: &Command)
                 bytes_fit(&measurement.bytes);
             }
         }
+        Command::DataCreateUnknown { granule, ipa } => words_fit(&[granule, ipa]),
         Command::RecCreate { rec, params } => {
             words_fit(&[rec, params.flags(), params.mpidr(), params.pc()]);
             words_fit(params.gprs());

@@ -39,7 +39,7 @@ const COUNTED: [u8; 64] = [
     0x30, 0x31, 0x32, 0x33, 0x34, 0x35, 0x36, 0x37, 0x38, 0x39, 0x3a, 0x3b, 0x3c, 0x3d, 0x3e, 0x3f,
 ];
 
-const LINES: [(Command, &str); 12] = [
+const LINES: [(Command, &str); 13] = [
     (
         Command::Delegate {
             granule: 0x8_0000_0000,
@@ -114,6 +114,13 @@ const LINES: [(Command, &str); 12] = [
             content: Some(Measurement { bytes: [255; 64] }),
         },
         "data_create 0000000000000000 0000000000000000 measured ffffffffffffffffffffffffffffffffffffffffffffffffffffffffffffffffffffffffffffffffffffffffffffffffffffffffffffffffffffffffffffffff",
+    ),
+    (
+        Command::DataCreateUnknown {
+            granule: 0x8_0000_6000,
+            ipa: 0x4000_1000,
+        },
+        "data_unknown 0000000800006000 0000000040001000",
     ),
     (Command::Activate, "activate"),
 ];
