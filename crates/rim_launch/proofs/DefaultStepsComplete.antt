@@ -6,7 +6,7 @@ use Rattle.std.proofs.lemmas.Bool.{eq-eqb, eqb-false, eqb-true, lt-ltb, ne_eqb}
 use Rattle.std.proofs.lemmas.List.Sums.{sum_by-append}
 use Rattle.rim_launch.specs.declared.item.Item.{Item}
 use Rattle.rim_launch.specs.declared.item.ItemKind.{ItemKind}
-use Rattle.rim_launch.specs.declared.item.ItemKind.TheVariants.{Kernel, Initrd, Dtb, Raw}
+use Rattle.rim_launch.specs.declared.item.ItemKind.TheVariants.{Kernel, Initrd, Dtb, Raw, Unknown}
 use Rattle.rim_launch.specs.declared.step.Step.{Step}
 use Rattle.rim_launch.specs.declared.step.Step.TheVariants as step
 use Rattle.rim_launch.specs.declared.conditions.StepTarget.{StepTarget}
@@ -106,14 +106,15 @@ items-later r a k i items other =
     from-next r a i items (λ (steps : List Step). times target.Item k steps ≡ times target.Item k (from r (a + 1) items)) (λ e. omega (arith, times-next target.Item k (step.Item a) (from r (a + 1) items) false other)) (λ e. refl)
 
 -- an item has exactly one role
-one-role : (k : ItemKind) → cond (is_role role.Kernel (role_of k)) 1 0 + cond (is_role role.Initrd (role_of k)) 1 0 + cond (is_role role.Dtb (role_of k)) 1 0 + cond (is_role role.Raw (role_of k)) 1 0 ≡ 1
+one-role : (k : ItemKind) → cond (is_role role.Kernel (role_of k)) 1 0 + cond (is_role role.Initrd (role_of k)) 1 0 + cond (is_role role.Dtb (role_of k)) 1 0 + cond (is_role role.Raw (role_of k)) 1 0 + cond (is_role role.Unknown (role_of k)) 1 0 ≡ 1
 one-role (Kernel file) = refl
 one-role (Initrd file) = refl
 one-role (Dtb file edits) = refl
 one-role (Raw file) = refl
+one-role Unknown = refl
 
 counted : ℕ → ℕ → List Item → ℕ
-counted k a items = times target.Item k (from role.Kernel a items) + times target.Item k (from role.Initrd a items) + times target.Item k (from role.Dtb a items) + times target.Item k (from role.Raw a items)
+counted k a items = times target.Item k (from role.Kernel a items) + times target.Item k (from role.Initrd a items) + times target.Item k (from role.Dtb a items) + times target.Item k (from role.Raw a items) + times target.Item k (from role.Unknown a items)
 
 items-once : (a k : ℕ) (items : List Item) → a ≤ k → k < a + length items → counted k a items ≡ 1
 unfolding counted
@@ -123,9 +124,9 @@ items-once a k (i ∷ items) low high = go (eqb a k) refl (λ above. items-once 
     go : (b : Bool) → eqb a k ≡ b → (a + 1 ≤ k → counted k (a + 1) items ≡ 1) → counted k a (i ∷ items) ≡ 1
     go true e rest =
         subst (λ (m : ℕ). counted m a (i ∷ items) ≡ 1) (eqb-true a k e)
-        (omega (arith, items-first role.Kernel a i items, items-first role.Initrd a i items, items-first role.Dtb a i items, items-first role.Raw a i items, one-role i.kind))
+        (omega (arith, items-first role.Kernel a i items, items-first role.Initrd a i items, items-first role.Dtb a i items, items-first role.Raw a i items, items-first role.Unknown a i items, one-role i.kind))
     go false e rest =
-        omega (arith, items-later role.Kernel a k i items e, items-later role.Initrd a k i items e, items-later role.Dtb a k i items e, items-later role.Raw a k i items e, rest (omega (arith, eqb-false a k e)))
+        omega (arith, items-later role.Kernel a k i items e, items-later role.Initrd a k i items e, items-later role.Dtb a k i items e, items-later role.Raw a k i items e, items-later role.Unknown a k i items e, rest (omega (arith, eqb-false a k e)))
 
 items-there : (r : Role) (num_regions count num_recs a : ℕ) (items : List Item) → a + length items ≤ count → list_all (names_something num_regions count num_recs) (from r a items) ≡ true
 unfolding from
@@ -153,14 +154,15 @@ module _ (num_regions : ℕ) (items : List Item) (num_recs : ℕ) where
       go false e all rest = absurd (let z : false ≡ true = all in let y : ⊥ = cc in y)
 
   split : (p : StepTarget) (k : ℕ) → times p k (default_steps num_regions items num_recs)
-      ≡ times p k ram + (times p k (from role.Kernel 0 items) + times p k (from role.Initrd 0 items) + times p k (from role.Dtb 0 items) + times p k (from role.Raw 0 items)) + times p k made
+      ≡ times p k ram + (times p k (from role.Kernel 0 items) + times p k (from role.Initrd 0 items) + times p k (from role.Dtb 0 items) + times p k (from role.Raw 0 items) + times p k (from role.Unknown 0 items)) + times p k made
   unfolding default_steps from ram made
   split p k =
       let a = from role.Kernel 0 items in
       let b = from role.Initrd 0 items in
       let c = from role.Dtb 0 items in
       let d = from role.Raw 0 items in
-      omega (arith, times-append p k (ram ++ a ++ b ++ c ++ d) made, times-append p k (ram ++ a ++ b ++ c) d, times-append p k (ram ++ a ++ b) c, times-append p k (ram ++ a) b, times-append p k ram a)
+      let e = from role.Unknown 0 items in
+      omega (arith, times-append p k (ram ++ a ++ b ++ c ++ d ++ e) made, times-append p k (ram ++ a ++ b ++ c ++ d) e, times-append p k (ram ++ a ++ b ++ c) d, times-append p k (ram ++ a ++ b) c, times-append p k (ram ++ a) b, times-append p k ram a)
 
   there : list_all (names_something num_regions (length items) num_recs) (default_steps num_regions items num_recs) ≡ true
   unfolding default_steps from ram made
@@ -170,13 +172,15 @@ module _ (num_regions : ℕ) (items : List Item) (num_recs : ℕ) where
       let b = from role.Initrd 0 items in
       let c = from role.Dtb 0 items in
       let d = from role.Raw 0 items in
+      let e = from role.Unknown 0 items in
       let of_ram : list_all t ram ≡ true = row-there (λ n. step.Ram n) num_regions (length items) num_recs num_regions (λ n lt. lt-ltb n num_regions lt) 0 num_regions (omega arith) in
       let of_recs : list_all t made ≡ true = row-there (λ n. step.Rec n) num_regions (length items) num_recs num_recs (λ n lt. lt-ltb n num_recs lt) 0 num_recs (omega arith) in
       let of_a = items-there role.Kernel num_regions (length items) num_recs 0 items (omega arith) in
       let of_b = items-there role.Initrd num_regions (length items) num_recs 0 items (omega arith) in
       let of_c = items-there role.Dtb num_regions (length items) num_recs 0 items (omega arith) in
       let of_d = items-there role.Raw num_regions (length items) num_recs 0 items (omega arith) in
-      all-append t (ram ++ a ++ b ++ c ++ d) made (all-append t (ram ++ a ++ b ++ c) d (all-append t (ram ++ a ++ b) c (all-append t (ram ++ a) b (all-append t ram a of_ram of_a) of_b) of_c) of_d) of_recs
+      let of_e = items-there role.Unknown num_regions (length items) num_recs 0 items (omega arith) in
+      all-append t (ram ++ a ++ b ++ c ++ d ++ e) made (all-append t (ram ++ a ++ b ++ c ++ d) e (all-append t (ram ++ a ++ b ++ c) d (all-append t (ram ++ a ++ b) c (all-append t (ram ++ a) b (all-append t ram a of_ram of_a) of_b) of_c) of_d) of_e) of_recs
 
   -- each part by itself
   ram-once : (k : ℕ) → k < num_regions → times target.Ram k (default_steps num_regions items num_recs) ≡ 1
@@ -185,7 +189,7 @@ module _ (num_regions : ℕ) (items : List Item) (num_recs : ℕ) where
       let own = row-once (λ n. step.Ram n) target.Ram (λ n k. refl) 0 num_regions k (omega arith) (omega arith) in
       let other = items-other target.Ram (λ n k. refl) in
       let recs_none = row-other (λ n. step.Rec n) target.Ram (λ n k. refl) 0 num_recs k in
-      omega (arith, split target.Ram k, own, other role.Kernel 0 k items, other role.Initrd 0 k items, other role.Dtb 0 k items, other role.Raw 0 k items, recs_none)
+      omega (arith, split target.Ram k, own, other role.Kernel 0 k items, other role.Initrd 0 k items, other role.Dtb 0 k items, other role.Raw 0 k items, other role.Unknown 0 k items, recs_none)
 
   item-once : (k : ℕ) → k < length items → times target.Item k (default_steps num_regions items num_recs) ≡ 1
   unfolding ram made counted
@@ -201,7 +205,7 @@ module _ (num_regions : ℕ) (items : List Item) (num_recs : ℕ) where
       let own = row-once (λ n. step.Rec n) target.Rec (λ n k. refl) 0 num_recs k (omega arith) (omega arith) in
       let other = items-other target.Rec (λ n k. refl) in
       let ram_none = row-other (λ n. step.Ram n) target.Rec (λ n k. refl) 0 num_regions k in
-      omega (arith, split target.Rec k, own, other role.Kernel 0 k items, other role.Initrd 0 k items, other role.Dtb 0 k items, other role.Raw 0 k items, ram_none)
+      omega (arith, split target.Rec k, own, other role.Kernel 0 k items, other role.Initrd 0 k items, other role.Dtb 0 k items, other role.Raw 0 k items, other role.Unknown 0 k items, ram_none)
 
   each-once : (p : StepTarget) (n : ℕ) → ((k : ℕ) → k < n → times p k (default_steps num_regions items num_recs) ≡ 1) → each_once p (default_steps num_regions items num_recs) n ≡ true
   unfolding each_once

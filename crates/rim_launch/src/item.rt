@@ -1,5 +1,6 @@
 //! Regions of RAM, and the items that are placed in them.
-ghost use Rattle.std.specs.Prelude.{◌≡◌, ◌<◌, ◌^◌, unwrap_or};
+ghost use Rattle.std.specs.Prelude.{◌≡◌, ◌<◌, ◌^◌, true, unwrap_or};
+ghost use Rattle.rim_launch.specs.Whole.{is_whole};
 ghost use Rattle.rim_launch.specs.Texts.{has_no_zero};
 
 use std::marker::Model;
@@ -99,9 +100,10 @@ pub enum Role {
     Initrd,
     Dtb,
     Raw,
+    Unknown,
 }
 
-/// What an item is, and the number of the file that its bytes come from.
+/// What an item is, and the number of the file that its bytes come from, if it has any.
 #[derive(Drop)]
 pub enum ItemKind {
     /// An arm64 Image. It begins at its base plus the offset in its header.
@@ -112,11 +114,14 @@ pub enum ItemKind {
     Dtb { file: usize, edits: Edits },
     /// Any other content.
     Raw { file: usize },
+    /// Memory of which the monitor does not know the content (DEN0137, RMI_DATA_CREATE_UNKNOWN). It has no file.
+    Unknown,
 }
 
 impl ItemKind {
     ghost use Rattle.std.specs.Prelude.{◌≡◌};
     ghost use Rattle.rim_launch.specs.Kinds.{file_of, has_edits, needs_initrd, needs_memory, role_of};
+    ghost use Rattle.rim_launch.specs.Whole.{is_whole};
 
     /// What the item is for.
     pub fn role(&self) -> Role
@@ -127,18 +132,30 @@ impl ItemKind {
             ItemKind::Initrd { .. } => Role::Initrd,
             ItemKind::Dtb { .. } => Role::Dtb,
             ItemKind::Raw { .. } => Role::Raw,
+            ItemKind::Unknown => Role::Unknown,
         }
     }
 
-    /// The number of the file that its bytes come from.
-    pub fn file(&self) -> usize
+    /// The number of the file that its bytes come from; none where the monitor does not know its content.
+    pub fn file(&self) -> Option<usize>
         ensures { result ≡ file_of self.now }
     {
         match self {
-            ItemKind::Kernel { file } => *file,
-            ItemKind::Initrd { file } => *file,
-            ItemKind::Dtb { file, .. } => *file,
-            ItemKind::Raw { file } => *file,
+            ItemKind::Kernel { file } => Some(*file),
+            ItemKind::Initrd { file } => Some(*file),
+            ItemKind::Dtb { file, .. } => Some(*file),
+            ItemKind::Raw { file } => Some(*file),
+            ItemKind::Unknown => None,
+        }
+    }
+
+    /// Whether an item of this kind may have this size, or none, and may be measured or not, as stated.
+    fn is_whole_with(&self, size: Option<u64>, measured: bool) -> bool
+        ensures { result ≡ is_whole self.now size measured }
+    {
+        match self {
+            ItemKind::Unknown => size.is_some() && !measured,
+            _ => true,
         }
     }
 
@@ -173,7 +190,8 @@ impl ItemKind {
     }
 }
 
-/// An item, as a launch asks for it. Its address and its size are numbers that a manifest can spell.
+/// An item, as a launch asks for it. Its address and its size are numbers that a manifest can spell. One of which the
+/// monitor does not know the content has its size stated, and is not measured.
 #[derive(Drop)]
 pub struct Item {
     pub kind: ItemKind,
@@ -185,19 +203,23 @@ pub struct Item {
     pub measured: bool,
     pub ghost low: { at < 2 ^ 63 },
     pub ghost size_low: { unwrap_or size 0 < 2 ^ 63 },
+    pub ghost whole: { is_whole kind size measured ≡ true },
 }
 
 impl Item {
-    ghost use Rattle.std.specs.Prelude.{◌≡◌, ◌<◌, ◌^◌, ◌↔◌, IsSome, IfSome, unwrap_or};
+    ghost use Rattle.std.specs.Prelude.{◌≡◌, ◌<◌, ◌^◌, ◌↔◌, IsSome, IfSome, true, unwrap_or};
     ghost use Rattle.rim_launch.specs.Kinds.{has_role};
+    ghost use Rattle.rim_launch.specs.Whole.{is_whole};
 
-    /// The item with these parts, or `None` where its address or its size is 2^63 or more.
+    /// The item with these parts, or `None` where its address or its size is 2^63 or more, or where its content is not
+    /// known and it has no size or is to be measured.
     pub fn new(kind: ItemKind, at: u64, size: Option<u64>, measured: bool) -> Option<Item>
-        ensures valid { IsSome result ↔ ((at < 2 ^ 63) × (unwrap_or size 0 < 2 ^ 63)) }
+        ensures valid { IsSome result
+            ↔ ((at < 2 ^ 63) × (unwrap_or size 0 < 2 ^ 63) × (is_whole kind size measured ≡ true)) }
         ensures value { IfSome result
             (λ i. (i.kind ≡ kind) × (i.at ≡ at) × (i.size ≡ size) × (i.measured ≡ measured)) }
     {
-        if at < NUMBER_END && size.unwrap_or(0) < NUMBER_END {
+        if at < NUMBER_END && size.unwrap_or(0) < NUMBER_END && kind.is_whole_with(size, measured) {
             Some(Item {
                 kind,
                 at,

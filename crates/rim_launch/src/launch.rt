@@ -1,5 +1,6 @@
 //! Launches.
 ghost use Rattle.std.specs.Prelude.{◌≡◌, ◌&&◌, nat_le, length};
+ghost use Rattle.rim_launch.specs.Kinds.{is_below};
 ghost use Rattle.rim_launch.specs.declared.launch.TheConstants.{ITEM_LIMIT, NAMED_REC_LIMIT, REGION_LIMIT};
 
 use crate::conditions::{edits_possible, once_each, steps_complete};
@@ -140,11 +141,13 @@ impl Launch {
         self.recs.as_slice()
     }
 
-    /// Whether each item's file is one of the first `count` files.
+    /// Whether each file that an item has is one of the first `count` files.
     pub fn has_files(&self, count: usize) -> bool
         ensures { result ≡ has_files self.now count }
     {
-        self.items.iter().all(|item| item.kind.file() < count)
+        self.items
+            .iter()
+            .all(|item| is_below(count, item.kind.file()))
     }
 
     /// Its steps, in order.
@@ -153,6 +156,16 @@ impl Launch {
         ensures kept { is_launch self.now ≡ true }
     {
         self.steps.as_slice()
+    }
+}
+
+/// Whether a file is one of the first `count` files; where there is none, nothing is asked.
+fn is_below(count: usize, file: Option<usize>) -> bool
+    ensures { result ≡ is_below count file }
+{
+    match file {
+        Some(file) => file < count,
+        None => true,
     }
 }
 

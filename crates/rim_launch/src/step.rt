@@ -46,7 +46,7 @@ fn push_items(steps: &mut Vec<Step>, items: &[Item], role: Role) -> Result<(), A
 }
 
 /// The steps of a launch that names none, with this many regions, these items and this many RECs: the
-/// regions, the kernel, the initrd, the devicetree, the other items, and the RECs, each in their order.
+/// regions, the kernel, the initrd, the devicetree, the raw items, those of unknown content, and the RECs, each in their order.
 /// The order is this project's choice. Each region, item and REC has exactly one step.
 #[tactic(auto, unfolding(crate::specs::Steps::default_steps))]
 pub fn default_steps(
@@ -65,6 +65,7 @@ pub fn default_steps(
     push_items(&mut steps, items, Role::Initrd)?;
     push_items(&mut steps, items, Role::Dtb)?;
     push_items(&mut steps, items, Role::Raw)?;
+    push_items(&mut steps, items, Role::Unknown)?;
     push_recs(&mut steps, num_recs)?;
     Ok(steps)
 }

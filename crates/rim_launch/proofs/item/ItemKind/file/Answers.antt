@@ -12,3 +12,6 @@ returns-in-Dtb c = search rules
 
 pub returns-in-Raw : goal.returns-in-Raw
 returns-in-Raw c = search rules
+
+pub returns-in-Unknown : goal.returns-in-Unknown
+returns-in-Unknown c = search rules
