@@ -1,6 +1,6 @@
 -- The laws of placed launches: their parts, each item, few pages, and no page of two items.
-use Rattle.std.proofs.Common.{◌≡◌, ℕ, ◌*◌, ◌%◌, ◌^◌, ◌<◌, ◌≤◌, Bool, true, false, cond, List, length, Option, Some, None, Result, Ok, Err, refl, sym, ap, ◌∙◌, arith}
-use Rattle.std.specs.Prelude.{IsSome}
+use Rattle.std.proofs.Common.{◌≡◌, ℕ, ◌*◌, ◌%◌, ◌^◌, ◌<◌, ◌≤◌, Bool, true, false, cond, List, length, Option, Some, None, Result, Ok, Err, refl, sym, ap, ◌∙◌, arith, subst}
+use Rattle.std.specs.Prelude.{IsSome, option_map}
 use Rattle.std.specs.List.{find, enumerate_from, slice_get}
 use Rattle.std.specs.Result.{result_unwrap_or}
 use Rattle.std.proofs.lemmas.List.{length-map}
@@ -14,10 +14,13 @@ use Rattle.ipa_layout.specs.declared.reason.ItemExtent.{ItemExtent}
 use Rattle.ipa_layout.specs.declared.reason.ItemReason.{ItemReason}
 use Rattle.rim_launch.specs.LaunchData.{LaunchData}
 use Rattle.rim_desc.specs.declared.source.Source.TheVariants.{File, Edited}
+use Rattle.rim_launch.specs.declared.item.ItemKind.{ItemKind}
+use Rattle.rim_launch.specs.declared.item.ItemKind.TheVariants.{Kernel, Initrd, Dtb, Raw, Unknown}
 use Rattle.rim_launch.specs.Kinds.{file_of, has_edits}
+use Rattle.rim_launch.specs.Whole.{is_whole}
 use Rattle.ipa_layout.specs.Overlap.{apart_unless, checked_all, first_overlap}
 use Rattle.ipa_layout.specs.Reason.{fault_of}
-use Rattle.ipa_layout.specs.Layout.{IsPlaced, PlacedData, bytes_of, checked_together, edited_bytes, edited_dtb, edited_item, extents_of, file_bytes, item_at, items_at, laid_out, placed_at}
+use Rattle.ipa_layout.specs.Layout.{IsPlaced, PlacedData, bytes_of, checked_together, edited_bytes, edited_dtb, edited_item, extents_of, file_bytes, item_at, items_at, laid_out, placed_at, source_of}
 use Rattle.ipa_layout.specs.Laws.{HasPage, IsItem, IsSourceOf, page_end, page_total}
 use Rattle.ipa_layout.proofs.FoundInLists.{found-none}
 use Rattle.ipa_layout.proofs.PlacedExtents.{IsSound, bind-ok, item-there, items-length, items-total, no-page-shared, none-there, ok-mapped, pages-low, rows-at, rows-length, rows-total, two-apart}
@@ -127,6 +130,29 @@ module _ (l : LaunchData) (files : List (List ℕ)) (p : PlacedData) (h : IsPlac
       rw o.is (go o.bytes (has_edits item.kind) refl o.has)
     where
       go : (bytes : List ℕ) (b : Bool) → has_edits item.kind ≡ b → (let r : Result (List ℕ) ItemReason = cond b (edited_bytes (edited_dtb l files)) (Ok (file_bytes files item.kind)) in r) ≡ Ok bytes
-          → IsSourceOf l p item (cond b (Edited l.number) (File (file_of item.kind)))
+          → IsSourceOf l p item (cond b (Some (Edited l.number)) (option_map File (file_of item.kind)))
       go bytes true e q = (e, refl, rw (ap (λ (x : PlacedData). x.edited) (parts l files p h).is) (with_edits-some item k bytes it.in_launch e q))
-      go bytes false e q = (e, refl)
+      go bytes false e q = from-file (file_of item.kind) refl
+        where
+          from-file : (file : Option ℕ) → file_of item.kind ≡ file → IsSourceOf l p item (option_map File file)
+          from-file None there = there
+          from-file (Some n) there = (e, there)
+
+  -- an item that is measured has a file, so it has a source
+  pub known-is : (k : ℕ) (item : Item) (i : PlacedItem) → IsItem l p k item i → i.measured ≡ true → IsSome i.source
+  unfolding item_at
+  known-is k item i it on =
+      let o = own k item i it in
+      rw o.is (of-kind item.kind item.size (subst (λ (m : Bool). is_whole item.kind item.size m ≡ true) (sym (measured-is k item i it) ∙ on) item.whole))
+    where
+      from : (b : Bool) (file : ℕ) → IsSome (cond b (Some (Edited l.number)) (Some (File file)))
+      from true file = refl
+      from false file = refl
+
+      of-kind : (kind : ItemKind) (size : Option ℕ) → is_whole kind size true ≡ true → IsSome (source_of l.number kind)
+      of-kind (Kernel file) size whole = refl
+      of-kind (Initrd file) size whole = refl
+      of-kind (Dtb file edits) size whole = from (has_edits (Dtb file edits)) file
+      of-kind (Raw file) size whole = refl
+      of-kind Unknown None whole = absurd (cc)
+      of-kind Unknown (Some n) whole = absurd (cc)

@@ -1,5 +1,5 @@
 //! Laws of placed launches: functions that do nothing, whose contracts are the laws.
-ghost use Rattle.std.specs.Prelude.{◌≡◌, ℕ, ◌*◌, ◌%◌, ◌^◌, ◌<◌, ◌≤◌, List, length};
+ghost use Rattle.std.specs.Prelude.{◌≡◌, ℕ, ◌*◌, ◌%◌, ◌^◌, ◌<◌, ◌≤◌, List, length, true, IsSome};
 ghost use Rattle.rim_launch.specs.declared.item.Item.{Item};
 ghost use Rattle.ipa_layout.specs.declared.placed.PlacedItem.{PlacedItem};
 ghost use Rattle.rim_launch.specs.LaunchData.{LaunchData};
@@ -19,8 +19,8 @@ pub fn parts_of_a_placed_launch()
 {}
 
 /// An item's lead is how many bytes after the start of a page it begins; its bytes are those of its own
-/// file or of the devicetree that this launch edited; it is measured where the launch says so; and
-/// its pages end at 2^64 at the latest.
+/// file or of the devicetree that this launch edited, and where the monitor does not know its content it has none; it is
+/// measured where the launch says so, and then it has bytes; and its pages end at 2^64 at the latest.
 pub fn each_placed_item()
     ensures lead { (l : LaunchData) (files : List (List ℕ)) (p : PlacedData) → IsPlaced l files p
         → (number : ℕ) (item : Item) (i : PlacedItem) → IsItem l p number item i
@@ -33,6 +33,10 @@ pub fn each_placed_item()
         → (number : ℕ) (item : Item) (i : PlacedItem)
         → IsItem l p number item i
         → i.measured ≡ item.measured }
+    ensures known { (l : LaunchData) (files : List (List ℕ)) (p : PlacedData) → IsPlaced l files p
+        → (number : ℕ) (item : Item) (i : PlacedItem) → IsItem l p number item i
+        → i.measured ≡ true
+        → IsSome i.source }
     ensures end { (l : LaunchData) (files : List (List ℕ)) (p : PlacedData) → IsPlaced l files p
         → (number : ℕ) (item : Item) (i : PlacedItem) → IsItem l p number item i
         → PAGE_SIZE * page_end i ≤ 2 ^ 64 }

@@ -4,7 +4,7 @@ ghost use Rattle.std.specs.List.{find, position_from};
 ghost use Rattle.std.specs.Option.{option_and_then};
 ghost use Rattle.refusal.specs.Answer.{Answers, Matches};
 ghost use Rattle.rim_launch.specs.LaunchData.{has_files};
-ghost use Rattle.rim_launch.specs.Kinds.{file_of, has_edits, has_role};
+ghost use Rattle.rim_launch.specs.Kinds.{file_of, has_edits, has_role, is_below};
 ghost use Rattle.ipa_layout.specs.inside.DtbEditViews.{edit_data};
 ghost use Rattle.ipa_layout.specs.Layout.{address_of, bytes_of, checked_together, edited_dtb, edits_of, extent_after, extents_of, file_bytes, initrd_span, item_at, item_extent, items_at, laid_out, placed_at, places, recs_at, source_of};
 ghost use Rattle.ipa_layout.specs.inside.LayoutViews.{seen};
@@ -84,12 +84,15 @@ fn gather(
     Ok(Placed::new(number, items, recs, edited))
 }
 
-/// The bytes of an item's file.
+/// The bytes of an item's file; none where it has no file.
 fn file_bytes<'a>(files: &'a [Vec<u8>], kind: &ItemKind) -> &'a [u8]
-    requires { file_of kind.now < length files.now }
+    requires { is_below (length files.now) (file_of kind.now) ≡ true }
     ensures { result.now ≡ file_bytes (bytes_of_files files.now) kind.now }
 {
-    &files[kind.file()]
+    match kind.file() {
+        Some(file) => &files[file],
+        None => &[],
+    }
 }
 
 /// The item that is an initrd.
@@ -104,7 +107,7 @@ fn initrd_of(launch: &Launch) -> Option<&Item>
 
 /// The addresses of an initrd's bytes.
 fn initrd_span(files: &[Vec<u8>], item: &Item) -> Span
-    requires { file_of item.now.kind < length files.now }
+    requires { is_below (length files.now) (file_of item.now.kind) ≡ true }
     ensures { result ≡ initrd_span (bytes_of_files files.now) item.now }
 {
     let len = file_bytes(files, &item.kind).len() as u64;
@@ -176,7 +179,7 @@ fn prepare_dtb(alloc: Global, launch: &Launch, files: &[Vec<u8>]) -> Result<Dtb,
 
 /// The bytes that are placed: those of an item's file, or the edited devicetree.
 fn bytes_of<'a>(dtb: &'a Dtb, files: &'a [Vec<u8>], item: &Item) -> Result<&'a [u8], ItemReason>
-    requires { file_of item.now.kind < length files.now }
+    requires { is_below (length files.now) (file_of item.now.kind) ≡ true }
     ensures { Matches (λ b. b.now) result
         (bytes_of (seen dtb.now) (bytes_of_files files.now) item.now) }
 {
@@ -198,7 +201,7 @@ fn extent_after(
     pages_before: u64,
     item: &Item,
 ) -> Result<Extent, ItemReason>
-    requires { file_of item.now.kind < length files.now }
+    requires { is_below (length files.now) (file_of item.now.kind) ≡ true }
     ensures exact { result
         ≡ extent_after ram.now (seen dtb.now) (bytes_of_files files.now) pages_before item.now }
     ensures within { IfOk result (λ s. pages_before + page_count_of s.address s.size ≤ PAGE_LIMIT) }
@@ -264,14 +267,14 @@ fn check_together(items: &[Item], extents: &[Extent]) -> Result<(), LayoutReason
     )
 }
 
-/// Where an item's bytes come from.
-fn source_of(launch: usize, kind: &ItemKind) -> Source
+/// Where an item's bytes come from, if it has some.
+fn source_of(launch: usize, kind: &ItemKind) -> Option<Source>
     ensures { result ≡ source_of launch kind.now }
 {
     if kind.has_edits() {
-        Source::Edited(launch)
+        Some(Source::Edited(launch))
     } else {
-        Source::File(kind.file())
+        kind.file().map(|file| Source::File(file))
     }
 }
 

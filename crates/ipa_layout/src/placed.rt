@@ -6,8 +6,8 @@ use std::marker::Model;
 /// An item that has its place.
 #[derive(Clone, Copy, Debug, PartialEq, Eq)]
 pub struct PlacedItem {
-    /// Where its bytes come from.
-    pub source: Source,
+    /// Where its bytes come from; none where the monitor does not know its content.
+    pub source: Option<Source>,
     /// The address of its first byte.
     pub address: u64,
     /// How many bytes after the start of a page that is, below 4096.

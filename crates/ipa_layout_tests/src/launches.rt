@@ -1,17 +1,16 @@
 //! Which parts make a launch.
 use crate::placements::{REC, check};
-use ipa_layout::{Bootargs, Config, Edits, Item, ItemKind, Launch, Region, Step, default_steps};
+use ipa_layout::{
+    Bootargs, Config, Edits, Item, ItemKind, Launch, Region, Role, Step, default_steps,
+};
 use rim_desc::Algo;
 use std::alloc::Global;
 use std::process::Abort;
 
-fn item(kind: ItemKind) -> Item {
-    Item {
-        kind,
-        at: 0x4000_0000,
-        size: None,
-        measured: true,
-    }
+fn item(rt: &impl Abort, kind: ItemKind) -> Item {
+    let measured = kind.role() != Role::Unknown;
+    let size = if measured { None } else { Some(4096) };
+    Item::new(kind, 0x4000_0000, size, measured).expect(rt, "an item")
 }
 
 /// A kernel, or raw content.
@@ -30,7 +29,7 @@ fn push(rt: &impl Abort, items: &mut Vec<Item>, item: Item) {
 fn items(rt: &impl Abort, alloc: Global, kinds: &[bool]) -> Vec<Item> {
     let mut items = Vec::new(alloc);
     for is_kernel in kinds {
-        push(rt, &mut items, item(kind(*is_kernel)));
+        push(rt, &mut items, item(rt, kind(*is_kernel)));
     }
     items
 }
@@ -103,42 +102,44 @@ fn parts_make_a_launch(rt: HostRuntime) {
     }
 }
 
-const KINDS_IN_ORDER: [Step; 9] = [
+const KINDS_IN_ORDER: [Step; 10] = [
     Step::Ram(0),
     Step::Ram(1),
+    Step::Item(4),
     Step::Item(3),
     Step::Item(2),
     Step::Item(1),
+    Step::Item(5),
     Step::Item(0),
-    Step::Item(4),
     Step::Rec(0),
     Step::Rec(1),
 ];
 
 /// A devicetree, and whether it is to have the place of the initrd.
-fn dtb(initrd: bool) -> Item {
+fn dtb(rt: &impl Abort, initrd: bool) -> Item {
     let edits = Edits {
         bootargs: None,
         initrd,
         memory: false,
     };
-    item(ItemKind::Dtb { file: 0, edits })
+    item(rt, ItemKind::Dtb { file: 0, edits })
 }
 
-/// Raw content, a devicetree, an initrd, a kernel, and raw content.
-fn five_items(rt: &impl Abort, alloc: Global) -> Vec<Item> {
+/// Unknown content, raw content, a devicetree, an initrd, a kernel, and raw content.
+fn six_items(rt: &impl Abort, alloc: Global) -> Vec<Item> {
     let mut items = Vec::new(alloc);
-    push(rt, &mut items, item(ItemKind::Raw { file: 0 }));
-    push(rt, &mut items, dtb(false));
-    push(rt, &mut items, item(ItemKind::Initrd { file: 0 }));
-    push(rt, &mut items, item(ItemKind::Kernel { file: 0 }));
-    push(rt, &mut items, item(ItemKind::Raw { file: 0 }));
+    push(rt, &mut items, item(rt, ItemKind::Unknown));
+    push(rt, &mut items, item(rt, ItemKind::Raw { file: 0 }));
+    push(rt, &mut items, dtb(rt, false));
+    push(rt, &mut items, item(rt, ItemKind::Initrd { file: 0 }));
+    push(rt, &mut items, item(rt, ItemKind::Kernel { file: 0 }));
+    push(rt, &mut items, item(rt, ItemKind::Raw { file: 0 }));
     items
 }
 
 #[test]
 fn default_steps_by_kind(rt: HostRuntime) {
-    let items = five_items(&rt, rt.alloc());
+    let items = six_items(&rt, rt.alloc());
     let steps = default_steps(rt.alloc(), 2, &items, 2).expect(&rt, "memory");
     check(
         &rt,
@@ -189,10 +190,19 @@ fn items_have_numbers(rt: HostRuntime) {
     }
 }
 
+/// Unknown content has a size, and is not measured.
+#[test]
+fn unknown_content_has_a_size(rt: HostRuntime) {
+    let item = |size, measured| Item::new(ItemKind::Unknown, 0, size, measured).is_some();
+    check(&rt, item(Some(0), false), "with a size");
+    check(&rt, !item(None, false), "without a size");
+    check(&rt, !item(Some(0), true), "measured");
+}
+
 /// A launch of a devicetree alone.
 fn check_edits(rt: &impl Abort, alloc: Global, initrd: bool) {
     let mut items = Vec::new(alloc);
-    push(rt, &mut items, dtb(initrd));
+    push(rt, &mut items, dtb(rt, initrd));
     let steps = steps_of(rt, alloc, &[Step::Item(0)]);
     let made = Launch::new(0, NARROW, Vec::new(alloc), items, Vec::new(alloc), steps);
     check(rt, made.is_some() == !initrd, "only without an initrd");

@@ -2,7 +2,7 @@
 use fdt_tree::Tree;
 use ipa_layout::{
     Bootargs, Config, Edits, Item, ItemKind, Launch, LayoutFault, Placed, PlacedItem, PlacedRec,
-    Rec, Region, Source, Step, place,
+    Rec, Region, Role, Source, Step, place,
 };
 use rim_desc::Algo;
 use std::alloc::Global;
@@ -91,6 +91,7 @@ pub enum What {
     Both,
     /// Raw content of this file.
     Raw(usize),
+    Unknown,
 }
 
 /// An item, its load address, and its size where it is stated.
@@ -122,12 +123,14 @@ fn kind(what: What) -> ItemKind {
         What::Edited => dtb(false, true),
         What::Both => dtb(true, true),
         What::Raw(file) => ItemKind::Raw { file },
+        What::Unknown => ItemKind::Unknown,
     }
 }
 
-/// An item that is measured, with numbers that a manifest can spell.
+/// An item that is measured where its content is known, with numbers that a manifest can spell.
 fn item(rt: &impl Abort, kind: ItemKind, at: u64, size: Option<u64>) -> Item {
-    Item::new(kind, at, size, true).expect(rt, "numbers of an item")
+    let measured = kind.role() != Role::Unknown;
+    Item::new(kind, at, size, measured).expect(rt, "numbers of an item")
 }
 
 fn items(rt: &impl Abort, alloc: Global, asked: &[Asked]) -> Vec<Item> {
@@ -268,12 +271,12 @@ pub fn check_case(
 /// first one has.
 type Row = (Contents, &'static [Asked], &'static [PlacedItem], usize);
 
-const ROWS: [Row; 3] = [
+const ROWS: [Row; 4] = [
     (
         &[&[1; 4097]],
         &[(What::Raw(0), 0x4000_0000, None)],
         &[PlacedItem {
-            source: Source::File(0),
+            source: Some(Source::File(0)),
             address: 0x4000_0000,
             lead: 0,
             pages: 2,
@@ -285,13 +288,26 @@ const ROWS: [Row; 3] = [
         &[&[1; 4097]],
         &[(What::Raw(0), 0x4000_0004, None)],
         &[PlacedItem {
-            source: Source::File(0),
+            source: Some(Source::File(0)),
             address: 0x4000_0004,
             lead: 4,
             pages: 2,
             measured: true,
         }],
         4097,
+    ),
+    // Where its content is not known an item has no bytes, and is not measured.
+    (
+        &[],
+        &[(What::Unknown, 0x4000_0004, Some(4097))],
+        &[PlacedItem {
+            source: None,
+            address: 0x4000_0004,
+            lead: 4,
+            pages: 2,
+            measured: false,
+        }],
+        0,
     ),
     // Empty items need nothing.
     (
@@ -302,14 +318,14 @@ const ROWS: [Row; 3] = [
         ],
         &[
             PlacedItem {
-                source: Source::File(1),
+                source: Some(Source::File(1)),
                 address: 0,
                 lead: 0,
                 pages: 0,
                 measured: true,
             },
             PlacedItem {
-                source: Source::File(0),
+                source: Some(Source::File(0)),
                 address: 0x7fff_ffff_ffff_ffff,
                 lead: 0xfff,
                 pages: 0,
@@ -336,10 +352,8 @@ fn placed(
 
 /// How many bytes the first item has.
 fn first_len(placed: &Placed, files: &[Vec<u8>]) -> usize {
-    match placed.items().first() {
-        Some(item) => placed.bytes(files, item.source).len(),
-        None => 0,
-    }
+    let source = placed.items().first().and_then(|item| item.source);
+    source.map_or(0, |source| placed.bytes(files, source).len())
 }
 
 fn check_row(rt: &impl Abort, alloc: Global, row: &Row) {
@@ -399,7 +413,7 @@ fn boot_values(rt: HostRuntime) {
 }
 
 const EDITED: [PlacedItem; 1] = [PlacedItem {
-    source: Source::Edited(3),
+    source: Some(Source::Edited(3)),
     address: 0x4000_0008,
     lead: 8,
     pages: 1,
