@@ -1,8 +1,10 @@
 -- How many granules some entries take.
-use Rattle.std.proofs.Common.{inl, inr, ◌≡◌, ℕ, zero, suc, ◌+◌, refl, arith, Bool, true, false, List, [], ◌∷◌, ◌++◌, length}
+use Rattle.std.proofs.Common.{inl, inr, ◌≡◌, ℕ, zero, suc, ◌+◌, refl, arith, List, [], ◌∷◌, ◌++◌, length}
 use Rattle.std.proofs.lemmas.Bool.{cases_Bool}
 use Rattle.rmm_model.specs.Blocks.{granules}
 use Rattle.rmm_model.specs.declared.table.Table.{Table}
+use Rattle.list_model.specs.declared.content.PageContent.{PageContent}
+use Rattle.list_model.specs.declared.content.PageContent.TheVariants.{Measured, Unmeasured, Unknown}
 use Rattle.list_model.specs.Entries.{Entry, delegate_all, delegated, delegates, page_entry, table_entries}
 
 pub count-append : (es fs : List Entry) → delegated (es ++ fs) ≡ delegated es + delegated fs
@@ -24,6 +26,7 @@ unfolding granules
 count-all zero x = refl
 count-all (suc n) x = let h : delegated (delegate_all (granules n (x + 4096))) ≡ n = count-all n (x + 4096) in omega arith
 
-pub count-page : (measured : Bool) (g x item k : ℕ) (rest : List Entry) → delegated (page_entry measured g x item k ∷ rest) ≡ delegated rest
-count-page true g x item k rest = refl
-count-page false g x item k rest = refl
+pub count-page : (content : PageContent) (g x item k : ℕ) (rest : List Entry) → delegated (page_entry content g x item k ∷ rest) ≡ delegated rest
+count-page Measured g x item k rest = refl
+count-page Unmeasured g x item k rest = refl
+count-page Unknown g x item k rest = refl

@@ -18,10 +18,12 @@ use Rattle.rtt_plan.specs.Runs.{runs_of}
 use Rattle.rtt_plan.specs.declared.run.Run.{Run}
 use Rattle.rtt_plan.proofs.RunsCoverRegion.{ram-runs, region-blocks, region-runs}
 use Rattle.rtt_plan.proofs.RunsAndPagesInTurn.{pages-in-turn, region-in-turn}
+use Rattle.list_model.specs.declared.content.PageContent.{PageContent}
+use Rattle.list_model.specs.declared.content.PageContent.TheVariants.{Measured, Unmeasured, Unknown}
 use Rattle.list_model.specs.Entries.{Contents, commands_of, delegated, item_entries, region_entries}
 use Rattle.list_model.specs.Leading.{Build, Built, IsBuilt, Leads, planned}
 use Rattle.list_model.specs.Parts.{AreContents, block_parts, page_part, page_parts}
-use Rattle.list_model.proofs.PagesCreatedInTurn.{pages-lead, parts_from, piled_pages, with_pages}
+use Rattle.list_model.proofs.PagesCreatedInTurn.{pages-lead, parts_from, parts_of_page, piled_pages, with_pages}
 use Rattle.list_model.proofs.RunsSetInTurn.{piled, runs-lead, with_runs}
 
 -- what is built is the same where the spaces are
@@ -78,7 +80,7 @@ some-append (r ∷ ram) base end lt some =
     let i : are_some ram ≡ true → are_some (ram ++ (base, end) ∷ []) ≡ true = some-append ram base end lt in
     grind (arith, nat_tests)
 
--- the blocks of a region are measured one by one
+-- the blocks of a region are content one by one
 block-parts : (base end least_level : ℕ) (xs : List ℕ)
     → ripas_parts (map (block_of base end least_level) xs) ≡ map (λ x. Ripas x (x + size (block_level base end least_level x))) xs
 block-parts base end least_level [] = refl
@@ -137,27 +139,43 @@ or-swapped true false = refl
 or-swapped false true = refl
 or-swapped false false = refl
 
-parts-numbered : (measured : Bool) (contents : Contents) (item base count k : ℕ)
-    → parts_from measured contents item k (granules count (base + 4096 * k)) ≡ map (λ page. page_part measured contents item (base + 4096 * page) page) (range_with_len k count)
-unfolding parts_from granules
-parts-numbered measured contents item base zero k = refl
-parts-numbered measured contents item base (suc count) k =
-    let e : base + 4096 * k + 4096 ≡ base + 4096 * (k + 1) = omega arith in
-    rw e (ap (λ ps. page_part measured contents item (base + 4096 * k) k ∷ ps) (parts-numbered measured contents item base count (k + 1)))
+-- the parts of the pages from the kth on, page by page and as a whole
+module _ (content : PageContent) (contents : Contents) (item base : ℕ) (one : (x k : ℕ) → parts_of_page content contents item x k ≡ page_part content contents item x k ∷ []) where
+  parts-numbered : (count k : ℕ)
+      → parts_from content contents item k (granules count (base + 4096 * k)) ≡ map (λ page. page_part content contents item (base + 4096 * page) page) (range_with_len k count)
+  unfolding parts_from granules
+  parts-numbered zero k = refl
+  parts-numbered (suc count) k =
+      let e : base + 4096 * k + 4096 ≡ base + 4096 * (k + 1) = omega arith in
+      rw (one (base + 4096 * k) k, e) (ap (λ ps. page_part content contents item (base + 4096 * k) k ∷ ps) (parts-numbered count (k + 1)))
 
-pub item-leads : (contents : Contents) (b : Build) (p : Planned) (n num_recs : ℕ) (measured : Bool) (item base count : ℕ) (s : State) → IsBuilt b (planned p n num_recs) s → IsPlanned p
+no-parts : (contents : Contents) (item k : ℕ) (xs : List ℕ) → parts_from Unknown contents item k xs ≡ []
+unfolding parts_from
+no-parts contents item k [] = refl
+no-parts contents item k (x ∷ xs) = no-parts contents item (k + 1) xs
+
+all-parts : (content : PageContent) (contents : Contents) (item base count : ℕ) → parts_from content contents item 0 (granules count base) ≡ page_parts content contents item base count
+all-parts Measured contents item base count =
+    let first : base + 4096 * 0 ≡ base = omega arith in
+    ap (λ x. parts_from Measured contents item 0 (granules count x)) (sym first) ∙ parts-numbered Measured contents item base (λ x k. refl) count 0
+all-parts Unmeasured contents item base count =
+    let first : base + 4096 * 0 ≡ base = omega arith in
+    ap (λ x. parts_from Unmeasured contents item 0 (granules count x)) (sym first) ∙ parts-numbered Unmeasured contents item base (λ x k. refl) count 0
+all-parts Unknown contents item base count = no-parts contents item 0 (granules count base)
+
+pub item-leads : (contents : Contents) (b : Build) (p : Planned) (n num_recs : ℕ) (content : PageContent) (item base count : ℕ) (s : State) → IsBuilt b (planned p n num_recs) s → IsPlanned p
     → AreContents b.params.algo contents → AcceptsData p base count
-    → Leads b (planned (after_data p base count) (n + delegated (item_entries b.pool n p measured item base count)) num_recs) s
-    (commands_of contents (item_entries b.pool n p measured item base count)) (page_parts measured contents item base count)
-item-leads contents b p n num_recs measured item base count s built is_planned good accepts =
+    → Leads b (planned (after_data p base count) (n + delegated (item_entries b.pool n p content item base count)) num_recs) s
+    (commands_of contents (item_entries b.pool n p content item base count)) (page_parts content contents item base count)
+item-leads contents b p n num_recs content item base count s built is_planned good accepts =
     let start : ℕ = p.space.start in
     let xs : List ℕ = granules count base in
     let high : start ≤ 2 = is_planned.highest in
     let filled : AreFilledInTurn start p.space.tables p.space.ram p.space.assigned xs =
     pages-in-turn count start base p.space.tables p.space.ram p.space.assigned (omega arith) is_planned.formed accepts.in_ram accepts.fresh in
-    let led = pages-lead contents measured item b count 0 base (planned p n num_recs) s built good filled accepts.whole accepts.inside in
-    let after : Built = planned (after_data p base count) (n + delegated (item_entries b.pool n p measured item base count)) num_recs in
-    let same : SameSpace (with_pages b.pool (planned p n num_recs) measured item 0 xs).space after.space = record {
+    let led = pages-lead contents content item b count 0 base (planned p n num_recs) s built good filled accepts.whole accepts.inside in
+    let after : Built = planned (after_data p base count) (n + delegated (item_entries b.pool n p content item base count)) num_recs in
+    let same : SameSpace (with_pages b.pool (planned p n num_recs) content item 0 xs).space after.space = record {
       start = refl;
       protected_end = refl;
       tables = λ level at. refl;
@@ -165,11 +183,9 @@ item-leads contents b p n num_recs measured item base count s built is_planned g
       ranges = λ from to below. refl;
       assigned = λ y. piled-has xs p.space.assigned y ∙ or-swapped (has xs y) (has p.space.assigned y) ∙ sym (has-append p.space.assigned xs y);
     } in
-    let first : base + 4096 * 0 ≡ base = omega arith in
-    let said : parts_from measured contents item 0 xs ≡ page_parts measured contents item base count =
-    ap (λ x. parts_from measured contents item 0 (granules count x)) (sym first) ∙ parts-numbered measured contents item base count 0 in
+    let said : parts_from content contents item 0 xs ≡ page_parts content contents item base count = all-parts content contents item base count in
     record {
       accepted = led.accepted;
       shown = led.shown ∙ said;
-      built = same-built b (with_pages b.pool (planned p n num_recs) measured item 0 xs) after _ led.built same refl refl built.some_built;
+      built = same-built b (with_pages b.pool (planned p n num_recs) content item 0 xs) after _ led.built same refl refl built.some_built;
     }

@@ -1,6 +1,6 @@
 //! Laws of the commands of one step, proved of the definitions: a monitor takes each command, measures just the parts
 //! of the step, and goes on with what is built then.
-ghost use Rattle.std.specs.Prelude.{◌≡◌, ◌+◌, ◌<◌, ◌%◌, ℕ, Bool, List, [], ◌∷◌, false, Some};
+ghost use Rattle.std.specs.Prelude.{◌≡◌, ◌+◌, ◌<◌, ◌%◌, ℕ, List, [], ◌∷◌, false, Some};
 ghost use Rattle.rim_desc.specs.Measurement.{measurement_of};
 ghost use Rattle.rim_desc.specs.Part.{Realm, Rec};
 ghost use Rattle.rim_desc.specs.Realm.{realm_page_of};
@@ -16,6 +16,7 @@ ghost use Rattle.rtt_plan.specs.declared.run.Run.{Run};
 ghost use Rattle.list_model.specs.Entries.{Contents, commands_of, delegated, item_entries, page_entries, realm_entries, rec_entries, region_entries, run_entries};
 ghost use Rattle.list_model.specs.Leading.{Build, Built, IsBuilt, IsNextRec, Leads, opened, planned, with_rec};
 ghost use Rattle.list_model.specs.Parts.{AreContents, block_parts, page_parts};
+ghost use Rattle.list_model.specs.declared.content.PageContent.{PageContent};
 ghost use Rattle.list_model.specs.inside.Acts.{ItemOf, act_entries};
 ghost use Rattle.rim_desc.specs.declared.page.TheConstants.{PAGE_SIZE};
 
@@ -43,18 +44,19 @@ pub fn a_region_becomes_ram()
         (block_parts base end p.least_level) }
 {}
 
-/// An item: each of its pages is measured once, with its content where the item is measured.
+/// An item: each of its pages is measured once, with its content where the item is measured; none where its content is not
+/// known.
 pub fn an_item_gets_its_pages()
-    ensures { (contents : Contents) (b : Build) (p : Planned) (n num_recs : ℕ) (measured : Bool)
-        (item base count : ℕ) (s : State)
+    ensures { (contents : Contents) (b : Build) (p : Planned) (n num_recs : ℕ)
+        (content : PageContent) (item base count : ℕ) (s : State)
         → IsBuilt b (planned p n num_recs) s
         → IsPlanned p
         → AreContents b.params.algo contents
         → AcceptsData p base count
         → Leads b (planned (after_data p base count)
-        (n + delegated (item_entries b.pool n p measured item base count)) num_recs) s
-        (commands_of contents (item_entries b.pool n p measured item base count))
-        (page_parts measured contents item base count) }
+        (n + delegated (item_entries b.pool n p content item base count)) num_recs) s
+        (commands_of contents (item_entries b.pool n p content item base count))
+        (page_parts content contents item base count) }
 {}
 
 /// A REC: its page is measured.
@@ -71,19 +73,19 @@ pub fn acts_are_listed()
     ensures runs { (pool start : ℕ) (item : ItemOf) (k : ℕ) (rs : List Run) (n : ℕ)
         (ts : List Table)
         → act_entries pool n item k (run_acts start ts rs) ≡ run_entries pool n start ts rs }
-    ensures pages { (pool start : ℕ) (measured : Bool) (item : ℕ) (xs : List ℕ) (k n : ℕ)
+    ensures pages { (pool start : ℕ) (content : PageContent) (item : ℕ) (xs : List ℕ) (k n : ℕ)
         (ts : List Table)
-        → act_entries pool n (Some (measured, item)) k (page_acts start ts xs)
-        ≡ page_entries pool n start ts measured item k xs }
+        → act_entries pool n (Some (content, item)) k (page_acts start ts xs)
+        ≡ page_entries pool n start ts content item k xs }
 {}
 
 /// Plans with the same tables have the same entries.
 pub fn same_tables_are_listed_alike()
     ensures runs { (pool start : ℕ) (rs : List Run) (n : ℕ) (ts us : List Table) → SameTables ts us
         → run_entries pool n start ts rs ≡ run_entries pool n start us rs }
-    ensures pages { (pool start : ℕ) (measured : Bool) (item : ℕ) (xs : List ℕ) (k n : ℕ)
+    ensures pages { (pool start : ℕ) (content : PageContent) (item : ℕ) (xs : List ℕ) (k n : ℕ)
         (ts us : List Table)
         → SameTables ts us
-        → page_entries pool n start ts measured item k xs
-        ≡ page_entries pool n start us measured item k xs }
+        → page_entries pool n start ts content item k xs
+        ≡ page_entries pool n start us content item k xs }
 {}
