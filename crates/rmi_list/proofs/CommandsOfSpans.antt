@@ -1,5 +1,5 @@
 -- Spans of pages: their granules, and each of their commands.
-use Rattle.std.proofs.Common.{inl, inr, ◌≡◌, ℕ, zero, suc, ◌+◌, ◌-◌, ◌*◌, ◌%◌, ◌/◌, ◌<◌, ◌≤◌, ◌∙◌, sym, refl, ap, subst, arith, Bool, false, eqb, List, [], ◌∷◌, ◌++◌, get_or, length, take}
+use Rattle.std.proofs.Common.{inl, inr, ◌≡◌, ℕ, zero, suc, ◌+◌, ◌-◌, ◌*◌, ◌%◌, ◌/◌, ◌<◌, ◌≤◌, ◌∙◌, sym, refl, ap, subst, arith, false, eqb, List, [], ◌∷◌, ◌++◌, get_or, length, take, true}
 use Rattle.std.specs.Prelude.{Ok, Err, Some, None, Result, option_and_then}
 use Rattle.std.proofs.lemmas.Bool.{cases_Bool}
 use Rattle.std.proofs.lemmas.Bool.Decides.{nat_tests}
@@ -14,6 +14,9 @@ use Rattle.rmi_list.specs.declared.span.Span.TheVariants as span
 use Rattle.rmi_list.specs.inside.Spans.{IsSpan, commands_in, entries_of, entries_of_span}
 use Rattle.rim_desc.specs.declared.command.Command.TheVariants.{Delegate, RttCreate}
 use Rattle.rmm_model.specs.Blocks.{granules}
+use Rattle.list_model.specs.declared.content.PageContent.{PageContent}
+use Rattle.list_model.specs.declared.content.PageContent.TheVariants.{Measured, Unmeasured, Unknown}
+use Rattle.list_model.specs.Content.{is_measured}
 use Rattle.list_model.specs.Entries.{Whole, delegated, granule, page_entry, page_of}
 use Rattle.list_model.specs.inside.Acts.{entries_of_pages}
 use Rattle.list_model.proofs.GranulesOfEntries.{count-append, count-page}
@@ -27,72 +30,84 @@ use Rattle.rmi_list.proofs.StepsAreListed.{grows-then, refused-later}
 
 -- ---- how many they are
 
-pub no-page : (pool n : ℕ) (measured : Bool) (item k count x : ℕ) → count ≡ 0 → entries_of_pages pool n measured item k (granules count x) ≡ []
+pub no-page : (pool n : ℕ) (known : PageContent) (item k count x : ℕ) → count ≡ 0 → entries_of_pages pool n known item k (granules count x) ≡ []
 unfolding entries_of_pages granules
-no-page pool n measured item k count x none = rw none refl
+no-page pool n known item k count x none = rw none refl
 
-pub granules-of_pages : (pool : ℕ) (measured : Bool) (item count n k x : ℕ) → delegated (entries_of_pages pool n measured item k (granules count x)) ≡ count
+pub granules-of_pages : (pool : ℕ) (known : PageContent) (item count n k x : ℕ) → delegated (entries_of_pages pool n known item k (granules count x)) ≡ count
 unfolding entries_of_pages granules
-granules-of_pages pool measured item zero n k x = refl
-granules-of_pages pool measured item (suc count) n k x =
-    ap (λ (m : ℕ). suc m) (count-page measured (granule pool n) x item k (entries_of_pages pool (n + 1) measured item (k + 1) (granules count (x + 4096)))
-    ∙ granules-of_pages pool measured item count (n + 1) (k + 1) (x + 4096))
+granules-of_pages pool known item zero n k x = refl
+granules-of_pages pool known item (suc count) n k x =
+    ap (λ (m : ℕ). suc m) (count-page known (granule pool n) x item k (entries_of_pages pool (n + 1) known item (k + 1) (granules count (x + 4096)))
+    ∙ granules-of_pages pool known item count (n + 1) (k + 1) (x + 4096))
 
-pub commands-of_pages : (pool : ℕ) (measured : Bool) (item count n k x : ℕ) → length (entries_of_pages pool n measured item k (granules count x)) ≡ 2 * count
+pub commands-of_pages : (pool : ℕ) (known : PageContent) (item count n k x : ℕ) → length (entries_of_pages pool n known item k (granules count x)) ≡ 2 * count
 unfolding entries_of_pages granules
-commands-of_pages pool measured item zero n k x = refl
-commands-of_pages pool measured item (suc count) n k x =
-    let i : length (entries_of_pages pool (n + 1) measured item (k + 1) (granules count (x + 4096))) ≡ 2 * count = commands-of_pages pool measured item count (n + 1) (k + 1) (x + 4096) in
+commands-of_pages pool known item zero n k x = refl
+commands-of_pages pool known item (suc count) n k x =
+    let i : length (entries_of_pages pool (n + 1) known item (k + 1) (granules count (x + 4096))) ≡ 2 * count = commands-of_pages pool known item count (n + 1) (k + 1) (x + 4096) in
     omega arith
 
 -- ---- which they are: two for each page
 
-pub delegation-at : (pool : ℕ) (measured : Bool) (item j count n k x : ℕ) → j < count
-    → slice_get (entries_of_pages pool n measured item k (granules count x)) (2 * j) ≡ Some (Whole (Delegate (granule pool (n + j))))
+pub delegation-at : (pool : ℕ) (known : PageContent) (item j count n k x : ℕ) → j < count
+    → slice_get (entries_of_pages pool n known item k (granules count x)) (2 * j) ≡ Some (Whole (Delegate (granule pool (n + j))))
 unfolding entries_of_pages granules
-delegation-at pool measured item j zero n k x lt = absurd (omega arith)
-delegation-at pool measured item zero (suc count) n k x lt = let e : n + 0 ≡ n = omega arith in rw e refl
-delegation-at pool measured item (suc j) (suc count) n k x lt =
+delegation-at pool known item j zero n k x lt = absurd (omega arith)
+delegation-at pool known item zero (suc count) n k x lt = let e : n + 0 ≡ n = omega arith in rw e refl
+delegation-at pool known item (suc j) (suc count) n k x lt =
     let e : 2 * suc j ≡ suc (suc (2 * j)) = omega arith in
     let f : n + suc j ≡ n + 1 + j = omega arith in
-    rw (e, f) (delegation-at pool measured item j count (n + 1) (k + 1) (x + 4096) (omega arith))
+    rw (e, f) (delegation-at pool known item j count (n + 1) (k + 1) (x + 4096) (omega arith))
 
-pub page-at : (pool : ℕ) (measured : Bool) (item j count n k x : ℕ) → j < count
-    → slice_get (entries_of_pages pool n measured item k (granules count x)) (2 * j + 1) ≡ Some (page_entry measured (granule pool (n + j)) (x + 4096 * j) item (k + j))
+pub page-at : (pool : ℕ) (known : PageContent) (item j count n k x : ℕ) → j < count
+    → slice_get (entries_of_pages pool n known item k (granules count x)) (2 * j + 1) ≡ Some (page_entry known (granule pool (n + j)) (x + 4096 * j) item (k + j))
 unfolding entries_of_pages granules
-page-at pool measured item j zero n k x lt = absurd (omega arith)
-page-at pool measured item zero (suc count) n k x lt =
+page-at pool known item j zero n k x lt = absurd (omega arith)
+page-at pool known item zero (suc count) n k x lt =
     let e : n + 0 ≡ n = omega arith in
     let f : x + 4096 * 0 ≡ x = omega arith in
     let g : k + 0 ≡ k = omega arith in
     rw (e, f, g) refl
-page-at pool measured item (suc j) (suc count) n k x lt =
+page-at pool known item (suc j) (suc count) n k x lt =
     let e : 2 * suc j + 1 ≡ suc (suc (2 * j + 1)) = omega arith in
     let f : n + suc j ≡ n + 1 + j = omega arith in
     let g : x + 4096 * suc j ≡ x + 4096 + 4096 * j = omega arith in
     let h : k + suc j ≡ k + 1 + j = omega arith in
-    rw (e, f, g, h) (page-at pool measured item j count (n + 1) (k + 1) (x + 4096) (omega arith))
+    rw (e, f, g, h) (page-at pool known item j count (n + 1) (k + 1) (x + 4096) (omega arith))
 
-pub even-at : (pool : ℕ) (measured : Bool) (item offset count n k x : ℕ) → offset % 2 ≡ 0 → offset < 2 * count
-    → slice_get (entries_of_pages pool n measured item k (granules count x)) offset ≡ Some (Whole (Delegate (granule pool (n + offset / 2))))
-even-at pool measured item offset count n k x even lt =
+pub even-at : (pool : ℕ) (known : PageContent) (item offset count n k x : ℕ) → offset % 2 ≡ 0 → offset < 2 * count
+    → slice_get (entries_of_pages pool n known item k (granules count x)) offset ≡ Some (Whole (Delegate (granule pool (n + offset / 2))))
+even-at pool known item offset count n k x even lt =
     let e : offset ≡ 2 * (offset / 2) = omega arith in
-    ap (slice_get (entries_of_pages pool n measured item k (granules count x))) e ∙ delegation-at pool measured item (offset / 2) count n k x (omega arith)
+    ap (slice_get (entries_of_pages pool n known item k (granules count x))) e ∙ delegation-at pool known item (offset / 2) count n k x (omega arith)
 
-pub odd-at : (pool : ℕ) (measured : Bool) (item offset count n k x : ℕ) → (offset % 2 ≡ 0 → ⊥) → offset < 2 * count
-    → slice_get (entries_of_pages pool n measured item k (granules count x)) offset ≡ Some (page_entry measured (granule pool (n + offset / 2)) (x + 4096 * (offset / 2)) item (k + offset / 2))
-odd-at pool measured item offset count n k x odd lt =
+pub odd-at : (pool : ℕ) (known : PageContent) (item offset count n k x : ℕ) → (offset % 2 ≡ 0 → ⊥) → offset < 2 * count
+    → slice_get (entries_of_pages pool n known item k (granules count x)) offset ≡ Some (page_entry known (granule pool (n + offset / 2)) (x + 4096 * (offset / 2)) item (k + offset / 2))
+odd-at pool known item offset count n k x odd lt =
     let e : offset ≡ 2 * (offset / 2) + 1 = omega arith in
-    ap (slice_get (entries_of_pages pool n measured item k (granules count x))) e ∙ page-at pool measured item (offset / 2) count n k x (omega arith)
+    ap (slice_get (entries_of_pages pool n known item k (granules count x))) e ∙ page-at pool known item (offset / 2) count n k x (omega arith)
 
 -- no command of a span that is not measured creates a measured page
-pub none-measured : (pool item offset count n k x : ℕ) → offset < 2 * count
-    → None ≡ option_and_then page_of (slice_get (entries_of_pages pool n false item k (granules count x)) offset)
-none-measured pool item offset count n k x lt =
+pub none-measured : (known : PageContent) (pool item offset count n k x : ℕ) → is_measured known ≡ false → offset < 2 * count
+    → None ≡ option_and_then page_of (slice_get (entries_of_pages pool n known item k (granules count x)) offset)
+none-measured known pool item offset count n k x off lt =
     elim (cases_Bool (eqb (offset % 2) 0)) [
-      | inl t ↦ (let even : offset % 2 ≡ 0 = grind (arith, nat_tests) in rw (even-at pool false item offset count n k x even lt) refl)
-      | inr f ↦ (let odd : offset % 2 ≡ 0 → ⊥ = grind (arith, nat_tests) in rw (odd-at pool false item offset count n k x odd lt) refl)
+      | inl t ↦ (let even : offset % 2 ≡ 0 = grind (arith, nat_tests) in rw (even-at pool known item offset count n k x even lt) refl)
+      | inr f ↦ (let odd : offset % 2 ≡ 0 → ⊥ = grind (arith, nat_tests) in
+          rw (odd-at pool known item offset count n k x odd lt) (no-page known off))
     ]
+  where
+    no-page : (known : PageContent) → is_measured known ≡ false → None ≡ page_of (page_entry known (granule pool (n + offset / 2)) (x + 4096 * (offset / 2)) item (k + offset / 2))
+    no-page Measured off = absurd (cc)
+    no-page Unmeasured off = refl
+    no-page Unknown off = refl
+
+-- and the second command of a page that is measured does
+pub one-measured : (known : PageContent) (g x item page : ℕ) → is_measured known ≡ true → page_of (page_entry known g x item page) ≡ Some (item, page)
+one-measured Measured g x item page on = refl
+one-measured Unmeasured g x item page on = absurd (cc)
+one-measured Unknown g x item page on = absurd (cc)
 
 -- ---- one span more
 
@@ -126,7 +141,7 @@ length-span params num_aux recs (span.Delegate n) = refl
 length-span params num_aux recs (span.RealmCreate n) = refl
 length-span params num_aux recs (span.RttCreate n ipa level) = refl
 length-span params num_aux recs (span.InitRipas base top) = refl
-length-span params num_aux recs (span.Pages n ipa item measured page count) = commands-of_pages params.rtt_base measured item count n page ipa
+length-span params num_aux recs (span.Pages n ipa item known page count) = commands-of_pages params.rtt_base known item count n page ipa
 length-span params num_aux recs (span.RecCreate n number) = refl
 length-span params num_aux recs span.Activate = refl
 
@@ -146,7 +161,7 @@ few-span params num_aux recs (span.Delegate n) = omega arith
 few-span params num_aux recs (span.RealmCreate n) = omega arith
 few-span params num_aux recs (span.RttCreate n ipa level) = omega arith
 few-span params num_aux recs (span.InitRipas base top) = omega arith
-few-span params num_aux recs (span.Pages n ipa item measured page count) = omega (arith, granules-of_pages params.rtt_base measured item count n page ipa)
+few-span params num_aux recs (span.Pages n ipa item known page count) = omega (arith, granules-of_pages params.rtt_base known item count n page ipa)
 few-span params num_aux recs (span.RecCreate n number) = omega arith
 few-span params num_aux recs span.Activate = omega arith
 

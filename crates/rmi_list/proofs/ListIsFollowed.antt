@@ -28,6 +28,8 @@ use Rattle.rmm_model.proofs.NoGranuleTwice.{accepted-once}
 use Rattle.rtt_plan.specs.Planned.{IsPlanned, after_data, after_region, data_checks, region_checks}
 use Rattle.rtt_plan.proofs.AcceptedCalls.{data-accepted, region-accepted}
 use Rattle.rtt_plan.proofs.PlansStayFormed.{planned-data, planned-nothing, planned-region}
+use Rattle.list_model.specs.declared.content.PageContent.{PageContent}
+use Rattle.list_model.specs.declared.content.PageContent.TheVariants.{Measured, Unmeasured, Unknown}
 use Rattle.list_model.specs.Entries.{Contents, Entry, Whole, command_of, commands_of, delegate_all, delegated, granule, item_entries, rec_entries, rec_granules, region_entries}
 use Rattle.list_model.specs.Leading.{Build, Built, IsBuilt, IsNextRec, planned}
 use Rattle.list_model.specs.Parts.{AreContents, block_parts, page_parts}
@@ -47,7 +49,7 @@ use Rattle.rmi_list.specs.declared.fault.ListFault.{ListFault}
 use Rattle.rmi_list.specs.declared.fault.ListFault.TheVariants as fault
 use Rattle.rmi_list.specs.Following.{IsFollowed}
 use Rattle.rmi_list.specs.Listed.{Listing, Progress, list_item, list_named, list_rec, list_region, list_step, list_steps, listed, opening_progress, opening_checks, opening_entries, plan_checks, pool_check}
-use Rattle.rmi_list.specs.Measured.{least_level, measured, of_named, page_base, rec_part, step_parts}
+use Rattle.rmi_list.specs.Measured.{least_level, measured, of_named, page_base, page_content, rec_part, step_parts}
 use Rattle.rmi_list.specs.RecParams.{rec_params}
 use Rattle.rmi_list.proofs.CheckAfterCheck.{bound, fronted, is-done, plan-off}
 use Rattle.rmi_list.proofs.ParametersAreTaken.{good-realm}
@@ -96,28 +98,34 @@ region-follows c contents s w r done is_listed at =
       listed = record { built = led.built; planned = planned-region w.plan r.base r.end is_listed.planned accepts.whole r.ordered; least = is_listed.least };
     })
 
+-- no pages have no parts
+no-parts : (content : PageContent) (contents : Contents) (item base : ℕ) → page_parts content contents item base 0 ≡ []
+no-parts Measured contents item base = refl
+no-parts Unmeasured contents item base = refl
+no-parts Unknown contents item base = refl
+
 item-follows : (c : Config) (contents : Contents) (s : State) (w : Progress) (number : ℕ) (item : PlacedItem) (done : Listing) → IsListed c w s
     → AreContents c.algo contents → list_item c w number item ≡ Ok done
-    → Follows c s (commands_of contents done.entries) (page_parts item.measured contents number (page_base item) item.pages) done.next
+    → Follows c s (commands_of contents done.entries) (page_parts (page_content item) contents number (page_base item) item.pages) done.next
 unfolding list_item
 item-follows c contents s w number item done is_listed good = elim (cases_Bool (eqb item.pages 0)) [
   | inl none ↦ rw none (λ at.
       (let no_pages : item.pages ≡ 0 = eqb-true item.pages 0 none in
       let idle : Listing = record { entries = []; next = w } in
       let same : idle ≡ done = cc in
-      subst (λ (d : Listing). Follows c s (commands_of contents d.entries) (page_parts item.measured contents number (page_base item) item.pages) d.next) same
-      (rw no_pages (nothing-follows c s w is_listed))))
+      subst (λ (d : Listing). Follows c s (commands_of contents d.entries) (page_parts (page_content item) contents number (page_base item) item.pages) d.next) same
+      (rw (no_pages, no-parts (page_content item) contents number (page_base item)) (nothing-follows c s w is_listed))))
   | inr some ↦ rw some (λ at.
       (let base : ℕ = page_base item in
-      let entries : List Entry = item_entries c.pool_base w.taken w.plan item.measured number base item.pages in
+      let entries : List Entry = item_entries c.pool_base w.taken w.plan (page_content item) number base item.pages in
       let made : Listing = record { entries = entries; next = record w { plan = after_data w.plan base item.pages; taken = w.taken + delegated entries } } in
       let last : List (Check ListFault) = pool_check c w.taken entries ∷ [] in
       let checks : List (Check ListFault) = plan_checks (data_checks w.plan base item.pages) ++ last in
       let same : made ≡ done = is-done checks made done at in
       let off : holds (data_checks w.plan base item.pages) ≡ false = plan-off (data_checks w.plan base item.pages) last (none-holds checks made done at) in
       let accepts = data-accepted w.plan base item.pages off in
-      let led = item-leads contents (build_of c) w.plan w.taken w.num_recs item.measured number base item.pages s is_listed.built is_listed.planned good accepts in
-      subst (λ (d : Listing). Follows c s (commands_of contents d.entries) (page_parts item.measured contents number base item.pages) d.next) same (record {
+      let led = item-leads contents (build_of c) w.plan w.taken w.num_recs (page_content item) number base item.pages s is_listed.built is_listed.planned good accepts in
+      subst (λ (d : Listing). Follows c s (commands_of contents d.entries) (page_parts (page_content item) contents number base item.pages) d.next) same (record {
         accepted = led.accepted;
         shown = led.shown;
         listed = record { built = led.built; planned = planned-data w.plan base item.pages is_listed.planned accepts.in_ram; least = is_listed.least };
@@ -175,7 +183,7 @@ step-follows l p contents s w (step.Ram n) done good few is_listed at = by_regio
 step-follows l p contents s w (step.Item n) done good few is_listed at = by_item (slice_get p.items n) at
   where
     by_item : (o : Option PlacedItem) → list_named w (list_item l.config w n) o ≡ Ok done
-        → Follows l.config s (commands_of contents done.entries) (of_named (λ i. page_parts i.measured contents n (page_base i) i.pages) o) done.next
+        → Follows l.config s (commands_of contents done.entries) (of_named (λ i. page_parts (page_content i) contents n (page_base i) i.pages) o) done.next
     by_item None h = (let idle : Listing = record { entries = []; next = w } in let same : idle ≡ done = cc in
         subst (λ (d : Listing). Follows l.config s (commands_of contents d.entries) [] d.next) same (nothing-follows l.config s w is_listed))
     by_item (Some item) h = item-follows l.config contents s w n item done is_listed good h

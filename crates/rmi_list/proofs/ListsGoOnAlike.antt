@@ -25,7 +25,7 @@ use Rattle.rmi_list.specs.declared.fault.ListFault.{ListFault}
 use Rattle.rmi_list.specs.declared.fault.ListFault.TheVariants as fault
 use Rattle.rmi_list.specs.RecParams.{rec_params}
 use Rattle.rmi_list.specs.Listed.{Listing, Progress, list_item, list_named, list_rec, list_region, list_step, list_steps, plan_checks, pool_check}
-use Rattle.rmi_list.specs.Measured.{page_base}
+use Rattle.rmi_list.specs.Measured.{page_base, page_content}
 use Rattle.rmi_list.specs.inside.Drafts.{SameProgress}
 
 -- two answers with the same entries, which go on alike; or the same refusal
@@ -86,7 +86,7 @@ item-alike c v w number item same = by_pages (eqb item.pages 0)
     base = page_base item
 
     entries_at : Progress → List Entry
-    entries_at u = item_entries c.pool_base u.taken u.plan item.measured number base item.pages
+    entries_at u = item_entries c.pool_base u.taken u.plan (page_content item) number base item.pages
 
     made : Progress → Listing
     made u = record { entries = entries_at u; next = record u { plan = after_data u.plan base item.pages; taken = u.taken + delegated (entries_at u) } }
@@ -103,7 +103,7 @@ item-alike c v w number item same = by_pages (eqb item.pages 0)
         let space = same.plan.space in
         let xs : List ℕ = granules item.pages base in
         let entries : entries_at v ≡ entries_at w =
-        rw (same.taken, space.start) (pages-alike c.pool_base q.space.start item.measured number xs 0 w.taken p.space.tables q.space.tables space.tables) in
+        rw (same.taken, space.start) (pages-alike c.pool_base q.space.start (page_content item) number xs 0 w.taken p.space.tables q.space.tables space.tables) in
         let checks : data_checks p base item.pages ≡ data_checks q base item.pages =
         rw (space.protected_end, list_all-same (is_ram p.space.ram) (is_ram q.space.ram) xs space.ram, list_any-same (has p.space.assigned) (has q.space.assigned) xs space.assigned) refl in
         checked-alike (checks_at v) (checks_at w) (made v) (made w)

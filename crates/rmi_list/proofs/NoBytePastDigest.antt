@@ -10,12 +10,13 @@ use Rattle.rim_desc.specs.Measurement.{measurement_of}
 use Rattle.rim_desc.specs.declared.measurement.Algo.{Algo}
 use Rattle.rim_desc.specs.declared.measurement.Algo.TheVariants.{Sha256, Sha512}
 use Rattle.rim_desc.specs.declared.measurement.Measurement.{Measurement}
+use Rattle.rim_desc.specs.declared.source.Source.{Source}
 use Rattle.rmm_model.specs.Checks.{is_bad_content}
 use Rattle.list_model.specs.Parts.{AreContents}
 use Rattle.rim_launch.specs.LaunchData.{LaunchData}
 use Rattle.ipa_layout.specs.Layout.{PlacedData}
 use Rattle.ipa_layout.specs.declared.placed.PlacedItem.{PlacedItem}
-use Rattle.rmi_list.specs.Measured.{page_contents, item_page_digest}
+use Rattle.rmi_list.specs.Measured.{page_contents, item_page_digest, source_page_digest}
 
 zeros-after : (m : List ℕ) → drop 32 (sha256 m ++ zeros 32) ≡ zeros 32
 zeros-after m = ap (λ n. drop n (sha256 m ++ zeros 32)) (sym (length-sha256 m)) ∙ drop-append_seam (sha256 m) (zeros 32)
@@ -34,4 +35,8 @@ contents-are-good l files p item page = by_item (slice_get p.items item)
   where
     by_item : (o : Option PlacedItem) → is_bad_content l.config.algo (Some (let c : Measurement = record { bytes = item_page_digest l.config.algo files p o page } in c)) ≡ false
     by_item None = none l.config.algo
-    by_item (Some i) = good l.config.algo _
+    by_item (Some i) = by_source i.source
+      where
+        by_source : (o : Option Source) → is_bad_content l.config.algo (Some (let c : Measurement = record { bytes = source_page_digest l.config.algo files p i.lead o page } in c)) ≡ false
+        by_source None = none l.config.algo
+        by_source (Some source) = good l.config.algo _

@@ -17,7 +17,7 @@ use Rattle.ipa_layout.specs.declared.rec.PlacedRec.{PlacedRec}
 use Rattle.rmi_list.specs.declared.fault.ListFault.{ListFault}
 use Rattle.rmi_list.specs.declared.fault.ListFault.TheVariants as fault
 use Rattle.rmi_list.specs.Listed.{Listing, Progress, list_item, list_named, list_rec, list_region, list_step, plan_checks, pool_check}
-use Rattle.rmi_list.specs.Measured.{page_base}
+use Rattle.rmi_list.specs.Measured.{page_base, page_content}
 use Rattle.rmi_list.specs.Reason.{step_extent}
 use Rattle.rmi_list.specs.inside.Steps.{IsStepFault}
 
@@ -61,7 +61,7 @@ unless-done false x r e none h = none h
 item-few : (c : Config) (w : Progress) (n : ℕ) (i : PlacedItem) → list_item c w n i ≡ Err fault.TooManyRecs → ⊥
 unfolding list_item
 item-few c w n i h =
-    let entries : List Entry = item_entries c.pool_base w.taken w.plan i.measured n (page_base i) i.pages in
+    let entries : List Entry = item_entries c.pool_base w.taken w.plan (page_content i) n (page_base i) i.pages in
     let done : Listing = record { entries = entries; next = record w { plan = after_data w.plan (page_base i) i.pages; taken = w.taken + delegated entries } } in
     unless-done (eqb i.pages 0) _ _ fault.TooManyRecs (planned-few c w.taken entries (data_checks w.plan (page_base i) i.pages) done) h
 

@@ -1,5 +1,5 @@
 -- Lists whose first spans are common have the same first commands.
-use Rattle.std.proofs.Common.{◌≡◌, ℕ, ◌+◌, ◌<◌, ◌≤◌, ◌∙◌, Bool, true, false, List, [], ◌∷◌, ◌++◌, length, take, drop, get_or, refl, ap, sym, subst, arith, suc}
+use Rattle.std.proofs.Common.{◌≡◌, ℕ, ◌+◌, ◌<◌, ◌≤◌, ◌∙◌, Bool, true, List, [], ◌∷◌, ◌++◌, length, take, drop, get_or, refl, ap, sym, subst, arith, suc}
 use Rattle.std.specs.Prelude.{Some, slice_get}
 use Rattle.std.proofs.lemmas.Grind.{flat_map-append}
 use Rattle.std.proofs.lemmas.List.{append-nil, length-append, length-map, map-append, take-append-drop}
@@ -9,6 +9,9 @@ use Rattle.rim_desc.specs.declared.command.Command.TheVariants.{DataCreate, Dele
 use Rattle.rim_desc.specs.declared.measurement.Measurement.{Measurement}
 use Rattle.rim_desc.specs.declared.realm.RealmParams.{RealmParams}
 use Rattle.rmm_model.specs.Blocks.{granules}
+use Rattle.list_model.specs.declared.content.PageContent.{PageContent}
+use Rattle.list_model.specs.declared.content.PageContent.TheVariants.{Measured, Unmeasured, Unknown}
+use Rattle.list_model.specs.Content.{is_measured}
 use Rattle.list_model.specs.Entries.{Contents, command_of, commands_of, granule, page_entry}
 use Rattle.list_model.specs.inside.Acts.{entries_of_pages}
 use Rattle.ipa_layout.specs.declared.rec.PlacedRec.{PlacedRec}
@@ -22,12 +25,13 @@ use Rattle.rmi_list.proofs.CommandsOfSpans.{length-of}
 
 -- ---- one span
 
-same-page : (marks : List Bool) (f g : Contents) → AgreeOn marks f g → (b : Bool) (pa ipa item k : ℕ) → (b ≡ true → slice_get marks item ≡ Some true)
+same-page : (marks : List Bool) (f g : Contents) → AgreeOn marks f g → (b : PageContent) (pa ipa item k : ℕ) → (is_measured b ≡ true → slice_get marks item ≡ Some true)
     → command_of f (page_entry b pa ipa item k) ≡ command_of g (page_entry b pa ipa item k)
-same-page marks f g agree true pa ipa item k marked = ap (λ (m : Measurement). DataCreate pa ipa (Some m)) (agree item k (marked refl))
-same-page marks f g agree false pa ipa item k marked = refl
+same-page marks f g agree Measured pa ipa item k marked = ap (λ (m : Measurement). DataCreate pa ipa (Some m)) (agree item k (marked refl))
+same-page marks f g agree Unmeasured pa ipa item k marked = refl
+same-page marks f g agree Unknown pa ipa item k marked = refl
 
-same-pages : (marks : List Bool) (f g : Contents) → AgreeOn marks f g → (pool n : ℕ) (b : Bool) (item k : ℕ) (xs : List ℕ) → (b ≡ true → slice_get marks item ≡ Some true)
+same-pages : (marks : List Bool) (f g : Contents) → AgreeOn marks f g → (pool n : ℕ) (b : PageContent) (item k : ℕ) (xs : List ℕ) → (is_measured b ≡ true → slice_get marks item ≡ Some true)
     → commands_of f (entries_of_pages pool n b item k xs) ≡ commands_of g (entries_of_pages pool n b item k xs)
 unfolding entries_of_pages
 same-pages marks f g agree pool n b item k [] marked = refl
@@ -36,12 +40,12 @@ same-pages marks f g agree pool n b item k (x ∷ xs) marked =
     ∙ ap (λ (cs : List Command). Delegate (granule pool n) ∷ command_of g (page_entry b (granule pool n) x item k) ∷ cs) (same-pages marks f g agree pool (n + 1) b item (k + 1) xs marked)
 
 -- the same pages of an item that is marked, or that is not measured
-pub common-pages : (marks : List Bool) (recs others : List PlacedRec) (a b : Span) (n ipa item : ℕ) (measured : Bool) (page count : ℕ)
-    → a ≡ b → a ≡ span.Pages n ipa item measured page count → (measured ≡ true → slice_get marks item ≡ Some true) → IsCommon marks recs a others b
-common-pages marks recs others a b n ipa item measured page count same is marked = λ params num_aux f g agree.
+pub common-pages : (marks : List Bool) (recs others : List PlacedRec) (a b : Span) (n ipa item : ℕ) (known : PageContent) (page count : ℕ)
+    → a ≡ b → a ≡ span.Pages n ipa item known page count → (is_measured known ≡ true → slice_get marks item ≡ Some true) → IsCommon marks recs a others b
+common-pages marks recs others a b n ipa item known page count same is marked = λ params num_aux f g agree.
     subst (λ (s : Span). commands_of f (entries_of_span params num_aux recs s) ≡ commands_of g (entries_of_span params num_aux others b)) (sym is)
-    (subst (λ (s : Span). commands_of f (entries_of_span params num_aux recs (span.Pages n ipa item measured page count)) ≡ commands_of g (entries_of_span params num_aux others s)) (sym is ∙ same)
-    (same-pages marks f g agree params.rtt_base n measured item page (granules count ipa) marked))
+    (subst (λ (s : Span). commands_of f (entries_of_span params num_aux recs (span.Pages n ipa item known page count)) ≡ commands_of g (entries_of_span params num_aux others s)) (sym is ∙ same)
+    (same-pages marks f g agree params.rtt_base n known item page (granules count ipa) marked))
 
 -- ---- some spans
 

@@ -1,5 +1,5 @@
 -- A step of the code makes the listing of the step's definition.
-use Rattle.std.proofs.Common.{inl, inr, ◌≡◌, ℕ, zero, suc, ◌+◌, ◌*◌, ◌/◌, ◌<◌, ◌≤◌, ◌^◌, ◌∙◌, sym, refl, ap, subst, arith, Bool, true, false, not, ◌&&◌, ltb, eqb, List, [], ◌∷◌, ◌++◌, ◌⊎◌, append_assoc, length, map}
+use Rattle.std.proofs.Common.{inl, inr, ◌≡◌, ℕ, zero, suc, ◌+◌, ◌*◌, ◌/◌, ◌<◌, ◌≤◌, ◌^◌, ◌∙◌, sym, refl, ap, subst, arith, true, false, not, ◌&&◌, ltb, eqb, List, [], ◌∷◌, ◌++◌, ◌⊎◌, append_assoc, length, map}
 use Rattle.std.specs.Prelude.{Ok, Err, Option, Some, None, Result, nat_lt, slice_index_or}
 use Rattle.std.specs.List.{slice_get}
 use Rattle.std.proofs.lemmas.Bool.Decides.{nat_tests}
@@ -19,6 +19,7 @@ use Rattle.rtt_plan.specs.declared.act.Act.TheVariants as act
 use Rattle.rtt_plan.specs.declared.fault.PlanFault.{PlanFault}
 use Rattle.rtt_plan.specs.declared.fault.PlanFault.TheVariants as plan
 use Rattle.rtt_plan.proofs.PlansGoOnAlike.{agrees-refl}
+use Rattle.list_model.specs.declared.content.PageContent.{PageContent}
 use Rattle.list_model.specs.Entries.{Entry, Whole, delegate_all, delegated, granule, item_entries, rec_entries, region_entries}
 use Rattle.list_model.specs.inside.Acts.{act_entries}
 use Rattle.list_model.proofs.EntriesOfActs.{acts-of-pages, acts-of-runs}
@@ -31,7 +32,7 @@ use Rattle.rmi_list.specs.declared.draft.Draft.{Draft}
 use Rattle.rmi_list.specs.declared.fault.ListFault.{ListFault}
 use Rattle.rmi_list.specs.declared.fault.ListFault.TheVariants as fault
 use Rattle.rmi_list.specs.Listed.{Listing, plan_fault, list_item, list_named, list_rec, list_region, plan_checks, pool_check}
-use Rattle.rmi_list.specs.Measured.{page_base}
+use Rattle.rmi_list.specs.Measured.{page_base, page_content}
 use Rattle.rmi_list.specs.RecParams.{rec_params}
 use Rattle.rmi_list.specs.inside.Acts.{HaveRoom}
 use Rattle.rmi_list.specs.declared.span.Span.TheVariants as span
@@ -47,12 +48,12 @@ unfolding HaveRoom
 no-room [] k = tt
 no-room (a ∷ acts) k = (tt, no-room acts (k + 0))
 
-tables-room : (item : Bool × ℕ) (k : ℕ) (ts : List Table) (acts : List Act) → HaveRoom (Some item) k acts → HaveRoom (Some item) k (map table_act ts ++ acts)
+tables-room : (item : PageContent × ℕ) (k : ℕ) (ts : List Table) (acts : List Act) → HaveRoom (Some item) k acts → HaveRoom (Some item) k (map table_act ts ++ acts)
 unfolding HaveRoom
 tables-room item k [] acts room = room
 tables-room item k (t ∷ ts) acts room = let e : k + 0 ≡ k = omega arith in (tt, rw e (tables-room item k ts acts room))
 
-room-put : (item : Bool × ℕ) (k x : ℕ) (acts : List Act) → k + 1 ≤ 2 ^ 32 → x + 4096 ≤ 2 ^ 47 → HaveRoom (Some item) (k + 1) acts → HaveRoom (Some item) k (put_page x acts)
+room-put : (item : PageContent × ℕ) (k x : ℕ) (acts : List Act) → k + 1 ≤ 2 ^ 32 → x + 4096 ≤ 2 ^ 47 → HaveRoom (Some item) (k + 1) acts → HaveRoom (Some item) k (put_page x acts)
 unfolding HaveRoom
 room-put item k x [] few low room = ((omega arith, omega arith), room)
 room-put item k x (act.Table base level ∷ acts) few low room = ((omega arith, omega arith), room)
@@ -68,7 +69,7 @@ room-put item k x (act.Pages base count ∷ acts) few low room = elim (cases_Boo
   | inr f ↦ rw f ((omega arith, omega arith), room)
 ]
 
-pub pages-room : (item : Bool × ℕ) (start count k x : ℕ) (ts : List Table) → k + count ≤ 2 ^ 32 → x + 4096 * count ≤ 2 ^ 47
+pub pages-room : (item : PageContent × ℕ) (start count k x : ℕ) (ts : List Table) → k + count ≤ 2 ^ 32 → x + 4096 * count ≤ 2 ^ 47
     → HaveRoom (Some item) k (page_acts start ts (granules count x))
 unfolding HaveRoom page_acts granules
 pages-room item start zero k x ts few low = tt
@@ -142,17 +143,17 @@ region-refused old r e h =
 
 pub item-continues : {U : Type 0} (old new : Draft) (t : Planned) (number : ℕ) (item : PlacedItem) (acts : List Act) (result : Result U ListFault) → InPool old
     → eqb item.pages 0 ≡ false → plan_data old.tables (page_base item) item.pages ≡ Ok acts → AgreesWith t (after_data old.tables (page_base item) item.pages)
-    → Lists (record old { tables = t }) new result (act_entries (pool_of old) old.taken (Some (item.measured, number)) 0 acts)
+    → Lists (record old { tables = t }) new result (act_entries (pool_of old) old.taken (Some (page_content item, number)) 0 acts)
     → Continues old new result (list_item old.launch.now.config (progress_of old) number item)
 unfolding plan_data list_item
 item-continues old new t number item acts result within some planned agrees lists =
     let p : Planned = old.tables in
     let base : ℕ = page_base item in
     let same : data_acts p base item.pages ≡ acts = is-done (data_checks p base item.pages) (data_acts p base item.pages) acts planned in
-    let es : List Entry = item_entries (pool_of old) old.taken p item.measured number base item.pages in
-    let listed : act_entries (pool_of old) old.taken (Some (item.measured, number)) 0 acts ≡ es =
-    ap (act_entries (pool_of old) old.taken (Some (item.measured, number)) 0) (sym same)
-    ∙ acts-of-pages (pool_of old) p.space.start item.measured number (granules item.pages base) 0 old.taken p.space.tables in
+    let es : List Entry = item_entries (pool_of old) old.taken p (page_content item) number base item.pages in
+    let listed : act_entries (pool_of old) old.taken (Some (page_content item, number)) 0 acts ≡ es =
+    ap (act_entries (pool_of old) old.taken (Some (page_content item, number)) 0) (sym same)
+    ∙ acts-of-pages (pool_of old) p.space.start (page_content item) number (granules item.pages base) 0 old.taken p.space.tables in
     rw some (planned-continues old new t (after_data p base item.pages) (data_checks p base item.pages) (data_acts p base item.pages) acts es result within planned agrees
     (subst (Lists (record old { tables = t }) new result) listed lists))
 
@@ -163,7 +164,7 @@ unfolding plan_data list_item
 item-refused old number item e some h =
     let c : Config = old.launch.now.config in
     let base : ℕ = page_base item in
-    let es : List Entry = item_entries c.pool_base old.taken old.tables item.measured number base item.pages in
+    let es : List Entry = item_entries c.pool_base old.taken old.tables (page_content item) number base item.pages in
     let made : Listing = record { entries = es; next = record (progress_of old) { plan = after_data old.tables base item.pages; taken = old.taken + delegated es } } in
     let last : List (Check ListFault) = pool_check c old.taken es ∷ [] in
     rw some (plan-refused e (plan_data old.tables base item.pages) (unless_refused (plan_checks (data_checks old.tables base item.pages) ++ last) made)

@@ -12,6 +12,7 @@ ghost use Rattle.rim_desc.specs.declared.page.TheConstants.{PAGE_SIZE};
 use crate::fault::ListFault;
 use crate::span::Span;
 use ipa_layout::Placed;
+use list_model::PageContent;
 use rim_launch::Launch;
 use rtt_plan::{Act, Tables};
 
@@ -29,11 +30,11 @@ pub struct Draft<'a> {
     pub num_recs: usize,
 }
 
-/// The item whose pages are listed: its number, and whether it is measured.
+/// The item whose pages are listed: its number, and what the monitor knows of its content.
 #[derive(Clone, Copy)]
 pub struct ItemPages {
     pub number: u8,
-    pub measured: bool,
+    pub known: PageContent,
 }
 
 impl<'a> Draft<'a> {
@@ -92,7 +93,7 @@ impl<'a> Draft<'a> {
         requires few { first + count ≤ 2 ^ 32 }
         requires low { base + PAGE_SIZE * count ≤ 2 ^ 47 }
         ensures { let pool = self.old.launch.now.config.pool_base in
-            Lists self.old self.new result (entries_of_pages pool self.old.taken item.measured
+            Lists self.old self.new result (entries_of_pages pool self.old.taken item.known
             item.number first (granules count base)) }
     {
         if count == 0 {
@@ -109,7 +110,7 @@ impl<'a> Draft<'a> {
             granule: self.taken as u32,
             ipa: base,
             item: item.number,
-            measured: item.measured,
+            known: item.known,
             page: first as u32,
             count,
         })?;

@@ -22,6 +22,7 @@ use crate::fault::ListFault;
 use crate::reason::{ListReason, step_reason};
 use crate::span::Span;
 use ipa_layout::{Placed, PlacedRec};
+use list_model::PageContent;
 use refusal::NoMemory;
 use rim_desc::{
     AUX_LIMIT, Command, GRANULE_SIZE, Measurement, REC_LIMIT, RealmParams, RecParams, rec_mpidr,
@@ -248,9 +249,9 @@ fn command_in(
         Span::Pages {
             granule,
             ipa,
-            measured,
+            known,
             ..
-        } => page_command(pool, granule, ipa, measured, offset, content),
+        } => page_command(pool, granule, ipa, known, offset, content),
         Span::RecCreate { rec, number } => rec_create(pool, num_aux, recs, rec, number),
         Span::Activate => Command::Activate,
     }
@@ -312,11 +313,11 @@ fn page_in(span: &Span, offset: usize) -> Option<(usize, u64)>
     match *span {
         Span::Pages {
             item,
-            measured,
+            known,
             page,
             ..
         } => {
-            if !measured {
+            if !known.is_measured() {
                 return None;
             }
             if offset % 2 == 0 {
@@ -333,7 +334,7 @@ fn page_command(
     pool: u64,
     granule: u32,
     ipa: u64,
-    measured: bool,
+    known: PageContent,
     offset: usize,
     content: &Measurement,
 ) -> Command
@@ -342,7 +343,7 @@ fn page_command(
     requires ipa { ipa ≤ 2 ^ 47 }
     ensures { (item page count : ℕ) → offset < 2 * count
         → IsCommandAt content.now
-        (entries_of_pages pool granule measured item page (granules count ipa)) offset result }
+        (entries_of_pages pool granule known item page (granules count ipa)) offset result }
 {
     let page = (offset / 2) as u64;
     let granule = granule_at(pool, granule as u64 + page);
@@ -350,18 +351,18 @@ fn page_command(
         return Command::Delegate { granule };
     }
     let ipa = ipa + GRANULE_SIZE * page;
-    if measured {
-        Command::DataCreate {
+    match known {
+        PageContent::Measured => Command::DataCreate {
             granule,
             ipa,
             content: Some(*content),
-        }
-    } else {
-        Command::DataCreate {
+        },
+        PageContent::Unmeasured => Command::DataCreate {
             granule,
             ipa,
             content: None,
-        }
+        },
+        PageContent::Unknown => Command::DataCreateUnknown { granule, ipa },
     }
 }
 

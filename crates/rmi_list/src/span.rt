@@ -1,4 +1,5 @@
 //! The commands of a list, as it keeps them.
+use list_model::PageContent;
 
 /// One command of a list, or the commands of neighbouring pages, in at most 32 bytes. A granule is kept by its number in the pool. What is one for the whole list is
 /// kept beside it: the realm's parameters, which say where the pool begins, and those of the RECs.
@@ -25,7 +26,7 @@ pub enum Span {
         granule: u32,
         ipa: u64,
         item: u8,
-        measured: bool,
+        known: PageContent,
         page: u32,
         count: u64,
     },

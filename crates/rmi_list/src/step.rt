@@ -1,6 +1,7 @@
 //! The steps of a launch, each as it is listed.
 ghost use Rattle.std.specs.Prelude.{◌≡◌, ◌<◌, ◌≤◌, length, Some, slice_get};
 ghost use Rattle.rmi_list.specs.Listed.{list_item, list_rec, list_region, list_step};
+ghost use Rattle.rmi_list.specs.Measured.{page_content};
 ghost use Rattle.rmi_list.specs.inside.Drafts.{AreListable, Continues, InPool, progress_of};
 ghost use Rattle.rim_desc.specs.declared.rec.TheConstants.{REC_LIMIT};
 ghost use Rattle.ipa_layout.specs.declared.item_check.TheConstants.{PAGE_LIMIT};
@@ -9,7 +10,24 @@ use crate::draft::{Draft, ItemPages};
 use crate::fault::ListFault;
 use crate::span::Span;
 use ipa_layout::{PlacedItem, PlacedRec};
+use list_model::PageContent;
 use rim_launch::{Region, Step};
+
+/// What the monitor knows of the content of an item's pages.
+fn page_content(item: &PlacedItem) -> PageContent
+    ensures { result ≡ page_content item.now }
+{
+    match item.source {
+        None => PageContent::Unknown,
+        Some(_) => {
+            if item.measured {
+                PageContent::Measured
+            } else {
+                PageContent::Unmeasured
+            }
+        }
+    }
+}
 
 impl<'a> Draft<'a> {
     /// Lists that a region becomes RAM.
@@ -39,7 +57,7 @@ impl<'a> Draft<'a> {
             .data_pages(item.address - item.lead, item.pages)?;
         let pages = ItemPages {
             number: number as u8,
-            measured: item.measured,
+            known: page_content(item),
         };
         self.acts(&acts, Some(pages))
     }

@@ -68,7 +68,7 @@ fn is_common(recs: &[PlacedRec], a: &Span, others: &[PlacedRec], b: &Span, marks
         return false;
     }
     match a {
-        Span::Pages { item, measured, .. } => !*measured || is_marked(marks, *item),
+        Span::Pages { item, known, .. } => !known.is_measured() || is_marked(marks, *item),
         Span::RecCreate { number, .. } => is_same_rec(recs, others, *number),
         _ => true,
     }

@@ -14,8 +14,8 @@ pub returns-then-count-eq0 : goal.returns-then-count-eq0
 returns-then-count-eq0 c =
     let d = c.args.self.now in
     let i = c.args.item in
-    let none : entries_of_pages (pool_of d) d.taken i.measured i.number c.args.first (granules c.args.count c.args.base) ≡ [] =
-    no-page (pool_of d) d.taken i.measured i.number c.args.first c.args.count c.args.base c.if-count-eq0.true in
+    let none : entries_of_pages (pool_of d) d.taken i.known i.number c.args.first (granules c.args.count c.args.base) ≡ [] =
+    no-page (pool_of d) d.taken i.known i.number c.args.first c.args.count c.args.base c.if-count-eq0.true in
     rw none (record {
       launch = refl;
       placed = refl;
@@ -31,8 +31,8 @@ pub returns-then-self-most : goal.returns-then-self-most
 returns-then-self-most c =
     let d = c.args.self.now in
     let i = c.args.item in
-    let number : delegated (entries_of_pages (pool_of d) d.taken i.measured i.number c.args.first (granules c.args.count c.args.base)) ≡ c.args.count =
-    granules-of_pages (pool_of d) i.measured i.number c.args.count d.taken c.args.first c.args.base in
+    let number : delegated (entries_of_pages (pool_of d) d.taken i.known i.number c.args.first (granules c.args.count c.args.base)) ≡ c.args.count =
+    granules-of_pages (pool_of d) i.known i.number c.args.count d.taken c.args.first c.args.base in
     let most : c.config-most.result.pool_count ≡ d.launch.now.config.pool_count = ap (λ (k : Config). k.pool_count) c.config-most.ensures.value in
     inr (refl, omega arith)
 
@@ -40,8 +40,8 @@ pub returns-then-most-self : goal.returns-then-most-self
 returns-then-most-self c =
     let d = c.args.self.now in
     let i = c.args.item in
-    let number : delegated (entries_of_pages (pool_of d) d.taken i.measured i.number c.args.first (granules c.args.count c.args.base)) ≡ c.args.count =
-    granules-of_pages (pool_of d) i.measured i.number c.args.count d.taken c.args.first c.args.base in
+    let number : delegated (entries_of_pages (pool_of d) d.taken i.known i.number c.args.first (granules c.args.count c.args.base)) ≡ c.args.count =
+    granules-of_pages (pool_of d) i.known i.number c.args.count d.taken c.args.first c.args.base in
     let most : c.config-most.result.pool_count ≡ d.launch.now.config.pool_count = ap (λ (k : Config). k.pool_count) c.config-most.ensures.value in
     inr (refl, omega arith)
 
@@ -56,7 +56,7 @@ returns c =
       tables = refl;
       num_recs = refl;
       entries = one-more (realm_params d.launch.now.config) d.launch.now.config.num_aux d.placed.now.recs d.spans.items c.push.new.self.items _ c.in_ok-push.ensures.items;
-      taken = ap (λ (n : ℕ). d.taken + n) (sym (granules-of_pages (pool_of d) i.measured i.number c.args.count d.taken c.args.first c.args.base));
+      taken = ap (λ (n : ℕ). d.taken + n) (sym (granules-of_pages (pool_of d) i.known i.number c.args.count d.taken c.args.first c.args.base));
       pool = λ within. omega arith;
       spans = λ all. spans-more d.spans.items c.push.new.self.items _ c.in_ok-push.ensures.items (omega arith, omega (arith, c.requires.low), omega arith) all;
     }
