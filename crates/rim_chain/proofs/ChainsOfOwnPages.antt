@@ -48,9 +48,9 @@ lead-low l files p number item is_placed at =
         omega arith)
 
 by-keys : (l : LaunchData) (files : List (List ℕ)) (p : PlacedData) → IsPlaced l files p → GoByKeys l p (own_digest files p) (page_contents l files p)
-by-keys l files p is_placed number page item at =
-    rw at (ap (λ (bytes : List ℕ). let m : Measurement = record { bytes = measurement_of l.config.algo bytes } in m)
-    (sym (contents-page_bytes item.lead page (bytes_of_source files p item.source) (lead-low l files p number item is_placed at))))
+by-keys l files p is_placed number page item source at from =
+    rw (at, from) (ap (λ (bytes : List ℕ). let m : Measurement = record { bytes = measurement_of l.config.algo bytes } in m)
+    (sym (contents-page_bytes item.lead page (bytes_of_source files p source) (lead-low l files p number item is_placed at))))
 
 pub chain-held : (l : LaunchData) (files : List (List ℕ)) (p : PlacedData) (entries : List Entry) (v : PlanView)
     → IsPlaced l files p → listed l p ≡ Ok entries → IsReadOf l p v

@@ -20,6 +20,9 @@ use Rattle.rtt_plan.specs.Runs.{runs_of}
 use Rattle.rtt_plan.specs.declared.run.Run.{Run}
 use Rattle.rtt_plan.proofs.RunsCoverRegion.{region-blocks}
 use Rattle.page_jobs.specs.declared.page.PageKey.{PageKey}
+use Rattle.list_model.specs.declared.content.PageContent.{PageContent}
+use Rattle.list_model.specs.declared.content.PageContent.TheVariants.{Measured, Unmeasured, Unknown}
+use Rattle.rim_desc.specs.declared.source.Source.{Source}
 use Rattle.list_model.specs.Entries.{Contents}
 use Rattle.list_model.specs.Parts.{block_parts, page_parts}
 use Rattle.rim_launch.specs.LaunchData.{LaunchData}
@@ -30,12 +33,12 @@ use Rattle.rim_launch.specs.declared.step.Step.TheVariants as step
 use Rattle.ipa_layout.specs.Layout.{PlacedData}
 use Rattle.ipa_layout.specs.declared.placed.PlacedItem.{PlacedItem}
 use Rattle.ipa_layout.specs.declared.rec.PlacedRec.{PlacedRec}
-use Rattle.rmi_list.specs.Measured.{least_level, of_named, page_base, rec_part, step_parts}
+use Rattle.rmi_list.specs.Measured.{least_level, of_named, known_of, page_base, page_content, rec_part, step_parts}
 use Rattle.rim_chain.specs.Links.{key_after, keys_in, keys_of, link_parts, page_count, pages_with, parts_with}
-use Rattle.rim_chain.specs.Keys.{item_keys, key_at, step_keys}
+use Rattle.rim_chain.specs.Keys.{item_keys, key_at, source_keys, step_keys}
 use Rattle.rim_chain.specs.Reading.{GoByKeys, IsReadOf}
 use Rattle.rim_chain.specs.declared.link.Link.{Link}
-use Rattle.rim_chain.specs.inside.Steps.{IsReadable, IsReadableRegion, item_links, pages_link, rec_links, region_links, run_link, step_links}
+use Rattle.rim_chain.specs.inside.Steps.{IsReadable, IsReadableRegion, item_links, rec_links, region_links, run_link, source_links, step_links}
 use Rattle.rim_chain.proofs.LinksFit.{runs-keyless}
 use Rattle.rim_chain.proofs.KeysByPlace.{length-keys_in}
 
@@ -91,8 +94,8 @@ region-parts digest least r low readable =
 
 -- ---- items
 
-key-is : (algo : Algo) (item : PlacedItem) (page : ℕ) → key_after (key_at algo item 0) page ≡ key_at algo item page
-key-is algo item page = let e : 0 + page ≡ page = omega arith in rw e refl
+key-is : (algo : Algo) (source : Source) (item : PlacedItem) (page : ℕ) → key_after (key_at algo source item 0) page ≡ key_at algo source item page
+key-is algo source item page = let e : 0 + page ≡ page = omega arith in rw e refl
 
 pages-parts : (digest : PageKey → Measurement) (key : PageKey) (base : ℕ) (n i ipa : ℕ) → ipa ≡ base + 4096 * i
     → pages_with ipa (map digest (map (key_after key) (range_with_len i n)))
@@ -115,21 +118,24 @@ step-keys l p (step.Ram n) = by_region (slice_get l.ram n)
     by_region (Some r) = runs-keyless (runs_of r.base r.end (least_level l.config))
 step-keys l p (step.Item n) = by_item (slice_get p.items n)
   where
-    named : (algo : Algo) (item : PlacedItem) → map (key_after (key_at algo item 0)) (range_with_len 0 item.pages) ++ [] ≡ map (key_at algo item) (range_with_len 0 item.pages)
-    named algo item = append-nil _ ∙ map-same (key_after (key_at algo item 0)) (key_at algo item) (range_with_len 0 item.pages) (key-is algo item)
+    named : (algo : Algo) (source : Source) (item : PlacedItem)
+        → map (key_after (key_at algo source item 0)) (range_with_len 0 item.pages) ++ [] ≡ map (key_at algo source item) (range_with_len 0 item.pages)
+    named algo source item = append-nil _ ∙ map-same (key_after (key_at algo source item 0)) (key_at algo source item) (range_with_len 0 item.pages) (key-is algo source item)
 
-    by_measured : (algo : Algo) (item : PlacedItem) (b : Bool) → item.measured ≡ b → keys_of (pages_link algo item ∷ []) ≡ item_keys algo (Some item)
-    by_measured algo item true e = rw e (named algo item)
-    by_measured algo item false e = rw e refl
+    by_source : (algo : Algo) (item : PlacedItem) (s : Option Source) (b : Bool) → item.measured ≡ b → keys_of (source_links algo item s) ≡ source_keys algo item s
+    by_source algo item None b e = refl
+    by_source algo item (Some source) true e = rw e (named algo source item)
+    by_source algo item (Some source) false e = rw e refl
 
-    none : (algo : Algo) (item : PlacedItem) (b : Bool) → item.measured ≡ b → item.pages ≡ 0 → [] ≡ item_keys algo (Some item)
-    none algo item true e zero_pages = rw (e, zero_pages) refl
-    none algo item false e zero_pages = rw e refl
+    none : (algo : Algo) (item : PlacedItem) (s : Option Source) (b : Bool) → item.measured ≡ b → item.pages ≡ 0 → [] ≡ source_keys algo item s
+    none algo item None b e zero_pages = refl
+    none algo item (Some source) true e zero_pages = rw (e, zero_pages) refl
+    none algo item (Some source) false e zero_pages = rw e refl
 
     by_pages : (algo : Algo) (item : PlacedItem) → (eqb item.pages 0 ≡ true) ⊎ (eqb item.pages 0 ≡ false)
         → keys_of (item_links algo (Some item)) ≡ item_keys algo (Some item)
-    by_pages algo item (inl no_pages) = rw no_pages (none algo item item.measured refl (eqb-true item.pages 0 no_pages))
-    by_pages algo item (inr some) = rw some (by_measured algo item item.measured refl)
+    by_pages algo item (inl no_pages) = rw no_pages (none algo item item.source item.measured refl (eqb-true item.pages 0 no_pages))
+    by_pages algo item (inr some) = rw some (by_source algo item item.source item.measured refl)
 
     by_item : (o : Option PlacedItem) → keys_of (item_links l.config.algo o) ≡ item_keys l.config.algo o
     by_item None = refl
@@ -143,20 +149,29 @@ step-keys l p (step.Rec n) = by_rec (slice_get p.recs n)
 -- ---- the parts of steps
 
 item-parts : (digest : PageKey → Measurement) (contents : Contents) (algo : Algo) (number : ℕ) (item : PlacedItem)
-    → ((page : ℕ) → contents number page ≡ digest (key_at algo item page))
-    → flat_map (own_parts digest) (item_links algo (Some item)) ≡ page_parts item.measured contents number (page_base item) item.pages
+    → ((page : ℕ) (source : Source) → item.source ≡ Some source → contents number page ≡ digest (key_at algo source item page))
+    → flat_map (own_parts digest) (item_links algo (Some item)) ≡ page_parts (page_content item) contents number (page_base item) item.pages
 item-parts digest contents algo number item same = by_pages (cases_Bool (eqb item.pages 0))
   where
-    by_measured : (b : Bool) → item.measured ≡ b → own_parts digest (pages_link algo item) ≡ page_parts item.measured contents number (page_base item) item.pages
-    by_measured true e = rw e (
-        pages-parts digest (key_at algo item 0) (page_base item) item.pages 0 (page_base item) (omega arith)
-        ∙ map-same _ _ (range_with_len 0 item.pages) (λ page. ap (λ (m : Measurement). Data (page_base item + 4096 * page) (Some m.bytes)) (ap digest (key-is algo item page) ∙ sym (same page))))
-    by_measured false e = rw e (ap (map (λ x. Data x None)) (granules-map item.pages (page_base item)) ∙ map-map _ _ (range_with_len 0 item.pages))
+    by_source : (s : Option Source) (b : Bool) → item.source ≡ s → item.measured ≡ b
+        → flat_map (own_parts digest) (source_links algo item s) ≡ page_parts (known_of s item.measured) contents number (page_base item) item.pages
+    by_source None b at e = refl
+    by_source (Some source) true at e = rw e (append-nil _ ∙
+        (pages-parts digest (key_at algo source item 0) (page_base item) item.pages 0 (page_base item) (omega arith)
+        ∙ map-same _ _ (range_with_len 0 item.pages)
+        (λ page. ap (λ (m : Measurement). Data (page_base item + 4096 * page) (Some m.bytes)) (ap digest (key-is algo source item page) ∙ sym (same page source at)))))
+    by_source (Some source) false at e =
+        rw e (append-nil _ ∙ (ap (map (λ x. Data x None)) (granules-map item.pages (page_base item)) ∙ map-map _ _ (range_with_len 0 item.pages)))
+
+    no_parts : (content : PageContent) → [] ≡ page_parts content contents number (page_base item) 0
+    no_parts Measured = refl
+    no_parts Unmeasured = refl
+    no_parts Unknown = refl
 
     by_pages : (eqb item.pages 0 ≡ true) ⊎ (eqb item.pages 0 ≡ false)
-        → flat_map (own_parts digest) (item_links algo (Some item)) ≡ page_parts item.measured contents number (page_base item) item.pages
-    by_pages (inl none) = let zero_pages : item.pages ≡ 0 = eqb-true item.pages 0 none in rw (none, zero_pages) refl
-    by_pages (inr some) = rw some (append-nil _ ∙ by_measured item.measured refl)
+        → flat_map (own_parts digest) (item_links algo (Some item)) ≡ page_parts (page_content item) contents number (page_base item) item.pages
+    by_pages (inl none) = let zero_pages : item.pages ≡ 0 = eqb-true item.pages 0 none in rw (none, zero_pages) (no_parts (page_content item))
+    by_pages (inr some) = rw some (by_source item.source item.measured refl refl)
 
 step-parts : (l : LaunchData) (p : PlacedData) (digest : PageKey → Measurement) (contents : Contents) → least_level l.config ≤ 3 → GoByKeys l p digest contents
     → (st : Step) → IsReadable l st → flat_map (own_parts digest) (step_links l p st) ≡ step_parts l p contents st
@@ -170,9 +185,9 @@ step-parts l p digest contents low by_keys (step.Ram n) readable = by_region (sl
 step-parts l p digest contents low by_keys (step.Item n) readable = by_item (slice_get p.items n) refl
   where
     by_item : (o : Option PlacedItem) → slice_get p.items n ≡ o → flat_map (own_parts digest) (item_links l.config.algo o)
-        ≡ of_named (λ i. page_parts i.measured contents n (page_base i) i.pages) o
+        ≡ of_named (λ i. page_parts (page_content i) contents n (page_base i) i.pages) o
     by_item None e = refl
-    by_item (Some item) e = item-parts digest contents l.config.algo n item (λ page. by_keys n page item e)
+    by_item (Some item) e = item-parts digest contents l.config.algo n item (λ page source at. by_keys n page item source e at)
 step-parts l p digest contents low by_keys (step.Rec n) readable = by_rec (slice_get p.recs n)
   where
     by_rec : (o : Option PlacedRec) → flat_map (own_parts digest) (rec_links l.config.algo o) ≡ of_named (λ r. rec_part l.config.algo n r ∷ []) o

@@ -15,8 +15,9 @@ use Rattle.ipa_layout.specs.Layout.{PlacedData}
 use Rattle.ipa_layout.specs.declared.placed.PlacedItem.{PlacedItem}
 use Rattle.ipa_layout.specs.declared.rec.PlacedRec.{PlacedRec}
 use Rattle.rmi_list.specs.Measured.{least_level}
+use Rattle.rim_desc.specs.declared.source.Source.{Source}
 use Rattle.rim_chain.specs.Fitting.{BeginsItem}
-use Rattle.rim_chain.specs.inside.Steps.{item_links, pages_link, rec_links, region_links, run_link, step_links}
+use Rattle.rim_chain.specs.inside.Steps.{item_links, pages_link, rec_links, region_links, run_link, source_links, step_links}
 
 runs-begin : (rs : List Run) → All BeginsItem (map run_link rs)
 runs-begin [] = All-nil BeginsItem
@@ -30,13 +31,17 @@ item-begins : (algo : Algo) (o : Option PlacedItem) → All BeginsItem (item_lin
 item-begins algo None = All-nil BeginsItem
 item-begins algo (Some item) = by_pages (cases_Bool (eqb item.pages 0))
   where
-    by_measured : (b : Bool) → item.measured ≡ b → BeginsItem (pages_link algo item)
-    by_measured true e = rw e refl
-    by_measured false e = rw e tt
+    by_measured : (source : Source) (b : Bool) → item.measured ≡ b → BeginsItem (pages_link algo item source)
+    by_measured source true e = rw e refl
+    by_measured source false e = rw e tt
+
+    by_source : (s : Option Source) → All BeginsItem (source_links algo item s)
+    by_source None = All-nil BeginsItem
+    by_source (Some source) = All-cons BeginsItem (pages_link algo item source) [] (by_measured source item.measured refl) (All-nil BeginsItem)
 
     by_pages : (eqb item.pages 0 ≡ true) ⊎ (eqb item.pages 0 ≡ false) → All BeginsItem (item_links algo (Some item))
     by_pages (inl none) = rw none (All-nil BeginsItem)
-    by_pages (inr some) = rw some (All-cons BeginsItem (pages_link algo item) [] (by_measured item.measured refl) (All-nil BeginsItem))
+    by_pages (inr some) = rw some (by_source item.source)
 
 rec-begins : (algo : Algo) (o : Option PlacedRec) → All BeginsItem (rec_links algo o)
 rec-begins algo None = All-nil BeginsItem

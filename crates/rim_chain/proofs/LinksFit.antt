@@ -1,5 +1,5 @@
 -- The links of steps fit, and how many keys they have.
-use Rattle.std.proofs.Common.{inl, inr, ◌⊎◌, ◌≡◌, ℕ, suc, ◌+◌, ◌-◌, ◌*◌, ◌/◌, ◌^◌, ◌<◌, ◌≤◌, refl, arith, Bool, true, false, eqb, List, [], ◌∷◌, ◌++◌, length, map}
+use Rattle.std.proofs.Common.{inl, inr, ◌⊎◌, ◌≡◌, ℕ, suc, ◌+◌, ◌-◌, ◌*◌, ◌/◌, ◌^◌, ◌<◌, ◌≤◌, refl, arith, Bool, true, false, eqb, List, [], ◌∷◌, ◌++◌, length, map, Option, None}
 use Rattle.std.specs.Prelude.{Some}
 use Rattle.std.specs.List.{All}
 use Rattle.std.proofs.lemmas.Bool.{cases_Bool}
@@ -15,6 +15,9 @@ use Rattle.rtt_plan.specs.Following.{AreRuns, IsRun}
 use Rattle.rtt_plan.specs.Missing.{missing}
 use Rattle.rtt_plan.specs.declared.run.Run.{Run}
 use Rattle.ipa_layout.specs.declared.placed.PlacedItem.{PlacedItem}
+use Rattle.list_model.specs.declared.content.PageContent.{PageContent}
+use Rattle.list_model.specs.declared.content.PageContent.TheVariants.{Measured, Unmeasured, Unknown}
+use Rattle.rim_desc.specs.declared.source.Source.{Source}
 use Rattle.list_model.specs.Entries.{Entry, Whole, delegated, granule, page_entries, page_entry, table_entries}
 use Rattle.list_model.proofs.GranulesOfEntries.{count-append}
 use Rattle.rmi_list.specs.Measured.{page_base}
@@ -22,7 +25,7 @@ use Rattle.rim_chain.specs.Links.{key_after, keys_in, keys_of}
 use Rattle.rim_chain.specs.Keys.{key_at}
 use Rattle.rim_chain.specs.declared.link.Link.{Link}
 use Rattle.rim_chain.specs.Fitting.{IsFitting}
-use Rattle.rim_chain.specs.inside.Steps.{item_links, pages_link, run_link}
+use Rattle.rim_chain.specs.inside.Steps.{item_links, pages_link, run_link, source_links}
 
 -- ---- runs
 
@@ -43,35 +46,40 @@ runs-keyless (r ∷ rs) = runs-keyless rs
 -- ---- pages
 
 -- each page takes a granule
-pub pages-taken : (xs : List ℕ) (pool n start : ℕ) (ts : List Table) (measured : Bool) (item k : ℕ)
-    → length xs ≤ delegated (page_entries pool n start ts measured item k xs)
+pub pages-taken : (xs : List ℕ) (pool n start : ℕ) (ts : List Table) (content : PageContent) (item k : ℕ)
+    → length xs ≤ delegated (page_entries pool n start ts content item k xs)
 unfolding page_entries
-pages-taken [] pool n start ts measured item k = omega arith
-pages-taken (x ∷ xs) pool n start ts measured item k =
+pages-taken [] pool n start ts content item k = omega arith
+pages-taken (x ∷ xs) pool n start ts content item k =
     let new : List Table = missing start ts 3 x in
     let g : ℕ = granule pool (n + length new) in
-    let rest : List Entry = page_entries pool (n + length new + 1) start (ts ++ new) measured item (k + 1) xs in
-    let more : length xs ≤ delegated rest = pages-taken xs pool (n + length new + 1) start (ts ++ new) measured item (k + 1) in
-    let one : delegated (Whole (Delegate g) ∷ page_entry measured g x item k ∷ rest) ≡ suc (delegated rest) = by_page measured g x item k rest in
-    let all : delegated (table_entries pool n new ++ (Whole (Delegate g) ∷ page_entry measured g x item k ∷ rest))
-    ≡ delegated (table_entries pool n new) + delegated (Whole (Delegate g) ∷ page_entry measured g x item k ∷ rest) = count-append (table_entries pool n new) _ in
+    let rest : List Entry = page_entries pool (n + length new + 1) start (ts ++ new) content item (k + 1) xs in
+    let more : length xs ≤ delegated rest = pages-taken xs pool (n + length new + 1) start (ts ++ new) content item (k + 1) in
+    let one : delegated (Whole (Delegate g) ∷ page_entry content g x item k ∷ rest) ≡ suc (delegated rest) = by_page content g x item k rest in
+    let all : delegated (table_entries pool n new ++ (Whole (Delegate g) ∷ page_entry content g x item k ∷ rest))
+    ≡ delegated (table_entries pool n new) + delegated (Whole (Delegate g) ∷ page_entry content g x item k ∷ rest) = count-append (table_entries pool n new) _ in
     rw all (omega arith)
   where
-    by_page : (measured : Bool) (g x item k : ℕ) (rest : List Entry)
-        → delegated (Whole (Delegate g) ∷ page_entry measured g x item k ∷ rest) ≡ suc (delegated rest)
-    by_page true g x item k rest = refl
-    by_page false g x item k rest = refl
+    by_page : (content : PageContent) (g x item k : ℕ) (rest : List Entry)
+        → delegated (Whole (Delegate g) ∷ page_entry content g x item k ∷ rest) ≡ suc (delegated rest)
+    by_page Measured g x item k rest = refl
+    by_page Unmeasured g x item k rest = refl
+    by_page Unknown g x item k rest = refl
 
 pub item-fits : (algo : Algo) (item : PlacedItem) → page_base item + 4096 * item.pages ≤ 2 ^ 47 → All IsFitting (item_links algo (Some item))
 item-fits algo item small = by_pages (cases_Bool (eqb item.pages 0))
   where
-    by_measured : (b : Bool) → item.measured ≡ b → IsFitting (pages_link algo item)
-    by_measured true e = rw e (omega arith, omega arith)
-    by_measured false e = rw e (omega arith)
+    by_measured : (source : Source) (b : Bool) → item.measured ≡ b → IsFitting (pages_link algo item source)
+    by_measured source true e = rw e (omega arith, omega arith)
+    by_measured source false e = rw e (omega arith)
+
+    by_source : (s : Option Source) → All IsFitting (source_links algo item s)
+    by_source None = All-nil IsFitting
+    by_source (Some source) = All-cons IsFitting (pages_link algo item source) [] (by_measured source item.measured refl) (All-nil IsFitting)
 
     by_pages : (eqb item.pages 0 ≡ true) ⊎ (eqb item.pages 0 ≡ false) → All IsFitting (item_links algo (Some item))
     by_pages (inl none) = rw none (All-nil IsFitting)
-    by_pages (inr some) = rw some (All-cons IsFitting (pages_link algo item) [] (by_measured item.measured refl) (All-nil IsFitting))
+    by_pages (inr some) = rw some (by_source item.source)
 
 keys-one : (link : Link) → length (keys_of (link ∷ [])) ≡ length (keys_in link)
 keys-one link = let size : length (keys_in link ++ []) ≡ length (keys_in link) + 0 = length-append (keys_in link) [] in omega arith
@@ -79,10 +87,14 @@ keys-one link = let size : length (keys_in link ++ []) ≡ length (keys_in link)
 pub item-keys-few : (algo : Algo) (item : PlacedItem) → length (keys_of (item_links algo (Some item))) ≤ item.pages
 item-keys-few algo item = by_pages (cases_Bool (eqb item.pages 0))
   where
-    by_measured : (b : Bool) → item.measured ≡ b → length (keys_in (pages_link algo item)) ≤ item.pages
-    by_measured true e = rw e (let count = length-map-range_with_len (key_after (key_at algo item 0)) 0 item.pages in omega (arith, count))
-    by_measured false e = rw e (omega arith)
+    by_measured : (source : Source) (b : Bool) → item.measured ≡ b → length (keys_in (pages_link algo item source)) ≤ item.pages
+    by_measured source true e = rw e (let count = length-map-range_with_len (key_after (key_at algo source item 0)) 0 item.pages in omega (arith, count))
+    by_measured source false e = rw e (omega arith)
+
+    by_source : (s : Option Source) → length (keys_of (source_links algo item s)) ≤ item.pages
+    by_source None = omega arith
+    by_source (Some source) = rw (keys-one (pages_link algo item source)) (by_measured source item.measured refl)
 
     by_pages : (eqb item.pages 0 ≡ true) ⊎ (eqb item.pages 0 ≡ false) → length (keys_of (item_links algo (Some item))) ≤ item.pages
     by_pages (inl none) = rw none (omega arith)
-    by_pages (inr some) = rw some (rw (keys-one (pages_link algo item)) (by_measured item.measured refl))
+    by_pages (inr some) = rw some (by_source item.source)

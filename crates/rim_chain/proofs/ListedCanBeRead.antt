@@ -26,7 +26,7 @@ use Rattle.ipa_layout.specs.Layout.{PlacedData}
 use Rattle.ipa_layout.specs.declared.placed.PlacedItem.{PlacedItem}
 use Rattle.ipa_layout.specs.declared.rec.PlacedRec.{PlacedRec}
 use Rattle.rmi_list.specs.Listed.{Listing, Progress, list_item, list_named, list_rec, list_region, list_step, list_steps, listed, opening_progress, opening_checks, opening_entries, plan_checks, pool_check}
-use Rattle.rmi_list.specs.Measured.{least_level, page_base}
+use Rattle.rmi_list.specs.Measured.{least_level, page_base, page_content}
 use Rattle.rmi_list.specs.RecParams.{rec_params}
 use Rattle.rmi_list.specs.declared.fault.ListFault.{ListFault}
 use Rattle.rmi_list.specs.declared.fault.ListFault.TheVariants as fault
@@ -105,14 +105,14 @@ item-read c w number item done is_bounded = elim (cases_Bool (eqb item.pages 0))
 ]
   where
     pages-read : eqb item.pages 0 ≡ false
-        → unless_refused (plan_checks (data_checks w.plan (page_base item) item.pages) ++ pool_check c w.taken (item_entries c.pool_base w.taken w.plan item.measured number (page_base item) item.pages) ∷ []) (record {
-          entries = item_entries c.pool_base w.taken w.plan item.measured number (page_base item) item.pages;
-          next = record w { plan = after_data w.plan (page_base item) item.pages; taken = w.taken + delegated (item_entries c.pool_base w.taken w.plan item.measured number (page_base item) item.pages) };
+        → unless_refused (plan_checks (data_checks w.plan (page_base item) item.pages) ++ pool_check c w.taken (item_entries c.pool_base w.taken w.plan (page_content item) number (page_base item) item.pages) ∷ []) (record {
+          entries = item_entries c.pool_base w.taken w.plan (page_content item) number (page_base item) item.pages;
+          next = record w { plan = after_data w.plan (page_base item) item.pages; taken = w.taken + delegated (item_entries c.pool_base w.taken w.plan (page_content item) number (page_base item) item.pages) };
         }) ≡ Ok done
         → AreRead c w (item_links c.algo (Some item)) done.next
     pages-read some at =
         (let base : ℕ = page_base item in
-        let entries : List Entry = item_entries c.pool_base w.taken w.plan item.measured number base item.pages in
+        let entries : List Entry = item_entries c.pool_base w.taken w.plan (page_content item) number base item.pages in
         let made : Listing = record { entries = entries; next = record w { plan = after_data w.plan base item.pages; taken = w.taken + delegated entries } } in
         let last : Check ListFault = pool_check c w.taken entries in
         let checks : List (Check ListFault) = plan_checks (data_checks w.plan base item.pages) ++ last ∷ [] in
@@ -125,7 +125,7 @@ item-read c w number item done is_bounded = elim (cases_Bool (eqb item.pages 0))
         let keys : length (keys_of (item_links c.algo (Some item))) ≤ item.pages = item-keys-few c.algo item in
         let size : length (granules item.pages base) ≡ item.pages = length-granules item.pages base in
         let own : length (granules item.pages base) ≤ delegated entries =
-        pages-taken (granules item.pages base) c.pool_base w.taken w.plan.space.start w.plan.space.tables item.measured number 0 in
+        pages-taken (granules item.pages base) c.pool_base w.taken w.plan.space.start w.plan.space.tables (page_content item) number 0 in
         subst (λ (d : Listing). AreRead c w (item_links c.algo (Some item)) d.next) same (record {
           fit = item-fits c.algo item (omega arith);
           few = omega arith;

@@ -170,19 +170,22 @@ fn run_link(run: &Run) -> Link
     }
 }
 
-/// Adds the link of an item, if it has pages.
+/// Adds the link of an item, if it has pages and a source.
 fn push_item(links: &mut Vec<Link>, algo: Algo, item: &PlacedItem) -> Result<(), NoMemory>
     ensures { OnOk result (links.new.items ≡ links.old.items ++ item_links algo (Some item.now)) }
 {
     if item.pages == 0 {
         return Ok(());
     }
+    let Some(source) = item.source else {
+        return Ok(());
+    };
     let ipa = item.address.saturating_sub(item.lead);
     let count = item.pages;
     links.push(if item.measured {
         let key = PageKey {
             algo,
-            source: item.source,
+            source,
             lead: item.lead,
             number: 0,
         };
