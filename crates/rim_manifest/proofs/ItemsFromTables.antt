@@ -8,9 +8,9 @@ use Rattle.std.proofs.lemmas.List.Sums.{sum_by-append}
 use Rattle.toml.specs.Data.{Data}
 use Rattle.rim_launch.specs.Kinds.{count_of, file_of, has_role, is_role, needs_initrd, needs_memory, role_of}
 use Rattle.rim_launch.specs.declared.item.Role.{Role}
-use Rattle.rim_launch.specs.declared.item.Role.TheVariants.{Kernel, Initrd, Dtb, Raw}
+use Rattle.rim_launch.specs.declared.item.Role.TheVariants.{Kernel, Initrd, Dtb, Raw, Unknown}
 use Rattle.rim_manifest.specs.Items.{edits_of, item_of, kind_of}
-use Rattle.rim_manifest.specs.Names.{file_at, is_at_role, role_at, role_count}
+use Rattle.rim_manifest.specs.Names.{file_at, is_at_role, needs_file, role_at, role_count}
 
 place-map : {X Y : Type 0} (p : Y → Bool) (f : X → Y) (xs : List X) → position_or_len p (map f xs) ≡ position_or_len (λ x. p (f x)) xs
 place-map p f [] = refl
@@ -64,24 +64,28 @@ role_of-kind Kernel file d = refl
 role_of-kind Initrd file d = refl
 role_of-kind Dtb file d = refl
 role_of-kind Raw file d = refl
+role_of-kind Unknown file d = refl
 
-pub file_of-kind : (r : Role) (file : ℕ) (d : Data) → file_of (kind_of r file d) ≡ file
+pub file_of-kind : (r : Role) (file : ℕ) (d : Data) → file_of (kind_of r file d) ≡ cond (needs_file r) (Some file) None
 file_of-kind Kernel file d = refl
 file_of-kind Initrd file d = refl
 file_of-kind Dtb file d = refl
 file_of-kind Raw file d = refl
+file_of-kind Unknown file d = refl
 
 initrd-kind : (r : Role) (file : ℕ) (d : Data) → needs_initrd (kind_of r file d) ≡ (is_role Dtb r && (edits_of d).initrd)
 initrd-kind Kernel file d = refl
 initrd-kind Initrd file d = refl
 initrd-kind Dtb file d = refl
 initrd-kind Raw file d = refl
+initrd-kind Unknown file d = refl
 
 memory-kind : (r : Role) (file : ℕ) (d : Data) → needs_memory (kind_of r file d) ≡ (is_role Dtb r && (edits_of d).memory)
 memory-kind Kernel file d = refl
 memory-kind Initrd file d = refl
 memory-kind Dtb file d = refl
 memory-kind Raw file d = refl
+memory-kind Unknown file d = refl
 
 pub role-item : (files : List Data) (r : Role) (d : Data) → has_role r (item_of files d) ≡ is_at_role r d
 unfolding item_of

@@ -1,16 +1,15 @@
 -- Launches read one after another, each with its place as its number.
-use Rattle.std.proofs.Common.{◌≡◌, ℕ, zero, suc, slice_get, refl, ◌+◌, ◌<◌, List, [], ◌∷◌, ◌++◌, length, get_or, take, map, true, false, not, codes, Some, ap, sym, ◌∙◌, arith}
+use Rattle.std.proofs.Common.{◌≡◌, ℕ, zero, suc, slice_get, refl, ◌+◌, ◌<◌, List, [], ◌∷◌, ◌++◌, length, get_or, take, map, Bool, true, false, cond, not, ◌&&◌, codes, Some, None, ap, sym, ◌∙◌, arith}
 use Rattle.std.proofs.lemmas.List.{length-map, length-take-le, map-append, take_more}
 use Rattle.toml.specs.Data.{Data, get}
 use Rattle.toml.specs.View.{view}
 use Rattle.toml.specs.declared.value.Value.{Value}
 use Rattle.rim_launch.specs.LaunchData.{has_files}
 use Rattle.std.specs.List.{list_all, list_any}
-use Rattle.std.specs.Prelude.{nat_lt}
 use Rattle.std.proofs.lemmas.Bool.{lt-ltb}
-use Rattle.rim_launch.specs.Kinds.{file_of}
+use Rattle.rim_launch.specs.Kinds.{file_of, is_below}
 use Rattle.rim_manifest.specs.Items.{item_of}
-use Rattle.rim_manifest.specs.Names.{file_at, has_file, is_named, lacks_file, role_at}
+use Rattle.rim_manifest.specs.Names.{file_at, has_file, is_named, lacks_file, lacks_its_file, needs_file, role_at}
 use Rattle.rim_manifest.specs.Values.{array_at, text_in}
 use Rattle.rim_manifest.proofs.TablesWithoutFaults.{holds, neither}
 use Rattle.rim_manifest.proofs.ItemsFromTables.{file_of-kind, found_below}
@@ -36,14 +35,19 @@ launches_step files vs i v ls after l h at so_far read pushed =
 
 -- ---- the number of a launch is its place, and its files are those of the release
 
-files_of_items : (files : List Data) (ds : List Data) → list_any (λ i. not (has_file files i)) ds ≡ false
-    → list_all (λ i. nat_lt (file_of i.kind) (length files)) (map (item_of files) ds) ≡ true
+below_count : (files : List Data) (d : Data) (needed : Bool) → (needed && not (has_file files d)) ≡ false → is_below (length files) (cond needed (Some (file_at files d)) None) ≡ true
+below_count files d true e =
+    let below : file_at files d < length files = found_below (is_named (text_in (get (codes "file") d))) files (holds (has_file files d) e) in
+    lt-ltb _ _ below
+below_count files d false e = refl
+
+files_of_items : (files : List Data) (ds : List Data) → list_any (lacks_its_file files) ds ≡ false
+    → list_all (λ i. is_below (length files) (file_of i.kind)) (map (item_of files) ds) ≡ true
 unfolding item_of
 files_of_items files [] e = refl
 files_of_items files (d ∷ ds) e =
-    let parts = neither (not (has_file files d)) (list_any (λ i. not (has_file files i)) ds) e in
-    let below : file_at files d < length files = found_below (is_named (text_in (get (codes "file") d))) files (holds (has_file files d) parts.0) in
-    rw (file_of-kind (role_at d) (file_at files d) d, lt-ltb _ _ below) (files_of_items files ds parts.1)
+    let parts = neither (lacks_its_file files d) (list_any (lacks_its_file files) ds) e in
+    rw (file_of-kind (role_at d) (file_at files d) d, below_count files d (needs_file (role_at d)) parts.0) (files_of_items files ds parts.1)
 
 place : (files : List Data) (n : ℕ) (ds : List Data) (i : ℕ) (l : NamedData) → list_any (lacks_file files) ds ≡ false → slice_get (launches_from files n ds) i ≡ Some l
     → (l.launch.number ≡ n + i) × (has_files l.launch (length files) ≡ true)

@@ -1,6 +1,6 @@
 -- What is read of a manifest without faults is what the manifest gives.
 use Rattle.std.proofs.Common.{◌≡◌, ◌≤◌, IsOk, ℕ, zero, suc, ◌+◌, List, [], ◌∷◌, ◌++◌, length, take, drop, map, Bool, true, false, cond, not, ◌&&◌, ◌||◌, Option, Some, None, Result, Ok, Err, pos, negsuc, refl, ap, sym, subst, ◌∙◌, codes, true≢false}
-use Rattle.std.specs.Prelude.{nat_le, ◌==◌, is_some, position, slice_get, unwrap_or}
+use Rattle.std.specs.Prelude.{nat_le, ◌==◌, IsSome, is_some, position, slice_get, unwrap_or}
 use Rattle.std.specs.List.{AllByRecursion, flat_map, list_all, list_any}
 use Rattle.std.specs.Result.{result_unwrap_or}
 use Rattle.std.specs.Str.{bytes_eq}
@@ -22,7 +22,7 @@ use Rattle.rim_manifest.specs.declared.form.Presence.{Presence}
 use Rattle.rim_manifest.specs.declared.form.Presence.TheVariants.{Required, Optional}
 use Rattle.rim_manifest.specs.Faults.{fault_if, lowest}
 use Rattle.rim_manifest.specs.Forms.{is_pool_base, is_range, is_range_pair, is_table, items_in, items_list}
-use Rattle.rim_manifest.specs.Given.{EachGives, FillsWord, GivesBootargs, GivesBytes, GivesFile, GivesItem, GivesKind, GivesNumber, GivesPath, GivesRec, GivesRegion, GivesSize, GivesSteps, GivesTruth, GivesWord, GivesWords, IsGiven, SpellsWord, role_text}
+use Rattle.rim_manifest.specs.Given.{EachGives, FillsWord, GivesBootargs, GivesBytes, GivesFile, GivesItem, GivesKind, GivesMeasured, GivesNumber, GivesPath, GivesRec, GivesRegion, GivesSize, GivesSteps, GivesTruth, GivesWord, GivesWords, IsGiven, SpellsWord, role_text}
 use Rattle.rim_manifest.specs.Launches.{ReleaseData, config_of, items_of, ram_of, recs_of, launch_of, launches_from, rec_of, region_in, region_of}
 use Rattle.rim_manifest.specs.Values.{algorithm_in, array_at, base_in, digits_in, number_in, text_in, truth_in, whole_in, word_at, word_in, words_in}
 use Rattle.rim_manifest.specs.Words.{are_digits, hex_number, is_word, word_of}
@@ -35,12 +35,12 @@ use Rattle.rim_manifest.specs.StepTexts.{has_bad_steps, is_miscounted, is_misnam
 use Rattle.rim_manifest.proofs.StepsAsSpelled.{texts_given}
 use Rattle.rim_launch.specs.Texts.{has_no_zero}
 use Rattle.rim_launch.specs.declared.item.Role.{Role}
-use Rattle.rim_launch.specs.declared.item.Role.TheVariants.{Kernel, Initrd, Dtb, Raw}
-use Rattle.rim_manifest.specs.Items.{bootargs_in, item_of, kind_of, size_in}
-use Rattle.rim_manifest.specs.Names.{file_at, has_file, is_named, lacks_file, name_of, role_at, role_of_word}
-use Rattle.rim_manifest.specs.Rules.{dtb_rules, file_rules, item_rules, rec_rules}
-use Rattle.rim_manifest.proofs.TablesWithoutFaults.{all_tables, both, each_value, empty_parts, few_regions, good_launch, good_top, good_value, holds, neither, not_faulty}
-use Rattle.rim_manifest.proofs.ItemsFromTables.{file_of-kind, found_there, role_of-kind}
+use Rattle.rim_launch.specs.declared.item.Role.TheVariants.{Kernel, Initrd, Dtb, Raw, Unknown}
+use Rattle.rim_manifest.specs.Items.{bootargs_in, item_of, kind_of, measured_for, size_for, size_in}
+use Rattle.rim_manifest.specs.Names.{file_at, has_file, is_named, lacks_file, lacks_its_file, name_of, needs_file, role_at, role_of_word}
+use Rattle.rim_manifest.specs.Rules.{dtb_rules, file_rules, item_rules, rec_rules, unknown_rules}
+use Rattle.rim_manifest.proofs.TablesWithoutFaults.{all_tables, both, each_value, empty_parts, few_regions, good_launch, good_top, good_value, holds, neither, not_faulty, not_given}
+use Rattle.rim_manifest.proofs.ItemsFromTables.{found_there, role_of-kind}
 use Rattle.rim_manifest.proofs.LowestFault.{none_noted}
 use Rattle.rim_manifest.proofs.SameRegions.{reads_as}
 use Rattle.rim_desc.specs.Measurement.{algo_word}
@@ -209,6 +209,12 @@ size_given : (key : List ℕ) (p : Presence) (o : Option Data) → cell_faults (
 size_given key p None e = tt
 size_given key p (Some d) e = number_given key p 0 9223372036854775807 0 (Some d) e
 
+-- where it has to be given
+size_there : (key : List ℕ) (o : Option Data) → cell_faults (record { key = key; form = form.Number (pos 0) (pos 9223372036854775807); presence = Required }) o ≡ []
+    → IsSome o × GivesSize o (Some (number_in 0 9223372036854775807 0 o))
+size_there key None e = cc
+size_there key (Some d) e = (refl, number_given key Required 0 9223372036854775807 0 (Some d) e)
+
 taken_text : (b : Bool) (s : List ℕ) → b ≡ true → GivesBootargs (Some (string s)) (cond b (Some s) None)
 taken_text true s e = refl
 taken_text false s e = cc
@@ -218,26 +224,37 @@ bootargs_given key p None e = tt
 bootargs_given key p (Some (string s)) e = taken_text (has_no_zero s) s (good_value form.Bootargs (string s) e).within
 bootargs_given key p (Some d) e = absurd (true≢false (sym (good_value form.Bootargs d e).kind))
 
--- one of the four words
-word_is : (s : List ℕ) (a b c d : Bool) → bytes_eq s (codes "kernel") ≡ a → bytes_eq s (codes "initrd") ≡ b → bytes_eq s (codes "dtb") ≡ c → bytes_eq s (codes "raw") ≡ d
-    → (a || b || c || d) ≡ true → s ≡ role_text (cond a Kernel (cond b Initrd (cond c Dtb Raw)))
-word_is s true b c d kernel initrd dtb raw e = (bytes_eq-Decides s (codes "kernel")).0 kernel
-word_is s false true c d kernel initrd dtb raw e = (bytes_eq-Decides s (codes "initrd")).0 initrd
-word_is s false false true d kernel initrd dtb raw e = (bytes_eq-Decides s (codes "dtb")).0 dtb
-word_is s false false false true kernel initrd dtb raw e = (bytes_eq-Decides s (codes "raw")).0 raw
-word_is s false false false false kernel initrd dtb raw e = cc
+-- one of the five words
+word_is : (s : List ℕ) (a b c d f : Bool) → bytes_eq s (codes "kernel") ≡ a → bytes_eq s (codes "initrd") ≡ b → bytes_eq s (codes "dtb") ≡ c → bytes_eq s (codes "raw") ≡ d
+    → bytes_eq s (codes "unknown") ≡ f → (a || b || c || d || f) ≡ true → s ≡ role_text (cond a Kernel (cond b Initrd (cond c Dtb (cond f Unknown Raw))))
+word_is s true b c d f kernel initrd dtb raw unknown e = (bytes_eq-Decides s (codes "kernel")).0 kernel
+word_is s false true c d f kernel initrd dtb raw unknown e = (bytes_eq-Decides s (codes "initrd")).0 initrd
+word_is s false false true d f kernel initrd dtb raw unknown e = (bytes_eq-Decides s (codes "dtb")).0 dtb
+word_is s false false false d true kernel initrd dtb raw unknown e = (bytes_eq-Decides s (codes "unknown")).0 unknown
+word_is s false false false true false kernel initrd dtb raw unknown e = (bytes_eq-Decides s (codes "raw")).0 raw
+word_is s false false false false false kernel initrd dtb raw unknown e = cc
 
 role_there : (key : List ℕ) (o : Option Data) → cell_faults (record { key = key; form = form.ItemKind; presence = Required }) o ≡ []
     → o ≡ Some (string (role_text (role_of_word (text_in o))))
 role_there key None e = cc
 role_there key (Some (string s)) e =
-    ap (λ t. Some (string t)) (word_is s (bytes_eq s (codes "kernel")) (bytes_eq s (codes "initrd")) (bytes_eq s (codes "dtb")) (bytes_eq s (codes "raw")) refl refl refl refl (good_value form.ItemKind (string s) e).within)
+    ap (λ t. Some (string t)) (word_is s (bytes_eq s (codes "kernel")) (bytes_eq s (codes "initrd")) (bytes_eq s (codes "dtb")) (bytes_eq s (codes "raw")) (bytes_eq s (codes "unknown")) refl refl refl refl refl
+    (good_value form.ItemKind (string s) e).within)
 role_there key (Some d) e = absurd (true≢false (sym (good_value form.ItemKind d e).kind))
 
 any_text_there : (key : List ℕ) (o : Option Data) → cell_faults (record { key = key; form = form.AnyText; presence = Required }) o ≡ [] → o ≡ Some (string (text_in o))
 any_text_there key None e = cc
 any_text_there key (Some (string s)) e = refl
 any_text_there key (Some d) e = absurd (true≢false (sym (good_value form.AnyText d e).kind))
+
+-- what an item of each kind gives: the word of its kind, and its address
+abbrev RoleAndAt : Members → Type 0
+RoleAndAt ms = (get_member (codes "kind") ms ≡ Some (string (role_text (role_at (table ms)))))
+    × (get_member (codes "at") ms ≡ Some (integer (pos (number_in 0 9223372036854775807 0 (get_member (codes "at") ms)))))
+
+role_and_at_there : (ms : Members) → cell_faults (record { key = codes "kind"; form = form.ItemKind; presence = Required }) (get_member (codes "kind") ms) ≡ []
+    → cell_faults (record { key = codes "at"; form = form.Number (pos 0) (pos 9223372036854775807); presence = Required }) (get_member (codes "at") ms) ≡ [] → RoleAndAt ms
+role_and_at_there ms kind at = (role_there (codes "kind") _ kind, number_there (codes "at") 0 9223372036854775807 0 _ at)
 
 first_of_four : (a b c d : Bool) → (a && b && c && d) ≡ true → a ≡ true
 first_of_four true b c d e = refl
@@ -257,18 +274,57 @@ module _ (files : List Data) (tables : list_all is_table files ≡ true) (good :
   name_there (table ms) t e = text_there (codes "name") (get_member (codes "name") ms) (each_value file_rules ms e).0
   name_there _ t e = cc
 
-  file_given : (name : List ℕ) → list_any (is_named name) files ≡ true → GivesFile files (Some (string name)) (unwrap_or (position (is_named name) files) 0)
+  file_given : (name : List ℕ) → list_any (is_named name) files ≡ true → GivesFile files (Some (string name)) (Some (unwrap_or (position (is_named name) files) 0))
   file_given name any =
       let found = found_there (is_named name) files any in
       let whole = at_place files _ found.0 tables good found.1 in
       let named : name_of found.0 ≡ name = (bytes_eq-Decides (name_of found.0) name).0 found.2 in
       (found.0, found.1, name_there found.0 whole.0 whole.1 ∙ ap (λ n. Some (string n)) named)
 
-  item_rules_hold : (r : Role) (ms : Members) → table_faults (rules_of r) ms ≡ [] → AllByRecursion (λ rule. rule_faults rule ms ≡ []) item_rules
-  item_rules_hold Dtb ms e = let each = each_value dtb_rules ms e in (each.0, (each.1.0, (each.1.1.0, (each.1.1.1.0, (each.1.1.1.1.0, (each.1.1.1.1.1.0, tt))))))
-  item_rules_hold Kernel ms e = each_value item_rules ms e
-  item_rules_hold Initrd ms e = each_value item_rules ms e
-  item_rules_hold Raw ms e = each_value item_rules ms e
+  -- an item whose content is known has the keys of an item, whichever kind it is of
+  item_rules_hold : (r : Role) (ms : Members) → needs_file r ≡ true → table_faults (rules_of r) ms ≡ [] → AllByRecursion (λ rule. rule_faults rule ms ≡ []) item_rules
+  item_rules_hold Dtb ms known e = let each = each_value dtb_rules ms e in (each.0, (each.1.0, (each.1.1.0, (each.1.1.1.0, (each.1.1.1.1.0, (each.1.1.1.1.1.0, tt))))))
+  item_rules_hold Kernel ms known e = each_value item_rules ms e
+  item_rules_hold Initrd ms known e = each_value item_rules ms e
+  item_rules_hold Raw ms known e = each_value item_rules ms e
+  item_rules_hold Unknown ms known e = cc
+
+  role_and_at : (r : Role) (ms : Members) → table_faults (rules_of r) ms ≡ [] → RoleAndAt ms
+  role_and_at Unknown ms e = let each = each_value unknown_rules ms e in role_and_at_there ms each.1.0 each.1.1.0
+  role_and_at Kernel ms e = let each = item_rules_hold Kernel ms refl e in role_and_at_there ms each.1.0 each.1.1.1.0
+  role_and_at Initrd ms e = let each = item_rules_hold Initrd ms refl e in role_and_at_there ms each.1.0 each.1.1.1.0
+  role_and_at Dtb ms e = let each = item_rules_hold Dtb ms refl e in role_and_at_there ms each.1.0 each.1.1.1.0
+  role_and_at Raw ms e = let each = item_rules_hold Raw ms refl e in role_and_at_there ms each.1.0 each.1.1.1.0
+
+  -- what the other keys give, by the rules of the item's kind
+  named_file : (ms : Members) → AllByRecursion (λ rule. rule_faults rule ms ≡ []) item_rules → not (has_file files (table ms)) ≡ false
+      → GivesFile files (get_member (codes "file") ms) (Some (file_at files (table ms)))
+  named_file ms each found =
+      let file : get_member (codes "file") ms ≡ Some (string (text_in (get_member (codes "file") ms))) = any_text_there (codes "file") _ each.1.1.0 in
+      subst (λ o. GivesFile files o (Some (file_at files (table ms)))) (sym file) (file_given (text_in (get_member (codes "file") ms)) (holds (has_file files (table ms)) found))
+
+  file_for : (r : Role) (ms : Members) → table_faults (rules_of r) ms ≡ [] → (needs_file r && not (has_file files (table ms))) ≡ false
+      → GivesFile files (get_member (codes "file") ms) (file_of (kind_of r (file_at files (table ms)) (table ms)))
+  file_for Unknown ms e found = rw (not_given unknown_rules (codes "file") ms refl e) tt
+  file_for Kernel ms e found = named_file ms (item_rules_hold Kernel ms refl e) found
+  file_for Initrd ms e found = named_file ms (item_rules_hold Initrd ms refl e) found
+  file_for Dtb ms e found = named_file ms (item_rules_hold Dtb ms refl e) found
+  file_for Raw ms e found = named_file ms (item_rules_hold Raw ms refl e) found
+
+  size_given_for : (r : Role) (ms : Members) → table_faults (rules_of r) ms ≡ [] → GivesSize (get_member (codes "size") ms) (size_for r (get_member (codes "size") ms))
+  size_given_for Unknown ms e = (size_there (codes "size") _ (each_value unknown_rules ms e).1.1.1.0).1
+  size_given_for Kernel ms e = size_given (codes "size") Optional (get_member (codes "size") ms) (item_rules_hold Kernel ms refl e).1.1.1.1.0
+  size_given_for Initrd ms e = size_given (codes "size") Optional (get_member (codes "size") ms) (item_rules_hold Initrd ms refl e).1.1.1.1.0
+  size_given_for Dtb ms e = size_given (codes "size") Optional (get_member (codes "size") ms) (item_rules_hold Dtb ms refl e).1.1.1.1.0
+  size_given_for Raw ms e = size_given (codes "size") Optional (get_member (codes "size") ms) (item_rules_hold Raw ms refl e).1.1.1.1.0
+
+  measured_given : (r : Role) (file : ℕ) (ms : Members) → table_faults (rules_of r) ms ≡ []
+      → GivesMeasured (kind_of r file (table ms)) (get_member (codes "measured") ms) (measured_for r (get_member (codes "measured") ms))
+  measured_given Unknown file ms e = (not_given unknown_rules (codes "measured") ms refl e, refl)
+  measured_given Kernel file ms e = truth_given (codes "measured") Optional true _ (item_rules_hold Kernel ms refl e).1.1.1.1.1.0
+  measured_given Initrd file ms e = truth_given (codes "measured") Optional true _ (item_rules_hold Initrd ms refl e).1.1.1.1.1.0
+  measured_given Dtb file ms e = truth_given (codes "measured") Optional true _ (item_rules_hold Dtb ms refl e).1.1.1.1.1.0
+  measured_given Raw file ms e = truth_given (codes "measured") Optional true _ (item_rules_hold Raw ms refl e).1.1.1.1.1.0
 
   kind_given : (r : Role) (file : ℕ) (ms : Members) → table_faults (rules_of r) ms ≡ [] → GivesKind (table ms) (kind_of r file (table ms))
   kind_given Dtb file ms e =
@@ -281,32 +337,31 @@ module _ (files : List Data) (tables : list_all is_table files ≡ true) (good :
   kind_given Kernel file ms e = tt
   kind_given Initrd file ms e = tt
   kind_given Raw file ms e = tt
+  kind_given Unknown file ms e = (size_there (codes "size") _ (each_value unknown_rules ms e).1.1.1.0).0
 
-  item_given : (d : Data) → is_table d ≡ true → item_faults d ≡ [] → has_file files d ≡ true → GivesItem files d (item_of files d)
+  item_given : (d : Data) → is_table d ≡ true → item_faults d ≡ [] → lacks_its_file files d ≡ false → GivesItem files d (item_of files d)
   unfolding item_of
-  item_given (table ms) t e there =
-      let each = item_rules_hold (role_at (table ms)) ms e in
-      let file : get_member (codes "file") ms ≡ Some (string (text_in (get_member (codes "file") ms))) = any_text_there (codes "file") _ each.1.1.0 in
+  item_given (table ms) t e found =
+      let r = role_at (table ms) in
+      let shared = role_and_at r ms e in
       record {
-        role = role_there (codes "kind") _ each.1.0 ∙ ap (λ r. Some (string (role_text r))) (sym (role_of-kind (role_at (table ms)) (file_at files (table ms)) (table ms)));
-        file = subst (λ o. GivesFile files o (file_of (kind_of (role_at (table ms)) (file_at files (table ms)) (table ms)))) (sym file)
-            (subst (GivesFile files (Some (string (text_in (get_member (codes "file") ms))))) (sym (file_of-kind (role_at (table ms)) (file_at files (table ms)) (table ms)))
-            (file_given (text_in (get_member (codes "file") ms)) there));
-        kind = kind_given (role_at (table ms)) (file_at files (table ms)) ms e;
-        at = number_there (codes "at") 0 9223372036854775807 0 _ each.1.1.1.0;
-        size = size_given (codes "size") Optional (get_member (codes "size") ms) each.1.1.1.1.0;
-        measured = truth_given (codes "measured") Optional true (get_member (codes "measured") ms) each.1.1.1.1.1.0;
+        role = shared.0 ∙ ap (λ r. Some (string (role_text r))) (sym (role_of-kind r (file_at files (table ms)) (table ms)));
+        file = file_for r ms e found;
+        kind = kind_given r (file_at files (table ms)) ms e;
+        at = shared.1;
+        size = size_given_for r ms e;
+        measured = measured_given r (file_at files (table ms)) ms e;
       }
-  item_given _ t e there = cc
+  item_given _ t e found = cc
 
-  items_given : (ds : List Data) → list_all is_table ds ≡ true → flat_map item_faults ds ≡ [] → list_any (λ i. not (has_file files i)) ds ≡ false
+  items_given : (ds : List Data) → list_all is_table ds ≡ true → flat_map item_faults ds ≡ [] → list_any (lacks_its_file files) ds ≡ false
       → EachGives (GivesItem files) ds (map (item_of files) ds)
   items_given [] t e there = tt
   items_given (d ∷ ds) t e there =
       let shapes = both (is_table d) (list_all is_table ds) t in
       let parts = empty_parts (item_faults d) (flat_map item_faults ds) e in
-      let found = neither (not (has_file files d)) (list_any (λ i. not (has_file files i)) ds) there in
-      (item_given d shapes.0 parts.0 (holds (has_file files d) found.0), items_given ds shapes.1 parts.1 found.1)
+      let found = neither (lacks_its_file files d) (list_any (lacks_its_file files) ds) there in
+      (item_given d shapes.0 parts.0 found.0, items_given ds shapes.1 parts.1 found.1)
 
   -- the steps, given or not
   steps_given : (d : Data) (n : ℕ) (key : List ℕ) (p : Presence) (o : Option Data) → length (array_at (codes "ram") d) ≤ 64

@@ -1,9 +1,12 @@
 -- What holds of the values of a table, where no fault holds.
-use Rattle.std.proofs.Common.{◌≡◌, ℕ, ◌≤◌, List, [], ◌∷◌, ◌++◌, length, Bool, true, false, cond, not, ◌&&◌, ◌||◌, Option, Some, None, refl, sym, codes, true≢false, arith}
+use Rattle.std.proofs.Common.{◌≡◌, ℕ, ◌≤◌, List, [], ◌∷◌, ◌++◌, length, Bool, true, false, cond, not, ◌&&◌, ◌||◌, Option, Some, None, Ordering, Less, Equal, Greater, refl, ap, sym, ◌∙◌, codes, true≢false, arith}
 use Rattle.std.specs.Prelude.{nat_lt}
 use Rattle.std.specs.List.{AllByRecursion, flat_map, list_all}
+use Rattle.std.specs.Ordering.{nat_cmp, match_ordering}
+use Rattle.std.specs.Cmp.Lexicographic.{slice_cmp}
 use Rattle.std.proofs.lemmas.Bool.{ltb-false}
-use Rattle.toml.specs.Data.{Data, array, table, Members, get_member}
+use Rattle.std.proofs.lemmas.Map.Lookups.{exact_bytes}
+use Rattle.toml.specs.Data.{Data, array, table, Members, no_members, member, get_member}
 use Rattle.rim_manifest.specs.declared.fault.ManifestFault.{ManifestFault}
 use Rattle.rim_manifest.specs.declared.fault.ManifestFault.TheVariants.{Limit, MissingKey, Range, UnknownKey, Version, WrongKind}
 use Rattle.rim_manifest.specs.declared.form.Form.{Form}
@@ -14,7 +17,7 @@ use Rattle.rim_manifest.specs.Forms.{has_kind, is_over, is_table, is_within, ite
 use Rattle.rim_manifest.specs.Manifest.{files_at, has_version, item_faults, launch_faults, launches_at, manifest_faults}
 use Rattle.rim_manifest.specs.Names.{has_asked}
 use Rattle.rim_manifest.specs.Values.{array_at}
-use Rattle.rim_manifest.specs.Checks.{cell_faults, has_unknown_key, rule_faults, ruled_faults, table_faults, value_faults}
+use Rattle.rim_manifest.specs.Checks.{cell_faults, has_unknown_key, is_known, rule_faults, ruled_faults, table_faults, value_faults}
 use Rattle.rim_manifest.specs.Rules.{Rule, file_rules, launch_rules, rec_rules, top_rules}
 
 -- ---- lists of faults that are empty
@@ -86,6 +89,25 @@ few_regions key p most (Some d) e = absurd (true≢false (sym (good_value (form.
 -- the values at the keys of a table that has no fault
 pub each_value : (rs : List Rule) (ms : Members) → table_faults rs ms ≡ [] → AllByRecursion (λ r. rule_faults r ms ≡ []) rs
 each_value rs ms e = each_empty (λ r. rule_faults r ms) rs (empty_parts (fault_if (has_unknown_key rs ms) UnknownKey) _ e).1
+
+-- a key without a rule is in no table without faults
+not_this_key : (rs : List Rule) (k l : List ℕ) (d : Data) (ms : Members) → is_known rs k ≡ false → is_known rs l ≡ true → get_member k ms ≡ None → get_member k (member l d ms) ≡ None
+not_this_key rs k l d ms other known rest = go (slice_cmp nat_cmp k l) refl
+  where
+    go : (o : Ordering) → slice_cmp nat_cmp k l ≡ o → match_ordering o (get_member k ms) (Some d) (get_member k ms) ≡ None
+    go Less order = rest
+    go Equal order = absurd (true≢false (sym known ∙ ap (is_known rs) (sym (exact_bytes k l order)) ∙ other))
+    go Greater order = rest
+
+no_other_key : (rs : List Rule) (k : List ℕ) (ms : Members) → is_known rs k ≡ false → has_unknown_key rs ms ≡ false → get_member k ms ≡ None
+no_other_key rs k no_members other e = refl
+no_other_key rs k (member l d ms) other e =
+    let parts = neither (not (is_known rs l)) (has_unknown_key rs ms) e in
+    not_this_key rs k l d ms other (holds (is_known rs l) parts.0) (no_other_key rs k ms other parts.1)
+
+pub not_given : (rs : List Rule) (k : List ℕ) (ms : Members) → is_known rs k ≡ false → table_faults rs ms ≡ [] → get_member k ms ≡ None
+not_given rs k ms other e =
+    no_other_key rs k ms other (not_faulty (has_unknown_key rs ms) UnknownKey (empty_parts (fault_if (has_unknown_key rs ms) UnknownKey) _ e).0)
 
 pub record TopIsGood (ms : Members) : Type 0 where
   pub top : AllByRecursion (λ r. rule_faults r ms ≡ []) top_rules

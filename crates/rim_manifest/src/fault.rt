@@ -26,7 +26,7 @@ pub enum ManifestFault {
     Limit,
     /// A value is outside its range or form.
     Range,
-    /// Two files, two launches or two items of a launch share a name, or two items a kind other than raw.
+    /// Two files, two launches or two items of a launch share a name, or two items a kind other than raw and unknown.
     TwoNames,
     /// An item's `file` names no file.
     NoSuchFile,

@@ -44,7 +44,7 @@ pub enum Form {
     Text,
     /// Any text.
     AnyText,
-    /// The word of an item's kind: `kernel`, `initrd`, `dtb` or `raw`.
+    /// The word of an item's kind: `kernel`, `initrd`, `dtb`, `raw` or `unknown`.
     ItemKind,
     /// A command line: a text without a zero character.
     Bootargs,
@@ -156,7 +156,7 @@ fn are_tables(items: &[Value]) -> bool
 fn is_item_kind(word: &str) -> bool
     ensures { result ≡ is_item_kind word.now }
 {
-    matches!(word, "kernel" | "initrd" | "dtb" | "raw")
+    matches!(word, "kernel" | "initrd" | "dtb" | "raw" | "unknown")
 }
 
 fn are_integers(items: &[Value]) -> bool

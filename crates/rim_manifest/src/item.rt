@@ -2,7 +2,7 @@
 ghost use Rattle.std.specs.Prelude.{◌≡◌, IfOk, map};
 ghost use Rattle.toml.specs.Data.{get};
 ghost use Rattle.toml.specs.View.{view};
-ghost use Rattle.rim_manifest.specs.Items.{bootargs_in, edits_of, item_of, kind_of, size_in};
+ghost use Rattle.rim_manifest.specs.Items.{bootargs_in, edits_of, item_of, kind_of, measured_for, size_for, size_in};
 ghost use Rattle.rim_manifest.specs.Names.{role_at};
 
 use crate::names::{file_number, role};
@@ -31,11 +31,12 @@ fn read_item(alloc: Global, files: &[Value], table: &Value) -> Result<Item, Allo
     ensures { IfOk result (λ i. i ≡ item_of (map view files.now) (view table.now)) }
 {
     let kind = read_kind(alloc, file_number(files, table), table)?;
+    let purpose = role(table);
     Ok(Item {
         kind,
         at: number(table, "at", 0, MOST_NUMBER, 0),
-        size: size(table, "size"),
-        measured: truth(table, "measured", true),
+        size: size_for(purpose, table, "size"),
+        measured: measured_for(purpose, table, "measured"),
     })
 }
 
@@ -50,6 +51,7 @@ fn read_kind(alloc: Global, file: usize, table: &Value) -> Result<ItemKind, Allo
             edits: read_edits(alloc, table)?,
         },
         Role::Raw => ItemKind::Raw { file },
+        Role::Unknown => ItemKind::Unknown,
     })
 }
 
@@ -81,4 +83,21 @@ fn size(table: &Value, key: &str) -> Option<u64>
         Some(_) => Some(number(table, key, 0, MOST_NUMBER, 0)),
         None => None,
     }
+}
+
+/// The size of an item for this at a key, if it is given; unknown content always has one.
+fn size_for(role: Role, table: &Value, key: &str) -> Option<u64>
+    ensures { result ≡ size_for role (get key.now (view table.now)) }
+{
+    match role {
+        Role::Unknown => Some(number(table, key, 0, MOST_NUMBER, 0)),
+        _ => size(table, key),
+    }
+}
+
+/// Whether an item for this is measured: unknown content never is, and other content as a key says.
+fn measured_for(role: Role, table: &Value, key: &str) -> bool
+    ensures { result ≡ measured_for role (get key.now (view table.now)) }
+{
+    role != Role::Unknown && truth(table, key, true)
 }

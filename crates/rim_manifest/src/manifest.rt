@@ -19,7 +19,9 @@ use crate::finding::{Array, Finding, Findings, Place, Subject, note_if};
 use crate::form::Form;
 use crate::launch::{NamedLaunch, read_launch};
 use crate::names::{has_asked, lacks_file, repeats, role, share_names};
-use crate::rules::{DTB_RULES, FILE_RULES, ITEM_RULES, LAUNCH_RULES, REC_RULES, TOP_RULES};
+use crate::rules::{
+    DTB_RULES, FILE_RULES, ITEM_RULES, LAUNCH_RULES, REC_RULES, TOP_RULES, UNKNOWN_RULES,
+};
 use crate::step::is_miscounted;
 use crate::value::{array, items};
 use refusal::NoMemory;
@@ -211,6 +213,7 @@ fn check_item(place: Place, item: &Value, found: &mut Findings) -> Result<(), No
 {
     match role(item) {
         Role::Dtb => check_ruled(&DTB_RULES, place, item, found),
+        Role::Unknown => check_ruled(&UNKNOWN_RULES, place, item, found),
         _ => check_ruled(&ITEM_RULES, place, item, found),
     }
 }
@@ -238,7 +241,8 @@ pub fn read_release(alloc: Global, table: &Table) -> Result<Release, ManifestFau
     Ok(Release { paths, launches })
 }
 
-/// Whether two files, two launches or two items of a launch share a name, or two items a kind other than raw.
+/// Whether two files, two launches or two items of a launch share a name, or two items a kind other than raw and
+/// unknown.
 fn has_two_names(files: &[Value], launches: &[Value]) -> bool
     ensures { result
         ≡ (share_names (map view files.now) || share_names (map view launches.now)
@@ -253,7 +257,7 @@ fn any_repeats(launches: &[Value]) -> bool
     launches.iter().any(|launch| repeats(launch))
 }
 
-/// Whether an item of a launch names no file.
+/// Whether an item of a launch needs a file and names none.
 fn has_no_file(files: &[Value], launches: &[Value]) -> bool
     ensures { result ≡ list_any (λ l. lacks_file (map view files.now) (view l)) launches.now }
 {

@@ -1,8 +1,8 @@
 //! What names what: the names of files, launches and items, and the kinds of items.
-ghost use Rattle.std.specs.Prelude.{◌≡◌, map, not, position};
+ghost use Rattle.std.specs.Prelude.{◌≡◌, map, position};
 ghost use Rattle.std.specs.List.{list_any};
 ghost use Rattle.toml.specs.View.{view};
-ghost use Rattle.rim_manifest.specs.Names.{asks_for, file_at, has_asked, has_file, is_at_role, is_named, kinds_once, lacks_file, name_of, repeats, role_at, role_count, role_of_word, share_names};
+ghost use Rattle.rim_manifest.specs.Names.{asks_for, file_at, has_asked, has_file, is_at_role, is_named, kinds_once, lacks_file, lacks_its_file, name_of, needs_file, repeats, role_at, role_count, role_of_word, share_names};
 
 use crate::value::{array, text, truth};
 use rim_launch::Role;
@@ -50,6 +50,8 @@ fn role_of_word(word: &str) -> Role
         Role::Initrd
     } else if word == "dtb" {
         Role::Dtb
+    } else if word == "unknown" {
+        Role::Unknown
     } else {
         Role::Raw
     }
@@ -93,7 +95,7 @@ pub fn has_asked(launch: &Value) -> bool
         && (!array(launch, "ram").is_empty() || !asks_for(items, "memory"))
 }
 
-/// Whether two items of a launch share a name, or a kind other than raw.
+/// Whether two items of a launch share a name, or a kind other than raw and unknown.
 pub fn repeats(launch: &Value) -> bool
     ensures { result ≡ repeats (view launch.now) }
 {
@@ -102,13 +104,27 @@ pub fn repeats(launch: &Value) -> bool
 }
 
 /// Whether a file has the name that an item gives as its file.
-pub fn has_file(files: &[Value], item: &Value) -> bool
+fn has_file(files: &[Value], item: &Value) -> bool
     ensures { result ≡ has_file (map view files.now) (view item.now) }
 {
     is_any_named(files, text(item, "file"))
 }
 
-/// Whether an item of a launch names no file.
+/// Whether an item for this needs a file: unknown content comes from none.
+fn needs_file(role: Role) -> bool
+    ensures { result ≡ needs_file role }
+{
+    role != Role::Unknown
+}
+
+/// Whether an item needs a file and names none.
+pub fn lacks_its_file(files: &[Value], item: &Value) -> bool
+    ensures { result ≡ lacks_its_file (map view files.now) (view item.now) }
+{
+    needs_file(role(item)) && !has_file(files, item)
+}
+
+/// Whether an item of a launch needs a file and names none.
 pub fn lacks_file(files: &[Value], launch: &Value) -> bool
     ensures { result ≡ lacks_file (map view files.now) (view launch.now) }
 {
@@ -116,9 +132,9 @@ pub fn lacks_file(files: &[Value], launch: &Value) -> bool
 }
 
 fn any_without(files: &[Value], items: &[Value]) -> bool
-    ensures { result ≡ list_any (λ i. not (has_file (map view files.now) (view i))) items.now }
+    ensures { result ≡ list_any (λ i. lacks_its_file (map view files.now) (view i)) items.now }
 {
-    items.iter().any(|item| !has_file(files, item))
+    items.iter().any(|item| lacks_its_file(files, item))
 }
 
 /// The number of the file that an item names; 0 for none.

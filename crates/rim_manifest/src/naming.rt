@@ -4,7 +4,7 @@ use crate::fault::ManifestFault;
 use crate::finding::{Array, Finding, Findings, Place, Subject, note, note_if};
 use crate::form::Form;
 use crate::manifest::entries;
-use crate::names::{has_file, name, position_of, role};
+use crate::names::{lacks_its_file, name, position_of, role};
 use crate::step::{is_miscounted, step};
 use crate::value::{array, field, items};
 use refusal::NoMemory;
@@ -66,7 +66,7 @@ fn find_shared(array: Array, tables: &[Value], found: &mut Findings) -> Result<(
     Ok(())
 }
 
-/// A kind that an earlier item has and that may be there once; a file that no file is named.
+/// A kind that an earlier item has and that may be there once; a file that the item needs and that no file is named.
 fn find_in_item(
     files: &[Value],
     place: Place,
@@ -75,11 +75,12 @@ fn find_in_item(
     found: &mut Findings,
 ) -> Result<(), NoMemory> {
     let kind = role(item);
-    let twice = kind != Role::Raw && earlier.iter().any(|other| role(other) == kind);
+    let is_single = !matches!(kind, Role::Raw | Role::Unknown);
+    let twice = is_single && earlier.iter().any(|other| role(other) == kind);
     let second = at(place, "kind", Form::ItemKind, ManifestFault::TwoNames);
     note_if(found, twice, second)?;
     let no_file = at(place, "file", Form::AnyText, ManifestFault::NoSuchFile);
-    note_if(found, !has_file(files, item), no_file)
+    note_if(found, lacks_its_file(files, item), no_file)
 }
 
 /// The steps that are none, or name what is not there or is named before. Where they are not as many as the launch's parts, they

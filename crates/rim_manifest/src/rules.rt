@@ -86,7 +86,7 @@ const NUMBER: Form = Form::Number {
     high: i64::MAX,
 };
 
-/// The keys of an item that is no devicetree.
+/// The keys of an item that is no devicetree, and whose content is known.
 pub const ITEM_RULES: [Rule; 6] = [
     ("name", Form::Name, Required),
     ("kind", Form::ItemKind, Required),
@@ -107,6 +107,14 @@ pub const DTB_RULES: [Rule; 9] = [
     ("bootargs", Form::Bootargs, Optional),
     ("initrd", Form::Truth, Optional),
     ("memory", Form::Truth, Optional),
+];
+
+/// The keys of an item of unknown content.
+pub const UNKNOWN_RULES: [Rule; 4] = [
+    ("name", Form::Name, Required),
+    ("kind", Form::ItemKind, Required),
+    ("at", NUMBER, Required),
+    ("size", NUMBER, Required),
 ];
 
 /// The keys of a REC.
