@@ -186,14 +186,14 @@ module _ (files : List (List ℕ)) (r : ReleaseData) (t : TableView)
 
   -- the sources of a launch are its own
   own-source : (i : ℕ) (l : NamedData) (p : PlacedData) → slice_get r.launches i ≡ Some l → accepted_of l.launch files ≡ Ok p
-      → (number : ℕ) (item : PlacedItem) → slice_get p.items number ≡ Some item → items item.source ≡ bytes_of_source files p item.source
+      → (number : ℕ) (item : PlacedItem) (source : Source) → slice_get p.items number ≡ Some item → item.source ≡ Some source → items source ≡ bytes_of_source files p source
   unfolding items
-  own-source i l p at accepted number item here = by_items l.launch.items refl (omega (arith, as-many-items l.launch files p is_placed, slice_get_within p.items number item here))
+  own-source i l p at accepted number item source here from = by_items l.launch.items refl (omega (arith, as-many-items l.launch files p is_placed, slice_get_within p.items number item here))
     where
       is_placed : IsPlaced l.launch files p
       is_placed = record { there = files-there r files numbered read i l at; placed = (accepted-is l.launch files p accepted).placed }
 
-      by_source : (source : Source) (asked : Item) → IsSourceOf l.launch p asked source → source_bytes files (places_of files r.launches) source ≡ bytes_of_source files p source
+      by_source : (source : Source) (asked : Item) → IsSourceOf l.launch p asked (Some source) → source_bytes files (places_of files r.launches) source ≡ bytes_of_source files p source
       by_source (File n) asked own = refl
       by_source (Edited launch) asked own =
           let number_is : launch ≡ i = own.1 ∙ (numbered i l at).0 in
@@ -201,12 +201,13 @@ module _ (files : List (List ℕ)) (r : ReleaseData) (t : TableView)
           let place : slice_get (places_of files r.launches) launch ≡ Some (Ok p) = ap (slice_get (places_of files r.launches)) number_is ∙ place-at files r.launches i l at ∙ ap (λ (x : Result PlacedData AuditFault). Some x) accepted in
           rw (place, p_number) (sym (ap (λ (b : Bool). if b then unwrap_or p.edited [] else []) (nat-same launch)))
 
-      by_items : (asked : List Item) → asked ≡ l.launch.items → number < length asked → source_bytes files (places_of files r.launches) item.source ≡ bytes_of_source files p item.source
+      by_items : (asked : List Item) → asked ≡ l.launch.items → number < length asked → source_bytes files (places_of files r.launches) source ≡ bytes_of_source files p source
       by_items [] e within = absurd (omega arith)
       by_items (first ∷ others) e within =
           let asked : slice_get l.launch.items number ≡ Some (get_or (first ∷ others) number first) = ap (λ xs. slice_get xs number) (sym e) ∙ slice_get-get_or (first ∷ others) number first within in
-          by_source item.source (get_or (first ∷ others) number first)
-          (source-is l.launch files p is_placed number (get_or (first ∷ others) number first) item (record { in_launch = asked; placed = here }))
+          let other : Item = get_or (first ∷ others) number first in
+          by_source source other
+          (subst (IsSourceOf l.launch p other) from (source-is l.launch files p is_placed number other item (record { in_launch = asked; placed = here })))
 
   -- the table has the page of a key of the release
   page-of : (key : PageKey) → Contains (page_keys files r.launches) key
@@ -245,7 +246,7 @@ module _ (files : List (List ℕ)) (r : ReleaseData) (t : TableView)
   own-pages i l p at accepted = λ k d low.
       let keys : List PageKey = measured_keys l.launch p in
       let sources : All (λ key. items key.source ≡ bytes_of_source files p key.source) keys = All-from_recursion (λ key. items key.source ≡ bytes_of_source files p key.source) keys
-      (each-measured (λ key. items key.source ≡ bytes_of_source files p key.source) l.launch p (λ number n item here below. own-source i l p at accepted number item here)) in
+      (each-measured (λ key. items key.source ≡ bytes_of_source files p key.source) l.launch p (λ number n item source here from below. own-source i l p at accepted number item source here from)) in
       own-page p (get_or keys k d) (key-there files r i l p (get_or keys k d) at accepted (All-contains_itself keys k d low)) (sources k d low)
 
   -- the digests of all keys

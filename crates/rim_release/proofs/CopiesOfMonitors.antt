@@ -9,6 +9,7 @@ use Rattle.rim_desc.specs.Measurement.{measurement_of}
 use Rattle.rim_desc.specs.PageBytes.{page_bytes}
 use Rattle.rim_desc.specs.declared.command.Command.{Command}
 use Rattle.rim_desc.specs.declared.measurement.Algo.{Algo}
+use Rattle.rim_desc.specs.declared.source.Source.TheVariants.{File}
 use Rattle.rim_desc.specs.declared.measurement.Measurement.{Measurement}
 use Rattle.rmm_model.specs.Run.{run}
 use Rattle.rmm_model.specs.State.{empty_state}
@@ -44,11 +45,10 @@ pub agree : (l own : LaunchData) (files : List (List ℕ)) (p q : PlacedData) (m
     → AgreeOn marks (page_contents l files p) (page_contents own files q)
 agree l own files p q marks algo marked = λ number page at.
     let s = marked number at in
-    rw (s.at, s.at_other) (ap (λ (bs : List ℕ). let m : Measurement = record { bytes = bs } in m)
-    (ap (λ (a : Algo). measurement_of a (page_bytes s.item.lead (bytes_of_source files p s.item.source) page)) algo
-    ∙ ap (λ (lead : ℕ). measurement_of own.config.algo (page_bytes lead (bytes_of_source files p s.item.source) page)) s.lead
-    ∙ ap (λ (bytes : List ℕ). measurement_of own.config.algo (page_bytes s.other.lead bytes page))
-    (ap (bytes_of_source files p) s.source ∙ sym (ap (bytes_of_source files q) s.source_other))))
+    let bytes : List ℕ = bytes_of_source files p (File s.file) in
+    rw (s.at, s.at_other, s.source, s.source_other) (ap (λ (bs : List ℕ). let m : Measurement = record { bytes = bs } in m)
+    (ap (λ (a : Algo). measurement_of a (page_bytes s.item.lead bytes page)) algo
+    ∙ ap (λ (lead : ℕ). measurement_of own.config.algo (page_bytes lead bytes page)) s.lead))
 
 -- ---- the first commands
 

@@ -34,10 +34,10 @@ use Rattle.rim_launch.specs.declared.step.Step.TheVariants as step
 use Rattle.ipa_layout.specs.Layout.{IsPlaced, PlacedData}
 use Rattle.ipa_layout.specs.declared.placed.PlacedItem.{PlacedItem}
 use Rattle.rim_manifest.specs.Launches.{AreNumbered, NamedData, ReleaseData}
-use Rattle.rim_chain.specs.Keys.{item_keys, key_at, measured_keys, step_keys}
+use Rattle.rim_chain.specs.Keys.{item_keys, key_at, measured_keys, source_keys, step_keys}
 use Rattle.rim_release.specs.Accepted.{accepted_of}
 use Rattle.rim_release.specs.Pages.{keys_at, launch_keys, page_keys, release_pages}
-use Rattle.rim_release.specs.inside.Ends.{ends_of, item_ends, launch_ends, step_ends}
+use Rattle.rim_release.specs.inside.Ends.{ends_of, item_ends, launch_ends, step_ends, source_ends}
 use Rattle.rim_release.specs.declared.audit_fault.AuditFault.{AuditFault}
 
 -- ---- lists
@@ -93,11 +93,16 @@ pages-next view items ranges i d bytes now new inside same so_far added =
 
 item-keys-before : (algo : Algo) (o : Option PlacedItem) → flat_map keys_before (item_ends algo o) ≡ item_keys algo o
 item-keys-before algo None = refl
-item-keys-before algo (Some item) = at item.measured
+item-keys-before algo (Some item) = by_source item.source
   where
-    at : (b : Bool) → flat_map keys_before (if b then key_at algo item item.pages ∷ [] else []) ≡ (if b then map (key_at algo item) (range_with_len 0 item.pages) else [])
-    at true = append-nil (map (key_at algo item) (range_with_len 0 item.pages))
-    at false = refl
+    at : (source : Source) (b : Bool) → flat_map keys_before (if b then key_at algo source item item.pages ∷ [] else [])
+        ≡ (if b then map (key_at algo source item) (range_with_len 0 item.pages) else [])
+    at source true = append-nil (map (key_at algo source item) (range_with_len 0 item.pages))
+    at source false = refl
+
+    by_source : (o : Option Source) → flat_map keys_before (source_ends algo item o) ≡ source_keys algo item o
+    by_source None = refl
+    by_source (Some source) = at source item.measured
 
 step-keys-before : (l : LaunchData) (p : PlacedData) (s : Step) → flat_map keys_before (step_ends l p s) ≡ step_keys l p s
 step-keys-before l p (step.Ram n) = refl
@@ -155,17 +160,22 @@ each-range P f a (suc n) each = (each a (omega arith), each-range P f (a + 1) n 
 
 -- each key of a launch's measured pages is that of a page of one of its items
 pub each-measured : (P : PageKey → Type 0) (l : LaunchData) (p : PlacedData)
-    → ((number k : ℕ) (item : PlacedItem) → slice_get p.items number ≡ Some item → k < item.pages → P (key_at l.config.algo item k))
+    → ((number k : ℕ) (item : PlacedItem) (source : Source) → slice_get p.items number ≡ Some item → item.source ≡ Some source → k < item.pages
+    → P (key_at l.config.algo source item k))
     → AllByRecursion P (measured_keys l p)
 each-measured P l p each = each-flat_map P (step_keys l p) l.steps by_step
   where
     of_item : (number : ℕ) (o : Option PlacedItem) → slice_get p.items number ≡ o → AllByRecursion P (item_keys l.config.algo o)
     of_item number None at = tt
-    of_item number (Some item) at = measured item.measured
+    of_item number (Some item) at = by_source item.source refl
       where
-        measured : (b : Bool) → AllByRecursion P (if b then map (key_at l.config.algo item) (range_with_len 0 item.pages) else [])
-        measured true = each-range P (key_at l.config.algo item) 0 item.pages (λ k low. each number k item at (omega (arith, low)))
-        measured false = tt
+        measured : (source : Source) → item.source ≡ Some source → (b : Bool) → AllByRecursion P (if b then map (key_at l.config.algo source item) (range_with_len 0 item.pages) else [])
+        measured source from true = each-range P (key_at l.config.algo source item) 0 item.pages (λ k low. each number k item source at from (omega (arith, low)))
+        measured source from false = tt
+
+        by_source : (o : Option Source) → item.source ≡ o → AllByRecursion P (source_keys l.config.algo item o)
+        by_source None from = tt
+        by_source (Some source) from = measured source from item.measured
 
     by_step : (s : Step) → AllByRecursion P (step_keys l p s)
     by_step (step.Ram n) = tt
@@ -198,7 +208,7 @@ launch-usable files l has = by_place (accepted_of l.launch files) refl
     by_place (Ok p) is =
         let accepted = accepted-is l.launch files p is in
         let is_placed : IsPlaced l.launch files p = record { there = has; placed = accepted.placed } in
-        each-measured IsUsableKey l.launch p (λ number k item at low. (
+        each-measured IsUsableKey l.launch p (λ number k item source at from low. (
           lead-low l.launch files p number item is_placed at,
           (let most : item.pages ≤ page_total p = item-pages p.items number item at in
               let few : page_total p ≤ 1048576 = few-pages l.launch files p is_placed in

@@ -10,7 +10,7 @@ use Rattle.std.proofs.lemmas.Nat.{le-div}
 use Rattle.refusal.specs.Answer.{◌>>=◌}
 use Rattle.rim_desc.specs.Part.{Part, Ripas, rim_of}
 use Rattle.rim_desc.specs.declared.command.Command.{Command}
-use Rattle.rim_desc.specs.declared.command.Command.TheVariants.{Delegate, RealmCreate, RttCreate, InitRipas, DataCreate, RecCreate, Activate}
+use Rattle.rim_desc.specs.declared.command.Command.TheVariants.{Delegate, RealmCreate, RttCreate, InitRipas, DataCreate, DataCreateUnknown, RecCreate, Activate}
 use Rattle.rim_desc.specs.declared.measurement.Algo.{Algo}
 use Rattle.rim_desc.specs.declared.realm.RealmParams.{RealmParams}
 use Rattle.rmm_model.specs.declared.outcome.Phase.{Phase}
@@ -91,6 +91,7 @@ shows-of s (DataCreate granule ipa content) off =
     Something _ [] refl (not-empty s.phase (not-false (is_new s.phase) (off-at (checks s (DataCreate granule ipa content)) 0 refusal.State off))) (λ t. refl)
 shows-of s (RecCreate rec params) off =
     Something _ [] refl (not-empty s.phase (not-false (is_new s.phase) (off-at (checks s (RecCreate rec params)) 0 refusal.State off))) (λ t. refl)
+shows-of s (DataCreateUnknown granule ipa) off = Nothing refl (λ t. refl)
 shows-of s Activate off = Nothing refl (λ t. refl)
 
 -- ---- a realm keeps its parameters
@@ -106,6 +107,7 @@ changed-keeps s (RealmCreate rd p) full ok = absurd (let no : is_ok (step s (Rea
 changed-keeps s (RttCreate rtt ipa level) full ok = (full, refl)
 changed-keeps s (InitRipas base top) full ok = (full, refl)
 changed-keeps s (DataCreate granule ipa content) full ok = (full, refl)
+changed-keeps s (DataCreateUnknown granule ipa) full ok = (full, refl)
 changed-keeps s (RecCreate rec params) full ok = (full, refl)
 changed-keeps s Activate full ok = (refl, refl)
 

@@ -1,5 +1,5 @@
 -- Each measured page that a launch's list of commands creates is a page of one of its items.
-use Rattle.std.proofs.Common.{◌≡◌, ℕ, ◌+◌, ◌-◌, ◌<◌, ◌≤◌, ◌∙◌, inl, inr, zero, suc, Bool, true, false, not, List, [], ◌∷◌, ◌++◌, length, slice_index_or, refl, ap, sym, subst, arith}
+use Rattle.std.proofs.Common.{◌≡◌, ℕ, ◌+◌, ◌-◌, ◌<◌, ◌≤◌, ◌∙◌, inl, inr, zero, suc, true, not, List, [], ◌∷◌, ◌++◌, length, slice_index_or, refl, ap, sym, subst, arith}
 use Rattle.std.specs.Prelude.{Option, Some, None, Result, Ok, eqb}
 use Rattle.std.specs.List.{AllByRecursion, slice_get}
 use Rattle.std.specs.Option.{option_and_then, option_map}
@@ -17,6 +17,10 @@ use Rattle.rmm_model.specs.declared.table.Table.{Table}
 use Rattle.rtt_plan.specs.Missing.{missing}
 use Rattle.rtt_plan.specs.Planned.{after_data, after_region, data_checks, region_checks}
 use Rattle.rtt_plan.specs.declared.run.Run.{Run}
+use Rattle.list_model.specs.declared.content.PageContent.{PageContent}
+use Rattle.list_model.specs.declared.content.PageContent.TheVariants.{Measured, Unmeasured, Unknown}
+use Rattle.list_model.specs.Content.{is_measured}
+use Rattle.rim_desc.specs.declared.source.Source.{Source}
 use Rattle.list_model.specs.Entries.{Contents, Entry, Page, Whole, command_of, commands_of, delegate_all, delegated, granule, item_entries, page_entries, page_entry, page_of, rec_entries, rec_granules, region_entries, run_entries, table_entries}
 use Rattle.list_model.proofs.GranulesDelegated.{length-granules}
 use Rattle.rim_launch.specs.LaunchData.{LaunchData}
@@ -33,7 +37,7 @@ use Rattle.ipa_layout.proofs.PlacedLaunchLaws.{few-pages}
 use Rattle.page_jobs.specs.Page.{PageView, digest_of}
 use Rattle.page_jobs.specs.Page as page
 use Rattle.rmi_list.specs.Listed.{Listing, Progress, list_item, list_rec, list_region, list_step, list_steps, listed, opening_progress, opening_checks, opening_entries, plan_checks, pool_check}
-use Rattle.rmi_list.specs.Measured.{page_contents, page_base}
+use Rattle.rmi_list.specs.Measured.{known_of, page_contents, page_base, page_content}
 use Rattle.rmi_list.specs.RecParams.{rec_params}
 use Rattle.rmi_list.specs.declared.fault.ListFault.{ListFault}
 use Rattle.rmi_list.specs.declared.fault.ListFault.TheVariants as fault
@@ -67,18 +71,28 @@ runs-own p pool n start ts (r ∷ rs) =
     let new : List Table = missing start ts r.level r.base in
     each-append (IsOwn p) (table_entries pool n new) _ (tables-own p pool n new) (tt, runs-own p pool (n + length new) start (ts ++ new) rs)
 
-pages-own : (p : PlacedData) (number : ℕ) (item : PlacedItem) → slice_get p.items number ≡ Some item → (pool n start : ℕ) (ts : List Table) (measured : Bool) (k : ℕ) (xs : List ℕ)
-    → k + length xs ≤ item.pages → AreOwn p (page_entries pool n start ts measured number k xs)
+pages-own : (p : PlacedData) (number : ℕ) (item : PlacedItem) → slice_get p.items number ≡ Some item → (pool n start : ℕ) (ts : List Table) (content : PageContent) (k : ℕ) (xs : List ℕ)
+    → (is_measured content ≡ true → (source : Source) × (item.source ≡ Some source)) → k + length xs ≤ item.pages → AreOwn p (page_entries pool n start ts content number k xs)
 unfolding page_entries
-pages-own p number item at pool n start ts measured k [] fits = tt
-pages-own p number item at pool n start ts measured k (x ∷ xs) fits =
+pages-own p number item at pool n start ts content k [] has fits = tt
+pages-own p number item at pool n start ts content k (x ∷ xs) has fits =
     let new : List Table = missing start ts 3 x in
     each-append (IsOwn p) (table_entries pool n new) _ (tables-own p pool n new)
-    (tt, (here measured, pages-own p number item at pool (n + length new + 1) start (ts ++ new) measured (k + 1) xs (omega (arith, fits))))
+    (tt, (here content has, pages-own p number item at pool (n + length new + 1) start (ts ++ new) content (k + 1) xs has (omega (arith, fits))))
   where
-    here : (b : Bool) → IsOwn p (page_entry b (granule pool (n + length (missing start ts 3 x))) x number k)
-    here true = record { item = item; at = at; low = omega (arith, fits) }
-    here false = tt
+    here : (content : PageContent) → (is_measured content ≡ true → (source : Source) × (item.source ≡ Some source))
+        → IsOwn p (page_entry content (granule pool (n + length (missing start ts 3 x))) x number k)
+    here Measured has = let found = has refl in record { item = item; at = at; low = omega (arith, fits); source = found.0; from = found.1 }
+    here Unmeasured has = tt
+    here Unknown has = tt
+
+-- an item that is measured has a source
+measured-from : (item : PlacedItem) → is_measured (page_content item) ≡ true → (source : Source) × (item.source ≡ Some source)
+measured-from item = go item.source refl
+  where
+    go : (o : Option Source) → item.source ≡ o → is_measured (known_of o item.measured) ≡ true → (source : Source) × (item.source ≡ Some source)
+    go None from on = absurd (cc)
+    go (Some source) from on = (source, from)
 
 -- ---- steps
 
@@ -100,11 +114,11 @@ item-own p c w number item done here = elim (cases_Bool (eqb item.pages 0)) [
       subst (λ (d : Listing). AreOwn p d.entries) same tt))
   | inr some ↦ rw some (λ at.
       (let base : ℕ = page_base item in
-      let entries : List Entry = item_entries c.pool_base w.taken w.plan item.measured number base item.pages in
+      let entries : List Entry = item_entries c.pool_base w.taken w.plan (page_content item) number base item.pages in
       let made : Listing = record { entries = entries; next = record w { plan = after_data w.plan base item.pages; taken = w.taken + delegated entries } } in
       let same : made ≡ done = is-done (plan_checks (data_checks w.plan base item.pages) ++ pool_check c w.taken entries ∷ []) made done at in
       subst (λ (d : Listing). AreOwn p d.entries) same
-      (pages-own p number item here c.pool_base w.taken w.plan.space.start w.plan.space.tables item.measured 0 (granules item.pages base) (omega (arith, length-granules item.pages base)))))
+      (pages-own p number item here c.pool_base w.taken w.plan.space.start w.plan.space.tables (page_content item) 0 (granules item.pages base) (measured-from item) (omega (arith, length-granules item.pages base)))))
 ]
 
 rec-own : (p : PlacedData) (c : Config) (w : Progress) (number : ℕ) (r : PlacedRec) (done : Listing) → list_rec c w number r ≡ Ok done → AreOwn p done.entries
@@ -195,7 +209,7 @@ pub third-after : (p : PlacedData) (items : List PlacedItem) (number k : ℕ) (d
 third-after p items number k d same has left =
     let is : slice_index_or items number d ≡ has.item = item-there p.items items number has.item d same has.at in
     let pages : (slice_index_or items number d).pages ≡ has.item.pages = ap (λ (i : PlacedItem). i.pages) is in
-    record { item = has.item; at = has.at; low = omega (arith, left, pages) }
+    record { item = has.item; at = has.at; low = omega (arith, left, pages); source = has.source; from = has.from }
 
 -- a placed launch has few pages
 pub page-low : (l : LaunchData) (files : List (List ℕ)) (p : PlacedData) (number k : ℕ) → IsPlaced l files p → HasPage p number k → k < 4503599627370496
@@ -205,11 +219,11 @@ page-low l files p number k is_placed has =
     omega (arith, has.low, most, few)
 
 -- what is hashed is the item's page
-pub content-is : (l : LaunchData) (files : List (List ℕ)) (p : PlacedData) (number k : ℕ) (item : PlacedItem) (seen : PageView) (digest : Measurement)
-    → slice_get p.items number ≡ Some item → seen.key.algo ≡ l.config.algo → page.bytes_of_page seen ≡ page_bytes item.lead (bytes_of_source files p item.source) k
+pub content-is : (l : LaunchData) (files : List (List ℕ)) (p : PlacedData) (number k : ℕ) (item : PlacedItem) (source : Source) (seen : PageView) (digest : Measurement)
+    → slice_get p.items number ≡ Some item → item.source ≡ Some source → seen.key.algo ≡ l.config.algo → page.bytes_of_page seen ≡ page_bytes item.lead (bytes_of_source files p source) k
     → digest.bytes ≡ digest_of seen → digest ≡ page_contents l files p number k
-content-is l files p number k item seen digest at algo bytes own =
-    rw at (ap (λ (bs : List ℕ). let m : Measurement = record { bytes = bs } in m)
+content-is l files p number k item source seen digest at from algo bytes own =
+    rw (at, from) (ap (λ (bs : List ℕ). let m : Measurement = record { bytes = bs } in m)
     (own ∙ ap (λ (a : Algo). measurement_of a (page.bytes_of_page seen)) algo ∙ ap (measurement_of l.config.algo) bytes))
 
 -- a command whose page has the right content is the launch's

@@ -201,12 +201,12 @@ impl<'a> LaunchCommands<'a> {
     {
         let item = self.placed.items().get(item)?;
         match item.source {
-            Source::File(file) => Some(FileKey {
+            Some(Source::File(file)) => Some(FileKey {
                 algo: self.launch.config().algo,
                 file,
                 lead: item.lead,
             }),
-            Source::Edited(_) => None,
+            Some(Source::Edited(_)) | None => None,
         }
     }
 
@@ -241,8 +241,11 @@ impl<'a> LaunchCommands<'a> {
         ensures { DigestIsContent self.now item page (page_view result.page) }
     {
         let item = self.placed.items()[item];
-        let bytes = self.placed.bytes(self.files, item.source);
-        let page = Blob::new(item.source, item.lead, bytes).page(self.launch.config().algo, page);
+        let Some(source) = item.source else {
+            unreachable!()
+        };
+        let bytes = self.placed.bytes(self.files, source);
+        let page = Blob::new(source, item.lead, bytes).page(self.launch.config().algo, page);
         PageJob::new(page)
     }
 }

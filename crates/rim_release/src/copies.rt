@@ -167,12 +167,13 @@ fn item_at(items: &[PlacedItem], number: usize) -> Option<PlacedItem>
     items.get(number).copied()
 }
 
-/// Whether two sources are one file.
-fn is_same_file(source: Source, other: Source) -> bool
-    ensures { result ≡ true → (file : ℕ) × (source ≡ File file) × (other ≡ File file) }
+/// Whether two sources are there and are one file.
+fn is_same_file(source: Option<Source>, other: Option<Source>) -> bool
+    ensures { result ≡ true
+        → (file : ℕ) × (source ≡ Some (File file)) × (other ≡ Some (File file)) }
 {
     match (source, other) {
-        (Source::File(a), Source::File(b)) => a == b,
+        (Some(Source::File(a)), Some(Source::File(b))) => a == b,
         _ => false,
     }
 }

@@ -61,8 +61,8 @@ fn devicetree_bytes<'a>(
         ≡ devicetree_in launch.now (bytes_of_files files.entry.now) placed.entry.now }
 {
     let number = number_of(launch)?;
-    let item = placed.items().get(number)?;
-    Some(placed.bytes(files, item.source))
+    let source = placed.items().get(number)?.source?;
+    Some(placed.bytes(files, source))
 }
 
 /// Which item of a launch is its devicetree, if it has one.

@@ -118,19 +118,20 @@ fn item_at(placed: &Placed, number: usize) -> Option<PlacedItem>
 fn push_item(ends: &mut Vec<PageKey>, algo: Algo, item: &PlacedItem) -> Result<(), AllocError>
     ensures { OnOk result (ends.new.items ≡ ends.old.items ++ item_ends algo (Some item.now)) }
 {
-    if item.measured {
-        ends.push(item_end(algo, item))?;
+    match item.source {
+        Some(source) if item.measured => ends.push(item_end(algo, source, item))?,
+        _ => {}
     }
     Ok(())
 }
 
-/// The key after the last page of an item.
-fn item_end(algo: Algo, item: &PlacedItem) -> PageKey
-    ensures { result ≡ key_at algo item.now item.now.pages }
+/// The key after the last page of an item with this source.
+fn item_end(algo: Algo, source: Source, item: &PlacedItem) -> PageKey
+    ensures { result ≡ key_at algo source item.now item.now.pages }
 {
     PageKey {
         algo,
-        source: item.source,
+        source,
         lead: item.lead,
         number: item.pages,
     }

@@ -102,7 +102,10 @@ fn rim_held(monitor: &Monitor, command: &Command) -> Option<Measurement>
     ensures { option_map (λ m. m.bytes) result ≡ rim_held monitor.now command.now }
 {
     match command {
-        Command::Delegate { .. } | Command::RttCreate { .. } | Command::Activate => None,
+        Command::Delegate { .. }
+        | Command::RttCreate { .. }
+        | Command::DataCreateUnknown { .. }
+        | Command::Activate => None,
         Command::RealmCreate { .. }
         | Command::InitRipas { .. }
         | Command::DataCreate { .. }
