@@ -7,7 +7,7 @@ use crate::shown::{Shown, bad_element};
 use rim_launch::Role;
 use rim_manifest::{
     DTB_RULES, Document, FILE_RULES, Finding, Form, ITEM_RULES, LAUNCH_RULES, ManifestFault, Place,
-    REC_RULES, Rule, Subject, TOP_RULES, asks_for, cell, entries, name, role,
+    REC_RULES, Rule, Subject, TOP_RULES, UNKNOWN_RULES, asks_for, cell, entries, name, role,
 };
 use std::alloc::Global;
 use std::fmt;
@@ -46,8 +46,11 @@ fn rules_of(place: Place, table: &Table) -> &'static [Rule] {
         Place::Top => &TOP_RULES,
         Place::File { .. } => &FILE_RULES,
         Place::Launch { .. } => &LAUNCH_RULES,
-        Place::Item { .. } if text_at(table, "kind") == Some("dtb") => &DTB_RULES,
-        Place::Item { .. } => &ITEM_RULES,
+        Place::Item { .. } => match text_at(table, "kind") {
+            Some("dtb") => &DTB_RULES,
+            Some("unknown") => &UNKNOWN_RULES,
+            _ => &ITEM_RULES,
+        },
         Place::Rec { .. } => &REC_RULES,
     }
 }
