@@ -97,13 +97,20 @@ def item(dice, name, file, size, at):
 
 def launch(dice, number, sizes):
     """The table of a launch. Few things differ from launch to launch, so that many begin alike."""
-    items = [item(dice, "large", "large", sizes["large"], RAM)]
+    items = {"large": item(dice, "large", "large", sizes["large"], RAM)}
     if dice.random() < 0.7:
-        items.append(item(dice, "small", dice.choice(["small", "other"]), sizes["small"], RAM + 0x40_0000))
+        items["small"] = item(dice, "small", dice.choice(["small", "other"]), sizes["small"], RAM + 0x40_0000)
     if dice.random() < 0.5:
         tree = f'name = "tree", kind = "dtb", file = "tree", at = {RAM + 0x50_0000}, bootargs = "{dice.choice(["a", "b"])}"'
-        items.append("{ " + tree + " }")
+        items["tree"] = "{ " + tree + " }"
     recs = ["{ pc = 0x40000000 }"] * dice.randrange(3)
+    steps = ""
+    if dice.random() < 0.5:
+        items["log"] = f'{{ name = "log", kind = "unknown", at = {RAM + 0x30_0000}, size = {dice.choice([2, 2, 3]) * PAGE} }}'
+        # by default it is the last item, and here sometimes the first one
+        if dice.random() < 0.7:
+            order = [f"item {name}" for name in ["log", *(name for name in items if name != "log")]]
+            steps = f"steps = {['ram 0', *order, *(f'rec {each}' for each in range(len(recs)))]}"
     return f"""
 [[launch]]
 name = "launch-{number}"
@@ -113,9 +120,10 @@ num_aux = {dice.choice([0, 0, 0, 2])}
 block_level = {dice.choice([2, 2, 2, 3])}
 ram = [[{RAM}, {RAM + dice.choice([0x60_0000, 0x80_0000, 0x50_0000])}]]
 item = [
-  {f",{chr(10)}  ".join(items)},
+  {f",{chr(10)}  ".join(items.values())},
 ]
 rec = [{", ".join(recs)}]
+{steps}
 """
 
 

@@ -39,15 +39,15 @@ MEMORY = 100 * MB
 TAIL = 4096
 
 FILE = "rim_manifest = 1\nfile = [{name = 'one', path = 'one'}]\n"
-# A page that is not measured, in a block of 1 GiB.
-ONE_PAGE = """
+# A page that is not measured and one that is unknown, in a block of 1 GiB.
+TWO_PAGES = """
 [[launch]]
 name = "a"
 algo = "sha256"
 s2sz = 40
 block_level = 1
 ram = [[0x40000000, 0xc0000000]]
-item = [{name = 'one', kind = 'raw', file = 'one', at = 0x40000000, measured = false}]
+item = [{name = 'one', kind = 'raw', file = 'one', at = 0x40000000, measured = false}, {name = 'log', kind = 'unknown', at = 0x40001000, size = 1}]
 """
 # A page that is measured there, and a REC.
 ONE_REC = """
@@ -78,7 +78,7 @@ ram = [[0x40000000, 0x40202000]]
 item = [{{name = 'one', kind = 'raw', file = 'one', at = 0x40000000, measured = false}}]
 rec = [{{pc = 0x40000000, x = [1, "0xfedcba9876543210"]}}, {{pc = 0x40001000}}]
 """
-LAUNCHES = {"one page": ONE_PAGE, "one REC": ONE_REC, "two RECs": TWO_RECS}
+LAUNCHES = {"two pages": TWO_PAGES, "one REC": ONE_REC, "two RECs": TWO_RECS}
 # As many pages as a launch may have.
 MANY_PAGES = """
 [[launch]]
@@ -317,7 +317,7 @@ def at_random(dice, monitor):
     """The words of a command that a monitor may take."""
     delegated = [granule for granule, owner in monitor.owners.items() if owner == "DELEGATED"]
     granule = lambda: dice.choice(delegated if dice.random() < 0.95 else list(monitor.owners))
-    what = dice.randrange(10)
+    what = dice.randrange(11)
     if what == 0 or len(delegated) < 4:
         return b"delegate", dice.randrange(1000) * PAGE
     places = [0, *(base for base, _ in monitor.ram), *(base for tables in monitor.tables.values() for base in tables)]
@@ -332,6 +332,8 @@ def at_random(dice, monitor):
         content = dice.randbytes(32) + (bytes(32) if monitor.algo == "sha256" and dice.random() < 0.9 else dice.randbytes(32))
         ipa = dice.choice(places) + dice.choice([0, 1, 2]) * PAGE
         return b"data_create", granule(), ipa, dice.choice([b"unmeasured", b"measured " + content.hex().encode()])
+    if what < 10:
+        return b"data_unknown", granule(), dice.choice(places) + dice.choice([0, 1, 2]) * PAGE
     number = monitor.num_recs if dice.random() < 0.8 else dice.randrange(40)
     aux = [granule() for _ in range(monitor.num_aux if dice.random() < 0.9 else dice.randrange(4))]
     registers = [dice.randrange(1 << 64) for _ in range(9)]
@@ -339,14 +341,16 @@ def at_random(dice, monitor):
 
 
 def commands_at_random():
-    """Commands that a monitor takes, and then sometimes one that it refuses."""
+    """Commands that a monitor takes, some of them after `activate`, and then sometimes one that it refuses."""
     for seed in SEEDS:
         dice = random.Random(seed)
         commands, s2sz = Commands(dice.choice([0, 0, 1, 2])), dice.choice([32, 34, 36, 40, 44, 48])
         commands.realm(1 << 35, *replay.start_tables(s2sz), s2sz, dice.choice([b"sha256", b"sha512"]), dice.choice([0, 2, 4, 6]))
-        for _ in range(200):
+        activation = dice.choice([150, None])
+        for number in range(200):
             keep = dice.random() < 0.005
-            if commands.give(*at_random(dice, commands.monitor), keep=keep) and keep:
+            words = (b"activate",) if number == activation else at_random(dice, commands.monitor)
+            if commands.give(*words, keep=keep) and keep:
                 break
         yield f"the commands of random.Random({seed})", commands.listing()
 

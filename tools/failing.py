@@ -97,6 +97,7 @@ item = [
     {name = "kernel", kind = "kernel", file = "kernel", at = 0x40200000},
     {name = "initrd", kind = "initrd", file = "initrd", at = 0x40600000},
     {name = "dtb", kind = "dtb", file = "tree", at = 0x40700000, bootargs = "console=ttyAMA0", initrd = true, memory = true},
+    {name = "log", kind = "unknown", at = 0x40500000, size = 0x2000},
 ]
 rec = [{}]
 [[launch]]
@@ -140,7 +141,7 @@ class Runs:
                 it.write(text)
         for name in "Image", "initrd.img", "virt.dtb":
             os.symlink(os.path.join(top, "examples", "vm", name), os.path.join(folder, name))
-        os.symlink(os.path.join(top, "tests", "cases", "virtual-machine-replay", "listing"), os.path.join(folder, "listing"))
+        os.symlink(os.path.join(top, "tests", "cases", "virtual-machine-log-listing", "stdout"), os.path.join(folder, "listing"))
 
     def run(self, command, refused=""):
         """How a run ends, and whether the call was made that it was to refuse."""

@@ -39,6 +39,10 @@ def spans(pages, measured):
     return "".join(item(name, name, sum(sizes[:at]) << 12, sizes[at] << 12, more) for at, name in enumerate("fgh"))
 
 
+def unknown(pages):
+    return f"{{name = 'u', kind = 'unknown', at = 0, size = {pages << 12}}}"
+
+
 def one_file(path):
     return f"[[file]]\nname = 'f'\npath = '{path}'\n" + launch("a", 4096)
 
@@ -57,6 +61,8 @@ CASES = [
     ("a page more by two launches", FILES + launch("a", PAGES << 11, spans(PAGES // 2, True)) + launch("b", PAGES << 12, item("x", "f", 1, PAGES << 11)), "too-many-pages"),
     ("a page more by another algorithm", FILES + launch("a", PAGES << 12, spans(PAGES, True)) + launch("b", 1 << 32, item("x", "f", 0, 1)).replace("sha256", "sha512"), "too-many-pages"),
     ("a page more that is not measured", FILES + launch("a", PAGES << 12, spans(PAGES, True)) + launch("b", 1 << 32, item("x", "f", 8, 1, ", measured = false")), None),
+    ("1,048,576 pages that are unknown", launch("a", PAGES << 12, unknown(PAGES)), None),
+    ("a page more that is unknown", FILES + launch("a", PAGES << 12, spans(PAGES, True)) + launch("b", 1 << 32, unknown(1)), None),
     ("a page more of a launch that is refused", FILES + launch("a", PAGES << 12, spans(PAGES, True)) + launch("b", 4096, item("x", "f", 0, 2) + item("y", "g", 8, 2)), None),
     ("4,194,304 blocks", launch("a", 4_194_304 << 12, "", "block_level = 3\n"), None),
     ("a file of the greatest size", large("largest"), None),

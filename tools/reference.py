@@ -16,6 +16,8 @@ import sys
 import tomllib
 
 PAGE = 4096
+# The kinds of items, in the order of the steps that a launch has by default.
+KINDS = ("kernel", "initrd", "dtb", "raw", "unknown")
 
 
 def page_size(level):
@@ -129,6 +131,10 @@ class Listing:
         words = ["unmeasured"] if content is None else ["measured", content.hex()]
         self.line("data_create", self.granule(), ipa, *words)
 
+    def unknown_page(self, ipa):
+        self.walk(ipa, 3)
+        self.line("data_unknown", self.granule(), ipa)
+
     def rec(self, number, page):
         rec, *aux = [self.granule() for _ in range(1 + self.aux)]
         numbers = struct.unpack_from("<9Q", page, 0x2F8)[1:]
@@ -224,7 +230,9 @@ def write_devicetree(root, boot, reservations):
 
 
 def edited(item, launch, files):
-    """The devicetree of an item, with the edits that the item asks for."""
+    """The contents of an item, with the edits that a devicetree asks for. What is unknown has no file, and no bytes."""
+    if item["kind"] == "unknown":
+        return b""
     data = files[item["file"]]
     if not ("bootargs" in item or item.get("initrd") or item.get("memory")):
         return data
@@ -296,6 +304,9 @@ def measure(launch, files, seen):
         asked, at, pages, data = placed[number]
         lead = at % PAGE
         for page in range(pages):
+            if asked["kind"] == "unknown":
+                listing.unknown_page(at - lead + PAGE * page)
+                continue
             content = None
             if asked.get("measured", True):
                 first = PAGE * page - lead
@@ -317,7 +328,7 @@ def measure(launch, files, seen):
     steps = launch.get("steps")
     if steps is None:
         steps = [f"ram {n}" for n in range(len(launch.get("ram", [])))]
-        steps += [f"item {name}" for kind in ("kernel", "initrd", "dtb", "raw") for name, k in zip(names, kinds) if k == kind]
+        steps += [f"item {name}" for kind in KINDS for name, k in zip(names, kinds) if k == kind]
         steps += [f"rec {n}" for n in range(len(launch.get("rec", [])))]
     for step in steps:
         verb, what = step.split(" ")

@@ -36,13 +36,15 @@ SPELLED = {
     b"rtt_create": "A A N",
     b"init_ripas": "A A",
     b"data_create": "A A CONTENT",
+    b"data_unknown": "A A",
     b"rec_create": "A A A A A A A A A A A A AUX",
     b"activate": "",
 }
 FIRST = re.compile(rb"rim-list 1 aux ([0-9]|1[0-6])")
 LAST = re.compile(rb"rim (?:sha256 [0-9a-f]{64}|sha512 [0-9a-f]{128})")
 
-# The words of a trace's line after the name of its command: those of the listing's line but for the granules of the host.
+# The words of a trace's line after the name of its command: those of the listing's line but for the granules of the host. The
+# other commands measure nothing, and have no line.
 TRACED = {"realm_create": slice(3, None), "init_ripas": slice(1, None), "data_create": slice(2, None), "rec_create": slice(2, 13)}
 
 
@@ -82,7 +84,7 @@ def down(address, size):
 class Monitor:
     """A monitor from its start on. Each command answers the KIND by which it is refused, and then changes nothing; or none.
 
-    The checks of a command are in the order of the table "The monitor's commands, up to activation".
+    The checks of a command are in the order of the table "The monitor's commands that build a realm".
     """
 
     def __init__(self, num_aux):
@@ -171,11 +173,8 @@ class Monitor:
         for at in range(base, top, entry):
             self.rim.ripas(at, at + entry)
 
-    def data_create(self, granule, ipa, content):
-        if self.phase != "NEW":
-            return "state"
-        if self.algo == "sha256" and content and any(content[32:]):
-            return "bad-params"
+    def assign(self, granule, ipa):
+        """Puts a granule at a page, as both commands for data do after the checks of their own."""
         if granule % PAGE or ipa % PAGE:
             return "unaligned"
         if ipa >= self.protected_end:
@@ -190,7 +189,19 @@ class Monitor:
             return "not-delegated"
         self.owners[granule] = "DATA"
         self.assigned.add(ipa)
+
+    def data_create(self, granule, ipa, content):
+        if self.phase != "NEW":
+            return "state"
+        if self.algo == "sha256" and content and any(content[32:]):
+            return "bad-params"
+        if refused := self.assign(granule, ipa):
+            return refused
         self.rim.data(ipa, content)
+
+    def data_unknown(self, granule, ipa):
+        # accepted of a realm that is ACTIVE too; nothing is measured
+        return "state" if self.phase == "EMPTY" else self.assign(granule, ipa)
 
     def rec_create(self, rec, flags, mpidr, pc, *rest):
         *gprs, aux = rest
