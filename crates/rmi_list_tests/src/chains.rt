@@ -8,17 +8,17 @@ use ipa_layout::{Placed, PlacedItem};
 use page_jobs::{Blob, DigestRow, Page, PageJob, Table};
 use page_jobs_tests::distinct_pages;
 use rim_chain::{LaunchPlan, chain};
-use rim_desc::{Algo, Measurement};
+use rim_desc::{Algo, Measurement, Source};
 use rim_launch::{Config, Launch, Step};
 use rmi_list::{Plan, list};
 use rmm_monitor::Monitor;
 use std::alloc::Global;
 use std::process::Abort;
 
-/// A page of an item whose bytes are these.
-fn page_of<'a>(item: &PlacedItem, bytes: &'a [u8], page: u64) -> Option<Page<'a>> {
+/// A page of an item, which has this source and these bytes.
+fn page_of<'a>(item: &PlacedItem, source: Source, bytes: &'a [u8], page: u64) -> Option<Page<'a>> {
     if item.lead < 4096 && page < 0x10_0000 {
-        Some(Blob::new(item.source, item.lead, bytes).page(Algo::Sha256, page))
+        Some(Blob::new(source, item.lead, bytes).page(Algo::Sha256, page))
     } else {
         None
     }
@@ -35,7 +35,8 @@ fn page_at<'a>(
 {
     let (number, page) = plan.page_of(index)?;
     let item = placed.items().get(number)?;
-    page_of(item, placed.bytes(files, item.source), page)
+    let source = item.source?;
+    page_of(item, source, placed.bytes(files, source), page)
 }
 
 /// The measured pages of a list, each as often as it is created.
