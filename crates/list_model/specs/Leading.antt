@@ -1,9 +1,11 @@
 -- A monitor that has carried out a list of commands, and commands that lead it on. This project's choice.
-use Rattle.std.specs.Prelude.{◌≡◌, ℕ, ◌+◌, ◌%◌, ◌<◌, ◌≤◌, true, List, Some, None}
+use Rattle.std.specs.Prelude.{◌≡◌, ℕ, ◌+◌, ◌%◌, ◌<◌, ◌≤◌, true, false, List, Option, Some, None}
 use Rattle.rim_desc.specs.Part.{Part}
 use Rattle.rim_desc.specs.declared.command.Command.{Command}
 use Rattle.rim_desc.specs.declared.realm.RealmParams.{RealmParams}
 use Rattle.rim_desc.specs.Rec.{RecData, rec_mpidr_of}
+use Rattle.rim_desc.specs.declared.rule.RecRule.{RecRule}
+use Rattle.rmm_model.specs.Checks.{has_bad_flags}
 use Rattle.rmm_model.specs.Blocks.{granules}
 use Rattle.rmm_model.specs.Space.{SameSpace, Space, are_some, empty_space}
 use Rattle.rmm_model.specs.Start.{protected_end}
@@ -20,6 +22,8 @@ pub record Build : Type 0 where
   pub params : RealmParams
   -- the number of auxiliary granules of each REC
   pub num_aux : ℕ
+  -- which RECs extend the measurement
+  pub rule : Option RecRule
   -- the first granule of the pool
   pub pool : ℕ
 
@@ -36,6 +40,7 @@ pub record IsBuilt (b : Build) (w : Built) (s : State) : Type 0 where
   pub new : is_new s.phase ≡ true
   pub params : s.params ≡ Some b.params
   pub num_aux : s.num_aux ≡ b.num_aux
+  pub rule : s.rule ≡ b.rule
   pub num_recs : s.num_recs ≡ w.num_recs
   pub space : SameSpace s.space w.space
   pub some : are_some s.space.ram ≡ true
@@ -62,9 +67,9 @@ opened params = record {
 abbrev pub with_rec : Build → Built → Built
 with_rec b w = record w { taken = w.taken + (b.num_aux + 1); num_recs = w.num_recs + 1 }
 
--- a REC that can be created next: it is runnable, has the next number, and names the granules after its own
+-- a REC that can be created next: it has flags that the rule allows and the next number, and names the granules after its own
 pub record IsNextRec (b : Build) (w : Built) (r : RecData) : Type 0 where
-  pub runnable : r.flags ≡ 1
+  pub flags : has_bad_flags b.rule r.flags ≡ false
   pub number : r.mpidr ≡ rec_mpidr_of w.num_recs
   pub few : w.num_recs < REC_LIMIT
   pub aux : r.aux ≡ granules b.num_aux (granule b.pool (w.taken + 1))

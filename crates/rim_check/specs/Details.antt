@@ -83,7 +83,7 @@ abbrev pub step_detail : Config → StepReason → List ℕ
 step_detail c (why.Plan fault range) = range_text range.base range.end ++ (codes " " ++ plan_detail c fault)
 step_detail c why.PoolEnd = pool_text c
 step_detail c (why.RecOrder listed) = decimal listed ++ codes " RECs are listed before it"
-step_detail c why.RecNotRunnable = codes "runnable is false"
+step_detail c why.RecNotRunnable = codes "runnable is false; write rim_manifest = 2 and, in the launch, rec_rule = \"runnable\""
 
 -- why a launch has no list
 abbrev pub list_detail : (ℕ → List ℕ) → Config → ListReason → List ℕ

@@ -4,6 +4,7 @@ pub mod PageBytes
 pub mod Measurement
 pub mod Realm
 pub mod Rec
+pub mod Rule
 pub mod inside
 pub mod Descriptor
 pub mod Part

@@ -10,6 +10,7 @@ mod number;
 mod page;
 mod realm;
 mod rec;
+mod rule;
 mod source;
 
 pub use command::Command;
@@ -21,4 +22,5 @@ pub use page::{GRANULE_SIZE, PAGE_SIZE, put, zero_page};
 pub use realm::{RealmParams, realm_page};
 pub use rec::{AUX_LIMIT, REC_LIMIT, RecParams, rec_mpidr, rec_page};
 pub use refusal::NoMemory;
+pub use rule::{RecRule, extends};
 pub use source::Source;

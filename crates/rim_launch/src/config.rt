@@ -4,7 +4,7 @@ ghost use Rattle.rmm_model.specs.Start.{is_width};
 ghost use Rattle.rim_desc.specs.declared.rec.TheConstants.{AUX_LIMIT};
 ghost use Rattle.rim_launch.specs.declared.config.TheConstants.{POOL_LIMIT};
 
-use rim_desc::Algo;
+use rim_desc::{Algo, RecRule};
 
 /// The most granules of a pool: 16,777,216. This project's choice.
 pub const POOL_LIMIT: u64 = 16_777_216;
@@ -37,6 +37,8 @@ pub struct Config {
     pub block_level: u8,
     /// The number of auxiliary granules of a REC, at most [`rim_desc::AUX_LIMIT`].
     pub num_aux: u8,
+    /// Which RECs extend the measurement; without a rule each REC is runnable.
+    pub rec_rule: Option<RecRule>,
     /// The physical address of the pool's first granule, a multiple of 64 KiB below 2^48.
     pub pool_base: u64,
     /// How many granules the pool has, 1 to [`POOL_LIMIT`].

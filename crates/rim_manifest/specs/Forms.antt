@@ -13,6 +13,8 @@ use Rattle.rim_launch.specs.Texts.{has_no_zero}
 use Rattle.rim_manifest.specs.Words.{is_word}
 use Rattle.rim_desc.specs.Measurement.{algo_word}
 use Rattle.rim_desc.specs.declared.measurement.Algo.TheVariants.{Sha256, Sha512}
+use Rattle.rim_desc.specs.Rule.{rule_word}
+use Rattle.rim_desc.specs.declared.rule.RecRule.TheVariants.{All, Runnable}
 use Rattle.rim_manifest.specs.declared.form.TheConstants.{NAME_LIMIT}
 
 -- the values of an array
@@ -83,6 +85,10 @@ is_base (negsuc n) = false
 abbrev pub is_algorithm : List ℕ → Bool
 is_algorithm s = bytes_eq s (algo_word Sha256) || bytes_eq s (algo_word Sha512)
 
+-- a text is the word of a rule for RECs
+abbrev pub is_rec_rule : List ℕ → Bool
+is_rec_rule s = bytes_eq s (rule_word All) || bytes_eq s (rule_word Runnable)
+
 -- the word of an item's kind
 abbrev pub is_item_kind : List ℕ → Bool
 is_item_kind s = bytes_eq s (codes "kernel") || bytes_eq s (codes "initrd") || bytes_eq s (codes "dtb") || bytes_eq s (codes "raw") || bytes_eq s (codes "unknown")
@@ -108,6 +114,7 @@ has_kind form.Text d = is_some (as_str d)
 has_kind form.AnyText d = is_some (as_str d)
 has_kind form.ItemKind d = is_some (as_str d)
 has_kind form.Bootargs d = is_some (as_str d)
+has_kind form.RecRule d = is_some (as_str d)
 has_kind form.Texts d = option_map_or (λ ds. list_all is_text (items_list ds)) (as_array d) false
 
 -- whether a value has more parts than its form allows
@@ -130,4 +137,5 @@ is_within (form.Words most) (array ds) = list_all is_word (items_list ds)
 is_within form.Text (string s) = nat_le 1 (length s)
 is_within form.ItemKind (string s) = is_item_kind s
 is_within form.Bootargs (string s) = has_no_zero s
+is_within form.RecRule (string s) = is_rec_rule s
 is_within _ _ = true

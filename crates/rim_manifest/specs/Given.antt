@@ -1,6 +1,7 @@
 -- What a manifest gives, said apart from the defaults that its reader falls back on: what is read at a key is the
 -- value at it, and a default is read only where the key is absent. This project's choice.
-use Rattle.std.specs.Prelude.{◌≡◌, ℕ, ◌+◌, Bool, true, false, pos, List, [], ◌∷◌, ◌++◌, length, Option, Some, None, IsSome, Ok, codes, slice_get}
+use Rattle.std.specs.Prelude.{◌≡◌, ℕ, ◌+◌, Bool, true, false, not, pos, List, [], ◌∷◌, ◌++◌, length, Option, Some, None, IsSome, Ok, codes, slice_get}
+use Rattle.std.specs.List.{list_any}
 use Rattle.std.specs.Str.Parse.{digits_value}
 use Rattle.hex.specs.Hex.{decode_sized}
 use Rattle.toml.specs.Data.{Data, string, integer, boolean, at, get}
@@ -22,8 +23,12 @@ use Rattle.rim_launch.specs.declared.item.Role.{Role}
 use Rattle.rim_launch.specs.declared.item.Role.TheVariants.{Kernel, Initrd, Dtb, Raw, Unknown}
 use Rattle.rim_launch.specs.declared.rec.Rec.{Rec}
 use Rattle.rim_manifest.specs.Launches.{NamedData}
+use Rattle.rim_manifest.specs.declared.version.FormatVersion.{FormatVersion}
+use Rattle.rim_manifest.specs.declared.version.FormatVersion.TheVariants.{One, Two}
 use Rattle.rim_manifest.specs.Values.{array_at}
 use Rattle.rim_desc.specs.Measurement.{algo_word}
+use Rattle.rim_desc.specs.Rule.{rule_word}
+use Rattle.rim_desc.specs.declared.rule.RecRule.{RecRule}
 use Rattle.rim_launch.specs.declared.config.TheConstants.{POOL_LIMIT}
 
 -- a number, or the default of its key
@@ -162,8 +167,20 @@ GivesSteps items (Some d) l = EachGives (GivesStep items) (items_of d) l.steps
 
 -- ---- launches
 
--- the launch has what its table gives
-pub record IsGiven (files : List Data) (d : Data) (l : NamedData) : Type 0 where
+-- the rule that version 2 gives; version 1 has none, and its table says nothing of one
+abbrev pub GivesRule : FormatVersion → Option Data → Option RecRule → Type 0
+GivesRule One o rule = (o ≡ None) × (rule ≡ None)
+GivesRule Two None None = Unit {0}
+GivesRule Two (Some d) (Some rule) = d ≡ string (rule_word rule)
+GivesRule Two _ _ = ⊥
+
+-- in version 2 a launch with a REC that is not runnable has a rule
+abbrev pub HasItsRule : FormatVersion → LaunchData → Type 0
+HasItsRule One l = Unit {0}
+HasItsRule Two l = list_any (λ r. not r.runnable) l.recs ≡ true → IsSome l.config.rec_rule
+
+-- the launch has what its table gives, in a manifest of this version
+pub record IsGiven (v : FormatVersion) (files : List Data) (d : Data) (l : NamedData) : Type 0 where
   pub name : get (codes "name") d ≡ Some (string l.name)
   pub algo : get (codes "algo") d ≡ Some (string (algo_word l.launch.config.algo))
   pub s2sz : get (codes "s2sz") d ≡ Some (integer (pos l.launch.config.s2sz))
@@ -176,9 +193,11 @@ pub record IsGiven (files : List Data) (d : Data) (l : NamedData) : Type 0 where
   pub rpv : GivesBytes (get (codes "rpv") d) l.launch.config.rpv
   pub block_level : GivesNumber 2 (get (codes "block_level") d) l.launch.config.block_level
   pub num_aux : GivesNumber 0 (get (codes "num_aux") d) l.launch.config.num_aux
+  pub rec_rule : GivesRule v (get (codes "rec_rule") d) l.launch.config.rec_rule
   pub pool_base : GivesNumber 0x800000000 (get (codes "pool_base") d) l.launch.config.pool_base
   pub pool_count : GivesNumber POOL_LIMIT (get (codes "pool_count") d) l.launch.config.pool_count
   pub ram : EachGives GivesRegion (array_at (codes "ram") d) l.launch.ram
   pub items : EachGives (GivesItem files) (array_at (codes "item") d) l.launch.items
   pub recs : EachGives GivesRec (array_at (codes "rec") d) l.launch.recs
+  pub ruled : HasItsRule v l.launch
   pub steps : GivesSteps (array_at (codes "item") d) (get (codes "steps") d) l.launch

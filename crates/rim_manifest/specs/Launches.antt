@@ -10,6 +10,8 @@ use Rattle.rim_launch.specs.declared.rec.Rec.{Rec}
 use Rattle.rim_manifest.specs.Forms.{is_region}
 use Rattle.rim_manifest.specs.Items.{item_of}
 use Rattle.rim_manifest.specs.StepTexts.{steps_in}
+use Rattle.rim_manifest.specs.declared.version.FormatVersion.{FormatVersion}
+use Rattle.rim_manifest.specs.Versions.{rule_for}
 use Rattle.rim_manifest.specs.Values.{algorithm_in, array_at, base_in, digits_in, number_in, text_in, truth_in, whole_in, word_in, words_in}
 use Rattle.rim_manifest.specs.inside.NumberRanges.{base_aligned, base_low, number_from, number_to, number_within, region_if}
 use Rattle.rim_desc.specs.declared.rec.TheConstants.{AUX_LIMIT}
@@ -31,8 +33,8 @@ abbrev pub AreNumbered : ReleaseData → Type 0
 AreNumbered r = (i : ℕ) (l : NamedData) → slice_get r.launches i ≡ Some l → (l.launch.number ≡ i) × (has_files l.launch (length r.paths) ≡ true)
 
 -- the configuration, and why each of its numbers is in range
-unfoldable pub config_of : Data → Config
-config_of d = record {
+unfoldable pub config_of : FormatVersion → Data → Config
+config_of v d = record {
   algo = algorithm_in (get (codes "algo") d);
   s2sz = number_in LEAST_WIDTH MOST_WIDTH LEAST_WIDTH (get (codes "s2sz") d);
   sve = truth_in false (get (codes "sve") d);
@@ -44,6 +46,7 @@ config_of d = record {
   rpv = digits_in (get (codes "rpv") d);
   block_level = number_in 0 3 2 (get (codes "block_level") d);
   num_aux = number_in 0 AUX_LIMIT 0 (get (codes "num_aux") d);
+  rec_rule = rule_for v (get (codes "rec_rule") d);
   pool_base = base_in (get (codes "pool_base") d);
   pool_count = number_in 1 POOL_LIMIT POOL_LIMIT (get (codes "pool_count") d);
   width = number_within LEAST_WIDTH MOST_WIDTH LEAST_WIDTH (get (codes "s2sz") d) refl;
@@ -78,13 +81,13 @@ recs_of d = map rec_of (array_at (codes "rec") d)
 abbrev pub items_of : List Data → Data → List Item
 items_of files d = map (item_of files) (array_at (codes "item") d)
 
--- a launch by its number and its table, where the files are these
-abbrev pub launch_of : List Data → ℕ → Data → NamedData
-launch_of files number d = record {
+-- a launch by its number and its table, in a manifest of this version, where the files are these
+abbrev pub launch_of : FormatVersion → List Data → ℕ → Data → NamedData
+launch_of v files number d = record {
   name = text_in (get (codes "name") d);
   launch = record {
     number = number;
-    config = config_of d;
+    config = config_of v d;
     ram = ram_of d;
     items = items_of files d;
     recs = recs_of d;
@@ -92,6 +95,6 @@ launch_of files number d = record {
   };
 }
 
--- launches, of which the first has the number n
-abbrev pub launches_from : List Data → ℕ → List Data → List NamedData
-launches_from files n ds = map (λ p. launch_of files p.0 p.1) (enumerate_from n ds)
+-- launches of such a manifest, of which the first has the number n
+abbrev pub launches_from : FormatVersion → List Data → ℕ → List Data → List NamedData
+launches_from v files n ds = map (λ p. launch_of v files p.0 p.1) (enumerate_from n ds)

@@ -4,6 +4,7 @@ pub mod Forms
 pub mod Rules
 pub mod Checks
 pub mod Values
+pub mod Versions
 pub mod Names
 pub mod inside
 pub mod Items

@@ -1,9 +1,9 @@
 -- What a manifest describes, or the lowest fault that holds anywhere in it. This project's choice;
 -- which document a text is, is TOML's, as the library `toml` defines it.
-use Rattle.std.specs.Prelude.{ℕ, Bool, false, not, pos, ◌==◌, ◌||◌, List, [], ◌++◌, map, Option, Some, None, Result, Ok, Err, codes, if◌then◌else◌}
+use Rattle.std.specs.Prelude.{ℕ, Bool, not, ◌||◌, List, [], ◌++◌, map, Option, Some, None, Result, Ok, Err, codes, if◌then◌else◌}
 use Rattle.std.specs.List.{flat_map, list_all, list_any}
 use Rattle.std.specs.Str.{is_utf8, bytes_eq}
-use Rattle.toml.specs.Data.{Data, integer, table, Members, get, get_member}
+use Rattle.toml.specs.Data.{Data, table, Members, get, get_member}
 use Rattle.toml.specs.Parse.{parse_document}
 use Rattle.rim_manifest.specs.declared.fault.ManifestFault.{ManifestFault}
 use Rattle.rim_manifest.specs.declared.fault.ManifestFault.TheVariants.{Syntax, Version, MissingKey, TwoNames, NoSuchFile, BadStep}
@@ -13,20 +13,17 @@ use Rattle.rim_launch.specs.declared.item.Role.TheVariants.{Dtb, Unknown}
 use Rattle.rim_manifest.specs.Faults.{fault_if, lowest}
 use Rattle.rim_manifest.specs.Forms.{items_in}
 use Rattle.rim_manifest.specs.Names.{has_asked, lacks_file, repeats, role_at, share_names}
-use Rattle.rim_manifest.specs.Rules.{Rule, dtb_rules, file_rules, item_rules, launch_rules, rec_rules, top_rules, unknown_rules}
+use Rattle.rim_manifest.specs.Rules.{Rule, dtb_rules, file_rules, item_rules, rec_rules, top_rules, unknown_rules}
 use Rattle.rim_manifest.specs.StepTexts.{has_bad_steps}
 use Rattle.rim_manifest.specs.Values.{array_at, text_in}
+use Rattle.rim_manifest.specs.declared.version.FormatVersion.{FormatVersion}
+use Rattle.rim_manifest.specs.Versions.{has_version, lacks_rule, launch_rules_in, version_at}
 use Rattle.rim_manifest.specs.Checks.{ruled_faults, table_faults}
 use Rattle.rim_manifest.specs.Launches.{NamedData, ReleaseData, launches_from}
 
 -- the document that some bytes are
 unfoldable pub document_of : List ℕ → Option Members
 document_of bytes = if is_utf8 bytes then parse_document bytes else None
-
--- whether the format's number is 1
-abbrev pub has_version : Option Data → Bool
-has_version (Some (integer (pos n))) = n == 1
-has_version _ = false
 
 -- the values in the arrays of launches and of files
 abbrev pub launches_at : Members → List Data
@@ -37,7 +34,7 @@ files_at ms = items_in (get_member (codes "file") ms)
 
 -- the launches that a document without faults in its tables describes, numbered from 0
 abbrev pub launches_of : Members → List NamedData
-launches_of ms = launches_from (files_at ms) 0 (launches_at ms)
+launches_of ms = launches_from (version_at ms) (files_at ms) 0 (launches_at ms)
 
 abbrev pub path_of : Data → List ℕ
 path_of d = text_in (get (codes "path") d)
@@ -57,14 +54,16 @@ rules_of _ = item_rules
 abbrev pub item_faults : Data → List ManifestFault
 item_faults d = ruled_faults (rules_of (role_at d)) d
 
--- the faults of a launch's table and of the tables of its items and RECs, and an edit without what it asks for
-unfoldable pub launch_faults : Data → List ManifestFault
-launch_faults (table ms) =
-    table_faults launch_rules ms
+-- the faults of a launch's table and of the tables of its items and RECs, an edit without what it asks for, and a REC
+-- without the rule that it asks for
+unfoldable pub launch_faults : FormatVersion → Data → List ManifestFault
+launch_faults v (table ms) =
+    table_faults (launch_rules_in v) ms
     ++ (flat_map item_faults (array_at (codes "item") (table ms))
     ++ (flat_map (ruled_faults rec_rules) (array_at (codes "rec") (table ms))
-    ++ fault_if (not (has_asked (table ms))) MissingKey))
-launch_faults _ = []
+    ++ (fault_if (not (has_asked (table ms))) MissingKey
+    ++ fault_if (lacks_rule v (table ms)) MissingKey)))
+launch_faults v _ = []
 
 -- the faults of the tables, each where it holds
 unfoldable pub manifest_faults : Members → List ManifestFault
@@ -72,7 +71,7 @@ manifest_faults ms =
     fault_if (not (has_version (get_member (codes "rim_manifest") ms))) Version
     ++ (table_faults top_rules ms
     ++ (flat_map (ruled_faults file_rules) (files_at ms)
-    ++ flat_map launch_faults (launches_at ms)))
+    ++ flat_map (launch_faults (version_at ms)) (launches_at ms)))
 
 -- ---- the faults of names and of steps, where no table has a fault
 

@@ -37,7 +37,7 @@ file_rules =
     rule (codes "name") form.Name Required
     ∷ rule (codes "path") form.Text Required ∷ []
 
--- the keys of a launch
+-- the keys of a launch in version 1
 abbrev pub launch_rules : List Rule
 launch_rules =
     rule (codes "name") form.Name Required
@@ -58,6 +58,14 @@ launch_rules =
     ∷ rule (codes "item") (form.Tables ITEM_LIMIT) Optional
     ∷ rule (codes "rec") (form.Tables NAMED_REC_LIMIT) Optional
     ∷ rule (codes "steps") form.Texts Optional ∷ []
+
+-- the key that version 2 adds
+abbrev pub added_rules : List Rule
+added_rules = rule (codes "rec_rule") form.RecRule Optional ∷ []
+
+-- the keys of a launch in version 2
+abbrev pub launch_rules_2 : List Rule
+launch_rules_2 = launch_rules ++ added_rules
 
 -- the keys of an item that is no devicetree, and whose content is known
 abbrev pub item_rules : List Rule

@@ -45,7 +45,7 @@ commands_for l files = placed_of l files >>= λ p. entries_of l p >>= λ entries
 
 -- the Realm Initial Measurement that a monitor holds after a launch's commands
 abbrev pub rim_after : LaunchData → List Command → List ℕ
-rim_after l commands = unwrap_or (run (empty_state l.config.num_aux) commands).rim []
+rim_after l commands = unwrap_or (run (empty_state l.config.num_aux l.config.rec_rule) commands).rim []
 
 -- the Realm Initial Measurement of a launch, or why it is refused
 unfoldable pub rim_for : LaunchData → List (List ℕ) → Result (List ℕ) AuditFault

@@ -17,7 +17,7 @@ use Rattle.rim_release.specs.declared.audit_fault.AuditFault.{AuditFault}
 pub record IsMeasured (files : List (List ℕ)) (l : NamedData) (p : PlacedData) : Type 0 where
   pub commands : List Command
   pub listed : commands_for l.launch files ≡ Ok commands
-  pub followed : IsFollowed l.launch.config.algo l.launch.config.num_aux commands (measured l.launch p (page_contents l.launch files p))
+  pub followed : IsFollowed l.launch.config.algo l.launch.config.num_aux l.launch.config.rec_rule commands (measured l.launch p (page_contents l.launch files p))
   pub line : line_of files l ≡ (l.name ++ rim_text l.launch.config.algo (rim_of l.launch.config.algo (measured l.launch p (page_contents l.launch files p)))) ++ codes "\n"
 
 -- each launch that is accepted is so measured

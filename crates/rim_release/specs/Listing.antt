@@ -12,7 +12,7 @@ use Rattle.rim_release.specs.declared.audit_fault.AuditFault.{AuditFault}
 
 -- the lines of a launch that has these commands
 abbrev pub listing_with : LaunchData → List Command → List ℕ
-listing_with l commands = listing_text l.config.num_aux commands l.config.algo (rim_after l commands)
+listing_with l commands = listing_text l.config.num_aux l.config.rec_rule commands l.config.algo (rim_after l commands)
 
 -- the whole listing, or why the launch is refused
 unfoldable pub listing_of : LaunchData → List (List ℕ) → Result (List ℕ) AuditFault

@@ -1,7 +1,7 @@
 -- The trace of a launch: its measurement after each command that creates or extends it. Two traces can be compared line by line,
 -- and the first difference is at the first step at which their launches part. This project's choice; what a command measures is
 -- DEN0137's, "Realm Initial Measurement".
-use Rattle.std.specs.Prelude.{◌≡◌, ℕ, ◌+◌, List, [], ◌∷◌, ◌++◌, take, codes, Option, Some, None, Result, Ok}
+use Rattle.std.specs.Prelude.{◌≡◌, ℕ, ◌+◌, List, [], ◌∷◌, ◌++◌, take, codes, Option, Some, None, Result, Ok, if◌then◌else◌}
 use Rattle.std.specs.List.{slice_get}
 use Rattle.hex.specs.Hex.{encode_lower}
 use Rattle.refusal.specs.Answer.{◌>>=◌}
@@ -9,7 +9,8 @@ use Rattle.rim_desc.specs.Part.{Part, rim_of}
 use Rattle.rim_desc.specs.declared.command.Command.{Command}
 use Rattle.rim_desc.specs.declared.command.Command.TheVariants.{Delegate, RealmCreate, RttCreate, InitRipas, DataCreate, DataCreateUnknown, RecCreate, Activate}
 use Rattle.rim_desc.specs.declared.measurement.Algo.{Algo}
-use Rattle.rmm_model.specs.Effects.{parts}
+use Rattle.rim_desc.specs.Rule.{extends}
+use Rattle.rmm_model.specs.Effects.{is_runnable, parts}
 use Rattle.rmm_model.specs.Run.{after, parts_of, run}
 use Rattle.rmm_model.specs.State.{State, empty_state}
 use Rattle.rmm_model.specs.Step.{step}
@@ -39,7 +40,7 @@ trace_lines algo before s (c ∷ cs) =
 
 -- the lines of a launch that has these commands
 abbrev pub trace_with : LaunchData → List Command → List ℕ
-trace_with l commands = trace_lines l.config.algo [] (empty_state l.config.num_aux) commands
+trace_with l commands = trace_lines l.config.algo [] (empty_state l.config.num_aux l.config.rec_rule) commands
 
 -- the whole trace, or why the launch is refused
 unfoldable pub trace_of : LaunchData → List (List ℕ) → Result (List ℕ) AuditFault
@@ -59,7 +60,7 @@ rim_held s (RttCreate rtt ipa level) = None
 rim_held s (InitRipas base top) = s.rim
 rim_held s (DataCreate granule ipa content) = s.rim
 rim_held s (DataCreateUnknown granule ipa) = None
-rim_held s (RecCreate rec params) = s.rim
+rim_held s (RecCreate rec params) = if extends s.rule (is_runnable params.flags) then s.rim else None
 rim_held s Activate = None
 
 -- the line with it, if there is one
@@ -72,7 +73,7 @@ abbrev pub TracesShowWhatIsHeld : Type 0
 TracesShowWhatIsHeld = (files : List (List ℕ)) (l : LaunchData) (commands : List Command) (i : ℕ) (c : Command)
     → commands_for l files ≡ Ok commands → slice_get commands i ≡ Some c
     → trace_with l (take (i + 1) commands)
-    ≡ trace_with l (take i commands) ++ line_if_held l.config.algo (rim_held (run (empty_state l.config.num_aux) (take (i + 1) commands)) c) c
+    ≡ trace_with l (take i commands) ++ line_if_held l.config.algo (rim_held (run (empty_state l.config.num_aux l.config.rec_rule) (take (i + 1) commands)) c) c
 
 -- The last line is that of the last command that is measured, as the others have no line, and it has the launch's Realm
 -- Initial Measurement.

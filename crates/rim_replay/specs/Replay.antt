@@ -7,6 +7,7 @@ use Rattle.rim_desc.specs.declared.command.Command.{Command}
 use Rattle.rim_desc.specs.declared.measurement.Algo.{Algo}
 use Rattle.rim_desc.specs.declared.measurement.Measurement.{Measurement}
 use Rattle.rim_desc.specs.declared.realm.RealmParams.{RealmParams}
+use Rattle.rim_desc.specs.declared.rule.RecRule.{RecRule}
 use Rattle.rmm_model.specs.State.{State, empty_state}
 use Rattle.rmm_model.specs.Step.{step}
 use Rattle.rmm_model.specs.declared.outcome.Refused.{Refused}
@@ -51,13 +52,13 @@ Replays n s (line ∷ []) answer = answer ≡ Err (fault.Line n)
 Replays n s (line ∷ next ∷ rest) answer =
     (read : Option Command) × Reads line read × Comes n s line (next ∷ rest) (λ t. Replays (n + 1) t (next ∷ rest) answer) answer read
 
--- the first line has the monitor's number of auxiliary granules
-abbrev pub Opens : List (List ℕ) → Answer → Option ℕ → Type 0
-Opens rest answer (Some num_aux) = Replays 2 (empty_state num_aux) rest answer
+-- the first line has the monitor's number of auxiliary granules, and the rule of its RECs if it has one
+abbrev pub Opens : List (List ℕ) → Answer → Option (ℕ × Option RecRule) → Type 0
+Opens rest answer (Some (num_aux, rule)) = Replays 2 (empty_state num_aux rule) rest answer
 Opens rest answer None = answer ≡ Err (fault.Line 1)
 
 abbrev pub Begins : List (List ℕ) → Answer → Type 0
-Begins (line ∷ next ∷ rest) answer = (first : Option ℕ) × ReadsFirst line first × Opens (next ∷ rest) answer first
+Begins (line ∷ next ∷ rest) answer = (first : Option (ℕ × Option RecRule)) × ReadsFirst line first × Opens (next ∷ rest) answer first
 Begins pieces answer = answer ≡ Err (fault.Line 1)
 
 -- what a text comes to: its lines are taken in their order, and the first with a fault decides

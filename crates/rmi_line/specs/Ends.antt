@@ -1,17 +1,20 @@
 -- The first and the last line of a listing, without their newlines, and its text. This project's choice.
-use Rattle.std.specs.Prelude.{ℕ, List, ◌++◌, codes, take}
+use Rattle.std.specs.Prelude.{ℕ, List, ◌++◌, Option, Some, None, codes, take}
 use Rattle.std.specs.Fmt.{decimal}
 use Rattle.std.specs.List.{flat_map}
 use Rattle.hex.specs.Hex.{encode_lower}
 use Rattle.rim_desc.specs.Measurement.{algo_word}
+use Rattle.rim_desc.specs.Rule.{rule_word}
 use Rattle.rim_desc.specs.declared.command.Command.{Command}
 use Rattle.rim_desc.specs.declared.measurement.Algo.{Algo}
 use Rattle.rim_desc.specs.declared.measurement.Algo.TheVariants.{Sha256, Sha512}
+use Rattle.rim_desc.specs.declared.rule.RecRule.{RecRule}
 use Rattle.rmi_line.specs.Line.{line_of}
 
--- the first line has the monitor's number of auxiliary granules
-abbrev pub first_line : ℕ → List ℕ
-first_line num_aux = codes "rim-list 1 aux " ++ decimal num_aux
+-- the first line has the monitor's number of auxiliary granules, and the rule of its RECs if it has one
+abbrev pub first_line : ℕ → Option RecRule → List ℕ
+first_line num_aux None = codes "rim-list 1 aux " ++ decimal num_aux
+first_line num_aux (Some rule) = codes "rim-list 2 aux " ++ (decimal num_aux ++ (codes " rec " ++ rule_word rule))
 
 -- the word of an algorithm, between spaces
 abbrev pub spaced_word : Algo → List ℕ
@@ -38,6 +41,6 @@ abbrev pub command_line : Command → List ℕ
 command_line command = with_newline (line_of command)
 
 -- the text of a listing: a line for each command, between the first and the last one
-abbrev pub listing_text : ℕ → List Command → Algo → List ℕ → List ℕ
-listing_text num_aux commands algo rim =
-    (with_newline (first_line num_aux) ++ flat_map command_line commands) ++ with_newline (last_line algo rim)
+abbrev pub listing_text : ℕ → Option RecRule → List Command → Algo → List ℕ → List ℕ
+listing_text num_aux rule commands algo rim =
+    (with_newline (first_line num_aux rule) ++ flat_map command_line commands) ++ with_newline (last_line algo rim)

@@ -4,6 +4,7 @@ use Rattle.rim_desc.specs.declared.command.Command.{Command}
 use Rattle.rim_desc.specs.declared.measurement.Algo.{Algo}
 use Rattle.rim_desc.specs.declared.measurement.Measurement.{Measurement}
 use Rattle.rim_desc.specs.declared.rec.TheConstants.{AUX_LIMIT}
+use Rattle.rim_desc.specs.declared.rule.RecRule.{RecRule}
 use Rattle.rmi_line.specs.Ends.{first_line, last_line}
 use Rattle.rmi_line.specs.Line.{line_of}
 use Rattle.rmi_line.specs.Typed.{Are64Bytes, IsTyped}
@@ -19,10 +20,10 @@ Reads line None = (command : Command) → ¬ (Spells line command)
 
 -- ---- the first and the last line of a listing
 
--- what a reader of a first line answers: the number of auxiliary granules that it spells, which is at most 16
-abbrev pub ReadsFirst : List ℕ → Option ℕ → Type 0
-ReadsFirst line (Some num_aux) = (line ≡ first_line num_aux) × (num_aux ≤ AUX_LIMIT)
-ReadsFirst line None = (num_aux : ℕ) → num_aux ≤ AUX_LIMIT → line ≢ first_line num_aux
+-- what a reader of a first line answers: the number of auxiliary granules that it spells, which is at most 16, and the rule
+abbrev pub ReadsFirst : List ℕ → Option (ℕ × Option RecRule) → Type 0
+ReadsFirst line (Some (num_aux, rule)) = (line ≡ first_line num_aux rule) × (num_aux ≤ AUX_LIMIT)
+ReadsFirst line None = (num_aux : ℕ) (rule : Option RecRule) → num_aux ≤ AUX_LIMIT → line ≢ first_line num_aux rule
 
 -- the line is the last one with this measurement by this algorithm, of which it spells the digest
 abbrev pub SpellsLast : List ℕ → Algo → Measurement → Type 0

@@ -1,10 +1,11 @@
 -- The commands that a host gives the monitor to build the realm of a launch, or the first reason why it has no such list.
 -- The order of the commands, of the granules and of the reasons is this project's choice.
-use Rattle.std.specs.Prelude.{◌≡◌, ◌⊎◌, ℕ, ◌+◌, ◌==◌, not, nat_lt, List, [], ◌∷◌, ◌++◌, map, length, Option, Some, None, Result, Ok, Err, if◌then◌else◌}
+use Rattle.std.specs.Prelude.{◌≡◌, ◌⊎◌, ℕ, ◌+◌, ◌==◌, ◌&&◌, Bool, not, nat_lt, is_some, List, [], ◌∷◌, ◌++◌, map, length, Option, Some, None, Result, Ok, Err, if◌then◌else◌}
 use Rattle.std.specs.List.{slice_get}
 use Rattle.refusal.specs.Answer.{◌>>=◌, with_front}
 use Rattle.refusal.specs.Checks.{Check, unless_refused}
 use Rattle.rim_desc.specs.declared.command.Command.TheVariants.{Activate}
+use Rattle.rim_desc.specs.declared.rule.RecRule.{RecRule}
 use Rattle.rmm_model.specs.Blocks.{granules}
 use Rattle.rtt_plan.specs.Planned.{Planned, after_data, after_region, data_checks, nothing_planned, region_checks}
 use Rattle.rtt_plan.specs.declared.fault.PlanFault.{PlanFault}
@@ -73,11 +74,15 @@ list_item c w number item =
       next = record w { plan = after_data w.plan (page_base item) item.pages; taken = w.taken + delegated entries };
     })
 
+-- a REC that is not runnable, in a launch without a rule for such
+abbrev pub lacks_rule : Option RecRule → PlacedRec → Bool
+lacks_rule rule r = not r.runnable && not (is_some rule)
+
 -- a REC is created, with the auxiliary granules after its own
 unfoldable pub list_rec : Config → Progress → ℕ → PlacedRec → Result Listing ListFault
 list_rec c w number r =
     let entries = rec_entries c.pool_base w.taken c.num_aux (rec_params number r (granules c.num_aux (granule c.pool_base (w.taken + 1)))) in
-    unless_refused ((RecOrder, not (number == w.num_recs)) ∷ (RecNotRunnable, not r.runnable) ∷ pool_check c w.taken entries ∷ []) (record {
+    unless_refused ((RecOrder, not (number == w.num_recs)) ∷ (RecNotRunnable, lacks_rule c.rec_rule r) ∷ pool_check c w.taken entries ∷ []) (record {
       entries = entries;
       next = record w { taken = w.taken + delegated entries; num_recs = w.num_recs + 1 };
     })

@@ -4,11 +4,11 @@ use Rattle.std.specs.Prelude.{ℕ, ◌-◌, Bool, List, [], ◌∷◌, Option, S
 use Rattle.std.specs.List.{flat_map, slice_get}
 use Rattle.rim_desc.specs.Measurement.{measurement_of}
 use Rattle.rim_desc.specs.PageBytes.{page_bytes}
-use Rattle.rim_desc.specs.Part.{Part, Realm, Rec}
+use Rattle.rim_desc.specs.Part.{Part, Realm}
 use Rattle.rim_desc.specs.Realm.{realm_page_of}
-use Rattle.rim_desc.specs.Rec.{rec_page_of}
 use Rattle.rim_desc.specs.declared.measurement.Algo.{Algo}
 use Rattle.rim_desc.specs.declared.source.Source.{Source}
+use Rattle.rmm_model.specs.Effects.{rec_parts}
 use Rattle.rtt_plan.specs.Planned.{least_level_of}
 use Rattle.list_model.specs.declared.content.PageContent.{PageContent}
 use Rattle.list_model.specs.declared.content.PageContent.TheVariants.{Measured, Unmeasured, Unknown}
@@ -57,9 +57,9 @@ least_level c = least_level_of c.s2sz c.block_level
 abbrev pub page_base : PlacedItem → ℕ
 page_base item = item.address - item.lead
 
--- the part of a REC; its auxiliary granules are not measured
-abbrev pub rec_part : Algo → ℕ → PlacedRec → Part
-rec_part algo number r = Rec (measurement_of algo (rec_page_of (rec_params number r [])))
+-- the part of a REC, where it extends the measurement; its auxiliary granules are not measured
+abbrev pub rec_parts_of : Config → ℕ → PlacedRec → List Part
+rec_parts_of c number r = rec_parts c.rec_rule c.algo (rec_params number r [])
 
 -- the parts of what a number names, if it names something. In a launch it does: its type excludes other steps
 abbrev pub of_named : {A : Type 0} → (A → List Part) → Option A → List Part
@@ -70,7 +70,7 @@ of_named parts (Some x) = parts x
 abbrev pub step_parts : LaunchData → PlacedData → Contents → Step → List Part
 step_parts l p contents (step.Ram n) = of_named (λ r. block_parts r.base r.end (least_level l.config)) (slice_get l.ram n)
 step_parts l p contents (step.Item n) = of_named (λ i. page_parts (page_content i) contents n (page_base i) i.pages) (slice_get p.items n)
-step_parts l p contents (step.Rec n) = of_named (λ r. rec_part l.config.algo n r ∷ []) (slice_get p.recs n)
+step_parts l p contents (step.Rec n) = of_named (rec_parts_of l.config n) (slice_get p.recs n)
 
 -- the whole launch: its realm, and the parts of its steps
 abbrev pub measured : LaunchData → PlacedData → Contents → List Part

@@ -5,7 +5,8 @@
 -- no LPA2 (flag 0), and tables in the protected half alone; that an InitRipas is taken only where it
 -- can be carried out whole, in the table in which the walk of its base ends (WalkLevel), and only
 -- where no page of its range is RAM and no deeper table lies in it (NotFresh); that a DataCreate or a
--- DataCreateUnknown needs a page that is RAM (NotRam); and that a REC is runnable.
+-- DataCreateUnknown needs a page that is RAM (NotRam); and that a REC is runnable where the monitor has no rule for those
+-- that are not.
 use Rattle.std.specs.Prelude.{ℕ, ◌+◌, ◌-◌, ◌*◌, ◌/◌, ◌%◌, ◌^◌, ◌==◌, nat_le, nat_lt, not, ◌||◌, Bool, false, List, [], ◌∷◌, length, drop, is_some, Option, Some, None}
 use Rattle.std.specs.List.{list_all}
 use Rattle.rim_desc.specs.declared.command.Command.{Command}
@@ -14,6 +15,7 @@ use Rattle.rim_desc.specs.declared.measurement.Algo.{Algo}
 use Rattle.rim_desc.specs.declared.measurement.Algo.TheVariants.{Sha256, Sha512}
 use Rattle.rim_desc.specs.declared.measurement.Measurement.{Measurement}
 use Rattle.rim_desc.specs.declared.realm.RealmParams.{RealmParams}
+use Rattle.rim_desc.specs.declared.rule.RecRule.{RecRule}
 use Rattle.rim_desc.specs.Rec.{RecData}
 use Rattle.rmm_model.specs.declared.outcome.Refused.{Refused}
 use Rattle.rmm_model.specs.declared.outcome.Refused.TheVariants.{State, BadParams, Unaligned, OutsideProtected, WalkLevel, NotFresh, NotRam, Assigned, RecIndex, AuxCount, NotUndelegated, NotDelegated}
@@ -54,9 +56,14 @@ is_bad_content Sha512 content = false
 abbrev pub field : ℕ → ℕ → ℕ → ℕ
 field low width x = x / 2 ^ low % 2 ^ width
 
--- a REC that is not runnable, or an MPIDR with bits other than 3:0 and 31:8
-abbrev pub is_bad_rec : RecData → Bool
-is_bad_rec r = not (r.flags == 1) || not (field 4 4 r.mpidr == 0) || nat_le (2 ^ 32) r.mpidr
+-- flags other than runnable, which is bit 0; without a rule that bit is set
+abbrev pub has_bad_flags : Option RecRule → ℕ → Bool
+has_bad_flags None flags = not (flags == 1)
+has_bad_flags (Some rule) flags = nat_le 2 flags
+
+-- bad flags, or an MPIDR with bits other than 3:0 and 31:8
+abbrev pub is_bad_rec : Option RecRule → RecData → Bool
+is_bad_rec rule r = has_bad_flags rule r.flags || not (field 4 4 r.mpidr == 0) || nat_le (2 ^ 32) r.mpidr
 
 -- the index that an MPIDR names: Aff0 has 4 bits, Aff1 to Aff3 have 8 each
 abbrev pub rec_index : ℕ → ℕ
@@ -128,7 +135,7 @@ unknown_data_checks s granule ipa = (State, monitor.is_empty s.phase) ∷ page_c
 abbrev pub rec_checks : monitor.State → ℕ → RecData → List (Check Refused)
 rec_checks s rec r =
     (State, not (monitor.is_new s.phase))
-    ∷ (BadParams, is_bad_rec r)
+    ∷ (BadParams, is_bad_rec s.rule r)
     ∷ (Unaligned, not (is_multiple PAGE_SIZE rec) || not (list_all (is_multiple PAGE_SIZE) r.aux))
     ∷ (RecIndex, not (rec_index r.mpidr == s.num_recs))
     ∷ (AuxCount, not (length r.aux == s.num_aux))

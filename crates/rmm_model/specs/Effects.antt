@@ -1,12 +1,15 @@
 -- What each command does where no check refuses it. DEN0137, the RMI commands' success conditions
 -- and "Realm Initial Measurement".
-use Rattle.std.specs.Prelude.{ℕ, ◌+◌, ◌-◌, ◌/◌, List, [], ◌∷◌, map, Some, option_map}
+use Rattle.std.specs.Prelude.{ℕ, ◌+◌, ◌-◌, ◌/◌, ◌%◌, ◌==◌, Bool, List, [], ◌∷◌, map, Option, Some, option_map, if◌then◌else◌}
 use Rattle.rim_desc.specs.declared.command.Command.{Command}
 use Rattle.rim_desc.specs.declared.command.Command.TheVariants.{Delegate, RealmCreate, RttCreate, InitRipas, DataCreate, DataCreateUnknown, RecCreate, Activate}
 use Rattle.rim_desc.specs.Measurement.{measurement_of}
 use Rattle.rim_desc.specs.Part.{Part, Realm, Ripas, Data, Rec, extended_by}
 use Rattle.rim_desc.specs.Realm.{realm_page_of}
-use Rattle.rim_desc.specs.Rec.{rec_page_of}
+use Rattle.rim_desc.specs.Rec.{RecData, rec_page_of}
+use Rattle.rim_desc.specs.Rule.{extends}
+use Rattle.rim_desc.specs.declared.measurement.Algo.{Algo}
+use Rattle.rim_desc.specs.declared.rule.RecRule.{RecRule}
 use Rattle.rmm_model.specs.declared.outcome.Kind.TheVariants as kind
 use Rattle.rmm_model.specs.declared.outcome.Phase.TheVariants.{New, Active}
 use Rattle.rmm_model.specs.Blocks.{size, stretches}
@@ -20,6 +23,14 @@ use Rattle.rmm_model.specs.Checks.{start_tables, walk_of}
 abbrev pub ripas_parts : List (ℕ × ℕ) → List Part
 ripas_parts ranges = map (λ r. Ripas r.0 r.1) ranges
 
+-- whether a REC is runnable: bit 0 of its flags. DEN0137, RmiRecCreateFlags
+abbrev pub is_runnable : ℕ → Bool
+is_runnable flags = flags % 2 == 1
+
+-- the part of a REC, where it extends the measurement
+abbrev pub rec_parts : Option RecRule → Algo → RecData → List Part
+rec_parts rule algo r = if extends rule (is_runnable r.flags) then Rec (measurement_of algo (rec_page_of r)) ∷ [] else []
+
 -- what a command measures
 abbrev pub parts : State → Command → List Part
 parts s (Delegate granule) = []
@@ -29,7 +40,7 @@ parts s (InitRipas base top) =
     let entry = size (walk_of s.space base) in ripas_parts (stretches ((top - base) / entry) entry base)
 parts s (DataCreate granule ipa content) = Data ipa (option_map (λ m. m.bytes) content) ∷ []
 parts s (DataCreateUnknown granule ipa) = []
-parts s (RecCreate rec params) = Rec (measurement_of (algo_of s.params) (rec_page_of params)) ∷ []
+parts s (RecCreate rec params) = rec_parts s.rule (algo_of s.params) params
 parts s Activate = []
 
 -- the page has data, in this granule

@@ -5,6 +5,7 @@ use Rattle.rim_desc.specs.Page.{zeros}
 use Rattle.rim_desc.specs.declared.measurement.Algo.{Algo}
 use Rattle.rim_desc.specs.declared.measurement.Algo.TheVariants.{Sha256}
 use Rattle.rim_desc.specs.declared.realm.RealmParams.{RealmParams}
+use Rattle.rim_desc.specs.declared.rule.RecRule.{RecRule}
 use Rattle.rmm_model.specs.declared.outcome.Kind.{Kind}
 use Rattle.rmm_model.specs.declared.outcome.Phase.{Phase}
 use Rattle.rmm_model.specs.declared.outcome.Phase.TheVariants.{Empty, New, Active}
@@ -16,6 +17,8 @@ pub record State : Type 0 where
   pub params : Option RealmParams
   -- the number of auxiliary granules of each REC
   pub num_aux : ℕ
+  -- which RECs extend the measurement; without a rule none is made that is not runnable
+  pub rule : Option RecRule
   -- granules and their kinds, by address
   pub owners : List (ℕ × Kind)
   pub space : Space
@@ -25,8 +28,8 @@ pub record State : Type 0 where
   pub rim : Option (List ℕ)
 
 -- the state before the first command
-abbrev pub empty_state : ℕ → State
-empty_state num_aux = record { phase = Empty; params = None; num_aux = num_aux; owners = []; space = empty_space 0 0; num_recs = 0; rim = None }
+abbrev pub empty_state : ℕ → Option RecRule → State
+empty_state num_aux rule = record { phase = Empty; params = None; num_aux = num_aux; rule = rule; owners = []; space = empty_space 0 0; num_recs = 0; rim = None }
 
 abbrev pub is_empty : Phase → Bool
 is_empty Empty = true

@@ -3,6 +3,8 @@ use Rattle.std.specs.Prelude.{ℕ, ◌-◌, ◌/◌, ◌^◌, ◌≤◌, ◌==�
 use Rattle.std.specs.List.{slice_get}
 use Rattle.rim_desc.specs.Measurement.{measurement_of}
 use Rattle.rim_desc.specs.Rec.{rec_page_of}
+use Rattle.rim_desc.specs.Rule.{extends}
+use Rattle.rim_desc.specs.declared.rule.RecRule.{RecRule}
 use Rattle.rim_desc.specs.declared.measurement.Algo.{Algo}
 use Rattle.rim_desc.specs.declared.source.Source.{Source}
 use Rattle.rmm_model.specs.Blocks.{size}
@@ -45,15 +47,16 @@ abbrev pub item_links : Algo → Option PlacedItem → List Link
 item_links algo None = []
 item_links algo (Some item) = if item.pages == 0 then [] else source_links algo item item.source
 
--- the number of a REC is not measured
-abbrev pub rec_links : Algo → Option PlacedRec → List Link
-rec_links algo None = []
-rec_links algo (Some r) = link.Rec (record { bytes = measurement_of algo (rec_page_of (rec_params 0 r [])) }) ∷ []
+-- a REC has a link where it extends the measurement. Its number is not measured
+abbrev pub rec_links : Option RecRule → Algo → Option PlacedRec → List Link
+rec_links rule algo None = []
+rec_links rule algo (Some r) =
+    if extends rule r.runnable then link.Rec (record { bytes = measurement_of algo (rec_page_of (rec_params 0 r [])) }) ∷ [] else []
 
 abbrev pub step_links : LaunchData → PlacedData → Step → List Link
 step_links l p (step.Ram n) = region_links (least_level l.config) (slice_get l.ram n)
 step_links l p (step.Item n) = item_links l.config.algo (slice_get p.items n)
-step_links l p (step.Rec n) = rec_links l.config.algo (slice_get p.recs n)
+step_links l p (step.Rec n) = rec_links l.config.rec_rule l.config.algo (slice_get p.recs n)
 
 -- a region, where one exists, is of whole pages below 2^47
 abbrev pub IsReadableRegion : Option Region → Type 0

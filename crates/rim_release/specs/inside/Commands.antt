@@ -18,7 +18,7 @@ commands_in c = commands_of (page_contents c.launch.now (bytes_of_files c.files.
 
 -- where a monitor is after the first of them
 abbrev pub state_after : LaunchCommands → ℕ → State
-state_after c count = run (empty_state c.launch.now.config.num_aux) (take count (commands_in c))
+state_after c count = run (empty_state c.launch.now.config.num_aux c.launch.now.config.rec_rule) (take count (commands_in c))
 
 -- the launch has an item of this number, which has a source, and the item has a page of this number
 pub record HasPage (p : PlacedData) (number page : ℕ) : Type 0 where

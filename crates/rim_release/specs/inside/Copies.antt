@@ -18,7 +18,7 @@ use Rattle.rim_release.specs.declared.kept.Kept.{Kept}
 
 -- the state after some first commands of a launch, which has this place and this list
 abbrev pub state_of : LaunchData → List (List ℕ) → PlacedData → List Entry → ℕ → State
-state_of l files p entries count = run (empty_state l.config.num_aux) (take count (commands_of (page_contents l files p) entries))
+state_of l files p entries count = run (empty_state l.config.num_aux l.config.rec_rule) (take count (commands_of (page_contents l files p) entries))
 
 -- a copy was given some first commands of a launch
 abbrev pub IsCopyIn : LaunchCommands → MonitorCopy → Type 0

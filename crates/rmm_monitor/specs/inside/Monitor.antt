@@ -15,6 +15,7 @@ shown_state m = record {
   phase = m.phase;
   params = m.params;
   num_aux = m.num_aux;
+  rule = m.rule;
   owners = m.owners;
   space = m.space;
   num_recs = m.num_recs;
