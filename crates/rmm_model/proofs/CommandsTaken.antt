@@ -56,7 +56,7 @@ data_create_unknown-taken s g ipa phase at place inside walk ram free own =
     let t1 : leb s.space.protected_end ipa ≡ false = grind (arith, nat_tests) in
     rw phase (rw (at, place) (rw t1 (rw walk (rw ram (rw free (rw own refl))))))
 
-pub rec_create-taken : (s : State) (g : ℕ) (r : RecData) → is_new s.phase ≡ true → is_bad_rec r ≡ false → g % 4096 ≡ 0 → list_all (is_multiple 4096) r.aux ≡ true
+pub rec_create-taken : (s : State) (g : ℕ) (r : RecData) → is_new s.phase ≡ true → is_bad_rec s.rule r ≡ false → g % 4096 ≡ 0 → list_all (is_multiple 4096) r.aux ≡ true
     → rec_index r.mpidr ≡ s.num_recs → length r.aux ≡ s.num_aux → all_delegated s.owners (g ∷ r.aux) ≡ true → repeats (g ∷ r.aux) ≡ false
     → step s (RecCreate g r) ≡ Ok (measured (changed s (RecCreate g r)) (parts s (RecCreate g r)))
 rec_create-taken s g r phase good at places index count own apart =

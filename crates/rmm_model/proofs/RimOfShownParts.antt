@@ -1,11 +1,12 @@
 -- The measurement is made of exactly the parts that commands show.
 use Rattle.std.proofs.Common.{inl, inr, ◌≡◌, ◌∙◌, ℕ, sym, refl, ap, subst, true, false, List, [], ◌∷◌, ◌++◌, ◌⊎◌}
-use Rattle.std.specs.Prelude.{Some, None, Result, Ok, Err}
+use Rattle.std.specs.Prelude.{Option, Some, None, Result, Ok, Err}
 use Rattle.std.proofs.lemmas.Option.{same_Some}
 use Rattle.rim_desc.proofs.PieceByPiece.{extended_by-append}
 use Rattle.rim_desc.specs.declared.command.Command.{Command}
 use Rattle.rim_desc.specs.declared.command.Command.TheVariants.{Delegate, RealmCreate, RttCreate, InitRipas, DataCreate, DataCreateUnknown, RecCreate, Activate}
 use Rattle.rim_desc.specs.declared.realm.RealmParams.{RealmParams}
+use Rattle.rim_desc.specs.declared.rule.RecRule.{RecRule}
 use Rattle.rim_desc.specs.Part.{Part, extended_by, rim_of}
 use Rattle.rmm_model.specs.declared.outcome.Refused.{Refused}
 use Rattle.rmm_model.specs.declared.outcome.Refused.TheVariants as refusal
@@ -132,6 +133,6 @@ bare-run (c ∷ cs) s p h =
     ]
 
 -- from the empty state on
-pub rim-run : (num_aux : ℕ) (cs : List Command) (p : RealmParams) → (run (empty_state num_aux) cs).params ≡ Some p
-    → (run (empty_state num_aux) cs).rim ≡ Some (rim_of p.algo (shown (empty_state num_aux) cs))
-rim-run num_aux cs p at = bare-run cs (empty_state num_aux) p (record { phase = refl; params = refl; rim = refl }) at
+pub rim-run : (num_aux : ℕ) (rule : Option RecRule) (cs : List Command) (p : RealmParams) → (run (empty_state num_aux rule) cs).params ≡ Some p
+    → (run (empty_state num_aux rule) cs).rim ≡ Some (rim_of p.algo (shown (empty_state num_aux rule) cs))
+rim-run num_aux rule cs p at = bare-run cs (empty_state num_aux rule) p (record { phase = refl; params = refl; rim = refl }) at

@@ -1,9 +1,10 @@
 //! Laws for readers of the definitions, proved.
-ghost use Rattle.std.specs.Prelude.{◌≡◌, ◌⊎◌, ◌↔◌, ◌<◌, ◌≤◌, ◌/◌, ◌+◌, ◌*◌, ◌==◌, ◌&&◌, ◌||◌, nat_le, nat_lt, ℕ, List, map, true, false, length, None, Some, Err, ◌∷◌, []};
+ghost use Rattle.std.specs.Prelude.{◌≡◌, ◌⊎◌, ◌↔◌, ◌<◌, ◌≤◌, ◌/◌, ◌+◌, ◌*◌, ◌==◌, ◌&&◌, ◌||◌, nat_le, nat_lt, ℕ, List, map, true, false, length, None, Option, Some, Err, ◌∷◌, []};
 ghost use Rattle.std.specs.List.{range_with_len};
 ghost use Rattle.rim_desc.specs.Part.{rim_of};
 ghost use Rattle.rim_desc.specs.declared.command.Command.{Command};
 ghost use Rattle.rim_desc.specs.declared.realm.RealmParams.{RealmParams};
+ghost use Rattle.rim_desc.specs.declared.rule.RecRule.{RecRule};
 ghost use Rattle.rim_desc.specs.declared.command.Command.TheVariants.{Delegate, DataCreate, DataCreateUnknown};
 ghost use Rattle.rmm_model.specs.declared.outcome.Kind.{Kind};
 ghost use Rattle.rmm_model.specs.declared.outcome.Refused.TheVariants as refused;
@@ -23,35 +24,35 @@ ghost use Rattle.rim_desc.specs.declared.page.TheConstants.{PAGE_SIZE};
 /// The worked list of commands is accepted, measures the realm and three parts more, and leaves six
 /// granules with a kind.
 pub fn worked_listing_is_accepted()
-    ensures taken { accepted (empty_state 0) worked_listing ≡ true }
-    ensures measured { shown (empty_state 0) worked_listing ≡ worked_parts }
-    ensures owners { length (run (empty_state 0) worked_listing).owners ≡ 6 }
+    ensures taken { accepted (empty_state 0 None) worked_listing ≡ true }
+    ensures measured { shown (empty_state 0 None) worked_listing ≡ worked_parts }
+    ensures owners { length (run (empty_state 0 None) worked_listing).owners ≡ 6 }
 {}
 
 /// Content that the monitor does not know is not measured, and its page may be given after activation too; its granule is
 /// taken. Before a realm is created it is refused.
 pub fn unknown_data_is_not_measured()
-    ensures taken { accepted (empty_state 0) listing_with_unknown ≡ true }
-    ensures measured { shown (empty_state 0) listing_with_unknown ≡ worked_parts }
-    ensures owners { length (run (empty_state 0) listing_with_unknown).owners ≡ 8 }
-    ensures early { step (empty_state 0) (DataCreateUnknown 0x800006000 0x40001000)
+    ensures taken { accepted (empty_state 0 None) listing_with_unknown ≡ true }
+    ensures measured { shown (empty_state 0 None) listing_with_unknown ≡ worked_parts }
+    ensures owners { length (run (empty_state 0 None) listing_with_unknown).owners ≡ 8 }
+    ensures early { step (empty_state 0 None) (DataCreateUnknown 0x800006000 0x40001000)
         ≡ Err refused.State }
 {}
 
 /// Of that list, the table of level 3 before that of level 2: the walk does not end at level 2.
 pub fn tables_come_in_order()
-    ensures { step (run (empty_state 0) before_tables) table_of_level_3 ≡ Err WalkLevel }
+    ensures { step (run (empty_state 0 None) before_tables) table_of_level_3 ≡ Err WalkLevel }
 {}
 
 /// One granule delegated twice.
 pub fn no_granule_is_delegated_twice()
-    ensures { step (run (empty_state 0) (Delegate 0x800000000 ∷ [])) (Delegate 0x800000000)
+    ensures { step (run (empty_state 0 None) (Delegate 0x800000000 ∷ [])) (Delegate 0x800000000)
         ≡ Err NotUndelegated }
 {}
 
 /// A page of data in a granule that is a table.
 pub fn no_table_takes_data()
-    ensures { step (run (empty_state 0) with_tables) (DataCreate 0x800004000 0x40000000 None)
+    ensures { step (run (empty_state 0 None) with_tables) (DataCreate 0x800004000 0x40000000 None)
         ≡ Err NotDelegated }
 {}
 
@@ -91,10 +92,10 @@ pub fn overlap_is_some_ram()
 /// The measurement that commands leave is the one that their parts make, in order; a command that is
 /// refused has no part in it.
 pub fn rim_is_of_its_parts()
-    ensures { (num_aux : ℕ) (commands : List Command) (params : RealmParams)
-        → (run (empty_state num_aux) commands).params ≡ Some params
-        → (run (empty_state num_aux) commands).rim
-        ≡ Some (rim_of params.algo (shown (empty_state num_aux) commands)) }
+    ensures { (num_aux : ℕ) (rule : Option RecRule) (commands : List Command) (params : RealmParams)
+        → (run (empty_state num_aux rule) commands).params ≡ Some params
+        → (run (empty_state num_aux rule) commands).rim
+        ≡ Some (rim_of params.algo (shown (empty_state num_aux rule) commands)) }
 {}
 
 /// Commands that are all accepted take no granule twice.
