@@ -15,13 +15,14 @@ ghost use Rattle.rim_desc.specs.declared.rec.TheConstants.{AUX_LIMIT};
 use crate::measuring::{algo_of, extended_by_data, extended_by_rec, measured_so_far};
 use crate::owners::Owners;
 use crate::parameters::{
-    all_aligned, has, is_bad_content, is_bad_realm, is_bad_rec, is_cut, rec_index, repeats,
-    start_tables,
+    all_aligned, has, is_bad_content, is_bad_realm, is_bad_rec, is_cut, is_runnable, rec_index,
+    repeats, start_tables,
 };
 use crate::space::IpaSpace;
 use refusal::NoMemory;
 use rim_desc::{
-    Algo, Command, GRANULE_SIZE, Measurement, RealmParams, RecParams, hash, realm_page,
+    Algo, Command, GRANULE_SIZE, Measurement, RealmParams, RecParams, RecRule, extends, hash,
+    realm_page,
 };
 use rmm_model::{Kind, Phase, Refused, extended_by_stretches, protected_end, size_of_level};
 use std::alloc::Global;
@@ -33,6 +34,7 @@ pub struct Monitor {
     phase: Phase,
     params: Option<RealmParams>,
     num_aux: u8,
+    rule: Option<RecRule>,
     owners: Owners,
     space: IpaSpace,
     num_recs: u64,
@@ -51,15 +53,17 @@ impl Model for Monitor {
 }
 
 impl Monitor {
-    /// A monitor without a realm, whose RECs have `num_aux` auxiliary granules each. It takes no memory.
-    pub fn new(alloc: Global, num_aux: u8) -> Monitor
+    /// A monitor without a realm, whose RECs have `num_aux` auxiliary granules each and extend the measurement by this rule,
+    /// or are all runnable where there is none. It takes no memory.
+    pub fn new(alloc: Global, num_aux: u8, rule: Option<RecRule>) -> Monitor
         requires { num_aux ≤ AUX_LIMIT }
-        ensures { result ≡ empty_state num_aux }
+        ensures { result ≡ empty_state num_aux rule }
     {
         Monitor {
             phase: Phase::Empty,
             params: None,
             num_aux,
+            rule,
             owners: Owners::new(alloc),
             space: IpaSpace::new(alloc, 0, 0),
             num_recs: 0,
@@ -78,6 +82,7 @@ impl Monitor {
             phase: self.phase,
             params: self.params,
             num_aux: self.num_aux,
+            rule: self.rule,
             owners,
             space,
             num_recs: self.num_recs,
@@ -98,6 +103,13 @@ impl Monitor {
         ensures { option_map (λ m. m.bytes) result ≡ self.now.rim }
     {
         self.rim
+    }
+
+    /// Which RECs extend the measurement.
+    pub fn rule(&self) -> Option<RecRule>
+        ensures { result ≡ self.now.rule }
+    {
+        self.rule
     }
 
     /// The kind of the granule at a physical address; none where it is UNDELEGATED.
@@ -302,7 +314,7 @@ impl Monitor {
         if self.phase != Phase::New {
             return Err(Refused::State);
         }
-        if is_bad_rec(params) {
+        if is_bad_rec(self.rule, params) {
             return Err(Refused::BadParams);
         }
         let aux = params.aux();
@@ -321,7 +333,10 @@ impl Monitor {
         self.owners.give(rec, Kind::Rec);
         self.owners.give_all(aux, Kind::RecAux);
         self.num_recs += 1;
-        self.rim = Some(extended_by_rec(algo_of(self.params), measured_so_far(self.rim), params));
+        if extends(self.rule, is_runnable(params.flags())) {
+            let rim = measured_so_far(self.rim);
+            self.rim = Some(extended_by_rec(algo_of(self.params), rim, params));
+        }
         Ok(())
     }
 

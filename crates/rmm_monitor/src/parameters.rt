@@ -4,12 +4,13 @@ ghost use Rattle.std.specs.Bool.{OnFalse};
 ghost use Rattle.std.specs.List.{list_all};
 ghost use Rattle.rmm_model.specs.Blocks.{granules, is_multiple};
 ghost use Rattle.rmm_model.specs.Start.{is_width};
-ghost use Rattle.rmm_model.specs.Checks.{has_other_flags, is_bad_content, is_bad_realm, is_bad_rec, is_cut, rec_index};
+ghost use Rattle.rmm_model.specs.Checks.{has_bad_flags, has_other_flags, is_bad_content, is_bad_realm, is_bad_rec, is_cut, rec_index};
+ghost use Rattle.rmm_model.specs.Effects.{is_runnable};
 ghost use Rattle.rmm_model.specs.Owners.{repeats};
 ghost use Rattle.rmm_model.specs.Space.{has};
 ghost use Rattle.rim_desc.specs.declared.page.TheConstants.{PAGE_SIZE};
 
-use rim_desc::{Algo, GRANULE_SIZE, Measurement, RealmParams, RecParams};
+use rim_desc::{Algo, GRANULE_SIZE, Measurement, RealmParams, RecParams, RecRule};
 use rmm_model::{is_width, size_of_level, span_of_level, start_count, start_level, table_base};
 
 /// The most start tables that a realm may have.
@@ -76,12 +77,29 @@ fn are_zero(bytes: &[u8]) -> bool
     bytes.iter().all(|byte| *byte == 0)
 }
 
-/// Whether a REC is not runnable, or its MPIDR has bits that none has.
-pub fn is_bad_rec(params: &RecParams) -> bool
-    ensures { result ≡ is_bad_rec params.now }
+/// Whether a REC has flags that none has by the monitor's rule, or an MPIDR with bits that none has.
+pub fn is_bad_rec(rule: Option<RecRule>, params: &RecParams) -> bool
+    ensures { result ≡ is_bad_rec rule params.now }
 {
     let mpidr = params.mpidr();
-    params.flags() != 1 || mpidr / 16 % 16 != 0 || mpidr >= 1 << 32
+    has_bad_flags(rule, params.flags()) || mpidr / 16 % 16 != 0 || mpidr >= 1 << 32
+}
+
+/// Whether flags other than runnable are set; without a rule, also where that one is not.
+fn has_bad_flags(rule: Option<RecRule>, flags: u64) -> bool
+    ensures { result ≡ has_bad_flags rule flags }
+{
+    match rule {
+        Some(_) => flags >= 2,
+        None => flags != 1,
+    }
+}
+
+/// Whether a REC of these flags is runnable.
+pub fn is_runnable(flags: u64) -> bool
+    ensures { result ≡ is_runnable flags }
+{
+    flags % 2 == 1
 }
 
 /// The index that an MPIDR names.

@@ -473,7 +473,7 @@ const OF_A_REALM: [&[Row]; 7] = [
 ];
 
 fn check_new(rt: &impl Abort, alloc: Global, num_aux: u8, rows: &[Row]) {
-    let mut monitor = Monitor::new(alloc, num_aux.min(16));
+    let mut monitor = Monitor::new(alloc, num_aux.min(16), None);
     offer_all(rt, &mut monitor, rows);
 }
 

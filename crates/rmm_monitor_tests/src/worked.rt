@@ -112,7 +112,7 @@ fn fill(rt: &impl Abort, monitor: &mut Monitor) {
 
 /// The worked realm, created.
 pub fn created(rt: &impl Abort, alloc: Global) -> Monitor {
-    let mut monitor = Monitor::new(alloc, 2);
+    let mut monitor = Monitor::new(alloc, 2, None);
     take_all(rt, &mut monitor, &CREATION);
     monitor
 }
@@ -136,7 +136,7 @@ fn check_owners(rt: &impl Abort, monitor: &Monitor, owners: &[(u64, Option<Kind>
 
 #[test]
 fn worked_list_is_taken(rt: HostRuntime) {
-    let mut monitor = Monitor::new(rt.alloc(), 0);
+    let mut monitor = Monitor::new(rt.alloc(), 0, None);
     check_rim(&rt, &monitor, None);
     take_all(&rt, &mut monitor, &CREATION);
     check_rim(&rt, &monitor, Some(Measurement { bytes: CREATED }));
@@ -148,7 +148,7 @@ fn worked_list_is_taken(rt: HostRuntime) {
 
 #[test]
 fn level_3_before_level_2(rt: HostRuntime) {
-    let mut monitor = Monitor::new(rt.alloc(), 0);
+    let mut monitor = Monitor::new(rt.alloc(), 0, None);
     take_all(&rt, &mut monitor, &CREATION);
     take_all(&rt, &mut monitor, &RAM);
     let early = Err(Refused::WalkLevel);
@@ -170,7 +170,7 @@ const IN_TABLE: Command = Command::DataCreate {
 
 #[test]
 fn granules_have_one_owner(rt: HostRuntime) {
-    let mut monitor = Monitor::new(rt.alloc(), 0);
+    let mut monitor = Monitor::new(rt.alloc(), 0, None);
     take_all(&rt, &mut monitor, &CREATION);
     take_all(&rt, &mut monitor, &RAM);
     take_all(&rt, &mut monitor, &TABLES);
@@ -240,7 +240,7 @@ fn mixed_rec() -> Command {
 
 #[test]
 fn sha512_with_data_and_rec(rt: HostRuntime) {
-    let mut monitor = Monitor::new(rt.alloc(), 1);
+    let mut monitor = Monitor::new(rt.alloc(), 1, None);
     delegate_all(&rt, &mut monitor, 0x10_0000, 16);
     take_all(&rt, &mut monitor, &MIXED_COMMANDS);
     check_answer(&rt, &mut monitor, &mixed_rec(), Ok(()));
@@ -270,7 +270,7 @@ fn retry_all(rt: &impl Abort, monitor: &mut Monitor, commands: &[Command]) {
 /// To be run with each allocation refused in turn, and without.
 #[test]
 fn refused_growth_changes_nothing(rt: HostRuntime) {
-    let mut monitor = Monitor::new(rt.alloc(), 0);
+    let mut monitor = Monitor::new(rt.alloc(), 0, None);
     retry_all(&rt, &mut monitor, &CREATION);
     retry_all(&rt, &mut monitor, &RAM);
     retry_all(&rt, &mut monitor, &TABLES);
