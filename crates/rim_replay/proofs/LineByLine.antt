@@ -3,6 +3,7 @@ use Rattle.std.proofs.Common.{◌≡◌, ◌≢◌, ℕ, ◌+◌, ◌∙◌, Lis
 use Rattle.std.specs.Prelude.{Option}
 use Rattle.std.specs.List.{All}
 use Rattle.rim_desc.specs.declared.command.Command.{Command}
+use Rattle.rim_desc.specs.declared.rule.RecRule.{RecRule}
 use Rattle.rmm_model.specs.State.{State}
 use Rattle.rmi_line.specs.Spelled.{Reads, ReadsFirst}
 use Rattle.rim_replay.specs.Replay.{Answer, Begins, Comes, Opens, ReplayAnswer, Replays}
@@ -24,7 +25,7 @@ at-line n s text line rest answer read is inner reads comes =
 pub no-first-line : (text : List ℕ) → All (λ b. b ≢ 10) text → ReplayAnswer text (Err (fault.Line 1))
 no-first-line text inner = subst (λ ps. Begins ps (Err (fault.Line 1))) (sym (one-piece text inner)) refl
 
-pub first-line : (text line rest : List ℕ) (answer : Answer) (read : Option ℕ) → text ≡ line ++ (10 ∷ rest) → All (λ b. b ≢ 10) line → ReadsFirst line read
+pub first-line : (text line rest : List ℕ) (answer : Answer) (read : Option (ℕ × Option RecRule)) → text ≡ line ++ (10 ∷ rest) → All (λ b. b ≢ 10) line → ReadsFirst line read
     → Opens (pieces rest) answer read → ReplayAnswer text answer
 first-line text line rest answer read is inner reads opens =
     let more = some-piece rest in

@@ -13,6 +13,7 @@ use Rattle.rim_desc.specs.declared.measurement.Algo.{Algo}
 use Rattle.rim_desc.specs.declared.measurement.Measurement.{Measurement}
 use Rattle.rim_desc.specs.declared.realm.RealmParams.{RealmParams}
 use Rattle.rim_desc.specs.declared.rec.TheConstants.{AUX_LIMIT}
+use Rattle.rim_desc.specs.declared.rule.RecRule.{RecRule}
 use Rattle.rmm_model.specs.Run.{accepted, after, run}
 use Rattle.rmm_model.specs.State.{State, empty_state}
 use Rattle.rmm_model.specs.Step.{step}
@@ -71,14 +72,14 @@ module _ (algo : Algo) (m : Measurement) (fit : Are64Bytes m.bytes) where
       at-line n s ((command_line c ++ flat_map command_line cs) ++ end) (line_of c) more (Ok tt) (Some c) text (line_of-one_line c) (refl, typed 0 c (omega arith))
       (subst (λ (r : Result State Refused). Takes n r (λ t. Replays (n + 1) t (pieces more) (Ok tt)) (Ok tt)) (sym next.1) rest)
 
-pub true-listing : (num_aux : ℕ) (commands : List Command) (algo : Algo) (rim : List ℕ) → num_aux ≤ AUX_LIMIT → All IsTyped commands → Are64Bytes rim → accepted (empty_state num_aux) commands ≡ true
-    → option_map (λ p. p.algo) (run (empty_state num_aux) commands).params ≡ Some algo → (run (empty_state num_aux) commands).rim ≡ Some rim
-    → ReplayAnswer (listing_text num_aux commands algo rim) (Ok tt)
-true-listing num_aux commands algo rim few typed fit ok by is =
+pub true-listing : (num_aux : ℕ) (rule : Option RecRule) (commands : List Command) (algo : Algo) (rim : List ℕ) → num_aux ≤ AUX_LIMIT → All IsTyped commands → Are64Bytes rim → accepted (empty_state num_aux rule) commands ≡ true
+    → option_map (λ p. p.algo) (run (empty_state num_aux rule) commands).params ≡ Some algo → (run (empty_state num_aux rule) commands).rim ≡ Some rim
+    → ReplayAnswer (listing_text num_aux rule commands algo rim) (Ok tt)
+true-listing num_aux rule commands algo rim few typed fit ok by is =
     let m : Measurement = record { bytes = rim } in
     let last : List ℕ = with_newline (last_line algo rim) in
     let more : List ℕ = flat_map command_line commands ++ last in
-    let text : listing_text num_aux commands algo rim ≡ first_line num_aux ++ (10 ∷ more) =
-    append_assoc (with_newline (first_line num_aux)) (flat_map command_line commands) last ∙ append_assoc (first_line num_aux) (codes "\n") more in
-    first-line (listing_text num_aux commands algo rim) (first_line num_aux) more (Ok tt) (Some num_aux) text (first-one_line num_aux) (refl, few)
-    (replays algo m fit 2 (empty_state num_aux) commands typed ok by is)
+    let text : listing_text num_aux rule commands algo rim ≡ first_line num_aux rule ++ (10 ∷ more) =
+    append_assoc (with_newline (first_line num_aux rule)) (flat_map command_line commands) last ∙ append_assoc (first_line num_aux rule) (codes "\n") more in
+    first-line (listing_text num_aux rule commands algo rim) (first_line num_aux rule) more (Ok tt) (Some (num_aux, rule)) text (first-one_line num_aux rule) (refl, few)
+    (replays algo m fit 2 (empty_state num_aux rule) commands typed ok by is)

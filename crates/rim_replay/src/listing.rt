@@ -29,10 +29,10 @@ pub fn replay(alloc: Global, text: &[u8]) -> Result<(), ReplayFault>
     let Some((line, rest)) = next_line(text) else {
         return Err(ReplayFault::Line(1));
     };
-    let Some(num_aux) = read_first(line) else {
+    let Some((num_aux, rule)) = read_first(line) else {
         return Err(ReplayFault::Line(1));
     };
-    replay_commands(Monitor::new(alloc, num_aux), rest)
+    replay_commands(Monitor::new(alloc, num_aux, rule), rest)
 }
 
 /// What the lines after the first come to, where a monitor takes their commands.

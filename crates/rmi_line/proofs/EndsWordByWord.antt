@@ -1,21 +1,26 @@
 -- The first and the last line of a listing, word by word.
 use Rattle.std.proofs.Common.{◌≡◌, ℕ, List, [], ◌∷◌, ◌++◌, get_or, ap, refl, subst, sym, arith, ◌∙◌, ◌≢◌}
-use Rattle.std.specs.Prelude.{None, codes}
+use Rattle.std.specs.Prelude.{None, Option, Some, codes}
 use Rattle.std.specs.Fmt.{decimal}
 use Rattle.std.specs.List.{All, flat_map, join_with_byte}
 use Rattle.std.proofs.lemmas.List.{append-nil, append_cancel_left}
 use Rattle.rim_desc.specs.Measurement.{algo_word}
+use Rattle.rim_desc.specs.Rule.{rule_word}
 use Rattle.rim_desc.specs.declared.measurement.Algo.{Algo}
 use Rattle.rim_desc.specs.declared.measurement.Algo.TheVariants.{Sha256, Sha512}
+use Rattle.rim_desc.specs.declared.rule.RecRule.{RecRule}
 use Rattle.hex.specs.Hex.{encode_lower}
 use Rattle.rmi_line.specs.Ends.{digest_bytes, first_line, last_line, spaced_word}
 use Rattle.rmi_line.specs.Spelled.{Reads}
 use Rattle.rmi_line.specs.inside.Words.{spaced}
 use Rattle.rmi_line.proofs.ReadNamed.{not_named}
-use Rattle.rmi_line.proofs.SpacesPartWords.{is_word-algo, is_word-decimal, is_word-encoded, name_is_word, one_line}
+use Rattle.rmi_line.proofs.SpacesPartWords.{is_word-algo, is_word-decimal, is_word-encoded, is_word-rule, name_is_word, one_line}
 
-pub first-words : (n : ℕ) → flat_map spaced (decimal n ∷ []) ≡ codes " " ++ decimal n
-first-words n = ap (λ t. codes " " ++ t) (append-nil (decimal n))
+pub first-words : (n : ℕ) → codes "rim-list 1 aux" ++ flat_map spaced (decimal n ∷ []) ≡ first_line n None
+first-words n = ap (λ t. codes "rim-list 1 aux " ++ t) (append-nil (decimal n))
+
+pub ruled-words : (n : ℕ) (r : RecRule) → codes "rim-list 2 aux" ++ flat_map spaced (decimal n ∷ codes "rec" ∷ rule_word r ∷ []) ≡ first_line n (Some r)
+ruled-words n r = ap (λ t. codes "rim-list 2 aux " ++ (decimal n ++ (codes " rec " ++ t))) (append-nil (rule_word r))
 
 pub last-words : (algo : Algo) (digits : List ℕ) → flat_map spaced (algo_word algo ∷ digits ∷ []) ≡ spaced_word algo ++ digits
 last-words Sha256 digits = ap (λ t. codes " sha256 " ++ t) (append-nil digits)
@@ -32,13 +37,20 @@ same-algo Sha256 Sha512 words same = let differs : 50 ≡ 53 = ap (λ line. get_
 same-algo Sha512 Sha256 words same = let differs : 53 ≡ 50 = ap (λ line. get_or line 4 0) same in absurd (omega (arith, differs))
 same-algo Sha512 Sha512 words same = refl
 
+-- no line is of both versions
+pub one-version : (one two : List ℕ) → codes "rim-list 1 aux" ++ one ≢ codes "rim-list 2 aux" ++ two
+one-version one two same = let differs : 49 ≡ 50 = ap (λ line. get_or line 9 0) same in omega (arith, differs)
+
 -- ---- beside the lines of commands
 
 -- no byte of either is a newline
-pub first-one_line : (n : ℕ) → All (λ b. b ≢ 10) (first_line n)
-first-one_line n =
+pub first-one_line : (n : ℕ) (rule : Option RecRule) → All (λ b. b ≢ 10) (first_line n rule)
+first-one_line n None =
     one_line (codes "rim-list" ∷ codes "1" ∷ codes "aux" ∷ decimal n ∷ [])
     (simp (name_is_word (codes "rim-list") refl, name_is_word (codes "1") refl, name_is_word (codes "aux") refl, is_word-decimal))
+first-one_line n (Some r) =
+    one_line (codes "rim-list" ∷ codes "2" ∷ codes "aux" ∷ decimal n ∷ codes "rec" ∷ rule_word r ∷ [])
+    (simp (name_is_word (codes "rim-list") refl, name_is_word (codes "2") refl, name_is_word (codes "aux") refl, is_word-decimal, name_is_word (codes "rec") refl, is_word-rule))
 
 pub last-one_line : (algo : Algo) (rim : List ℕ) → All (λ b. b ≢ 10) (last_line algo rim)
 last-one_line algo rim = subst (All (λ b. b ≢ 10)) (joined algo) (one_line (codes "rim" ∷ algo_word algo ∷ digits ∷ []) (simp (name_is_word (codes "rim") refl, is_word-algo, is_word-encoded)))

@@ -16,8 +16,11 @@ use Rattle.rim_desc.specs.declared.command.Command.TheVariants.{Delegate, RealmC
 use Rattle.rim_desc.specs.declared.measurement.Algo.{Algo}
 use Rattle.rim_desc.specs.declared.measurement.Algo.TheVariants.{Sha256, Sha512}
 use Rattle.rim_desc.specs.declared.measurement.Measurement.{Measurement}
+use Rattle.rim_desc.specs.declared.rule.RecRule.{RecRule}
+use Rattle.rim_desc.specs.declared.rule.RecRule.TheVariants as rule
 use Rattle.rmi_line.specs.Line.{content_words, line_of, words_of}
 use Rattle.rim_desc.specs.Measurement.{algo_word}
+use Rattle.rim_desc.specs.Rule.{rule_word}
 
 -- whether a byte is neither a space nor a newline
 abbrev pub is_inner : ℕ → Bool
@@ -61,6 +64,11 @@ pub is_word-algo : (algo : Algo) → is_word (algo_word algo) ≡ true
 unfolding is_word
 is_word-algo Sha256 = refl
 is_word-algo Sha512 = refl
+
+pub is_word-rule : (rule : RecRule) → is_word (rule_word rule) ≡ true
+unfolding is_word
+is_word-rule rule.All = refl
+is_word-rule rule.Runnable = refl
 
 -- ---- the words of a command
 

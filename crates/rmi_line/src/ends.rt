@@ -1,29 +1,52 @@
 //! The first and the last line of a listing.
-ghost use Rattle.std.specs.Prelude.{◌≡◌, ◌≤◌, length};
+ghost use Rattle.std.specs.Prelude.{◌≡◌, ◌≤◌, ◌++◌, codes, length};
 ghost use Rattle.rmi_line.specs.Ends.{digest_bytes};
 ghost use Rattle.rmi_line.specs.Spelled.{ReadsFirst, ReadsLast};
 ghost use Rattle.rmi_line.specs.Typed.{Are64Bytes};
 
 use crate::reader::{Words, after};
 use crate::typed::bytes_fit;
-use rim_desc::{AUX_LIMIT, Algo, Measurement};
+use rim_desc::{Algo, Measurement, RecRule};
 
-/// The monitor's number of auxiliary granules, at most 16, that the first line of a listing spells, if it spells one.
-pub fn read_first(line: &[u8]) -> Option<u8>
+/// The monitor's number of auxiliary granules, at most 16, and the rule of its RECs, if it has one, that the first line of
+/// a listing spells, if it spells them. Without a rule the line is `rim-list 1 aux N`; with one it is
+/// `rim-list 2 aux N rec all` or `rim-list 2 aux N rec runnable`.
+pub fn read_first(line: &[u8]) -> Option<(u8, Option<RecRule>)>
     ensures { ReadsFirst line.now result }
 {
-    let Some(rest) = after(line, b"rim-list 1 aux") else {
-        return None;
-    };
+    if let Some(rest) = after(line, b"rim-list 1 aux") {
+        return without_rule(rest);
+    }
+    if let Some(rest) = after(line, b"rim-list 2 aux") {
+        return with_rule(rest);
+    }
+    None
+}
+
+fn without_rule(rest: &[u8]) -> Option<(u8, Option<RecRule>)>
+    ensures { ReadsFirst (codes "rim-list 1 aux" ++ rest.now) result }
+{
     let mut words = Words::new(rest);
-    let num_aux = words.number();
-    if !words.are_taken() {
-        return None;
+    let num_aux = words.count();
+    if words.are_taken() {
+        Some((num_aux as u8, None))
+    } else {
+        None
     }
-    if num_aux as usize > AUX_LIMIT {
-        return None;
+}
+
+fn with_rule(rest: &[u8]) -> Option<(u8, Option<RecRule>)>
+    ensures { ReadsFirst (codes "rim-list 2 aux" ++ rest.now) result }
+{
+    let mut words = Words::new(rest);
+    let num_aux = words.count();
+    words.word(b"rec");
+    let rule = words.rule();
+    if words.are_taken() {
+        Some((num_aux as u8, Some(rule)))
+    } else {
+        None
     }
-    Some(num_aux)
 }
 
 /// The measurement that the last line of a listing spells, and its algorithm, if it spells one. The bytes after a digest

@@ -3,6 +3,7 @@ ghost use Rattle.std.specs.Prelude.{◌≡◌, ◌≢◌, ◌==◌, ℕ, List, O
 ghost use Rattle.std.specs.List.{All, slice_split};
 ghost use Rattle.rim_desc.specs.declared.command.Command.{Command};
 ghost use Rattle.rim_desc.specs.declared.measurement.Algo.{Algo};
+ghost use Rattle.rim_desc.specs.declared.rule.RecRule.{RecRule};
 ghost use Rattle.rmi_line.specs.Ends.{first_line, last_line};
 ghost use Rattle.rmi_line.specs.Line.{line_of, words_of};
 ghost use Rattle.rmi_line.specs.Spelled.{Reads};
@@ -34,7 +35,8 @@ pub fn a_line_gives_its_command(command: rim_desc::Command)
 
 /// Neither the first nor the last line of a listing has a newline, and the last one spells no command.
 pub fn the_ends_are_lines()
-    ensures first { (num_aux : ℕ) → All (λ b. b ≢ 10) (first_line num_aux) }
+    ensures first { (num_aux : ℕ) (rule : Option RecRule)
+        → All (λ b. b ≢ 10) (first_line num_aux rule) }
     ensures last { (algo : Algo) (rim : List ℕ) → All (λ b. b ≢ 10) (last_line algo rim) }
     ensures apart { (algo : Algo) (rim : List ℕ) → Reads (last_line algo rim) None }
 {}

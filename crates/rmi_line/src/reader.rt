@@ -4,6 +4,7 @@ ghost use Rattle.std.specs.List.{All, flat_map};
 ghost use Rattle.hex.specs.Hex.{encode_lower};
 ghost use Rattle.rim_desc.specs.Measurement.{algo_word};
 ghost use Rattle.rim_desc.specs.Number.{digits_of};
+ghost use Rattle.rim_desc.specs.Rule.{rule_word};
 ghost use Rattle.rim_desc.specs.declared.command.Command.{Command};
 ghost use Rattle.rim_desc.specs.declared.measurement.Algo.{Algo};
 ghost use Rattle.rim_desc.specs.declared.measurement.Measurement.{Measurement};
@@ -17,7 +18,7 @@ ghost use Rattle.rmi_line.specs.inside.Words.{spaced};
 use crate::digits::{decode, front_number};
 use crate::typed::typed;
 use itoa::Buffer;
-use rim_desc::{AUX_LIMIT, Algo, Command, Measurement};
+use rim_desc::{AUX_LIMIT, Algo, Command, Measurement, RecRule};
 
 /// What is left of a line: words, each with the space before it.
 ///
@@ -151,6 +152,17 @@ impl<'a> Words<'a> {
         }
         self.word(b"sha512");
         Algo::Sha512
+    }
+
+    /// Takes the word of a rule of RECs.
+    pub fn rule(&mut self) -> RecRule
+        ensures { Takes (λ rule. rule_word rule ∷ []) (λ _. ⊤) self.old result self.new }
+    {
+        if self.takes(b"all") {
+            return RecRule::All;
+        }
+        self.word(b"runnable");
+        RecRule::Runnable
     }
 
     /// Takes the measurement of a page's bytes, or that they are not measured.

@@ -15,7 +15,7 @@ returns-in_default-read_first c =
 pub returns : goal.returns
 returns c = elim c.replay_commands.ensures [
   | inl memory ↦ inl memory
-  | inr comes ↦ inr (first-line c.args.text.now c.in-Some.line.now c.in-Some.rest.now c.replay_commands.result (Some c.in-Some-read_first.num_aux)
+  | inr comes ↦ inr (first-line c.args.text.now c.in-Some.line.now c.in-Some.rest.now c.replay_commands.result (Some (c.in-Some-read_first.num_aux, c.in-Some-read_first.rule))
       c.in-Some.ensures.0 c.in-Some.ensures.1 c.in-Some-read_first.ensures
       (subst (λ s. Replays 2 s (pieces c.in-Some.rest.now) c.replay_commands.result) c.new.ensures comes))
 ]
