@@ -51,6 +51,7 @@ const NARROW: Config = Config {
     rpv: [0; 64],
     block_level: 2,
     num_aux: 0,
+    rec_rule: None,
     pool_base: 0x8_0000_0000,
     pool_count: 16_777_216,
 };

@@ -8,9 +8,9 @@ use Rattle.rmm_model.specs.Start.{is_width}
 use Rattle.rim_launch.specs.declared.config.Config.{Config}
 
 pub same-config : (a b : Config) → a.algo ≡ b.algo → a.s2sz ≡ b.s2sz → a.sve ≡ b.sve → a.pmu ≡ b.pmu → a.sve_vl ≡ b.sve_vl → a.num_bps ≡ b.num_bps
-    → a.num_wps ≡ b.num_wps → a.pmu_num_ctrs ≡ b.pmu_num_ctrs → a.rpv ≡ b.rpv → a.block_level ≡ b.block_level → a.num_aux ≡ b.num_aux
+    → a.num_wps ≡ b.num_wps → a.pmu_num_ctrs ≡ b.pmu_num_ctrs → a.rpv ≡ b.rpv → a.block_level ≡ b.block_level → a.num_aux ≡ b.num_aux → a.rec_rule ≡ b.rec_rule
     → a.pool_base ≡ b.pool_base → a.pool_count ≡ b.pool_count → a ≡ b
-same-config a b algo s2sz sve pmu sve_vl num_bps num_wps pmu_num_ctrs rpv block_level num_aux pool_base pool_count = λ i. record {
+same-config a b algo s2sz sve pmu sve_vl num_bps num_wps pmu_num_ctrs rpv block_level num_aux rec_rule pool_base pool_count = λ i. record {
   algo = algo i;
   s2sz = s2sz i;
   sve = sve i;
@@ -22,6 +22,7 @@ same-config a b algo s2sz sve pmu sve_vl num_bps num_wps pmu_num_ctrs rpv block_
   rpv = rpv i;
   block_level = block_level i;
   num_aux = num_aux i;
+  rec_rule = rec_rule i;
   pool_base = pool_base i;
   pool_count = pool_count i;
   width = is_prop→PathP (λ j. is_width (s2sz j) ≡ true) (λ j. Bool-set _ _) a.width b.width i;
