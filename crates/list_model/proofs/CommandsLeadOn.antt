@@ -4,7 +4,7 @@ use Rattle.std.specs.Prelude.{Ok}
 use Rattle.rim_desc.specs.Part.{Part}
 use Rattle.rim_desc.specs.declared.command.Command.{Command}
 use Rattle.rmm_model.specs.State.{State, is_empty, is_new}
-use Rattle.rmm_model.specs.Effects.{parts}
+use Rattle.rmm_model.specs.Effects.{measured, parts}
 use Rattle.rmm_model.specs.Step.{step}
 use Rattle.rmm_model.specs.Run.{accepted, run, shown}
 use Rattle.rmm_model.specs.declared.outcome.Phase.{Phase}
@@ -16,6 +16,22 @@ pub not-empty : (p : Phase) → is_new p ≡ true → is_empty p ≡ false
 not-empty Empty new = absurd (cc)
 not-empty New new = refl
 not-empty Active new = refl
+
+-- what is measured changes nothing of what is built
+pub measured-built : (b : Build) (w : Built) (s : State) (ps : List Part) → IsBuilt b w s → IsBuilt b w (measured s ps)
+measured-built b w s [] built = built
+measured-built b w s (p ∷ ps) built = record {
+  new = built.new;
+  params = built.params;
+  num_aux = built.num_aux;
+  rule = built.rule;
+  num_recs = built.num_recs;
+  space = built.space;
+  some = built.some;
+  some_built = built.some_built;
+  pool = built.pool;
+  free = built.free;
+}
 
 pub leads-none : (b : Build) (w : Built) (s : State) → IsBuilt b w s → Leads b w s [] []
 unfolding accepted shown run

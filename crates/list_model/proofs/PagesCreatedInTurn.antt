@@ -12,7 +12,7 @@ use Rattle.rmm_model.specs.Checks.{is_bad_content, walk_of}
 use Rattle.rmm_model.specs.Space.{SameSpace, Space, after_page, has, is_ram}
 use Rattle.rmm_model.specs.State.{State, algo_of}
 use Rattle.rmm_model.specs.Owners.{give, kind_of}
-use Rattle.rmm_model.specs.Effects.{changed, measured, parts, with_page as page_given}
+use Rattle.rmm_model.specs.Effects.{changed, parts, with_page as page_given}
 use Rattle.rmm_model.specs.Step.{step}
 use Rattle.rmm_model.specs.declared.outcome.Kind.TheVariants as kind
 use Rattle.rmm_model.specs.declared.table.Table.{Table}
@@ -28,7 +28,7 @@ use Rattle.list_model.specs.Entries.{Contents, Entry, Whole, command_of, command
 use Rattle.list_model.specs.Leading.{Build, Built, IsBuilt, Leads}
 use Rattle.list_model.specs.Parts.{AreContents, content_of, page_part}
 use Rattle.list_model.proofs.GranulesOfEntries.{count-append, count-page, count-tables}
-use Rattle.list_model.proofs.CommandsLeadOn.{leads-cons, leads-none, leads-then, not-empty}
+use Rattle.list_model.proofs.CommandsLeadOn.{leads-cons, leads-none, leads-then, measured-built, not-empty}
 use Rattle.list_model.proofs.TablesMadeInTurn.{are-inside, tables-lead, with_tables}
 
 -- ---- one page
@@ -60,6 +60,7 @@ page-given b w s x built = record {
   new = built.new;
   params = built.params;
   num_aux = built.num_aux;
+  rule = built.rule;
   num_recs = built.num_recs;
   space = same-filled s.space w.space x built.space;
   some = built.some;
@@ -69,24 +70,6 @@ page-given b w s x built = record {
       kind_of-other (give s.owners (granule b.pool w.taken) kind.Delegated) (granule b.pool w.taken) h kind.DataPage (λ e. omega arith)
       ∙ (kind_of-other s.owners (granule b.pool w.taken) h kind.Delegated (λ e. omega arith) ∙ built.free h (omega arith));
 }
-
--- a state with the page, measured or not
-page-built : (b : Build) (w : Built) (s : State) (x : ℕ) (ps : List Part) → IsBuilt b w s
-    → let g = granule b.pool w.taken in IsBuilt b (with_page w x) (measured (page_given (changed s (Delegate g)) g x) ps)
-page-built b w s x [] built = page-given b w s x built
-page-built b w s x (p ∷ ps) built =
-    let given = page-given b w s x built in
-    record {
-      new = given.new;
-      params = given.params;
-      num_aux = given.num_aux;
-      num_recs = given.num_recs;
-      space = given.space;
-      some = given.some;
-      some_built = given.some_built;
-      pool = given.pool;
-      free = given.free;
-    }
 
 -- what a page measures
 abbrev pub parts_of_page : PageContent → Contents → ℕ → ℕ → ℕ → List Part
@@ -129,19 +112,19 @@ page-taken contents content item page b w s x built good can = go content
       next = _;
       taken = data_create-taken s1 g x (content_of Measured contents item page) built.new (fine Measured) can.at can.place can.inside can.ends can.in_ram can.free can.own;
       shown = refl;
-      built = page-built b w s x (page_part Measured contents item x page ∷ []) built;
+      built = measured-built b (with_page w x) _ (page_part Measured contents item x page ∷ []) (page-given b w s x built);
     }
     go Unmeasured = record {
       next = _;
       taken = data_create-taken s1 g x (content_of Unmeasured contents item page) built.new (fine Unmeasured) can.at can.place can.inside can.ends can.in_ram can.free can.own;
       shown = refl;
-      built = page-built b w s x (page_part Unmeasured contents item x page ∷ []) built;
+      built = measured-built b (with_page w x) _ (page_part Unmeasured contents item x page ∷ []) (page-given b w s x built);
     }
     go Unknown = record {
       next = _;
       taken = data_create_unknown-taken s1 g x (not-empty s1.phase built.new) can.at can.place can.inside can.ends can.in_ram can.free can.own;
       shown = refl;
-      built = page-built b w s x [] built;
+      built = page-given b w s x built;
     }
 
 page-leads : (contents : Contents) (content : PageContent) (item page : ℕ) (b : Build) (w v : Built) (s : State) (x : ℕ) (cs : List Command) (qs : List Part)

@@ -32,6 +32,7 @@ same-built b v w s built same taken num_recs some = record {
   new = built.new;
   params = built.params;
   num_aux = built.num_aux;
+  rule = built.rule;
   num_recs = built.num_recs ∙ num_recs;
   space = same-trans s.space v.space w.space built.space same;
   some = built.some;

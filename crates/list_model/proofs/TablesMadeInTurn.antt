@@ -78,6 +78,7 @@ table-built b w s t built = record {
   new = built.new;
   params = built.params;
   num_aux = built.num_aux;
+  rule = built.rule;
   num_recs = built.num_recs;
   space = same-more s.space w.space t built.space;
   some = built.some;

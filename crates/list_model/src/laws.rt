@@ -1,11 +1,11 @@
 //! Laws of the commands of one step, proved of the definitions: a monitor takes each command, measures just the parts
 //! of the step, and goes on with what is built then.
 ghost use Rattle.std.specs.Prelude.{◌≡◌, ◌+◌, ◌<◌, ◌%◌, ℕ, List, [], ◌∷◌, false, Some};
-ghost use Rattle.rim_desc.specs.Measurement.{measurement_of};
-ghost use Rattle.rim_desc.specs.Part.{Realm, Rec};
+ghost use Rattle.rim_desc.specs.Part.{Realm};
 ghost use Rattle.rim_desc.specs.Realm.{realm_page_of};
-ghost use Rattle.rim_desc.specs.Rec.{RecData, rec_page_of};
+ghost use Rattle.rim_desc.specs.Rec.{RecData};
 ghost use Rattle.rmm_model.specs.Checks.{is_bad_realm};
+ghost use Rattle.rmm_model.specs.Effects.{rec_parts};
 ghost use Rattle.rmm_model.specs.Space.{SameTables};
 ghost use Rattle.rmm_model.specs.State.{State, empty_state};
 ghost use Rattle.rmm_model.specs.declared.table.Table.{Table};
@@ -26,7 +26,7 @@ pub fn the_realm_is_created()
     ensures { (contents : Contents) (b : Build) → is_bad_realm b.params ≡ false
         → b.params.rtt_base ≡ b.pool
         → b.pool % PAGE_SIZE ≡ 0
-        → Leads b (opened b.params) (empty_state b.num_aux)
+        → Leads b (opened b.params) (empty_state b.num_aux b.rule)
         (commands_of contents (realm_entries b.pool b.params))
         (Realm (realm_page_of b.params) ∷ []) }
 {}
@@ -59,13 +59,13 @@ pub fn an_item_gets_its_pages()
         (page_parts content contents item base count) }
 {}
 
-/// A REC: its page is measured.
+/// A REC: its page is measured, where it extends the measurement by the rule.
 pub fn a_rec_is_created()
     ensures { (contents : Contents) (b : Build) (w : Built) (s : State) (r : RecData)
         → IsBuilt b w s
         → IsNextRec b w r
         → Leads b (with_rec b w) s (commands_of contents (rec_entries b.pool w.taken b.num_aux r))
-        (Rec (measurement_of b.params.algo (rec_page_of r)) ∷ []) }
+        (rec_parts b.rule b.params.algo r) }
 {}
 
 /// The entries of the acts of runs, or of pages, are those of the runs, or of the pages.
