@@ -1,12 +1,16 @@
 -- The monitor follows the list of a launch, step by step.
 use Rattle.std.proofs.Common.{inl, inr, ◌≡◌, ℕ, ◌+◌, ◌%◌, ◌<◌, ◌≤◌, ◌∙◌, sym, refl, ap, subst, arith, Bool, true, false, cond, not, ◌&&◌, eqb, List, [], ◌∷◌, ◌++◌, length}
-use Rattle.std.specs.Prelude.{Option, Ok, None, Some, nat_lt, option_map}
+use Rattle.std.specs.Prelude.{Option, Ok, None, Some, nat_lt, is_some, option_map, if◌then◌else◌}
 use Rattle.std.specs.List.{flat_map, slice_get}
 use Rattle.std.proofs.lemmas.Bool.{cases_Bool, eqb-true, not-false}
 use Rattle.std.proofs.lemmas.Bool.Decides.{nat_tests}
 use Rattle.std.proofs.lemmas.List.{map-append}
 use Rattle.std.proofs.lemmas.Option.{slice_get_within}
 use Rattle.refusal.specs.Checks.{Check, unless_refused}
+use Rattle.rim_desc.specs.Rule.{extends}
+use Rattle.rim_desc.specs.declared.rule.RecRule.{RecRule}
+use Rattle.rmm_model.specs.Checks.{has_bad_flags}
+use Rattle.rmm_model.specs.Effects.{is_runnable}
 use Rattle.rim_desc.specs.Part.{Part, Realm, Rec, rim_of}
 use Rattle.rim_desc.specs.Realm.{realm_page_of}
 use Rattle.rim_desc.specs.Rec.{RecData, rec_mpidr_of, rec_page_of}
@@ -48,8 +52,8 @@ use Rattle.ipa_layout.specs.declared.rec.PlacedRec.{PlacedRec}
 use Rattle.rmi_list.specs.declared.fault.ListFault.{ListFault}
 use Rattle.rmi_list.specs.declared.fault.ListFault.TheVariants as fault
 use Rattle.rmi_list.specs.Following.{IsFollowed}
-use Rattle.rmi_list.specs.Listed.{Listing, Progress, list_item, list_named, list_rec, list_region, list_step, list_steps, listed, opening_progress, opening_checks, opening_entries, plan_checks, pool_check}
-use Rattle.rmi_list.specs.Measured.{least_level, measured, of_named, page_base, page_content, rec_part, step_parts}
+use Rattle.rmi_list.specs.Listed.{lacks_rule, Listing, Progress, list_item, list_named, list_rec, list_region, list_step, list_steps, listed, opening_progress, opening_checks, opening_entries, plan_checks, pool_check}
+use Rattle.rmi_list.specs.Measured.{least_level, measured, of_named, page_base, page_content, rec_parts_of, step_parts}
 use Rattle.rmi_list.specs.RecParams.{rec_params}
 use Rattle.rmi_list.proofs.CheckAfterCheck.{bound, fronted, is-done, plan-off}
 use Rattle.rmi_list.proofs.ParametersAreTaken.{good-realm}
@@ -58,7 +62,7 @@ use Rattle.rim_desc.specs.declared.rec.TheConstants.{REC_LIMIT}
 -- ---- what was listed is built
 
 abbrev build_of : Config → Build
-build_of c = record { params = realm_params c; num_aux = c.num_aux; pool = c.pool_base }
+build_of c = record { params = realm_params c; num_aux = c.num_aux; rule = c.rec_rule; pool = c.pool_base }
 
 abbrev built_of : Progress → Built
 built_of w = planned w.plan w.taken w.num_recs
@@ -135,9 +139,12 @@ item-follows c contents s w number item done is_listed good = elim (cases_Bool (
 abbrev flag_of : Bool → ℕ
 flag_of runnable = cond runnable 1 0
 
-flag-one : (b : Bool) → not b ≡ false → flag_of b ≡ 1
-flag-one true h = refl
-flag-one false h = absurd (cc)
+-- the flags of a REC are such as the rule allows
+flags-fine : (rule : Option RecRule) (b : Bool) → (not b && not (is_some rule)) ≡ false → has_bad_flags rule (flag_of b) ≡ false
+flags-fine None true h = refl
+flags-fine None false h = absurd (cc)
+flags-fine (Some rule) true h = refl
+flags-fine (Some rule) false h = refl
 
 -- auxiliary granules are not measured
 same-page : (number : ℕ) (r : PlacedRec) (aux : List ℕ) → rec_page_of (rec_params number r aux) ≡ rec_page_of (rec_params number r [])
@@ -145,18 +152,18 @@ unfolding rec_page_of
 same-page number r aux = refl
 
 rec-follows : (c : Config) (contents : Contents) (s : State) (w : Progress) (number : ℕ) (r : PlacedRec) (done : Listing) → IsListed c w s → number < 512
-    → list_rec c w number r ≡ Ok done → Follows c s (commands_of contents done.entries) (rec_part c.algo number r ∷ []) done.next
+    → list_rec c w number r ≡ Ok done → Follows c s (commands_of contents done.entries) (rec_parts_of c number r) done.next
 unfolding list_rec
 rec-follows c contents s w number r done is_listed few at =
     let params : RecData = rec_params number r (granules c.num_aux (granule c.pool_base (w.taken + 1))) in
     let entries : List Entry = rec_entries c.pool_base w.taken c.num_aux params in
     let made : Listing = record { entries = entries; next = record w { taken = w.taken + delegated entries; num_recs = w.num_recs + 1 } } in
-    let checks : List (Check ListFault) = (fault.RecOrder, not (eqb number w.num_recs)) ∷ (fault.RecNotRunnable, not r.runnable) ∷ pool_check c w.taken entries ∷ [] in
+    let checks : List (Check ListFault) = (fault.RecOrder, not (eqb number w.num_recs)) ∷ (fault.RecNotRunnable, lacks_rule c.rec_rule r) ∷ pool_check c w.taken entries ∷ [] in
     let same : made ≡ done = is-done checks made done at in
     let off : holds checks ≡ false = none-holds checks made done at in
     let order : number ≡ w.num_recs = eqb-true number w.num_recs (not-false (eqb number w.num_recs) (off-at checks 0 fault.NoMemory off)) in
     let next : IsNextRec (build_of c) (built_of w) params = record {
-      runnable = flag-one r.runnable (off-at checks 1 fault.NoMemory off);
+      flags = flags-fine c.rec_rule r.runnable (off-at checks 1 fault.NoMemory off);
       number = ap rec_mpidr_of order;
       few = omega arith;
       aux = refl;
@@ -164,9 +171,9 @@ rec-follows c contents s w number r done is_listed few at =
     let led = rec-leads contents (build_of c) (built_of w) s params is_listed.built next in
     let own : delegated (delegate_all (rec_granules c.pool_base w.taken c.num_aux)) ≡ c.num_aux + 1 = count-all (c.num_aux + 1) (granule c.pool_base w.taken) in
     let count : delegated entries ≡ c.num_aux + 1 = count-append (delegate_all (rec_granules c.pool_base w.taken c.num_aux)) _ ∙ omega arith in
-    subst (λ (d : Listing). Follows c s (commands_of contents d.entries) (rec_part c.algo number r ∷ []) d.next) same (record {
+    subst (λ (d : Listing). Follows c s (commands_of contents d.entries) (rec_parts_of c number r) d.next) same (record {
       accepted = led.accepted;
-      shown = led.shown ∙ ap (λ page. Rec (measurement_of c.algo page) ∷ []) (same-page number r params.aux);
+      shown = led.shown ∙ ap (λ page. if extends c.rec_rule (is_runnable (flag_of r.runnable)) then Rec (measurement_of c.algo page) ∷ [] else []) (same-page number r params.aux);
       listed = record { built = rw count led.built; planned = is_listed.planned; least = is_listed.least };
     })
 
@@ -190,7 +197,7 @@ step-follows l p contents s w (step.Item n) done good few is_listed at = by_item
 step-follows l p contents s w (step.Rec n) done good few is_listed at = by_rec (slice_get p.recs n) refl at
   where
     by_rec : (o : Option PlacedRec) → slice_get p.recs n ≡ o → list_named w (list_rec l.config w n) o ≡ Ok done
-        → Follows l.config s (commands_of contents done.entries) (of_named (λ r. rec_part l.config.algo n r ∷ []) o) done.next
+        → Follows l.config s (commands_of contents done.entries) (of_named (rec_parts_of l.config n) o) done.next
     by_rec None e h = (let idle : Listing = record { entries = []; next = w } in let same : idle ≡ done = cc in
         subst (λ (d : Listing). Follows l.config s (commands_of contents d.entries) [] d.next) same (nothing-follows l.config s w is_listed))
     by_rec (Some r) e h = (let inside : n < length p.recs = slice_get_within p.recs n r e in
@@ -244,7 +251,7 @@ steps-end l p contents (st ∷ ss) s w entries good few is_listed at =
     rw words (then-ends s cs (commands_of contents others) (step_parts l p contents st) (flat_map (step_parts l p contents) ss) (realm_params l.config) here.accepted here.shown rest)
 
 opened-listed : (c : Config) (contents : Contents)
-    → Follows c (empty_state c.num_aux) (commands_of contents (opening_entries c)) (Realm (realm_page_of (realm_params c)) ∷ []) (opening_progress c)
+    → Follows c (empty_state c.num_aux c.rec_rule) (commands_of contents (opening_entries c)) (Realm (realm_page_of (realm_params c)) ∷ []) (opening_progress c)
 opened-listed c contents =
     let pool : c.pool_base % 65536 ≡ 0 = c.pool_aligned in
     let led = realm-leads contents (build_of c) (good-realm c) refl (omega arith) in
@@ -257,11 +264,11 @@ opened-listed c contents =
     }
 
 pub list-is-followed : (l : LaunchData) (p : PlacedData) (contents : Contents) (entries : List Entry) → AreContents l.config.algo contents
-    → listed l p ≡ Ok entries → IsFollowed l.config.algo l.config.num_aux (commands_of contents entries) (measured l p contents)
+    → listed l p ≡ Ok entries → IsFollowed l.config.algo l.config.num_aux l.config.rec_rule (commands_of contents entries) (measured l p contents)
 unfolding listed
 list-is-followed l p contents entries good at =
     let c : Config = l.config in
-    let s : State = empty_state c.num_aux in
+    let s : State = empty_state c.num_aux c.rec_rule in
     let checks : List (Check ListFault) = opening_checks c p.recs in
     let first = bound (unless_refused checks (opening_entries c)) _ entries at in
     let opened : opening_entries c ≡ first.0 = is-done checks (opening_entries c) (first.0) (first.1) in
@@ -281,5 +288,5 @@ list-is-followed l p contents entries good at =
       shown = ends.shown;
       once = accepted-once s (commands_of contents entries) ends.accepted;
       by_algo = ap (option_map (λ (q : RealmParams). q.algo)) ends.realm;
-      rim = rim-run c.num_aux (commands_of contents entries) (realm_params c) ends.realm ∙ ap (λ ps. Some (rim_of c.algo ps)) ends.shown;
+      rim = rim-run c.num_aux c.rec_rule (commands_of contents entries) (realm_params c) ends.realm ∙ ap (λ ps. Some (rim_of c.algo ps)) ends.shown;
     }

@@ -24,7 +24,7 @@ use Rattle.ipa_layout.specs.declared.rec.PlacedRec.{PlacedRec}
 use Rattle.rmi_list.specs.declared.fault.ListFault.{ListFault}
 use Rattle.rmi_list.specs.declared.fault.ListFault.TheVariants as fault
 use Rattle.rmi_list.specs.RecParams.{rec_params}
-use Rattle.rmi_list.specs.Listed.{Listing, Progress, list_item, list_named, list_rec, list_region, list_step, list_steps, plan_checks, pool_check}
+use Rattle.rmi_list.specs.Listed.{lacks_rule, Listing, Progress, list_item, list_named, list_rec, list_region, list_step, list_steps, plan_checks, pool_check}
 use Rattle.rmi_list.specs.Measured.{page_base, page_content}
 use Rattle.rmi_list.specs.inside.Drafts.{SameProgress}
 
@@ -124,7 +124,7 @@ rec-alike c v w number r same =
     made u = record { entries = entries_at u; next = record u { taken = u.taken + delegated (entries_at u); num_recs = u.num_recs + 1 } }
 
     checks_at : Progress → List (Check ListFault)
-    checks_at u = (fault.RecOrder, not (eqb number u.num_recs)) ∷ (fault.RecNotRunnable, not r.runnable) ∷ pool_check c u.taken (entries_at u) ∷ []
+    checks_at u = (fault.RecOrder, not (eqb number u.num_recs)) ∷ (fault.RecNotRunnable, lacks_rule c.rec_rule r) ∷ pool_check c u.taken (entries_at u) ∷ []
 
 named-alike : {A : Type 0} (v w : Progress) (f g : A → Result Listing ListFault) (o : Option A) → SameProgress v w → ((x : A) → AreAlike (f x) (g x))
     → AreAlike (list_named v f o) (list_named w g o)

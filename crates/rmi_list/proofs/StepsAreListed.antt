@@ -31,7 +31,7 @@ use Rattle.ipa_layout.specs.declared.rec.PlacedRec.{PlacedRec}
 use Rattle.rmi_list.specs.declared.draft.Draft.{Draft}
 use Rattle.rmi_list.specs.declared.fault.ListFault.{ListFault}
 use Rattle.rmi_list.specs.declared.fault.ListFault.TheVariants as fault
-use Rattle.rmi_list.specs.Listed.{Listing, plan_fault, list_item, list_named, list_rec, list_region, plan_checks, pool_check}
+use Rattle.rmi_list.specs.Listed.{lacks_rule, Listing, plan_fault, list_item, list_named, list_rec, list_region, plan_checks, pool_check}
 use Rattle.rmi_list.specs.Measured.{page_base, page_content}
 use Rattle.rmi_list.specs.RecParams.{rec_params}
 use Rattle.rmi_list.specs.inside.Acts.{HaveRoom}
@@ -247,13 +247,13 @@ pub rec-out-of-order : (old : Draft) (number : ℕ) (r : PlacedRec) → (number 
 unfolding list_rec
 rec-out-of-order old number r other = rw (order-on number old.num_recs other) refl
 
-pub rec-not-runnable : (old : Draft) (number : ℕ) (r : PlacedRec) → number ≡ old.num_recs → r.runnable ≡ false
+pub rec-not-runnable : (old : Draft) (number : ℕ) (r : PlacedRec) → number ≡ old.num_recs → lacks_rule old.launch.now.config.rec_rule r ≡ true
     → list_rec old.launch.now.config (progress_of old) number r ≡ Err fault.RecNotRunnable
 unfolding list_rec
 rec-not-runnable old number r order off = rw (order-off number old.num_recs order, off) refl
 
 -- a REC of which some granule is refused
-pub rec-refused : (old : Draft) (number : ℕ) (r : PlacedRec) (e : ListFault) → number ≡ old.num_recs → r.runnable ≡ true
+pub rec-refused : (old : Draft) (number : ℕ) (r : PlacedRec) (e : ListFault) → number ≡ old.num_recs → lacks_rule old.launch.now.config.rec_rule r ≡ false
     → Refuses old e (own_granule old ++ (aux_granules old ++ rec_itself old number r))
     → (e ≡ fault.NoMemory) ⊎ (list_rec old.launch.now.config (progress_of old) number r ≡ Err e)
 unfolding list_rec
@@ -265,7 +265,7 @@ rec-refused old number r e order on (inr full) =
     inr (rw (order-off number old.num_recs order) (rw test (rw (on, full.0) refl)))
 
 -- a REC that is listed
-pub rec-makes : (old new : Draft) (number : ℕ) (r : PlacedRec) → InPool old → number ≡ old.num_recs → r.runnable ≡ true
+pub rec-makes : (old new : Draft) (number : ℕ) (r : PlacedRec) → InPool old → number ≡ old.num_recs → lacks_rule old.launch.now.config.rec_rule r ≡ false
     → Grows old new (own_granule old ++ (aux_granules old ++ rec_itself old number r))
     → (done : Listing) × (list_rec old.launch.now.config (progress_of old) number r ≡ Ok done) × Makes old (record new { num_recs = new.num_recs + 1 }) done
 unfolding list_rec

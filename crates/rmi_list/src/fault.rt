@@ -18,7 +18,7 @@ pub enum ListFault {
     TooManyRecs,
     /// A step names a REC that is not the next one.
     RecOrder,
-    /// A REC is not runnable.
+    /// A REC is not runnable, and the launch has no rule for such.
     RecNotRunnable,
     /// The allocator refused a growth.
     NoMemory,

@@ -15,7 +15,8 @@ pub fn list_is_followed()
     ensures { (l : LaunchData) (p : PlacedData) (page_contents : Contents) (entries : List Entry)
         → AreContents l.config.algo page_contents
         → listed l p ≡ Ok entries
-        → IsFollowed l.config.algo l.config.num_aux (commands_of page_contents entries)
+        → IsFollowed l.config.algo l.config.num_aux l.config.rec_rule
+        (commands_of page_contents entries)
         (measured l p page_contents) }
 {}
 

@@ -20,7 +20,7 @@ pub enum StepReason {
     PoolEnd,
     /// The step names a REC that is not the next one: this many RECs were listed before it.
     RecOrder { listed: usize },
-    /// The REC is not runnable.
+    /// The REC is not runnable, and the launch has no rule for such.
     RecNotRunnable,
 }
 

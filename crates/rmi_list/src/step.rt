@@ -1,6 +1,6 @@
 //! The steps of a launch, each as it is listed.
 ghost use Rattle.std.specs.Prelude.{◌≡◌, ◌<◌, ◌≤◌, length, Some, slice_get};
-ghost use Rattle.rmi_list.specs.Listed.{list_item, list_rec, list_region, list_step};
+ghost use Rattle.rmi_list.specs.Listed.{lacks_rule, list_item, list_rec, list_region, list_step};
 ghost use Rattle.rmi_list.specs.Measured.{page_content};
 ghost use Rattle.rmi_list.specs.inside.Drafts.{AreListable, Continues, InPool, progress_of};
 ghost use Rattle.rim_desc.specs.declared.rec.TheConstants.{REC_LIMIT};
@@ -11,7 +11,7 @@ use crate::fault::ListFault;
 use crate::span::Span;
 use ipa_layout::{PlacedItem, PlacedRec};
 use list_model::PageContent;
-use rim_launch::{Region, Step};
+use rim_launch::{Launch, Region, Step};
 
 /// What the monitor knows of the content of an item's pages.
 fn page_content(item: &PlacedItem) -> PageContent
@@ -27,6 +27,13 @@ fn page_content(item: &PlacedItem) -> PageContent
             }
         }
     }
+}
+
+/// Whether a REC is not runnable, and the launch has no rule for such.
+fn lacks_rule(launch: &Launch, rec: &PlacedRec) -> bool
+    ensures { result ≡ lacks_rule launch.now.config.rec_rule rec.now }
+{
+    !rec.runnable && launch.config().rec_rule.is_none()
 }
 
 impl<'a> Draft<'a> {
@@ -73,7 +80,7 @@ impl<'a> Draft<'a> {
         if number != self.num_recs {
             return Err(ListFault::RecOrder);
         }
-        if !rec.runnable {
+        if lacks_rule(self.launch, rec) {
             return Err(ListFault::RecNotRunnable);
         }
         let granule = self.delegate()?;

@@ -85,7 +85,7 @@ fn followed(
     plan: &Plan,
     digests: &[Measurement],
 ) -> Option<Measurement> {
-    let mut monitor = Monitor::new(alloc, launch.config().num_aux);
+    let mut monitor = Monitor::new(alloc, launch.config().num_aux, launch.config().rec_rule);
     let mut rest = digests;
     for index in 0..plan.len() {
         let content = next_content(plan, index, &mut rest);

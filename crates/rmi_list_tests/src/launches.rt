@@ -25,6 +25,7 @@ macro_rules! config {
             rpv: [0; 64],
             block_level: $block_level,
             num_aux: $num_aux,
+            rec_rule: None,
             pool_base: 0x8_0000_0000,
             pool_count: $pool_count,
         }

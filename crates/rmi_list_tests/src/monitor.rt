@@ -63,7 +63,7 @@ fn rim_of(algo: Algo, s2sz: u8, parts: &[Measured]) -> Measurement {
 /// What a monitor holds after the commands of a launch.
 fn followed(rt: &impl Abort, alloc: Global, launch: &Launch) -> Option<Measurement> {
     let plan = list_of(rt, alloc, launch).expect(rt, "a list");
-    let mut monitor = Monitor::new(alloc, launch.config().num_aux);
+    let mut monitor = Monitor::new(alloc, launch.config().num_aux, launch.config().rec_rule);
     for index in 0..plan.len() {
         let answer = monitor.apply(&plan.command(index, &CONTENT));
         check(rt, answer.is_ok(), "a command is taken");

@@ -1,4 +1,4 @@
-use Rattle.std.proofs.Common.{inr, ◌++◌}
+use Rattle.std.proofs.Common.{inr, ◌++◌, ◌∙◌, sym}
 use Rattle.std.proofs.lemmas.Result.{err_from_is_err_and}
 use Rattle.rmi_list.specs.inside.Drafts.{Grows}
 use Rattle.rmi_list.proofs.EntryByEntry.{Refuses}
@@ -8,8 +8,8 @@ use Rattle.rmi_list.proofs.draft.Draft.rec.Goals as goal
 pub returns-then-number-self : goal.returns-then-number-self
 returns-then-number-self c = inr (rec-out-of-order c.args.self.now c.args.number c.args.rec.now c.if-number-self.true)
 
-pub returns-then-not-rec : goal.returns-then-not-rec
-returns-then-not-rec c = inr (rec-not-runnable c.args.self.now c.args.number c.args.rec.now c.if-number-self.false c.if-not-rec.true)
+pub returns-then-lacks_rule : goal.returns-then-lacks_rule
+returns-then-lacks_rule c = inr (rec-not-runnable c.args.self.now c.args.number c.args.rec.now c.if-number-self.false (sym c.lacks_rule.ensures ∙ c.if-lacks_rule.true))
 
 pub returns-in_err-granule : goal.returns-in_err-granule
 returns-in_err-granule c =
@@ -17,7 +17,7 @@ returns-in_err-granule c =
     let old = c.args.self.now in
     let r = c.args.rec.now in
     let e = c.in_err-granule.field-0.0 in
-    rw (p.1, p.2) (rec-refused old c.args.number r e c.if-number-self.false c.if-not-rec.false
+    rw (p.1, p.2) (rec-refused old c.args.number r e c.if-number-self.false (sym c.lacks_rule.ensures ∙ c.if-lacks_rule.false)
     (refused-first old e (own_granule old) (aux_granules old ++ rec_itself old c.args.number r) c.in_err-granule.ensures.lists))
 
 pub returns-in_err-delegate_all : goal.returns-in_err-delegate_all
@@ -29,7 +29,7 @@ returns-in_err-delegate_all c =
     let e = c.in_err-delegate_all.field-0.0 in
     let grows = c.in_ok-granule.ensures.lists in
     let refused : Refuses one e (aux_granules old) = rw (← aux-same old one c.config.result grows c.config.ensures.value) c.in_err-delegate_all.ensures in
-    rw (p.1, p.2) (rec-refused old c.args.number r e c.if-number-self.false c.if-not-rec.false
+    rw (p.1, p.2) (rec-refused old c.args.number r e c.if-number-self.false (sym c.lacks_rule.ensures ∙ c.if-lacks_rule.false)
     (refused-later old one e (own_granule old) (aux_granules old ++ rec_itself old c.args.number r) grows (refused-first one e (aux_granules old) (rec_itself old c.args.number r) refused)))
 
 pub returns : goal.returns
@@ -45,5 +45,5 @@ returns c =
     let both = grows-then old one two (own_granule old) (aux_granules old) first second in
     let third : Grows two three (rec_itself old number r) =
     rw (← rec-same old two c.in_ok-granule.granule number r both.launch both.placed c.in_ok-granule.ensures.value c.requires.own) c.in_ok-push.ensures in
-    rec-makes old three number r c.requires.pool c.if-number-self.false c.if-not-rec.false
+    rec-makes old three number r c.requires.pool c.if-number-self.false (sym c.lacks_rule.ensures ∙ c.if-lacks_rule.false)
     (grows-then old one three (own_granule old) (aux_granules old ++ rec_itself old number r) first (grows-then one two three (aux_granules old) (rec_itself old number r) second third))
