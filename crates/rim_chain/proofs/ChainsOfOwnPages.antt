@@ -54,7 +54,7 @@ by-keys l files p is_placed number page item source at from =
 
 pub chain-held : (l : LaunchData) (files : List (List ℕ)) (p : PlacedData) (entries : List Entry) (v : PlanView)
     → IsPlaced l files p → listed l p ≡ Ok entries → IsReadOf l p v
-    → (run (empty_state l.config.num_aux) (commands_of (page_contents l files p) entries)).rim ≡ Some (chain_of v (map (own_digest files p) (keys_of v.links)))
+    → (run (empty_state l.config.num_aux l.config.rec_rule) (commands_of (page_contents l files p) entries)).rim ≡ Some (chain_of v (map (own_digest files p) (keys_of v.links)))
 unfolding chain_of
 chain-held l files p entries v is_placed at read =
     let own : PageKey → Measurement = own_digest files p in

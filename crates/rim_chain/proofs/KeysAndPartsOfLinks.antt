@@ -1,18 +1,18 @@
 -- The links of a launch's steps have the launch's keys and parts.
 use Rattle.std.proofs.Common.{inl, inr, ◌⊎◌, ◌≡◌, ℕ, zero, suc, ◌+◌, ◌-◌, ◌*◌, ◌/◌, ◌≤◌, ◌∙◌, sym, refl, ap, arith, Bool, true, false, eqb, List, [], ◌∷◌, ◌++◌, length, map}
-use Rattle.std.specs.Prelude.{Option, Some, None}
+use Rattle.std.specs.Prelude.{Option, Some, None, if◌then◌else◌}
 use Rattle.std.specs.List.{All, flat_map, range_with_len, slice_get}
 use Rattle.std.proofs.lemmas.Bool.{cases_Bool, eqb-true}
 use Rattle.std.proofs.lemmas.List.{append-nil, drop_at, length-map, map-append, take_at}
 use Rattle.std.proofs.lemmas.List.Concat.{flat_map-append}
 use Rattle.std.proofs.lemmas.List.Elements.{All-head, All-tail}
-use Rattle.rim_desc.specs.Part.{Part, Data, Realm}
+use Rattle.rim_desc.specs.Part.{Part, Data, Realm, Rec}
 use Rattle.rim_desc.specs.Realm.{realm_page_of}
 use Rattle.rim_desc.specs.Rec.{rec_page_of}
 use Rattle.rim_desc.specs.declared.measurement.Algo.{Algo}
 use Rattle.rim_desc.specs.declared.measurement.Measurement.{Measurement}
 use Rattle.rmm_model.specs.Blocks.{size, stretches}
-use Rattle.rmm_model.specs.Effects.{ripas_parts}
+use Rattle.rmm_model.specs.Effects.{is_runnable, ripas_parts}
 use Rattle.rmm_model.proofs.GranulesInARow.{granules-map}
 use Rattle.rtt_plan.specs.Entries.{entries}
 use Rattle.rtt_plan.specs.Following.{block_of, blocks_of}
@@ -33,7 +33,9 @@ use Rattle.rim_launch.specs.declared.step.Step.TheVariants as step
 use Rattle.ipa_layout.specs.Layout.{PlacedData}
 use Rattle.ipa_layout.specs.declared.placed.PlacedItem.{PlacedItem}
 use Rattle.ipa_layout.specs.declared.rec.PlacedRec.{PlacedRec}
-use Rattle.rmi_list.specs.Measured.{least_level, of_named, known_of, page_base, page_content, rec_part, step_parts}
+use Rattle.rmi_list.specs.Measured.{least_level, of_named, known_of, page_base, page_content, rec_parts_of, step_parts}
+use Rattle.rim_desc.specs.Rule.{extends}
+use Rattle.rim_chain.specs.declared.link.Link.TheVariants as link
 use Rattle.rim_chain.specs.Links.{key_after, keys_in, keys_of, link_parts, page_count, pages_with, parts_with}
 use Rattle.rim_chain.specs.Keys.{item_keys, key_at, source_keys, step_keys}
 use Rattle.rim_chain.specs.Reading.{GoByKeys, IsReadOf}
@@ -142,9 +144,13 @@ step-keys l p (step.Item n) = by_item (slice_get p.items n)
     by_item (Some item) = by_pages l.config.algo item (cases_Bool (eqb item.pages 0))
 step-keys l p (step.Rec n) = by_rec (slice_get p.recs n)
   where
-    by_rec : (o : Option PlacedRec) → keys_of (rec_links l.config.algo o) ≡ []
+    one : (content : Measurement) (b : Bool) → keys_of (if b then link.Rec content ∷ [] else []) ≡ []
+    one content true = refl
+    one content false = refl
+
+    by_rec : (o : Option PlacedRec) → keys_of (rec_links l.config.rec_rule l.config.algo o) ≡ []
     by_rec None = refl
-    by_rec (Some r) = refl
+    by_rec (Some r) = one _ (extends l.config.rec_rule r.runnable)
 
 -- ---- the parts of steps
 
@@ -190,9 +196,18 @@ step-parts l p digest contents low by_keys (step.Item n) readable = by_item (sli
     by_item (Some item) e = item-parts digest contents l.config.algo n item (λ page source at. by_keys n page item source e at)
 step-parts l p digest contents low by_keys (step.Rec n) readable = by_rec (slice_get p.recs n)
   where
-    by_rec : (o : Option PlacedRec) → flat_map (own_parts digest) (rec_links l.config.algo o) ≡ of_named (λ r. rec_part l.config.algo n r ∷ []) o
+    -- bit 0 of a REC's flags says whether it is runnable
+    flag : (b : Bool) → is_runnable (if b then 1 else 0) ≡ b
+    flag true = refl
+    flag false = refl
+
+    one : (content : Measurement) (b : Bool) → flat_map (own_parts digest) (if b then link.Rec content ∷ [] else []) ≡ (if b then Rec content.bytes ∷ [] else [])
+    one content true = refl
+    one content false = refl
+
+    by_rec : (o : Option PlacedRec) → flat_map (own_parts digest) (rec_links l.config.rec_rule l.config.algo o) ≡ of_named (rec_parts_of l.config n) o
     by_rec None = refl
-    by_rec (Some r) = refl
+    by_rec (Some r) = rw (flag r.runnable) (one _ (extends l.config.rec_rule r.runnable))
 
 -- ---- the whole launch
 

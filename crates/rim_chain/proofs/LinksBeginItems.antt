@@ -1,6 +1,6 @@
 -- The pages of the links of steps are the first ones of their items.
 use Rattle.std.proofs.Common.{inl, inr, ◌⊎◌, ◌≡◌, ℕ, refl, Bool, true, false, eqb, List, [], ◌∷◌, map}
-use Rattle.std.specs.Prelude.{Option, None, Some}
+use Rattle.std.specs.Prelude.{Option, None, Some, if◌then◌else◌}
 use Rattle.std.specs.List.{All, flat_map, slice_get}
 use Rattle.std.proofs.lemmas.Bool.{cases_Bool}
 use Rattle.std.proofs.lemmas.List.Elements.{All-append, All-cons, All-nil}
@@ -16,6 +16,12 @@ use Rattle.ipa_layout.specs.declared.placed.PlacedItem.{PlacedItem}
 use Rattle.ipa_layout.specs.declared.rec.PlacedRec.{PlacedRec}
 use Rattle.rmi_list.specs.Measured.{least_level}
 use Rattle.rim_desc.specs.declared.source.Source.{Source}
+use Rattle.rim_desc.specs.Rule.{extends}
+use Rattle.rim_desc.specs.Measurement.{measurement_of}
+use Rattle.rim_desc.specs.Rec.{rec_page_of}
+use Rattle.rmi_list.specs.RecParams.{rec_params}
+use Rattle.rim_desc.specs.declared.rule.RecRule.{RecRule}
+use Rattle.rim_chain.specs.declared.link.Link.TheVariants as link
 use Rattle.rim_chain.specs.Fitting.{BeginsItem}
 use Rattle.rim_chain.specs.inside.Steps.{item_links, pages_link, rec_links, region_links, run_link, source_links, step_links}
 
@@ -43,14 +49,18 @@ item-begins algo (Some item) = by_pages (cases_Bool (eqb item.pages 0))
     by_pages (inl none) = rw none (All-nil BeginsItem)
     by_pages (inr some) = rw some (by_source item.source)
 
-rec-begins : (algo : Algo) (o : Option PlacedRec) → All BeginsItem (rec_links algo o)
-rec-begins algo None = All-nil BeginsItem
-rec-begins algo (Some r) = All-cons BeginsItem _ [] tt (All-nil BeginsItem)
+rec-begins : (rule : Option RecRule) (algo : Algo) (o : Option PlacedRec) → All BeginsItem (rec_links rule algo o)
+rec-begins rule algo None = All-nil BeginsItem
+rec-begins rule algo (Some r) = by_rule (extends rule r.runnable)
+  where
+    by_rule : (b : Bool) → All BeginsItem (if b then link.Rec (record { bytes = measurement_of algo (rec_page_of (rec_params 0 r [])) }) ∷ [] else [])
+    by_rule true = All-cons BeginsItem _ [] tt (All-nil BeginsItem)
+    by_rule false = All-nil BeginsItem
 
 step-begins : (l : LaunchData) (p : PlacedData) (s : Step) → All BeginsItem (step_links l p s)
 step-begins l p (step.Ram n) = region-begins (least_level l.config) (slice_get l.ram n)
 step-begins l p (step.Item n) = item-begins l.config.algo (slice_get p.items n)
-step-begins l p (step.Rec n) = rec-begins l.config.algo (slice_get p.recs n)
+step-begins l p (step.Rec n) = rec-begins l.config.rec_rule l.config.algo (slice_get p.recs n)
 
 pub steps-begin : (l : LaunchData) (p : PlacedData) (ss : List Step) → All BeginsItem (flat_map (step_links l p) ss)
 steps-begin l p [] = All-nil BeginsItem

@@ -1,6 +1,6 @@
 -- What a launch that has a list has: regions that can be read, links that fit, and not too many pages.
-use Rattle.std.proofs.Common.{inl, inr, ◌≡◌, ℕ, ◌+◌, ◌-◌, ◌*◌, ◌^◌, ◌<◌, ◌≤◌, ◌∙◌, refl, ap, subst, arith, true, false, not, eqb, List, [], ◌∷◌, ◌++◌, length}
-use Rattle.std.specs.Prelude.{Option, Result, Ok, Err, IsOk, None, Some, max}
+use Rattle.std.proofs.Common.{inl, inr, ◌≡◌, ℕ, ◌+◌, ◌-◌, ◌*◌, ◌^◌, ◌<◌, ◌≤◌, ◌∙◌, refl, ap, subst, arith, true, false, not, eqb, List, [], ◌∷◌, ◌++◌, length, Bool}
+use Rattle.std.specs.Prelude.{Option, Result, Ok, Err, IsOk, None, Some, max, if◌then◌else◌}
 use Rattle.std.specs.List.{All, flat_map, slice_get}
 use Rattle.std.proofs.Math.Nat.{pow-le-pow_right}
 use Rattle.std.proofs.lemmas.Bool.{cases_Bool, ltb-false, or_parts}
@@ -25,12 +25,16 @@ use Rattle.rim_launch.specs.declared.step.Step.TheVariants as step
 use Rattle.ipa_layout.specs.Layout.{PlacedData}
 use Rattle.ipa_layout.specs.declared.placed.PlacedItem.{PlacedItem}
 use Rattle.ipa_layout.specs.declared.rec.PlacedRec.{PlacedRec}
-use Rattle.rmi_list.specs.Listed.{Listing, Progress, list_item, list_named, list_rec, list_region, list_step, list_steps, listed, opening_progress, opening_checks, opening_entries, plan_checks, pool_check}
+use Rattle.rmi_list.specs.Listed.{lacks_rule, Listing, Progress, list_item, list_named, list_rec, list_region, list_step, list_steps, listed, opening_progress, opening_checks, opening_entries, plan_checks, pool_check}
 use Rattle.rmi_list.specs.Measured.{least_level, page_base, page_content}
 use Rattle.rmi_list.specs.RecParams.{rec_params}
 use Rattle.rmi_list.specs.declared.fault.ListFault.{ListFault}
 use Rattle.rmi_list.specs.declared.fault.ListFault.TheVariants as fault
 use Rattle.rmi_list.proofs.CheckAfterCheck.{bound, fronted, is-done, plan-off}
+use Rattle.rim_desc.specs.Rule.{extends}
+use Rattle.rim_desc.specs.Measurement.{measurement_of}
+use Rattle.rim_desc.specs.Rec.{rec_page_of}
+use Rattle.rim_chain.specs.declared.link.Link.TheVariants as link
 use Rattle.rim_chain.specs.Links.{keys_in, keys_of}
 use Rattle.rim_chain.specs.declared.link.Link.{Link}
 use Rattle.rim_chain.specs.Fitting.{IsFitting}
@@ -133,20 +137,31 @@ item-read c w number item done is_bounded = elim (cases_Bool (eqb item.pages 0))
         }))
 
 rec-read : (c : Config) (w : Progress) (number : ℕ) (r : PlacedRec) (done : Listing) → IsBounded c w → list_rec c w number r ≡ Ok done
-    → AreRead c w (rec_links c.algo (Some r)) done.next
+    → AreRead c w (rec_links c.rec_rule c.algo (Some r)) done.next
 unfolding list_rec
 rec-read c w number r done is_bounded at =
     let entries : List Entry = rec_entries c.pool_base w.taken c.num_aux (rec_params number r (granules c.num_aux (granule c.pool_base (w.taken + 1)))) in
     let made : Listing = record { entries = entries; next = record w { taken = w.taken + delegated entries; num_recs = w.num_recs + 1 } } in
-    let checks : List (Check ListFault) = (fault.RecOrder, not (eqb number w.num_recs)) ∷ (fault.RecNotRunnable, not r.runnable) ∷ pool_check c w.taken entries ∷ [] in
+    let checks : List (Check ListFault) = (fault.RecOrder, not (eqb number w.num_recs)) ∷ (fault.RecNotRunnable, lacks_rule c.rec_rule r) ∷ pool_check c w.taken entries ∷ [] in
     let same : made ≡ done = is-done checks made done at in
     let none : holds checks ≡ false = none-holds checks made done at in
     let room : w.taken + delegated entries ≤ c.pool_count = ltb-false c.pool_count (w.taken + delegated entries) (off-at checks 2 fault.NoMemory none) in
-    subst (λ (d : Listing). AreRead c w (rec_links c.algo (Some r)) d.next) same (record {
-      fit = All-cons IsFitting _ [] tt (All-nil IsFitting);
-      few = omega arith;
+    subst (λ (d : Listing). AreRead c w (rec_links c.rec_rule c.algo (Some r)) d.next) same (record {
+      fit = fits (extends c.rec_rule r.runnable);
+      few = few (extends c.rec_rule r.runnable);
       bounded = record { protected_end = is_bounded.protected_end; pool = room };
     })
+  where
+    links : Bool → List Link
+    links b = if b then link.Rec (record { bytes = measurement_of c.algo (rec_page_of (rec_params 0 r [])) }) ∷ [] else []
+
+    fits : (b : Bool) → All IsFitting (links b)
+    fits true = All-cons IsFitting _ [] tt (All-nil IsFitting)
+    fits false = All-nil IsFitting
+
+    few : (b : Bool) → w.taken + length (keys_of (links b)) ≤ w.taken + delegated (rec_entries c.pool_base w.taken c.num_aux (rec_params number r (granules c.num_aux (granule c.pool_base (w.taken + 1)))))
+    few true = omega arith
+    few false = omega arith
 
 -- ---- steps
 
@@ -170,7 +185,7 @@ step-read l p w (step.Item n) done is_bounded at = record { readable = tt; read 
     by_item (Some item) h = item-read l.config w n item done is_bounded h
 step-read l p w (step.Rec n) done is_bounded at = record { readable = tt; read = by_rec (slice_get p.recs n) at }
   where
-    by_rec : (o : Option PlacedRec) → list_named w (list_rec l.config w n) o ≡ Ok done → AreRead l.config w (rec_links l.config.algo o) done.next
+    by_rec : (o : Option PlacedRec) → list_named w (list_rec l.config w n) o ≡ Ok done → AreRead l.config w (rec_links l.config.rec_rule l.config.algo o) done.next
     by_rec None h = (let made : Listing = record { entries = []; next = w } in let same : made ≡ done = cc in
         idle l.config w done.next is_bounded (ap (λ (d : Listing). d.next) same))
     by_rec (Some r) h = rec-read l.config w n r done is_bounded h

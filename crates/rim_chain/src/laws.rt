@@ -27,7 +27,8 @@ pub fn the_chain_is_what_a_monitor_holds()
         → IsPlaced l files p
         → listed l p ≡ Ok entries
         → IsReadOf l p v
-        → (run (empty_state l.config.num_aux) (commands_of (page_contents l files p) entries)).rim
+        → (run (empty_state l.config.num_aux l.config.rec_rule)
+        (commands_of (page_contents l files p) entries)).rim
         ≡ Some (chain_of v (map (own_digest files p) (keys_of v.links))) }
 {}
 

@@ -14,7 +14,7 @@ use crate::plan::{LaunchPlan, page_count};
 use crate::rec_content::{HashedRec, rec_content};
 use ipa_layout::{Placed, PlacedItem, PlacedRec};
 use page_jobs::PageKey;
-use rim_desc::{Algo, NoMemory};
+use rim_desc::{Algo, NoMemory, RecRule, extends};
 use rim_launch::{Config, Launch, Region, Step, realm_params};
 use rmi_list::Plan;
 use rmm_model::{size_of_level, start_level};
@@ -105,7 +105,7 @@ fn push_step(
             None => Ok(()),
         },
         Step::Rec(number) => match rec_at(placed, number) {
-            Some(rec) => push_rec(links, algo, &rec, last),
+            Some(rec) => push_rec(links, algo, launch.config().rec_rule, &rec, last),
             None => Ok(()),
         },
     }
@@ -196,15 +196,20 @@ fn push_item(links: &mut Vec<Link>, algo: Algo, item: &PlacedItem) -> Result<(),
     Ok(())
 }
 
-/// Adds the link of a REC. The REC that was hashed last is kept.
+/// Adds the link of a REC, if it extends the measurement. The REC that was hashed last is kept.
 fn push_rec(
     links: &mut Vec<Link>,
     algo: Algo,
+    rule: Option<RecRule>,
     rec: &PlacedRec,
     last: &mut Option<HashedRec>,
 ) -> Result<(), NoMemory>
-    ensures { OnOk result (links.new.items ≡ links.old.items ++ rec_links algo (Some rec.now)) }
+    ensures { OnOk result
+        (links.new.items ≡ links.old.items ++ rec_links rule algo (Some rec.now)) }
 {
+    if !extends(rule, rec.runnable) {
+        return Ok(());
+    }
     let content = rec_content(algo, rec, last);
     links.push(Link::Rec { content })?;
     Ok(())
