@@ -13,25 +13,26 @@ use Rattle.rim_manifest.specs.Names.{file_at, has_file, is_named, lacks_file, la
 use Rattle.rim_manifest.specs.Values.{array_at, text_in}
 use Rattle.rim_manifest.proofs.TablesWithoutFaults.{holds, neither}
 use Rattle.rim_manifest.proofs.ItemsFromTables.{file_of-kind, found_below}
+use Rattle.rim_manifest.specs.declared.version.FormatVersion.{FormatVersion}
 use Rattle.rim_manifest.specs.Launches.{AreNumbered, NamedData, ReleaseData, launch_of, launches_from}
 
 -- one more launch is read
-launches_more : (files : List Data) (n : ℕ) (ds : List Data) (d : Data) → launches_from files n (ds ++ d ∷ []) ≡ launches_from files n ds ++ launch_of files (n + length ds) d ∷ []
-launches_more files n [] d = ap (λ k. launch_of files k d ∷ []) (omega arith)
-launches_more files n (e ∷ ds) d =
+launches_more : (v : FormatVersion) (files : List Data) (n : ℕ) (ds : List Data) (d : Data) → launches_from v files n (ds ++ d ∷ []) ≡ launches_from v files n ds ++ launch_of v files (n + length ds) d ∷ []
+launches_more v files n [] d = ap (λ k. launch_of v files k d ∷ []) (omega arith)
+launches_more v files n (e ∷ ds) d =
     let place : n + 1 + length ds ≡ n + length (e ∷ ds) = omega arith in
-    ap (λ ls. launch_of files n e ∷ ls) (launches_more files (n + 1) ds d ∙ ap (λ k. launches_from files (n + 1) ds ++ launch_of files k d ∷ []) place)
+    ap (λ ls. launch_of v files n e ∷ ls) (launches_more v files (n + 1) ds d ∙ ap (λ k. launches_from v files (n + 1) ds ++ launch_of v files k d ∷ []) place)
 
 -- the step of a loop that reads them
-pub launches_step : (files : List Data) (vs : List Value) (i : ℕ) (v : Value) (ls after : List NamedData) (l : NamedData) → i < length vs → v ≡ get_or vs i v
-    → ls ≡ launches_from files 0 (map view (take i vs)) → l ≡ launch_of files i (view v) → after ≡ ls ++ l ∷ []
-    → after ≡ launches_from files 0 (map view (take (i + 1) vs))
-launches_step files vs i v ls after l h at so_far read pushed =
+pub launches_step : (version : FormatVersion) (files : List Data) (vs : List Value) (i : ℕ) (v : Value) (ls after : List NamedData) (l : NamedData) → i < length vs → v ≡ get_or vs i v
+    → ls ≡ launches_from version files 0 (map view (take i vs)) → l ≡ launch_of version files i (view v) → after ≡ ls ++ l ∷ []
+    → after ≡ launches_from version files 0 (map view (take (i + 1) vs))
+launches_step version files vs i v ls after l h at so_far read pushed =
     let place : i ≡ 0 + length (map view (take i vs)) = omega (arith, h, length-map (take i vs) view, length-take-le i vs (omega (arith, h))) in
     let one_more : map view (take (i + 1) vs) ≡ map view (take i vs) ++ view v ∷ [] =
     ap (map view) (take_more vs i v h ∙ ap (λ w. take i vs ++ w ∷ []) (sym at)) ∙ map-append view (take i vs) (v ∷ []) in
-    pushed ∙ ap (λ ms. ms ++ l ∷ []) so_far ∙ ap (λ m. launches_from files 0 (map view (take i vs)) ++ m ∷ []) (read ∙ ap (λ k. launch_of files k (view v)) place)
-    ∙ sym (ap (launches_from files 0) one_more ∙ launches_more files 0 (map view (take i vs)) (view v))
+    pushed ∙ ap (λ ms. ms ++ l ∷ []) so_far ∙ ap (λ m. launches_from version files 0 (map view (take i vs)) ++ m ∷ []) (read ∙ ap (λ k. launch_of version files k (view v)) place)
+    ∙ sym (ap (launches_from version files 0) one_more ∙ launches_more version files 0 (map view (take i vs)) (view v))
 
 -- ---- the number of a launch is its place, and its files are those of the release
 
@@ -49,20 +50,20 @@ files_of_items files (d ∷ ds) e =
     let parts = neither (lacks_its_file files d) (list_any (lacks_its_file files) ds) e in
     rw (file_of-kind (role_at d) (file_at files d) d, below_count files d (needs_file (role_at d)) parts.0) (files_of_items files ds parts.1)
 
-place : (files : List Data) (n : ℕ) (ds : List Data) (i : ℕ) (l : NamedData) → list_any (lacks_file files) ds ≡ false → slice_get (launches_from files n ds) i ≡ Some l
+place : (v : FormatVersion) (files : List Data) (n : ℕ) (ds : List Data) (i : ℕ) (l : NamedData) → list_any (lacks_file files) ds ≡ false → slice_get (launches_from v files n ds) i ≡ Some l
     → (l.launch.number ≡ n + i) × (has_files l.launch (length files) ≡ true)
-place files n [] i l none e = cc
-place files n (d ∷ ds) zero l none e =
-    let same : launch_of files n d ≡ l = cc in
+place v files n [] i l none e = cc
+place v files n (d ∷ ds) zero l none e =
+    let same : launch_of v files n d ≡ l = cc in
     let first : lacks_file files d ≡ false = (neither (lacks_file files d) (list_any (lacks_file files) ds) none).0 in (
       ap (λ (m : NamedData). m.launch.number) (sym same) ∙ omega arith,
       ap (λ (m : NamedData). has_files m.launch (length files)) (sym same) ∙ files_of_items files (array_at (codes "item") d) first,
     )
-place files n (d ∷ ds) (suc i) l none e =
-    let rest = place files (n + 1) ds i l (neither (lacks_file files d) (list_any (lacks_file files) ds) none).1 e in
+place v files n (d ∷ ds) (suc i) l none e =
+    let rest = place v files (n + 1) ds i l (neither (lacks_file files d) (list_any (lacks_file files) ds) none).1 e in
     (rest.0 ∙ omega arith, rest.1)
 
-pub are_numbered : (files ds : List Data) (r : ReleaseData) → list_any (lacks_file files) ds ≡ false → length r.paths ≡ length files → r.launches ≡ launches_from files 0 ds → AreNumbered r
-are_numbered files ds r none paths e = λ i l there.
-    let found = place files 0 ds i l none (ap (λ ls. slice_get ls i) (sym e) ∙ there) in
+pub are_numbered : (v : FormatVersion) (files ds : List Data) (r : ReleaseData) → list_any (lacks_file files) ds ≡ false → length r.paths ≡ length files → r.launches ≡ launches_from v files 0 ds → AreNumbered r
+are_numbered v files ds r none paths e = λ i l there.
+    let found = place v files 0 ds i l none (ap (λ ls. slice_get ls i) (sym e) ∙ there) in
     (found.0 ∙ omega arith, ap (has_files l.launch) paths ∙ found.1)

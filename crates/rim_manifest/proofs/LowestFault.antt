@@ -9,9 +9,11 @@ use Rattle.rim_manifest.specs.declared.fault.ManifestFault.{ManifestFault}
 use Rattle.rim_manifest.specs.declared.fault.ManifestFault.TheVariants.{Version, WrongKind, UnknownKey, MissingKey, Limit, Range, TwoNames, NoSuchFile, BadStep}
 use Rattle.rim_manifest.specs.Faults.{IsLowest, fault_if, lower, lowest, noted, rank_of}
 use Rattle.rim_manifest.specs.Forms.{has_kind, is_over, is_required, is_within}
-use Rattle.rim_manifest.specs.Rules.{Rule, file_rules, launch_rules, rec_rules, top_rules}
+use Rattle.rim_manifest.specs.Rules.{Rule, file_rules, rec_rules, top_rules}
+use Rattle.rim_manifest.specs.Versions.{has_version, lacks_rule, launch_rules_in, version_at}
+use Rattle.rim_manifest.specs.declared.version.FormatVersion.{FormatVersion}
 use Rattle.rim_manifest.specs.Checks.{cell_faults, has_unknown_key, rule_faults, ruled_faults, table_faults}
-use Rattle.rim_manifest.specs.Manifest.{all_faults, fault_or_named, fault_or_release, files_at, has_no_file, has_two_names, has_version, item_faults, launch_faults, launches_at, manifest_faults, name_faults, read_of, rules_of}
+use Rattle.rim_manifest.specs.Manifest.{all_faults, fault_or_named, fault_or_release, files_at, has_no_file, has_two_names, item_faults, launch_faults, launches_at, manifest_faults, name_faults, read_of, rules_of}
 use Rattle.rim_manifest.specs.Names.{has_asked, role_at}
 use Rattle.rim_manifest.specs.StepTexts.{has_bad_steps}
 use Rattle.rim_manifest.specs.Values.{array_at}
@@ -126,21 +128,21 @@ unfolding Early
 early_ruled rs (table ms) = early_table rs ms
 early_ruled rs _ = tt
 
-early_launch : (d : Data) → Early (launch_faults d)
+early_launch : (v : FormatVersion) (d : Data) → Early (launch_faults v d)
 unfolding launch_faults Early
-early_launch (table ms) =
-    early_append _ _ (early_table launch_rules ms)
+early_launch v (table ms) =
+    early_append _ _ (early_table (launch_rules_in v) ms)
     (early_append _ _ (early_flat_map item_faults (λ d. early_ruled (rules_of (role_at d)) d) (array_at (codes "item") (table ms)))
     (early_append _ _ (early_flat_map (ruled_faults rec_rules) (early_ruled rec_rules) (array_at (codes "rec") (table ms)))
-    (early_if (not (has_asked (table ms))) MissingKey (omega arith))))
-early_launch _ = tt
+    (early_append _ _ (early_if (not (has_asked (table ms))) MissingKey (omega arith)) (early_if (lacks_rule v (table ms)) MissingKey (omega arith)))))
+early_launch v _ = tt
 
 early_manifest : (ms : Members) → Early (manifest_faults ms)
 unfolding manifest_faults
 early_manifest ms =
     early_append _ _ (early_if (not (has_version (get_member (codes "rim_manifest") ms))) Version (omega arith))
     (early_append _ _ (early_table top_rules ms)
-    (early_append _ _ (early_flat_map (ruled_faults file_rules) (early_ruled file_rules) (files_at ms)) (early_flat_map launch_faults early_launch (launches_at ms))))
+    (early_append _ _ (early_flat_map (ruled_faults file_rules) (early_ruled file_rules) (files_at ms)) (early_flat_map (launch_faults (version_at ms)) (early_launch (version_at ms)) (launches_at ms))))
 
 behind_append : (f : ManifestFault) (fs gs : List ManifestFault) → NotBehind f fs → NotBehind f gs → NotBehind f (fs ++ gs)
 unfolding NotBehind

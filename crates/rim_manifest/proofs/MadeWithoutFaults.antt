@@ -23,6 +23,8 @@ use Rattle.rim_manifest.specs.Items.{item_of}
 use Rattle.rim_manifest.specs.Launches.{NamedData, config_of, items_of, launch_of, launches_from, ram_of, rec_of, recs_of, region_in}
 use Rattle.rim_manifest.specs.Forms.{items_of as values_of}
 use Rattle.rim_manifest.specs.StepTexts.{is_misnamed, misnames, step_in, steps_in}
+use Rattle.rim_manifest.specs.Versions.{version_at}
+use Rattle.rim_manifest.specs.declared.version.FormatVersion.{FormatVersion}
 use Rattle.rim_manifest.specs.Values.{array_at}
 use Rattle.rim_manifest.specs.Names.{has_asked, kinds_once, repeats, share_names}
 use Rattle.rim_manifest.specs.Manifest.{all_made, files_at, has_two_names, launch_faults, launches_at, launches_of, made, manifest_faults}
@@ -59,41 +61,41 @@ steps_named files d (Some s) e =
     rw (← length-map (array_at (codes "ram") d) region_in, ← length-map (array_at (codes "item") d) (item_of files), ← length-map (array_at (codes "rec") d) rec_of) e in
     ap not lengths
 
-is_made : (files : List Data) (n : ℕ) (d : Data) → length (array_at (codes "ram") d) ≤ 64 → length (array_at (codes "item") d) ≤ 64 → length (array_at (codes "rec") d) ≤ 1024
-    → kinds_once (array_at (codes "item") d) ≡ true → has_asked d ≡ true → is_misnamed d ≡ false → is_launch (launch_of files n d).launch ≡ true
+is_made : (v : FormatVersion) (files : List Data) (n : ℕ) (d : Data) → length (array_at (codes "ram") d) ≤ 64 → length (array_at (codes "item") d) ≤ 64 → length (array_at (codes "rec") d) ≤ 1024
+    → kinds_once (array_at (codes "item") d) ≡ true → has_asked d ≡ true → is_misnamed d ≡ false → is_launch (launch_of v files n d).launch ≡ true
 unfolding is_launch
-is_made files n d ram items recs once asked named =
+is_made v files n d ram items recs once asked named =
     let regions : length (ram_of d) ≤ 64 = omega (arith, ram, length-map (array_at (codes "ram") d) region_in) in
     let things : length (items_of files d) ≤ 64 = omega (arith, items, length-map (array_at (codes "item") d) (item_of files)) in
     let processors : length (recs_of d) ≤ 1024 = omega (arith, recs, length-map (array_at (codes "rec") d) rec_of) in
     rw (le-leb _ _ regions, le-leb _ _ things, le-leb _ _ processors, once-items files d, once, asked-items files d, asked)
     (steps_hold files d (get (codes "steps") d) named)
 
-launch_made : (files : List Data) (n : ℕ) (d : Data) → launch_faults d ≡ [] → repeats d ≡ false → is_misnamed d ≡ false → is_launch (launch_of files n d).launch ≡ true
-launch_made files n (table ms) e single named =
-    let good = good_launch ms e in
+launch_made : (v : FormatVersion) (files : List Data) (n : ℕ) (d : Data) → launch_faults v d ≡ [] → repeats d ≡ false → is_misnamed d ≡ false → is_launch (launch_of v files n d).launch ≡ true
+launch_made v files n (table ms) e single named =
+    let good = good_launch v ms e in
     let rest = good.launch.1.1.1.1.1.1.1.1.1.1.1.1.1.1 in
     let once = holds (kinds_once (array_at (codes "item") (table ms))) (neither (share_names (array_at (codes "item") (table ms))) _ single).1 in
-    is_made files n (table ms) (few_regions (codes "ram") Optional 64 _ rest.0) (few_tables (codes "item") Optional 64 _ rest.1.0) (few_tables (codes "rec") Optional 1024 _ rest.1.1.0) once good.asked named
-launch_made files n d e single named = is_made files n d (omega arith) (omega arith) (omega arith) refl refl named
+    is_made v files n (table ms) (few_regions (codes "ram") Optional 64 _ rest.0) (few_tables (codes "item") Optional 64 _ rest.1.0) (few_tables (codes "rec") Optional 1024 _ rest.1.1.0) once good.asked named
+launch_made v files n d e single named = is_made v files n d (omega arith) (omega arith) (omega arith) refl refl named
 
-launches_made : (files : List Data) (n : ℕ) (ds : List Data) → flat_map launch_faults ds ≡ [] → list_any repeats ds ≡ false → list_any is_misnamed ds ≡ false
-    → list_all (λ (l : NamedData). is_launch l.launch) (launches_from files n ds) ≡ true
-launches_made files n [] e single named = refl
-launches_made files n (d ∷ ds) e single named =
-    let parts = empty_parts (launch_faults d) (flat_map launch_faults ds) e in
+launches_made : (v : FormatVersion) (files : List Data) (n : ℕ) (ds : List Data) → flat_map (launch_faults v) ds ≡ [] → list_any repeats ds ≡ false → list_any is_misnamed ds ≡ false
+    → list_all (λ (l : NamedData). is_launch l.launch) (launches_from v files n ds) ≡ true
+launches_made v files n [] e single named = refl
+launches_made v files n (d ∷ ds) e single named =
+    let parts = empty_parts (launch_faults v d) (flat_map (launch_faults v) ds) e in
     let each = neither (repeats d) (list_any repeats ds) single in
     let fits = neither (is_misnamed d) (list_any is_misnamed ds) named in
-    rw (launch_made files n d parts.0 each.0 fits.0) (launches_made files (n + 1) ds parts.1 each.1 fits.1)
+    rw (launch_made v files n d parts.0 each.0 fits.0) (launches_made v files (n + 1) ds parts.1 each.1 fits.1)
 
 -- where the type has all launches, their steps fit
-launches_named : (files : List Data) (n : ℕ) (ds : List Data) → list_all (λ (l : NamedData). is_launch l.launch) (launches_from files n ds) ≡ true → list_any is_misnamed ds ≡ false
+launches_named : (v : FormatVersion) (files : List Data) (n : ℕ) (ds : List Data) → list_all (λ (l : NamedData). is_launch l.launch) (launches_from v files n ds) ≡ true → list_any is_misnamed ds ≡ false
 unfolding is_launch
-launches_named files n [] e = refl
-launches_named files n (d ∷ ds) e =
-    let parts = both (is_launch (launch_of files n d).launch) (list_all (λ (l : NamedData). is_launch l.launch) (launches_from files (n + 1) ds)) e in
-    let fits = (both _ (steps_fit (launch_of files n d).launch) parts.0).1 in
-    rw (steps_named files d (get (codes "steps") d) fits) (launches_named files (n + 1) ds parts.1)
+launches_named v files n [] e = refl
+launches_named v files n (d ∷ ds) e =
+    let parts = both (is_launch (launch_of v files n d).launch) (list_all (λ (l : NamedData). is_launch l.launch) (launches_from v files (n + 1) ds)) e in
+    let fits = (both _ (steps_fit (launch_of v files n d).launch) parts.0).1 in
+    rw (steps_named files d (get (codes "steps") d) fits) (launches_named v files (n + 1) ds parts.1)
 
 -- what the reader of all launches answers
 pub all_read : (ms : Members) (ls : List NamedData) → all_made (launches_of ms) ≡ Ok ls → (ls ≡ launches_of ms) × (list_any is_misnamed (launches_at ms) ≡ false)
@@ -101,7 +103,7 @@ all_read ms ls e = go (list_all (λ (l : NamedData). is_launch l.launch) (launch
   where
     go : (b : Bool) → list_all (λ (l : NamedData). is_launch l.launch) (launches_of ms) ≡ b → cond b (Ok (launches_of ms)) (Err BadStep) ≡ Ok ls
         → (ls ≡ launches_of ms) × (list_any is_misnamed (launches_at ms) ≡ false)
-    go true t h = let same : ls ≡ launches_of ms = cc in (same, launches_named (files_at ms) 0 (launches_at ms) t)
+    go true t h = let same : ls ≡ launches_of ms = cc in (same, launches_named (version_at ms) (files_at ms) 0 (launches_at ms) t)
     go false t h = cc
 
 pub all_refused : (ms : Members) (f : ManifestFault) → lowest (manifest_faults ms) ≡ None → has_two_names ms ≡ false → all_made (launches_of ms) ≡ Err f
@@ -121,17 +123,17 @@ all_refused ms f e single refused = go (list_any is_misnamed (launches_at ms)) r
     go : (b : Bool) → list_any is_misnamed (launches_at ms) ≡ b → (f ≡ BadStep) × (b ≡ true)
     go true t = (fault (list_all (λ (l : NamedData). is_launch l.launch) (launches_of ms)) refused, refl)
     go false t =
-        let all : list_all (λ (l : NamedData). is_launch l.launch) (launches_of ms) ≡ true = launches_made (files_at ms) 0 (launches_at ms) good.launches once t in
+        let all : list_all (λ (l : NamedData). is_launch l.launch) (launches_of ms) ≡ true = launches_made (version_at ms) (files_at ms) 0 (launches_at ms) good.launches once t in
         let made_all : all_made (launches_of ms) ≡ Ok (launches_of ms) = rw all refl in
         cc
 
 -- ---- one launch, as the program makes it
 
-pub parts_read : (files : List Data) (n : ℕ) (d : Data) (config : Config) (ram : List Region) (items : List Item) (recs : List Rec) (steps : List Step) (o : Option LaunchData)
-    → config ≡ config_of d → ram ≡ ram_of d → items ≡ items_of files d → recs ≡ recs_of d → steps ≡ steps_in (length ram) (array_at (codes "item") d) items (length recs) (get (codes "steps") d)
+pub parts_read : (v : FormatVersion) (files : List Data) (n : ℕ) (d : Data) (config : Config) (ram : List Region) (items : List Item) (recs : List Rec) (steps : List Step) (o : Option LaunchData)
+    → config ≡ config_of v d → ram ≡ ram_of d → items ≡ items_of files d → recs ≡ recs_of d → steps ≡ steps_in (length ram) (array_at (codes "item") d) items (length recs) (get (codes "steps") d)
     → (let l : LaunchData = record { number = n; config = config; ram = ram; items = items; recs = recs; steps = steps } in o ≡ cond (is_launch l) (Some l) None)
-    → o ≡ cond (is_launch (launch_of files n d).launch) (Some (launch_of files n d).launch) None
-parts_read files n d config ram items recs steps o config_is ram_is items_is recs_is steps_is e = rw (steps_is, config_is, ram_is, items_is, recs_is) at e
+    → o ≡ cond (is_launch (launch_of v files n d).launch) (Some (launch_of v files n d).launch) None
+parts_read v files n d config ram items recs steps o config_is ram_is items_is recs_is steps_is e = rw (steps_is, config_is, ram_is, items_is, recs_is) at e
 
 pub some_made : (l : NamedData) (name : List ℕ) (x : LaunchData) (o : Option LaunchData) → name ≡ l.name → o ≡ cond (is_launch l.launch) (Some l.launch) None → o ≡ Some x
     → made l ≡ Ok (record { name = name; launch = x })
@@ -172,23 +174,23 @@ and_false : (b : Bool) → (b && false) ≡ false
 and_false true = refl
 and_false false = refl
 
-not_all : (files : List Data) (n : ℕ) (vs : List Value) (i : ℕ) (v : Value) → i < length vs → v ≡ get_or vs i v → is_launch (launch_of files (n + i) (view v)).launch ≡ false
-    → list_all (λ (l : NamedData). is_launch l.launch) (launches_from files n (map view vs)) ≡ false
-not_all files n [] i v h at e = absurd (omega arith)
-not_all files n (w ∷ vs) zero v h at e =
+not_all : (version : FormatVersion) (files : List Data) (n : ℕ) (vs : List Value) (i : ℕ) (v : Value) → i < length vs → v ≡ get_or vs i v → is_launch (launch_of version files (n + i) (view v)).launch ≡ false
+    → list_all (λ (l : NamedData). is_launch l.launch) (launches_from version files n (map view vs)) ≡ false
+not_all version files n [] i v h at e = absurd (omega arith)
+not_all version files n (w ∷ vs) zero v h at e =
     let place : n + 0 ≡ n = omega arith in
-    let first : is_launch (launch_of files n (view w)).launch ≡ false = ap (λ u. is_launch (launch_of files n (view u)).launch) (sym at) ∙ ap (λ k. is_launch (launch_of files k (view v)).launch) (sym place) ∙ e in
+    let first : is_launch (launch_of version files n (view w)).launch ≡ false = ap (λ u. is_launch (launch_of version files n (view u)).launch) (sym at) ∙ ap (λ k. is_launch (launch_of version files k (view v)).launch) (sym place) ∙ e in
     rw first refl
-not_all files n (w ∷ vs) (suc i) v h at e =
+not_all version files n (w ∷ vs) (suc i) v h at e =
     let place : n + 1 + i ≡ n + suc i = omega arith in
-    rw (not_all files (n + 1) vs i v (omega arith) at (ap (λ k. is_launch (launch_of files k (view v)).launch) place ∙ e)) (and_false _)
+    rw (not_all version files (n + 1) vs i v (omega arith) at (ap (λ k. is_launch (launch_of version files k (view v)).launch) place ∙ e)) (and_false _)
 
-pub one_not_made : (files : List Data) (vs : List Value) (i : ℕ) (v : Value) (f : ManifestFault) → i < length vs → v ≡ get_or vs i v → made (launch_of files i (view v)) ≡ Err f
-    → all_made (launches_from files 0 (map view vs)) ≡ Err f
-one_not_made files vs i v f h at e = go (is_launch (launch_of files i (view v)).launch) refl e
+pub one_not_made : (version : FormatVersion) (files : List Data) (vs : List Value) (i : ℕ) (v : Value) (f : ManifestFault) → i < length vs → v ≡ get_or vs i v → made (launch_of version files i (view v)) ≡ Err f
+    → all_made (launches_from version files 0 (map view vs)) ≡ Err f
+one_not_made version files vs i v f h at e = go (is_launch (launch_of version files i (view v)).launch) refl e
   where
-    go : (b : Bool) → is_launch (launch_of files i (view v)).launch ≡ b → cond b (Ok (launch_of files i (view v))) (Err BadStep) ≡ Err f → all_made (launches_from files 0 (map view vs)) ≡ Err f
+    go : (b : Bool) → is_launch (launch_of version files i (view v)).launch ≡ b → cond b (Ok (launch_of version files i (view v))) (Err BadStep) ≡ Err f → all_made (launches_from version files 0 (map view vs)) ≡ Err f
     go true t same = cc
     go false t same =
         let place : 0 + i ≡ i = omega arith in
-        rw (not_all files 0 vs i v h at (ap (λ k. is_launch (launch_of files k (view v)).launch) place ∙ t)) (let fault : BadStep ≡ f = cc in ap Err fault)
+        rw (not_all version files 0 vs i v h at (ap (λ k. is_launch (launch_of version files k (view v)).launch) place ∙ t)) (let fault : BadStep ≡ f = cc in ap Err fault)

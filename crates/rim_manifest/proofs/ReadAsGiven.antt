@@ -15,6 +15,9 @@ use Rattle.hex.proofs.HexLemmas.{IsOk-decode_sized}
 use Rattle.toml.specs.Data.{Data, string, integer, boolean, array, table, Items, no_items, item, Members, at, get, get_item, get_member}
 use Rattle.rim_desc.specs.Page.{zeros}
 use Rattle.rim_desc.specs.declared.measurement.Algo.TheVariants.{Sha256, Sha512}
+use Rattle.rim_desc.specs.declared.rule.RecRule.{RecRule}
+use Rattle.rim_desc.specs.declared.rule.RecRule.TheVariants.{All, Runnable}
+use Rattle.rim_launch.specs.declared.rec.Rec.{Rec}
 use Rattle.rim_manifest.specs.declared.fault.ManifestFault.{ManifestFault}
 use Rattle.rim_manifest.specs.declared.fault.ManifestFault.TheVariants.{BadStep, NoSuchFile, TwoNames}
 use Rattle.rim_manifest.specs.declared.form.Form.TheVariants as form
@@ -22,7 +25,7 @@ use Rattle.rim_manifest.specs.declared.form.Presence.{Presence}
 use Rattle.rim_manifest.specs.declared.form.Presence.TheVariants.{Required, Optional}
 use Rattle.rim_manifest.specs.Faults.{fault_if, lowest}
 use Rattle.rim_manifest.specs.Forms.{is_pool_base, is_range, is_range_pair, is_table, items_in, items_list}
-use Rattle.rim_manifest.specs.Given.{EachGives, FillsWord, GivesBootargs, GivesBytes, GivesFile, GivesItem, GivesKind, GivesMeasured, GivesNumber, GivesPath, GivesRec, GivesRegion, GivesSize, GivesSteps, GivesTruth, GivesWord, GivesWords, IsGiven, SpellsWord, role_text}
+use Rattle.rim_manifest.specs.Given.{EachGives, FillsWord, GivesBootargs, GivesBytes, GivesFile, GivesItem, GivesKind, GivesMeasured, GivesNumber, GivesPath, GivesRec, GivesRegion, GivesRule, GivesSize, GivesSteps, GivesTruth, GivesWord, GivesWords, HasItsRule, IsGiven, SpellsWord, role_text}
 use Rattle.rim_manifest.specs.Launches.{ReleaseData, config_of, items_of, ram_of, recs_of, launch_of, launches_from, rec_of, region_in, region_of}
 use Rattle.rim_manifest.specs.Values.{algorithm_in, array_at, base_in, digits_in, number_in, text_in, truth_in, whole_in, word_at, word_in, words_in}
 use Rattle.rim_manifest.specs.Words.{are_digits, hex_number, is_word, word_of}
@@ -38,9 +41,13 @@ use Rattle.rim_launch.specs.declared.item.Role.{Role}
 use Rattle.rim_launch.specs.declared.item.Role.TheVariants.{Kernel, Initrd, Dtb, Raw, Unknown}
 use Rattle.rim_manifest.specs.Items.{bootargs_in, item_of, kind_of, measured_for, size_for, size_in}
 use Rattle.rim_manifest.specs.Names.{file_at, has_file, is_named, lacks_file, lacks_its_file, name_of, needs_file, role_at, role_of_word}
-use Rattle.rim_manifest.specs.Rules.{dtb_rules, file_rules, item_rules, rec_rules, unknown_rules}
-use Rattle.rim_manifest.proofs.TablesWithoutFaults.{all_tables, both, each_value, empty_parts, few_regions, good_launch, good_top, good_value, holds, neither, not_faulty, not_given}
+use Rattle.rim_manifest.specs.Rules.{added_rules, dtb_rules, file_rules, item_rules, launch_rules, launch_rules_2, rec_rules, unknown_rules}
+use Rattle.rim_manifest.specs.Versions.{is_not_runnable, lacks_rule, rule_for, rule_in, launch_rules_in, version_at}
+use Rattle.rim_manifest.specs.declared.version.FormatVersion.{FormatVersion}
+use Rattle.rim_manifest.specs.declared.version.FormatVersion.TheVariants.{One, Two}
+use Rattle.rim_manifest.proofs.TablesWithoutFaults.{all_first, all_tables, both, each_value, empty_parts, few_regions, good_launch, good_top, good_value, holds, neither, not_faulty, not_given}
 use Rattle.rim_manifest.proofs.ItemsFromTables.{found_there, role_of-kind}
+use Rattle.rim_manifest.proofs.FaultsInTurn.{list_any_map}
 use Rattle.rim_manifest.proofs.LowestFault.{none_noted}
 use Rattle.rim_manifest.proofs.SameRegions.{reads_as}
 use Rattle.rim_desc.specs.Measurement.{algo_word}
@@ -109,6 +116,38 @@ base_given key p None e = refl
 base_given key p (Some (integer (pos n))) e = base_picked (is_pool_base n) n (good_value form.PoolBase (integer (pos n)) e).within
 base_given key p (Some (integer (negsuc n))) e = absurd (true≢false (sym (good_value form.PoolBase (integer (negsuc n)) e).within))
 base_given key p (Some d) e = absurd (true≢false (sym (good_value form.PoolBase d e).kind))
+
+-- one of the two words
+rule_is : (s : List ℕ) (a b : Bool) → bytes_eq s (codes "all") ≡ a → bytes_eq s (codes "runnable") ≡ b → (a || b) ≡ true
+    → GivesRule Two (Some (string s)) (cond a (Some All) (cond b (Some Runnable) None))
+rule_is s true b all runnable e = ap string ((bytes_eq-Decides s (codes "all")).0 all)
+rule_is s false true all runnable e = ap string ((bytes_eq-Decides s (codes "runnable")).0 runnable)
+rule_is s false false all runnable e = cc
+
+rule_given : (key : List ℕ) (p : Presence) (o : Option Data) → cell_faults (record { key = key; form = form.RecRule; presence = p }) o ≡ [] → GivesRule Two o (rule_in o)
+rule_given key p None e = tt
+rule_given key p (Some (string s)) e = rule_is s (bytes_eq s (codes "all")) (bytes_eq s (codes "runnable")) refl refl (good_value form.RecRule (string s) e).within
+rule_given key p (Some d) e = absurd (true≢false (sym (good_value form.RecRule d e).kind))
+
+-- version 1 gives none, since its launches have no such key
+rule_given_in : (v : FormatVersion) (ms : Members) → table_faults (launch_rules_in v) ms ≡ [] → GivesRule v (get_member (codes "rec_rule") ms) (rule_for v (get_member (codes "rec_rule") ms))
+rule_given_in One ms e = (not_given launch_rules (codes "rec_rule") ms refl e, refl)
+rule_given_in Two ms e = rule_given (codes "rec_rule") Optional (get_member (codes "rec_rule") ms) (all_first (λ r. rule_faults r ms ≡ []) launch_rules added_rules (each_value launch_rules_2 ms e)).1.0
+
+has_rule : (b : Bool) (o : Option Data) (rule : Option RecRule) → GivesRule Two o rule → (b && not (is_some o)) ≡ false → b ≡ true → IsSome rule
+has_rule true (Some d) (Some rule) gives e any = refl
+has_rule true (Some d) None gives e any = absurd gives
+has_rule true None rule gives e any = cc
+has_rule false o rule gives e any = cc
+
+-- what is said of the RECs' tables is said of the RECs
+none_without : (v : FormatVersion) (files : List Data) (n : ℕ) (ms : Members) → table_faults (launch_rules_in v) ms ≡ [] → lacks_rule v (table ms) ≡ false
+    → HasItsRule v (launch_of v files n (table ms)).launch
+unfolding config_of
+none_without One files n ms own ruled = tt
+none_without Two files n ms own ruled = λ any.
+    has_rule (list_any is_not_runnable (array_at (codes "rec") (table ms))) (get_member (codes "rec_rule") ms) (rule_in (get_member (codes "rec_rule") ms)) (rule_given_in Two ms own) ruled
+    (sym (list_any_map (λ (r : Rec). not r.runnable) rec_of (array_at (codes "rec") (table ms))) ∙ any)
 
 -- ---- regions
 
@@ -364,11 +403,11 @@ module _ (files : List Data) (tables : list_all is_table files ≡ true) (good :
       (item_given d shapes.0 parts.0 found.0, items_given ds shapes.1 parts.1 found.1)
 
   -- the steps, given or not
-  steps_given : (d : Data) (n : ℕ) (key : List ℕ) (p : Presence) (o : Option Data) → length (array_at (codes "ram") d) ≤ 64
+  steps_given : (v : FormatVersion) (d : Data) (n : ℕ) (key : List ℕ) (p : Presence) (o : Option Data) → length (array_at (codes "ram") d) ≤ 64
       → cell_faults (record { key = key; form = form.Texts; presence = p }) o ≡ [] → misnames d o ≡ false
-      → GivesSteps (array_at (codes "item") d) o (record (launch_of files n d).launch { steps = steps_in (length (ram_of d)) (array_at (codes "item") d) (items_of files d) (length (recs_of d)) o })
-  steps_given d n key p None few e fits = refl
-  steps_given d n key p (Some (array ds)) few e fits =
+      → GivesSteps (array_at (codes "item") d) o (record (launch_of v files n d).launch { steps = steps_in (length (ram_of d)) (array_at (codes "item") d) (items_of files d) (length (recs_of d)) o })
+  steps_given v d n key p None few e fits = refl
+  steps_given v d n key p (Some (array ds)) few e fits =
       let items = array_at (codes "item") d in
       let regions = length (array_at (codes "ram") d) in
       let recs = length (array_at (codes "rec") d) in
@@ -376,14 +415,15 @@ module _ (files : List Data) (tables : list_all is_table files ≡ true) (good :
       let named = first_of_four (list_all (names_something regions (length items) recs) steps) (each_once part.Ram steps regions) (each_once part.Item steps (length items)) (each_once part.Rec steps recs)
       (holds (steps_complete regions (length items) recs steps) fits) in
       texts_given items regions (length items) recs (items_list ds) few (good_value form.Texts (array ds) e).kind named
-  steps_given d n key p (Some d') few e fits = absurd (true≢false (sym (good_value form.Texts d' e).kind))
+  steps_given v d n key p (Some d') few e fits = absurd (true≢false (sym (good_value form.Texts d' e).kind))
 
   -- ---- launches
 
-  launch_given : (n : ℕ) (d : Data) → is_table d ≡ true → launch_faults d ≡ [] → lacks_file files d ≡ false → is_misnamed d ≡ false → IsGiven files d (launch_of files n d)
+  launch_given : (v : FormatVersion) (n : ℕ) (d : Data) → is_table d ≡ true → launch_faults v d ≡ [] → lacks_file files d ≡ false → is_misnamed d ≡ false
+      → IsGiven v files d (launch_of v files n d)
   unfolding config_of
-  launch_given n (table ms) t e found fits =
-      let whole = good_launch ms e in
+  launch_given v n (table ms) t e found fits =
+      let whole = good_launch v ms e in
       let each = whole.launch in
       let rest = each.1.1.1.1.1.1.1.1.1.1.1.1 in
       record {
@@ -399,29 +439,31 @@ module _ (files : List Data) (tables : list_all is_table files ≡ true) (good :
         rpv = bytes_given (codes "rpv") Optional _ each.1.1.1.1.1.1.1.1.1.0;
         block_level = number_given (codes "block_level") Optional 0 3 2 _ each.1.1.1.1.1.1.1.1.1.1.0;
         num_aux = number_given (codes "num_aux") Optional 0 16 0 _ each.1.1.1.1.1.1.1.1.1.1.1.0;
+        rec_rule = rule_given_in v ms whole.own;
         pool_base = base_given (codes "pool_base") Optional _ rest.0;
         pool_count = number_given (codes "pool_count") Optional 1 16777216 16777216 _ rest.1.0;
         ram = regions_given (codes "ram") Optional 64 _ rest.1.1.0;
         items = items_given (array_at (codes "item") (table ms)) (all_tables (codes "item") Optional 64 (get_member (codes "item") ms) rest.1.1.1.0) whole.items found;
         recs = tables_given GivesRec rec_of (ruled_faults rec_rules) rec_given (array_at (codes "rec") (table ms)) (all_tables (codes "rec") Optional 1024 (get_member (codes "rec") ms) rest.1.1.1.1.0) whole.recs;
-        steps = steps_given (table ms) n (codes "steps") Optional (get_member (codes "steps") ms) (few_regions (codes "ram") Optional 64 _ rest.1.1.0) rest.1.1.1.1.1.0 fits;
+        ruled = none_without v files n ms whole.own whole.ruled;
+        steps = steps_given v (table ms) n (codes "steps") Optional (get_member (codes "steps") ms) (few_regions (codes "ram") Optional 64 _ rest.1.1.0) rest.1.1.1.1.1.0 fits;
       }
-  launch_given n _ t e found fits = cc
+  launch_given v n _ t e found fits = cc
 
-  launches_given : (n : ℕ) (ds : List Data) → list_all is_table ds ≡ true → flat_map launch_faults ds ≡ [] → list_any (lacks_file files) ds ≡ false → list_any is_misnamed ds ≡ false
-      → EachGives (IsGiven files) ds (launches_from files n ds)
-  launches_given n [] t e found fits = tt
-  launches_given n (d ∷ ds) t e found fits =
+  launches_given : (v : FormatVersion) (n : ℕ) (ds : List Data) → list_all is_table ds ≡ true → flat_map (launch_faults v) ds ≡ [] → list_any (lacks_file files) ds ≡ false → list_any is_misnamed ds ≡ false
+      → EachGives (IsGiven v files) ds (launches_from v files n ds)
+  launches_given v n [] t e found fits = tt
+  launches_given v n (d ∷ ds) t e found fits =
       let shapes = both (is_table d) (list_all is_table ds) t in
-      let parts = empty_parts (launch_faults d) (flat_map launch_faults ds) e in
+      let parts = empty_parts (launch_faults v d) (flat_map (launch_faults v) ds) e in
       let each = neither (lacks_file files d) (list_any (lacks_file files) ds) found in
       let steps = neither (is_misnamed d) (list_any is_misnamed ds) fits in
-      (launch_given n d shapes.0 parts.0 each.0 steps.0, launches_given (n + 1) ds shapes.1 parts.1 each.1 steps.1)
+      (launch_given v n d shapes.0 parts.0 each.0 steps.0, launches_given v (n + 1) ds shapes.1 parts.1 each.1 steps.1)
 
 -- ---- the document
 
 abbrev AllGiven : Members → ReleaseData → Type 0
-AllGiven ms r = EachGives GivesPath (files_at ms) r.paths × EachGives (IsGiven (files_at ms)) (launches_at ms) r.launches
+AllGiven ms r = EachGives GivesPath (files_at ms) r.paths × EachGives (IsGiven (version_at ms) (files_at ms)) (launches_at ms) r.launches
 
 faultless : (ms : Members) → manifest_faults ms ≡ [] → name_faults ms ≡ [] → AllGiven ms (release_of ms)
 unfolding name_faults
@@ -433,7 +475,7 @@ faultless ms e named =
     let steps = not_faulty (has_bad_steps (launches_at ms)) BadStep (empty_parts (fault_if (has_no_file ms) NoSuchFile) _ after_names).1 in
     let fits = (neither (list_any is_miscounted (launches_at ms)) (list_any is_misnamed (launches_at ms)) steps).1 in (
       tables_given GivesPath path_of (ruled_faults file_rules) path_given (files_at ms) files good.files,
-      launches_given (files_at ms) files good.files 0 (launches_at ms) (all_tables (codes "launch") Optional 1024 (get_member (codes "launch") ms) good.top.1.0) good.launches found fits,
+      launches_given (files_at ms) files good.files (version_at ms) 0 (launches_at ms) (all_tables (codes "launch") Optional 1024 (get_member (codes "launch") ms) good.top.1.0) good.launches found fits,
     )
 
 pub accepted_as_given : (ms : Members) (r : ReleaseData) → read_of ms ≡ Ok r → AllGiven ms r

@@ -14,17 +14,24 @@ use Rattle.rim_manifest.specs.declared.form.Form.TheVariants as form
 use Rattle.rim_manifest.specs.declared.form.Presence.{Presence}
 use Rattle.rim_manifest.specs.Faults.{fault_if}
 use Rattle.rim_manifest.specs.Forms.{has_kind, is_over, is_table, is_within, items_in, items_list}
-use Rattle.rim_manifest.specs.Manifest.{files_at, has_version, item_faults, launch_faults, launches_at, manifest_faults}
+use Rattle.rim_manifest.specs.Manifest.{files_at, item_faults, launch_faults, launches_at, manifest_faults}
 use Rattle.rim_manifest.specs.Names.{has_asked}
 use Rattle.rim_manifest.specs.Values.{array_at}
 use Rattle.rim_manifest.specs.Checks.{cell_faults, has_unknown_key, is_known, rule_faults, ruled_faults, table_faults, value_faults}
-use Rattle.rim_manifest.specs.Rules.{Rule, file_rules, launch_rules, rec_rules, top_rules}
+use Rattle.rim_manifest.specs.Rules.{Rule, added_rules, file_rules, launch_rules, launch_rules_2, rec_rules, top_rules}
+use Rattle.rim_manifest.specs.Versions.{has_version, lacks_rule, launch_rules_in, version_at}
+use Rattle.rim_manifest.specs.declared.version.FormatVersion.{FormatVersion}
+use Rattle.rim_manifest.specs.declared.version.FormatVersion.TheVariants.{One, Two}
 
 -- ---- lists of faults that are empty
 
 pub empty_parts : {X : Type 0} (xs ys : List X) → xs ++ ys ≡ [] → (xs ≡ []) × (ys ≡ [])
 empty_parts [] ys e = (refl, e)
 empty_parts (x ∷ xs) ys e = cc
+
+pub all_first : {X : Type 0} (P : X → Type 0) (xs ys : List X) → AllByRecursion P (xs ++ ys) → AllByRecursion P xs × AllByRecursion P ys
+all_first P [] ys e = (tt, e)
+all_first P (x ∷ xs) ys e = let rest = all_first P xs ys e.1 in ((e.0, rest.0), rest.1)
 
 pub each_empty : {X Y : Type 0} (f : X → List Y) (xs : List X) → flat_map f xs ≡ [] → AllByRecursion (λ x. f x ≡ []) xs
 each_empty f [] e = tt
@@ -112,7 +119,7 @@ not_given rs k ms other e =
 pub record TopIsGood (ms : Members) : Type 0 where
   pub top : AllByRecursion (λ r. rule_faults r ms ≡ []) top_rules
   pub files : flat_map (ruled_faults file_rules) (files_at ms) ≡ []
-  pub launches : flat_map launch_faults (launches_at ms) ≡ []
+  pub launches : flat_map (launch_faults (version_at ms)) (launches_at ms) ≡ []
 
 pub good_top : (ms : Members) → manifest_faults ms ≡ [] → TopIsGood ms
 unfolding manifest_faults
@@ -122,21 +129,31 @@ good_top ms e =
     let after_files = empty_parts (flat_map (ruled_faults file_rules) (files_at ms)) _ after_top.1 in
     record { top = each_value top_rules ms after_top.0; files = after_files.0; launches = after_files.1 }
 
-pub record LaunchIsGood (ms : Members) : Type 0 where
+-- the keys of version 1 are in both versions
+rules_of_both : (v : FormatVersion) (ms : Members) → table_faults (launch_rules_in v) ms ≡ [] → AllByRecursion (λ r. rule_faults r ms ≡ []) launch_rules
+rules_of_both One ms e = each_value launch_rules ms e
+rules_of_both Two ms e = (all_first (λ r. rule_faults r ms ≡ []) launch_rules added_rules (each_value launch_rules_2 ms e)).0
+
+pub record LaunchIsGood (v : FormatVersion) (ms : Members) : Type 0 where
+  pub own : table_faults (launch_rules_in v) ms ≡ []
   pub launch : AllByRecursion (λ r. rule_faults r ms ≡ []) launch_rules
   pub items : flat_map item_faults (array_at (codes "item") (table ms)) ≡ []
   pub recs : flat_map (ruled_faults rec_rules) (array_at (codes "rec") (table ms)) ≡ []
   pub asked : has_asked (table ms) ≡ true
+  pub ruled : lacks_rule v (table ms) ≡ false
 
-pub good_launch : (ms : Members) → launch_faults (table ms) ≡ [] → LaunchIsGood ms
+pub good_launch : (v : FormatVersion) (ms : Members) → launch_faults v (table ms) ≡ [] → LaunchIsGood v ms
 unfolding launch_faults
-good_launch ms e =
-    let after_table = empty_parts (table_faults launch_rules ms) _ e in
+good_launch v ms e =
+    let after_table = empty_parts (table_faults (launch_rules_in v) ms) _ e in
     let after_items = empty_parts (flat_map item_faults (array_at (codes "item") (table ms))) _ after_table.1 in
     let after_recs = empty_parts (flat_map (ruled_faults rec_rules) (array_at (codes "rec") (table ms))) _ after_items.1 in
+    let after_asked = empty_parts (fault_if (not (has_asked (table ms))) MissingKey) _ after_recs.1 in
     record {
-      launch = each_value launch_rules ms after_table.0;
+      own = after_table.0;
+      launch = rules_of_both v ms after_table.0;
       items = after_items.0;
       recs = after_recs.0;
-      asked = holds (has_asked (table ms)) (not_faulty (not (has_asked (table ms))) MissingKey after_recs.1);
+      asked = holds (has_asked (table ms)) (not_faulty (not (has_asked (table ms))) MissingKey after_asked.0);
+      ruled = not_faulty (lacks_rule v (table ms)) MissingKey after_asked.1;
     }

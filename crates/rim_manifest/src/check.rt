@@ -126,7 +126,7 @@ fn check_value(
 }
 
 /// A fault of the value at a key, or that the key is not given.
-fn at_key(key: &'static str, form: Form, place: Place, fault: ManifestFault) -> Finding
+pub fn at_key(key: &'static str, form: Form, place: Place, fault: ManifestFault) -> Finding
     ensures { result.fault ≡ fault }
 {
     Finding {

@@ -7,13 +7,17 @@ ghost use Rattle.rim_manifest.specs.Faults.{lowest};
 ghost use Rattle.rim_manifest.specs.Found.{IsChecked};
 ghost use Rattle.rim_manifest.specs.Manifest.{document_of, manifest_faults};
 ghost use Rattle.rim_manifest.specs.Places.{table_at, table_of};
+ghost use Rattle.rim_manifest.specs.Rules.{rule_of};
+ghost use Rattle.rim_manifest.specs.Versions.{launch_rules_in, version_at};
 ghost use Rattle.rim_manifest.specs.inside.Findings.{faults_in};
 
 use crate::fault::ManifestFault;
 use crate::finding::{Finding, Findings, Place, Subject, lowest};
+use crate::form::Rule;
 use crate::manifest::{Release, entries, find_faults, read_release};
 use crate::naming::find_names;
 use crate::value::array;
+use crate::version::{launch_rules, version};
 use refusal::NoMemory;
 use std::alloc::Global;
 use toml::de::Error;
@@ -60,6 +64,14 @@ impl Document {
             Ok(release) => Ok(Checked::Accepted(release)),
             Err(fault) => Ok(Checked::Refused(faults_of_names(alloc, &self.table, fault)?)),
         }
+    }
+
+    /// The keys of its launches, by its version.
+    pub fn launch_rules(&self) -> &'static [Rule]
+        ensures { map rule_of result.now
+            ≡ launch_rules_in (version_at (table_view self.now.table)) }
+    {
+        launch_rules(version(&self.table))
     }
 
     /// The table at a place, if it is there.

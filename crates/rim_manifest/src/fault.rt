@@ -14,13 +14,14 @@ use thiserror::Error;
 pub enum ManifestFault {
     /// The bytes are not UTF-8, or are no TOML document.
     Syntax,
-    /// `rim_manifest` is not given or is not the whole number 1.
+    /// `rim_manifest` is not given or is neither of the whole numbers 1 and 2.
     Version,
     /// A known key holds another kind of value.
     WrongKind,
     /// A table has a key that its format does not list.
     UnknownKey,
-    /// A required key is not given, or a devicetree asks for an initrd or for RAM that the launch has not.
+    /// A required key is not given, a devicetree asks for an initrd or for RAM that the launch has not, or in version 2 a
+    /// launch with a REC that is not runnable gives no `rec_rule`.
     MissingKey,
     /// A list is longer than its limit.
     Limit,

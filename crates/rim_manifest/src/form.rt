@@ -5,10 +5,10 @@ ghost use Rattle.hex.specs.Hex.{is_hex_digit};
 ghost use Rattle.toml.specs.View.{view};
 ghost use Rattle.rim_launch.specs.Texts.{has_no_zero};
 ghost use Rattle.rim_manifest.specs.Words.{is_word};
-ghost use Rattle.rim_manifest.specs.Forms.{has_kind, is_algorithm, is_base, is_integer, is_item_kind, is_name, is_name_byte, is_over, is_pair, is_range, is_range_pair, is_required, is_table, is_text, is_within, is_word_kind};
+ghost use Rattle.rim_manifest.specs.Forms.{has_kind, is_algorithm, is_base, is_integer, is_item_kind, is_name, is_name_byte, is_over, is_pair, is_range, is_range_pair, is_rec_rule, is_required, is_table, is_text, is_within, is_word_kind};
 
 use crate::word::is_word;
-use rim_desc::Algo;
+use rim_desc::{Algo, RecRule};
 use rim_launch::has_no_zero;
 use toml::Value;
 
@@ -18,7 +18,7 @@ pub const NAME_LIMIT: usize = 64;
 /// What a key may hold.
 #[derive(Clone, Copy, Debug)]
 pub enum Form {
-    /// The number of the format.
+    /// The number of the format: 1 or 2.
     Version,
     /// A name: 1 to 64 characters out of ASCII letters, digits, `.`, `_` and `-`.
     Name,
@@ -50,6 +50,8 @@ pub enum Form {
     Bootargs,
     /// An array of texts.
     Texts,
+    /// The word of a rule for RECs: `all` or `runnable`.
+    RecRule,
 }
 
 /// Whether a key has to be given.
@@ -79,6 +81,7 @@ pub fn has_kind(form: Form, value: &Value) -> bool
     match form {
         Form::Name | Form::Algorithm | Form::Digits { .. } => value.is_str(),
         Form::Text | Form::AnyText | Form::ItemKind | Form::Bootargs => value.is_str(),
+        Form::RecRule => value.is_str(),
         Form::Version | Form::Number { .. } | Form::PoolBase => value.is_integer(),
         Form::Truth => value.is_bool(),
         Form::Tables { .. } => match value {
@@ -120,6 +123,13 @@ fn is_algorithm(text: &str) -> bool
     text == Algo::Sha256.word() || text == Algo::Sha512.word()
 }
 
+/// Whether a text is the word of a rule for RECs.
+fn is_rec_rule(text: &str) -> bool
+    ensures { result ≡ is_rec_rule text.now }
+{
+    text == RecRule::All.word() || text == RecRule::Runnable.word()
+}
+
 /// Whether a value that is of a form's kind is in the form's range.
 pub fn is_within(form: Form, value: &Value) -> bool
     ensures { result ≡ is_within form (view value.now) }
@@ -134,6 +144,7 @@ pub fn is_within(form: Form, value: &Value) -> bool
         (Form::Text, Value::String(text)) => 1 <= text.len(),
         (Form::ItemKind, Value::String(text)) => is_item_kind(text.as_str()),
         (Form::Bootargs, Value::String(text)) => has_no_zero(text.as_bytes()),
+        (Form::RecRule, Value::String(text)) => is_rec_rule(text.as_str()),
         (Form::Regions { .. }, Value::Array(items)) => are_ranges(items.as_slice()),
         (Form::Word, value) => is_word(value),
         (Form::Words { .. }, Value::Array(items)) => are_words(items.as_slice()),

@@ -11,6 +11,7 @@ use crate::rec::read_recs;
 use crate::region::read_regions;
 use crate::step::read_steps;
 use crate::value::{algorithm, array, byte, digits, number, pool_base, text, truth};
+use crate::version::{FormatVersion, rec_rule};
 use rim_desc::AUX_LIMIT;
 use rim_launch::{Config, Launch, POOL_LIMIT};
 use rmm_model::{LEAST_WIDTH, MOST_WIDTH};
@@ -47,19 +48,20 @@ impl NamedLaunch {
     }
 }
 
-/// Reads the launch of this number from a table without faults, where the files are these. A launch that its
+/// Reads the launch of this number from a table without faults, in a manifest of this version, where the files are these. A launch that its
 /// type does not have is `BadStep`.
 pub fn read_launch(
     alloc: Global,
+    version: FormatVersion,
     files: &[Value],
     number: usize,
     table: &Value,
 ) -> Result<NamedLaunch, ManifestFault>
     ensures { Answers ManifestFault.NoMemory (λ l. l) result
-        (made (launch_of (map view files.now) number (view table.now))) }
+        (made (launch_of version (map view files.now) number (view table.now))) }
 {
     let name = String::from_str(alloc, text(table, "name"))?;
-    let config = read_config(table);
+    let config = read_config(version, table);
     let ram = read_regions(alloc, array(table, "ram"))?;
     let items = read_items(alloc, files, array(table, "item"))?;
     let recs = read_recs(alloc, array(table, "rec"))?;
@@ -71,8 +73,8 @@ pub fn read_launch(
 }
 
 #[tactic(auto, unfolding(crate::specs::Launches::config_of))]
-fn read_config(table: &Value) -> Config
-    ensures { result ≡ config_of (view table.now) }
+fn read_config(version: FormatVersion, table: &Value) -> Config
+    ensures { result ≡ config_of version (view table.now) }
 {
     Config {
         algo: algorithm(table, "algo"),
@@ -86,6 +88,7 @@ fn read_config(table: &Value) -> Config
         rpv: digits(table, "rpv"),
         block_level: byte(table, "block_level", 0, 3, 2),
         num_aux: byte(table, "num_aux", 0, AUX_LIMIT as u8, 0),
+        rec_rule: rec_rule(version, table),
         pool_base: pool_base(table, "pool_base"),
         pool_count: number(table, "pool_count", 1, POOL_LIMIT, POOL_LIMIT),
     }

@@ -19,6 +19,7 @@ mod region;
 mod rules;
 mod step;
 mod value;
+mod version;
 mod word;
 
 pub use check::cell;
@@ -30,8 +31,6 @@ pub use launch::NamedLaunch;
 pub use laws::{the_lowest_fault_is_answered, what_is_given_is_read};
 pub use manifest::{Release, entries, read_manifest};
 pub use names::{asks_for, name, role};
-pub use rules::{
-    DTB_RULES, FILE_RULES, ITEM_RULES, LAUNCH_RULES, REC_RULES, TOP_RULES, UNKNOWN_RULES,
-};
+pub use rules::{DTB_RULES, FILE_RULES, ITEM_RULES, REC_RULES, TOP_RULES, UNKNOWN_RULES};
 pub use value::items;
 pub use word::is_word;

@@ -7,31 +7,27 @@ ghost use Rattle.toml.specs.View.{table_view, view};
 ghost use Rattle.rim_manifest.specs.Faults.{lowest};
 ghost use Rattle.rim_manifest.specs.Launches.{AreNumbered, ReleaseData, launches_from};
 ghost use Rattle.rim_manifest.specs.Forms.{items_in};
-ghost use Rattle.rim_manifest.specs.Manifest.{all_made, has_version, item_faults, launch_faults, manifest_faults, manifest_of, name_in, named_of};
+ghost use Rattle.rim_manifest.specs.Manifest.{all_made, item_faults, launch_faults, manifest_faults, manifest_of, name_in, named_of};
 ghost use Rattle.rim_manifest.specs.StepTexts.{is_miscounted};
 ghost use Rattle.rim_manifest.specs.Names.{lacks_file, repeats, share_names};
 ghost use Rattle.rim_manifest.specs.inside.Findings.{kept, with_faults};
 
-use crate::check::{cell, check_ruled, check_table, check_tables};
+use crate::check::{at_key, cell, check_ruled, check_table, check_tables};
 use crate::fault::ManifestFault;
 use crate::file::read_paths;
 use crate::finding::{Array, Finding, Findings, Place, Subject, note_if};
 use crate::form::Form;
 use crate::launch::{NamedLaunch, read_launch};
 use crate::names::{has_asked, lacks_file, repeats, role, share_names};
-use crate::rules::{
-    DTB_RULES, FILE_RULES, ITEM_RULES, LAUNCH_RULES, REC_RULES, TOP_RULES, UNKNOWN_RULES,
-};
+use crate::rules::{DTB_RULES, FILE_RULES, ITEM_RULES, REC_RULES, TOP_RULES, UNKNOWN_RULES};
 use crate::step::is_miscounted;
 use crate::value::{array, items};
+use crate::version::{FormatVersion, has_version, lacks_rule, launch_rules, version};
 use refusal::NoMemory;
 use rim_launch::Role;
 use std::alloc::{AllocError, Global};
 use std::marker::Model;
 use toml::{Table, Value};
-
-/// The number of the format.
-const VERSION: i64 = 1;
 
 /// What a manifest describes: files by their paths, and launches. A launch's number is its place among them, and the
 /// files of its items are files of the release.
@@ -129,7 +125,7 @@ pub fn find_faults(table: &Table, found: &mut Findings) -> Result<(), NoMemory>
     ensures { OnOk result
         (kept found.new ≡ with_faults (kept found.old) (manifest_faults (table_view table.now))) }
 {
-    let version = Finding {
+    let other_version = Finding {
         place: Place::Top,
         subject: Subject::Key {
             key: "rim_manifest",
@@ -137,16 +133,10 @@ pub fn find_faults(table: &Table, found: &mut Findings) -> Result<(), NoMemory>
         },
         fault: ManifestFault::Version,
     };
-    note_if(found, !has_version(table), version)?;
+    note_if(found, !has_version(table), other_version)?;
     check_table(&TOP_RULES, Place::Top, table, found)?;
     check_tables(&FILE_RULES, Array::Files, entries(table, "file"), found)?;
-    check_launches(entries(table, "launch"), found)
-}
-
-fn has_version(table: &Table) -> bool
-    ensures { result ≡ has_version (get_member (codes "rim_manifest") (table_view table.now)) }
-{
-    matches!(cell(table, "rim_manifest"), Some(Value::Integer(x)) if *x == VERSION)
+    check_launches(version(table), entries(table, "launch"), found)
 }
 
 /// The values of the array at a key; none where it is not given.
@@ -159,28 +149,38 @@ pub fn entries<'a>(table: &'a Table, key: &str) -> &'a [Value]
     }
 }
 
-fn check_launches(launches: &[Value], found: &mut Findings) -> Result<(), NoMemory>
+fn check_launches(
+    version: FormatVersion,
+    launches: &[Value],
+    found: &mut Findings,
+) -> Result<(), NoMemory>
     ensures { OnOk result (kept found.new
-        ≡ with_faults (kept found.old) (flat_map (λ v. launch_faults (view v)) launches.now)) }
+        ≡ with_faults (kept found.old)
+        (flat_map (λ l. launch_faults version (view l)) launches.now)) }
 {
     for (number, launch) in launches.iter().enumerate() {
-        check_launch(number, launch, found)?;
+        check_launch(version, number, launch, found)?;
     }
     Ok(())
 }
 
-/// Adds the faults of a launch's table and of the tables of its items and RECs, and an edit without what it
-/// asks for.
+/// Adds the faults of a launch's table and of the tables of its items and RECs, an edit without what it asks
+/// for, and a REC without the rule that it asks for.
 #[tactic(auto, unfolding(crate::specs::Manifest::launch_faults))]
-fn check_launch(number: usize, launch: &Value, found: &mut Findings) -> Result<(), NoMemory>
-    ensures { OnOk result
-        (kept found.new ≡ with_faults (kept found.old) (launch_faults (view launch.now))) }
+fn check_launch(
+    version: FormatVersion,
+    number: usize,
+    launch: &Value,
+    found: &mut Findings,
+) -> Result<(), NoMemory>
+    ensures { OnOk result (kept found.new
+        ≡ with_faults (kept found.old) (launch_faults version (view launch.now))) }
 {
     let Value::Table(table) = launch else {
         return Ok(());
     };
     let place = Place::Launch { launch: number };
-    check_table(&LAUNCH_RULES, place, table, found)?;
+    check_table(launch_rules(version), place, table, found)?;
     check_items(number, array(launch, "item"), found)?;
     let recs = Array::Recs { launch: number };
     check_tables(&REC_RULES, recs, array(launch, "rec"), found)?;
@@ -189,7 +189,9 @@ fn check_launch(number: usize, launch: &Value, found: &mut Findings) -> Result<(
         subject: Subject::Asked,
         fault: ManifestFault::MissingKey,
     };
-    note_if(found, !has_asked(launch), asked)
+    note_if(found, !has_asked(launch), asked)?;
+    let no_rule = at_key("rec_rule", Form::RecRule, place, ManifestFault::MissingKey);
+    note_if(found, lacks_rule(version, launch), no_rule)
 }
 
 fn check_items(launch: usize, items: &[Value], found: &mut Findings) -> Result<(), NoMemory>
@@ -237,7 +239,7 @@ pub fn read_release(alloc: Global, table: &Table) -> Result<Release, ManifestFau
         return Err(ManifestFault::BadStep);
     }
     let paths = read_paths(alloc, files)?;
-    let launches = read_launches(alloc, files, launches)?;
+    let launches = read_launches(alloc, version(table), files, launches)?;
     Ok(Release { paths, launches })
 }
 
@@ -273,15 +275,19 @@ fn any_miscounted(launches: &[Value]) -> bool
 
 fn read_launches(
     alloc: Global,
+    version: FormatVersion,
     files: &[Value],
     tables: &[Value],
 ) -> Result<Vec<NamedLaunch>, ManifestFault>
     ensures { Answers ManifestFault.NoMemory (λ ls. ls.items) result
-        (all_made (launches_from (map view files.now) 0 (map view tables.now))) }
+        (all_made (launches_from version (map view files.now) 0 (map view tables.now))) }
 {
     let mut launches = Vec::with_capacity(alloc, tables.len())?;
     for (number, table) in tables.iter().enumerate() {
-        push(&mut launches, read_launch(alloc, files, number, table)?)?;
+        push(
+            &mut launches,
+            read_launch(alloc, version, files, number, table)?,
+        )?;
     }
     Ok(launches)
 }

@@ -31,8 +31,8 @@ pub const FILE_RULES: [Rule; 2] = [
     ("path", Form::Text, Required),
 ];
 
-/// The keys of a launch.
-pub const LAUNCH_RULES: [Rule; 18] = [
+/// The keys of a launch in version 2. Version 1 has all but the last.
+pub const LAUNCH_RULES: [Rule; 19] = [
     ("name", Form::Name, Required),
     ("algo", Form::Algorithm, Required),
     (
@@ -78,6 +78,7 @@ pub const LAUNCH_RULES: [Rule; 18] = [
         Optional,
     ),
     ("steps", Form::Texts, Optional),
+    ("rec_rule", Form::RecRule, Optional),
 ];
 
 /// A number: 0 to 2^63-1.

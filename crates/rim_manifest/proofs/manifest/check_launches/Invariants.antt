@@ -6,5 +6,5 @@ use Rattle.rim_manifest.specs.inside.Findings.{kept, with_faults}
 use Rattle.rim_manifest.proofs.manifest.check_launches.Given as goal
 
 abbrev pub invariant-loop-number : goal.invariant-loop-number
-invariant-loop-number l = with_faults (kept l.found) (flat_map (λ v. launch_faults (view v)) (drop l.number l.launches))
-    ≡ with_faults (kept l.initial.found) (flat_map (λ v. launch_faults (view v)) l.launches)
+invariant-loop-number l = with_faults (kept l.found) (flat_map (λ d. launch_faults l.version (view d)) (drop l.number l.launches))
+    ≡ with_faults (kept l.initial.found) (flat_map (λ d. launch_faults l.version (view d)) l.launches)

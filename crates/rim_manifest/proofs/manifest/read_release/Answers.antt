@@ -6,6 +6,8 @@ use Rattle.toml.specs.Data.{Data, Members}
 use Rattle.toml.specs.View.{table_view, view}
 use Rattle.toml.specs.declared.value.Value.{Value}
 use Rattle.rim_manifest.specs.Launches.{launches_from}
+use Rattle.rim_manifest.specs.Versions.{version_at}
+use Rattle.rim_manifest.specs.declared.version.FormatVersion.{FormatVersion}
 use Rattle.rim_manifest.specs.Manifest.{all_made, files_at, has_no_file, has_two_names, launches_at, path_of}
 use Rattle.rim_manifest.specs.StepTexts.{has_bad_steps, is_miscounted, is_misnamed}
 use Rattle.rim_manifest.specs.Names.{lacks_file, repeats, share_names}
@@ -24,8 +26,9 @@ without : (ms : Members) (files launches : List Value) (b : Bool) → map view f
     → b ≡ list_any (λ l. lacks_file (map view files) (view l)) launches → b ≡ has_no_file ms
 without ms files launches b files_are launches_are h = rw (← files_are, ← launches_are, list_any_map (lacks_file (map view files)) view launches) h
 
-same : {files files' launches launches' : List Data} → files ≡ files' → launches ≡ launches' → all_made (launches_from files 0 launches) ≡ all_made (launches_from files' 0 launches')
-same files launches = λ i. all_made (launches_from (files i) 0 (launches i))
+same : {v v' : FormatVersion} {files files' launches launches' : List Data} → v ≡ v' → files ≡ files' → launches ≡ launches'
+    → all_made (launches_from v files 0 launches) ≡ all_made (launches_from v' files' 0 launches')
+same v files launches = λ i. all_made (launches_from (v i) (files i) 0 (launches i))
 
 pub returns-then-has_two_names : goal.returns-then-has_two_names
 returns-then-has_two_names c =
@@ -67,7 +70,7 @@ returns-in_err-launches c =
     let p = err_from_is_err_and c.from_residual-in_err-launches.result c.from_residual-in_err-launches.ensures.1 in
     rw (p.1, p.2) (elim c.in_err-launches.ensures [
       | inl memory ↦ inl memory
-      | inr refused ↦ let why = all_refused ms _ c.requires single (same (sym c.entries-files.ensures) (sym c.entries-launches.ensures) ∙ refused) in
+      | inr refused ↦ let why = all_refused ms _ c.requires single (same (sym c.version.ensures) (sym c.entries-files.ensures) (sym c.entries-launches.ensures) ∙ refused) in
           inr (refused_steps ms single found (one_misnamed (launches_at ms) whole why.1) ∙ ap Err (sym why.0))
     ])
 
@@ -75,9 +78,9 @@ pub invariant_of-result : goal.invariant_of-result
 invariant_of-result c =
     let ms = table_view c.args.table.now in
     let found = sym (without ms _ _ _ c.entries-files.ensures c.entries-launches.ensures c.has_no_file.ensures) ∙ c.if-has_no_file.false in
-    let read = all_read ms _ (same (sym c.entries-files.ensures) (sym c.entries-launches.ensures) ∙ c.in_ok-launches.ensures) in
+    let read = all_read ms _ (same (sym c.version.ensures) (sym c.entries-files.ensures) (sym c.entries-launches.ensures) ∙ c.in_ok-launches.ensures) in
     let paths = c.in_ok-paths.ensures ∙ map_of_views path_of c.entries-files.result.now _ c.entries-files.ensures in
-    are_numbered (files_at ms) (launches_at ms) (record { paths = map string_bytes c.in_ok-paths.paths.items; launches = c.in_ok-launches.launches.items }) found
+    are_numbered (version_at ms) (files_at ms) (launches_at ms) (record { paths = map string_bytes c.in_ok-paths.paths.items; launches = c.in_ok-launches.launches.items }) found
     (ap length paths ∙ length-map (files_at ms) path_of) read.0
 
 pub returns : goal.returns
@@ -86,6 +89,6 @@ returns c =
     let single = sym (twice ms _ _ _ c.entries-files.ensures c.entries-launches.ensures c.has_two_names.ensures) ∙ c.if-has_two_names.false in
     let found = sym (without ms _ _ _ c.entries-files.ensures c.entries-launches.ensures c.has_no_file.ensures) ∙ c.if-has_no_file.false in
     let whole = sym (counted ms _ _ c.entries-launches.ensures c.any_miscounted.ensures) ∙ c.if-any_miscounted.false in
-    let read = all_read ms _ (same (sym c.entries-files.ensures) (sym c.entries-launches.ensures) ∙ c.in_ok-launches.ensures) in
+    let read = all_read ms _ (same (sym c.version.ensures) (sym c.entries-files.ensures) (sym c.entries-launches.ensures) ∙ c.in_ok-launches.ensures) in
     let paths = c.in_ok-paths.ensures ∙ map_of_views path_of c.entries-files.result.now _ c.entries-files.ensures in
     named ms _ (no_name_fault ms single found (none_bad (launches_at ms) whole read.1)) paths read.0
