@@ -114,7 +114,7 @@ accepted-rim : (l : LaunchData) (files : List (List ℕ)) (p : PlacedData) (v : 
 unfolding commands_for rim_for
 accepted-rim l files p v has accepted read =
     let is : IsAccepted l files p = accepted-is l files p accepted in
-    let held : (run (empty_state l.config.num_aux) (commands_of (page_contents l files p) is.entries)).rim ≡ Some (chain_of v (map (own_digest files p) (keys_of v.links)))
+    let held : (run (empty_state l.config.num_aux l.config.rec_rule) (commands_of (page_contents l files p) is.entries)).rim ≡ Some (chain_of v (map (own_digest files p) (keys_of v.links)))
     = chain-held l files p is.entries v (record { there = has; placed = is.placed }) is.listed read in
     rw (is.placed, is.listed) (ap (λ (o : Option (List ℕ)). Ok (unwrap_or o [])) held)
 

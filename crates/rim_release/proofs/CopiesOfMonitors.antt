@@ -9,6 +9,7 @@ use Rattle.rim_desc.specs.Measurement.{measurement_of}
 use Rattle.rim_desc.specs.PageBytes.{page_bytes}
 use Rattle.rim_desc.specs.declared.command.Command.{Command}
 use Rattle.rim_desc.specs.declared.measurement.Algo.{Algo}
+use Rattle.rim_desc.specs.declared.rule.RecRule.{RecRule}
 use Rattle.rim_desc.specs.declared.source.Source.TheVariants.{File}
 use Rattle.rim_desc.specs.declared.measurement.Measurement.{Measurement}
 use Rattle.rmm_model.specs.Run.{run}
@@ -53,11 +54,12 @@ agree l own files p q marks algo marked = λ number page at.
 -- ---- the first commands
 
 -- lists that are the same for a while lead to the same
-pub led-alike : (aux own count most : ℕ) (cs ds : List Command) → aux ≡ own → count ≤ most → take most cs ≡ take most ds
-    → run (empty_state aux) (take count cs) ≡ run (empty_state own) (take count ds)
-led-alike aux own count most cs ds same le first =
-    ap (λ (n : ℕ). run (empty_state n) (take count cs)) same
-    ∙ ap (run (empty_state own)) (sym (take-take count most cs le) ∙ ap (take count) first ∙ take-take count most ds le)
+pub led-alike : (aux own : ℕ) (rule other : Option RecRule) (count most : ℕ) (cs ds : List Command) → aux ≡ own → rule ≡ other → count ≤ most → take most cs ≡ take most ds
+    → run (empty_state aux rule) (take count cs) ≡ run (empty_state own other) (take count ds)
+led-alike aux own rule other count most cs ds same same_rule le first =
+    ap (λ (n : ℕ). run (empty_state n rule) (take count cs)) same
+    ∙ ap (λ (r : Option RecRule). run (empty_state own r) (take count cs)) same_rule
+    ∙ ap (run (empty_state own other)) (sym (take-take count most cs le) ∙ ap (take count) first ∙ take-take count most ds le)
 
 -- a copy serves where it was given no more commands than are the same
 pub serve-within : (c : LaunchCommands) (files : List (List ℕ)) (launch : LaunchData) (p : PlacedData) (plan : List Entry) (ks : List MonitorCopy) (o : Option ℕ)

@@ -24,7 +24,7 @@ accepted-rim files l p accepted =
     let is = accepted-is l files p accepted in
     let own = page_contents l files p in
     let commands = commands_of own is.entries in
-    let followed : IsFollowed l.config.algo l.config.num_aux commands (measured l p own)
+    let followed : IsFollowed l.config.algo l.config.num_aux l.config.rec_rule commands (measured l p own)
     = list-is-followed l p own is.entries (contents-are-good l files p) is.listed in
     let rim : rim_after l commands ≡ rim_of l.config.algo (measured l p own) = ap (λ (o : Option (List ℕ)). unwrap_or o []) followed.rim in
     rw (is.placed, is.listed, rim) refl
@@ -35,7 +35,7 @@ accepted-are-measured files l p accepted =
     let is = accepted-is l.launch files p accepted in
     let own = page_contents l.launch files p in
     let commands = commands_of own is.entries in
-    let followed : IsFollowed l.launch.config.algo l.launch.config.num_aux commands (measured l.launch p own)
+    let followed : IsFollowed l.launch.config.algo l.launch.config.num_aux l.launch.config.rec_rule commands (measured l.launch p own)
     = list-is-followed l.launch p own is.entries (contents-are-good l.launch files p) is.listed in
     let rim : rim_after l.launch commands ≡ rim_of l.launch.config.algo (measured l.launch p own) = ap (λ (o : Option (List ℕ)). unwrap_or o []) followed.rim in
     record {

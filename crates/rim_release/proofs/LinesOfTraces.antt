@@ -1,5 +1,5 @@
 -- Each line of a trace shows what a monitor holds after its command, and the last line the launch's measurement.
-use Rattle.std.proofs.Common.{inl, inr, ◌≡◌, ℕ, zero, suc, ◌+◌, ◌-◌, ◌/◌, ◌%◌, ◌<◌, ◌≤◌, ◌⊎◌, ◌∙◌, true, false, not, ◌||◌, List, [], ◌∷◌, ◌++◌, take, drop, refl, ap, sym, subst, arith, append_assoc}
+use Rattle.std.proofs.Common.{inl, inr, ◌≡◌, ℕ, zero, suc, ◌+◌, ◌-◌, ◌/◌, ◌%◌, ◌<◌, ◌≤◌, ◌⊎◌, ◌∙◌, true, false, not, ◌||◌, List, [], ◌∷◌, ◌++◌, take, drop, refl, ap, sym, subst, arith, append_assoc, Bool}
 use Rattle.std.specs.Prelude.{Option, Some, None, Result, Ok, Err, is_ok, nat_le, option_map, unwrap_or}
 use Rattle.std.specs.List.{slice_get}
 use Rattle.std.specs.Result.{result_map_both}
@@ -8,10 +8,14 @@ use Rattle.std.proofs.lemmas.Bool.Decides.{nat_tests}
 use Rattle.std.proofs.lemmas.List.{append-nil, take-append-drop}
 use Rattle.std.proofs.lemmas.Nat.{le-div}
 use Rattle.refusal.specs.Answer.{◌>>=◌}
-use Rattle.rim_desc.specs.Part.{Part, Ripas, rim_of}
+use Rattle.rim_desc.specs.Measurement.{measurement_of}
+use Rattle.rim_desc.specs.Part.{Part, Rec, Ripas, rim_of}
+use Rattle.rim_desc.specs.Rec.{rec_page_of}
+use Rattle.rim_desc.specs.Rule.{extends}
 use Rattle.rim_desc.specs.declared.command.Command.{Command}
 use Rattle.rim_desc.specs.declared.command.Command.TheVariants.{Delegate, RealmCreate, RttCreate, InitRipas, DataCreate, DataCreateUnknown, RecCreate, Activate}
 use Rattle.rim_desc.specs.declared.measurement.Algo.{Algo}
+use Rattle.rim_desc.specs.declared.rule.RecRule.{RecRule}
 use Rattle.rim_desc.specs.declared.realm.RealmParams.{RealmParams}
 use Rattle.rmm_model.specs.declared.outcome.Phase.{Phase}
 use Rattle.rmm_model.specs.declared.outcome.Phase.TheVariants.{Empty, New, Active}
@@ -19,9 +23,9 @@ use Rattle.rmm_model.specs.declared.outcome.Refused.{Refused}
 use Rattle.rmm_model.specs.declared.outcome.Refused.TheVariants as refusal
 use Rattle.rmm_model.specs.Blocks.{size, down, is_multiple, stretches}
 use Rattle.rmm_model.specs.Checks.{checks, walk_of}
-use Rattle.rmm_model.specs.Effects.{changed, measured, parts, ripas_parts}
+use Rattle.rmm_model.specs.Effects.{changed, is_runnable, measured, parts, ripas_parts}
 use Rattle.rmm_model.specs.Run.{after, parts_of, run, shown}
-use Rattle.rmm_model.specs.State.{State, empty_state, is_empty, is_new}
+use Rattle.rmm_model.specs.State.{State, algo_of, empty_state, is_empty, is_new}
 use Rattle.rmm_model.specs.Step.{step}
 use Rattle.rmm_model.proofs.AnswersOfChecks.{holds, none-holds, off-at}
 use Rattle.rmm_model.proofs.BlockArithmetic.{down-multiple, size-pos}
@@ -50,9 +54,9 @@ use Rattle.rim_release.proofs.MonitorFollows.{followed, led-on, taken-in-turn}
 
 -- it measures nothing, and has no line; or it measures something, and there is a realm after it
 data Shows (s : State) (c : Command) : Type 0 where
-  Nothing : parts s c ≡ [] → ((t : State) → rim_held t c ≡ None) → Shows s c
+  Nothing : parts s c ≡ [] → ((t : State) → t.rule ≡ s.rule → rim_held t c ≡ None) → Shows s c
   Something : (first : Part) → (others : List Part) → parts s c ≡ first ∷ others → is_empty (changed s c).phase ≡ false
-      → ((t : State) → rim_held t c ≡ t.rim) → Shows s c
+      → ((t : State) → t.rule ≡ s.rule → rim_held t c ≡ t.rim) → Shows s c
 
 not-empty : (phase : Phase) → is_new phase ≡ true → is_empty phase ≡ false
 not-empty Empty new = absurd (cc)
@@ -74,9 +78,9 @@ some-parts zero s x some = absurd (omega arith)
 some-parts (suc k) s x some = (Ripas x (x + s), ripas_parts (stretches k s (x + s)), refl)
 
 shows-of : (s : State) (c : Command) → holds (checks s c) ≡ false → Shows s c
-shows-of s (Delegate granule) off = Nothing refl (λ t. refl)
-shows-of s (RealmCreate rd p) off = Something _ [] refl refl (λ t. refl)
-shows-of s (RttCreate rtt ipa level) off = Nothing refl (λ t. refl)
+shows-of s (Delegate granule) off = Nothing refl (λ t same. refl)
+shows-of s (RealmCreate rd p) off = Something _ [] refl refl (λ t same. refl)
+shows-of s (RttCreate rtt ipa level) off = Nothing refl (λ t same. refl)
 shows-of s (InitRipas base top) off =
     let c : Command = InitRipas base top in
     let entry = size (walk_of s.space base) in
@@ -86,13 +90,33 @@ shows-of s (InitRipas base top) off =
     let low : base % entry ≡ 0 = eqb-true (base % entry) 0 (not-false (is_multiple entry base) whole.0) in
     let high : top % entry ≡ 0 = eqb-true (top % entry) 0 (not-false (is_multiple entry top) whole.1) in
     let some = some-parts ((top - base) / entry) entry base (some-entries entry base top (size-pos (walk_of s.space base)) low high lt) in
-    Something some.0 some.1 some.2 (not-empty s.phase (not-false (is_new s.phase) (off-at (checks s c) 0 refusal.State off))) (λ t. refl)
+    Something some.0 some.1 some.2 (not-empty s.phase (not-false (is_new s.phase) (off-at (checks s c) 0 refusal.State off))) (λ t same. refl)
 shows-of s (DataCreate granule ipa content) off =
-    Something _ [] refl (not-empty s.phase (not-false (is_new s.phase) (off-at (checks s (DataCreate granule ipa content)) 0 refusal.State off))) (λ t. refl)
-shows-of s (RecCreate rec params) off =
-    Something _ [] refl (not-empty s.phase (not-false (is_new s.phase) (off-at (checks s (RecCreate rec params)) 0 refusal.State off))) (λ t. refl)
-shows-of s (DataCreateUnknown granule ipa) off = Nothing refl (λ t. refl)
-shows-of s Activate off = Nothing refl (λ t. refl)
+    Something _ [] refl (not-empty s.phase (not-false (is_new s.phase) (off-at (checks s (DataCreate granule ipa content)) 0 refusal.State off))) (λ t same. refl)
+shows-of s (DataCreateUnknown granule ipa) off = Nothing refl (λ t same. refl)
+shows-of s Activate off = Nothing refl (λ t same. refl)
+shows-of s (RecCreate rec params) off = by_rule (extends s.rule (is_runnable params.flags)) refl
+  where
+    by_rule : (b : Bool) → extends s.rule (is_runnable params.flags) ≡ b → Shows s (RecCreate rec params)
+    by_rule false e = Nothing (rw e refl) (λ t same. rw (same, e) refl)
+    by_rule true e = Something (Rec (measurement_of (algo_of s.params) (rec_page_of params))) [] (rw e refl)
+        (not-empty s.phase (not-false (is_new s.phase) (off-at (checks s (RecCreate rec params)) 0 refusal.State off))) (λ t same. rw (same, e) refl)
+
+-- ---- a monitor keeps its rule
+
+changed-rule : (s : State) (c : Command) → (changed s c).rule ≡ s.rule
+changed-rule s (Delegate granule) = refl
+changed-rule s (RealmCreate rd p) = refl
+changed-rule s (RttCreate rtt ipa level) = refl
+changed-rule s (InitRipas base top) = refl
+changed-rule s (DataCreate granule ipa content) = refl
+changed-rule s (DataCreateUnknown granule ipa) = refl
+changed-rule s (RecCreate rec params) = refl
+changed-rule s Activate = refl
+
+taken-rule : (s : State) (c : Command) (ps : List Part) → (measured (changed s c) ps).rule ≡ s.rule
+taken-rule s c [] = changed-rule s c
+taken-rule s c (part ∷ ps) = changed-rule s c
 
 -- ---- a realm keeps its parameters
 
@@ -211,42 +235,52 @@ by-algo : (o : Option RealmParams) (algo : Algo) → option_map (λ p. p.algo) o
 by-algo None algo at = absurd (cc)
 by-algo (Some p) algo at = (p, refl, cc)
 
-module _ (algo : Algo) (num_aux : ℕ) (cs : List Command) (all : List Part) (followed : IsFollowed algo num_aux cs all) where
+module _ (algo : Algo) (num_aux : ℕ) (rule : Option RecRule) (cs : List Command) (all : List Part) (followed : IsFollowed algo num_aux rule cs all) where
   -- where the monitor is between two commands, and what it has measured
   abbrev state : ℕ → State
-  state n = run (empty_state num_aux) (take n cs)
+  state n = run (empty_state num_aux rule) (take n cs)
 
   abbrev so-far : ℕ → List Part
-  so-far n = shown (empty_state num_aux) (take n cs)
+  so-far n = shown (empty_state num_aux rule) (take n cs)
 
   -- where there is a realm, its measurement is that of the parts so far
   rim-so-far : (n : ℕ) → is_empty (state n).phase ≡ false → (state n).rim ≡ Some (rim_of algo (so-far n))
   rim-so-far n full =
-      let whole : run (state n) (drop n cs) ≡ run (empty_state num_aux) cs
-      = sym (run-append (empty_state num_aux) (take n cs) (drop n cs)) ∙ ap (run (empty_state num_aux)) (take-append-drop n cs) in
-      let same : (run (empty_state num_aux) cs).params ≡ (state n).params
+      let whole : run (state n) (drop n cs) ≡ run (empty_state num_aux rule) cs
+      = sym (run-append (empty_state num_aux rule) (take n cs) (drop n cs)) ∙ ap (run (empty_state num_aux rule)) (take-append-drop n cs) in
+      let same : (run (empty_state num_aux rule) cs).params ≡ (state n).params
       = ap (λ (s : State). s.params) (sym whole) ∙ run-keeps (drop n cs) (state n) full in
       let is = by-algo (state n).params algo (ap (option_map (λ (p : RealmParams). p.algo)) (sym same) ∙ followed.by_algo) in
-      rim-run num_aux (take n cs) is.0 is.1 ∙ ap (λ (a : Algo). Some (rim_of a (so-far n))) is.2
+      rim-run num_aux rule (take n cs) is.0 is.1 ∙ ap (λ (a : Algo). Some (rim_of a (so-far n))) is.2
 
   more-shown : (i : ℕ) (c : Command) → slice_get cs i ≡ Some c → so-far (i + 1) ≡ so-far i ++ own (state i) c
   more-shown i c at =
-      ap (shown (empty_state num_aux)) (sym (one-more cs i c at)) ∙ shown-append (empty_state num_aux) (take i cs) (c ∷ [])
+      ap (shown (empty_state num_aux rule)) (sym (one-more cs i c at)) ∙ shown-append (empty_state num_aux rule) (take i cs) (c ∷ [])
       ∙ ap (λ (ps : List Part). so-far i ++ ps) (shown-alone (state i) c)
+
+  -- the state after it, which has the same rule
+  next-is : (i : ℕ) (c : Command) → slice_get cs i ≡ Some c → step (state i) c ≡ Ok (measured (changed (state i) c) (parts (state i) c))
+      → measured (changed (state i) c) (parts (state i) c) ≡ state (i + 1)
+  next-is i c at taken =
+      let as_taken : suc i ≡ i + 1 = omega arith in
+      led-on (empty_state num_aux rule) (measured (changed (state i) c) (parts (state i) c)) cs i c at taken ∙ ap state as_taken
+
+  rule-after : (i : ℕ) (c : Command) → slice_get cs i ≡ Some c → step (state i) c ≡ Ok (measured (changed (state i) c) (parts (state i) c))
+      → (state (i + 1)).rule ≡ (state i).rule
+  rule-after i c at taken = sym (ap (λ (t : State). t.rule) (next-is i c at taken)) ∙ taken-rule (state i) c (parts (state i) c)
 
   -- so a command's line shows what the monitor holds after it
   line-of-taken : (i : ℕ) (c : Command) → slice_get cs i ≡ Some c → step (state i) c ≡ Ok (measured (changed (state i) c) (parts (state i) c)) → Shows (state i) c
       → trace_line algo (so-far i) (own (state i) c) c ≡ line_if_held algo (rim_held (state (i + 1)) c) c
-  line-of-taken i c at taken (Nothing none unheld) = rw (taken, none, unheld (state (i + 1))) refl
+  line-of-taken i c at taken (Nothing none unheld) = rw (taken, none, unheld (state (i + 1)) (rule-after i c at taken)) refl
   line-of-taken i c at taken (Something first others some full is_held) =
       let s = state i in
-      let as_taken : suc i ≡ i + 1 = omega arith in
-      let next : measured (changed s c) (parts s c) ≡ state (i + 1) = led-on (empty_state num_aux) (measured (changed s c) (parts s c)) cs i c at taken ∙ ap state as_taken in
+      let next : measured (changed s c) (parts s c) ≡ state (i + 1) = next-is i c at taken in
       let realm : is_empty (state (i + 1)).phase ≡ false
       = ap (λ (t : State). is_empty t.phase) (sym next) ∙ ap is_empty (measured-same (changed s c) (parts s c)).0 ∙ full in
       let own_are : own s c ≡ first ∷ others = ap (λ (r : Result State Refused). parts_of r (parts s c)) taken ∙ some in
       let held : rim_held (state (i + 1)) c ≡ Some (rim_of algo (so-far i ++ first ∷ others))
-      = is_held (state (i + 1)) ∙ rim-so-far (i + 1) realm
+      = is_held (state (i + 1)) (rule-after i c at taken) ∙ rim-so-far (i + 1) realm
       ∙ ap (λ (ps : List Part). Some (rim_of algo ps)) (more-shown i c at ∙ ap (λ (ps : List Part). so-far i ++ ps) own_are) in
       ap (λ (ps : List Part). trace_line algo (so-far i) ps c) own_are ∙ ap (λ (rim : Option (List ℕ)). line_if_held algo rim c) (sym held)
 
@@ -255,18 +289,18 @@ module _ (algo : Algo) (num_aux : ℕ) (cs : List Command) (all : List Part) (fo
   line-of-step i c at =
       let done = measured (changed (state i) c) (parts (state i) c) in
       elim (step-cases (state i) c) [
-        | inr e ↦ absurd (let no : is_ok (step (state i) c) ≡ false = ap is_ok e.1 in let yes = taken-in-turn (empty_state num_aux) cs i c followed.accepted at in cc)
+        | inr e ↦ absurd (let no : is_ok (step (state i) c) ≡ false = ap is_ok e.1 in let yes = taken-in-turn (empty_state num_aux rule) cs i c followed.accepted at in cc)
         | inl taken ↦ line-of-taken i c at taken (shows-of (state i) c (none-holds (checks (state i) c) done done taken))
       ]
 
   -- the lines of some commands, and of one more
   one-more-line : (i : ℕ) (c : Command) → slice_get cs i ≡ Some c
-      → trace_lines algo [] (empty_state num_aux) (take (i + 1) cs)
-      ≡ trace_lines algo [] (empty_state num_aux) (take i cs) ++ line_if_held algo (rim_held (state (i + 1)) c) c
+      → trace_lines algo [] (empty_state num_aux rule) (take (i + 1) cs)
+      ≡ trace_lines algo [] (empty_state num_aux rule) (take i cs) ++ line_if_held algo (rim_held (state (i + 1)) c) c
   one-more-line i c at =
-      ap (trace_lines algo [] (empty_state num_aux)) (sym (one-more cs i c at))
-      ∙ lines-append algo [] (empty_state num_aux) (take i cs) (c ∷ [])
-      ∙ ap (λ (line : List ℕ). trace_lines algo [] (empty_state num_aux) (take i cs) ++ line) (line-alone algo (so-far i) (state i) c ∙ line-of-step i c at)
+      ap (trace_lines algo [] (empty_state num_aux rule)) (sym (one-more cs i c at))
+      ∙ lines-append algo [] (empty_state num_aux rule) (take i cs) (c ∷ [])
+      ∙ ap (λ (line : List ℕ). trace_lines algo [] (empty_state num_aux rule) (take i cs) ++ line) (line-alone algo (so-far i) (state i) c ∙ line-of-step i c at)
 
 -- ---- the lines of a launch
 
@@ -277,12 +311,12 @@ pub line-next : (l : LaunchCommands) (i : ℕ) (c : Command) (now new : List ℕ
 line-next l i c now new at so_far added =
     let config = l.launch.now.config in
     added ∙ ap (λ (text : List ℕ). text ++ line_if_held config.algo (rim_held (state_after l (i + 1)) c) c) so_far
-    ∙ sym (one-more-line config.algo config.num_aux (commands_in l) _ (followed l) i c at)
+    ∙ sym (one-more-line config.algo config.num_aux config.rec_rule (commands_in l) _ (followed l) i c at)
 
 -- a launch that is accepted, whose commands a monitor follows
 record Follows (files : List (List ℕ)) (l : LaunchData) (commands : List Command) : Type 0 where
   place : PlacedData
-  is : IsFollowed l.config.algo l.config.num_aux commands (launch.measured l place (page_contents l files place))
+  is : IsFollowed l.config.algo l.config.num_aux l.config.rec_rule commands (launch.measured l place (page_contents l files place))
 
 follows : (files : List (List ℕ)) (l : LaunchData) (commands : List Command) → commands_for l files ≡ Ok commands → Follows files l commands
 unfolding commands_for
@@ -296,7 +330,7 @@ follows files l commands given = by_place (places l files) given
         let they_are : commands_of own entries ≡ commands = cc in
         record {
           place = p;
-          is = subst (λ (cs : List Command). IsFollowed l.config.algo l.config.num_aux cs (launch.measured l p own)) they_are
+          is = subst (λ (cs : List Command). IsFollowed l.config.algo l.config.num_aux l.config.rec_rule cs (launch.measured l p own)) they_are
               (list-is-followed l p own entries (contents-are-good l files p) is);
         }
 
@@ -306,14 +340,14 @@ follows files l commands given = by_place (places l files) given
     by_place (Ok p) same = by_list p (listed l p) refl same
 
 pub traces-show : TracesShowWhatIsHeld
-traces-show files l commands i c given at = one-more-line l.config.algo l.config.num_aux commands _ (follows files l commands given).is i c at
+traces-show files l commands i c given at = one-more-line l.config.algo l.config.num_aux l.config.rec_rule commands _ (follows files l commands given).is i c at
 
 pub traces-end : TracesEndWithTheRim
 traces-end files l commands given =
     let f = follows files l commands given in
-    let held : rim_after l commands ≡ rim_of l.config.algo (shown (empty_state l.config.num_aux) commands)
+    let held : rim_after l commands ≡ rim_of l.config.algo (shown (empty_state l.config.num_aux l.config.rec_rule) commands)
     = ap (λ (rim : Option (List ℕ)). unwrap_or rim []) f.is.rim ∙ ap (rim_of l.config.algo) (sym f.is.shown) in
-    elim (ends-at l.config.algo [] (empty_state l.config.num_aux) commands) [
+    elim (ends-at l.config.algo [] (empty_state l.config.num_aux l.config.rec_rule) commands) [
       | inl none ↦ absurd (let no = sym none.0 ∙ f.is.shown in cc)
       | inr at ↦ record {
         before = at.front;

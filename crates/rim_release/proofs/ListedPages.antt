@@ -36,7 +36,7 @@ use Rattle.ipa_layout.specs.declared.rec.PlacedRec.{PlacedRec}
 use Rattle.ipa_layout.proofs.PlacedLaunchLaws.{few-pages}
 use Rattle.page_jobs.specs.Page.{PageView, digest_of}
 use Rattle.page_jobs.specs.Page as page
-use Rattle.rmi_list.specs.Listed.{Listing, Progress, list_item, list_rec, list_region, list_step, list_steps, listed, opening_progress, opening_checks, opening_entries, plan_checks, pool_check}
+use Rattle.rmi_list.specs.Listed.{Listing, Progress, lacks_rule, list_item, list_rec, list_region, list_step, list_steps, listed, opening_progress, opening_checks, opening_entries, plan_checks, pool_check}
 use Rattle.rmi_list.specs.Measured.{known_of, page_contents, page_base, page_content}
 use Rattle.rmi_list.specs.RecParams.{rec_params}
 use Rattle.rmi_list.specs.declared.fault.ListFault.{ListFault}
@@ -127,7 +127,7 @@ rec-own p c w number r done at =
     let params = rec_params number r (granules c.num_aux (granule c.pool_base (w.taken + 1))) in
     let entries : List Entry = rec_entries c.pool_base w.taken c.num_aux params in
     let made : Listing = record { entries = entries; next = record w { taken = w.taken + delegated entries; num_recs = w.num_recs + 1 } } in
-    let same : made ≡ done = is-done ((fault.RecOrder, not (eqb number w.num_recs)) ∷ (fault.RecNotRunnable, not r.runnable) ∷ pool_check c w.taken entries ∷ []) made done at in
+    let same : made ≡ done = is-done ((fault.RecOrder, not (eqb number w.num_recs)) ∷ (fault.RecNotRunnable, lacks_rule c.rec_rule r) ∷ pool_check c w.taken entries ∷ []) made done at in
     subst (λ (d : Listing). AreOwn p d.entries) same
     (each-append (IsOwn p) (delegate_all (rec_granules c.pool_base w.taken c.num_aux)) _ (delegates-own p (rec_granules c.pool_base w.taken c.num_aux)) (tt, tt))
 

@@ -18,6 +18,6 @@ pub says-yes : (l : LaunchCommands) → All IsTyped (commands_in l) → Are64Byt
 says-yes l typed fit =
     let config = l.launch.now.config in
     let own = followed l in
-    let held : (run (empty_state config.num_aux) (commands_in l)).rim ≡ Some (rim_after l.launch.now (commands_in l)) =
+    let held : (run (empty_state config.num_aux config.rec_rule) (commands_in l)).rim ≡ Some (rim_after l.launch.now (commands_in l)) =
     own.rim ∙ ap Some (sym (ap (λ o. unwrap_or o []) own.rim)) in
-    true-listing config.num_aux (commands_in l) config.algo (rim_after l.launch.now (commands_in l)) config.aux typed fit own.accepted own.by_algo held
+    true-listing config.num_aux config.rec_rule (commands_in l) config.algo (rim_after l.launch.now (commands_in l)) config.aux typed fit own.accepted own.by_algo held

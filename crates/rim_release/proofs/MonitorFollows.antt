@@ -36,21 +36,21 @@ led-on s next (x ∷ cs) zero c at taken =
 led-on s next (x ∷ cs) (suc i) c at taken = led-on (after s (step s x)) next cs i c at taken
 
 module _ (l : LaunchCommands) where
-  pub followed : IsFollowed l.launch.now.config.algo l.launch.now.config.num_aux (commands_in l) (measured l.launch.now l.placed.now (page_contents l.launch.now (bytes_of_files l.files.now) l.placed.now))
+  pub followed : IsFollowed l.launch.now.config.algo l.launch.now.config.num_aux l.launch.now.config.rec_rule (commands_in l) (measured l.launch.now l.placed.now (page_contents l.launch.now (bytes_of_files l.files.now) l.placed.now))
   followed =
       list-is-followed l.launch.now l.placed.now (page_contents l.launch.now (bytes_of_files l.files.now) l.placed.now) l.plan.now
       (contents-are-good l.launch.now (bytes_of_files l.files.now) l.placed.now) l.is_listed
 
   pub never-refused : (i : ℕ) (c : Command) → slice_get (commands_in l) i ≡ Some c → is_ok (step (state_after l i) c) ≡ true
-  never-refused i c at = taken-in-turn (empty_state l.launch.now.config.num_aux) (commands_in l) i c followed.accepted at
+  never-refused i c at = taken-in-turn (empty_state l.launch.now.config.num_aux l.launch.now.config.rec_rule) (commands_in l) i c followed.accepted at
 
   pub given : (i : ℕ) (c : Command) (next : State) → slice_get (commands_in l) i ≡ Some c → step (state_after l i) c ≡ Ok next → next ≡ state_after l (i + 1)
   given i c next at taken =
       let same : suc i ≡ i + 1 = omega arith in
-      led-on (empty_state l.launch.now.config.num_aux) next (commands_in l) i c at taken ∙ ap (state_after l) same
+      led-on (empty_state l.launch.now.config.num_aux l.launch.now.config.rec_rule) next (commands_in l) i c at taken ∙ ap (state_after l) same
 
-  pub all-given : state_after l (length (commands_in l)) ≡ run (empty_state l.launch.now.config.num_aux) (commands_in l)
-  all-given = ap (run (empty_state l.launch.now.config.num_aux)) (take_all (length (commands_in l)) (commands_in l) (omega arith))
+  pub all-given : state_after l (length (commands_in l)) ≡ run (empty_state l.launch.now.config.num_aux l.launch.now.config.rec_rule) (commands_in l)
+  all-given = ap (run (empty_state l.launch.now.config.num_aux l.launch.now.config.rec_rule)) (take_all (length (commands_in l)) (commands_in l) (omega arith))
 
   -- the monitor holds a measurement then
   pub has-rim : (s : State) (rim : Option Measurement) → s ≡ state_after l (length (commands_in l)) → option_map (λ m. m.bytes) rim ≡ s.rim → rim ≡ None → ⊥

@@ -76,7 +76,8 @@ impl<'a> LaunchCommands<'a> {
     pub fn monitor(&self, alloc: Global) -> Monitor
         ensures { result ≡ state_after self.now 0 }
     {
-        Monitor::new(alloc, self.launch.config().num_aux)
+        let config = self.launch.config();
+        Monitor::new(alloc, config.num_aux, config.rec_rule)
     }
 
     /// Gives a monitor the command of this number, after those before it. The monitor never refuses it but for want of

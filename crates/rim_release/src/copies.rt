@@ -8,7 +8,7 @@ ghost use Rattle.rim_release.specs.inside.Copies.{AreMarked, IsKept, IsSameItem,
 
 use crate::commands::LaunchCommands;
 use ipa_layout::PlacedItem;
-use rim_desc::{Algo, Source};
+use rim_desc::{Algo, RecRule, Source};
 use rim_launch::{Config, ITEM_LIMIT, Launch};
 use rmi_list::Plan;
 use rmm_monitor::Monitor;
@@ -124,12 +124,19 @@ fn shared_with(
     Some(of_launch.plan.common_commands(commands.plan, &marks, looks))
 }
 
-/// Whether two launches have RECs with as many auxiliary granules, and the same algorithm.
+/// Whether two launches have RECs with as many auxiliary granules, the same rule for RECs, and the same algorithm.
 fn has_same_settings(a: &Config, b: &Config) -> bool
     ensures aux { result ≡ true → a.now.num_aux ≡ b.now.num_aux }
+    ensures rule { result ≡ true → a.now.rec_rule ≡ b.now.rec_rule }
     ensures algo { result ≡ true → a.now.algo ≡ b.now.algo }
 {
-    a.num_aux == b.num_aux && is_same_algo(a.algo, b.algo)
+    a.num_aux == b.num_aux && is_same_rule(a.rec_rule, b.rec_rule) && is_same_algo(a.algo, b.algo)
+}
+
+fn is_same_rule(a: Option<RecRule>, b: Option<RecRule>) -> bool
+    ensures { result ≡ true → a ≡ b }
+{
+    a == b
 }
 
 fn is_same_algo(a: Algo, b: Algo) -> bool

@@ -20,14 +20,14 @@ use crate::one_thread::{Files, Report};
 use crate::report::{push_line, push_rim};
 use itoa::Buffer;
 use refusal::NoMemory;
-use rim_desc::{Algo, Command, Measurement};
+use rim_desc::{Algo, Command, Measurement, RecRule};
 use rim_launch::Launch;
 use rim_manifest::{NamedLaunch, Release};
 use rmi_line::print_line;
 use std::alloc::Global;
 
 /// The listing of the launch of this number, or why the launch is refused: a line `rim-list 1 aux N`, where a REC has N
-/// auxiliary granules; a line for each command that builds the realm; and a line `rim ALGO HEX` with the Realm Initial
+/// auxiliary granules, or `rim-list 2 aux N rec RULE` where the launch has a rule for RECs; a line for each command that builds the realm; and a line `rim ALGO HEX` with the Realm Initial
 /// Measurement that a monitor holds then. A monitor is given each command before the command is printed. Its replay says yes.
 pub fn listing(
     alloc: Global,
@@ -132,18 +132,29 @@ fn print(alloc: Global, commands: &LaunchCommands) -> Result<Vec<u8>, NoMemory>
 {
     let config = commands.launch.config();
     let mut text = Vec::new(alloc);
-    push_first(&mut text, config.num_aux)?;
+    push_first(&mut text, config.num_aux, config.rec_rule)?;
     let rim = push_commands(alloc, &mut text, commands)?;
     push_last(&mut text, config.algo, &rim)?;
     Ok(text)
 }
 
 /// Adds the first line.
-fn push_first(text: &mut Vec<u8>, num_aux: u8) -> Result<(), NoMemory>
-    ensures { OnOk result (text.new.items ≡ text.old.items ++ with_newline (first_line num_aux)) }
+fn push_first(text: &mut Vec<u8>, num_aux: u8, rule: Option<RecRule>) -> Result<(), NoMemory>
+    ensures { OnOk result
+        (text.new.items ≡ text.old.items ++ with_newline (first_line num_aux rule)) }
 {
-    text.extend_from_slice(b"rim-list 1 aux ")?;
-    text.extend_from_slice(Buffer::new().format(num_aux).as_bytes())?;
+    match rule {
+        None => {
+            text.extend_from_slice(b"rim-list 1 aux ")?;
+            text.extend_from_slice(Buffer::new().format(num_aux).as_bytes())?;
+        }
+        Some(rule) => {
+            text.extend_from_slice(b"rim-list 2 aux ")?;
+            text.extend_from_slice(Buffer::new().format(num_aux).as_bytes())?;
+            text.extend_from_slice(b" rec ")?;
+            text.extend_from_slice(rule.word().as_bytes())?;
+        }
+    }
     text.extend_from_slice(b"\n")?;
     Ok(())
 }

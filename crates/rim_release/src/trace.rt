@@ -15,11 +15,11 @@ use crate::listings::refused_report;
 use crate::one_thread::{Files, Report};
 use crate::report::push_digest;
 use refusal::NoMemory;
-use rim_desc::{Algo, Command, Measurement};
+use rim_desc::{Algo, Command, Measurement, extends};
 use rim_launch::Launch;
 use rim_manifest::{NamedLaunch, Release};
 use rmi_line::print_traced;
-use rmm_monitor::Monitor;
+use rmm_monitor::{Monitor, is_runnable};
 use std::alloc::Global;
 
 /// The trace of the launch of this number: a line for each command that creates or extends the Realm Initial Measurement, with
@@ -106,10 +106,15 @@ fn rim_held(monitor: &Monitor, command: &Command) -> Option<Measurement>
         | Command::RttCreate { .. }
         | Command::DataCreateUnknown { .. }
         | Command::Activate => None,
-        Command::RealmCreate { .. }
-        | Command::InitRipas { .. }
-        | Command::DataCreate { .. }
-        | Command::RecCreate { .. } => monitor.rim(),
+        Command::RealmCreate { .. } | Command::InitRipas { .. } | Command::DataCreate { .. } =>
+            monitor.rim(),
+        Command::RecCreate { params, .. } => {
+            if extends(monitor.rule(), is_runnable(params.flags())) {
+                monitor.rim()
+            } else {
+                None
+            }
+        }
     }
 }
 
