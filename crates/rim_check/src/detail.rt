@@ -227,7 +227,9 @@ fn step_detail(alloc: Global, config: &Config, reason: &StepReason) -> Result<St
         StepReason::RecOrder { listed } => {
             format!(in alloc; "{listed} RECs are listed before it")
         }
-        StepReason::RecNotRunnable => format!(in alloc; "runnable is false"),
+        StepReason::RecNotRunnable => format!(in alloc;
+            "runnable is false; write rim_manifest = 2 and, in the launch, rec_rule = \"runnable\""
+        ),
     }
 }
 

@@ -30,7 +30,8 @@ impl fmt::Display for Expected {
 /// What a key may hold whose form has no numbers.
 fn words_of(form: Form) -> &'static str {
     match form {
-        Form::Version => "1",
+        Form::Version => "1 or 2",
+        Form::RecRule => "\"all\" or \"runnable\"",
         Form::Name => "a name of 1 to 64 letters, digits, '.', '_' and '-'",
         Form::Algorithm => "\"sha256\" or \"sha512\"",
         Form::Truth => "true or false",

@@ -6,8 +6,8 @@ use crate::place::text_at;
 use crate::shown::{Shown, bad_element};
 use rim_launch::Role;
 use rim_manifest::{
-    DTB_RULES, Document, FILE_RULES, Finding, Form, ITEM_RULES, LAUNCH_RULES, ManifestFault, Place,
-    REC_RULES, Rule, Subject, TOP_RULES, UNKNOWN_RULES, asks_for, cell, entries, name, role,
+    DTB_RULES, Document, FILE_RULES, Finding, Form, ITEM_RULES, ManifestFault, Place, REC_RULES,
+    Rule, Subject, TOP_RULES, UNKNOWN_RULES, asks_for, cell, entries, name, role,
 };
 use std::alloc::Global;
 use std::fmt;
@@ -31,7 +31,7 @@ pub(crate) fn write_detail(
         }
         (Subject::Key { key, form }, fault) => write_value(line, cell(table, key), form, fault),
         (Subject::OtherKeys, _) => {
-            write_other_keys(alloc, line, table, rules_of(finding.place, table))
+            write_other_keys(alloc, line, table, rules_of(document, finding.place, table))
         }
         (Subject::Asked, _) => write_asked(line, table),
         (Subject::Step { step }, _) => write_step(line, table, step),
@@ -41,11 +41,11 @@ pub(crate) fn write_detail(
 }
 
 /// The keys that a table may have.
-fn rules_of(place: Place, table: &Table) -> &'static [Rule] {
+fn rules_of(document: &Document, place: Place, table: &Table) -> &'static [Rule] {
     match place {
         Place::Top => &TOP_RULES,
         Place::File { .. } => &FILE_RULES,
-        Place::Launch { .. } => &LAUNCH_RULES,
+        Place::Launch { .. } => document.launch_rules(),
         Place::Item { .. } => match text_at(table, "kind") {
             Some("dtb") => &DTB_RULES,
             Some("unknown") => &UNKNOWN_RULES,

@@ -30,7 +30,8 @@ processors (`rec`). docs/FORMATS.md lists all keys.
 object; docs/FORMATS.md describes it.
 
 `rim list MANIFEST LAUNCH` prints the listing of a launch: the line `rim-list 1 aux N`,
-a line for each command that a monitor takes to build the realm, and the line
+or `rim-list 2 aux N rec RULE` where the launch has a rule for RECs; a line for each
+command that a monitor takes to build the realm; and the line
 `rim ALGORITHM MEASUREMENT`; or the line `NAME refused KIND`. `rim audit MANIFEST` gives
 a monitor the commands of each launch, and prints the line `rim-audit 1` and a line for
 each launch, as the report has it.
