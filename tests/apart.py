@@ -8,7 +8,8 @@ of its own, which hashes each page for its command:
 
 - of each release of tests/cases and tests/rows, by `rim list`, whose last line has the measurement. `rim replay` says yes to it, and
   `rim trace` prints what tools/replay.py makes of it;
-- of releases that are made at random from the numbers of SEEDS, by `rim audit` of a manifest that has the one launch alone.
+- of releases that are made at random from the numbers of SEEDS, by `rim audit` of a manifest that has the one launch alone. Two of
+  three are of version 2, in which launches that begin alike have other rules for RECs that are not runnable.
 
 The last line is 'N passed, M failed' over the releases.
 """
@@ -95,7 +96,7 @@ def item(dice, name, file, size, at):
     return "{ " + ", ".join(keys) + " }"
 
 
-def launch(dice, number, sizes):
+def launch(dice, number, sizes, version):
     """The table of a launch. Few things differ from launch to launch, so that many begin alike."""
     items = {"large": item(dice, "large", "large", sizes["large"], RAM)}
     if dice.random() < 0.7:
@@ -103,14 +104,22 @@ def launch(dice, number, sizes):
     if dice.random() < 0.5:
         tree = f'name = "tree", kind = "dtb", file = "tree", at = {RAM + 0x50_0000}, bootargs = "{dice.choice(["a", "b"])}"'
         items["tree"] = "{ " + tree + " }"
-    recs = ["{ pc = 0x40000000 }"] * dice.randrange(3)
-    steps = ""
+    names = list(items)
     if dice.random() < 0.5:
         items["log"] = f'{{ name = "log", kind = "unknown", at = {RAM + 0x30_0000}, size = {dice.choice([2, 2, 3]) * PAGE} }}'
         # by default it is the last item, and here sometimes the first one
-        if dice.random() < 0.7:
-            order = [f"item {name}" for name in ["log", *(name for name in items if name != "log")]]
-            steps = f"steps = {['ram 0', *order, *(f'rec {each}' for each in range(len(recs)))]}"
+        names = ["log", *names] if dice.random() < 0.7 else [*names, "log"]
+    rule = dice.choice([None, "all", "runnable"]) if version == 2 else None
+    recs = ["{ pc = 0x40000000 }"] * dice.randrange(3)
+    # without a rule, which version 1 has not, a launch is refused where a REC is not runnable
+    if dice.random() < (0.7 if rule else 0.05 if version == 1 else 0):
+        recs.insert(dice.randrange(len(recs) + 1), "{ runnable = false }")
+    keys = [f'rec_rule = "{rule}"'] if rule else []
+    if dice.random() < 0.7:
+        # by default RECs come last, and here sometimes all of them or one come first
+        order = [f"rec {each}" for each in range(len(recs))]
+        first = dice.choice([0, 0, 0, 1, len(order)])
+        keys.append(f"steps = {[*order[:first], 'ram 0', *(f'item {name}' for name in names), *order[first:]]}")
     return f"""
 [[launch]]
 name = "launch-{number}"
@@ -123,7 +132,7 @@ item = [
   {f",{chr(10)}  ".join(items.values())},
 ]
 rec = [{", ".join(recs)}]
-{steps}
+{chr(10).join(keys)}
 """
 
 
@@ -131,9 +140,10 @@ def by_itself(program, seed):
     """How the audit of a release that follows from a number differs from those of its launches, as lines."""
     dice = random.Random(seed)
     files = {"large": dice.randbytes(LARGE), "small": dice.randbytes(9_000), "other": dice.randbytes(9_000)}
-    head = 'rim_manifest = 1\nfile = [{ name = "tree", path = "tree" }, ' + ", ".join(f'{{ name = "{name}", path = "{name}" }}' for name in files) + "]\n"
+    version = dice.choice([1, 2, 2])
+    head = f'rim_manifest = {version}\n' + 'file = [{ name = "tree", path = "tree" }, ' + ", ".join(f'{{ name = "{name}", path = "{name}" }}' for name in files) + "]\n"
     sizes = {name: len(data) for name, data in files.items()}
-    launches = [launch(dice, number, sizes) for number in range(24)]
+    launches = [launch(dice, number, sizes, version) for number in range(24)]
     with tempfile.TemporaryDirectory() as folder:
         run.write(folder, files | {"all.toml": (head + "".join(launches)).encode()})
         shutil.copy(os.path.join(run.TOP, "bench", "virt.dtb"), os.path.join(folder, "tree"))

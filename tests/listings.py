@@ -4,7 +4,7 @@ status, and nothing on standard error.
 
     tests/listings.py [PROGRAM]        by default the program that `rt ci` has built
 
-Three listings are changed in each of their places: bytes, words, lines. Others are made of commands at random. What is expected of
+Four listings are changed in each of their places: bytes, words, lines. Others are made of commands at random. What is expected of
 each is the answer of tools/replay.py, a replay of its own. Each kind of change of one listing is a test.
 
 Each large listing is a test too. Its answer is known, and its run has limits on processor time and memory.
@@ -38,7 +38,7 @@ MEMORY = 100 * MB
 # The bytes at the end of a large listing in which the lines of its last page are.
 TAIL = 4096
 
-FILE = "rim_manifest = 1\nfile = [{name = 'one', path = 'one'}]\n"
+FILE = "rim_manifest = 2\nfile = [{name = 'one', path = 'one'}]\n"
 # A page that is not measured and one that is unknown, in a block of 1 GiB.
 TWO_PAGES = """
 [[launch]]
@@ -78,7 +78,19 @@ ram = [[0x40000000, 0x40202000]]
 item = [{{name = 'one', kind = 'raw', file = 'one', at = 0x40000000, measured = false}}]
 rec = [{{pc = 0x40000000, x = [1, "0xfedcba9876543210"]}}, {{pc = 0x40001000}}]
 """
-LAUNCHES = {"two pages": TWO_PAGES, "one REC": ONE_REC, "two RECs": TWO_RECS}
+# A REC that is not runnable between two that are, and a rule by which it is not measured.
+A_RULE = """
+[[launch]]
+name = "a"
+algo = "sha256"
+s2sz = 36
+num_aux = 1
+rec_rule = "runnable"
+rec = [{}, {pc = 0x40000000, runnable = false}, {pc = 0x40001000}]
+"""
+LAUNCHES = {"two pages": TWO_PAGES, "one REC": ONE_REC, "two RECs": TWO_RECS, "a rule": A_RULE}
+# The rules of a first line.
+RULES = ("all", "runnable")
 # As many pages as a launch may have.
 MANY_PAGES = """
 [[launch]]
@@ -159,7 +171,8 @@ def other_words(word, known):
     if word.isdigit() and len(word) < 4:
         numbers = [0, 1, 2, 3, 4, 8, 15, 16, 17, 31, 32, 33, 34, 35, 40, 48, 49, 255, 256, 999, 1 << 64]
         return [b"%d" % number for number in numbers] + [b"00", b"0" + word, b"+" + word, b"-1", b"", b"a"]
-    return [b"sha256", b"sha512", b"measured", b"unmeasured", word[:-1], word + word, word[::-1], b"0" * len(word), b"f" * len(word)]
+    others = [b"sha256", b"sha512", b"measured", b"unmeasured", b"all", b"runnable", b"none"]
+    return [*others, word[:-1], word + word, word[::-1], word.upper(), b"0" * len(word), b"f" * len(word)]
 
 
 def words_changed(text):
@@ -195,6 +208,16 @@ def other_ends(text):
     bytes_after = (b"\n", b"\r", b"\0", b" ", b"*", b"\xff", b"\n\n", b"activate", b"activate\n", b"delegate 0000000800010000\n")
     for more in (*bytes_after, last, last[:-1], text):
         yield f"after the last line {len(more)} bytes, {more[:20]}", text + more
+
+
+def first_lines(text):
+    """Other first lines: each version with each number of granules, and with each rule or none."""
+    _, rest = text.split(NEWLINE, 1)
+    for version in (0, 1, 2, 3):
+        for num_aux in range(19):
+            for rule in ("", " rec", " rec ", " rec none", " all", *(f" rec {rule}" for rule in RULES), " rec all runnable", " rec all ", " REC all"):
+                line = f"rim-list {version} aux {num_aux}{rule}"
+                yield f"the first line {line!r}", line.encode() + NEWLINE + rest
 
 
 def line_ends(text):
@@ -234,7 +257,7 @@ def several_changes(text):
 
 def made_right(text):
     """Changed listings whose commands a monitor takes, with the last line to which these lead."""
-    for kind in (words_changed, lines_dropped, lines_exchanged, several_changes):
+    for kind in (words_changed, first_lines, lines_dropped, lines_exchanged, several_changes):
         for what, changed in kind(text):
             answer, monitor = replay.replayed(changed)
             if answer == "no wrong-rim" and monitor.last_line():
@@ -251,6 +274,7 @@ KINDS = {
     "two lines exchanged": lines_exchanged,
     "a word changed": words_changed,
     "a command added": commands_added,
+    "other first lines": first_lines,
     "other ends": other_ends,
     "other line ends and spaces": line_ends,
     "several changes at random": several_changes,
@@ -266,8 +290,9 @@ ANSWERS = {"the beginning alone": lambda text: f"no line {text.count(NEWLINE) + 
 class Commands:
     """The lines of commands that are given to a monitor."""
 
-    def __init__(self, num_aux):
-        self.monitor, self.lines = replay.Monitor(num_aux), [b"rim-list 1 aux %d" % num_aux]
+    def __init__(self, num_aux, rule=None):
+        first = f"rim-list 2 aux {num_aux} rec {rule}" if rule else f"rim-list 1 aux {num_aux}"
+        self.monitor, self.lines = replay.Monitor(num_aux, rule), [first.encode()]
 
     def give(self, *words, keep=True):
         """Gives the monitor a command. One that it refuses is kept in the lines only where that is asked for."""
@@ -313,6 +338,22 @@ def auxiliary_granules():
             yield f"{count} auxiliary granules, and {num_aux} of the monitor", commands.listing()
 
 
+def flags_of_recs():
+    """A REC with each of some flags, and a REC after it, by each rule and without one."""
+    for rule in (None, *RULES):
+        for flags in [*range(9), *(1 << bit for bit in range(4, 64)), (1 << 63) + 1, (1 << 64) - 2, (1 << 64) - 1]:
+            for after in (0, 1):
+                commands = Commands(1, rule)
+                commands.realm(1 << 35, 2, 4, 32)
+                for number, word in enumerate((flags, after)):
+                    rec, aux = ((1 << 20) + (2 * number + part) * PAGE for part in (0, 1))
+                    commands.give(b"delegate", rec)
+                    commands.give(b"delegate", aux)
+                    commands.give(b"rec_create", rec, word, number, 0x4000_0000 + number, *[number] * 8, b"1", aux)
+                commands.give(b"activate")
+                yield f"a REC with the flags {flags:#x} and one with {after}, by the rule {rule}", commands.listing()
+
+
 def at_random(dice, monitor):
     """The words of a command that a monitor may take."""
     delegated = [granule for granule, owner in monitor.owners.items() if owner == "DELEGATED"]
@@ -337,14 +378,15 @@ def at_random(dice, monitor):
     number = monitor.num_recs if dice.random() < 0.8 else dice.randrange(40)
     aux = [granule() for _ in range(monitor.num_aux if dice.random() < 0.9 else dice.randrange(4))]
     registers = [dice.randrange(1 << 64) for _ in range(9)]
-    return b"rec_create", granule(), 1, number % 16 + 256 * (number // 16), *registers, b"%d" % len(aux), *aux
+    flags = dice.choice([1, 1, 0, 0, 0]) if dice.random() < 0.95 else dice.choice([2, 3, 1 << 63])
+    return b"rec_create", granule(), flags, number % 16 + 256 * (number // 16), *registers, b"%d" % len(aux), *aux
 
 
 def commands_at_random():
     """Commands that a monitor takes, some of them after `activate`, and then sometimes one that it refuses."""
     for seed in SEEDS:
         dice = random.Random(seed)
-        commands, s2sz = Commands(dice.choice([0, 0, 1, 2])), dice.choice([32, 34, 36, 40, 44, 48])
+        commands, s2sz = Commands(dice.choice([0, 0, 1, 2]), dice.choice([None, *RULES])), dice.choice([32, 34, 36, 40, 44, 48])
         commands.realm(1 << 35, *replay.start_tables(s2sz), s2sz, dice.choice([b"sha256", b"sha512"]), dice.choice([0, 2, 4, 6]))
         activation = dice.choice([150, None])
         for number in range(200):
@@ -355,7 +397,12 @@ def commands_at_random():
         yield f"the commands of random.Random({seed})", commands.listing()
 
 
-OTHERS = {"start tables": start_tables, "auxiliary granules": auxiliary_granules, "commands at random": commands_at_random}
+OTHERS = {
+    "start tables": start_tables,
+    "auxiliary granules": auxiliary_granules,
+    "flags of RECs": flags_of_recs,
+    "commands at random": commands_at_random,
+}
 
 
 # ---- what the program answers of these
@@ -455,6 +502,7 @@ def large_listings():
     lines = listing(ONE_REC).splitlines(True)
     long, rec, many = b"0" * MB, b" ".join(lines[13].split(b" ")[:13]), b" 0000000800007000" * 61_680
     yield "a first line of 1 MB", [b"rim-list 1 aux ", long, NEWLINE, *lines[1:]], "no line 1", 0.3
+    yield "a first line with a rule of 1 MB", [b"rim-list 2 aux 0 rec ", long, NEWLINE, *lines[1:]], "no line 1", 0.3
     yield "a line of 1 MB", [*lines[:7], b"delegate ", long, NEWLINE, *lines[8:]], "no line 8", 0.3
     yield "a last line of 1 MB", [*lines[:15], b"rim sha256 ", long, NEWLINE], "no line 16", 0.3
     yield "61,680 addresses after `16`", [*lines[:13], rec, b" 16", many, NEWLINE, *lines[14:]], "no line 14", 0.3

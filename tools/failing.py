@@ -86,7 +86,7 @@ int pthread_create(pthread_t *id, const pthread_attr_t *how, void *(*run)(void *
 
 KINDS = ["memory", "open", "read", "interrupted-read", "short-read", "write", "write-fault", "interrupted-write", "short-write", "thread"]
 
-RELEASE = """rim_manifest = 1
+RELEASE = """rim_manifest = 2
 file = [{name = "kernel", path = "Image"}, {name = "initrd", path = "initrd.img"}, {name = "tree", path = "virt.dtb"}]
 [[launch]]
 name = "a"
@@ -99,7 +99,8 @@ item = [
     {name = "dtb", kind = "dtb", file = "tree", at = 0x40700000, bootargs = "console=ttyAMA0", initrd = true, memory = true},
     {name = "log", kind = "unknown", at = 0x40500000, size = 0x2000},
 ]
-rec = [{}]
+rec = [{}, {runnable = false}]
+rec_rule = "runnable"
 [[launch]]
 name = "b"
 algo = "sha512"

@@ -3,7 +3,7 @@
 be written from docs/FORMATS.md.
 
 It shares no code with rim, is slow, and finds hardly any faults: it is for manifests whose launches are accepted, or
-refused by `size`, `overlap` or `outside-ram`. Tests take their expected values from it.
+refused by `size`, `overlap`, `outside-ram` or `rec-not-runnable`. Tests take their expected values from it.
 
 usage: reference.py MANIFEST [LAUNCH [dtb]]
 
@@ -71,7 +71,7 @@ def word(value):
 
 def rec_page(rec, number, kernel, dtb):
     page = bytearray(PAGE)
-    page[0] = 1
+    page[0] = 1 if rec.get("runnable", True) else 0
     default_pc, default_x0 = (kernel, dtb) if number == 0 else (0, 0)
     registers = [word(x) for x in rec["x"]] if "x" in rec else [default_x0]
     page[0x200:0x208] = struct.pack("<Q", word(rec.get("pc", default_pc)))
@@ -98,7 +98,8 @@ class Listing:
     def __init__(self, launch, start):
         self.next, self.start, self.tables = launch.get("pool_base", 0x800000000), start, set()
         self.aux = launch.get("num_aux", 0)
-        self.lines = [f"rim-list 1 aux {self.aux}"]
+        rule = launch.get("rec_rule")
+        self.lines = [f"rim-list 2 aux {self.aux} rec {rule}" if rule else f"rim-list 1 aux {self.aux}"]
         count = 1 << max(0, launch["s2sz"] - (12 + 9 * (4 - start)))
         base = [self.granule() for _ in range(count)][0]
         rd, flags = self.granule(), realm_page(launch)[0]
@@ -139,7 +140,7 @@ class Listing:
         rec, *aux = [self.granule() for _ in range(1 + self.aux)]
         numbers = struct.unpack_from("<9Q", page, 0x2F8)[1:]
         (pc,) = struct.unpack_from("<Q", page, 0x200)
-        self.line("rec_create", rec, 1, number % 16 + 256 * (number // 16), pc, *numbers, str(self.aux), *aux)
+        self.line("rec_create", rec, page[0], number % 16 + 256 * (number // 16), pc, *numbers, str(self.aux), *aux)
 
 
 def runs(base, end, least_level):
@@ -319,8 +320,12 @@ def measure(launch, files, seen):
             listing.page(at - lead + PAGE * page, content)
 
     def rec(number):
+        is_runnable, rule = launch["rec"][number].get("runnable", True), launch.get("rec_rule")
+        if not is_runnable and rule is None:
+            raise Refused("rec-not-runnable")
         page = rec_page(launch["rec"][number], number, kernel, dtb)
-        rim.rec(rim.hash(page))
+        if is_runnable or rule == "all":
+            rim.rec(rim.hash(page))
         listing.rec(number, page)
 
     names = [asked["name"] for asked, _, _, _ in placed]

@@ -40,11 +40,12 @@ SPELLED = {
     b"rec_create": "A A A A A A A A A A A A AUX",
     b"activate": "",
 }
-FIRST = re.compile(rb"rim-list 1 aux ([0-9]|1[0-6])")
+# A first line, with or without a rule for the RECs that are not runnable.
+FIRST = re.compile(rb"rim-list (?:1 aux (?P<alone>[0-9]|1[0-6])|2 aux (?P<aux>[0-9]|1[0-6]) rec (?P<rule>all|runnable))")
 LAST = re.compile(rb"rim (?:sha256 [0-9a-f]{64}|sha512 [0-9a-f]{128})")
 
 # The words of a trace's line after the name of its command: those of the listing's line but for the granules of the host. The
-# other commands measure nothing, and have no line.
+# other commands measure nothing, and have no line; nor has a REC that is not measured.
 TRACED = {"realm_create": slice(3, None), "init_ripas": slice(1, None), "data_create": slice(2, None), "rec_create": slice(2, 13)}
 
 
@@ -84,11 +85,12 @@ def down(address, size):
 class Monitor:
     """A monitor from its start on. Each command answers the KIND by which it is refused, and then changes nothing; or none.
 
-    The checks of a command are in the order of the table "The monitor's commands that build a realm".
+    The checks of a command are in the order of the table "The monitor's commands that build a realm". The rule says which RECs are
+    measured: "all", or those that are "runnable". Without a rule, a REC has to be runnable.
     """
 
-    def __init__(self, num_aux):
-        self.num_aux = num_aux
+    def __init__(self, num_aux, rule=None):
+        self.num_aux, self.rule = num_aux, rule
         self.phase = "EMPTY"
         # the owner of each granule that is not UNDELEGATED
         self.owners = {}
@@ -203,11 +205,15 @@ class Monitor:
         # accepted of a realm that is ACTIVE too; nothing is measured
         return "state" if self.phase == "EMPTY" else self.assign(granule, ipa)
 
+    def is_measured(self, flags):
+        """Whether a REC with these flags is measured."""
+        return flags == 1 or self.rule == "all"
+
     def rec_create(self, rec, flags, mpidr, pc, *rest):
         *gprs, aux = rest
         if self.phase != "NEW":
             return "state"
-        if flags != 1 or mpidr & ~0xFFFF_FF0F:
+        if flags & ~1 or flags == 0 and self.rule is None or mpidr & ~0xFFFF_FF0F:
             return "bad-params"
         if any(granule % PAGE for granule in [rec, *aux]):
             return "unaligned"
@@ -220,7 +226,8 @@ class Monitor:
             return "not-delegated"
         self.owners.update({rec: "REC"} | dict.fromkeys(aux, "REC_AUX"))
         self.num_recs += 1
-        self.rim.rec(self.rim.hash(reference.rec_page({"pc": pc, "x": gprs}, 0, 0, 0)))
+        if self.is_measured(flags):
+            self.rim.rec(self.rim.hash(reference.rec_page({"pc": pc, "x": gprs, "runnable": flags == 1}, 0, 0, 0)))
 
     def activate(self):
         if self.phase != "NEW":
@@ -233,13 +240,18 @@ class Monitor:
             return f"rim {self.algo} {self.rim.value[: 32 if self.algo == 'sha256' else 64].hex()}".encode()
 
 
+def monitor_of(line):
+    """The monitor that a first line speaks of; none where the line is no first one."""
+    if found := FIRST.fullmatch(line):
+        return Monitor(int(found["alone"] or found["aux"]), found["rule"] and found["rule"].decode())
+
+
 def replayed(listing):
     """The answer, and the monitor after the last command that it took; none where the first line is no first one."""
     *lines, rest = listing.split(b"\n")
-    first = FIRST.fullmatch(lines[0]) if lines else None
-    if first is None:
+    monitor = monitor_of(lines[0]) if lines else None
+    if monitor is None:
         return "no line 1", None
-    monitor = Monitor(int(first[1]))
     for number, line in enumerate(lines[1:], 2):
         if found := command(line):
             name, values = found
@@ -261,11 +273,11 @@ def replay(listing):
 
 def trace(listing):
     """What `rim trace` prints of the launch that has this listing, as lines. The listing is one, line by line."""
-    monitor, traced = Monitor(int(listing[0].rpartition(" ")[2])), []
+    monitor, traced = monitor_of(listing[0].encode()), []
     for line in listing[1:-1]:
         name, values = command(line.encode())
         getattr(monitor, name)(*values)
-        if name in TRACED:
+        if name in TRACED and (name != "rec_create" or monitor.is_measured(values[1])):
             digits = monitor.last_line().decode().rpartition(" ")[2]
             traced.append(" ".join([digits, name, *line.split(" ")[TRACED[name]]]))
     return traced
