@@ -20,6 +20,7 @@ have the key itself:
   words           the words of the command line after the program
   manifest        what manifest.toml has
   files           a table of what the other files have, by their paths. Those of the top and those of a row are side by side
+  stdin           what comes through a pipe on standard input; nothing where absent
   status, stdout, stderr          what is expected; 0 and empty where absent
   stdout_begins, stderr_begins    the same, where only the beginning is said
   stderr_has                      a text that is somewhere on standard error too
@@ -61,7 +62,7 @@ import reference  # noqa: E402, the path is set above
 SECONDS = 60
 PLACE = re.compile(r"\{(\w+)\}")
 EXPECTED = ("stdout", "stderr")
-SETTINGS = ("name", "words", "manifest", "files", "status", *EXPECTED, "stdout_begins", "stderr_begins", "stderr_has", "reference")
+SETTINGS = ("name", "words", "manifest", "files", "stdin", "status", *EXPECTED, "stdout_begins", "stderr_begins", "stderr_has", "reference")
 
 
 # ---- what the files of rows say
@@ -267,7 +268,8 @@ def difference(what, expected, found, begins=False):
 def outcome(program, run, folder, expected):
     """How a run in its folder differs from what is expected, as lines."""
     try:
-        ran = subprocess.run([program, *run["words"]], cwd=folder, stdin=subprocess.DEVNULL, capture_output=True, timeout=SECONDS, check=False)
+        words, given = [program, *run["words"]], contents(run.get("stdin", ""))
+        ran = subprocess.run(words, cwd=folder, input=given, capture_output=True, timeout=SECONDS, check=False)
     except subprocess.TimeoutExpired:
         return [f"it took more than {SECONDS} seconds"]
     status = run.get("status", 0)
