@@ -46,7 +46,9 @@ def releases():
     """The files of each release of the tests that is measured or audited: those that make up one release come once."""
     found = {}
     for each in run.all_runs():
-        if each["words"][:1] in (["measure"], ["audit"]) and each.get("status", 0) in (0, 1) and "manifest.toml" in each["files"]:
+        is_measured = each["words"][:1] in (["measure"], ["audit"]) and each.get("status", 0) in (0, 1)
+        # what comes through a pipe can be read once
+        if is_measured and "manifest.toml" in each["files"] and "stdin" not in each:
             found.setdefault(repr(sorted(each["files"].items())), each)
     return list(found.values())
 
