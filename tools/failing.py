@@ -1,5 +1,5 @@
 #!/usr/bin/env python3
-"""Runs the program with one call of the C library refused, for each such call in turn, and looks at how it ends. Not part of the gate.
+"""Runs the program with a call of the C library refused, for each such call in turn, and looks at how it ends. Not part of the gate.
 
 usage: tools/failing.py [WORD]
 
@@ -12,7 +12,8 @@ kind refused, its second, and so on until no call is left. A run has to end
 - where a file could not be opened or read, with status 3 and that word, or
 - where the output could not be written, with status 3 and `rim: output-failed`.
 
-A call that is interrupted, or moves one byte alone, and a thread that is not started change nothing.
+A call that is interrupted, or moves one byte alone, and a thread that is not started change nothing. Nor do 1,023 reads in a row
+that are interrupted; 1,024 are a file that cannot be read.
 """
 import collections
 import os
@@ -38,11 +39,14 @@ LIBRARY = r"""
 
 static atomic_int calls;
 
+// REFUSED is KIND:FIRST:COUNT.
 static int is_due(const char *kind) {
     const char *asked = getenv("REFUSED");
     size_t len = strlen(kind);
-    if (!asked || strncmp(asked, kind, len) || asked[len] != ':' || atomic_fetch_add(&calls, 1) + 1 != atoi(asked + len + 1))
-        return 0;
+    if (!asked || strncmp(asked, kind, len) || asked[len] != ':') return 0;
+    char *end;
+    long first = strtol(asked + len + 1, &end, 10), call = atomic_fetch_add(&calls, 1) + 1;
+    if (call < first || call >= first + atol(end + 1)) return 0;
     syscall(SYS_close, syscall(SYS_open, getenv("REFUSED_AT"), O_CREAT | O_WRONLY, 0600));
     return 1;
 }
@@ -85,6 +89,10 @@ int pthread_create(pthread_t *id, const pthread_attr_t *how, void *(*run)(void *
 """
 
 KINDS = ["memory", "open", "read", "interrupted-read", "short-read", "write", "write-fault", "interrupted-write", "short-write", "thread"]
+# So many interrupted reads in a row are a file that cannot be read.
+MOST_INTERRUPTIONS = 1024
+# How many calls in a row are refused, where it is not one alone.
+IN_A_ROW = {"interrupted-read": [1, MOST_INTERRUPTIONS - 1, MOST_INTERRUPTIONS]}
 
 RELEASE = """rim_manifest = 2
 file = [{name = "kernel", path = "Image"}, {name = "initrd", path = "initrd.img"}, {name = "tree", path = "virt.dtb"}]
@@ -153,14 +161,15 @@ class Runs:
         return (done.returncode, done.stdout, done.stderr.decode()), os.path.exists(self.mark)
 
 
-def answer(kind, plain, end):
+def answer(kind, count, plain, end):
     """What a run came to, if it may."""
     status, output, said = end
-    if end[:2] == plain[:2] and (said == plain[2] or kind == "write-fault"):
+    is_patient = kind != "interrupted-read" or count < MOST_INTERRUPTIONS
+    if is_patient and end[:2] == plain[:2] and (said == plain[2] or kind == "write-fault"):
         return "as without"
     if kind == "memory" and (status, output, said) == (4, b"", "rim: no-memory\n"):
         return "no-memory"
-    if kind in ("open", "read") and status == 3 and (said == "rim: file-unreadable\n" and not output or b": file-unreadable" in output and not said):
+    if (kind in ("open", "read") or not is_patient) and status == 3 and (said == "rim: file-unreadable\n" and not output or b": file-unreadable" in output and not said):
         return "file-unreadable"
     if kind == "write" and (status, said) == (3, "rim: output-failed\n"):
         return "output-failed"
@@ -174,20 +183,21 @@ def main():
         runs = Runs(folder)
         for command in COMMANDS:
             plain, _ = runs.run(command)
-            for kind in kinds:
+            for kind, count in ((kind, count) for kind in kinds for count in IN_A_ROW.get(kind, [1])):
+                name = kind if count == 1 else f"{kind}, {count} in a row"
                 answers = collections.Counter()
                 number = 1
                 while True:
-                    end, was_refused = runs.run(command, f"{kind}:{number}")
+                    end, was_refused = runs.run(command, f"{kind}:{number}:{count}")
                     if not was_refused:
                         break
-                    came_to = answer(kind, plain, end)
+                    came_to = answer(kind, count, plain, end)
                     if came_to is None:
                         wrong += 1
-                        print(f"rim {command}: {kind} {number}: status {end[0]}, {len(end[1])} bytes, {end[2]!r}")
+                        print(f"rim {command}: {name}, from {number} on: status {end[0]}, {len(end[1])} bytes, {end[2]!r}")
                     answers[came_to or "wrong"] += 1
                     number += 1
-                print(f"rim {command}: {kind}: {number - 1} refused" + "".join(f", {count} {end}" for end, count in answers.items()), flush=True)
+                print(f"rim {command}: {name}: {number - 1} refused" + "".join(f", {many} {end}" for end, many in answers.items()), flush=True)
     print(f"{wrong} wrong")
     return wrong > 0
 
