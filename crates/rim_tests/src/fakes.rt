@@ -14,6 +14,34 @@ small sha256 bf97de388b1abb45577017aa8a9a8d1f160889b11df8e5803e2bf9d8a33e788c
 pages 0
 ";
 
+/// An item of two pages in a launch of each algorithm. Its file has the bytes `NINES`.
+pub const BOTH: &str = "rim_manifest = 1
+[[file]]
+name = \"f\"
+path = \"f\"
+[[launch]]
+name = \"a\"
+algo = \"sha256\"
+s2sz = 33
+ram = [[0x40000000, 0x40200000]]
+item = [{ name = \"x\", kind = \"raw\", file = \"f\", at = 0x40000000 }]
+[[launch]]
+name = \"b\"
+algo = \"sha512\"
+s2sz = 33
+ram = [[0x40000000, 0x40200000]]
+item = [{ name = \"x\", kind = \"raw\", file = \"f\", at = 0x40000000 }]
+";
+
+pub const NINES: [u8; 8192] = [9; 8192];
+
+/// Its report.
+pub const BOTH_REPORT: &[u8] = b"rim-report 1
+a sha256 3c164e2ebad41032c05df5ab32f9adbae4dda06b1bf42fc84e84c38758357f94
+b sha512 aafc034290411693d8f71eeb82a11e6b827ef0ac1627565407ae25c64c98ae40b24a7e1fffe7e8e20fca296299e840a5639d56ee845260ac0bc046df99a5a72c
+pages 4
+";
+
 /// One file of these bytes, at every path.
 #[derive(Drop)]
 pub struct OneFile(pub &'static [u8]);
@@ -54,10 +82,11 @@ pub fn check(rt: &(impl Abort + AllocGlobal), ran: &Ran, status: u8, out: &[u8],
     assert_eq!(rt; found, (status, out, err));
 }
 
-/// A reader that gives 100 bytes of zeros a read, and fails at one of its reads.
+/// A reader that gives at most 100 bytes a read, and fails where it has no read left.
 #[derive(Drop)]
 pub struct FailingReader {
-    pub reads_left: u8,
+    text: &'static [u8],
+    reads_left: u8,
 }
 
 impl Read for FailingReader {
@@ -66,20 +95,56 @@ impl Read for FailingReader {
             return Err(io::Error::from(ErrorKind::InvalidData));
         }
         self.reads_left -= 1;
-        let n = buf.len().min(100);
-        Ok(n)
+        let size = buf.len().min(100);
+        self.text.read(&mut buf[..size])
     }
 }
 
-/// Opens every path as a reader that fails.
+/// What a file does that fails.
+#[derive(Clone, Copy)]
+pub enum Failing {
+    /// It is not opened.
+    Open,
+    /// Its reader fails after so many reads.
+    Read(u8),
+}
+
+/// The release `BOTH` and its file, of which the one that is opened as this number fails: the manifest is 0, and its file 1.
 #[derive(Drop)]
-pub struct FailingFiles(pub u8);
+pub struct FailingFiles {
+    opened: u8,
+    number: u8,
+    failing: Failing,
+}
+
+impl FailingFiles {
+    pub fn new(number: u8, failing: Failing) -> FailingFiles {
+        FailingFiles {
+            opened: 0,
+            number,
+            failing,
+        }
+    }
+
+    /// None of them fails.
+    pub fn none() -> FailingFiles {
+        FailingFiles::new(2, Failing::Open)
+    }
+}
 
 impl Opener for FailingFiles {
     type Reader = FailingReader;
 
-    fn open(&mut self, _path: &str) -> Option<FailingReader> {
-        Some(FailingReader { reads_left: self.0 })
+    fn open(&mut self, path: &str) -> Option<FailingReader> {
+        let is_failing = self.opened == self.number;
+        self.opened = self.opened.saturating_add(1);
+        let text: &'static [u8] = if path == "f" { &NINES } else { BOTH.as_bytes() };
+        let reads_left = match self.failing {
+            Failing::Open if is_failing => return None,
+            Failing::Read(reads) if is_failing => reads,
+            _ => u8::MAX,
+        };
+        Some(FailingReader { text, reads_left })
     }
 }
 

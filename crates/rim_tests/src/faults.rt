@@ -1,7 +1,7 @@
 //! Faults of readers, writers and memory: one line on standard error, nothing on standard output, and their exit status.
 use super::fakes::{
-    FailingFiles, FailingFlush, FailingWriter, InterruptedFiles, MemorylessFiles, OneFile, Ran,
-    SMALLEST, SMALLEST_REPORT, check, run_on,
+    BOTH_REPORT, Failing, FailingFiles, FailingFlush, FailingWriter, InterruptedFiles,
+    MemorylessFiles, Ran, SMALLEST_REPORT, check, run_on,
 };
 use rim_cli::{FreeGate, Opener, report_unreadable, run};
 use std::io;
@@ -32,26 +32,50 @@ fn check_fault<O: Opener>(
 }
 
 #[test]
-fn failing_reader(rt: HostRuntime) {
-    for reads in 0..4u8 {
-        check_fault(&rt, &MEASURE, &mut FailingFiles(reads), 3, UNREADABLE);
+fn file_that_is_not_opened(rt: HostRuntime) {
+    for number in 0..2u8 {
+        let files = &mut FailingFiles::new(number, Failing::Open);
+        check_fault(&rt, &MEASURE, files, 3, UNREADABLE);
+    }
+}
+
+/// One file fails at its first read, at its second, and so on until its reader is not asked so often.
+fn check_reads(rt: &(impl Abort + AllocGlobal + Threads + Wait + Sync), number: u8) {
+    for read in 0..u8::MAX {
+        let files = &mut FailingFiles::new(number, Failing::Read(read));
+        let ran = run_on(rt, &MEASURE, files);
+        if ran.status == 0 {
+            return check(rt, &ran, 0, BOTH_REPORT, b"");
+        }
+        check(rt, &ran, 3, b"", UNREADABLE);
+    }
+    panic!(rt; "a file of at most 8,192 bytes has an end");
+}
+
+#[test]
+fn reader_that_fails_at_each_read(rt: HostRuntime) {
+    for number in 0..2u8 {
+        check_reads(&rt, number);
     }
 }
 
 #[test]
 fn failing_reader_of_a_check(rt: HostRuntime) {
-    check_fault(&rt, &CHECK, &mut FailingFiles(0), 3, UNREADABLE);
+    let files = &mut FailingFiles::new(0, Failing::Read(0));
+    check_fault(&rt, &CHECK, files, 3, UNREADABLE);
 }
 
 #[test]
-fn interruptions_without_an_end(rt: HostRuntime) {
-    check_fault(
-        &rt,
-        &MEASURE,
-        &mut InterruptedFiles(u32::MAX),
-        3,
-        UNREADABLE,
-    );
+fn interruptions_that_are_too_many(rt: HostRuntime) {
+    for in_a_row in [1024, u32::MAX] {
+        check_fault(
+            &rt,
+            &MEASURE,
+            &mut InterruptedFiles(in_a_row),
+            3,
+            UNREADABLE,
+        );
+    }
 }
 
 #[test]
@@ -77,7 +101,7 @@ fn check_status<W: Write, E: Write>(
     out: &mut W,
     err: &mut E,
 ) {
-    let files = &mut OneFile(SMALLEST);
+    let files = &mut FailingFiles::none();
     let status = run(rt, rt.alloc(), &mut FreeGate, words, files, out, err);
     assert_eq!(rt; status, 3);
 }
@@ -95,7 +119,7 @@ fn check_output<W: Write>(
 
 #[test]
 fn failing_output(rt: HostRuntime) {
-    let needed = (SMALLEST_REPORT.len() / 10 + 1) as u8;
+    let needed = (BOTH_REPORT.len() / 10 + 1) as u8;
     for writes_left in 0..needed {
         check_output(&rt, &MEASURE, &mut FailingWriter { writes_left });
     }

@@ -1,5 +1,5 @@
 //! Reports made by workers: each is that of one thread, whoever does which job.
-use super::fakes::SMALLEST;
+use super::fakes::{BOTH, NINES, SMALLEST};
 use rim_cli::{Opener, run};
 use rim_release::{
     FreeGate, Gate, JobId, Outcome, StartFault, audit_report, measure_alone, measure_release,
@@ -39,27 +39,6 @@ item = [{ name = \"x\", kind = \"raw\", file = \"f\", at = 0x40000000 }]
 name = \"d\"
 algo = \"sha256\"
 s2sz = 33
-";
-
-const NINES: [u8; 8192] = [9; 8192];
-
-/// The same item in a launch of each algorithm, and nothing else.
-const BOTH: &str = "rim_manifest = 1
-[[file]]
-name = \"f\"
-path = \"f\"
-[[launch]]
-name = \"a\"
-algo = \"sha256\"
-s2sz = 33
-ram = [[0x40000000, 0x40200000]]
-item = [{ name = \"x\", kind = \"raw\", file = \"f\", at = 0x40000000 }]
-[[launch]]
-name = \"b\"
-algo = \"sha512\"
-s2sz = 33
-ram = [[0x40000000, 0x40200000]]
-item = [{ name = \"x\", kind = \"raw\", file = \"f\", at = 0x40000000 }]
 ";
 
 /// How many jobs there are: four pages and three launches.
