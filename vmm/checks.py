@@ -1,0 +1,159 @@
+"""The five checks of a launch against its devicetree, and the layout's own. Each difference names both sides."""
+from collections.abc import Iterator
+from dataclasses import dataclass
+
+from . import devicetree
+from .devicetree import Tree
+from .dumps import Dump
+from .guest import MIB, PAGE, up
+from .launches import Launch
+
+
+@dataclass(frozen=True)
+class Difference:
+    """What is wrong, by the check that finds it. `seen` is what the devicetree or the layout has, `expected` what the words ask for."""
+
+    check: str
+    seen: str
+    expected: str
+
+    def __str__(self):
+        return f"{self.check}: {self.seen}, expected {self.expected}"
+
+
+def span(base: int, end: int) -> str:
+    return f"{base:#x} to {end:#x}"
+
+
+def spans(ranges: list[tuple[int, int]]) -> str:
+    return " and ".join(span(*each) for each in ranges) or "none"
+
+
+def ram(launch: Launch, tree: Tree) -> Iterator[Difference]:
+    """1. The memory nodes have exactly the launch's regions."""
+    has, wanted = devicetree.memory(tree), devicetree.merged(launch.places.ram)
+    if has != wanted:
+        yield Difference("RAM", f"the devicetree has {spans(has)}", spans(wanted) + " by the size of RAM")
+
+
+def boot_words(vmm, launch: Launch, tree: Tree) -> Iterator[Difference]:
+    """2. `bootargs` is the command line, and the initrd's place is its address and its end, in 4 or 8 bytes."""
+    chosen = tree.root.child("chosen") or devicetree.Node("chosen")
+    args, text = chosen.text("bootargs") or "", launch.guest.append.text
+    if args != text and not (vmm.NAME == "kvmtool" and is_among(text, args)):
+        yield Difference("boot words", f"the devicetree has bootargs {args!r}", f"{text!r}")
+    values = [chosen.properties.get(f"linux,initrd-{end}") for end in ("start", "end")]
+    if launch.guest.initrd is None:
+        if any(value is not None for value in values):
+            yield Difference("boot words", f"the devicetree has an initrd, {initrd_shown(values)}", "none")
+        return
+    wanted = launch.places.initrd, launch.places.initrd + launch.guest.initrd_length
+    if any(value is None or len(value) not in (4, 8) for value in values) or tuple(int.from_bytes(each, "big") for each in values) != wanted:
+        yield Difference("boot words", f"the devicetree has the initrd at {initrd_shown(values)}", span(*wanted))
+
+
+def is_among(text: str, args: str) -> bool:
+    """Whether the words of a command line come among others, side by side: kvmtool puts words of its own beside them."""
+    return f" {text} " in f" {args} " or not text
+
+
+def initrd_shown(values: list[bytes | None]) -> str:
+    return " to ".join("nothing" if value is None else hex(int.from_bytes(value, "big")) for value in values)
+
+
+def processors(launch: Launch, tree: Tree, has_pmu: bool) -> Iterator[Difference]:
+    """3. A node for each processor with its number, and a PMU where the host says so."""
+    has = devicetree.processors(tree)
+    wanted = [number % 16 + 256 * (number // 16) for number in range(launch.processors)]
+    if len(has) != len(wanted):
+        yield Difference("processors", f"the devicetree has {len(has)}", f"{len(wanted)}")
+    elif sorted(has) != wanted:
+        wrong = next(each for each in has if each not in wanted) if set(has) - set(wanted) else has[0]
+        yield Difference("processors", f"the devicetree has one with reg {wrong:#x}", "n mod 16 + 256 * (n / 16) of each number n")
+    if (tree.root.child("pmu") is not None) != has_pmu:
+        yield Difference("processors", f"the devicetree has {'no' if has_pmu else 'a'} node /pmu", f"{'one' if has_pmu else 'none'} by pmu of the host")
+
+
+def same_bytes(vmm, dump: Dump) -> Iterator[Difference]:
+    """4. No seeds, and as many bytes as the hypervisor loads. That two dumps are equal is looked at where they are made."""
+    for name in devicetree.seeds(dump.tree):
+        yield Difference("same bytes twice", f"the devicetree has {name}, which differs at each start", "none (dtb-randomness=off)"
+                         if vmm.NAME == "qemu" else "none")
+    if vmm.DTB_LENGTH and len(dump.data) != vmm.DTB_LENGTH:
+        yield Difference("same bytes twice", f"the devicetree has {len(dump.data)} bytes", f"{vmm.DTB_LENGTH}, as long as it is loaded")
+    if vmm.DTB_LENGTH and len(dump.data) == vmm.DTB_LENGTH != dump.tree.total:
+        yield Difference("same bytes twice", f"the devicetree's header says {dump.tree.total} bytes", f"{vmm.DTB_LENGTH}")
+
+
+def extents(launch: Launch, dump: Dump) -> list[tuple[str, int, int]]:
+    """What takes RAM, by rising address: each with its first address and the one past its last page."""
+    guest, places = launch.guest, launch.places
+    found = [("kernel", places.entry, places.entry + guest.kernel.image.extent), ("dtb", places.dtb, places.dtb + len(dump.data))]
+    if guest.initrd:
+        found.append(("initrd", places.initrd, places.initrd + guest.initrd_length))
+    if places.stub is not None:
+        found.append(("stub", places.stub, places.stub + len(places.stub_bytes)))
+    return sorted(found, key=lambda each: each[1])
+
+
+def place(vmm, launch: Launch, dump: Dump) -> Iterator[Difference]:
+    """5. All is in RAM, nothing overlaps, the devicetree is where one may be, and all ends in the protected half."""
+    places, taken = launch.places, extents(launch, dump)
+    for name, base, end in taken:
+        if not any(low <= base and end <= high for low, high in places.ram):
+            yield Difference("place", f"{name} is at {span(base, end)}", f"all of it in RAM, {spans(places.ram)}")
+    for (name, base, end), (other, other_base, other_end) in zip(taken, taken[1:]):
+        if up(end, PAGE) > other_base // PAGE * PAGE:
+            yield Difference("place", f"{name} {span(base, end)} and {other} {span(other_base, other_end)} share a page", "no such page")
+    if places.dtb % vmm.DTB_ALIGN or places.kernel % (2 * MIB):
+        yield Difference("place", f"dtb at {places.dtb:#x} and kernel's base at {places.kernel:#x}", "multiples of 2 MiB")
+    if vmm.DTB_IS_PAST_INITRD and places.dtb < places.initrd + launch.guest.initrd_length:
+        yield Difference("place", f"dtb at {places.dtb:#x}", "it past the initrd")
+    if (places.pc == places.entry) != (places.stub is None) or places.stub not in (None, places.pc):
+        yield Difference("place", f"pc {places.pc:#x} and stub {places.stub}", "both or neither")
+    yield from protected(launch, dump.tree)
+
+
+def protected(launch: Launch, tree: Tree) -> Iterator[Difference]:
+    """5, the end. RAM and each window of the devicetree are in the protected half of the realm's addresses."""
+    limit = 1 << (launch.places.s2sz - 1)
+    ranges = [("RAM", *each) for each in launch.places.ram] + devicetree.windows(tree)
+    for name, base, end in ranges:
+        if end > limit:
+            yield Difference("place", f"{name} is at {span(base, end)}", f"its end at most at {limit:#x}, half of what s2sz {launch.places.s2sz} has")
+
+
+def of_tree(vmm, launch: Launch, dump: Dump, has_pmu: bool) -> list[Difference]:
+    """What does not fit between the words and the devicetree: checks 1 to 3."""
+    return [*ram(launch, dump.tree), *boot_words(vmm, launch, dump.tree), *processors(launch, dump.tree, has_pmu)]
+
+
+def all_of(vmm, launch: Launch, dump: Dump, has_pmu: bool) -> list[Difference]:
+    return [*of_tree(vmm, launch, dump, has_pmu), *same_bytes(vmm, dump), *place(vmm, launch, dump)]
+
+
+def faults(found: dict[str, list[Difference]], paths: dict[str, str]) -> list[str]:
+    """A line for each kind of difference, with the first launch that has it, its devicetree and how many more there are."""
+    by_check: dict[str, list[tuple[str, Difference]]] = {}
+    for name, differences in found.items():
+        for each in differences:
+            by_check.setdefault(each.check, []).append((name, each))
+    lines = []
+    for differing in by_check.values():
+        name, first = differing[0]
+        others = len({other for other, _ in differing} - {name})
+        more = f" (and {others} launch{'es' if others > 1 else ''} more)" if others else ""
+        path = paths.get(name, "")
+        lines.append(f"launch {name}{', ' + path if path else ''}: {first}{more}")
+    return lines
+
+
+def warnings(trees: list[Tree]) -> list[str]:
+    """What no realm has in its devicetree."""
+    methods = [(tree.root.child("psci") or devicetree.Node("psci")).text("method") for tree in trees]
+    plain = sum(method != "smc" for method in methods)
+    if not plain:
+        return []
+    other = next(method for method in methods if method != "smc")
+    return [f"{plain} of {len(trees)} devicetrees have the psci method {other!r}, expected 'smc': no realm has such a devicetree, since Linux looks "
+            "for the monitor only where PSCI's calls are SMC. The measurements are those of a plain guest's devicetree"]

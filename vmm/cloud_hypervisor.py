@@ -1,0 +1,80 @@
+"""cloud-hypervisor for arm64: the table of its layout, and its words. Nothing of it was tried."""
+from .faults import WrongWords
+from .guest import MIB, PAGE, Guest, Memory, Processors, up
+from .layout import MEMORY, Places, Row
+from .words import Option, Word, memories, processors, required, shown, size
+
+NAME = "cloud-hypervisor"
+TITLE = "cloud-hypervisor"
+BASE = 0x4000_0000
+LOW_END, HIGH = 0xFC00_0000, 0x1_0000_0000
+ENDS_AFTER_DUMP = False
+DTB_LENGTH = None
+DTB_ALIGN = 2 * MIB
+DTB_IS_PAST_INITRD = False
+SOURCE = "cloud-hypervisor's sources"
+EDK = "cloud-hypervisor's sources; EDK II 2025.02, ArmVirtPkg, agrees"
+
+OPTIONS = [
+    Option(("--cpus", "--smp"), "smp", "LIST", "numbers of processors, as boot=N or alone; 1 where it is not given", True),
+    Option(("--memory",), "memory", "LIST", "sizes of RAM, as size=S or alone, a bare number is bytes; 512M where it is not given", True),
+    Option(("--kernel",), "kernel", "FILE", "an arm64 Image. Required", True),
+    Option(("--initramfs", "--initrd"), "initrd", "FILE", "an initrd", True),
+    Option(("--cmdline", "--append"), "append", "TEXT", "a command line of the kernel", True),
+]
+
+
+def base(guest: Guest) -> int:
+    return BASE
+
+
+def ram(guest: Guest, places: Places) -> list[tuple[int, int]]:
+    low = min(guest.memory.size, LOW_END - BASE)
+    rest = guest.memory.size - low
+    return [(BASE, BASE + low)] + ([(HIGH, HIGH + rest)] if rest else [])
+
+
+TABLE = [
+    Row("ram", "from 0x40000000 to 0xfc000000, and what is more from 0x100000000 on: two regions above 3,008 MiB", ram, EDK, MEMORY),
+    Row("dtb", "the start of RAM", lambda guest, places: BASE, EDK, MEMORY),
+    Row("dtb length", "packed; 2 MiB are kept for it", None, SOURCE, MEMORY),
+    Row("kernel", "the base is 4 MiB into RAM", lambda guest, places: BASE + 4 * MIB, SOURCE, MEMORY),
+    Row("entry", "the base and text_offset; the base and 0x80000 where image_size is 0",
+        lambda guest, places: places.kernel + guest.kernel.image.load_offset, SOURCE, MEMORY),
+    Row("kernel_end", "the kernel's address and image_size, or the file's length where that is 0",
+        lambda guest, places: places.entry + guest.kernel.image.taken, SOURCE, MEMORY),
+    Row("initrd", "the end of the last region of RAM, less its length rounded up to 4096",
+        lambda guest, places: places.ram[-1][1] - up(guest.initrd_length, PAGE), SOURCE, MEMORY),
+    Row("pc", "the kernel's address; there is no stub", lambda guest, places: places.entry, SOURCE, MEMORY),
+    Row("x", "x0 is the devicetree's address", lambda guest, places: [places.dtb], SOURCE, MEMORY),
+    Row("recs", "the first processor is runnable; the others begin off and are turned on by PSCI", None, SOURCE, MEMORY),
+    Row("order", "RAM, then what is placed by rising address (the devicetree first), then the RECs", None, SOURCE, MEMORY),
+    Row("s2sz", "the host's: s2sz_max of the file about it", lambda guest, places: None, SOURCE, MEMORY),
+]
+
+
+def read_machine(said: dict):
+    return [Word("", "")]
+
+
+read_cpu = read_machine
+
+
+def read_smp(said: dict) -> list[Processors]:
+    return processors("--cpus", said.get("smp", ["1"]), "boot", lambda key: False)
+
+
+def read_memory(said: dict) -> list[Memory]:
+    def read(text):
+        count = size("--memory", text, 1)
+        if count % PAGE:
+            raise WrongWords(f"--memory: {shown(text)}, expected whole pages of 4096 bytes")
+        return count, None
+
+    harmless = ("shared", "hugepages", "hugepage_size", "mergeable", "prefault", "thp")
+    return memories("--memory", said.get("memory", ["512M"]), read, lambda key: key in harmless)
+
+
+def refuse_rest(rest: list[str]):
+    if rest:
+        raise WrongWords(f"{rest[0]}: after `--`, and cloud-hypervisor makes no devicetree here; expected no such word")

@@ -1,0 +1,74 @@
+"""What a launch is made of, as the words say it."""
+from dataclasses import dataclass
+
+from .image import Image
+
+KIB, MIB, GIB, TIB = 1 << 10, 1 << 20, 1 << 30, 1 << 40
+PAGE = 4096
+
+
+def up(number: int, multiple: int) -> int:
+    """A number rounded up to a multiple."""
+    return -(-number // multiple) * multiple
+
+
+@dataclass(frozen=True)
+class Blob:
+    """A file of the folder that is written: its name there, the path that it comes from if there is one, and where it comes from in words."""
+
+    file: str
+    path: str
+    origin: str
+    length: int
+    label: str
+    digest: str
+
+
+@dataclass(frozen=True)
+class Kernel(Blob):
+    image: Image
+    how: str  # how its bytes were made of those of the path, or nothing
+
+
+@dataclass(frozen=True)
+class Word:
+    """A machine, a processor model or a command line of the kernel: its text, and what a launch's name calls it."""
+
+    text: str
+    label: str
+
+
+@dataclass(frozen=True)
+class Memory:
+    """A size of RAM in bytes, as the hypervisor takes it, and where RAM begins if the words say so."""
+
+    size: int
+    words: str
+    label: str
+    base: int | None = None
+
+
+@dataclass(frozen=True)
+class Processors:
+    count: int
+    words: str
+    label: str
+
+
+@dataclass(frozen=True)
+class Guest:
+    """A launch, before anything has a place. `has_stub`: whether a boot stub, where the hypervisor has one, is part of the realm."""
+
+    machine: Word
+    cpu: Word
+    memory: Memory
+    smp: Processors
+    kernel: Kernel
+    initrd: Blob | None
+    append: Word
+    algo: str
+    has_stub: bool = True
+
+    @property
+    def initrd_length(self) -> int:
+        return self.initrd.length if self.initrd else 0

@@ -1,0 +1,107 @@
+"""kvmtool (`lkvm run`) for arm64: the table of its layout, and its words. All of it is remembered, and nothing was tried."""
+import re
+
+from .faults import WrongWords
+from .guest import KIB, MIB, PAGE, Guest, Memory, Processors, up
+from .layout import MEMORY, Places, Row
+from .words import Option, Word, memories, processors, required, shown, size
+
+NAME = "kvmtool"
+TITLE = "kvmtool (lkvm run)"
+BASE = 0x8000_0000
+ENDS_AFTER_DUMP = False
+DTB_LENGTH = None
+DTB_ALIGN = 2 * MIB
+DTB_IS_PAST_INITRD = True
+SOURCE = "kvmtool's sources"
+
+OPTIONS = [
+    Option(("-c", "--cpus", "--smp"), "smp", "LIST", "numbers of processors. Required: without it lkvm takes the host's", True),
+    Option(("-m", "--mem", "--memory"), "memory", "LIST", "sizes of RAM, a bare number is MiB; or SIZE@ADDRESS, with the address where RAM "
+           "begins. Required: lkvm's default depends on the host", True),
+    Option(("-k", "--kernel"), "kernel", "FILE", "an arm64 Image. Required", True),
+    Option(("-i", "--initrd"), "initrd", "FILE", "an initrd", True),
+    Option(("-p", "--params", "--append"), "append", "TEXT", "a command line of the kernel", True),
+    Option(("--lkvm",), "program", "PROGRAM", "lkvm itself, which makes the devicetrees: each by the final words with --dump-dtb, twice. "
+           "What comes after `--` is given to it too"),
+]
+
+
+def base(guest: Guest) -> int:
+    return BASE if guest.memory.base is None else guest.memory.base
+
+
+def ram(guest: Guest, places: Places) -> list[tuple[int, int]]:
+    return [(base(guest), base(guest) + guest.memory.size)]
+
+
+def dtb(guest: Guest, places: Places) -> int:
+    limit = base(guest) + min(guest.memory.size, 256 * MIB)
+    return up(limit - 2 * MIB - 64 * KIB, 2 * MIB)
+
+
+TABLE = [
+    Row("ram", "from 0x80000000 on, or from the address after `@`, as much as --mem says; one region", ram, SOURCE, MEMORY),
+    Row("kernel", "the base is the start of RAM", lambda guest, places: base(guest), SOURCE, MEMORY),
+    Row("entry", "the base and text_offset; the base and 0x80000 where image_size is 0",
+        lambda guest, places: places.kernel + guest.kernel.image.load_offset, SOURCE, MEMORY),
+    Row("kernel_end", "where the file ends: image_size is not kept clear",
+        lambda guest, places: places.entry + guest.kernel.length, SOURCE, MEMORY),
+    Row("dtb", "64 KiB and 2 MiB below the end of RAM, or of its first 256 MiB, rounded up to 2 MiB", dtb, SOURCE, MEMORY),
+    Row("initrd", "just below the devicetree: its address less the length rounded down to 4, less 4",
+        lambda guest, places: places.dtb - guest.initrd_length // 4 * 4 - 4, SOURCE, MEMORY),
+    Row("dtb length", "a buffer of 64 KiB, in which the tree is packed; how much of it a realm measures is not known", None, SOURCE, MEMORY),
+    Row("pc", "the kernel's address; there is no stub", lambda guest, places: places.entry, SOURCE, MEMORY),
+    Row("x", "x0 is the devicetree's address", lambda guest, places: [places.dtb], SOURCE, MEMORY),
+    Row("recs", "the first processor is runnable; the others begin off and are turned on by PSCI", None, SOURCE, MEMORY),
+    Row("order", "RAM, then what is placed by rising address, then the RECs", None, SOURCE, MEMORY),
+    Row("s2sz", "the bits of RAM's last address, at least 32, and one more for the shared half of a realm",
+        lambda guest, places: max(32, (places.ram[-1][1] - 1).bit_length()) + 1, "Linux, arm-cca.rst has the example of 33 bits", MEMORY),
+]
+
+
+def read_machine(said: dict):
+    return [Word("", "")]
+
+
+read_cpu = read_machine
+
+
+def read_smp(said: dict) -> list[Processors]:
+    texts = required(said, "smp", "--cpus", "numbers of processors: without it lkvm takes the host's")
+    return processors("--cpus", texts, "cpus", lambda key: False)
+
+
+def read_memory(said: dict) -> list[Memory]:
+    def read(text):
+        length, at, start = text.partition("@")
+        count = size("--mem", length, MIB)
+        if count % PAGE:
+            raise WrongWords(f"--mem: {shown(text)}, expected whole pages of 4096 bytes")
+        if at and not re.fullmatch(r"0x[0-9a-fA-F]{1,12}", start):
+            raise WrongWords(f"--mem: {shown(text)}, expected SIZE@0xADDRESS")
+        return count, int(start, 16) if at else None
+
+    return memories("--mem", required(said, "memory", "--mem", "sizes of RAM: lkvm's default depends on the host"), read, lambda key: False)
+
+
+def refuse_rest(rest: list[str]):
+    taken = {name for option in OPTIONS for name in option.names} | {"--dump-dtb", "-f", "--firmware", "--flash"}
+    for word in rest:
+        if word.partition("=")[0] in taken:
+            raise WrongWords(f"{word}: after `--` it would change what the table places, expected it before `--` or not at all")
+
+
+def dump_words(guest: Guest, path: str) -> list[str]:
+    return ["run", *final_words(guest)[1:], "--dump-dtb", path]
+
+
+def final_words(guest: Guest, more: str = "") -> list[str]:
+    return ["run", "--cpus", guest.smp.words, "--mem", guest.memory.words]
+
+
+def load_words(kernel_: str, initrd_: str, append: str) -> list[str]:
+    words = ["--kernel", kernel_]
+    if initrd_:
+        words += ["--initrd", initrd_]
+    return words + (["--params", append] if append else [])

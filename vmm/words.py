@@ -1,0 +1,185 @@
+"""The words of the command line: options, lists of values, sizes."""
+import re
+from collections.abc import Callable
+from dataclasses import dataclass
+from fractions import Fraction
+
+from .faults import WrongWords
+from .guest import GIB, KIB, MIB, Memory, Processors, Word
+
+UNITS = {"": 1, "B": 1, "K": KIB, "M": MIB, "G": GIB, "T": KIB * GIB}
+ALGORITHMS = ("sha256", "sha512")
+
+
+@dataclass(frozen=True)
+class Option:
+    names: tuple[str, ...]
+    key: str
+    value: str          # what the help calls its value; nothing where it takes none
+    help: str
+    many: bool = False  # whether it may be given more than once, each time with one value more of a list
+
+
+COMMON = [
+    Option(("--append-file",), "append_file", "FILE", "command lines of the kernel, one a line; empty lines are passed over", True),
+    Option(("--no-initrd",), "no_initrd", "", "a launch without initrd too, beside those with one"),
+    Option(("--algo",), "algo", "LIST", "hash algorithms: sha256 (default), sha512", True),
+    Option(("--host",), "host", "FILE", "what only the machine knows: vmm/host-example.toml explains it. Required"),
+    Option(("--dtb",), "dtb", "FILE", "a devicetree as the hypervisor loads it, which is placed as it is. Of several, each launch takes the one "
+           "that fits it", True),
+    Option(("--s2sz",), "s2sz", "N", "the width of an IPA in bits, where the rule of the table does not hold"),
+    Option(("--kernel-pages",), "kernel_pages", "WHICH", "pages of the kernel that are measured: those of its `file` (default), or those of its "
+           "`image_size` too, with the BSS as zeros"),
+    Option(("--dtb-pages",), "dtb_pages", "WHICH", "pages of the devicetree that are measured: the `whole` file (default), or those that are `used`"),
+    Option(("--order",), "order", "ORDER", "in which order the realm is built: `address` (default: RAM, then what is placed by rising address, "
+           "then the RECs), or a list such as ram,kernel,initrd,dtb,rec"),
+    Option(("--out",), "out", "DIR", "the folder that is written. Required"),
+    Option(("--force",), "force", "", "replace DIR, if rim-manifest has written it"),
+    Option(("--rules",), "rules", "", "print the table of the hypervisor, and do nothing else"),
+    Option(("-h", "--help"), "help", "", "print this help"),
+]
+
+
+def parse(options: list[Option], words: list[str]) -> dict:
+    """What the words say: a text for each key, a list where there may be many, True for a flag. `rest` is what comes after `--`."""
+    by_name = {name: option for option in options for name in option.names}
+    said: dict = {"rest": []}
+    words = list(words)
+    while words:
+        word = words.pop(0)
+        if word == "--":
+            said["rest"] = words
+            break
+        name, equals, value = word.partition("=") if word.startswith("--") else (word, "", "")
+        if name not in by_name:
+            raise WrongWords(f"{shown(word)}: no word of this hypervisor's that is known, expected one of --help; others go after `--`")
+        option = by_name[name]
+        if not option.value and equals:
+            raise WrongWords(f"{name}: {shown(value)} is given, expected no value")
+        if option.value and not equals:
+            if not words:
+                raise WrongWords(f"{name}: nothing is given, expected {option.value}")
+            value = words.pop(0)
+        if option.key in said and not option.many:
+            raise WrongWords(f"{name}: it is given twice, expected once")
+        if option.many:
+            said.setdefault(option.key, []).append(value)
+        else:
+            said[option.key] = value if option.value else True
+    return said
+
+
+def help_of(options: list[Option]) -> str:
+    """The lines of the options."""
+    lines = []
+    for option in options:
+        lines.append("  " + ", ".join(option.names) + (f" {option.value}" if option.value else ""))
+        lines.append("        " + option.help + (" [list]" if option.many else ""))
+    return "\n".join(lines)
+
+
+def shown(text: str) -> str:
+    """A text of the user's in a line: between quotes, without control characters."""
+    return repr(text)
+
+
+def required(said: dict, key: str, names: str, why: str = ""):
+    if key not in said:
+        raise WrongWords(f"{names}: it is not given, expected {why or 'one'}")
+    return said[key]
+
+
+def choice(said: dict, key: str, name: str, choices: tuple[str, ...]) -> str:
+    """One of some words, the first by default."""
+    value = said.get(key, choices[0])
+    if value not in choices:
+        raise WrongWords(f"{name}: {shown(value)}, expected {' or '.join(choices)}")
+    return value
+
+
+def number(name: str, text: str, least: int, most: int) -> int:
+    if not re.fullmatch(r"[0-9]{1,9}", text) or not least <= int(text) <= most:
+        raise WrongWords(f"{name}: {shown(text)}, expected a whole number from {least} to {most}")
+    return int(text)
+
+
+def size(name: str, text: str, bare: int, has_fractions: bool = False) -> int:
+    """A size in bytes: a number and a unit of B, K, M, G or T, which are powers of 1,024. Without one its unit is `bare`."""
+    form = r"([0-9]{1,12}(?:\.[0-9]{1,12})?)([bkmgtBKMGT]?)" if has_fractions else r"([0-9]{1,12})([bkmgtBKMGT]?)"
+    found = re.fullmatch(form, text)
+    if not found:
+        raise WrongWords(f"{name}: {shown(text)}, expected a size such as 512M or 2G")
+    unit = UNITS[found[2].upper()] if found[2] else bare
+    return int(Fraction(found[1]) * unit)
+
+
+def size_label(count: int) -> str:
+    """A size by the largest unit of which it is a whole number."""
+    for unit, length in (("G", GIB), ("M", MIB), ("K", KIB)):
+        if count % length == 0:
+            return f"{count // length}{unit}"
+    return f"{count}B"
+
+
+def with_words(name: str, texts: list[str], key: str) -> list[tuple[str, str]]:
+    """The values of a list, each with the words `KEY=VALUE` that were said beside it. A value is said alone, or as `key=VALUE`."""
+    found = []
+    for text in texts:
+        parts = text.split(",")
+        values = [part.removeprefix(key + "=") for part in parts if "=" not in part or part.startswith(key + "=")]
+        beside = [part for part in parts if "=" in part and not part.startswith(key + "=")]
+        if not values:
+            raise WrongWords(f"{name}: {shown(text)} has no value, expected one alone or as {key}=")
+        found += [(value, ",".join(beside)) for value in values]
+    return found
+
+
+def processors(name: str, texts: list[str], key: str, allows: Callable[[str], bool]) -> list[Processors]:
+    found = []
+    for value, beside in with_words(name, texts, key):
+        refuse_beside(name, beside, allows)
+        count = number(name, value, 1, 512)
+        found.append(Processors(count, ",".join(filter(None, [str(count), beside])), f"smp{count}"))
+    return found
+
+
+def refuse_beside(name: str, beside: str, allows: Callable[[str], bool]):
+    """Words beside a value of which the effect is not known are refused."""
+    for part in filter(None, beside.split(",")):
+        if not allows(part.split("=")[0]):
+            raise WrongWords(f"{name}: {shown(part)}: what it changes is not known, expected values alone")
+
+
+def memories(name: str, texts: list[str], read: Callable[[str], tuple[int, int | None]], allows: Callable[[str], bool]) -> list[Memory]:
+    """Sizes of RAM; `read` gives that of a text, and where RAM begins if the text says so."""
+    found = []
+    for value, beside in with_words(name, texts, "size"):
+        refuse_beside(name, beside, allows)
+        length, base = read(value)
+        if not length:
+            raise WrongWords(f"{name}: {shown(value)}, expected more than nothing")
+        label = size_label(length) + (f"at{base:x}" if base is not None else "")
+        found.append(Memory(length, ",".join(filter(None, [value, beside])), label, base))
+    return found
+
+
+def algorithms(texts: list[str]) -> list[str]:
+    values = [value for text in texts for value in text.split(",")]
+    for value in values:
+        if value not in ALGORITHMS:
+            raise WrongWords(f"--algo: {shown(value)}, expected {' or '.join(ALGORITHMS)}")
+    return values
+
+
+def labelled(texts: list[str], prefix: str) -> list[Word]:
+    """Texts with labels: the text itself where all of them can be part of a name and are short, else a number."""
+    plain = all(re.fullmatch(r"[A-Za-z0-9._-]{1,20}", text) for text in texts) and len(set(texts)) == len(texts)
+    return [Word(text, text if plain else f"{prefix}{number}") for number, text in enumerate(texts, 1)]
+
+
+def appends(name: str, texts: list[str]) -> list[Word]:
+    """Command lines of the kernel, numbered in their order."""
+    for text in texts:
+        if any(ord(letter) < 32 or ord(letter) == 127 for letter in text):
+            raise WrongWords(f"{name}: {shown(text)} has a control character, expected a text of one line")
+    return [Word(text, f"append{number}") for number, text in enumerate(texts, 1)]
