@@ -78,3 +78,14 @@ def read_memory(said: dict) -> list[Memory]:
 def refuse_rest(rest: list[str]):
     if rest:
         raise WrongWords(f"{rest[0]}: after `--`, and cloud-hypervisor makes no devicetree here; expected no such word")
+
+
+def final_words(guest: Guest, more: str = "") -> list[str]:
+    return ["--cpus", f"boot={guest.smp.words}", "--memory", f"size={guest.memory.words}"]
+
+
+def load_words(kernel_: str, initrd_: str, append: str) -> list[str]:
+    words = ["--kernel", kernel_]
+    if initrd_:
+        words += ["--initramfs", initrd_]
+    return words + (["--cmdline", append] if append else [])

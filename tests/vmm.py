@@ -1,0 +1,638 @@
+#!/usr/bin/env python3
+"""Gives rim-manifest words, files and a stand-in for the hypervisor, and looks at what it says and at the manifests that it writes.
+
+    tests/vmm.py [PROGRAM]          by default the program that `rt ci` has built
+
+- Wrong words and faults: the status, the one line and that nothing is written.
+- Places: addresses that were worked out by hand from docs/VMM.md, of each hypervisor.
+- Options, names, matrices, more than 64 files, a folder that is moved, --force, an installed rim-manifest.
+
+PROGRAM reads each manifest that is written, by `check` without a line, and measures it. The devicetrees are made here. The last line is
+'N passed, M failed'.
+"""
+import concurrent.futures
+import gzip
+import json
+import os
+import re
+import shutil
+import struct
+import subprocess
+import sys
+import tempfile
+import tomllib
+
+TOP = os.path.dirname(os.path.dirname(os.path.abspath(__file__)))
+START = os.path.join(TOP, "rim-manifest")
+MIB = 1 << 20
+SECONDS = 60
+
+
+# ---- files
+
+
+class Writer:
+    """Writes a flattened devicetree: a root as nodes, each with properties and nodes."""
+
+    def __init__(self):
+        self.structure, self.strings = bytearray(), bytearray()
+
+    def put(self, *words: int, data: bytes = b""):
+        self.structure += struct.pack(f">{len(words)}I", *words) + data
+        self.structure += bytes(-len(self.structure) % 4)
+
+    def name(self, name: str) -> int:
+        found = self.strings.find(name.encode() + b"\0")
+        if found < 0:
+            found = len(self.strings)
+            self.strings += name.encode() + b"\0"
+        return found
+
+    def node(self, name: str, node: dict):
+        self.put(1, data=name.encode() + b"\0")
+        for key, value in node.items():
+            if not isinstance(value, dict):
+                self.put(3, len(value), self.name(key), data=value)
+        for key, value in node.items():
+            if isinstance(value, dict):
+                self.node(key, value)
+        self.put(2)
+
+    def whole(self, root: dict, length: int | None) -> bytes:
+        self.node("", root)
+        self.put(9)
+        start = 56
+        ends = start + len(self.structure), start + len(self.structure) + len(self.strings)
+        total = length or ends[1]
+        header = struct.pack(">10I", 0xD00DFEED, total, start, ends[0], 40, 17, 16, 0, len(self.strings), len(self.structure))
+        return (header + bytes(16) + self.structure + self.strings).ljust(total, b"\0")
+
+
+def tree(ram, bootargs="", initrd=None, count=1, length: int | None = MIB, method=b"smc\0", cells=">Q", **more) -> bytes:
+    """A devicetree as a hypervisor makes it; `more` are further nodes of the root, or None for one that is left out."""
+    chosen = {"bootargs": bootargs.encode() + b"\0"} if bootargs else {}
+    if initrd:
+        chosen |= {"linux,initrd-start": struct.pack(cells, initrd[0]), "linux,initrd-end": struct.pack(cells, initrd[1])}
+    cpus = {f"cpu@{n:x}": {"reg": struct.pack(">I", n % 16 + n // 16 * 256)} for n in range(count)}
+    memory = b"".join(struct.pack(">QQ", base, end - base) for base, end in ram)
+    root = {"#address-cells": struct.pack(">I", 2), "#size-cells": struct.pack(">I", 2), "chosen": chosen,
+            f"memory@{ram[0][0]:x}": {"reg": memory}, "cpus": {"#address-cells": struct.pack(">I", 1)} | cpus,
+            "psci": {"method": method}, "pmu": {}, "pcie@10000000": {
+                "#address-cells": struct.pack(">I", 3), "#size-cells": struct.pack(">I", 2),
+                "ranges": struct.pack(">IQQQ", 0x3000000, 1 << 39, 1 << 39, 1 << 39)}} | more
+    return Writer().whole({key: value for key, value in root.items() if value is not None}, length)
+
+
+def image(image_size=2 * MIB, text_offset=0, length=20_000) -> bytes:
+    """An arm64 Image: its header, and bytes in the place of code."""
+    header = struct.pack("<IIQQQQQQII", 0, 0x14000010, text_offset, image_size, 0xA, 0, 0, 0, 0x644D5241, 0)
+    return header + bytes(n * 37 % 251 for n in range(length - 64))
+
+
+def zboot(plain: bytes, how=b"gzip") -> bytes:
+    packed = gzip.compress(plain, mtime=0)
+    return struct.pack("<2sH4sII8s32s", b"MZ", 0, b"zimg", 64, len(packed), b"", how).ljust(64, b"\0") + packed
+
+
+HOST = {"num_bps": "5", "num_wps": "3", "sve": "false", "pmu": "true", "pmu_num_ctrs": "6", "block_level": "2", "rec_rule": '"runnable"',
+        "s2sz_max": "48"}
+
+
+def host(**changes) -> bytes:
+    """The file of --host; None leaves a key out."""
+    return "".join(f"{key} = {value}\n" for key, value in (HOST | changes).items() if value is not None).encode()
+
+
+LOW = 0x4000_0000
+INITRD = bytes(n * 91 % 253 for n in range(9001))
+WITH_INITRD = (0x4800_0000, 0x4800_0000 + len(INITRD))
+FILES = {
+    "Image": image(), "initrd": INITRD, "host.toml": host(), "tree": tree([(LOW, LOW + 256 * MIB)]),
+}
+OTHER_IMAGE = image(length=30_000)
+QEMU = ["qemu", "-M", "virt,gic-version=3", "-cpu", "max", "-m", "256M", "-kernel", "Image", "--host", "host.toml", "--out", "out"]
+WITH_TREE = [*QEMU, "--dtb", "tree"]
+KVMTOOL = ["kvmtool", "-c", "1", "-m", "256", "-k", "Image", "--host", "host.toml", "--out", "out", "--dtb", "tree"]
+CLOUD = ["cloud-hypervisor", "--kernel", "Image", "--host", "host.toml", "--out", "out", "--dtb", "tree"]
+
+# It stands in for QEMU: it copies a devicetree of the folder `trees` to the path of dumpdtb=, one for each -m, -smp and -append.
+STAND_IN = r"""#!/bin/sh
+here=$(dirname "$0")
+[ "$1" = --version ] && echo "QEMU emulator version 10.0.2 (a stand-in)" && exit
+args=none
+while [ $# -gt 0 ]; do
+    case $1 in
+    -machine) path=${2#*dumpdtb=} path=${path%,dtb-randomness=off} ;;
+    -m) memory=$2 ;;
+    -smp) processors=$2 ;;
+    -append) args=$2 ;;
+    -kernel) [ -f "$2" ] || exit 9 ;;
+    -fail) echo "first" >&2; echo "a stand-in: no such word" >&2; exit 1 ;;
+    -differ) printf x >>"$here/count"; here=$here/$(wc -c <"$here/count" | tr -d ' ') ;;
+    esac
+    shift
+done
+cp "$here/trees/$memory-$processors-$args" "$path"
+"""
+# It stands in for lkvm, which goes on with the guest once it has written the devicetree.
+LKVM = r"""#!/bin/sh
+[ "$1" = --version ] && echo "kvm tool 3.18" && exit
+while [ $# -gt 0 ]; do
+    [ "$1" = --dump-dtb ] && path=$2
+    shift
+done
+cp "$(dirname "$0")/tree" "$path"
+exec sleep 30
+"""
+
+
+class Folder:
+    """A fresh folder with files, in which rim-manifest is started."""
+
+    def __init__(self, files: dict[str, bytes] | None = None):
+        self.made = tempfile.TemporaryDirectory()
+        self.path = self.made.name
+        for name, data in (FILES | (files or {})).items():
+            self.put(name, data)
+
+    def put(self, name: str, data: bytes, is_program=False):
+        path = os.path.join(self.path, name)
+        os.makedirs(os.path.dirname(path), exist_ok=True)
+        with open(path, "wb") as file:
+            file.write(data)
+        if is_program:
+            os.chmod(path, 0o755)
+
+    def run(self, *words: str, start=START, **environment):
+        ran = subprocess.run([start, *words], cwd=self.path, capture_output=True, timeout=SECONDS, check=False, stdin=subprocess.DEVNULL,
+                             env=os.environ | environment)
+        return ran.returncode, ran.stdout.decode(), ran.stderr.decode()
+
+    def names(self) -> set[str]:
+        return set(os.listdir(self.path))
+
+    def read(self, name: str) -> bytes:
+        with open(os.path.join(self.path, name), "rb") as file:
+            return file.read()
+
+    def toml(self, name="out/manifest.toml") -> dict:
+        return tomllib.loads(self.read(name).decode())
+
+    def __enter__(self):
+        return self
+
+    def __exit__(self, *_):
+        self.made.cleanup()
+
+
+def without(words: list[str], name: str) -> list[str]:
+    at = words.index(name)
+    return words[:at] + words[at + 2:]
+
+
+def replaced(words: list[str], name: str, value: str) -> list[str]:
+    at = words.index(name)
+    return words[:at + 1] + [value] + words[at + 2:]
+
+
+# ---- wrong words and faults: a name, words, files, and what the line on standard error has
+
+WRONG = [
+    ("no words", [], "usage: rim-manifest"),
+    ("another hypervisor", ["xen"], "'xen', expected qemu, kvmtool, cloud-hypervisor"),
+    ("a word that is not known", [*WITH_TREE, "-nodefaults"], "'-nodefaults': no word of this hypervisor's"),
+    ("no value", [*WITH_TREE, "-initrd"], "-initrd: nothing is given, expected FILE"),
+    ("twice", [*WITH_TREE, "--out", "b"], "--out: it is given twice"),
+    ("a flag with a value", [*WITH_TREE, "--force=yes"], "--force: 'yes' is given, expected no value"),
+    ("no machine", without(WITH_TREE, "-M"), "-machine: it is not given"),
+    ("another machine", replaced(WITH_TREE, "-M", "raspi3b"), "-machine: 'raspi3b', expected virt"),
+    ("dumpdtb", replaced(WITH_TREE, "-M", "virt,dumpdtb=x"), "expected no dumpdtb"),
+    ("seeds", replaced(WITH_TREE, "-M", "virt,dtb-randomness=on"), "dtb-randomness=on: the devicetree differs at each start"),
+    ("no processor model", without(WITH_TREE, "-cpu"), "-cpu: it is not given, expected a 64-bit"),
+    ("a 32-bit processor", replaced(WITH_TREE, "-cpu", "cortex-a15"), "'cortex-a15' is a 32-bit processor"),
+    ("no kernel", without(WITH_TREE, "-kernel"), "-kernel, --kernel: it is not given"),
+    ("no processors", [*WITH_TREE, "-smp", "0"], "-smp: '0', expected a whole number from 1 to 512"),
+    ("too many processors", [*WITH_TREE, "-smp", "1,513"], "-smp: '513'"),
+    ("processors without a number", [*WITH_TREE, "-smp", "maxcpus=4"], "'maxcpus=4' has no value, expected one alone or as cpus="),
+    ("no size", replaced(WITH_TREE, "-m", "much"), "-m: 'much', expected a size"),
+    ("a size of nothing", replaced(WITH_TREE, "-m", "0"), "-m: '0', expected more than nothing"),
+    ("another word of a size", replaced(WITH_TREE, "-m", "1G,share=on"), "-m: 'share=on': what it changes is not known"),
+    ("another algorithm", [*WITH_TREE, "--algo", "sha256,sha384"], "--algo: 'sha384', expected sha256 or sha512"),
+    ("a control character", [*WITH_TREE, "-append", "a\tb"], "'a\\tb' has a control character"),
+    ("no devicetree", QEMU, "--qemu and --dtb: neither is given"),
+    ("two sources of devicetrees", [*WITH_TREE, "--qemu", "qemu"], "--qemu and --dtb: both are given"),
+    ("words for no program", [*WITH_TREE, "--", "-nodefaults"], "-nodefaults: after `--` are words for the hypervisor's program"),
+    ("firmware", [*QEMU, "--qemu", "q", "--", "-bios", "x"], "-bios: after `--` it would change what the table places"),
+    ("an edited devicetree", [*QEMU, "--qemu", "q", "--", "--dtb", "x"], "--dtb: after `--` it would change"),
+    ("flash", [*QEMU, "--qemu", "q", "--", "-drive", "if=pflash,file=x"], "-drive if=pflash,file=x: it loads what no table places"),
+    ("a loader", [*QEMU, "--qemu", "q", "--", "-device", "loader,file=x"], "-device loader,file=x: it loads"),
+    ("an order without RAM", [*WITH_TREE, "--order", "kernel,dtb,stub,rec"], "--order: 'kernel,dtb,stub,rec', expected address, or each of"),
+    ("an order with one twice", [*WITH_TREE, "--order", "ram,kernel,dtb,stub,rec,rec"], "--order: "),
+    ("another stub", [*WITH_TREE, "--stub", "some"], "--stub: 'some', expected measured or none"),
+    ("other pages of the kernel", [*WITH_TREE, "--kernel-pages", "all"], "--kernel-pages: 'all', expected file or image_size"),
+    ("other pages of the devicetree", [*WITH_TREE, "--dtb-pages", "all"], "--dtb-pages: 'all', expected whole or used"),
+    ("a width", [*WITH_TREE, "--s2sz", "31"], "--s2sz: '31', expected a whole number from 32 to 48"),
+    ("no folder", without(WITH_TREE, "--out"), "--out: it is not given"),
+    ("no host", without(WITH_TREE, "--host"), "--host: it is not given, expected the file"),
+    ("kvmtool: no processors", without(KVMTOOL, "-c"), "--cpus: it is not given"),
+    ("kvmtool: no memory", without(KVMTOOL, "-m"), "--mem: it is not given"),
+    ("kvmtool: parts of pages", replaced(KVMTOOL, "-m", "3K"), "--mem: '3K', expected whole pages"),
+    ("kvmtool: no address", replaced(KVMTOOL, "-m", "1G@2G"), "--mem: '1G@2G', expected SIZE@0xADDRESS"),
+    ("kvmtool: a word for the program", [*without(KVMTOOL, "--dtb"), "--lkvm", "l", "--", "--firmware", "x"], "--firmware: after `--`"),
+    ("cloud-hypervisor: a word of processors", [*CLOUD, "--cpus", "boot=2,max=4"], "--cpus: 'max=4': what it changes is not known"),
+    ("cloud-hypervisor: a word of memory", [*CLOUD, "--memory", "size=1G,hotplug_size=1G"], "'hotplug_size=1G': what it changes"),
+]
+
+
+def changed_host(**changes):
+    return {"host.toml": host(**changes)}
+
+
+def changed_tree(**changes):
+    return {"tree": tree(changes.pop("ram", [(LOW, LOW + 256 * MIB)]), **changes)}
+
+
+FAULTS = [
+    ("no file of the host", replaced(WITH_TREE, "--host", "none"), {}, "none: No such file or directory, expected the file of --host"),
+    ("a host that is no TOML", WITH_TREE, {"host.toml": b"num_bps 5"}, "host.toml: no TOML"),
+    ("a host with another key", WITH_TREE, changed_host(num_bp="5"), "num_bp = 5, expected one of num_bps"),
+    ("a host with a number that is large", WITH_TREE, changed_host(num_bps="256"), "num_bps = 256, expected a whole number from 0 to 255"),
+    ("a host with a word for a number", WITH_TREE, changed_host(num_bps="true"), "num_bps = True, expected a whole number"),
+    ("a host without breakpoints", WITH_TREE, changed_host(num_bps=None), "it has no num_bps, expected one since it is measured"),
+    ("a host without watchpoints", WITH_TREE, changed_host(num_wps=None), "it has no num_wps"),
+    ("a host without block_level", WITH_TREE, changed_host(block_level=None), "it has no block_level"),
+    ("a host without sve", WITH_TREE, changed_host(sve=None), "it has no sve"),
+    ("a host without pmu", WITH_TREE, changed_host(pmu=None), "it has no pmu"),
+    ("a host without sve_vl", WITH_TREE, changed_host(sve="true"), "it has no sve_vl, expected one since sve is true"),
+    ("a host without counters", WITH_TREE, changed_host(pmu_num_ctrs=None), "it has no pmu_num_ctrs, expected one since pmu is true"),
+    ("a host with counters of no PMU", WITH_TREE, changed_host(pmu="false"), "pmu_num_ctrs = 6 and pmu = false"),
+    ("a host without rec_rule", [*WITH_TREE, "-smp", "2"], changed_host(rec_rule=None), "it has no rec_rule, expected one since there are"),
+    ("a host with another rec_rule", WITH_TREE, changed_host(rec_rule='"some"'), "rec_rule = 'some', expected runnable or all"),
+    ("a host with a short rpv", WITH_TREE, changed_host(rpv='"00"'), "rpv = '00', expected 128 hexadecimal digits"),
+    ("cloud-hypervisor: a host without a width", CLOUD, changed_host(s2sz_max=None), "it has no s2sz_max, expected one since cloud-hypervisor"),
+    ("no file of the kernel", replaced(WITH_TREE, "-kernel", "none"), {}, "none: No such file or directory, expected a file"),
+    ("a kernel that is ELF", WITH_TREE, {"Image": b"\x7fELF" + bytes(99)}, "Image: an ELF file, expected an arm64 Image"),
+    ("a kernel that is xz", WITH_TREE, {"Image": b"\xfd7zXZ" + bytes(99)}, "Image: an xz file, expected an arm64 Image"),
+    ("a kernel without magic", WITH_TREE, {"Image": bytes(99)}, "Image: no magic `ARM\\x64` at byte 56"),
+    ("a kernel that is short", WITH_TREE, {"Image": image()[:63]}, "Image: no magic"),
+    ("gzip that is cut", WITH_TREE, {"Image": gzip.compress(image())[:-9]}, "Image: gzip that is cut short"),
+    ("gzip that is bad", WITH_TREE, {"Image": b"\x1f\x8b" + bytes(99)}, "Image: gzip that cannot be unpacked"),
+    ("gzip of no Image", WITH_TREE, {"Image": gzip.compress(bytes(99))}, "Image: no magic"),
+    ("kvmtool: gzip", KVMTOOL, {"Image": gzip.compress(image())}, "Image: a gzip file, expected an arm64 Image"),
+    ("kvmtool: zboot", KVMTOOL, {"Image": zboot(image())}, "Image: an EFI zboot file, expected an arm64 Image"),
+    ("zboot of no version", WITH_TREE, {"Image": zboot(image())}, "an EFI zboot file, which QEMU unpacks from 10.0 on"),
+    ("zboot of an old version", WITH_TREE, {"Image": zboot(image())} | changed_host(hypervisor_version='"7.2.22"'), "which QEMU 7.2.22 may load packed"),
+    ("zboot by zstd", WITH_TREE, {"Image": zboot(image(), b"zstd22")} | changed_host(hypervisor_version='"10.0"'), "an EFI zboot packed by 'zstd22'"),
+    ("an empty initrd", [*WITH_TREE, "-initrd", "i"], {"i": b""}, "i: it is empty, expected an initrd"),
+    ("an initrd of U-Boot", [*WITH_TREE, "-initrd", "i"], {"i": b"\x27\x05\x19\x56" + bytes(99)}, "i: an initrd with a U-Boot header"),
+    ("no command lines", [*WITH_TREE, "--append-file", "a"], {"a": b"\n\n"}, "a: it has no command line"),
+    ("command lines that are not UTF-8", [*WITH_TREE, "--append-file", "a"], {"a": b"\xff\n"}, "a: it is not UTF-8"),
+    ("a folder that exists", WITH_TREE, {"out/x": b""}, "out: it exists, expected a new folder or --force"),
+    ("a folder of another", [*WITH_TREE, "--force"], {"out/x": b""}, "out: it is no folder that rim-manifest has written"),
+    ("a folder in none", replaced(WITH_TREE, "--out", "a/b"), {}, "a/b: No such file or directory"),
+    ("no file of the devicetree", replaced(WITH_TREE, "--dtb", "none"), {}, "none: No such file or directory, expected a devicetree"),
+    ("a short devicetree", WITH_TREE, {"tree": b"\xd0\x0d\xfe\xed"}, "tree: 4 bytes, expected a flattened devicetree"),
+    ("no devicetree", WITH_TREE, {"tree": bytes(99)}, "tree: begins with 0x00000000, expected 0xd00dfeed"),
+    ("a devicetree that is cut", WITH_TREE, {"tree": FILES["tree"][:-1]}, "tree: its header says 1048576 bytes"),
+    ("a devicetree without an end", WITH_TREE, {"tree": FILES["tree"].replace(b"\0\0\0\2\0\0\0\2\0\0\0\x09", b"\0\0\0\4\0\0\0\4\0\0\0\x09")}, "has no end"),
+    ("another size of RAM", WITH_TREE, changed_tree(ram=[(LOW, LOW + 512 * MIB)]), "launch 256M-smp1-sha256, tree: RAM: the devicetree has "
+     "0x40000000 to 0x60000000, expected 0x40000000 to 0x50000000"),
+    ("another command line", [*WITH_TREE, "-append", "quiet"], changed_tree(bootargs="debug"), "boot words: the devicetree has bootargs 'debug', "
+     "expected 'quiet'"),
+    ("a command line that is not said", WITH_TREE, changed_tree(bootargs="debug"), "has bootargs 'debug', expected ''"),
+    ("no place of an initrd", [*WITH_TREE, "-initrd", "initrd"], {}, "has the initrd at nothing to nothing, expected 0x48000000 to 0x48002329"),
+    ("another place of an initrd", [*WITH_TREE, "-initrd", "initrd"], changed_tree(initrd=(0x4400_0000, 0x4400_2329)), "has the initrd at 0x44000000"),
+    ("an initrd that is not said", WITH_TREE, changed_tree(initrd=WITH_INITRD), "the devicetree has an initrd, 0x48000000 to 0x48002329, expected none"),
+    ("other processors", [*WITH_TREE, "-smp", "2"], {}, "processors: the devicetree has 1, expected 2"),
+    ("another number of a processor", WITH_TREE, changed_tree(cpus={"cpu@1": {"reg": b"\0\0\0\1"}}), "one with reg 0x1, expected n mod 16"),
+    ("no PMU", WITH_TREE, changed_tree(pmu=None), "the devicetree has no node /pmu, expected one by pmu of the host"),
+    ("a PMU", WITH_TREE, changed_host(pmu="false", pmu_num_ctrs=None), "the devicetree has a node /pmu, expected none"),
+    ("a seed", WITH_TREE, changed_tree(chosen={"rng-seed": bytes(32)}), "same bytes twice: the devicetree has rng-seed"),
+    ("a devicetree that is packed", WITH_TREE, changed_tree(length=None), "bytes, expected 1048576, as long as it is loaded"),
+    ("a devicetree that was made longer", WITH_TREE, {"tree": tree([(LOW, LOW + 256 * MIB)], length=None).ljust(MIB, b"\0")}, "header says"),
+    ("a window past the half", [*WITH_TREE, "--s2sz", "40"], {}, "place: pcie@10000000 is at 0x8000000000 to 0x10000000000, expected its end at most"),
+    ("a window past the host's half", WITH_TREE, changed_host(s2sz_max="40"), "half of what s2sz 40 has"),
+    ("a kernel past RAM", replaced(WITH_TREE, "-m", "2M"), {"tree": tree([(LOW, LOW + 2 * MIB)])}, "place: kernel is at 0x40200000 to 0x40400000"),
+    ("a devicetree past RAM", [*replaced(WITH_TREE, "-m", "8.5M"), "-initrd", "i"],
+     {"i": bytes(2 * MIB), "tree": tree([(LOW, LOW + 17 * MIB // 2)], initrd=(0x4044_0000, 0x4064_0000))}, "place: dtb is at 0x40800000 to 0x40900000"),
+    ("kvmtool: an initrd in the kernel's BSS", [*KVMTOOL, "-i", "initrd"], {"Image": image(0xFE0_0000),
+     "tree": tree([(2 * LOW, 2 * LOW + 256 * MIB)], initrd=(0x8FDF_DCD4, 0x8FDF_FFFD))}, "share a page"),
+    ("a value twice", [*WITH_TREE, "-m", "256"], {}, "launch 256M-smp1-sha256: two combinations have this name"),
+    ("a name that is long", [*replaced(WITH_TREE, "-cpu", "a" * 20), "-cpu", "b" * 20, "-kernel", "k" * 20, "-initrd", "i" * 20, "--no-initrd"],
+     {"k" * 20: image(), "i" * 20: b"i"}, "characters, expected at most 64"),
+    ("two devicetrees that fit", [*WITH_TREE, "--dtb", "b"], {"b": tree([(LOW, LOW + 256 * MIB)], model=b"b\0")}, "tree and b both fit and differ"),
+    ("memory slots", replaced(WITH_TREE, "-m", "256M,slots=1,maxmem=1G"), {}, "no rule gives the width of an IPA for these words"),
+    ("much RAM without highmem", replaced(replaced(WITH_TREE, "-m", "4G"), "-M", "virt,highmem=off"), {}, "no rule gives the width"),
+    ("no program", [*QEMU, "--qemu", "./none"], {}, "./none: No such file or directory, expected the hypervisor's program"),
+    ("a program of another version", [*QEMU, "--qemu", "./stand-in"], changed_host(hypervisor_version='"7.2.22"'), "it is of version '10.0.2', "
+     "expected 7.2.22"),
+    ("a program that fails", [*QEMU, "--qemu", "./stand-in", "--", "-fail"], {}, "no devicetree (status 1): a stand-in: no such word"),
+    ("dumps that differ", [*QEMU, "--qemu", "./stand-in", "--", "-differ"], {"1/trees/256M-1-none": FILES["tree"],
+     "2/trees/256M-1-none": FILES["tree"][:-1] + b"x"}, "two dumps of ./stand-in differ from byte 1048575 on"),
+]
+
+
+def stops(name: str, words: list[str], files: dict, status: int, text: str):
+    """How a run that has to stop differs from what is expected, as lines."""
+    with Folder(files) as folder:
+        folder.put("stand-in", STAND_IN.encode(), is_program=True)
+        before = folder.names()
+        ended, out, said = folder.run(*words)
+        wrong = [f"status {ended}, expected {status}"] if ended != status else []
+        if text not in said:
+            wrong.append(f"{text!r} is not in {said!r}")
+        if words and (not said.startswith("rim-manifest: ") or said.count("\n") != 1):
+            wrong.append(f"not one line: {said!r}")
+        if out or folder.names() - before - {"count"}:
+            wrong.append(f"it writes {out!r} and {folder.names() - before}")
+    return name, wrong
+
+
+# ---- what is written
+
+
+def read_by(program: str, folder: Folder, out="out", count: int | None = None):
+    """What is wrong with manifests by the program: a line of `check`, or a launch that is not measured."""
+    wrong = []
+    path = os.path.join(folder.path, out)
+    for name in sorted(each for each in os.listdir(path) if each.endswith(".toml")):
+        ran = subprocess.run([program, "check", name], cwd=path, capture_output=True, timeout=SECONDS, check=False)
+        if ran.returncode or ran.stdout or ran.stderr:
+            wrong.append(f"check {name}: status {ran.returncode}, {ran.stdout + ran.stderr!r}")
+    status, report, said = folder.run(start=os.path.join(path, "measure"), RIM=program)
+    lines = report.splitlines()
+    if status or lines[:1] != ["rim-report 1"] or not lines[-1].startswith("pages ") or count not in (None, len(lines) - 2):
+        wrong.append(f"measure: status {status}, {report[:300]!r}, {said!r}")
+    return wrong
+
+
+def differs(what: str, has, expected) -> list[str]:
+    return [] if has == expected else [f"{what}: {has!r}, expected {expected!r}"]
+
+
+# A name, words, the kernel, the length of the initrd (None: none), and by hand: RAM, `at` of each item, pc, x, s2sz.
+Q = ["-M", "virt", "-cpu", "max"]
+QEMU_PLACES = [
+    ("128 MiB", [*Q], image(), 9001, [(LOW, 0x4800_0000)], {"stub": LOW, "kernel": 0x4020_0000, "initrd": 0x4400_0000, "dtb": 0x4420_0000}, LOW, [], 41),
+    ("256 MiB", [*Q, "-m", "256"], image(), 9001, [(LOW, 0x5000_0000)],
+     {"stub": LOW, "kernel": 0x4020_0000, "initrd": 0x4800_0000, "dtb": 0x4820_0000}, LOW, [], 41),
+    ("2 GiB", [*Q, "-m", "2G"], image(), 9001, [(LOW, 0xC000_0000)],
+     {"stub": LOW, "kernel": 0x4020_0000, "initrd": 0x4800_0000, "dtb": 0x4820_0000}, LOW, [], 41),
+    ("4 GiB", [*Q, "-m", "4096M"], image(), 9001, [(LOW, 0x1_4000_0000)],
+     {"stub": LOW, "kernel": 0x4020_0000, "initrd": 0x4800_0000, "dtb": 0x4820_0000}, LOW, [], 41),
+    ("600 GiB", [*Q, "-m", "600G"], image(), None, [(LOW, 0x96_4000_0000)], {"stub": LOW, "kernel": 0x4020_0000, "dtb": 0x4800_0000}, LOW, [], 42),
+    ("128 MiB without initrd", [*Q], image(), None, [(LOW, 0x4800_0000)], {"stub": LOW, "kernel": 0x4020_0000, "dtb": 0x4400_0000}, LOW, [], 41),
+    ("an initrd that ends at 2 MiB", [*Q, "-m", "1G"], image(), 2 * MIB, [(LOW, 0x8000_0000)],
+     {"stub": LOW, "kernel": 0x4020_0000, "initrd": 0x4800_0000, "dtb": 0x4820_0000}, LOW, [], 41),
+    ("a kernel past the initrd's place", [*Q, "-m", "1G"], image(128 * MIB), 9001, [(LOW, 0x8000_0000)],
+     {"stub": LOW, "kernel": 0x4020_0000, "initrd": 0x4820_0000, "dtb": 0x4840_0000}, LOW, [], 41),
+    ("a kernel past it, no whole page", [*Q, "-m", "1G"], image(128 * MIB + 1), None, [(LOW, 0x8000_0000)],
+     {"stub": LOW, "kernel": 0x4020_0000, "dtb": 0x4840_0000}, LOW, [], 41),
+    ("text_offset 0x80000", [*Q, "-m", "1G", "--stub", "none"], image(MIB, 0x80000), 9001, [(LOW, 0x8000_0000)],
+     {"kernel": LOW, "initrd": 0x4800_0000, "dtb": 0x4820_0000}, 0x4008_0000, [0x4820_0000], 41),
+    ("image_size 0", [*Q, "-m", "1G", "--stub=none"], image(0, 0), 9001, [(LOW, 0x8000_0000)],
+     {"kernel": LOW, "initrd": 0x4800_0000, "dtb": 0x4820_0000}, 0x4008_0000, [0x4820_0000], 41),
+    ("204.5 MiB", [*Q, "-m", "204.5M"], image(), 9001, [(LOW, 0x4CC8_0000)],
+     {"stub": LOW, "kernel": 0x4020_0000, "initrd": 0x4664_0000, "dtb": 0x4680_0000}, LOW, [], 41),
+    ("bytes that are rounded up", [*Q, "-m", "268435457B"], image(), None, [(LOW, 0x5000_2000)],
+     {"stub": LOW, "kernel": 0x4020_0000, "dtb": 0x4800_0000}, LOW, [], 41),
+    ("highmem=off", ["-M", "virt,highmem=off", "-cpu", "max", "-m", "1G"], image(), None, [(LOW, 0x8000_0000)],
+     {"stub": LOW, "kernel": 0x4020_0000, "dtb": 0x4800_0000}, LOW, [], 33),
+    ("highmem-mmio=off", ["-M", "virt,highmem-mmio=off", "-cpu", "max", "-m", "1G"], image(), None, [(LOW, 0x8000_0000)],
+     {"stub": LOW, "kernel": 0x4020_0000, "dtb": 0x4800_0000}, LOW, [], 40),
+    ("no window above RAM", ["-M", "virt,highmem-mmio=off,highmem-ecam=off,highmem-redists=off", "-cpu", "max", "-m", "4G"], image(), None,
+     [(LOW, 0x1_4000_0000)], {"stub": LOW, "kernel": 0x4020_0000, "dtb": 0x4800_0000}, LOW, [], 34),
+]
+OTHER_PLACES = [
+    ("256 MiB", ["kvmtool", "-c", "1", "-m", "256"], image(), 9001, [(0x8000_0000, 0x9000_0000)],
+     {"kernel": 0x8000_0000, "initrd": 0x8FDF_DCD4, "dtb": 0x8FE0_0000}, 0x8000_0000, [0x8FE0_0000], 33),
+    ("64 MiB", ["kvmtool", "--cpus", "1", "--mem", "64M"], image(), None, [(0x8000_0000, 0x8400_0000)],
+     {"kernel": 0x8000_0000, "dtb": 0x83E0_0000}, 0x8000_0000, [0x83E0_0000], 33),
+    ("4 GiB", ["kvmtool", "--cpus=1", "--mem=4G"], image(), 9000, [(0x8000_0000, 0x1_8000_0000)],
+     {"kernel": 0x8000_0000, "initrd": 0x8FDF_DCD4, "dtb": 0x8FE0_0000}, 0x8000_0000, [0x8FE0_0000], 34),
+    ("RAM elsewhere", ["kvmtool", "-c", "1", "-m", "1G@0x40000000"], image(MIB, 0x80000), None, [(LOW, 0x8000_0000)],
+     {"kernel": LOW, "dtb": 0x4FE0_0000}, 0x4008_0000, [0x4FE0_0000], 33),
+    ("512 MiB", ["cloud-hypervisor"], image(), 9001, [(LOW, 0x6000_0000)],
+     {"kernel": 0x4040_0000, "initrd": 0x5FFF_D000, "dtb": LOW}, 0x4040_0000, [LOW], 48),
+    ("two regions", ["cloud-hypervisor", "--memory", "size=4G", "--cpus", "boot=1"], image(), 9001, [(LOW, 0xFC00_0000), (0x1_0000_0000, 0x1_4400_0000)],
+     {"kernel": 0x4040_0000, "initrd": 0x1_43FF_D000, "dtb": LOW}, 0x4040_0000, [LOW], 48),
+]
+
+
+def placed(program: str, words: list[str], kernel: bytes, initrd: int | None, ram, at: dict, pc: int, x: list, s2sz: int):
+    """How the launch of some words differs from addresses that were worked out by hand."""
+    is_qemu = words[0].startswith("-")
+    span = (at["initrd"], at["initrd"] + initrd) if initrd else None
+    made = tree(ram, initrd=span, length=MIB if is_qemu else None, cells=">I" if is_qemu and initrd == 9001 else ">Q",
+                **{"pcie@10000000": {}} if s2sz < 41 else {})
+    with Folder({"Image": kernel, "i": bytes(initrd or 0), "tree": made}) as folder:
+        words = (["qemu"] if is_qemu else []) + words + ["--kernel", "Image"] + (["--initrd", "i"] if initrd else [])
+        status, _, said = folder.run(*words, "--host", "host.toml", "--out", "out", "--dtb", "tree")
+        if status or said:
+            return [f"status {status}, {said!r}"]
+        launch = folder.toml()["launch"][0]
+        wrong = differs("ram", launch["ram"], [list(each) for each in ram]) + differs("s2sz", launch["s2sz"], s2sz)
+        wrong += differs("items", {item["name"]: item["at"] for item in launch["item"]}, at)
+        wrong += differs("rec", launch["rec"], [{"pc": hex(pc), "x": [hex(each) for each in x]}])
+        entry = at["kernel"] + (0x80000 if kernel[8:24] in (image(0, 0)[8:24], image(1, 0x80000)[8:16] + kernel[16:24]) else 0)
+        rising = sorted(at, key=lambda name: entry if name == "kernel" else at[name])
+        regions = [f"ram {n}" for n in range(len(ram))]
+        wrong += differs("steps", launch["steps"], [*regions, *(f"item {name}" for name in rising), "rec 0"])
+        if "stub" in at:
+            stub = "c0000058e1031faae2031faae3031faa8400005880001fd6" + struct.pack("<QQ", at["dtb"], entry).hex()
+            wrong += differs("stub", folder.read("out/stub-1").hex(), stub)
+        return wrong + read_by(program, folder, count=1)
+
+
+def places(program: str):
+    for name, *rest in QEMU_PLACES + OTHER_PLACES:
+        yield f"places of {rest[0][0] if not rest[0][0].startswith('-') else 'qemu'}: {name}", lambda rest=rest: placed(program, *rest)
+
+
+# ---- options
+
+
+def option(program: str, words: list[str], look, files: dict | None = None, warns=""):
+    """A run that writes `out`, and what is wrong with it by `look`."""
+    with Folder(files) as folder:
+        folder.put("stand-in", STAND_IN.encode(), is_program=True)
+        folder.put("lkvm", LKVM.encode(), is_program=True)
+        status, out, said = folder.run(*words)
+        if status or (warns not in said if warns else said):
+            return [f"status {status}, {said!r}"]
+        return differs("lines", [line.split(":")[0][-9:] == "ifest.toml"[-9:] for line in out.splitlines()], [True]) + look(folder) + read_by(program, folder)
+
+
+def names_of(folder: Folder) -> list[str]:
+    return [launch["name"] for launch in folder.toml()["launch"]]
+
+
+def first(folder: Folder) -> dict:
+    return folder.toml()["launch"][0]
+
+
+NO_PCIE = {"pcie@10000000": None}
+TREES = {"trees/256M-1-none": FILES["tree"], "trees/256M-2-none": tree([(LOW, LOW + 256 * MIB)], count=2)}
+FULL_HOST = host(sve="true", sve_vl="1", num_aux="2", rpv='"' + "0f" * 64 + '"', rec_rule='"all"', hypervisor_version='"10.0.2"')
+HOST_KEYS = {"num_bps": 5, "num_wps": 3, "sve": True, "sve_vl": 1, "pmu": True, "pmu_num_ctrs": 6, "block_level": 2, "num_aux": 2,
+             "rec_rule": "all", "rpv": "0f" * 64}
+OPTIONS = [
+    ("the host's keys", WITH_TREE, lambda folder: differs("keys", {key: first(folder).get(key) for key in HOST_KEYS}, HOST_KEYS),
+     {"host.toml": FULL_HOST}),
+    ("processors that begin off", [*WITH_TREE, "-smp", "18,sockets=1"], lambda folder: differs("rec", first(folder)["rec"][1:],
+     [{"runnable": False}] * 17) + differs("name", names_of(folder), ["256M-smp18-sha256"]), changed_tree(count=18)),
+    ("an order", [*WITH_TREE, "--order", "rec,ram,kernel,initrd,dtb,stub"], lambda folder: differs("steps", first(folder)["steps"],
+     ["rec 0", "ram 0", "item kernel", "item dtb", "item stub"])),
+    ("pages of the BSS", [*WITH_TREE, "--kernel-pages", "image_size"], lambda folder: differs("size",
+     [item.get("size") for item in first(folder)["item"]], [None, 2 * MIB, None])),
+    ("pages that are used", [*WITH_TREE, "--dtb-pages", "used"], lambda folder: differs("bytes", folder.read("out/dtb-1"), FILES["tree"][:4096])),
+    ("a width", [*WITH_TREE, "--s2sz", "48"], lambda folder: differs("s2sz", first(folder)["s2sz"], 48)),
+    ("a width of the host", WITH_TREE, lambda folder: differs("s2sz", first(folder)["s2sz"], 39),
+     changed_tree(**NO_PCIE) | changed_host(s2sz_max="39")),
+    ("a plain guest", WITH_TREE, lambda folder: differs("warning", b"Warning: 1 of 1" in folder.read("out/manifest.toml"), True),
+     changed_tree(method=b"hvc\0"), "have the psci method 'hvc', expected 'smc': no realm has such a devicetree"),
+    ("kernels and initrds", [*WITH_TREE, "--dtb", "with-initrd", "-kernel", "b", "-initrd", "initrd", "--no-initrd"], lambda folder: differs(
+     "names", names_of(folder), [f"256M-smp1-{kernel}-{initrd}-sha256" for initrd in ("initrd", "no-initrd") for kernel in ("Image", "b")])
+     + differs("files", sorted(each["name"] for each in folder.toml()["file"]), ["dtb-1", "dtb-2", "initrd", "kernel-Image", "kernel-b", "stub-1", "stub-2"]),
+     {"b": OTHER_IMAGE, "with-initrd": tree([(LOW, LOW + 256 * MIB)], initrd=WITH_INITRD)}),
+    ("kernels of one name", [*WITH_TREE, "-kernel", "other/Image"], lambda folder: differs("names", names_of(folder),
+     ["256M-smp1-kernel1-sha256", "256M-smp1-kernel2-sha256"]) + differs("kernel", folder.read("out/kernel-kernel2"), OTHER_IMAGE),
+     {"other/Image": OTHER_IMAGE}),
+    ("machines and models", [*QEMU, "-M", "virt-10.0", "-cpu", "cortex-a57,pmu=on", "--qemu", "./stand-in"], lambda folder: differs("names",
+     names_of(folder), [f"machine{m}-cpu{c}-256M-smp1-sha256" for m in (1, 2) for c in (1, 2)]), TREES),
+    ("models", [*QEMU, "-cpu", "cortex-a57", "--qemu", "./stand-in"], lambda folder: differs("names", names_of(folder),
+     ["max-256M-smp1-sha256", "cortex-a57-256M-smp1-sha256"]) + differs("devicetrees", os.path.exists(os.path.join(folder.path, "out/dtb-2")), False),
+     TREES),
+    ("gzip", WITH_TREE, lambda folder: differs("kernel", folder.read("out/kernel"), image()), {"Image": gzip.compress(image()) + b"after"}),
+    ("zboot", [*QEMU, "--qemu", "./stand-in"], lambda folder: differs("kernel", folder.read("out/kernel"), image()), {"Image": zboot(image())} | TREES),
+    ("text of a command line", [*WITH_TREE, "-append", "a=\"b\" \\ é # 'c'"], lambda folder: differs("record",
+     json.loads(folder.read("out/record.json"))["launches"][0]["append"], "a=\"b\" \\ é # 'c'"), changed_tree(bootargs="a=\"b\" \\ é # 'c'")),
+    ("two memory nodes", WITH_TREE, lambda folder: [], changed_tree(ram=[(LOW, LOW + 128 * MIB)], **{
+        "memory@48000000": {"reg": struct.pack(">QQ", LOW + 128 * MIB, 128 * MIB)}})),
+    ("words beside those of kvmtool", [*KVMTOOL, "-p", "quiet"], lambda folder: [], {"tree": tree([(2 * LOW, 2 * LOW + 256 * MIB)],
+     bootargs="console=ttyS0 quiet", length=None, **NO_PCIE)}),
+    ("a program that goes on", [*without(KVMTOOL, "--dtb"), "--lkvm", "./lkvm"], lambda folder: differs("length", len(folder.read("out/dtb-1")), 65536),
+     {"tree": tree([(2 * LOW, 2 * LOW + 256 * MIB)], length=65536, **NO_PCIE)}),
+    ("processors beside a list", [*QEMU, "-smp", "1,2", "--algo", "sha512,sha256", "--qemu", "./stand-in"], lambda folder: differs("names",
+     names_of(folder), [f"256M-smp{n}-sha{size}" for n in (1, 2) for size in (512, 256)]), TREES),
+]
+
+
+# ---- more than one manifest, another place, another start
+
+
+def matrix(program: str):
+    """75 devicetrees and 150 launches: two manifests, a script that measures both, and a folder that is moved."""
+    sizes, counts, texts = (128, 256, 512), (1, 2, 3, 4, 5), [f"a{n}" for n in range(5)]
+    trees = {f"trees/{size}M-{count}-{args}": tree([(LOW, LOW + size * MIB)], bootargs=args, count=count) for size in sizes for count in counts
+             for args in texts}
+    with Folder(trees | {"lines": "\n\n".join(texts[1:]).encode()}) as folder:
+        folder.put("stand-in", STAND_IN.encode(), is_program=True)
+        words = [*replaced(QEMU, "-m", "128M,256M,512M"), "-smp", "1,2,3", "-smp", "4,5", "-append", "a0", "--append-file", "lines"]
+        status, out, said = folder.run(*words, "--algo", "sha256,sha512", "--qemu", "./stand-in")
+        if status or said:
+            return [f"status {status}, {said!r}"]
+        names = [[launch["name"] for launch in folder.toml(f"out/manifest-{n}.toml")["launch"]] for n in (1, 2)]
+        wrong = differs("lines", len(out.splitlines()), 2)
+        wrong += differs("files", [len(folder.toml(f"out/manifest-{n}.toml")["file"]) for n in (1, 2)], [64, 16])
+        expected = [f"{m}M-smp{n}-append{a}-{algo}" for m in sizes for n in counts for a in range(1, 6) for algo in ("sha256", "sha512")]
+        wrong += differs("names", names[0] + names[1], expected)
+        os.rename(os.path.join(folder.path, "out"), os.path.join(folder.path, "moved"))
+        for name in ("Image", "trees"):
+            os.rename(os.path.join(folder.path, name), os.path.join(folder.path, name + "-moved"))
+        wrong += read_by(program, folder, "moved", 150)
+        measure = os.path.join(folder.path, "moved", "measure")
+        lines = folder.run(start=measure, RIM=program)[1].splitlines()
+        joined = json.loads(folder.run("--json", "--workers", "2", start=measure, RIM=program)[1])
+        wrong += differs("JSON", [f"{each['name']} {each['algorithm']} {each['rim']}" for each in joined["launches"]], lines[1:-1])
+        return wrong + differs("pages", [joined["pages"], joined["version"]], [int(lines[-1].split()[1]), 1])
+
+
+def measured(program: str):
+    """The script that measures: a launch that is refused, a fault, and no program."""
+    with Folder() as folder:
+        folder.run(*WITH_TREE)
+        measure = os.path.join(folder.path, "out", "measure")
+        status, _, said = folder.run(start=measure, RIM="./none")
+        wrong = differs("no program", (status, "no program './none' is found" in said), (3, True))
+        text = folder.read("out/manifest.toml").decode()
+        folder.put("out/manifest.toml", text.replace("at = 0x48000000", "at = 0x40200000").encode())
+        status, out, _ = folder.run(start=measure, RIM=program)
+        wrong += differs("refused", (status, out.splitlines()[1]), (1, "256M-smp1-sha256 refused overlap"))
+        folder.put("out/manifest.toml", text.replace("s2sz = 41", "s2sz = 49").encode())
+        status, out, said = folder.run(start=measure, RIM=program)
+        return wrong + differs("a fault", (status, out, "rim check manifest.toml" in said), (3, "", True))
+
+
+def forced(program: str):
+    """--force replaces a folder that rim-manifest has written, also where the kernel is in it; else the old one stays as it is."""
+    with Folder() as folder:
+        folder.run(*WITH_TREE)
+        folder.put("out/report", b"")
+        before = folder.names()
+        status, _, said = folder.run(*replaced(WITH_TREE, "-kernel", "out/kernel"), "--force")
+        wrong = differs("status", (status, said), (0, "")) + differs("names", folder.names(), before)
+        wrong += differs("files", sorted(os.listdir(os.path.join(folder.path, "out"))),
+                         ["dtb-1", "kernel", "manifest.toml", "measure", "record.json", "stub-1"])
+        kept = folder.read("out/manifest.toml")
+        status, _, _ = folder.run(*WITH_TREE, "--force", "-append", "other")
+        wrong += differs("a fault", (status, folder.read("out/manifest.toml"), folder.names()), (3, kept, before))
+        return wrong + read_by(program, folder, count=1)
+
+
+def started(program: str):
+    """Through a symbolic link, and as it is installed."""
+    wrong = []
+    with Folder() as folder:
+        os.symlink(START, os.path.join(folder.path, "link"))
+        os.makedirs(os.path.join(folder.path, "usr", "bin"))
+        shutil.copy(START, os.path.join(folder.path, "usr", "bin", "rim-manifest"))
+        shutil.copytree(os.path.join(TOP, "vmm"), os.path.join(folder.path, "usr", "share", "rim", "vmm"))
+        for start in ("./link", "usr/bin/rim-manifest"):
+            shutil.rmtree(os.path.join(folder.path, "out"), ignore_errors=True)
+            status, _, said = folder.run(*WITH_TREE, start=os.path.join(folder.path, start))
+            wrong += differs(start, (status, said), (0, "")) + read_by(program, folder, count=1)
+        os.remove(os.path.join(folder.path, "usr", "share", "rim", "vmm", "main.py"))
+        status, _, said = folder.run("--help", start=os.path.join(folder.path, "usr/bin/rim-manifest"))
+        return wrong + differs("no modules", (status, "no folder vmm" in said), (1, True))
+
+
+def texts(program: str):
+    """Help, version, tables and the example of a host."""
+    wrong = []
+    with Folder() as folder:
+        for words, text in ((["--help"], "usage: rim-manifest qemu"), (["--version"], "rim-manifest 0."), (["qemu", "--help"], "--append-file FILE"),
+                            (["kvmtool", "-h"], "--lkvm PROGRAM"), (["cloud-hypervisor", "--rules"], "memory (cloud-hypervisor's sources")):
+            status, out, said = folder.run(*words)
+            wrong += differs(" ".join(words), (status, text in out, said), (0, True, ""))
+        example = os.path.join(TOP, "vmm", "host-example.toml")
+        wrong += differs("the example of a host", folder.run(*replaced(WITH_TREE, "--host", example))[0], 0)
+        with open(example, encoding="utf-8") as file:
+            keys = set(re.findall(r"^#?([a-z0-9_]+) = ", file.read(), re.M))
+        wrong += differs("keys of the example", "one of " + ", ".join(sorted(keys)), "one of " + ", ".join(sorted(
+            ["num_bps", "num_wps", "sve", "sve_vl", "pmu", "pmu_num_ctrs", "block_level", "rec_rule", "s2sz_max", "hypervisor_version", "num_aux", "rpv",
+             "pool_base", "pool_count"])))
+    return wrong
+
+
+def main():
+    program = os.path.abspath(sys.argv[1] if len(sys.argv) > 1 else os.path.join(TOP, "crates", "rim", "out", "rim"))
+    if not os.path.exists(program):
+        raise SystemExit(f"{program} is not built")
+    tries = [(f"words: {name}", lambda each=(name, words, {}, 2, text): stops(*each)[1]) for name, words, text in WRONG]
+    tries += [(f"fault: {name}", lambda each=(name, words, files, 3, text): stops(*each)[1]) for name, words, files, text in FAULTS]
+    tries += [(f"option: {name}", lambda each=(words, look, *rest): option(program, *each)) for name, words, look, *rest in OPTIONS]
+    tries += [*places(program)] + [(each.__name__, lambda each=each: each(program)) for each in (matrix, measured, forced, started, texts)]
+    with concurrent.futures.ThreadPoolExecutor(len(os.sched_getaffinity(0))) as pool:
+        outcomes = [(name, pool.submit(look)) for name, look in tries]
+        outcomes = [(name, done.result()) for name, done in outcomes]
+    for name, wrong in outcomes:
+        if wrong:
+            print(f"WRONG: {name}", *wrong, sep="\n  ")
+    failed = sum(bool(wrong) for _, wrong in outcomes)
+    print(f"{len(outcomes) - failed} passed, {failed} failed")
+    return int(failed > 0 or not outcomes)
+
+
+if __name__ == "__main__":
+    sys.exit(main())
