@@ -48,7 +48,8 @@ def boot_words(vmm, launch: Launch, tree: Tree) -> Iterator[Difference]:
             yield Difference("boot words", f"the devicetree has an initrd, {initrd_shown(values)}", "none")
         return
     wanted = launch.places.initrd, launch.places.initrd + launch.guest.initrd_length
-    if any(value is None or len(value) not in (4, 8) for value in values) or tuple(int.from_bytes(each, "big") for each in values) != wanted:
+    has = tuple(int.from_bytes(value, "big") for value in values if value is not None and len(value) in (4, 8))
+    if has != wanted:
         yield Difference("boot words", f"the devicetree has the initrd at {initrd_shown(values)}", span(*wanted))
 
 
@@ -71,24 +72,24 @@ def processors(launch: Launch, tree: Tree, has_pmu: bool) -> Iterator[Difference
         wrong = next(each for each in has if each not in wanted) if set(has) - set(wanted) else has[0]
         yield Difference("processors", f"the devicetree has one with reg {wrong:#x}", "n mod 16 + 256 * (n / 16) of each number n")
     if (tree.root.child("pmu") is not None) != has_pmu:
-        yield Difference("processors", f"the devicetree has {'no' if has_pmu else 'a'} node /pmu", f"{'one' if has_pmu else 'none'} by pmu of the host")
+        has_node, wants_node = ("no", "one") if has_pmu else ("a", "none")
+        yield Difference("processors", f"the devicetree has {has_node} node /pmu", f"{wants_node} by pmu of the host")
 
 
 def same_bytes(vmm, dump: Dump) -> Iterator[Difference]:
     """4. No seeds, and as many bytes as the hypervisor loads. That two dumps are equal is looked at where they are made."""
     for name in devicetree.seeds(dump.tree):
-        yield Difference("same bytes twice", f"the devicetree has {name}, which differs at each start", "none (dtb-randomness=off)"
-                         if vmm.NAME == "qemu" else "none")
-    if vmm.DTB_LENGTH and len(dump.data) != vmm.DTB_LENGTH:
-        yield Difference("same bytes twice", f"the devicetree has {len(dump.data)} bytes", f"{vmm.DTB_LENGTH}, as long as it is loaded")
-    if vmm.DTB_LENGTH and len(dump.data) == vmm.DTB_LENGTH != dump.tree.total:
+        yield Difference("same bytes twice", f"the devicetree has {name}, which differs at each start", f"none{vmm.NO_SEEDS}")
+    if vmm.DTB_LENGTH and dump.length != vmm.DTB_LENGTH:
+        yield Difference("same bytes twice", f"the devicetree has {dump.length} bytes", f"{vmm.DTB_LENGTH}, as long as it is loaded")
+    if vmm.DTB_LENGTH and dump.length == vmm.DTB_LENGTH != dump.tree.total:
         yield Difference("same bytes twice", f"the devicetree's header says {dump.tree.total} bytes", f"{vmm.DTB_LENGTH}")
 
 
 def extents(launch: Launch, dump: Dump) -> list[tuple[str, int, int]]:
     """What takes RAM, by rising address: each with its first address and the one past its last page."""
     guest, places = launch.guest, launch.places
-    found = [("kernel", places.entry, places.entry + guest.kernel.image.extent), ("dtb", places.dtb, places.dtb + len(dump.data))]
+    found = [("kernel", places.entry, places.entry + guest.kernel.image.extent), ("dtb", places.dtb, places.dtb + dump.length)]
     if guest.initrd:
         found.append(("initrd", places.initrd, places.initrd + guest.initrd_length))
     if places.stub is not None:
@@ -120,7 +121,8 @@ def protected(launch: Launch, tree: Tree) -> Iterator[Difference]:
     ranges = [("RAM", *each) for each in launch.places.ram] + devicetree.windows(tree)
     for name, base, end in ranges:
         if end > limit:
-            yield Difference("place", f"{name} is at {span(base, end)}", f"its end at most at {limit:#x}, half of what s2sz {launch.places.s2sz} has")
+            half = f"its end at most at {limit:#x}, half of what s2sz {launch.places.s2sz} has"
+            yield Difference("place", f"{name} is at {span(base, end)}", half)
 
 
 def of_tree(vmm, launch: Launch, dump: Dump, has_pmu: bool) -> list[Difference]:
@@ -155,5 +157,5 @@ def warnings(trees: list[Tree]) -> list[str]:
     if not plain:
         return []
     other = next(method for method in methods if method != "smc")
-    return [f"{plain} of {len(trees)} devicetrees have the psci method {other!r}, expected 'smc': no realm has such a devicetree, since Linux looks "
-            "for the monitor only where PSCI's calls are SMC. The measurements are those of a plain guest's devicetree"]
+    return [f"{plain} of {len(trees)} devicetrees have the psci method {other!r}, expected 'smc': no realm has such a devicetree, since "
+            "Linux looks for the monitor only where PSCI's calls are SMC. The measurements are those of a plain guest's devicetree"]

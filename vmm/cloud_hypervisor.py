@@ -10,6 +10,7 @@ BASE = 0x4000_0000
 LOW_END, HIGH = 0xFC00_0000, 0x1_0000_0000
 ENDS_AFTER_DUMP = False
 DTB_LENGTH = None
+NO_SEEDS = ""
 DTB_ALIGN = 2 * MIB
 DTB_IS_PAST_INITRD = False
 SOURCE = "cloud-hypervisor's sources"
@@ -53,7 +54,7 @@ TABLE = [
 ]
 
 
-def read_machine(said: dict):
+def read_machine(said: dict, most: int):
     return [Word("", "")]
 
 

@@ -14,19 +14,28 @@ from .launches import Launch
 
 # How long a program may take for one devicetree, and how many run at a time.
 SECONDS, AT_A_TIME = 60, 2
+# No devicetree is longer (Linux, booting.rst).
+MOST = 2 << 20
 
 
 @dataclass(frozen=True)
 class Dump:
-    """A devicetree as it is loaded, and what a fault calls it."""
+    """A devicetree as it is loaded, and what a fault calls it. The zeros at its end, of which QEMU's have a million, are left out."""
 
     path: str
-    data: bytes
+    packed: bytes
+    length: int
     tree: Tree
+
+    @property
+    def data(self) -> bytes:
+        return self.packed.ljust(self.length, b"\0")
 
 
 def dump(path: str, data: bytes) -> Dump:
-    return Dump(path, data, devicetree.read(path, data))
+    if len(data) > MOST:
+        raise Fault(f"{path}: it has more than {MOST} bytes, expected a devicetree of at most that")
+    return Dump(path, data.rstrip(b"\0"), len(data), devicetree.read(path, data))
 
 
 def version(program: str) -> tuple[str, str]:
@@ -154,14 +163,14 @@ def handed_in(paths: list[str], launches: list[Launch], differences) -> dict[str
     for path in paths:
         try:
             with open(path, "rb") as file:
-                dumps.append(dump(path, file.read((2 << 20) + 1)))
+                dumps.append(dump(path, file.read(MOST + 1)))
         except OSError as why:
             raise Fault(f"{path}: {why.strerror}, expected a devicetree") from None
     chosen = {}
     for launch in launches:
         counts = [len(differences(launch, each)) for each in dumps]
         fitting = [each for each, count in zip(dumps, counts) if not count]
-        if len({each.data for each in fitting}) > 1:
+        if len({(each.packed, each.length) for each in fitting}) > 1:
             raise Fault(f"launch {launch.name}: {fitting[0].path} and {fitting[1].path} both fit and differ, expected one --dtb for it")
         chosen[launch.name] = dumps[counts.index(min(counts))]
     return chosen

@@ -115,9 +115,11 @@ def from_zboot(path: str, data: bytes, vmm, version: str) -> bytes:
     if vmm.NAME != "qemu":
         raise Fault(f"{path}: an EFI zboot file, expected an arm64 Image that is not packed")
     if not version:
-        raise Fault(f"{path}: an EFI zboot file, which QEMU unpacks from 10.0 on; expected --qemu, or hypervisor_version in the file of --host")
+        raise Fault(f"{path}: an EFI zboot file, which QEMU unpacks from 10.0 on; "
+                    "expected --qemu, or hypervisor_version in the file of --host")
     if int(version.split(".")[0]) < 10:
-        raise Fault(f"{path}: an EFI zboot file, which QEMU {version} may load packed; expected QEMU 10.0 or later, or the unpacked Image")
+        raise Fault(f"{path}: an EFI zboot file, which QEMU {version} may load packed; "
+                    "expected QEMU 10.0 or later, or the unpacked Image")
     return unzboot(path, data)
 
 

@@ -14,7 +14,7 @@ def up(number: int, multiple: int) -> int:
 
 @dataclass(frozen=True)
 class Blob:
-    """A file of the folder that is written: its name there, the path that it comes from if there is one, and where it comes from in words."""
+    """A file of the folder that is written: its name there, the path that it was copied from if there is one, and its origin in words."""
 
     file: str
     path: str

@@ -6,8 +6,8 @@ from dataclasses import dataclass
 from .faults import Fault
 
 # Each number with its least and its greatest value.
-NUMBERS = {"num_bps": (0, 255), "num_wps": (0, 255), "sve_vl": (0, 255), "pmu_num_ctrs": (0, 255), "block_level": (0, 3), "s2sz_max": (32, 48),
-           "num_aux": (0, 16), "pool_base": (0, (1 << 48) - 65536), "pool_count": (1, 1 << 24)}
+NUMBERS = {"num_bps": (0, 255), "num_wps": (0, 255), "sve_vl": (0, 255), "pmu_num_ctrs": (0, 255), "block_level": (0, 3),
+           "s2sz_max": (32, 48), "num_aux": (0, 16), "pool_base": (0, (1 << 48) - 65536), "pool_count": (1, 1 << 24)}
 FLAGS = ("sve", "pmu")
 RULES = ("runnable", "all")
 TEXTS = ("rpv", "rec_rule", "hypervisor_version")

@@ -11,6 +11,7 @@ TITLE = "kvmtool (lkvm run)"
 BASE = 0x8000_0000
 ENDS_AFTER_DUMP = False
 DTB_LENGTH = None
+NO_SEEDS = ""
 DTB_ALIGN = 2 * MIB
 DTB_IS_PAST_INITRD = True
 SOURCE = "kvmtool's sources"
@@ -50,7 +51,8 @@ TABLE = [
     Row("dtb", "64 KiB and 2 MiB below the end of RAM, or of its first 256 MiB, rounded up to 2 MiB", dtb, SOURCE, MEMORY),
     Row("initrd", "just below the devicetree: its address less the length rounded down to 4, less 4",
         lambda guest, places: places.dtb - guest.initrd_length // 4 * 4 - 4, SOURCE, MEMORY),
-    Row("dtb length", "a buffer of 64 KiB, in which the tree is packed; how much of it a realm measures is not known", None, SOURCE, MEMORY),
+    Row("dtb length", "a buffer of 64 KiB, in which the tree is packed; how much of it a realm measures is not known", None, SOURCE,
+        MEMORY),
     Row("pc", "the kernel's address; there is no stub", lambda guest, places: places.entry, SOURCE, MEMORY),
     Row("x", "x0 is the devicetree's address", lambda guest, places: [places.dtb], SOURCE, MEMORY),
     Row("recs", "the first processor is runnable; the others begin off and are turned on by PSCI", None, SOURCE, MEMORY),
@@ -60,7 +62,7 @@ TABLE = [
 ]
 
 
-def read_machine(said: dict):
+def read_machine(said: dict, most: int):
     return [Word("", "")]
 
 

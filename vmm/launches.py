@@ -54,7 +54,7 @@ def named(guests: list[Guest], lists: dict, table: list) -> list[Launch]:
         if name in found:
             raise Fault(f"launch {name}: two combinations have this name, expected each value of a list once")
         if len(name) > 64:
-            raise Fault(f"launch {name}: its name has {len(name)} characters, expected at most 64: give kernels, initrds or models shorter names")
+            raise Fault(f"launch {name}: its name has {len(name)} characters, expected at most 64: give the files shorter names")
         if not re.fullmatch(r"[A-Za-z0-9._-]+", name):
             raise Fault(f"launch {name}: its name has a character other than letters, digits, `.`, `_` and `-`")
         found[name] = Launch(name, guest, layout.places(table, guest))
@@ -64,7 +64,8 @@ def named(guests: list[Guest], lists: dict, table: list) -> list[Launch]:
 def pages_of(launch: Launch) -> dict[tuple[str, str, int], int]:
     """The pages that are measured, by algorithm, file and place in the first page: what `rim` hashes once."""
     places = launch.places
-    starts = ((launch.guest.kernel, places.entry), (launch.guest.initrd, places.initrd), (launch.tree, places.dtb), (launch.stub, places.stub))
+    starts = ((launch.guest.kernel, places.entry), (launch.guest.initrd, places.initrd), (launch.tree, places.dtb),
+              (launch.stub, places.stub))
     lengths = ((blob, start % PAGE, blob.image.extent if isinstance(blob, Kernel) else blob.length) for blob, start in starts if blob)
     return {(launch.guest.algo, blob.file, lead): up(lead + length, PAGE) // PAGE for blob, lead, length in lengths}
 
@@ -76,6 +77,10 @@ class Group:
         self.launches: list[Launch] = []
         self.files: dict[str, Blob] = {}
         self.pages: dict = {}
+
+    def __str__(self):
+        launches, files = len(self.launches), len(self.files)
+        return f"{launches} launch{'es' * (launches > 1)}, {files} file{'s' * (files > 1)}"
 
     def takes(self, launch: Launch) -> bool:
         files = self.files | {blob.file: blob for blob in launch.files}

@@ -67,15 +67,24 @@ def command_lines(said: dict) -> list[str]:
     return texts or [""]
 
 
+def label_length(said: dict) -> int:
+    """How long the labels of files and models may be, so that names of launches don't get too long."""
+    several = sum(len(said.get(key, [])) + ("no_initrd" in said and key == "initrd") > 1 for key in ("machine", "cpu", "kernel", "initrd"))
+    return {0: 32, 1: 32, 2: 16}.get(several, 8)
+
+
 def files(made: Folder, vmm, said: dict, version: str) -> dict[str, list]:
     """Kernels and initrds, copied into the folder."""
     found: dict[str, list] = {"kernel": [], "initrd": []}
     for key in found:
         paths = said.get(key, [])
-        labels = [each.label for each in words.labelled([os.path.basename(path) for path in paths], key)]
+        labels = [each.label for each in words.labelled([os.path.basename(path) for path in paths], key, label_length(said))]
         for path, label in zip(paths, labels):
             name = key if len(paths) == 1 else f"{key}-{label}"
-            found[key].append(folder.kernel(made, path, label, name, vmm, version) if key == "kernel" else folder.initrd(made, path, label, name))
+            if key == "kernel":
+                found[key].append(folder.kernel(made, path, label, name, vmm, version))
+            else:
+                found[key].append(folder.initrd(made, path, label, name))
     if "no_initrd" in said or not found["initrd"]:
         found["initrd"].append(None)
     return found
@@ -83,28 +92,29 @@ def files(made: Folder, vmm, said: dict, version: str) -> dict[str, list]:
 
 def set_width(vmm, launch: Launch, said: dict, about_host: host.Host):
     """The width of an IPA: what is said, or what the rule gives and the host allows."""
-    places, most = launch.places, about_host["s2sz_max"]
+    places, most = launch.places, about_host["s2sz_max"] or 48
     if "s2sz" in said:
         places.s2sz, places.width_from = words.number("--s2sz", said["s2sz"], 32, 48), "--s2sz"
     elif vmm is cloud_hypervisor:
         places.s2sz = about_host.require("s2sz_max", "since cloud-hypervisor takes the host's width")
     elif places.s2sz is None:
         raise Fault(f"launch {launch.name}: no rule gives the width of an IPA for these words, expected --s2sz")
-    elif most and most < places.s2sz:
-        places.s2sz, places.width_from = most, f"s2sz_max of the host, and {places.s2sz} by rule s2sz"
+    elif most < places.s2sz:
+        places.s2sz, places.width_from = most, f"s2sz_max of the host or 48, and {places.s2sz} by rule s2sz"
 
 
-def tree_blob(made: Folder, launch: Launch, dump: dumps.Dump, pages: str, known: dict[bytes, Blob], is_handed_in: bool) -> Blob:
+def tree_blob(made: Folder, launch: Launch, dump: dumps.Dump, pages: str, known: dict[tuple, Blob], is_handed_in: bool) -> Blob:
     """The file of a devicetree; those of the same bytes are one file."""
-    data = dump.data
+    data, key = dump.data, (dump.packed, dump.length)
     if pages == "used":
         data = data[:up(dump.tree.used, PAGE)]
-        if any(dump.data[len(data):]):
+        if len(dump.packed) > len(data):
             raise Fault(f"{dump.path}: there is something after its blocks, expected zeros for --dtb-pages used")
-    if data not in known:
+    if key not in known:
         name = f"dtb-{len(known) + 1}"
-        known[data] = made.put(name, data, name, f"copied from {words.shown(dump.path)}" if is_handed_in else f"made for launch {launch.name}")
-    return known[data]
+        origin = f"copied from {words.shown(dump.path)}" if is_handed_in else f"made for launch {launch.name}"
+        known[key] = made.put(name, data, name, origin)
+    return known[key]
 
 
 def checked(vmm, found: list[Launch], trees: dict[str, dumps.Dump], about_host: host.Host, is_handed_in: bool):
@@ -130,7 +140,9 @@ class Work:
         words.required(said, "kernel", kernel_names(vmm), "a kernel")
         knows_stub = any(row.name == "stub" for row in vmm.TABLE)
         self.choices = choices(said, words.choice(said, "stub", "--stub", ("measured", "none")) == "measured" if knows_stub else None)
-        self.lists = {"machine": vmm.read_machine(said), "cpu": vmm.read_cpu(said), "smp": vmm.read_smp(said), "memory": vmm.read_memory(said),
+        length = label_length(said)
+        self.lists = {"machine": vmm.read_machine(said, length), "cpu": vmm.read_cpu(said, length), "smp": vmm.read_smp(said),
+                      "memory": vmm.read_memory(said),
                       "algo": words.algorithms(said.get("algo", ["sha256"]))}
         if ("program" in said) == ("dtb" in said):
             given = "both are" if "program" in said else "neither is"
@@ -141,7 +153,8 @@ class Work:
         if "s2sz" in said:
             words.number("--s2sz", said["s2sz"], 32, 48)
         self.out = words.required(said, "out", "--out", "the folder that is written")
-        self.host = host.read(words.required(said, "host", "--host", "the file that says what only the machine knows: vmm/host-example.toml"))
+        self.host = host.read(words.required(said, "host", "--host",
+                                             "the file that says what only the machine knows: vmm/host-example.toml"))
         self.lists["append"] = words.appends("--append", command_lines(said))
         self.program_line, self.version = "", self.host["hypervisor_version"] or ""
 
@@ -153,7 +166,8 @@ class Work:
         self.said["program"] = shutil.which(path) or path
         self.program_line, version = dumps.version(self.said["program"])
         if self.version and version != self.version:
-            raise Fault(f"{path}: it is of version {version or self.program_line!r}, expected {self.version}, hypervisor_version of {self.host.path}")
+            raise Fault(f"{path}: it is of version {version or self.program_line!r}, "
+                        f"expected {self.version}, hypervisor_version of {self.host.path}")
         self.version = version
 
     def launches(self, made: Folder) -> list[Launch]:
@@ -172,7 +186,7 @@ class Work:
 
     def place_files(self, made: Folder, found: list[Launch], trees: dict[str, dumps.Dump]):
         """Writes the devicetrees and the stubs."""
-        known: dict[bytes, Blob] = {}
+        known: dict[tuple, Blob] = {}
         stubs: dict[bytes, Blob] = {}
         for launch in found:
             launch.tree = tree_blob(made, launch, trees[launch.name], self.choices.dtb_pages, known, "dtb" in self.said)
@@ -183,7 +197,9 @@ class Work:
 
     def made_by(self) -> str:
         if "program" in self.said:
-            return f"The devicetrees are dumps of {self.program_line!r}, made twice each. Another version makes others."
+            among = ", dtb-randomness=off among them" if self.vmm is qemu else ""
+            return (f"The devicetrees were made by {self.program_line!r}, twice each. Another version makes others, so start guests by "
+                    f"this one, and by the words of the launch{among}.")
         return "The devicetrees were handed in by --dtb and are placed as they are."
 
     def write(self, made: Folder) -> list[str]:
@@ -192,7 +208,7 @@ class Work:
         trees = self.trees(made, found)
         checked(self.vmm, found, trees, self.host, "dtb" in self.said)
         self.place_files(made, found, trees)
-        different = {each.data: each.tree for each in trees.values()}
+        different = {(each.packed, each.length): each.tree for each in trees.values()}
         warnings = checks.warnings(list(different.values()))
         about = manifest.About(self.vmm, self.words, self.host, self.choices, self.made_by(), warnings)
         groups = launches.groups(found)
@@ -204,7 +220,7 @@ class Work:
         made.record(record_of(self.vmm, list(zip(names, groups)), self.program_line, self.said["rest"]))
         for warning in warnings:
             print(f"rim-manifest: warning: {warning}", file=sys.stderr)
-        return [f"{os.path.join(self.out, name)}: {len(group.launches)} launches, {len(group.files)} files" for name, group in zip(names, groups)]
+        return [f"{os.path.join(self.out, name)}: {group}" for name, group in zip(names, groups)]
 
 
 def kernel_names(vmm) -> str:
@@ -237,7 +253,7 @@ def run(all_words: list[str]) -> int:
         made.finish()
     finally:
         made.drop()
-    print("\n".join(lines))
+    print("\n".join(lines), flush=True)
     return 0
 
 
@@ -247,6 +263,9 @@ def stopped(*_):
 
 def main(all_words: list[str]) -> int:
     """The status of a run; what stops it is a line on standard error."""
+    if hasattr(sys.stdout, "reconfigure"):
+        # a path need not be UTF-8
+        sys.stdout.reconfigure(errors="backslashreplace")
     signal.signal(signal.SIGTERM, stopped)
     try:
         return run(all_words)

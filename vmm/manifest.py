@@ -71,13 +71,15 @@ def head(about: About, part: str) -> str:
 
 def chosen(choices: Choices) -> list[str]:
     """What no source decides, and by which option it is decided."""
-    stub = {True: "is part of the realm, and the first processor begins at it", False: "is no part of the realm: the first processor begins at "
+    stub = {True: "is part of the realm, and the first processor begins at it",
+            False: "is no part of the realm: the first processor begins at "
             "the kernel, with the devicetree's address in x0"}
     order = "RAM, what is placed by rising address, RECs" if choices.order == ["address"] else ", ".join(choices.order)
     kernel = {"file": "those of its file, and not those of its BSS", "image_size": "those that image_size says, with the BSS as zeros"}
     dtb = {"whole": "all of its file, also where it is zero", "used": "those that its blocks use; the rest is RAM with zeros"}
     found = [f"  --stub: the boot stub {stub[choices.has_stub]}"] if choices.has_stub is not None else []
-    return found + [f"  --order: the realm is built in this order: {order}", f"  --kernel-pages: measured pages of the kernel are {kernel[choices.kernel_pages]}",
+    return found + [f"  --order: the realm is built in this order: {order}",
+                    f"  --kernel-pages: measured pages of the kernel are {kernel[choices.kernel_pages]}",
                     f"  --dtb-pages: measured pages of a devicetree are {dtb[choices.dtb_pages]}"]
 
 
@@ -151,7 +153,8 @@ def table_of(launch: Launch, about: About) -> str:
     return "".join([
         f"\n[[launch]]\n{said(launch, about.vmm)}name = {text(launch.name)}\n", noted(f"algo = {text(launch.guest.algo)}", "--algo"),
         noted(f"s2sz = {places.s2sz}", places.width_from), host_lines(about.host),
-        noted(f"ram = [{region}]", f"rule ram: {shown([launch.guest.memory.words])}"), "item = [\n", *(line for _, _, line in placed), "]\n",
+        noted(f"ram = [{region}]", f"rule ram: {shown([launch.guest.memory.words])}"), "item = [\n", *(line for _, _, line in placed),
+        "]\n",
         noted(f"rec = {recs(launch)}", f"rules pc, x and recs: {launch.processors} processor{'s' * (launch.processors > 1)}"),
         noted(f"steps = [{order}]", "rule order" if about.choices.order == ["address"] else "--order")])
 

@@ -3,9 +3,9 @@
 
 usage: measure [--json] [--workers N]
 
-The words are those of `rim measure`. The program is the one that the variable RIM names, or else `rim` of the PATH. The report is written
-as `rim measure` writes it, once all of it is made. Its `pages` is the sum of those of the manifests: a page of two manifests is hashed twice.
-The status is the greatest of those of the runs: 1 where a launch is refused, 2 to 4 for a fault, and then there is no report.
+The words are those of `rim measure`. The program is the one that the variable RIM names, or else `rim` of the PATH. The report is
+written as `rim measure` writes it, once all of it is made. Its `pages` is the sum of those of the manifests: a page of two manifests is
+hashed twice. The status is the greatest of those of the runs: 1 where a launch is refused, 2 to 4 for a fault, and then there is no report.
 """
 import json
 import os

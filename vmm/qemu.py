@@ -11,6 +11,7 @@ TITLE = "QEMU, machine virt"
 BASE = 0x4000_0000
 ENDS_AFTER_DUMP = True
 DTB_LENGTH = MIB
+NO_SEEDS = " (dtb-randomness=off)"
 DTB_ALIGN = 2 * MIB
 DTB_IS_PAST_INITRD = True
 BOOT = "hw/arm/boot.c of QEMU 7.2, 10.0 and 10.2"
@@ -28,8 +29,8 @@ OPTIONS = [
     Option(("-append", "--append"), "append", "TEXT", "a command line of the kernel", True),
     Option(("--qemu",), "program", "PROGRAM", "QEMU itself, which makes the devicetrees: each by the final words with "
            "dumpdtb= and dtb-randomness=off, twice. What comes after `--` is given to it too"),
-    Option(("--stub",), "stub", "WHICH", "whether QEMU's boot stub is part of the realm: `measured` (default), where the first processor begins at it; "
-           "or `none`, where it begins at the kernel"),
+    Option(("--stub",), "stub", "WHICH", "whether QEMU's boot stub is part of the realm: `measured` (default), where the first processor "
+           "begins at it; or `none`, where it begins at the kernel"),
 ]
 
 
@@ -109,15 +110,16 @@ TABLE = [
         lambda guest, places: places.entry if places.stub is None else places.stub, BOOT, SEEN + "; without a stub: " + MEMORY),
     Row("x", "all zero with a stub; else x0 is the devicetree's address",
         lambda guest, places: [places.dtb] if places.stub is None else [], BOOT, SEEN + "; without a stub: " + MEMORY),
-    Row("recs", "the first processor is runnable; the others begin off and are turned on by PSCI", None, BOOT, SEEN + "; that their RECs are "
-        "not runnable: " + MEMORY),
-    Row("order", "RAM, then what is placed by rising address (the stub first), then the RECs", None, "the proposed changes of QEMU", MEMORY),
-    Row("s2sz", "the bits of the last address of the windows after RAM (40 up to 510 GiB of RAM), and one more for the shared half of a realm",
-        s2sz, VIRT, SOURCE + "; the one more: " + MEMORY),
+    Row("recs", "the first processor is runnable; the others begin off and are turned on by PSCI", None, BOOT,
+        SEEN + "; that their RECs are not runnable: " + MEMORY),
+    Row("order", "RAM, then what is placed by rising address (the stub first), then the RECs", None, "changes that were proposed to QEMU",
+        MEMORY),
+    Row("s2sz", "the bits of the last address of the windows after RAM (40 up to 510 GiB of RAM), and one more for the shared half of a "
+        "realm; 32 and one more with highmem=off, 39 and one more with highmem-mmio=off", s2sz, VIRT, SOURCE + "; the one more: " + MEMORY),
 ]
 
 
-def read_machine(said: dict):
+def read_machine(said: dict, most: int):
     texts = required(said, "machine", "-machine", "virt and its words")
     for text in texts:
         kind = text.split(",")[0].removeprefix("type=")
@@ -129,15 +131,15 @@ def read_machine(said: dict):
         for key in ("dtb-randomness", "dtb-kaslr-seed"):
             if key in words and not is_off(words, key):
                 raise WrongWords(f"-machine: {key}={words[key]}: the devicetree differs at each start, expected {key}=off")
-    return labelled([text.removeprefix("type=") for text in texts], "machine")
+    return labelled([text.removeprefix("type=") for text in texts], "machine", most)
 
 
-def read_cpu(said: dict):
+def read_cpu(said: dict, most: int):
     texts = required(said, "cpu", "-cpu", "a 64-bit processor model: without it QEMU's is a 32-bit one")
     for text in texts:
         if text.split(",")[0] in ("cortex-a7", "cortex-a15") or "aarch64=off" in text.split(","):
             raise WrongWords(f"-cpu: {shown(text)} is a 32-bit processor, expected a 64-bit one")
-    return labelled(texts, "cpu")
+    return labelled(texts, "cpu", most)
 
 
 def read_smp(said: dict) -> list[Processors]:

@@ -1,5 +1,6 @@
 """The words of the command line: options, lists of values, sizes."""
 import re
+import textwrap
 from collections.abc import Callable
 from dataclasses import dataclass
 from fractions import Fraction
@@ -25,14 +26,15 @@ COMMON = [
     Option(("--no-initrd",), "no_initrd", "", "a launch without initrd too, beside those with one"),
     Option(("--algo",), "algo", "LIST", "hash algorithms: sha256 (default), sha512", True),
     Option(("--host",), "host", "FILE", "what only the machine knows: vmm/host-example.toml explains it. Required"),
-    Option(("--dtb",), "dtb", "FILE", "a devicetree as the hypervisor loads it, which is placed as it is. Of several, each launch takes the one "
-           "that fits it", True),
+    Option(("--dtb",), "dtb", "FILE", "a devicetree as the hypervisor loads it, which is placed as it is. Of several, each launch takes "
+           "the one that fits it", True),
     Option(("--s2sz",), "s2sz", "N", "the width of an IPA in bits, where the rule of the table does not hold"),
-    Option(("--kernel-pages",), "kernel_pages", "WHICH", "pages of the kernel that are measured: those of its `file` (default), or those of its "
-           "`image_size` too, with the BSS as zeros"),
-    Option(("--dtb-pages",), "dtb_pages", "WHICH", "pages of the devicetree that are measured: the `whole` file (default), or those that are `used`"),
-    Option(("--order",), "order", "ORDER", "in which order the realm is built: `address` (default: RAM, then what is placed by rising address, "
-           "then the RECs), or a list such as ram,kernel,initrd,dtb,rec"),
+    Option(("--kernel-pages",), "kernel_pages", "WHICH", "pages of the kernel that are measured: those of its `file` (default), or those "
+           "of its `image_size` too, with the BSS as zeros"),
+    Option(("--dtb-pages",), "dtb_pages", "WHICH", "pages of the devicetree that are measured: the `whole` file (default), or those "
+           "that are `used`"),
+    Option(("--order",), "order", "ORDER", "in which order the realm is built: `address` (default: RAM, then what is placed by rising "
+           "address, then the RECs), or a list such as ram,kernel,initrd,dtb,rec"),
     Option(("--out",), "out", "DIR", "the folder that is written. Required"),
     Option(("--force",), "force", "", "replace DIR, if rim-manifest has written it"),
     Option(("--rules",), "rules", "", "print the table of the hypervisor, and do nothing else"),
@@ -69,12 +71,15 @@ def parse(options: list[Option], words: list[str]) -> dict:
     return said
 
 
+INDENT = " " * 8
+
+
 def help_of(options: list[Option]) -> str:
     """The lines of the options."""
     lines = []
     for option in options:
         lines.append("  " + ", ".join(option.names) + (f" {option.value}" if option.value else ""))
-        lines.append("        " + option.help + (" [list]" if option.many else ""))
+        lines.append(textwrap.fill(option.help + (" [list]" if option.many else ""), 120, initial_indent=INDENT, subsequent_indent=INDENT))
     return "\n".join(lines)
 
 
@@ -171,9 +176,9 @@ def algorithms(texts: list[str]) -> list[str]:
     return values
 
 
-def labelled(texts: list[str], prefix: str) -> list[Word]:
-    """Texts with labels: the text itself where all of them can be part of a name and are short, else a number."""
-    plain = all(re.fullmatch(r"[A-Za-z0-9._-]{1,20}", text) for text in texts) and len(set(texts)) == len(texts)
+def labelled(texts: list[str], prefix: str, most: int) -> list[Word]:
+    """Texts with labels: the text itself where each is another, can be part of a name and has at most so many letters, else a number."""
+    plain = all(re.fullmatch(r"[A-Za-z0-9._-]+", text) and len(text) <= most for text in texts) and len(set(texts)) == len(texts)
     return [Word(text, text if plain else f"{prefix}{number}") for number, text in enumerate(texts, 1)]
 
 
@@ -182,4 +187,6 @@ def appends(name: str, texts: list[str]) -> list[Word]:
     for text in texts:
         if any(ord(letter) < 32 or ord(letter) == 127 for letter in text):
             raise WrongWords(f"{name}: {shown(text)} has a control character, expected a text of one line")
+        if any("\ud800" <= letter <= "\udfff" for letter in text):
+            raise WrongWords(f"{name}: {shown(text)} is not UTF-8, expected a text that is")
     return [Word(text, f"append{number}") for number, text in enumerate(texts, 1)]

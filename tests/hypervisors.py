@@ -1,9 +1,10 @@
 #!/usr/bin/env python3
 """Gives rim-manifest words, files and a stand-in for the hypervisor, and looks at what it says and at the manifests that it writes.
 
-    tests/vmm.py [PROGRAM]          by default the program that `rt ci` has built
+    tests/hypervisors.py [PROGRAM]          by default the program that `rt ci` has built
 
-- Wrong words and faults: the status, the one line and that nothing is written.
+- Wrong words and faults: the status, the one line and that nothing is written. For speed these are runs of its `main` in a process of
+  many; all others start rim-manifest itself.
 - Places: addresses that were worked out by hand from docs/VMM.md, of each hypervisor.
 - Options, names, matrices, more than 64 files, a folder that is moved, --force, an installed rim-manifest.
 
@@ -11,7 +12,9 @@ PROGRAM reads each manifest that is written, by `check` without a line, and meas
 'N passed, M failed'.
 """
 import concurrent.futures
+import contextlib
 import gzip
+import io
 import json
 import os
 import re
@@ -24,6 +27,10 @@ import tomllib
 
 TOP = os.path.dirname(os.path.dirname(os.path.abspath(__file__)))
 START = os.path.join(TOP, "rim-manifest")
+sys.path.insert(0, TOP)
+
+from vmm.main import main as rim_manifest  # noqa: E402, the path is set above
+
 MIB = 1 << 20
 SECONDS = 60
 
@@ -168,6 +175,15 @@ class Folder:
                              env=os.environ | environment)
         return ran.returncode, ran.stdout.decode(), ran.stderr.decode()
 
+    def run_here(self, *words: str):
+        """The same in this process, where nothing else may run."""
+        out, said = io.StringIO(), io.StringIO()
+        os.chdir(self.path)
+        with contextlib.redirect_stdout(out), contextlib.redirect_stderr(said):
+            status = rim_manifest(list(words))
+        os.chdir(TOP)
+        return status, out.getvalue(), said.getvalue()
+
     def names(self) -> set[str]:
         return set(os.listdir(self.path))
 
@@ -226,7 +242,8 @@ WRONG = [
     ("an edited devicetree", [*QEMU, "--qemu", "q", "--", "--dtb", "x"], "--dtb: after `--` it would change"),
     ("flash", [*QEMU, "--qemu", "q", "--", "-drive", "if=pflash,file=x"], "-drive if=pflash,file=x: it loads what no table places"),
     ("a loader", [*QEMU, "--qemu", "q", "--", "-device", "loader,file=x"], "-device loader,file=x: it loads"),
-    ("an order without RAM", [*WITH_TREE, "--order", "kernel,dtb,stub,rec"], "--order: 'kernel,dtb,stub,rec', expected address, or each of"),
+    ("an order without RAM", [*WITH_TREE, "--order", "kernel,dtb,stub,rec"],
+     "--order: 'kernel,dtb,stub,rec', expected address, or each of"),
     ("an order with one twice", [*WITH_TREE, "--order", "ram,kernel,dtb,stub,rec,rec"], "--order: "),
     ("another stub", [*WITH_TREE, "--stub", "some"], "--stub: 'some', expected measured or none"),
     ("other pages of the kernel", [*WITH_TREE, "--kernel-pages", "all"], "--kernel-pages: 'all', expected file or image_size"),
@@ -269,7 +286,8 @@ FAULTS = [
     ("a host without rec_rule", [*WITH_TREE, "-smp", "2"], changed_host(rec_rule=None), "it has no rec_rule, expected one since there are"),
     ("a host with another rec_rule", WITH_TREE, changed_host(rec_rule='"some"'), "rec_rule = 'some', expected runnable or all"),
     ("a host with a short rpv", WITH_TREE, changed_host(rpv='"00"'), "rpv = '00', expected 128 hexadecimal digits"),
-    ("cloud-hypervisor: a host without a width", CLOUD, changed_host(s2sz_max=None), "it has no s2sz_max, expected one since cloud-hypervisor"),
+    ("cloud-hypervisor: a host without a width", CLOUD, changed_host(s2sz_max=None),
+     "it has no s2sz_max, expected one since cloud-hypervisor"),
     ("no file of the kernel", replaced(WITH_TREE, "-kernel", "none"), {}, "none: No such file or directory, expected a file"),
     ("a kernel that is ELF", WITH_TREE, {"Image": b"\x7fELF" + bytes(99)}, "Image: an ELF file, expected an arm64 Image"),
     ("a kernel that is xz", WITH_TREE, {"Image": b"\xfd7zXZ" + bytes(99)}, "Image: an xz file, expected an arm64 Image"),
@@ -281,8 +299,10 @@ FAULTS = [
     ("kvmtool: gzip", KVMTOOL, {"Image": gzip.compress(image())}, "Image: a gzip file, expected an arm64 Image"),
     ("kvmtool: zboot", KVMTOOL, {"Image": zboot(image())}, "Image: an EFI zboot file, expected an arm64 Image"),
     ("zboot of no version", WITH_TREE, {"Image": zboot(image())}, "an EFI zboot file, which QEMU unpacks from 10.0 on"),
-    ("zboot of an old version", WITH_TREE, {"Image": zboot(image())} | changed_host(hypervisor_version='"7.2.22"'), "which QEMU 7.2.22 may load packed"),
-    ("zboot by zstd", WITH_TREE, {"Image": zboot(image(), b"zstd22")} | changed_host(hypervisor_version='"10.0"'), "an EFI zboot packed by 'zstd22'"),
+    ("zboot of an old version", WITH_TREE, {"Image": zboot(image())} | changed_host(hypervisor_version='"7.2.22"'),
+     "which QEMU 7.2.22 may load packed"),
+    ("zboot by zstd", WITH_TREE, {"Image": zboot(image(), b"zstd22")} | changed_host(hypervisor_version='"10.0"'),
+     "an EFI zboot packed by 'zstd22'"),
     ("an empty initrd", [*WITH_TREE, "-initrd", "i"], {"i": b""}, "i: it is empty, expected an initrd"),
     ("an initrd of U-Boot", [*WITH_TREE, "-initrd", "i"], {"i": b"\x27\x05\x19\x56" + bytes(99)}, "i: an initrd with a U-Boot header"),
     ("no command lines", [*WITH_TREE, "--append-file", "a"], {"a": b"\n\n"}, "a: it has no command line"),
@@ -294,37 +314,49 @@ FAULTS = [
     ("a short devicetree", WITH_TREE, {"tree": b"\xd0\x0d\xfe\xed"}, "tree: 4 bytes, expected a flattened devicetree"),
     ("no devicetree", WITH_TREE, {"tree": bytes(99)}, "tree: begins with 0x00000000, expected 0xd00dfeed"),
     ("a devicetree that is cut", WITH_TREE, {"tree": FILES["tree"][:-1]}, "tree: its header says 1048576 bytes"),
-    ("a devicetree without an end", WITH_TREE, {"tree": FILES["tree"].replace(b"\0\0\0\2\0\0\0\2\0\0\0\x09", b"\0\0\0\4\0\0\0\4\0\0\0\x09")}, "has no end"),
+    ("a devicetree without an end", WITH_TREE, {"tree": FILES["tree"].replace(b"\0\0\0\2\0\0\0\2\0\0\0\x09",
+                                                                              b"\0\0\0\4\0\0\0\4\0\0\0\x09")}, "has no end"),
     ("another size of RAM", WITH_TREE, changed_tree(ram=[(LOW, LOW + 512 * MIB)]), "launch 256M-smp1-sha256, tree: RAM: the devicetree has "
      "0x40000000 to 0x60000000, expected 0x40000000 to 0x50000000"),
-    ("another command line", [*WITH_TREE, "-append", "quiet"], changed_tree(bootargs="debug"), "boot words: the devicetree has bootargs 'debug', "
+    ("another command line", [*WITH_TREE, "-append", "quiet"], changed_tree(bootargs="debug"),
+     "boot words: the devicetree has bootargs 'debug', "
      "expected 'quiet'"),
     ("a command line that is not said", WITH_TREE, changed_tree(bootargs="debug"), "has bootargs 'debug', expected ''"),
-    ("no place of an initrd", [*WITH_TREE, "-initrd", "initrd"], {}, "has the initrd at nothing to nothing, expected 0x48000000 to 0x48002329"),
-    ("another place of an initrd", [*WITH_TREE, "-initrd", "initrd"], changed_tree(initrd=(0x4400_0000, 0x4400_2329)), "has the initrd at 0x44000000"),
-    ("an initrd that is not said", WITH_TREE, changed_tree(initrd=WITH_INITRD), "the devicetree has an initrd, 0x48000000 to 0x48002329, expected none"),
+    ("no place of an initrd", [*WITH_TREE, "-initrd", "initrd"], {},
+     "has the initrd at nothing to nothing, expected 0x48000000 to 0x48002329"),
+    ("another place of an initrd", [*WITH_TREE, "-initrd", "initrd"], changed_tree(initrd=(0x4400_0000, 0x4400_2329)),
+     "has the initrd at 0x44000000"),
+    ("an initrd that is not said", WITH_TREE, changed_tree(initrd=WITH_INITRD),
+     "the devicetree has an initrd, 0x48000000 to 0x48002329, expected none"),
     ("other processors", [*WITH_TREE, "-smp", "2"], {}, "processors: the devicetree has 1, expected 2"),
     ("another number of a processor", WITH_TREE, changed_tree(cpus={"cpu@1": {"reg": b"\0\0\0\1"}}), "one with reg 0x1, expected n mod 16"),
     ("no PMU", WITH_TREE, changed_tree(pmu=None), "the devicetree has no node /pmu, expected one by pmu of the host"),
     ("a PMU", WITH_TREE, changed_host(pmu="false", pmu_num_ctrs=None), "the devicetree has a node /pmu, expected none"),
     ("a seed", WITH_TREE, changed_tree(chosen={"rng-seed": bytes(32)}), "same bytes twice: the devicetree has rng-seed"),
     ("a devicetree that is packed", WITH_TREE, changed_tree(length=None), "bytes, expected 1048576, as long as it is loaded"),
-    ("a devicetree that was made longer", WITH_TREE, {"tree": tree([(LOW, LOW + 256 * MIB)], length=None).ljust(MIB, b"\0")}, "header says"),
-    ("a window past the half", [*WITH_TREE, "--s2sz", "40"], {}, "place: pcie@10000000 is at 0x8000000000 to 0x10000000000, expected its end at most"),
+    ("a devicetree that was made longer", WITH_TREE, {"tree": tree([(LOW, LOW + 256 * MIB)], length=None).ljust(MIB, b"\0")},
+     "header says"),
+    ("a window past the half", [*WITH_TREE, "--s2sz", "40"], {},
+     "place: pcie@10000000 is at 0x8000000000 to 0x10000000000, expected its end at most"),
     ("a window past the host's half", WITH_TREE, changed_host(s2sz_max="40"), "half of what s2sz 40 has"),
-    ("a kernel past RAM", replaced(WITH_TREE, "-m", "2M"), {"tree": tree([(LOW, LOW + 2 * MIB)])}, "place: kernel is at 0x40200000 to 0x40400000"),
+    ("a kernel past RAM", replaced(WITH_TREE, "-m", "2M"), {"tree": tree([(LOW, LOW + 2 * MIB)])},
+     "place: kernel is at 0x40200000 to 0x40400000"),
     ("a devicetree past RAM", [*replaced(WITH_TREE, "-m", "8.5M"), "-initrd", "i"],
-     {"i": bytes(2 * MIB), "tree": tree([(LOW, LOW + 17 * MIB // 2)], initrd=(0x4044_0000, 0x4064_0000))}, "place: dtb is at 0x40800000 to 0x40900000"),
+     {"i": bytes(2 * MIB), "tree": tree([(LOW, LOW + 17 * MIB // 2)], initrd=(0x4044_0000, 0x4064_0000))},
+     "place: dtb is at 0x40800000 to 0x40900000"),
     ("kvmtool: an initrd in the kernel's BSS", [*KVMTOOL, "-i", "initrd"], {"Image": image(0xFE0_0000),
      "tree": tree([(2 * LOW, 2 * LOW + 256 * MIB)], initrd=(0x8FDF_DCD4, 0x8FDF_FFFD))}, "share a page"),
     ("a value twice", [*WITH_TREE, "-m", "256"], {}, "launch 256M-smp1-sha256: two combinations have this name"),
-    ("a name that is long", [*replaced(WITH_TREE, "-cpu", "a" * 20), "-cpu", "b" * 20, "-kernel", "k" * 20, "-initrd", "i" * 20, "--no-initrd"],
-     {"k" * 20: image(), "i" * 20: b"i"}, "characters, expected at most 64"),
-    ("two devicetrees that fit", [*WITH_TREE, "--dtb", "b"], {"b": tree([(LOW, LOW + 256 * MIB)], model=b"b\0")}, "tree and b both fit and differ"),
+    ("a name that is long", [*replaced(KVMTOOL, "-m", "123456789012K@0x400000000000"), "-k", "k" * 32], {"k" * 32: image()},
+     "-smp1-" + "k" * 32 + "-sha256: its name has 72 characters, expected at most 64"),
+    ("a devicetree that is long", WITH_TREE, {"tree": FILES["tree"].ljust(2 * MIB + 1, b"\0")}, "tree: it has more than 2097152 bytes"),
+    ("two devicetrees that fit", [*WITH_TREE, "--dtb", "b"], {"b": tree([(LOW, LOW + 256 * MIB)], model=b"b\0")},
+     "tree and b both fit and differ"),
     ("memory slots", replaced(WITH_TREE, "-m", "256M,slots=1,maxmem=1G"), {}, "no rule gives the width of an IPA for these words"),
     ("much RAM without highmem", replaced(replaced(WITH_TREE, "-m", "4G"), "-M", "virt,highmem=off"), {}, "no rule gives the width"),
     ("no program", [*QEMU, "--qemu", "./none"], {}, "./none: No such file or directory, expected the hypervisor's program"),
-    ("a program of another version", [*QEMU, "--qemu", "./stand-in"], changed_host(hypervisor_version='"7.2.22"'), "it is of version '10.0.2', "
+    ("a program of another version", [*QEMU, "--qemu", "./stand-in"], changed_host(hypervisor_version='"7.2.22"'),
+     "it is of version '10.0.2', "
      "expected 7.2.22"),
     ("a program that fails", [*QEMU, "--qemu", "./stand-in", "--", "-fail"], {}, "no devicetree (status 1): a stand-in: no such word"),
     ("dumps that differ", [*QEMU, "--qemu", "./stand-in", "--", "-differ"], {"1/trees/256M-1-none": FILES["tree"],
@@ -332,12 +364,17 @@ FAULTS = [
 ]
 
 
-def stops(name: str, words: list[str], files: dict, status: int, text: str):
+STOPS = [(f"words: {name}", words, {}, 2, text) for name, words, text in WRONG]
+STOPS += [(f"fault: {name}", words, files, 3, text) for name, words, files, text in FAULTS]
+
+
+def stops(number: int):
     """How a run that has to stop differs from what is expected, as lines."""
+    name, words, files, status, text = STOPS[number]
     with Folder(files) as folder:
         folder.put("stand-in", STAND_IN.encode(), is_program=True)
         before = folder.names()
-        ended, out, said = folder.run(*words)
+        ended, out, said = folder.run_here(*words)
         wrong = [f"status {ended}, expected {status}"] if ended != status else []
         if text not in said:
             wrong.append(f"{text!r} is not in {said!r}")
@@ -373,15 +410,18 @@ def differs(what: str, has, expected) -> list[str]:
 # A name, words, the kernel, the length of the initrd (None: none), and by hand: RAM, `at` of each item, pc, x, s2sz.
 Q = ["-M", "virt", "-cpu", "max"]
 QEMU_PLACES = [
-    ("128 MiB", [*Q], image(), 9001, [(LOW, 0x4800_0000)], {"stub": LOW, "kernel": 0x4020_0000, "initrd": 0x4400_0000, "dtb": 0x4420_0000}, LOW, [], 41),
+    ("128 MiB", [*Q], image(), 9001, [(LOW, 0x4800_0000)], {"stub": LOW, "kernel": 0x4020_0000, "initrd": 0x4400_0000, "dtb": 0x4420_0000},
+     LOW, [], 41),
     ("256 MiB", [*Q, "-m", "256"], image(), 9001, [(LOW, 0x5000_0000)],
      {"stub": LOW, "kernel": 0x4020_0000, "initrd": 0x4800_0000, "dtb": 0x4820_0000}, LOW, [], 41),
     ("2 GiB", [*Q, "-m", "2G"], image(), 9001, [(LOW, 0xC000_0000)],
      {"stub": LOW, "kernel": 0x4020_0000, "initrd": 0x4800_0000, "dtb": 0x4820_0000}, LOW, [], 41),
     ("4 GiB", [*Q, "-m", "4096M"], image(), 9001, [(LOW, 0x1_4000_0000)],
      {"stub": LOW, "kernel": 0x4020_0000, "initrd": 0x4800_0000, "dtb": 0x4820_0000}, LOW, [], 41),
-    ("600 GiB", [*Q, "-m", "600G"], image(), None, [(LOW, 0x96_4000_0000)], {"stub": LOW, "kernel": 0x4020_0000, "dtb": 0x4800_0000}, LOW, [], 42),
-    ("128 MiB without initrd", [*Q], image(), None, [(LOW, 0x4800_0000)], {"stub": LOW, "kernel": 0x4020_0000, "dtb": 0x4400_0000}, LOW, [], 41),
+    ("600 GiB", [*Q, "-m", "600G"], image(), None, [(LOW, 0x96_4000_0000)], {"stub": LOW, "kernel": 0x4020_0000, "dtb": 0x4800_0000}, LOW,
+     [], 42),
+    ("128 MiB without initrd", [*Q], image(), None, [(LOW, 0x4800_0000)], {"stub": LOW, "kernel": 0x4020_0000, "dtb": 0x4400_0000}, LOW,
+     [], 41),
     ("an initrd that ends at 2 MiB", [*Q, "-m", "1G"], image(), 2 * MIB, [(LOW, 0x8000_0000)],
      {"stub": LOW, "kernel": 0x4020_0000, "initrd": 0x4800_0000, "dtb": 0x4820_0000}, LOW, [], 41),
     ("a kernel past the initrd's place", [*Q, "-m", "1G"], image(128 * MIB), 9001, [(LOW, 0x8000_0000)],
@@ -414,7 +454,8 @@ OTHER_PLACES = [
      {"kernel": LOW, "dtb": 0x4FE0_0000}, 0x4008_0000, [0x4FE0_0000], 33),
     ("512 MiB", ["cloud-hypervisor"], image(), 9001, [(LOW, 0x6000_0000)],
      {"kernel": 0x4040_0000, "initrd": 0x5FFF_D000, "dtb": LOW}, 0x4040_0000, [LOW], 48),
-    ("two regions", ["cloud-hypervisor", "--memory", "size=4G", "--cpus", "boot=1"], image(), 9001, [(LOW, 0xFC00_0000), (0x1_0000_0000, 0x1_4400_0000)],
+    ("two regions", ["cloud-hypervisor", "--memory", "size=4G", "--cpus", "boot=1"], image(), 9001,
+     [(LOW, 0xFC00_0000), (0x1_0000_0000, 0x1_4400_0000)],
      {"kernel": 0x4040_0000, "initrd": 0x1_43FF_D000, "dtb": LOW}, 0x4040_0000, [LOW], 48),
 ]
 
@@ -460,7 +501,8 @@ def option(program: str, words: list[str], look, files: dict | None = None, warn
         status, out, said = folder.run(*words)
         if status or (warns not in said if warns else said):
             return [f"status {status}, {said!r}"]
-        return differs("lines", [line.split(":")[0][-9:] == "ifest.toml"[-9:] for line in out.splitlines()], [True]) + look(folder) + read_by(program, folder)
+        return differs("lines", [line.split(":")[0][-9:] == "ifest.toml"[-9:] for line in out.splitlines()],
+                       [True]) + look(folder) + read_by(program, folder)
 
 
 def names_of(folder: Folder) -> list[str]:
@@ -485,33 +527,42 @@ OPTIONS = [
      ["rec 0", "ram 0", "item kernel", "item dtb", "item stub"])),
     ("pages of the BSS", [*WITH_TREE, "--kernel-pages", "image_size"], lambda folder: differs("size",
      [item.get("size") for item in first(folder)["item"]], [None, 2 * MIB, None])),
-    ("pages that are used", [*WITH_TREE, "--dtb-pages", "used"], lambda folder: differs("bytes", folder.read("out/dtb-1"), FILES["tree"][:4096])),
+    ("pages that are used", [*WITH_TREE, "--dtb-pages", "used"],
+     lambda folder: differs("bytes", folder.read("out/dtb-1"), FILES["tree"][:4096])),
     ("a width", [*WITH_TREE, "--s2sz", "48"], lambda folder: differs("s2sz", first(folder)["s2sz"], 48)),
     ("a width of the host", WITH_TREE, lambda folder: differs("s2sz", first(folder)["s2sz"], 39),
      changed_tree(**NO_PCIE) | changed_host(s2sz_max="39")),
     ("a plain guest", WITH_TREE, lambda folder: differs("warning", b"Warning: 1 of 1" in folder.read("out/manifest.toml"), True),
      changed_tree(method=b"hvc\0"), "have the psci method 'hvc', expected 'smc': no realm has such a devicetree"),
-    ("kernels and initrds", [*WITH_TREE, "--dtb", "with-initrd", "-kernel", "b", "-initrd", "initrd", "--no-initrd"], lambda folder: differs(
+    ("kernels and initrds", [*WITH_TREE, "--dtb", "with-initrd", "-kernel", "b", "-initrd", "initrd", "--no-initrd"],
+     lambda folder: differs(
      "names", names_of(folder), [f"256M-smp1-{kernel}-{initrd}-sha256" for initrd in ("initrd", "no-initrd") for kernel in ("Image", "b")])
-     + differs("files", sorted(each["name"] for each in folder.toml()["file"]), ["dtb-1", "dtb-2", "initrd", "kernel-Image", "kernel-b", "stub-1", "stub-2"]),
+     + differs("files", sorted(each["name"] for each in folder.toml()["file"]),
+               ["dtb-1", "dtb-2", "initrd", "kernel-Image", "kernel-b", "stub-1", "stub-2"]),
      {"b": OTHER_IMAGE, "with-initrd": tree([(LOW, LOW + 256 * MIB)], initrd=WITH_INITRD)}),
     ("kernels of one name", [*WITH_TREE, "-kernel", "other/Image"], lambda folder: differs("names", names_of(folder),
      ["256M-smp1-kernel1-sha256", "256M-smp1-kernel2-sha256"]) + differs("kernel", folder.read("out/kernel-kernel2"), OTHER_IMAGE),
      {"other/Image": OTHER_IMAGE}),
+    ("kernels of long names", [*WITH_TREE, "-kernel", "k" * 33], lambda folder: differs("names", names_of(folder),
+     ["256M-smp1-kernel1-sha256", "256M-smp1-kernel2-sha256"]), {"k" * 33: OTHER_IMAGE}),
     ("machines and models", [*QEMU, "-M", "virt-10.0", "-cpu", "cortex-a57,pmu=on", "--qemu", "./stand-in"], lambda folder: differs("names",
      names_of(folder), [f"machine{m}-cpu{c}-256M-smp1-sha256" for m in (1, 2) for c in (1, 2)]), TREES),
     ("models", [*QEMU, "-cpu", "cortex-a57", "--qemu", "./stand-in"], lambda folder: differs("names", names_of(folder),
-     ["max-256M-smp1-sha256", "cortex-a57-256M-smp1-sha256"]) + differs("devicetrees", os.path.exists(os.path.join(folder.path, "out/dtb-2")), False),
+     ["max-256M-smp1-sha256", "cortex-a57-256M-smp1-sha256"]) + differs("devicetrees",
+                                                                        os.path.exists(os.path.join(folder.path, "out/dtb-2")), False),
      TREES),
     ("gzip", WITH_TREE, lambda folder: differs("kernel", folder.read("out/kernel"), image()), {"Image": gzip.compress(image()) + b"after"}),
-    ("zboot", [*QEMU, "--qemu", "./stand-in"], lambda folder: differs("kernel", folder.read("out/kernel"), image()), {"Image": zboot(image())} | TREES),
+    ("zboot", [*QEMU, "--qemu", "./stand-in"], lambda folder: differs("kernel", folder.read("out/kernel"), image()),
+     {"Image": zboot(image())} | TREES),
     ("text of a command line", [*WITH_TREE, "-append", "a=\"b\" \\ é # 'c'"], lambda folder: differs("record",
-     json.loads(folder.read("out/record.json"))["launches"][0]["append"], "a=\"b\" \\ é # 'c'"), changed_tree(bootargs="a=\"b\" \\ é # 'c'")),
+     json.loads(folder.read("out/record.json"))["launches"][0]["append"], "a=\"b\" \\ é # 'c'"),
+     changed_tree(bootargs="a=\"b\" \\ é # 'c'")),
     ("two memory nodes", WITH_TREE, lambda folder: [], changed_tree(ram=[(LOW, LOW + 128 * MIB)], **{
         "memory@48000000": {"reg": struct.pack(">QQ", LOW + 128 * MIB, 128 * MIB)}})),
     ("words beside those of kvmtool", [*KVMTOOL, "-p", "quiet"], lambda folder: [], {"tree": tree([(2 * LOW, 2 * LOW + 256 * MIB)],
      bootargs="console=ttyS0 quiet", length=None, **NO_PCIE)}),
-    ("a program that goes on", [*without(KVMTOOL, "--dtb"), "--lkvm", "./lkvm"], lambda folder: differs("length", len(folder.read("out/dtb-1")), 65536),
+    ("a program that goes on", [*without(KVMTOOL, "--dtb"), "--lkvm", "./lkvm"],
+     lambda folder: differs("length", len(folder.read("out/dtb-1")), 65536),
      {"tree": tree([(2 * LOW, 2 * LOW + 256 * MIB)], length=65536, **NO_PCIE)}),
     ("processors beside a list", [*QEMU, "-smp", "1,2", "--algo", "sha512,sha256", "--qemu", "./stand-in"], lambda folder: differs("names",
      names_of(folder), [f"256M-smp{n}-sha{size}" for n in (1, 2) for size in (512, 256)]), TREES),
@@ -524,7 +575,8 @@ OPTIONS = [
 def matrix(program: str):
     """75 devicetrees and 150 launches: two manifests, a script that measures both, and a folder that is moved."""
     sizes, counts, texts = (128, 256, 512), (1, 2, 3, 4, 5), [f"a{n}" for n in range(5)]
-    trees = {f"trees/{size}M-{count}-{args}": tree([(LOW, LOW + size * MIB)], bootargs=args, count=count) for size in sizes for count in counts
+    trees = {f"trees/{size}M-{count}-{args}": tree([(LOW, LOW + size * MIB)], bootargs=args,
+                                                   count=count) for size in sizes for count in counts
              for args in texts}
     with Folder(trees | {"lines": "\n\n".join(texts[1:]).encode()}) as folder:
         folder.put("stand-in", STAND_IN.encode(), is_program=True)
@@ -601,7 +653,8 @@ def texts(program: str):
     """Help, version, tables and the example of a host."""
     wrong = []
     with Folder() as folder:
-        for words, text in ((["--help"], "usage: rim-manifest qemu"), (["--version"], "rim-manifest 0."), (["qemu", "--help"], "--append-file FILE"),
+        for words, text in ((["--help"], "usage: rim-manifest qemu"), (["--version"], "rim-manifest 0."),
+                            (["qemu", "--help"], "--append-file FILE"),
                             (["kvmtool", "-h"], "--lkvm PROGRAM"), (["cloud-hypervisor", "--rules"], "memory (cloud-hypervisor's sources")):
             status, out, said = folder.run(*words)
             wrong += differs(" ".join(words), (status, text in out, said), (0, True, ""))
@@ -610,7 +663,8 @@ def texts(program: str):
         with open(example, encoding="utf-8") as file:
             keys = set(re.findall(r"^#?([a-z0-9_]+) = ", file.read(), re.M))
         wrong += differs("keys of the example", "one of " + ", ".join(sorted(keys)), "one of " + ", ".join(sorted(
-            ["num_bps", "num_wps", "sve", "sve_vl", "pmu", "pmu_num_ctrs", "block_level", "rec_rule", "s2sz_max", "hypervisor_version", "num_aux", "rpv",
+            ["num_bps", "num_wps", "sve", "sve_vl", "pmu", "pmu_num_ctrs", "block_level", "rec_rule", "s2sz_max", "hypervisor_version",
+             "num_aux", "rpv",
              "pool_base", "pool_count"])))
     return wrong
 
@@ -619,13 +673,14 @@ def main():
     program = os.path.abspath(sys.argv[1] if len(sys.argv) > 1 else os.path.join(TOP, "crates", "rim", "out", "rim"))
     if not os.path.exists(program):
         raise SystemExit(f"{program} is not built")
-    tries = [(f"words: {name}", lambda each=(name, words, {}, 2, text): stops(*each)[1]) for name, words, text in WRONG]
-    tries += [(f"fault: {name}", lambda each=(name, words, files, 3, text): stops(*each)[1]) for name, words, files, text in FAULTS]
-    tries += [(f"option: {name}", lambda each=(words, look, *rest): option(program, *each)) for name, words, look, *rest in OPTIONS]
+    tries = [(f"option: {name}", lambda each=(words, look, *rest): option(program, *each)) for name, words, look, *rest in OPTIONS]
     tries += [*places(program)] + [(each.__name__, lambda each=each: each(program)) for each in (matrix, measured, forced, started, texts)]
-    with concurrent.futures.ThreadPoolExecutor(len(os.sched_getaffinity(0))) as pool:
-        outcomes = [(name, pool.submit(look)) for name, look in tries]
-        outcomes = [(name, done.result()) for name, done in outcomes]
+    processors = len(os.sched_getaffinity(0))
+    with concurrent.futures.ProcessPoolExecutor(processors) as pool:
+        outcomes = list(pool.map(stops, range(len(STOPS)), chunksize=8))
+    with concurrent.futures.ThreadPoolExecutor(processors) as pool:
+        waiting = [(name, pool.submit(look)) for name, look in tries]
+        outcomes += [(name, done.result()) for name, done in waiting]
     for name, wrong in outcomes:
         if wrong:
             print(f"WRONG: {name}", *wrong, sep="\n  ")
