@@ -7,6 +7,7 @@
   many; all others start rim-manifest itself.
 - Places: addresses that were worked out by hand from docs/VMM.md, of each hypervisor.
 - Options, names, matrices, more than 64 files, a folder that is moved, --force, an installed rim-manifest.
+- Documents: docs/rim-manifest.1 has each option, and docs/VMM.md each row of the tables.
 
 PROGRAM reads each manifest that is written, by `check` without a line, and measures it. The devicetrees are made here. The last line is
 'N passed, M failed'.
@@ -29,7 +30,9 @@ TOP = os.path.dirname(os.path.dirname(os.path.abspath(__file__)))
 START = os.path.join(TOP, "rim-manifest")
 sys.path.insert(0, TOP)
 
-from vmm.main import main as rim_manifest  # noqa: E402, the path is set above
+from vmm import host as host_keys  # noqa: E402, the path is set above
+from vmm.main import HYPERVISORS, options_of  # noqa: E402
+from vmm.main import main as rim_manifest  # noqa: E402
 
 MIB = 1 << 20
 SECONDS = 60
@@ -669,12 +672,26 @@ def texts(program: str):
     return wrong
 
 
+def documents(_program: str):
+    """The man page names each option and each key of the host; docs/VMM.md has each row of the tables."""
+    page, tables = (open(os.path.join(TOP, "docs", name), encoding="utf-8").read() for name in ("rim-manifest.1", "VMM.md"))
+    named = set(re.split(r'[\s",()|]+', page.replace("\\-", "-").replace("\\fI", " ").replace("\\fR", " ")))
+    wrong = []
+    for vmm in HYPERVISORS.values():
+        wrong += [f"docs/rim-manifest.1: {name} is not named" for option in options_of(vmm) for name in option.names if name not in named]
+        rows = [f"| {row.name} | {row.rule} | {row.sure} |" for row in vmm.TABLE]
+        wrong += [f"docs/VMM.md has not {row!r}" for row in rows if row not in tables]
+    keys = {*host_keys.NUMBERS, *host_keys.FLAGS, *host_keys.TEXTS}
+    return wrong + [f"docs/rim-manifest.1: {key} is not named" for key in sorted(keys - named)]
+
+
 def main():
     program = os.path.abspath(sys.argv[1] if len(sys.argv) > 1 else os.path.join(TOP, "crates", "rim", "out", "rim"))
     if not os.path.exists(program):
         raise SystemExit(f"{program} is not built")
     tries = [(f"option: {name}", lambda each=(words, look, *rest): option(program, *each)) for name, words, look, *rest in OPTIONS]
-    tries += [*places(program)] + [(each.__name__, lambda each=each: each(program)) for each in (matrix, measured, forced, started, texts)]
+    tries += [*places(program)] + [(each.__name__, lambda each=each: each(program)) for each in (matrix, measured, forced, started, texts,
+                                                                                                 documents)]
     processors = len(os.sched_getaffinity(0))
     with concurrent.futures.ProcessPoolExecutor(processors) as pool:
         outcomes = list(pool.map(stops, range(len(STOPS)), chunksize=8))

@@ -162,7 +162,8 @@ def main():
     for launch in record["launches"]:
         if said.only not in launch["name"]:
             continue
-        listed = subprocess.run([os.path.join(TOP, "rim"), "list", launch["manifest"], launch["name"]], cwd=said.folder, capture_output=True,
+        listed = subprocess.run([os.path.join(TOP, "rim"), "list", launch["manifest"], launch["name"]], cwd=said.folder,
+                                capture_output=True,
                                 text=True, check=False)
         listing = Listing(listed.stdout.splitlines() or [listed.stderr])
         wrong = compare(words_of(launch, said.qemu, said.folder), listing)
