@@ -99,9 +99,10 @@ def image(image_size=2 * MIB, text_offset=0, length=20_000) -> bytes:
     return header + bytes(n * 37 % 251 for n in range(length - 64))
 
 
-def zboot(plain: bytes, how=b"gzip") -> bytes:
+def zboot(plain: bytes, how=b"gzip", magic=b"\xcd\x23\x82\x81") -> bytes:
+    """An EFI zboot: a header, and a packed Image."""
     packed = gzip.compress(plain, mtime=0)
-    return struct.pack("<2sH4sII8s32s", b"MZ", 0, b"zimg", 64, len(packed), b"", how).ljust(64, b"\0") + packed
+    return struct.pack("<2sH4sII8s32s4sI", b"MZ", 0, b"zimg", 64, len(packed), b"", how, magic, 64) + packed
 
 
 HOST = {"num_bps": "5", "num_wps": "3", "sve": "false", "pmu": "true", "pmu_num_ctrs": "6", "block_level": "2", "rec_rule": '"runnable"',
@@ -306,6 +307,7 @@ FAULTS = [
      "which QEMU 7.2.22 may load packed"),
     ("zboot by zstd", WITH_TREE, {"Image": zboot(image(), b"zstd22")} | changed_host(hypervisor_version='"10.0"'),
      "an EFI zboot packed by 'zstd22'"),
+    ("zboot without Linux's magic", WITH_TREE, {"Image": zboot(image(), magic=b"\0\0\0\0")}, "Image: no magic `ARM\\x64` at byte 56"),
     ("an empty initrd", [*WITH_TREE, "-initrd", "i"], {"i": b""}, "i: it is empty, expected an initrd"),
     ("an initrd of U-Boot", [*WITH_TREE, "-initrd", "i"], {"i": b"\x27\x05\x19\x56" + bytes(99)}, "i: an initrd with a U-Boot header"),
     ("no command lines", [*WITH_TREE, "--append-file", "a"], {"a": b"\n\n"}, "a: it has no command line"),

@@ -135,7 +135,8 @@ def compare(words: list[str], listing: Listing) -> list[str]:
         registers = monitor.registers()
         has = [registers["PC"]] + [registers[f"X{number:02}"] for number in range(8)]
         if has != listing.rec:
-            wrong.append(f"pc and x0 to x7 of QEMU are {[hex(each) for each in has]}, and of the listing {[hex(each) for each in listing.rec]}")
+            here, there = ([hex(each) for each in registers_] for registers_ in (has, listing.rec))
+            wrong.append(f"pc and x0 to x7 of QEMU are {here}, and of the listing {there}")
         return wrong + pages_that_differ(monitor, listing, os.path.join(folder, "memory"))
 
 

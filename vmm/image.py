@@ -7,6 +7,7 @@ from .faults import Fault
 
 MAGIC = b"ARM\x64"
 GZIP = b"\x1f\x8b"
+ZBOOT = b"\xcd\x23\x82\x81"
 UBOOT = b"\x27\x05\x19\x56"
 # No file of a manifest is longer, and QEMU unpacks no more.
 MOST = 256 << 20
@@ -50,7 +51,8 @@ def header(path: str, data: bytes) -> Image:
 
 
 def is_zboot(data: bytes) -> bool:
-    return data[:2] == b"MZ" and data[4:8] == b"zimg"
+    """Whether a file is an EFI zboot to QEMU, which looks for all three of these."""
+    return data[:2] == b"MZ" and data[4:8] == b"zimg" and data[56:60] == ZBOOT
 
 
 def gunzip(path: str, data: bytes) -> bytes:

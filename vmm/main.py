@@ -249,11 +249,11 @@ def run(all_words: list[str]) -> int:
     work.find_program()
     made = Folder(work.out, "force" in said)
     try:
-        lines = work.write(made)
+        # the lines come first: where they cannot be written, there is no folder either
+        print("\n".join(work.write(made)), flush=True)
         made.finish()
     finally:
         made.drop()
-    print("\n".join(lines), flush=True)
     return 0
 
 
