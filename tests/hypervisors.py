@@ -93,6 +93,11 @@ def tree(ram, bootargs="", initrd=None, count=1, length: int | None = MIB, metho
     return Writer().whole({key: value for key, value in root.items() if value is not None}, length)
 
 
+def deep(count: int) -> dict:
+    """Nodes in nodes, as many as count says with the root."""
+    return {"a": deep(count - 1)} if count > 1 else {}
+
+
 def image(image_size=2 * MIB, text_offset=0, length=20_000) -> bytes:
     """An arm64 Image: its header, and bytes in the place of code."""
     header = struct.pack("<IIQQQQQQII", 0, 0x14000010, text_offset, image_size, 0xA, 0, 0, 0, 0x644D5241, 0)
@@ -321,6 +326,9 @@ FAULTS = [
     ("a devicetree that is cut", WITH_TREE, {"tree": FILES["tree"][:-1]}, "tree: its header says 1048576 bytes"),
     ("a devicetree without an end", WITH_TREE, {"tree": FILES["tree"].replace(b"\0\0\0\2\0\0\0\2\0\0\0\x09",
                                                                               b"\0\0\0\4\0\0\0\4\0\0\0\x09")}, "has no end"),
+    ("a devicetree of another version", WITH_TREE, {"tree": FILES["tree"][:20] + struct.pack(">II", 16, 16) + FILES["tree"][28:]},
+     "tree: version 16, compatible with 16, expected a devicetree of version 17"),
+    ("a devicetree that is deep", WITH_TREE, {"tree": Writer().whole(deep(65), MIB)}, "tree: a node is deeper than 64"),
     ("another size of RAM", WITH_TREE, changed_tree(ram=[(LOW, LOW + 512 * MIB)]), "launch 256M-smp1-sha256, tree: RAM: the devicetree has "
      "0x40000000 to 0x60000000, expected 0x40000000 to 0x50000000"),
     ("another command line", [*WITH_TREE, "-append", "quiet"], changed_tree(bootargs="debug"),

@@ -2,7 +2,7 @@
 from .faults import WrongWords
 from .guest import MIB, PAGE, Guest, Memory, Processors, up
 from .layout import MEMORY, Places, Row
-from .words import Option, Word, memories, processors, required, shown, size
+from .words import Option, Word, memories, processors, shown, size
 
 NAME = "cloud-hypervisor"
 TITLE = "cloud-hypervisor"

@@ -5,6 +5,8 @@ from dataclasses import dataclass, field
 from .faults import Fault
 
 MAGIC = 0xD00DFEED
+# As deep as `rim fdt` reads one.
+DEEPEST = 64
 BEGIN, END, PROPERTY, NOP, LAST = 1, 2, 3, 4, 9
 
 
@@ -75,6 +77,8 @@ class Reader:
     def begin(self, nodes: list[Node]):
         name = self.name_at(self.structure, self.at)
         self.aligned(len(name.encode()) + 1)
+        if len(nodes) == DEEPEST:
+            raise self.fault(f"a node is deeper than {DEEPEST}")
         nodes.append(Node(name))
         if len(nodes) > 1:
             nodes[-2].children.append(nodes[-1])

@@ -142,8 +142,7 @@ class Work:
         self.choices = choices(said, words.choice(said, "stub", "--stub", ("measured", "none")) == "measured" if knows_stub else None)
         length = label_length(said)
         self.lists = {"machine": vmm.read_machine(said, length), "cpu": vmm.read_cpu(said, length), "smp": vmm.read_smp(said),
-                      "memory": vmm.read_memory(said),
-                      "algo": words.algorithms(said.get("algo", ["sha256"]))}
+                      "memory": vmm.read_memory(said), "algo": words.algorithms(said.get("algo", ["sha256"]))}
         if ("program" in said) == ("dtb" in said):
             given = "both are" if "program" in said else "neither is"
             raise WrongWords(f"{source_names(vmm)}: {given} given, expected one of them for the devicetrees")

@@ -8,6 +8,9 @@ from .host import Host
 from .launches import Group, Launch
 
 WIDTH = 140
+# The keys of a launch that are the host's.
+OF_HOST = ("num_bps", "num_wps", "sve", "sve_vl", "pmu", "pmu_num_ctrs", "block_level", "num_aux", "rec_rule", "rpv", "pool_base",
+           "pool_count")
 
 
 @dataclass(frozen=True)
@@ -63,7 +66,7 @@ def head(about: About, part: str) -> str:
     lines += ["Warning: " + each for each in about.warnings]
     lines += ["A path is relative to this folder: start rim here, or the script `measure` beside this file from anywhere.", "",
               "No realm that ran was yet compared with this table of places. What a realm may do otherwise is chosen here:"]
-    lines += chosen(about.choices) + ["", f"The rules that lines below name. How sure each is comes before it: seen, source or memory;",
+    lines += chosen(about.choices) + ["", "The rules that lines below name. In brackets is how sure each is, seen, source or memory: "
                                       f"`rim-manifest {vmm.NAME} --rules` explains this, and has the sources."]
     lines += [f"  {row.name} ({row.sure}): {row.rule}" for row in vmm.TABLE]
     return "".join(map(comment, lines)) + "\nrim_manifest = 2\n"
@@ -72,8 +75,7 @@ def head(about: About, part: str) -> str:
 def chosen(choices: Choices) -> list[str]:
     """What no source decides, and by which option it is decided."""
     stub = {True: "is part of the realm, and the first processor begins at it",
-            False: "is no part of the realm: the first processor begins at "
-            "the kernel, with the devicetree's address in x0"}
+            False: "is no part of the realm: the first processor begins at the kernel, with the devicetree's address in x0"}
     order = "RAM, what is placed by rising address, RECs" if choices.order == ["address"] else ", ".join(choices.order)
     kernel = {"file": "those of its file, and not those of its BSS", "image_size": "those that image_size says, with the BSS as zeros"}
     dtb = {"whole": "all of its file, also where it is zero", "used": "those that its blocks use; the rest is RAM with zeros"}
@@ -96,8 +98,8 @@ def file(blob: Blob) -> str:
     return f"\n[[file]]\n{comment(blob.origin)}{comment(about)}name = {text(blob.file)}\npath = {text(blob.file)}\n"
 
 
-def items(launch: Launch, about: About) -> list[tuple[str, int, str]]:
-    """The items by rising address: name, address, and the rest of their line."""
+def items(launch: Launch, about: About) -> dict[str, str]:
+    """The items by rising address: the line of each name."""
     guest, places = launch.guest, launch.places
     size = ""
     if about.choices.kernel_pages == "image_size":
@@ -109,7 +111,7 @@ def items(launch: Launch, about: About) -> list[tuple[str, int, str]]:
     if launch.stub:
         found.append(("stub", places.stub, f'kind = "raw", file = {text(launch.stub.file)}, at = {places.stub:#x}'))
     rising = sorted(found, key=lambda each: places.entry if each[0] == "kernel" else each[1])
-    return [(name, at, noted(f'    {{ name = "{name}", {rest} }},', f"rule {name}")) for name, at, rest in rising]
+    return {name: noted(f'    {{ name = "{name}", {rest} }},', f"rule {name}") for name, _, rest in rising}
 
 
 def steps(launch: Launch, names: list[str], order: list[str]) -> list[str]:
@@ -130,11 +132,10 @@ def recs(launch: Launch) -> str:
 
 
 def host_lines(host: Host) -> str:
-    keys = ["num_bps", "num_wps", "sve", "pmu", "block_level", "num_aux", "rec_rule", "rpv", "pool_base", "pool_count"]
-    keys[3:3] = ["sve_vl"] if host["sve"] else []
-    keys[keys.index("pmu") + 1:keys.index("pmu") + 1] = ["pmu_num_ctrs"] if host["pmu"] else []
-    shown_ = {key: text(value) if isinstance(value, str) else str(value).lower() for key in keys if (value := host[key]) is not None}
-    return "".join(noted(f"{key} = {value}", "host") for key, value in shown_.items())
+    """The keys of a launch that the host has, as it has them."""
+    given = {key: host[key] for key in OF_HOST if host[key] is not None}
+    lines = {key: text(value) if isinstance(value, str) else str(value).lower() for key, value in given.items()}
+    return "".join(noted(f"{key} = {value}", "host") for key, value in lines.items())
 
 
 def said(launch: Launch, vmm) -> str:
@@ -148,13 +149,12 @@ def table_of(launch: Launch, about: About) -> str:
     """The table of a launch."""
     places = launch.places
     placed = items(launch, about)
-    order = ", ".join(text(step) for step in steps(launch, [name for name, _, _ in placed], about.choices.order))
+    order = ", ".join(text(step) for step in steps(launch, list(placed), about.choices.order))
     region = ", ".join(f"[{base:#x}, {end:#x}]" for base, end in places.ram)
     return "".join([
         f"\n[[launch]]\n{said(launch, about.vmm)}name = {text(launch.name)}\n", noted(f"algo = {text(launch.guest.algo)}", "--algo"),
         noted(f"s2sz = {places.s2sz}", places.width_from), host_lines(about.host),
-        noted(f"ram = [{region}]", f"rule ram: {shown([launch.guest.memory.words])}"), "item = [\n", *(line for _, _, line in placed),
-        "]\n",
+        noted(f"ram = [{region}]", f"rule ram: {shown([launch.guest.memory.words])}"), "item = [\n", *placed.values(), "]\n",
         noted(f"rec = {recs(launch)}", f"rules pc, x and recs: {launch.processors} processor{'s' * (launch.processors > 1)}"),
         noted(f"steps = [{order}]", "rule order" if about.choices.order == ["address"] else "--order")])
 
