@@ -443,6 +443,10 @@ QEMU_PLACES = [
      {"stub": LOW, "kernel": 0x4020_0000, "dtb": 0x4840_0000}, LOW, [], 41),
     ("text_offset 0x80000", [*Q, "-m", "1G", "--stub", "none"], image(MIB, 0x80000), 9001, [(LOW, 0x8000_0000)],
      {"kernel": LOW, "initrd": 0x4800_0000, "dtb": 0x4820_0000}, 0x4008_0000, [0x4820_0000], 41),
+    ("text_offset 4096", [*Q, "-m", "1G", "--stub", "none"], image(MIB, 4096), 9001, [(LOW, 0x8000_0000)],
+     {"kernel": LOW, "initrd": 0x4800_0000, "dtb": 0x4820_0000}, 0x4000_1000, [0x4820_0000], 41),
+    ("text_offset below 4096", [*Q, "-m", "1G", "--stub", "none"], image(MIB, 4088), 9001, [(LOW, 0x8000_0000)],
+     {"kernel": 0x4020_0000, "initrd": 0x4800_0000, "dtb": 0x4820_0000}, 0x4020_0FF8, [0x4820_0000], 41),
     ("image_size 0", [*Q, "-m", "1G", "--stub=none"], image(0, 0), 9001, [(LOW, 0x8000_0000)],
      {"kernel": LOW, "initrd": 0x4800_0000, "dtb": 0x4820_0000}, 0x4008_0000, [0x4820_0000], 41),
     ("204.5 MiB", [*Q, "-m", "204.5M"], image(), 9001, [(LOW, 0x4CC8_0000)],
@@ -488,7 +492,8 @@ def placed(program: str, words: list[str], kernel: bytes, initrd: int | None, ra
         wrong = differs("ram", launch["ram"], [list(each) for each in ram]) + differs("s2sz", launch["s2sz"], s2sz)
         wrong += differs("items", {item["name"]: item["at"] for item in launch["item"]}, at)
         wrong += differs("rec", launch["rec"], [{"pc": hex(pc), "x": [hex(each) for each in x]}])
-        entry = at["kernel"] + (0x80000 if kernel[8:24] in (image(0, 0)[8:24], image(1, 0x80000)[8:16] + kernel[16:24]) else 0)
+        text_offset, image_size = struct.unpack_from("<QQ", kernel, 8)
+        entry = at["kernel"] + (text_offset if image_size else 0x80000)
         rising = sorted(at, key=lambda name: entry if name == "kernel" else at[name])
         regions = [f"ram {n}" for n in range(len(ram))]
         wrong += differs("steps", launch["steps"], [*regions, *(f"item {name}" for name in rising), "rec 0"])
