@@ -131,7 +131,8 @@ WITH_TREE = [*QEMU, "--dtb", "tree"]
 KVMTOOL = ["kvmtool", "-c", "1", "-m", "256", "-k", "Image", "--host", "host.toml", "--out", "out", "--dtb", "tree"]
 CLOUD = ["cloud-hypervisor", "--kernel", "Image", "--host", "host.toml", "--out", "out", "--dtb", "tree"]
 
-# It stands in for QEMU: it copies a devicetree of the folder `trees` to the path of dumpdtb=, one for each -m, -smp and -append.
+# It stands in for QEMU: it copies a devicetree of the folder `trees` to the path of dumpdtb=, one for each -m, -smp and -append, and for
+# the kernel's name where there is such a one.
 STAND_IN = r"""#!/bin/sh
 here=$(dirname "$0")
 [ "$1" = --version ] && echo "QEMU emulator version 10.0.2 (a stand-in)" && exit
@@ -142,13 +143,15 @@ while [ $# -gt 0 ]; do
     -m) memory=$2 ;;
     -smp) processors=$2 ;;
     -append) args=$2 ;;
-    -kernel) [ -f "$2" ] || exit 9 ;;
+    -kernel) [ -f "$2" ] && kernel=$(basename "$2") ;;
     -fail) echo "first" >&2; echo "a stand-in: no such word" >&2; exit 1 ;;
     -differ) printf x >>"$here/count"; here=$here/$(wc -c <"$here/count" | tr -d ' ') ;;
     esac
     shift
 done
-cp "$here/trees/$memory-$processors-$args" "$path"
+tree=$here/trees/$memory-$processors-$args
+[ -f "$tree-$kernel" ] && tree=$tree-$kernel
+cp "$tree" "$path"
 """
 # It stands in for lkvm, which goes on with the guest once it has written the devicetree.
 LKVM = r"""#!/bin/sh
@@ -339,6 +342,9 @@ FAULTS = [
      "has the initrd at nothing to nothing, expected 0x48000000 to 0x48002329"),
     ("another place of an initrd", [*WITH_TREE, "-initrd", "initrd"], changed_tree(initrd=(0x4400_0000, 0x4400_2329)),
      "has the initrd at 0x44000000"),
+    ("a place of an initrd in 12 bytes", [*WITH_TREE, "-initrd", "initrd"], changed_tree(chosen={
+        f"linux,initrd-{end}": bytes(8) + struct.pack(">I", place) for end, place in zip(("start", "end"), WITH_INITRD)}),
+     "boot words: the devicetree has the initrd at 0x48000000"),
     ("an initrd that is not said", WITH_TREE, changed_tree(initrd=WITH_INITRD),
      "the devicetree has an initrd, 0x48000000 to 0x48002329, expected none"),
     ("other processors", [*WITH_TREE, "-smp", "2"], {}, "processors: the devicetree has 1, expected 2"),
@@ -357,7 +363,9 @@ FAULTS = [
     ("a devicetree past RAM", [*replaced(WITH_TREE, "-m", "8.5M"), "-initrd", "i"],
      {"i": bytes(2 * MIB), "tree": tree([(LOW, LOW + 17 * MIB // 2)], initrd=(0x4044_0000, 0x4064_0000))},
      "place: dtb is at 0x40800000 to 0x40900000"),
-    ("kvmtool: an initrd in the kernel's BSS", [*KVMTOOL, "-i", "initrd"], {"Image": image(0xFE0_0000),
+    ("zeros that are none", [*WITH_TREE, "--dtb-pages", "used"], {"tree": FILES["tree"][:-1] + b"x"},
+     "tree: there is something after its blocks, expected zeros for --dtb-pages used"),
+    ("kvmtool: an initrd in the kernel's last page", [*KVMTOOL, "-i", "initrd"], {"Image": image(0xFDF_DC00),
      "tree": tree([(2 * LOW, 2 * LOW + 256 * MIB)], initrd=(0x8FDF_DCD4, 0x8FDF_FFFD))}, "share a page"),
     ("a value twice", [*WITH_TREE, "-m", "256"], {}, "launch 256M-smp1-sha256: two combinations have this name"),
     ("a name that is long", [*replaced(KVMTOOL, "-m", "123456789012K@0x400000000000"), "-k", "k" * 32], {"k" * 32: image()},
@@ -381,9 +389,12 @@ STOPS = [(f"words: {name}", words, {}, 2, text) for name, words, text in WRONG]
 STOPS += [(f"fault: {name}", words, files, 3, text) for name, words, files, text in FAULTS]
 
 
-def stops(number: int):
+def stops(number: int) -> list[str]:
     """How a run that has to stop differs from what is expected, as lines."""
-    name, words, files, status, text = STOPS[number]
+    return tried(stopped, *STOPS[number][1:])
+
+
+def stopped(words: list[str], files: dict, status: int, text: str) -> list[str]:
     with Folder(files) as folder:
         folder.put("stand-in", STAND_IN.encode(), is_program=True)
         before = folder.names()
@@ -395,7 +406,7 @@ def stops(number: int):
             wrong.append(f"not one line: {said!r}")
         if out or folder.names() - before - {"count"}:
             wrong.append(f"it writes {out!r} and {folder.names() - before}")
-    return name, wrong
+        return wrong
 
 
 # ---- what is written
@@ -464,6 +475,8 @@ OTHER_PLACES = [
     ("256 MiB", ["kvmtool", "-c", "1", "-m", "256"], image(), 9001, [(0x8000_0000, 0x9000_0000)],
      {"kernel": 0x8000_0000, "initrd": 0x8FDF_DCD4, "dtb": 0x8FE0_0000}, 0x8000_0000, [0x8FE0_0000], 33),
     ("64 MiB", ["kvmtool", "--cpus", "1", "--mem", "64M"], image(), None, [(0x8000_0000, 0x8400_0000)],
+     {"kernel": 0x8000_0000, "dtb": 0x83E0_0000}, 0x8000_0000, [0x83E0_0000], 33),
+    ("64 MiB and 32 KiB", ["kvmtool", "-c", "1", "-m", "65568K"], image(), None, [(0x8000_0000, 0x8400_8000)],
      {"kernel": 0x8000_0000, "dtb": 0x83E0_0000}, 0x8000_0000, [0x83E0_0000], 33),
     ("4 GiB", ["kvmtool", "--cpus=1", "--mem=4G"], image(), 9000, [(0x8000_0000, 0x1_8000_0000)],
      {"kernel": 0x8000_0000, "initrd": 0x8FDF_DCD4, "dtb": 0x8FE0_0000}, 0x8000_0000, [0x8FE0_0000], 34),
@@ -545,6 +558,8 @@ OPTIONS = [
      ["rec 0", "ram 0", "item kernel", "item dtb", "item stub"])),
     ("pages of the BSS", [*WITH_TREE, "--kernel-pages", "image_size"], lambda folder: differs("size",
      [item.get("size") for item in first(folder)["item"]], [None, 2 * MIB, None])),
+    ("pages of a kernel with little BSS", [*WITH_TREE, "--kernel-pages", "image_size"], lambda folder: differs("size",
+     [item.get("size") for item in first(folder)["item"]], [None, 20_000, None]), {"Image": image(4096)}),
     ("pages that are used", [*WITH_TREE, "--dtb-pages", "used"],
      lambda folder: differs("bytes", folder.read("out/dtb-1"), FILES["tree"][:4096])),
     ("a width", [*WITH_TREE, "--s2sz", "48"], lambda folder: differs("s2sz", first(folder)["s2sz"], 48)),
@@ -565,6 +580,10 @@ OPTIONS = [
      ["256M-smp1-kernel1-sha256", "256M-smp1-kernel2-sha256"]), {"k" * 33: OTHER_IMAGE}),
     ("machines and models", [*QEMU, "-M", "virt-10.0", "-cpu", "cortex-a57,pmu=on", "--qemu", "./stand-in"], lambda folder: differs("names",
      names_of(folder), [f"machine{m}-cpu{c}-256M-smp1-sha256" for m in (1, 2) for c in (1, 2)]), TREES),
+    ("a kernel that moves the initrd", [*replaced(QEMU, "-m", "1G"), "-kernel", "big", "-initrd", "initrd", "--qemu", "./stand-in"],
+     lambda folder: differs("initrds", [item["at"] for launch in folder.toml()["launch"] for item in launch["item"][2:3]],
+     [0x4800_0000, 0x4820_0000]), {"big": image(128 * MIB)} | {f"trees/1G-1-none-kernel-{name}": tree(
+         [(LOW, LOW + 1024 * MIB)], initrd=(at, at + len(INITRD))) for name, at in (("Image", 0x4800_0000), ("big", 0x4820_0000))}),
     ("models", [*QEMU, "-cpu", "cortex-a57", "--qemu", "./stand-in"], lambda folder: differs("names", names_of(folder),
      ["max-256M-smp1-sha256", "cortex-a57-256M-smp1-sha256"]) + differs("devicetrees",
                                                                         os.path.exists(os.path.join(folder.path, "out/dtb-2")), False),
@@ -591,7 +610,7 @@ OPTIONS = [
 
 
 def matrix(program: str):
-    """75 devicetrees and 150 launches: two manifests, a script that measures both, and a folder that is moved."""
+    """75 devicetrees of two models and 150 launches: two manifests, a script that measures both, and a folder that is moved."""
     sizes, counts, texts = (128, 256, 512), (1, 2, 3, 4, 5), [f"a{n}" for n in range(5)]
     trees = {f"trees/{size}M-{count}-{args}": tree([(LOW, LOW + size * MIB)], bootargs=args,
                                                    count=count) for size in sizes for count in counts
@@ -599,13 +618,15 @@ def matrix(program: str):
     with Folder(trees | {"lines": "\n\n".join(texts[1:]).encode()}) as folder:
         folder.put("stand-in", STAND_IN.encode(), is_program=True)
         words = [*replaced(QEMU, "-m", "128M,256M,512M"), "-smp", "1,2,3", "-smp", "4,5", "-append", "a0", "--append-file", "lines"]
-        status, out, said = folder.run(*words, "--algo", "sha256,sha512", "--qemu", "./stand-in")
+        status, out, said = folder.run(*words, "-cpu", "cortex-a57", "--qemu", "./stand-in")
         if status or said:
             return [f"status {status}, {said!r}"]
         names = [[launch["name"] for launch in folder.toml(f"out/manifest-{n}.toml")["launch"]] for n in (1, 2)]
         wrong = differs("lines", len(out.splitlines()), 2)
         wrong += differs("files", [len(folder.toml(f"out/manifest-{n}.toml")["file"]) for n in (1, 2)], [64, 16])
-        expected = [f"{m}M-smp{n}-append{a}-{algo}" for m in sizes for n in counts for a in range(1, 6) for algo in ("sha256", "sha512")]
+        # launches of one devicetree are side by side, also where they are of two models
+        expected = [f"{cpu}-{m}M-smp{n}-append{a}-sha256" for m in sizes for n in counts for a in range(1, 6) for cpu in ("max",
+                                                                                                                          "cortex-a57")]
         wrong += differs("names", names[0] + names[1], expected)
         os.rename(os.path.join(folder.path, "out"), os.path.join(folder.path, "moved"))
         for name in ("Image", "trees"):
@@ -700,6 +721,14 @@ def documents(_program: str):
     return wrong + [f"docs/rim-manifest.1: {key} is not named" for key in sorted(keys - named)]
 
 
+def tried(look, *with_) -> list[str]:
+    """What is wrong by a function; one that fails is wrong too."""
+    try:
+        return look(*with_)
+    except Exception as why:  # whatever a wrong manifest leads to
+        return [f"{type(why).__name__}: {why}"]
+
+
 def main():
     program = os.path.abspath(sys.argv[1] if len(sys.argv) > 1 else os.path.join(TOP, "crates", "rim", "out", "rim"))
     if not os.path.exists(program):
@@ -709,9 +738,9 @@ def main():
                                                                                                  documents)]
     processors = len(os.sched_getaffinity(0))
     with concurrent.futures.ProcessPoolExecutor(processors) as pool:
-        outcomes = list(pool.map(stops, range(len(STOPS)), chunksize=8))
+        outcomes = [(each[0], wrong) for each, wrong in zip(STOPS, pool.map(stops, range(len(STOPS)), chunksize=8))]
     with concurrent.futures.ThreadPoolExecutor(processors) as pool:
-        waiting = [(name, pool.submit(look)) for name, look in tries]
+        waiting = [(name, pool.submit(tried, look)) for name, look in tries]
         outcomes += [(name, done.result()) for name, done in waiting]
     for name, wrong in outcomes:
         if wrong:
