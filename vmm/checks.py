@@ -5,7 +5,7 @@ from dataclasses import dataclass
 from . import devicetree
 from .devicetree import Tree
 from .dumps import Dump
-from .guest import MIB, PAGE, up
+from .guest import MIB, PAGE
 from .launches import Launch
 
 
@@ -87,7 +87,7 @@ def same_bytes(vmm, dump: Dump) -> Iterator[Difference]:
 
 
 def extents(launch: Launch, dump: Dump) -> list[tuple[str, int, int]]:
-    """What takes RAM, by rising address: each with its first address and the one past its last page."""
+    """What takes RAM, by rising address: each with its first address and the one past its last byte."""
     guest, places = launch.guest, launch.places
     found = [("kernel", places.entry, places.entry + guest.kernel.image.extent), ("dtb", places.dtb, places.dtb + dump.length)]
     if guest.initrd:
@@ -104,7 +104,7 @@ def place(vmm, launch: Launch, dump: Dump) -> Iterator[Difference]:
         if not any(low <= base and end <= high for low, high in places.ram):
             yield Difference("place", f"{name} is at {span(base, end)}", f"all of it in RAM, {spans(places.ram)}")
     for (name, base, end), (other, other_base, other_end) in zip(taken, taken[1:]):
-        if up(end, PAGE) > other_base // PAGE * PAGE:
+        if end > other_base // PAGE * PAGE:
             yield Difference("place", f"{name} {span(base, end)} and {other} {span(other_base, other_end)} share a page", "no such page")
     if places.dtb % vmm.DTB_ALIGN or places.kernel % (2 * MIB):
         yield Difference("place", f"dtb at {places.dtb:#x} and kernel's base at {places.kernel:#x}", "multiples of 2 MiB")
