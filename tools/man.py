@@ -1,15 +1,20 @@
 #!/usr/bin/env python3
-"""Checks that docs/rim.1 names what the program has.
+"""Checks that the man pages and tools/command_table.py name what the programs have.
 
-    tools/man.py           what the page has to name, one a line
+    tools/man.py           what docs/rim.1 has to name, one a line
     tools/man.py --check   status 1 where something is not named
 
-The page has to name each command and option of the command line, each exit status of `rim --help` and 127, the word of
-each fault and of each refusal, and each key of a manifest that docs/FORMATS.md lists.
+docs/rim.1 has to name each command and option of the command line, each exit status of `rim --help` and 127, the word of
+each fault and of each refusal, and each key of a manifest that docs/FORMATS.md lists. The table of the shells' completions has
+to have the same commands, their operands, and the same options. What the table says of `rim-manifest` is compared with the
+help texts of that script, and its man page has to name all of it.
 """
 import pathlib
 import re
+import subprocess
 import sys
+
+import command_table
 
 TOP = pathlib.Path(__file__).resolve().parent.parent
 CRATES = TOP / "crates"
@@ -44,17 +49,97 @@ def named():
     }
 
 
-def main():
-    page = (TOP / "docs/rim.1").read_text().replace("\\-", "-")
-    bold = " ".join(re.findall(r"^\.[BIR]{1,2} (.*)$", page, re.M))
+def operands():
+    """The operands of each command, as the program takes them off its words."""
+    text = (CRATES / "rim_cli/src/words.rt").read_text()
+    rows = re.findall(r'^ +"(\w+)" => Request::\w+ \{(.*?)\}', text, re.M | re.S)
+    return {command: tuple(re.findall(r'operand\(given, "(\w+)"\)', fields)) for command, fields in rows}
+
+
+def options():
+    """The options of each command, as its definition adds them."""
+    text = (CRATES / "rim_cli/src/definition.rt").read_text()
+    bodies = dict(re.findall(r"^fn (\w+)<'a>\((.*?)^\}", text, re.M | re.S))
+    longs = {name: re.findall(r'\.long\("([\w-]+)"\)', body) for name, body in bodies.items()}
+    added = {name: re.findall(r"\b(\w+_arg)\(", body) for name, body in bodies.items() if name.endswith("_command")}
+    return {name.removesuffix("_command"): {f"--{long}" for arg in args for long in longs[arg]} for name, args in added.items()}
+
+
+def faults_of_page(name, wanted):
+    """A line for each word that a man page does not show in bold; `wanted` has them by kind."""
+    page = (TOP / "docs" / name).read_text().replace("\\-", "-")
+    bold = " ".join(re.findall(r"^\.(?:[BIR]{1,2}|OP) (.*)$", page, re.M))
     words = set(re.split(r'[\s",]+', bold))
-    missing = [(kind, name) for kind, names in named().items() for name in names if name not in words]
-    if sys.argv[1:] == ["--check"]:
-        for kind, name in missing:
-            print(f"docs/rim.1: the {kind} `{name}` is not named")
-        sys.exit(1 if missing else 0)
+    return [f"docs/{name}: the {kind} `{word}` is not named" for kind, some in wanted.items() for word in some if word not in words]
+
+
+# ---- the table
+
+
+def differences(what, here, there):
+    """A line for each word that only the table or only the program has."""
+    lines = [f"tools/command_table.py: {what}: `{word}` is missing" for word in sorted(there - here)]
+    return lines + [f"tools/command_table.py: {what}: the program has no `{word}`" for word in sorted(here - there)]
+
+
+def names_of(some):
+    return {name for option in some for name in option.names}
+
+
+def faults_of_rim():
+    """What the table says of `rim` that the program does not, or the other way."""
+    rim, wanted, added = command_table.RIM, operands(), options()
+    lines = differences("commands", {command.name for command in rim.commands}, set(named()["command"]))
+    every = {name for command in rim.commands for name in names_of(command.options)} | names_of(rim.options_before())
+    lines += differences("options", {name for name in every if name.startswith("--")}, set(named()["option"]))
+    for command in rim.commands:
+        lines += differences(command.name, names_of(command.options), added.get(command.name, set()))
+        if command.operands != wanted.get(command.name, command.operands):
+            lines.append(f"tools/command_table.py: `{command.name}` has the operands {' '.join(wanted[command.name])}")
+    return lines
+
+
+def helped(*words):
+    """The options that a help text of `rim-manifest` lists."""
+    text = subprocess.run([TOP / "rim-manifest", *words, "--help"], capture_output=True, text=True, check=True).stdout
+    lines = re.findall(r"^ {1,8}(-.*?)(?: {2}|$)", text, re.M)
+    return {name for line in lines for name in re.findall(r"(?<![\w-])--?[A-Za-z][\w-]*", line)}
+
+
+def faults_of_rim_manifest():
+    """The same for `rim-manifest`, whose own help texts say what it takes."""
+    program = command_table.RIM_MANIFEST
+    lines = differences("rim-manifest", names_of(program.alone), helped() - names_of(program.common))
+    for command in program.commands:
+        lines += differences(f"rim-manifest {command.name}", names_of(program.options_of(command)), helped(command.name))
+    return lines
+
+
+def named_of_rim_manifest():
+    program = command_table.RIM_MANIFEST
+    every = {name for command in program.commands for name in names_of(program.options_of(command))}
+    return {"command": [command.name for command in program.commands], "option": sorted(every)}
+
+
+def faults():
+    """All that is not named."""
+    lines = faults_of_page("rim.1", named()) + faults_of_rim()
+    if (TOP / "rim-manifest").exists():
+        lines += faults_of_rim_manifest()
+    if (TOP / "docs/rim-manifest.1").exists():
+        lines += faults_of_page("rim-manifest.1", named_of_rim_manifest())
+    return lines
+
+
+def main(words):
+    if words == ["--check"]:
+        lines = faults()
+        print("\n".join(lines), end="\n" if lines else "")
+        return int(bool(lines))
     for kind, names in named().items():
         print(kind, *names)
+    return 0
 
 
-main()
+if __name__ == "__main__":
+    sys.exit(main(sys.argv[1:]))

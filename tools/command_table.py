@@ -1,0 +1,139 @@
+"""The words of the command lines of `rim` and of `rim-manifest`: what tools/completions.py writes and tools/man.py checks.
+
+A value or an operand has a kind:
+
+    manifest   a path, first of all of a TOML file
+    launch     a name that a launch of the manifest on the line has
+    file       a path
+    folder     a path of a folder
+    program    a program, by its name or its path
+    text       what nobody can complete
+    a tuple    one of these words
+"""
+import dataclasses
+import re
+
+MANIFEST, LAUNCH, FILE, FOLDER, PROGRAM, TEXT = "manifest", "launch", "file", "folder", "program", "text"
+# What the shells show beside a word. Each has its own quotes, so a text has no character that any of them quotes.
+ABOUT = re.compile(r"[A-Za-z0-9][A-Za-z0-9 ,./-]*")
+WORD = re.compile(r"[A-Za-z0-9][A-Za-z0-9,._-]*")
+
+
+@dataclasses.dataclass(frozen=True)
+class Option:
+    """An option by its names, each with its dashes. One without a value is a flag."""
+
+    names: tuple[str, ...]
+    about: str
+    value: str | tuple[str, ...] | None = None
+
+
+@dataclasses.dataclass(frozen=True)
+class Command:
+    """A subcommand with the kinds of its operands, in their order, and its options."""
+
+    name: str
+    about: str
+    operands: tuple[str, ...] = ()
+    options: tuple[Option, ...] = ()
+
+
+@dataclasses.dataclass(frozen=True)
+class Program:
+    """A program with its subcommands, the options of all of them, and those that it takes instead of a subcommand."""
+
+    name: str
+    commands: tuple[Command, ...]
+    common: tuple[Option, ...]
+    alone: tuple[Option, ...] = ()
+
+    def options_of(self, command):
+        """The options that may come after a subcommand."""
+        return (*command.options, *self.common)
+
+    def options_before(self):
+        """The options that may come where no subcommand is given yet."""
+        return (*self.common, *self.alone)
+
+
+HELP = Option(("-h", "--help"), "Print help")
+
+RIM = Program(
+    "rim",
+    (
+        Command("measure", "Print the measurement of each launch of a manifest", (MANIFEST,), (
+            Option(("--workers",), "How many threads hash pages, 1 to 64", TEXT),
+            Option(("--json",), "The report as one JSON object"),
+        )),
+        Command("list", "Print the commands that build the realm of a launch", (MANIFEST, LAUNCH)),
+        Command("trace", "Print the measurement of a launch step by step", (MANIFEST, LAUNCH)),
+        Command("audit", "Print each measurement as a monitor holds it", (MANIFEST,)),
+        Command("check", "Print what is wrong with a manifest", (MANIFEST,)),
+        Command("dtb", "Write the devicetree of a launch", (MANIFEST, LAUNCH)),
+        Command("replay", "Say whether a listing is what it says", (FILE,)),
+        Command("image", "Print the header of an arm64 kernel Image", (FILE,)),
+        Command("fdt", "Print a flattened devicetree", (FILE,)),
+    ),
+    (HELP,),
+    (Option(("-V", "--version"), "Print version"),),
+)
+
+# ---- rim-manifest, whose own `--help` tools/man.py compares with this
+
+RIM_MANIFEST = Program(
+    "rim-manifest",
+    (
+        Command("qemu", "A manifest from the words of QEMU", (), (
+            Option(("-machine", "-M"), "The machine, as QEMU takes it", TEXT),
+            Option(("-cpu",), "The processor, as QEMU takes it", TEXT),
+            Option(("-smp", "--smp"), "How many processors, or a list", TEXT),
+            Option(("-m", "--memory"), "How much memory, or a list", TEXT),
+            Option(("-kernel",), "The kernel", FILE),
+            Option(("-initrd",), "The initrd", FILE),
+            Option(("-append",), "The command line of the kernel", TEXT),
+            Option(("--append-file",), "A file with one command line a line", FILE),
+            Option(("--qemu",), "The program that makes the devicetrees", PROGRAM),
+        )),
+        Command("kvmtool", "A manifest from the words of kvmtool", (), (
+            Option(("-c", "--cpus"), "How many processors, or a list", TEXT),
+            Option(("-m", "--mem"), "How much memory, or a list", TEXT),
+            Option(("-k", "--kernel"), "The kernel", FILE),
+            Option(("-i", "--initrd"), "The initrd", FILE),
+            Option(("-p", "--params"), "The command line of the kernel", TEXT),
+            Option(("--lkvm",), "The program that makes the devicetrees", PROGRAM),
+        )),
+        Command("cloud-hypervisor", "A manifest from the words of cloud-hypervisor", (), (
+            Option(("--cpus",), "How many processors, or a list", TEXT),
+            Option(("--memory",), "How much memory, or a list", TEXT),
+            Option(("--kernel",), "The kernel", FILE),
+            Option(("--initramfs",), "The initrd", FILE),
+            Option(("--cmdline",), "The command line of the kernel", TEXT),
+        )),
+    ),
+    (
+        Option(("--out",), "The folder to write", FOLDER),
+        Option(("--algo",), "The hash algorithm, or a list", ("sha256", "sha512", "sha256,sha512")),
+        Option(("--dtb",), "A devicetree of the hypervisor", FILE),
+        Option(("--stub",), "Whether the boot stub is measured", ("measured", "none")),
+        Option(("--host",), "What only the machine knows, a TOML file", FILE),
+        Option(("--force",), "Overwrite the folder"),
+        HELP,
+    ),
+)
+
+PROGRAMS = (RIM, RIM_MANIFEST)
+
+
+def check_texts():
+    """Refuses a table with a text that a shell would have to quote."""
+    for program in PROGRAMS:
+        options = [option for command in program.commands for option in command.options] + [*program.common, *program.alone]
+        abouts = [each.about for each in (*program.commands, *options)]
+        words = [word for option in options if isinstance(option.value, tuple) for word in option.value]
+        words += [command.name for command in program.commands] + [name.lstrip("-") for option in options for name in option.names]
+        bad = [text for text in abouts if not ABOUT.fullmatch(text)] + [word for word in words if not WORD.fullmatch(word)]
+        if bad:
+            raise ValueError(f"{program.name}: a shell would have to quote {bad[0]!r}")
+
+
+check_texts()
