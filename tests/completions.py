@@ -1,0 +1,179 @@
+#!/usr/bin/env python3
+"""Asks the shells of this machine what they complete by the files that tools/completions.py writes.
+
+    tests/completions.py
+
+Each row is a line up to the cursor, as the words that the shell has there, and what is offered. Bash is asked without the package
+bash-completion, and fish where it is installed. Zsh completes only in a terminal, so where it is installed it just reads its files.
+The last line is 'N passed, M failed' over rows and files.
+"""
+import os
+import pathlib
+import shutil
+import subprocess
+import sys
+import tempfile
+
+sys.path.insert(0, str(pathlib.Path(__file__).resolve().parent.parent / "tools"))
+import completions
+
+SECONDS = 60
+# Names of files, items and tables below a launch are none of launches, and a name with a dash in front would be an option.
+MANIFEST = """\
+rim_manifest = 2
+file = [{ name = "inline", path = "Image" }]
+[[file]]
+name = "kernel"
+path = "Image"
+[[launch]]  # the first
+name = "one-vcpu"
+algo = "sha256"
+ram = [
+[0x40000000, 0x50000000],
+]
+item = [
+    { name = "item", kind = "kernel", file = "kernel", at = 0x40200000 },
+]
+[[launch]]
+algo = "sha512"
+name="two_vcpus.b"   # without spaces
+  [[launch.rec]]
+  name = "table"
+[[ launch ]]
+name  =  'one-b'
+# name = "comment"
+[[launch]]
+name = "-dash"
+[[launch]]
+name = "$(touch made)"
+"""
+COMMANDS = ["measure", "list", "trace", "audit", "check", "dtb", "replay", "image", "fdt"]
+LAUNCHES = ["one-vcpu", "two_vcpus.b", "one-b"]
+PATHS = object()  # paths are offered, by whatever way the shell has
+ROWS = [
+    (["rim", ""], COMMANDS),
+    (["rim", "me"], ["measure"]),
+    (["rim", "--ver"], ["--version"]),
+    (["rim", "list", ""], PATHS),
+    (["rim", "image", ""], PATHS),
+    (["rim", "list", "m.toml", ""], LAUNCHES),
+    (["rim", "trace", "m.toml", "one"], ["one-vcpu", "one-b"]),
+    (["rim", "dtb", "--", "m.toml", "t"], ["two_vcpus.b"]),
+    (["rim", "list", r"a\ folder/m\ x.toml", "two"], ["two_vcpus.b"]),
+    (["rim", "list", "'a folder/m x.toml'", "two"], ["two_vcpus.b"]),
+    (["rim", "list", "~/m.toml", "two"], ["two_vcpus.b"]),
+    (["rim", "list", "none.toml", ""], []),
+    (["rim", "list", "$(touch made)", ""], []),
+    (["rim", "measure", "--j"], ["--json"]),
+    (["rim", "measure", "m.toml", "--w"], ["--workers"]),
+    (["rim", "measure", "--workers", ""], []),
+    (["rim", "measure", "--workers", "4", ""], PATHS),
+    (["rim", "audit", "m.toml", "--w"], []),
+    (["rim-manifest", "q"], ["qemu"]),
+    (["rim-manifest", "qemu", "--stub", ""], ["measured", "none"]),
+    (["rim-manifest", "qemu", "--dtb", ""], PATHS),
+    (["rim-manifest", "qemu", "--for"], ["--force"]),
+    (["rim-manifest", "qemu", "--smp", "1,2", "-kern"], ["-kernel"]),
+]
+# Bash also has the words of a line parted where there is a `=` or a `:`.
+BASH_ROWS = [
+    (["rim-manifest", "qemu", "--stub", "=", "no"], ["none"]),
+    (["rim-manifest", "qemu", "--stub", "="], ["measured", "none"]),
+    (["rim", "list", "m:x", ":", "y.toml", "two"], []),
+    (["rim", "list", "c", ":", "m.toml", "two"], ["two_vcpus.b"]),
+    (["rim", "list", "m.toml", '"two'], ["two_vcpus.b"]),
+]
+# What is asked in a folder with a manifest: the line's words come as the words of the script.
+BASH = """
+. "$FILES/$1.bash"
+compopt() { echo "paths $*"; }
+COMP_WORDS=("$@") COMP_CWORD=$(($# - 1))
+"_${1//-/_}"
+[ "${#COMPREPLY[@]}" = 0 ] || printf '%s\\n' "${COMPREPLY[@]}"
+"""
+FISH = """
+source $FILES/$argv[1].fish
+complete -C (string join ' ' -- $argv)
+"""
+
+
+def environment(folder, files):
+    return {"PATH": os.environ["PATH"], "HOME": str(folder), "FILES": str(files), "TERM": "dumb", "LC_ALL": "C.UTF-8"}
+
+
+def output(command, folder, files):
+    ran = subprocess.run(command, cwd=folder, env=environment(folder, files), stdin=subprocess.DEVNULL, capture_output=True, text=True,
+                         timeout=SECONDS, check=False)
+    return [*ran.stdout.splitlines(), *ran.stderr.splitlines()]
+
+
+def is_path(offer):
+    return offer.startswith("paths ") or "." in offer or "/" in offer
+
+
+def is_right(lines, wanted):
+    """Whether the offers are the wanted ones; of paths, whether there are some and nothing else."""
+    if wanted is PATHS:
+        return bool(lines) and all(map(is_path, lines))
+    return sorted(lines) == sorted(wanted)
+
+
+def ask_bash(words, folder, files):
+    return output(["bash", "--norc", "--noprofile", "-c", BASH, "bash", *words], folder, files)
+
+
+def ask_fish(words, folder, files):
+    lines = output(["fish", "--no-config", "-c", FISH, *words], folder, files)
+    return [line.split("\t")[0] for line in lines]
+
+
+ASKED = {"bash": (ask_bash, ROWS + BASH_ROWS), "fish": (ask_fish, ROWS)}
+
+
+def fill(folder):
+    (folder / "a folder").mkdir()
+    for name in ("m.toml", "c:m.toml", "a folder/m x.toml"):
+        (folder / name).write_text(MANIFEST)
+
+
+def try_shell(name, folder, files):
+    """A line for each row that a shell has otherwise, and how many rows there are."""
+    ask, rows = ASKED[name]
+    faults = []
+    for words, wanted in rows:
+        lines = ask(words, folder, files)
+        if not is_right(lines, wanted):
+            faults.append(f"{name}: {' '.join(words)!r} offers {lines}, expected {'paths' if wanted is PATHS else wanted}")
+    if (folder / "made").exists():
+        faults.append(f"{name}: a word of a line or a manifest was run")
+    return faults, len(rows)
+
+
+def read_by_zsh(files):
+    """A line for each file that zsh cannot read, and how many files there are."""
+    names = sorted(path.name for path in files.glob("_*"))
+    return [f"zsh: {line}" for name in names for line in output(["zsh", "-f", "-n", name], files, files)], len(names)
+
+
+def main():
+    faults, count = [], 0
+    with tempfile.TemporaryDirectory() as top:
+        files, folder = pathlib.Path(top) / "files", pathlib.Path(top) / "there"
+        completions.write(files)
+        folder.mkdir()
+        fill(folder)
+        for name in (*ASKED, "zsh"):
+            if not shutil.which(name):
+                print(f"completions.py: {name} is not installed: not asked")
+                continue
+            some, rows = try_shell(name, folder, files) if name in ASKED else read_by_zsh(files)
+            faults += some
+            count += rows
+    for line in faults:
+        print(f"completions.py: {line}")
+    print(f"{count - len(faults)} passed, {len(faults)} failed")
+    return int(bool(faults))
+
+
+if __name__ == "__main__":
+    sys.exit(main())
