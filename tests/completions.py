@@ -74,6 +74,7 @@ ROWS = [
     (["rim-manifest", "qemu", "--dtb", ""], PATHS),
     (["rim-manifest", "qemu", "--for"], ["--force"]),
     (["rim-manifest", "qemu", "--smp", "1,2", "-kern"], ["-kernel"]),
+    (["rim-manifest", "kvmtool", "--", ""], []),
 ]
 # Bash also has the words of a line parted where there is a `=` or a `:`.
 BASH_ROWS = [

@@ -144,6 +144,7 @@ PREFIX() {
         kind=option
     else
         PREFIX_operand "$command" "${#operands[@]}"
+        [[ ! $ended || $kind != option ]] || kind= # what follows `--` is of another program
     fi
     PREFIX_offer
 }

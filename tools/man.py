@@ -106,10 +106,16 @@ def helped(*words):
     return {name for line in lines for name in re.findall(r"(?<![\w-])--?[A-Za-z][\w-]*", line)}
 
 
+def alone():
+    """What `rim-manifest` takes instead of a hypervisor, as its usage says."""
+    text = subprocess.run([TOP / "rim-manifest", "--help"], capture_output=True, text=True, check=True).stdout
+    return {word for line in re.findall(r"^(?:usage:)? *rim-manifest (-.*)$", text, re.M) for word in line.split() if word != "|"}
+
+
 def faults_of_rim_manifest():
     """The same for `rim-manifest`, whose own help texts say what it takes."""
     program = command_table.RIM_MANIFEST
-    lines = differences("rim-manifest", names_of(program.alone), helped() - names_of(program.common))
+    lines = differences("rim-manifest", names_of(program.alone), alone() - names_of(program.common))
     for command in program.commands:
         lines += differences(f"rim-manifest {command.name}", names_of(program.options_of(command)), helped(command.name))
     return lines
