@@ -36,8 +36,8 @@ put_packed() {
 
 put_programs() {
     put 755 tools/package/rim bin/rim
-    put 755 dist/rim-x86_64-v2 lib/rim/x86-64-v2/rim
-    put 755 dist/rim-x86_64-v3 lib/rim/x86-64-v3/rim
+    put 755 dist/rim-x86_64-v2 libexec/rim/x86-64-v2/rim
+    put 755 dist/rim-x86_64-v3 libexec/rim/x86-64-v3/rim
     if [ -f rim-manifest ]; then
         put 755 rim-manifest bin/rim-manifest
         find vmm -type f | while read -r path; do
