@@ -41,7 +41,9 @@ put_programs() {
     if [ -f rim-manifest ]; then
         put 755 rim-manifest bin/rim-manifest
         find vmm -type f | while read -r path; do
-            put "$(stat -c %a "$path")" "$path" "share/rim/$path"
+            mode=644
+            [ ! -x "$path" ] || mode=755
+            put "$mode" "$path" "share/rim/$path"
         done
     fi
 }
