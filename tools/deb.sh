@@ -20,7 +20,8 @@ is_dist_of_sources() {
     grep -E '^[0-9a-f]{64}  ' dist/SOURCE >"$work/sums"
     # shellcheck disable=SC2046 # the folders are words
     find crates.txt dist/rim-* $(sed -n 's/^folders //p' dist/SOURCE) -type f | sort >"$work/files"
-    cut -c 67- "$work/sums" | sort | cmp -s - "$work/files" && b2sum --check --quiet "$work/sums" >&2
+    cut -c 67- "$work/sums" | sort >"$work/named"
+    diff "$work/named" "$work/files" >&2 && b2sum --check --quiet "$work/sums" >&2
 }
 
 # Puts a file of the commit into the tree, with a mode and at a path.
