@@ -1,5 +1,7 @@
 -- The report of a release as JSON. This project's choice.
 use Rattle.std.specs.Prelude.{ℕ, List, [], ◌∷◌, ◌++◌, codes, length, Result, Ok, Err}
+use Rattle.base64.specs.Engines.{standard}
+use Rattle.base64.specs.GeneralPurpose.{encode_of}
 use Rattle.hex.specs.Hex.{encode_lower}
 use Rattle.serde_json.specs.Data.{Data, array, member, Members, no_members, number, object, string, unsigned}
 use Rattle.serde_json.specs.View.{items_of}
@@ -13,9 +15,11 @@ use Rattle.rim_release.specs.Report.{outcomes_for}
 use Rattle.rim_release.specs.declared.audit_fault.AuditFault.{AuditFault}
 use Rattle.rim_desc.specs.Measurement.{algo_word}
 
--- what came of a launch: the measurement with two lower case hexadecimal digits for each byte of the digest, or why it is refused
+-- what came of a launch: the digest of the measurement, with two lower case hexadecimal digits for each byte and in base64 (RFC 4648, section 4), or why it is refused
 abbrev pub outcome_member : Algo → Result (List ℕ) AuditFault → Members
-outcome_member algo (Ok rim) = member (codes "rim") (string (encode_lower (digest_bytes algo rim))) no_members
+outcome_member algo (Ok rim) =
+    member (codes "rim") (string (encode_lower (digest_bytes algo rim)))
+    (member (codes "rim_base64") (string (encode_of standard (digest_bytes algo rim))) no_members)
 outcome_member algo (Err fault) = member (codes "refused") (string (audit_kind_of fault)) no_members
 
 -- a launch of which this came; members are in the order of their keys
@@ -32,7 +36,7 @@ launches_json (l ∷ ls) (outcome ∷ outcomes) = launch_json l outcome ∷ laun
 -- a report of these launches, for a release with this many different measured pages
 unfoldable pub report_data : List Data → ℕ → Data
 report_data launches count =
-    object (member (codes "launches") (array (items_of launches)) (member (codes "pages") (number (unsigned count)) (member (codes "version") (number (unsigned 1)) no_members)))
+    object (member (codes "launches") (array (items_of launches)) (member (codes "pages") (number (unsigned count)) (member (codes "version") (number (unsigned 2)) no_members)))
 
 -- its text: no spaces, and a line feed at its end
 abbrev pub json_with : List Data → ℕ → List ℕ

@@ -5,6 +5,7 @@ ghost use Rattle.rim_release.specs.Json.{json_with, launch_json, launches_json, 
 ghost use Rattle.rim_release.specs.Report.{seen};
 
 use crate::audit_fault::AuditFault;
+use base64::engine::general_purpose::STANDARD;
 use refusal::NoMemory;
 use rim_desc::Measurement;
 use rim_manifest::NamedLaunch;
@@ -13,8 +14,9 @@ use serde_json::{Value, json};
 use std::alloc::{AllocError, Global};
 
 /// The report of launches of which this came, and which have this many different measured pages: one JSON object without
-/// spaces, and a line feed. Its members are `launches`, in their order, `pages`, and `version`, which is 1. A launch has
-/// `algorithm`, `name`, and `rim`, the measurement in lower case hexadecimal digits, or `refused`, the word of its refusal.
+/// spaces, and a line feed. Its members are `launches`, in their order, `pages`, and `version`, which is 2. A launch has
+/// `algorithm`, `name`, and the measurement, as `rim` in lower case hexadecimal digits and as `rim_base64` in base64 (RFC 4648,
+/// section 4); or `refused`, the word of its refusal.
 pub fn json_report(
     alloc: Global,
     launches: &[NamedLaunch],
@@ -42,7 +44,7 @@ fn report_value(
         (λ v. view v ≡ report_data (launches_json launches.now (map seen outcomes.now)) count) }
 {
     let values = launch_values(alloc, launches, outcomes)?;
-    json!(in alloc; {"launches": values, "pages": count, "version": 1u64})
+    json!(in alloc; {"launches": values, "pages": count, "version": 2u64})
 }
 
 /// Each launch with what came of it.
@@ -73,8 +75,15 @@ fn launch_value(
     let algo = launch.launch().config().algo;
     match outcome {
         Ok(rim) => {
-            let digits = hex::encode(alloc, digest(algo, rim))?;
-            json!(in alloc; {"algorithm": algo.word(), "name": launch.name(), "rim": digits})
+            let bytes = digest(algo, rim);
+            let digits = hex::encode(alloc, bytes)?;
+            let base64 = STANDARD.encode(alloc, bytes)?;
+            json!(in alloc; {
+                "algorithm": algo.word(),
+                "name": launch.name(),
+                "rim": digits,
+                "rim_base64": base64,
+            })
         }
         Err(fault) => {
             let word = fault.kind();

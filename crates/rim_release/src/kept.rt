@@ -71,7 +71,7 @@ impl<'a> Kept<'a> {
         }
     }
 
-    /// Frees all that is kept, since memory is wanted for something else. From then on half as much is kept.
+    /// Frees all that is kept, since memory is needed for something else. From then on half as much is kept.
     pub fn free(&mut self, files: &'a [Vec<u8>])
         ensures { AreKept (bytes_of_files files.now) self.new }
     {
