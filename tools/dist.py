@@ -9,7 +9,8 @@ They are stripped, by the kit's own tool, so that whoever has the kit gets the s
 of: the kit, the folders of the sources, and the checksum of each file in these, of crates.txt and of both programs, as
 `b2sum -l 256` writes them, which is quick enough for each start of `./rim`. Where the sources are others, `--built` says so and
 finds no fault: dist/ is brought up to date by the change that closes an issue. A program whose checksum is not the
-named one is always a fault. Without words this refuses sources that are not committed.
+named one is always a fault. Without words this refuses sources that are not committed, and a `rim --version` that has another
+day than their last commit.
 """
 import hashlib
 import pathlib
@@ -103,11 +104,21 @@ def build(words):
     return stripped(BUILT)
 
 
+def other_day():
+    """What is wrong with the day that `rim --version` has: a line, or none."""
+    said = re.search(r'VERSION: &str = "[^"]*\((.*)\)"', (TOP / "crates/rim_cli/src/definition.rt").read_text())
+    log = ["git", "log", "-1", "--format=%cs", "--", "crates.txt", *folders()]
+    last = subprocess.run(log, cwd=TOP, capture_output=True, text=True, check=True).stdout.strip()
+    return [] if said and said[1] == last else [f"`rim --version` has {said[1] if said else 'no day'}, and the sources are of {last}"]
+
+
 def write():
     status = ["git", "status", "--porcelain", "--", "crates.txt", *folders()]
     changed = subprocess.run(status, cwd=TOP, capture_output=True, text=True, check=True).stdout
     if changed:
         return [f"sources are not committed:\n{changed}"]
+    if other_day():
+        return other_day()
     (TOP / "dist").mkdir(exist_ok=True)
     for path, words in PROGRAMS.items():
         (TOP / path).write_bytes(build(words))

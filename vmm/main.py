@@ -10,7 +10,7 @@ from .folder import Folder
 from .guest import PAGE, Blob, up
 from .launches import Launch
 
-VERSION = "0.1.0"
+VERSION = "0.2.0"
 HYPERVISORS = {each.NAME: each for each in (qemu, kvmtool, cloud_hypervisor)}
 
 ABOUT = """rim-manifest: from a hypervisor's words to a manifest of rim
