@@ -3,20 +3,23 @@
 
     tools/definitions.py             the table of promises with their lines
     tools/definitions.py --reading   the files of the headline in the order of reading, as docs/PROMISES.md lists them
+    tools/definitions.py --wide      the files of proofs with a line of more than 160 columns, as tools/wide_proofs.txt lists them
     tools/definitions.py --check     status 1 where something does not hold
 
 A promise of docs/PROMISES.md names definitions, as `FILE.word`. Its number is how many lines of definitions one
 has to believe for it: those that it names and all that they are made of, down to the kit's own words.
 Comments, imports and empty lines do not count, nor do types that are declared in src/.
 
-The check asks five things:
+The check asks six things:
 1. each number of docs/PROMISES.md is the one that is counted here, and its list for reading the headline is the one that is made here;
 2. docs/ARCHITECTURE.md names each file of specs/, but for those in specs/inside/, which hold what loops and
    fields keep;
 3. each definition of specs/ is named by a contract, or by a definition that is. What only proofs need belongs in
    proofs/;
 4. each constant that docs/ARCHITECTURE.md names is a public one of its file;
-5. no line of a contract has more than 100 columns.
+5. no line of a contract has more than 100 columns;
+6. no line of a proof has more than 160, but in the files that tools/wide_proofs.txt names. These are older than the rule: the list
+   only shrinks, so a file in it without such a line is a fault too.
 """
 import pathlib
 import re
@@ -220,7 +223,25 @@ def wide_lines():
                 yield f"{path.relative_to(TOP)}:{number}: {len(line)} columns"
 
 
+def wide_proofs():
+    """The files of proofs with a line of more than 160 columns, by path."""
+    paths = sorted(str(path.relative_to(TOP)) for path in TOP.glob("crates/*/proofs/**/*.antt"))
+    return [path for path in paths if any(len(line) > 160 for line in (TOP / path).read_text().splitlines())]
+
+
+def wrong_widths():
+    """What is wrong with the widths of proofs and with the list of those that may be wide."""
+    listed, wide = (TOP / "tools/wide_proofs.txt").read_text().splitlines(), wide_proofs()
+    if listed != sorted(set(listed)):
+        yield "tools/wide_proofs.txt: the paths are not sorted, or one is there twice"
+    yield from (f"{path}: a line has more than 160 columns" for path in wide if path not in listed)
+    yield from (f"tools/wide_proofs.txt: {path} has no line of more than 160 columns" for path in listed if path not in wide)
+
+
 def main():
+    if "--wide" in sys.argv:
+        print("\n".join(wide_proofs()))
+        return 0
     known, wrong = declarations(), []
     if "--reading" in sys.argv:
         print("\n".join(reading(known)))
@@ -234,7 +255,7 @@ def main():
         wrong += [f"docs/ARCHITECTURE.md does not name {path}" for path in unnamed_files()]
         listed = (TOP / "docs/PROMISES.md").read_text().splitlines()
         wrong += [f"docs/PROMISES.md: the list for reading the headline lacks: {row}" for row in reading(known) if row not in listed]
-        wrong += [*missing_constants(), *wide_lines()]
+        wrong += [*missing_constants(), *wide_lines(), *wrong_widths()]
         used = reached(known, cited(known))
         wrong += [f"crates/{c}/specs/{p}.antt: no contract needs {name}" for c, p, name in sorted(set(known) - used)]
     print("\n".join(wrong), end="\n" if wrong else "")
