@@ -1,6 +1,6 @@
 #!/usr/bin/env python3
 """A second opinion: the report of a manifest, or the listing or the devicetree of a launch, by the plainest program that can
-be written from docs/FORMATS.md.
+be written from docs/FORMATS.md and docs/DEFINITIONS.md.
 
 It shares no code with rim, is slow, and finds hardly any faults: it is for manifests whose launches are accepted, or
 refused by `size`, `overlap`, `outside-ram` or `rec-not-runnable`. Tests take their expected values from it.

@@ -1,6 +1,6 @@
 #!/usr/bin/env python3
 """A second opinion: what `rim replay` answers of a listing, and `rim trace` of its launch, by the plainest program that can be
-written from docs/FORMATS.md.
+written from docs/FORMATS.md and docs/DEFINITIONS.md.
 
 It shares no code with rim. It keeps a listing whole and every granule of it, so it takes some seconds, and several times the
 memory of the file, where the file is large.
