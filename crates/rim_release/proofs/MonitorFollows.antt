@@ -36,10 +36,10 @@ led-on s next (x ∷ cs) zero c at taken =
 led-on s next (x ∷ cs) (suc i) c at taken = led-on (after s (step s x)) next cs i c at taken
 
 module _ (l : LaunchCommands) where
-  pub followed : IsFollowed l.launch.now.config.algo l.launch.now.config.num_aux l.launch.now.config.rec_rule (commands_in l) (measured l.launch.now l.placed.now (page_contents l.launch.now (bytes_of_files l.files.now) l.placed.now))
+  pub followed : IsFollowed l.launch.now.config.algo l.launch.now.config.num_aux l.launch.now.config.rec_rule (commands_in l) (measured l.launch.now l.placed (page_contents l.launch.now (bytes_of_files l.files.now) l.placed))
   followed =
-      list-is-followed l.launch.now l.placed.now (page_contents l.launch.now (bytes_of_files l.files.now) l.placed.now) l.plan.now
-      (contents-are-good l.launch.now (bytes_of_files l.files.now) l.placed.now) l.is_listed
+      list-is-followed l.launch.now l.placed (page_contents l.launch.now (bytes_of_files l.files.now) l.placed) l.plan
+      (contents-are-good l.launch.now (bytes_of_files l.files.now) l.placed) l.is_listed
 
   pub never-refused : (i : ℕ) (c : Command) → slice_get (commands_in l) i ≡ Some c → is_ok (step (state_after l i) c) ≡ true
   never-refused i c at = taken-in-turn (empty_state l.launch.now.config.num_aux l.launch.now.config.rec_rule) (commands_in l) i c followed.accepted at

@@ -10,9 +10,10 @@ ghost use Rattle.rim_release.specs.inside.Commands.{commands_in};
 ghost use Rattle.rim_release.specs.inside.Copies.{AreKept, IsCopyIn};
 
 use crate::audit_fault::AuditFault;
-use crate::commands::{LaunchCommands, lay_out};
+use crate::commands::LaunchCommands;
 use crate::copies::{MonitorCopy, begin};
 use crate::kept::Kept;
+use crate::laying_out::lay_out;
 use crate::one_thread::{Files, Report, has_refused};
 use crate::report::push_lines;
 use refusal::NoMemory;
@@ -146,15 +147,9 @@ fn audit_launch<'a>(
         (rim_for launch.now (bytes_of_files files.now)) }
     ensures kept { AreKept (bytes_of_files files.now) kept.new }
 {
-    let (placed, plan) = lay_out(alloc, launch, files)?;
-    let commands = LaunchCommands {
-        launch,
-        files,
-        placed: &placed,
-        plan: &plan,
-    };
+    let commands = lay_out(alloc, launch, files)?;
     let (rim, copies) = followed(alloc, &commands, kept)?;
-    kept.keep(launch, &placed, plan, copies);
+    kept.keep(commands, copies);
     Ok(rim)
 }
 

@@ -1,54 +1,29 @@
 //! The commands that build the realm of a launch, one by one, each given to a monitor.
-ghost use Rattle.std.specs.Prelude.{◌≡◌, length, true, IfOk, Ok, Some};
-ghost use Rattle.refusal.specs.Answer.{Answers};
-ghost use Rattle.list_model.specs.Entries.{commands_of};
-ghost use Rattle.rim_launch.specs.LaunchData.{has_files};
+ghost use Rattle.std.specs.Prelude.{◌≡◌, Ok};
 ghost use Rattle.ipa_layout.specs.Layout.{IsPlaced};
 ghost use Rattle.ipa_layout.specs.Files.{bytes_of_files};
 ghost use Rattle.rmi_list.specs.Listed.{listed};
-ghost use Rattle.rmi_list.specs.Measured.{page_contents};
-ghost use Rattle.rim_release.specs.Accepted.{commands_for};
 
-use crate::audit_fault::AuditFault;
 use crate::beside::{Beside, Group};
 use crate::known_pages::FileKey;
-use ipa_layout::{Placed, PlacedItem, place};
+use ipa_layout::{Placed, PlacedItem};
 use page_jobs::{Blob, LANES, PageJob, run_four};
 use refusal::NoMemory;
 use rim_desc::{Command, Measurement, Source};
 use rim_launch::Launch;
-use rmi_list::{Plan, list};
+use rmi_list::Plan;
 use rmm_monitor::{Monitor, Refused};
 use std::alloc::Global;
 
-/// A launch that has its place and its list of commands, and the files of its release.
-#[derive(Clone, Copy)]
+/// A launch that is accepted, with the files of its release: it has its place and its list of commands.
+#[derive(Drop)]
 pub struct LaunchCommands<'a> {
     pub launch: &'a Launch,
     pub files: &'a [Vec<u8>],
-    pub placed: &'a Placed,
-    pub plan: &'a Plan,
-    pub ghost is_placed: { IsPlaced launch.now (bytes_of_files files.now) placed.now },
-    pub ghost is_listed: { listed launch.now placed.now ≡ Ok plan.now },
-}
-
-/// The place of a launch and its list of commands, or why it is refused.
-#[tactic(auto, unfolding(crate::specs::Accepted::commands_for))]
-pub fn lay_out(
-    alloc: Global,
-    launch: &Launch,
-    files: &[Vec<u8>],
-) -> Result<(Placed, Plan), AuditFault>
-    requires { has_files launch.now (length files.now) ≡ true }
-    ensures commands { Answers AuditFault.NoMemory
-        (λ found. commands_of (page_contents launch.now (bytes_of_files files.now) found.0) found.1)
-        result (commands_for launch.now (bytes_of_files files.now)) }
-    ensures placed { IfOk result (λ found. IsPlaced launch.now (bytes_of_files files.now) found.0) }
-    ensures listed { IfOk result (λ found. listed launch.now found.0 ≡ Ok found.1) }
-{
-    let placed = place(alloc, launch, files)?;
-    let plan = list(alloc, launch, &placed)?;
-    Ok((placed, plan))
+    pub placed: Placed,
+    pub plan: Plan,
+    pub ghost is_placed: { IsPlaced launch.now (bytes_of_files files.now) placed },
+    pub ghost is_listed: { listed launch.now placed ≡ Ok plan },
 }
 
 /// What a command is given for its page where it creates no measured one. It does not use it.
@@ -139,7 +114,7 @@ impl<'a> LaunchCommands<'a> {
 
     /// The measurement of a page of an item: the one that is known already, or else the page is hashed.
     fn content_of(&self, beside: &mut Beside, item: usize, page: u64) -> Measurement
-        requires page { HasPage self.now.placed.now item page }
+        requires page { HasPage self.now.placed item page }
         requires own { IsOwn self.now beside.old }
         ensures content { result ≡ content_in self.now item page }
         ensures own { IsOwn self.now beside.new }
@@ -213,7 +188,7 @@ impl<'a> LaunchCommands<'a> {
 
     /// Hashes a page and the three after it in its item, side by side where they are whole.
     fn hash_group(&self, item: usize, page: u64) -> (Measurement, Group)
-        requires { HasPage self.now.placed.now item (page + 3) }
+        requires { HasPage self.now.placed item (page + 3) }
         ensures content { result.0 ≡ content_in self.now item page }
         ensures group { IsGroup self.now result.1 }
         ensures low { result.1.first < 2 ^ 52 }
@@ -238,7 +213,7 @@ impl<'a> LaunchCommands<'a> {
 
     /// The work of hashing a page of an item. No byte of the item is copied but those of its first and its last page.
     fn job(&self, item: usize, page: u64) -> PageJob<'_>
-        requires { HasPage self.now.placed.now item page }
+        requires { HasPage self.now.placed item page }
         ensures { DigestIsContent self.now item page (page_view result.page) }
     {
         let item = self.placed.items()[item];

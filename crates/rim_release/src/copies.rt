@@ -121,7 +121,11 @@ fn shared_with(
         return None;
     }
     let marks = marked(&of_launch.items, commands.placed.items());
-    Some(of_launch.plan.common_commands(commands.plan, &marks, looks))
+    Some(
+        of_launch
+            .plan
+            .common_commands(&commands.plan, &marks, looks),
+    )
 }
 
 /// Whether two launches have RECs with as many auxiliary granules, the same rule for RECs, and the same algorithm.

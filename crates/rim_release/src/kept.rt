@@ -1,19 +1,15 @@
 //! What an audit keeps of launches for later ones: digests of their files' pages, and monitors that were given their first
 //! commands. It is kept where there is room and memory for it, and no answer depends on it.
-ghost use Rattle.std.specs.Prelude.{◌≡◌, ℕ, List, Ok};
+ghost use Rattle.std.specs.Prelude.{◌≡◌, ℕ, List};
 ghost use Rattle.std.specs.List.{All};
 ghost use Rattle.ipa_layout.specs.Files.{bytes_of_files};
-ghost use Rattle.ipa_layout.specs.Layout.{IsPlaced};
-ghost use Rattle.rmi_list.specs.Listed.{listed};
 ghost use Rattle.rim_release.specs.inside.Commands.{state_after};
-ghost use Rattle.rim_release.specs.inside.Copies.{AreKept, IsCopyIn, IsKept, state_of};
+ghost use Rattle.rim_release.specs.inside.Copies.{AreKept, IsCopyIn, IsKept};
 
 use crate::beside::Beside;
 use crate::commands::LaunchCommands;
 use crate::copies::{LaunchCopies, MonitorCopy};
 use crate::known_pages::{KnownPages, room_for};
-use ipa_layout::Placed;
-use rim_launch::Launch;
 use rmi_list::Plan;
 use rmm_monitor::Monitor;
 use std::alloc::Global;
@@ -103,7 +99,7 @@ impl<'a> Kept<'a> {
             → All (IsKept files) self.new.launches.items }
     {
         let size = COMMAND_SIZE.saturating_mul(count);
-        if !self.make_room(size_of(commands.plan, copies).saturating_add(size)) {
+        if !self.make_room(size_of(&commands.plan, copies).saturating_add(size)) {
             return;
         }
         if let Ok(monitor) = monitor.try_clone() {
@@ -111,30 +107,24 @@ impl<'a> Kept<'a> {
         }
     }
 
-    /// Keeps copies that were made of a launch's monitor, which has this place and this list, where there is room and memory for it.
-    pub fn keep(
-        &mut self,
-        launch: &'a Launch,
-        placed: &Placed,
-        plan: Plan,
-        copies: Vec<MonitorCopy>,
-    )
+    /// Keeps copies that were made of a launch's monitor, and the launch's list, where there is room and memory for it.
+    pub fn keep(&mut self, commands: LaunchCommands<'a>, copies: Vec<MonitorCopy>)
+        requires copies { All (IsCopyIn commands) copies.items }
+        requires kept { All (IsKept (bytes_of_files commands.files.now)) self.old.launches.items }
         ensures beside { self.new.beside ≡ self.old.beside }
-        ensures launches { (files : List (List ℕ)) → IsPlaced launch.now files placed.now
-            → listed launch.now placed.now ≡ Ok plan
-            → All (λ m. m.monitor ≡ state_of launch.now files placed.now plan m.count) copies.items
-            → All (IsKept files) self.old.launches.items
-            → All (IsKept files) self.new.launches.items }
+        ensures launches { All (IsKept (bytes_of_files commands.entry.files.now))
+            self.new.launches.items }
     {
         if copies.is_empty() {
             return;
         }
-        if !self.make_room(size_of(&plan, &copies)) {
+        if !self.make_room(size_of(&commands.plan, &copies)) {
             return;
         }
-        let Ok(items) = Vec::from_slice(self.alloc, placed.items()) else {
+        let Ok(items) = Vec::from_slice(self.alloc, commands.placed.items()) else {
             return;
         };
+        let LaunchCommands { launch, plan, .. } = commands;
         let _ = self.launches.push(LaunchCopies {
             launch,
             items,

@@ -14,6 +14,7 @@ mod json;
 mod kept;
 mod known_pages;
 mod laws;
+mod laying_out;
 mod listings;
 mod one_thread;
 mod pages;
@@ -26,7 +27,6 @@ mod workers;
 
 pub use audit_fault::AuditFault;
 pub use audits::{audit, audit_launches, audit_report};
-pub use commands::lay_out;
 pub use devicetree::placed_devicetree;
 pub use fault::StartFault;
 pub use job_board::JobId;

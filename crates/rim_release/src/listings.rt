@@ -14,8 +14,9 @@ ghost use Rattle.rim_release.specs.inside.Commands.{commands_in};
 
 use crate::audit_fault::AuditFault;
 use crate::beside::Beside;
-use crate::commands::{LaunchCommands, lay_out};
+use crate::commands::LaunchCommands;
 use crate::known_pages::KnownPages;
+use crate::laying_out::lay_out;
 use crate::one_thread::{Files, Report};
 use crate::report::{push_line, push_rim};
 use itoa::Buffer;
@@ -113,13 +114,7 @@ fn list_launch(alloc: Global, launch: &Launch, files: &[Vec<u8>]) -> Result<Vec<
         (listing_of launch.now (bytes_of_files files.now)) }
     ensures confirmed { IfOk result (λ text. ReplayAnswer text.items (Ok tt)) }
 {
-    let (placed, plan) = lay_out(alloc, launch, files)?;
-    let commands = LaunchCommands {
-        launch,
-        files,
-        placed: &placed,
-        plan: &plan,
-    };
+    let commands = lay_out(alloc, launch, files)?;
     let text = print(alloc, &commands)?;
     Ok(text)
 }

@@ -9,8 +9,9 @@ ghost use Rattle.rim_release.specs.inside.Commands.{commands_in};
 
 use crate::audit_fault::AuditFault;
 use crate::beside::Beside;
-use crate::commands::{LaunchCommands, lay_out};
+use crate::commands::LaunchCommands;
 use crate::known_pages::KnownPages;
+use crate::laying_out::lay_out;
 use crate::listings::refused_report;
 use crate::one_thread::{Files, Report};
 use crate::report::push_digest;
@@ -69,13 +70,7 @@ fn trace_launch(alloc: Global, launch: &Launch, files: &[Vec<u8>]) -> Result<Vec
     ensures { Answers AuditFault.NoMemory (λ text. text.items) result
         (trace_of launch.now (bytes_of_files files.now)) }
 {
-    let (placed, plan) = lay_out(alloc, launch, files)?;
-    let commands = LaunchCommands {
-        launch,
-        files,
-        placed: &placed,
-        plan: &plan,
-    };
+    let commands = lay_out(alloc, launch, files)?;
     let text = trace(alloc, &commands)?;
     Ok(text)
 }

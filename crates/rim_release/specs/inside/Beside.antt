@@ -10,7 +10,7 @@ use Rattle.rim_release.specs.declared.commands.LaunchCommands.{LaunchCommands}
 
 -- the measurement of a page of the launch's item
 abbrev pub content_in : LaunchCommands → ℕ → ℕ → Measurement
-content_in c item page = page_contents c.launch.now (bytes_of_files c.files.now) c.placed.now item page
+content_in c item page = page_contents c.launch.now (bytes_of_files c.files.now) c.placed item page
 
 -- whatever is the digest of a page is the measurement of that page of the launch's item
 abbrev pub DigestIsContent : LaunchCommands → ℕ → ℕ → PageView → Type 0

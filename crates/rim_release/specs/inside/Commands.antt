@@ -14,7 +14,7 @@ use Rattle.rim_release.specs.declared.commands.LaunchCommands.{LaunchCommands}
 
 -- the commands, with the measurement of each measured page
 abbrev pub commands_in : LaunchCommands → List Command
-commands_in c = commands_of (page_contents c.launch.now (bytes_of_files c.files.now) c.placed.now) c.plan.now
+commands_in c = commands_of (page_contents c.launch.now (bytes_of_files c.files.now) c.placed) c.plan
 
 -- where a monitor is after the first of them
 abbrev pub state_after : LaunchCommands → ℕ → State

@@ -8,13 +8,13 @@ use Rattle.rim_release.proofs.commands.LaunchCommands.command_at.Goals as goal
 pub content_of-content-requires-clause-page : goal.content_of-content-requires-clause-page
 content_of-content-requires-clause-page c =
     let s = c.args.self.now in
-    page-there s.launch.now s.placed.now s.plan.now c.args.index c.in-Some.item c.in-Some.page s.is_listed (sym c.page_of.ensures ∙ c.in-Some.is)
+    page-there s.launch.now s.placed s.plan c.args.index c.in-Some.item c.in-Some.page s.is_listed (sym c.page_of.ensures ∙ c.in-Some.is)
 
 pub returns-in-Some-clause-command : goal.returns-in-Some-clause-command
 returns-in-Some-clause-command c =
     let s = c.args.self.now in
-    let pages = page_contents s.launch.now (bytes_of_files s.files.now) s.placed.now in
-    command-is pages c.content_of-content.result s.plan.now c.args.index c.command.result
+    let pages = page_contents s.launch.now (bytes_of_files s.files.now) s.placed in
+    command-is pages c.content_of-content.result s.plan c.args.index c.command.result
     (λ number k at.
     let same = same_Some (c.in-Some.item, c.in-Some.page) (number, k) (sym c.in-Some.is ∙ c.page_of.ensures ∙ at) in
     c.content_of-content.ensures.content ∙ ap (λ (x : ℕ × ℕ). pages x.0 x.1) same)
@@ -23,7 +23,7 @@ returns-in-Some-clause-command c =
 pub returns-in-None-clause-command : goal.returns-in-None-clause-command
 returns-in-None-clause-command c =
     let s = c.args.self.now in
-    let pages = page_contents s.launch.now (bytes_of_files s.files.now) s.placed.now in
-    command-is pages _ s.plan.now c.args.index c.command-in-None.result
+    let pages = page_contents s.launch.now (bytes_of_files s.files.now) s.placed in
+    command-is pages _ s.plan c.args.index c.command-in-None.result
     (λ number k at. absurd (let none : c.page_of.result ≡ Some (number, k) = c.page_of.ensures ∙ at in cc))
     c.command-in-None.ensures

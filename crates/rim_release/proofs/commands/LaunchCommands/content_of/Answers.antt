@@ -13,4 +13,4 @@ returns-then-items-item-clause-content c =
     c.job.ensures c.run.result.digest (c.run.result.own ∙ ap (λ (q : Page). digest_of (page_view q)) c.run.ensures)
 
 pub hash_group-requires : goal.hash_group-requires
-hash_group-requires c = third-after c.args.self.now.placed.now c.items.result.now c.args.item c.args.page _ c.items.ensures c.requires.page c.if-items-item.false
+hash_group-requires c = third-after c.args.self.now.placed c.items.result.now c.args.item c.args.page _ c.items.ensures c.requires.page c.if-items-item.false

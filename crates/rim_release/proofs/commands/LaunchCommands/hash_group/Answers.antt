@@ -8,19 +8,19 @@ use Rattle.rim_release.proofs.commands.LaunchCommands.hash_group.Goals as goal
 pub overflow_add-page : goal.overflow_add-page
 overflow_add-page c =
     let low : c.args.page + 3 < 4503599627370496
-    = page-low c.args.self.now.launch.now (bytes_of_files c.args.self.now.files.now) c.args.self.now.placed.now c.args.item (c.args.page + 3) c.args.self.now.is_placed c.requires in
+    = page-low c.args.self.now.launch.now (bytes_of_files c.args.self.now.files.now) c.args.self.now.placed c.args.item (c.args.page + 3) c.args.self.now.is_placed c.requires in
     omega (arith, low)
 
 pub overflow_add-page-2 : goal.overflow_add-page-2
 overflow_add-page-2 c =
     let low : c.args.page + 3 < 4503599627370496
-    = page-low c.args.self.now.launch.now (bytes_of_files c.args.self.now.files.now) c.args.self.now.placed.now c.args.item (c.args.page + 3) c.args.self.now.is_placed c.requires in
+    = page-low c.args.self.now.launch.now (bytes_of_files c.args.self.now.files.now) c.args.self.now.placed c.args.item (c.args.page + 3) c.args.self.now.is_placed c.requires in
     omega (arith, low)
 
 pub overflow_add-page-3 : goal.overflow_add-page-3
 overflow_add-page-3 c =
     let low : c.args.page + 3 < 4503599627370496
-    = page-low c.args.self.now.launch.now (bytes_of_files c.args.self.now.files.now) c.args.self.now.placed.now c.args.item (c.args.page + 3) c.args.self.now.is_placed c.requires in
+    = page-low c.args.self.now.launch.now (bytes_of_files c.args.self.now.files.now) c.args.self.now.placed c.args.item (c.args.page + 3) c.args.self.now.is_placed c.requires in
     omega (arith, low)
 
 pub returns-clause-content : goal.returns-clause-content
@@ -36,5 +36,5 @@ returns-clause-group c = record {
 pub returns-clause-low : goal.returns-clause-low
 returns-clause-low c =
     let low : c.args.page + 3 < 4503599627370496
-    = page-low c.args.self.now.launch.now (bytes_of_files c.args.self.now.files.now) c.args.self.now.placed.now c.args.item (c.args.page + 3) c.args.self.now.is_placed c.requires in
+    = page-low c.args.self.now.launch.now (bytes_of_files c.args.self.now.files.now) c.args.self.now.placed c.args.item (c.args.page + 3) c.args.self.now.is_placed c.requires in
     omega (arith, low)

@@ -11,23 +11,23 @@ use Rattle.rim_release.proofs.commands.LaunchCommands.job.Goals as goal
 
 pub new-requires : goal.new-requires
 new-requires c =
-    let p = c.args.self.now.placed.now in
+    let p = c.args.self.now.placed in
     rw (item-there p.items c.items.result.now c.args.item c.requires.item _ c.items.ensures c.requires.at)
     (lead-low c.args.self.now.launch.now (bytes_of_files c.args.self.now.files.now) p c.args.item c.requires.item c.args.self.now.is_placed c.requires.at)
 
 pub page-page-requires : goal.page-page-requires
 page-page-requires c =
-    page-low c.args.self.now.launch.now (bytes_of_files c.args.self.now.files.now) c.args.self.now.placed.now c.args.item c.args.page c.args.self.now.is_placed c.requires
+    page-low c.args.self.now.launch.now (bytes_of_files c.args.self.now.files.now) c.args.self.now.placed c.args.item c.args.page c.args.self.now.is_placed c.requires
 
 pub unreachable-requires : goal.unreachable-requires
 unreachable-requires c =
-    let p = c.args.self.now.placed.now in
+    let p = c.args.self.now.placed in
     let is = item-there p.items c.items.result.now c.args.item c.requires.item _ c.items.ensures c.requires.at in
     absurd (c.in_default.not-Some c.requires.source (ap (λ (i : PlacedItem). i.source) is ∙ c.requires.from))
 
 pub returns : goal.returns
 returns c = λ m own.
-    let p = c.args.self.now.placed.now in
+    let p = c.args.self.now.placed in
     let files : List (List ℕ) = bytes_of_files c.args.self.now.files.now in
     let item : PlacedItem = c.requires.item in
     let is = item-there p.items c.items.result.now c.args.item item _ c.items.ensures c.requires.at in
