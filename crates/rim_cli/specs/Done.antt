@@ -8,13 +8,13 @@ use Rattle.rim_manifest.specs.declared.fault.ManifestFault.TheVariants as manife
 use Rattle.rim_release.specs.Devicetree.{devicetree_of}
 use Rattle.rim_release.specs.Listing.{listing_of, text_or_line}
 use Rattle.rim_release.specs.Trace.{trace_of}
-use Rattle.rim_release.specs.ShownDevicetree.{IsDevicetreeFault, ShowsDevicetree}
+use Rattle.rim_show.specs.ShownDevicetree.{IsDevicetreeFault, ShowsDevicetree}
 use Rattle.rim_release.specs.Json.{json_of}
 use Rattle.rim_release.specs.Report.{audit_text_of, has_refused, measured_of, report_of, unless_too_many}
-use Rattle.rim_release.specs.ShownImage.{image_answer_of}
+use Rattle.rim_show.specs.ShownImage.{image_answer_of}
 use Rattle.rim_release.specs.declared.audit_fault.AuditFault.{AuditFault}
 use Rattle.rim_release.specs.declared.audit_fault.AuditFault.TheVariants as audit
-use Rattle.rim_release.specs.declared.show.fault.ShowFault.TheVariants as show
+use Rattle.rim_show.specs.declared.fault.ShowFault.TheVariants as show
 use Rattle.rim_release.specs.declared.fault.StartFault.{StartFault}
 use Rattle.rim_release.specs.declared.fault.StartFault.TheVariants as start
 use Rattle.rim_check.specs.Explained.{Explains, ShowsRefusals}

@@ -8,9 +8,9 @@ use Rattle.rim_manifest.specs.Faults.{kind_of}
 use Rattle.rim_manifest.specs.declared.fault.ManifestFault.TheVariants as manifest
 use Rattle.rim_release.specs.AuditFaults.{audit_kind_of}
 use Rattle.rim_release.specs.Faults.{start_kind_of}
-use Rattle.rim_release.specs.ShowFaults.{show_kind_of}
+use Rattle.rim_show.specs.ShowFaults.{show_kind_of}
 use Rattle.rim_release.specs.declared.audit_fault.AuditFault.TheVariants as audit
-use Rattle.rim_release.specs.declared.show.fault.ShowFault.TheVariants as show
+use Rattle.rim_show.specs.declared.fault.ShowFault.TheVariants as show
 use Rattle.rim_release.specs.declared.fault.StartFault.TheVariants as start
 
 -- want of memory, wherever it was met, is 4; each other fault is 3

@@ -3,8 +3,8 @@ ghost use Rattle.std.specs.Prelude.{◌≡◌, ◌⊎◌, ◌<◌, ◌≤◌, Er
 ghost use Rattle.rim_release.specs.Report.{has_refused, is_crew, measured_of};
 ghost use Rattle.rim_cli.specs.Command.{HasCrew};
 ghost use Rattle.rim_manifest.specs.Manifest.{manifest_of, name_in};
-ghost use Rattle.rim_release.specs.ShownDevicetree.{ShowsDevicetree};
-ghost use Rattle.rim_release.specs.ShownImage.{image_answer_of};
+ghost use Rattle.rim_show.specs.ShownDevicetree.{ShowsDevicetree};
+ghost use Rattle.rim_show.specs.ShownImage.{image_answer_of};
 ghost use Rattle.rim_cli.specs.Done.{IsAnswer, IsAudit, IsDevicetree, IsListing, IsManifestFault, IsReport, IsReportOf, IsTrace, Refuses, RefusesAudit, RefusesDtb, RefusesFdt, RefusesImage, RefusesListing, RefusesManifest, RefusesReport, path_of};
 ghost use Rattle.rim_cli.specs.Files.{AreRead, IfFile};
 

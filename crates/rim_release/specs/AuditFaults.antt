@@ -6,7 +6,7 @@ use Rattle.rtt_plan.specs.declared.fault.PlanFault.{PlanFault}
 use Rattle.rtt_plan.specs.declared.fault.PlanFault.TheVariants as plan
 use Rattle.rmi_list.specs.declared.fault.ListFault.{ListFault}
 use Rattle.rmi_list.specs.declared.fault.ListFault.TheVariants as list
-use Rattle.rim_release.specs.ShowFaults.{devicetree_kind_of, image_kind_of}
+use Rattle.rim_show.specs.ShowFaults.{devicetree_kind_of, image_kind_of}
 use Rattle.rim_release.specs.declared.audit_fault.AuditFault.{AuditFault}
 use Rattle.rim_release.specs.declared.audit_fault.AuditFault.TheVariants as fault
 

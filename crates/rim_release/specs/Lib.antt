@@ -10,7 +10,4 @@ pub mod Trace
 pub mod Devicetree
 pub mod Headline
 pub mod Values
-pub mod ShowFaults
-pub mod ShownImage
-pub mod ShownDevicetree
 pub mod inside

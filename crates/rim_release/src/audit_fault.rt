@@ -4,9 +4,9 @@ ghost use Rattle.rim_release.specs.Accepted.{layout_fault, list_fault};
 ghost use Rattle.rim_release.specs.AuditFaults.{audit_kind_of, layout_kind_of, list_kind_of, plan_kind_of};
 ghost use Rattle.rim_release.specs.declared.audit_fault.AuditFault.TheVariants as fault;
 
-use crate::show::fault::{devicetree_kind, image_kind};
 use ipa_layout::LayoutFault;
 use refusal::NoMemory;
+use rim_show::{devicetree_kind, image_kind};
 use rmi_list::ListFault;
 use rtt_plan::PlanFault;
 use std::alloc::{AllocError, AllocFailed};

@@ -21,7 +21,6 @@ mod pages;
 mod pending_report;
 mod prepared;
 mod report;
-mod show;
 mod trace;
 mod workers;
 
@@ -42,8 +41,6 @@ pub use prepared::{Prepared, prepare};
 pub use rim_launch::{Config, Launch};
 pub use rim_manifest::{ManifestFault, NamedLaunch, Release, read_manifest};
 pub use rim_replay::{ReplayFault, refused_kind, replay};
-pub use show::devicetree::show_fdt;
-pub use show::fault::ShowFault;
-pub use show::image::show_image;
+pub use rim_show::{ShowFault, show_fdt, show_image};
 pub use trace::trace_or_refusal;
 pub use workers::{Outcome, measure_release};

@@ -1,7 +1,0 @@
-use Rattle.std.proofs.Common.{◌≡◌, ◌++◌, take}
-use Rattle.std.specs.List.{flat_map}
-use Rattle.rim_release.specs.ShownDevicetree.{reservation_line}
-use Rattle.rim_release.proofs.show.devicetree.push_reservations.Given as goal
-
-abbrev pub invariant-loop-reservation : goal.invariant-loop-reservation
-invariant-loop-reservation l = l.text.items ≡ l.initial.text.items ++ flat_map reservation_line (take l.reservation-index l.reservations)

@@ -1,4 +1,0 @@
-use Rattle.rim_release.proofs.show.fault.devicetree_kind.Goals as goal
-
-pub returns-in-BadString : goal.returns-in-BadString
-returns-in-BadString c = rw c.in-BadString.is

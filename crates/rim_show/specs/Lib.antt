@@ -1,0 +1,3 @@
+pub mod ShowFaults
+pub mod ShownImage
+pub mod ShownDevicetree
