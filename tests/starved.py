@@ -37,7 +37,7 @@ def release(size, *launches):
 
 RAM = "ram = [[0x40000000, 0x40200000]]\n"
 TWO = RAM + 'item = [{ name = "x", kind = "raw", file = "f", at = 0x40000000 }, { name = "y", kind = "raw", file = "f", at = 0x40000000 }]'
-# Launches that begin alike, with so many commands that an audit keeps a copy of its monitor.
+# Launches that begin alike. They have enough commands that an audit keeps a copy of its monitor.
 ALIKE = "ram = [[0x40000000, 0x40600000]]\nblock_level = 3\n" + ITEM
 ALL_KINDS = """ram = [[0x40000000, 0x40400000]]
 item = [
