@@ -170,7 +170,7 @@ class Trials:
 def tried(refuser, calls, given, number, call, name):
     """A call on one of its inputs: the lines that say what came of it, and those that are wrong."""
     trials = Trials(refuser, calls, number)
-    # a manifest is a text: what stands after a zero byte is a file of it
+    # a manifest is a text: what comes after a zero byte is a file of it
     content = given[name].split(b"\0")[0] if call in MANIFESTS else given[name]
     answers = trials.memory(call, name, content)
     said = [line_of(f"{call}, {name}", "requests", answers)]
