@@ -52,13 +52,13 @@ BODIES = [
     ),
     (
         "no launch waits for another",
-        "job_board/src/state.rt",
+        "job_board/src/preferences.rt",
         [("    matches!(state, Some(JobState::Free | JobState::Held(_)))\n", "    false && matches!(state, Some(JobState::Free | JobState::Held(_)))\n")],
         "job_workers_tests",
     ),
     (
         "no launch waits for the pages of another",
-        "job_board/src/state.rt",
+        "job_board/src/preferences.rt",
         [("    matches!(state, Some(JobState::Free | JobState::Held(_)))\n", "    matches!(state, Some(JobState::Held(_)))\n")],
         "job_workers_tests",
     ),

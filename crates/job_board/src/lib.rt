@@ -1,6 +1,7 @@
 //! The jobs of a run: which are free, which worker holds which, and which are done; and the board's state.
 #![tactic(auto)]
 
+mod chain_order;
 mod closing;
 mod grouping;
 mod job;
@@ -11,6 +12,7 @@ mod line;
 mod machine;
 mod needs;
 mod own_needs;
+mod preferences;
 mod reaches;
 mod rows;
 mod run;

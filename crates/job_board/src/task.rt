@@ -242,10 +242,10 @@ impl<'a, L: Run> LaunchTask<'a, L> {
 
 impl<'a, L: Run> LaunchTask<'a, L> {
     /// Whether the launch can be chained side by side with others.
-    pub fn is_alone(&self) -> bool
+    pub fn can_run_with_others(&self) -> bool
         ensures { result ≡ true → self.now.plan.params.algo ≡ algo.Sha256 }
     {
-        self.job.is_alone()
+        self.job.can_run_with_others()
     }
 
     /// Chains the launch and three others side by side, which takes less than half the time.

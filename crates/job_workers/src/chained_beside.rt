@@ -47,7 +47,7 @@ impl<L: Run> ChainedBeside<L> {
         if let Some(value) = self.take(task.number()) {
             return task.known(value);
         }
-        if !task.is_alone() {
+        if !task.can_run_with_others() {
             return task.run();
         }
         let Some((b, c, d)) = self.lent(rt, board, worker) else {

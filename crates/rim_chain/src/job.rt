@@ -129,8 +129,8 @@ impl<'a> LaunchJob<'a> {
 }
 
 impl<'a> LaunchJob<'a> {
-    /// Whether the launch is by SHA-256, goes on from no prefix and keeps no values. Such launches can be chained side by side.
-    pub fn is_alone(&self) -> bool
+    /// Whether the launch can be chained side by side with others: it is by SHA-256, goes on from no prefix and keeps no values.
+    pub fn can_run_with_others(&self) -> bool
         ensures { result ≡ true → self.now.plan.params.algo ≡ algo.Sha256 }
     {
         self.plan.params().algo == Algo::Sha256

@@ -1,7 +1,6 @@
 //! A launch's Realm Initial Measurement from the digests of its pages.
 #![tactic(auto)]
 
-mod chain_order;
 mod chaining;
 mod filling;
 mod first_pages;
@@ -26,6 +25,6 @@ pub use laws::{
 };
 pub use link::Link;
 pub use plan::LaunchPlan;
-pub use prefix::{Checkpoint, Prefix};
+pub use prefix::{Checkpoint, Prefix, SharedPrefix};
 pub use shared_prefixes::SharedPrefixes;
 pub use starting::first_prefixes;

@@ -146,7 +146,7 @@ impl LaunchPlan {
 
     /// How many parts follow its first links: a chain that goes on from there takes as many hashes. It is a measure of the
     /// work alone, and stays at 2^64 - 1 from there on.
-    pub(crate) fn parts_after(&self, links: usize) -> u64 {
+    pub fn parts_after(&self, links: usize) -> u64 {
         let mut parts = 0u64;
         for at in links..self.links.len() {
             parts = parts.saturating_add(part_count(&self.links[at]));
@@ -155,7 +155,7 @@ impl LaunchPlan {
     }
 
     /// How many parts its first links have. It is a measure of the work alone.
-    pub(crate) fn parts_before(&self, links: usize) -> u64 {
+    pub fn parts_before(&self, links: usize) -> u64 {
         self.parts_after(0).saturating_sub(self.parts_after(links))
     }
 

@@ -15,3 +15,10 @@ pub struct Checkpoint {
     pub links: usize,
     pub value: Option<Measurement>,
 }
+
+/// The prefix that a launch begins with: an earlier launch, and how many links they have in common.
+#[derive(Clone, Copy, Debug, PartialEq, Eq, PartialOrd, Ord)]
+pub struct SharedPrefix {
+    pub launch: usize,
+    pub links: usize,
+}

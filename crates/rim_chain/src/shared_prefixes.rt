@@ -1,15 +1,14 @@
 //! The prefixes that launches of a run have in common, so that each is chained once.
-ghost use Rattle.std.specs.Prelude.{◌≡◌, ◌<◌, true, List, map, None, Some, IfOk, IfSome, slice_set, option_and_then, option_map};
+ghost use Rattle.std.specs.Prelude.{◌≡◌, [], true, List, map, None, Some, IfOk, IfSome, slice_set, option_and_then, option_map};
 ghost use Rattle.std.specs.List.{Contains, slice_get};
 ghost use Rattle.page_jobs.specs.Table.{TableView};
 ghost use Rattle.rim_chain.specs.Links.{PlanView};
 ghost use Rattle.rim_chain.specs.SharedPrefixes.{AreShared, HaveOwnValues, IsValueOfPrefix};
 ghost use Rattle.rim_chain.specs.inside.Checkpoints.{BothHavePrefix};
 
-use crate::chain_order::ChainOrder;
 use crate::plan::LaunchPlan;
-use crate::prefix::{Checkpoint, Prefix};
-use crate::siblings::{SharedPrefix, checkpoints_of, shared_prefixes_of};
+use crate::prefix::{Checkpoint, Prefix, SharedPrefix};
+use crate::siblings::{checkpoints_of, shared_prefixes_of};
 use crate::starting::Start;
 use refusal::NoMemory;
 use rim_desc::Algo;
@@ -23,7 +22,6 @@ use std::mem::replace;
 pub struct SharedPrefixes {
     shared: Vec<Option<SharedPrefix>>,
     checkpoints: Vec<Option<Vec<Checkpoint>>>,
-    order: ChainOrder,
 }
 
 impl Model for SharedPrefixes {
@@ -43,11 +41,9 @@ impl SharedPrefixes {
     {
         let shared = shared_prefixes_of(alloc, plans)?;
         let checkpoints = checkpoints_of(alloc, shared.as_slice())?;
-        let order = ChainOrder::new(alloc, plans, shared.as_slice())?;
         Ok(SharedPrefixes {
             shared,
             checkpoints,
-            order,
         })
     }
 
@@ -122,21 +118,18 @@ impl SharedPrefixes {
             → AreShared t ps self.new }
     {
         let _old = replaced(&mut self.checkpoints, number, checkpoints);
-        self.order.offer_followers(number);
+    }
+}
+
+impl SharedPrefixes {
+    /// The earlier launch that a launch goes on from, and after how many links; `None` where it goes on from none. No value
+    /// depends on it.
+    pub fn shared_prefix(&self, number: usize) -> Option<SharedPrefix> {
+        self.shared.get(number).copied().flatten()
     }
 
-    /// Notes that the pages of a launch are hashed. Where it goes on from no other, or its prefix is chained, it may be
-    /// chained now; else that is noted when its prefix is chained.
-    pub fn note_ready(&mut self, number: usize)
-        ensures { self.new ≡ self.old }
-    {
-        if self.is_prefix_known(number) {
-            self.order.offer(number);
-        }
-    }
-
-    /// Whether a launch goes on from no other, or its prefix is chained.
-    fn is_prefix_known(&self, number: usize) -> bool {
+    /// Whether a launch goes on from no other, or its prefix is chained. No value depends on it.
+    pub fn is_prefix_known(&self, number: usize) -> bool {
         let Some(Some(shared_prefix)) = self.shared.get(number) else {
             return true;
         };
@@ -147,47 +140,17 @@ impl SharedPrefixes {
         prefix_at(checkpoints, shared_prefix.links).is_some()
     }
 
-    /// How many launches were noted, may be chained and were not taken from here.
-    pub fn waiting(&self) -> usize {
-        self.order.waiting()
-    }
-
-    /// Takes the launch that is to be chained next, where it goes on from no other and no other goes on from it.
-    pub fn next_alone(&mut self) -> Option<usize>
-        ensures { self.new ≡ self.old }
-    {
-        let number = self.order.next()?;
-        if self.is_alone(number) {
-            return Some(number);
-        }
-        self.order.offer(number);
-        None
-    }
-
     /// Whether a launch goes on from no other, and no other goes on from it.
-    fn is_alone(&self, number: usize) -> bool {
+    pub fn is_alone(&self, number: usize) -> bool
+        ensures { result ≡ true → slice_get self.now number ≡ Some (Some []) }
+    {
         let Some(None) = self.shared.get(number) else {
             return false;
         };
-        checkpoints_at(self.checkpoints.as_slice(), number).is_some_and(
-            |checkpoints| checkpoints.is_empty(),
-        )
-    }
-
-    /// The earlier launch that a launch goes on from, where it should not be chained before that one: another worker that
-    /// has that one is done in about the time in which the prefix would be chained anew; or the prefix is most of the work, and
-    /// could not be chained twice until then.
-    pub fn waits_for(&self, number: usize) -> Option<usize>
-        ensures { IfSome result (λ earlier. earlier < number) }
-    {
-        self.order.waits_for(number)
-    }
-
-    /// Takes the launch that is to be chained next, of those that were noted and may be chained.
-    pub fn next(&mut self) -> Option<usize>
-        ensures { self.new ≡ self.old }
-    {
-        self.order.next()
+        match checkpoints_at(self.checkpoints.as_slice(), number) {
+            Some(checkpoints) => checkpoints.is_empty(),
+            None => false,
+        }
     }
 }
 

@@ -4,17 +4,10 @@ ghost use Rattle.std.specs.List.{All};
 ghost use Rattle.rim_chain.specs.inside.Checkpoints.{HaveNoValues};
 
 use crate::plan::LaunchPlan;
-use crate::prefix::Checkpoint;
+use crate::prefix::{Checkpoint, SharedPrefix};
 use refusal::NoMemory;
 use std::alloc::Global;
 use std::cmp::Ordering;
-
-/// The prefix that a launch begins with: an earlier launch, and how many links they have in common.
-#[derive(Clone, Copy, Debug, PartialEq, Eq, PartialOrd, Ord)]
-pub(crate) struct SharedPrefix {
-    pub launch: usize,
-    pub links: usize,
-}
 
 /// Neighbouring launches in the order of their plans: the first of them by its number, and how many links they have
 /// in common with the launches before them.

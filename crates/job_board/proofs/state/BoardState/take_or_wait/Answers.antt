@@ -26,7 +26,7 @@ returns-clause-held g c =
     elim c.match-matches.branch [
       | in-Later w ↦ (λ later.
           let is = w.in-Later.is in
-          let wait = subst (λ (b : BoardView). AllWait b.core) (said.same is) c.in-None.ensures.none in
+          let wait = subst (λ (b : BoardView). AllWait b.core) (c.self.view_is ∙ said.same is) c.in-None.ensures.none in
           some_held c.args.self.now.core said.board.0.core (said.pages is) (said.«open» is) wait)
       | in_default w ↦ (λ later. let yes : true ≡ false = sym c.if-not-matches.false ∙ w.matches-is in absurd (true≢false yes))
     ]

@@ -1,9 +1,11 @@
 //! The order in which the launches of a run are to be chained. No value depends on it.
+//!
+//! A launch that goes on from an earlier one may be left until that one is done. The run may then take up to a quarter of
+//! the prefix longer than if the prefix were chained anew, but the workers have less to do.
 ghost use Rattle.std.specs.Prelude.{◌<◌, IfSome};
 
-use crate::plan::LaunchPlan;
-use crate::siblings::SharedPrefix;
 use refusal::NoMemory;
+use rim_chain::{LaunchPlan, SharedPrefix, SharedPrefixes};
 use std::alloc::Global;
 use std::cmp::Reverse;
 use std::collections::BinaryHeap;
@@ -27,7 +29,7 @@ struct Candidate {
     /// How many parts are chained one after another until the launch is done, where each waits that should.
     until: u64,
     /// Whether it should wait for the launch that it goes on from, until that one is done.
-    waits: bool,
+    should_wait: bool,
 }
 
 /// Launches that go on from others are not set apart by fewer parts than this, which take about a millisecond. So those that
@@ -46,37 +48,45 @@ pub(crate) struct ChainOrder {
     launches: Vec<Candidate>,
     /// The launches that go on from others, by the one that each goes on from.
     followers: Vec<Follower>,
-    /// Those that may be chained.
-    waiting: BinaryHeap<Candidate>,
+    /// Those that may be chained and were not taken from here.
+    offered: BinaryHeap<Candidate>,
 }
 
 impl ChainOrder {
     pub(crate) fn new(
         alloc: Global,
         plans: &[LaunchPlan],
-        shared: &[Option<SharedPrefix>],
+        prefixes: &SharedPrefixes,
     ) -> Result<ChainOrder, NoMemory> {
-        let followers = followers_of(alloc, shared)?;
-        let launches = candidates_of(alloc, plans, shared)?;
+        let followers = followers_of(alloc, plans.len(), prefixes)?;
+        let launches = candidates_of(alloc, plans, prefixes)?;
         // Each launch is offered when it is ready, and again when the launch that it goes on from is chained.
-        let waiting = BinaryHeap::with_capacity(alloc, 2 * plans.len())?;
+        let offered = BinaryHeap::with_capacity(alloc, 2 * plans.len())?;
         Ok(ChainOrder {
             launches,
             followers,
-            waiting,
+            offered,
         })
     }
 
+    /// Notes that the pages of a launch are hashed. Where it goes on from no other, or its prefix is chained, it may be
+    /// chained now; else that is noted when its prefix is chained.
+    pub(crate) fn note_ready(&mut self, prefixes: &SharedPrefixes, number: usize) {
+        if prefixes.is_prefix_known(number) {
+            self.offer(number);
+        }
+    }
+
     /// Offers a launch, where room was reserved for it.
-    pub(crate) fn offer(&mut self, number: usize) {
+    fn offer(&mut self, number: usize) {
         let (Some(candidate), true) = (self.launches.get(number).copied(), self.has_room()) else {
             return;
         };
-        let _ = self.waiting.push(candidate);
+        let _ = self.offered.push(candidate);
     }
 
     fn has_room(&self) -> bool {
-        self.waiting.len() < self.waiting.capacity()
+        self.offered.len() < self.offered.capacity()
     }
 
     /// Offers the launches that go on from one that was chained.
@@ -93,17 +103,19 @@ impl ChainOrder {
     }
 
     /// How many launches were offered and not taken.
-    pub(crate) fn waiting(&self) -> usize {
-        self.waiting.len()
+    pub(crate) fn offered(&self) -> usize {
+        self.offered.len()
     }
 
-    /// The launch, of a lower number, that a launch goes on from and should wait for, until that one is done.
-    pub(crate) fn waits_for(&self, number: usize) -> Option<usize>
+    /// The earlier launch that a launch goes on from, where it should not be chained before that one: another worker that
+    /// has that one is done in about the time in which the prefix would be chained anew; or the prefix is most of the work, and
+    /// could not be chained twice until then.
+    pub(crate) fn should_wait_for(&self, number: usize) -> Option<usize>
         ensures { IfSome result (λ earlier. earlier < number) }
     {
         let candidate = self.launches.get(number)?;
         let earlier = candidate.first.0;
-        if candidate.waits && earlier < number {
+        if candidate.should_wait && earlier < number {
             Some(earlier)
         } else {
             None
@@ -112,16 +124,30 @@ impl ChainOrder {
 
     /// Takes the launch that is to be chained next.
     pub(crate) fn next(&mut self) -> Option<usize> {
-        let candidate = self.waiting.pop()?;
+        let candidate = self.offered.pop()?;
         Some(candidate.number.0)
+    }
+
+    /// Takes the launch that is to be chained next, where it goes on from no other and no other goes on from it.
+    pub(crate) fn next_alone(&mut self, prefixes: &SharedPrefixes) -> Option<usize> {
+        let number = self.next()?;
+        if prefixes.is_alone(number) {
+            return Some(number);
+        }
+        self.offer(number);
+        None
     }
 }
 
-/// The launches that go on from others, by the one that each goes on from.
-fn followers_of(alloc: Global, shared: &[Option<SharedPrefix>]) -> Result<Vec<Follower>, NoMemory> {
-    let mut followers = Vec::with_capacity(alloc, shared.len())?;
-    for number in 0..shared.len() {
-        if let Some(shared_prefix) = shared[number] {
+/// Of this many launches those that go on from others, by the one that each goes on from.
+fn followers_of(
+    alloc: Global,
+    launches: usize,
+    prefixes: &SharedPrefixes,
+) -> Result<Vec<Follower>, NoMemory> {
+    let mut followers = Vec::with_capacity(alloc, launches)?;
+    for number in 0..launches {
+        if let Some(shared_prefix) = prefixes.shared_prefix(number) {
             followers.push(Follower {
                 launch: shared_prefix.launch,
                 number,
@@ -136,17 +162,17 @@ fn followers_of(alloc: Global, shared: &[Option<SharedPrefix>]) -> Result<Vec<Fo
 fn candidates_of(
     alloc: Global,
     plans: &[LaunchPlan],
-    shared: &[Option<SharedPrefix>],
+    prefixes: &SharedPrefixes,
 ) -> Result<Vec<Candidate>, NoMemory> {
-    let ways = ways_of(alloc, plans, shared)?;
+    let ways = ways_of(alloc, plans, prefixes)?;
     let mut candidates = Vec::with_capacity(alloc, plans.len())?;
     for number in 0..plans.len() {
         let way = ways.get(number).copied().unwrap_or(0);
-        let candidate = match shared.get(number) {
-            Some(Some(shared_prefix)) => {
-                following(&candidates, &plans[number], *shared_prefix, number, way)
+        let candidate = match prefixes.shared_prefix(number) {
+            Some(shared_prefix) => {
+                following(&candidates, &plans[number], shared_prefix, number, way)
             }
-            _ => beginning(&plans[number], number, way),
+            None => beginning(&plans[number], number, way),
         };
         candidates.push(candidate)?;
     }
@@ -160,7 +186,7 @@ fn beginning(plan: &LaunchPlan, number: usize, way: u64) -> Candidate {
         first: Reverse(number),
         number: Reverse(number),
         until: plan.parts_after(0),
-        waits: false,
+        should_wait: false,
     }
 }
 
@@ -176,14 +202,14 @@ fn following(
     let until = earlier
         .get(shared_prefix.launch)
         .map_or(u64::MAX, |candidate| candidate.until);
-    let waits = is_best_to_wait(anew, until, way);
-    let begin = if waits { until } else { anew };
+    let should_wait = is_best_to_wait(anew, until, way);
+    let begin = if should_wait { until } else { anew };
     Candidate {
         parts: way - way % STEP,
         first: Reverse(shared_prefix.launch),
         number: Reverse(number),
         until: begin.saturating_add(plan.parts_after(shared_prefix.links)),
-        waits,
+        should_wait,
     }
 }
 
@@ -204,11 +230,11 @@ fn is_best_to_wait(anew: u64, until: u64, way: u64) -> bool {
 fn ways_of(
     alloc: Global,
     plans: &[LaunchPlan],
-    shared: &[Option<SharedPrefix>],
+    prefixes: &SharedPrefixes,
 ) -> Result<Vec<u64>, NoMemory> {
     let mut ways = vec![in alloc; 0; plans.len()]?;
     for number in (0..plans.len()).rev() {
-        let shared_prefix = shared.get(number).copied().flatten();
+        let shared_prefix = prefixes.shared_prefix(number);
         let links = shared_prefix.map_or(0, |shared_prefix| shared_prefix.links);
         let way = plans[number]
             .parts_after(links)

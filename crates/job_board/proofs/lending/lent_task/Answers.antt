@@ -4,7 +4,7 @@ use Rattle.page_jobs.specs.Page.{PageView}
 use Rattle.rim_chain.specs.Links.{PlanView, keys_of}
 use Rattle.job_board.specs.Tasks.{IsOwnRow, IsRoomy}
 use Rattle.job_board.proofs.RowsOfOwnPages.{own_row}
-use Rattle.job_board.proofs.state.lent_task.Goals as goal
+use Rattle.job_board.proofs.lending.lent_task.Goals as goal
 
 pub new-requires : goal.new-requires
 new-requires g c =

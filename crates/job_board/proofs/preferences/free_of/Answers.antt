@@ -1,4 +1,4 @@
-use Rattle.job_board.proofs.state.free_of.Goals as goal
+use Rattle.job_board.proofs.preferences.free_of.Goals as goal
 
 -- a page that is not free is not given
 pub returns-in_default : goal.returns-in_default

@@ -1,0 +1,190 @@
+//! Which job each worker is best given next. No value depends on it, and what a board promises holds of any choice.
+ghost use Rattle.std.specs.Prelude.{◌≡◌, true, IfNone, IfSome, Some, slice_get};
+ghost use Rattle.job_board.specs.declared.job.JobState.{JobState};
+ghost use Rattle.job_board.specs.Jobs.{IsOpen, NoneFree};
+ghost use Rattle.job_board.specs.inside.Waiting.{AllWait, HasEarlier};
+
+use crate::chain_order::ChainOrder;
+use crate::job::{JobId, JobState};
+use crate::lending::Lending;
+use crate::machine::Core;
+use crate::side_by_side::SideBySide;
+use page_jobs::DigestRow;
+use refusal::NoMemory;
+use rim_chain::{LaunchPlan, SharedPrefixes};
+use std::alloc::Global;
+
+/// In a run of more launches none waits for another. A worker that finds nothing else to do looks at each launch under the
+/// lock, and does so again each time that it is woken. This project's choice: as many launches as a release may have.
+const LAUNCHES_LOOKED_AT: usize = 1_024;
+
+/// The order in which launches are to be chained, which page each worker is given next, and which launches it was lent.
+#[derive(Drop)]
+pub(crate) struct Preferences {
+    chain_order: ChainOrder,
+    /// How many launches were noted when they came to be ready.
+    noted: usize,
+    side_by_side: SideBySide,
+    lending: Lending,
+}
+
+impl Preferences {
+    /// Those of a run of this many workers, of which nothing is given. These are the rows for lent launches; without rows none
+    /// is lent. No later call takes memory.
+    pub(crate) fn new(
+        alloc: Global,
+        workers: usize,
+        plans: &[LaunchPlan],
+        prefixes: &SharedPrefixes,
+        rows: Vec<DigestRow>,
+    ) -> Result<Preferences, NoMemory> {
+        let chain_order = ChainOrder::new(alloc, plans, prefixes)?;
+        let side_by_side = SideBySide::new(alloc, workers)?;
+        let lending = Lending::new(alloc, workers, rows)?;
+        Ok(Preferences {
+            chain_order,
+            noted: 0,
+            side_by_side,
+            lending,
+        })
+    }
+
+    /// Notes that a launch was chained: those that go on from it may be chained now.
+    pub(crate) fn note_chained(&mut self, number: usize) {
+        self.chain_order.offer_followers(number);
+    }
+
+    /// A row for a launch that is lent to a worker, if one is left.
+    pub(crate) fn lend_row(&mut self) -> Option<DigestRow> {
+        self.lending.row()
+    }
+
+    /// The launch that is to be lent to a worker next, if more are left for the other workers. That it was lent is noted.
+    pub(crate) fn next_to_lend(
+        &mut self,
+        core: &Core,
+        prefixes: &SharedPrefixes,
+        worker: usize,
+    ) -> Option<usize> {
+        if !self.lending.is_enough(self.chain_order.offered()) {
+            return None;
+        }
+        let number = self.chain_order.next_alone(prefixes)?;
+        if !core.is_open(number) {
+            return None;
+        }
+        self.lending.note(worker, number);
+        Some(number)
+    }
+}
+
+impl Preferences {
+    /// A free launch that is ready and is to be chained before more pages are hashed, if one is known. A worker within a
+    /// group of pages puts these first, since launches wait for what it has hashed. Where launches are lent, they wait for more
+    /// of them as long as pages are left.
+    pub(crate) fn next_launch(
+        &mut self,
+        core: &mut Core,
+        prefixes: &SharedPrefixes,
+        worker: usize,
+    ) -> Option<usize>
+        ensures same { core.new ≡ core.old }
+        ensures some { IfSome result (IsOpen core.old) }
+    {
+        if self.has_page_ahead(core, worker) {
+            return None;
+        }
+        if let Some(number) = self.lending.next(core, worker) {
+            return Some(number);
+        }
+        self.note_ready_launches(core, prefixes);
+        if self.lending.holds_back(self.chain_order.offered()) && core.free_page().is_some() {
+            return None;
+        }
+        self.next_open_launch(core)
+    }
+
+    /// Whether a worker is within a group of pages, the next of which is free.
+    fn has_page_ahead(&self, core: &Core, worker: usize) -> bool {
+        let next = JobId::Page(self.side_by_side.preferred(worker));
+        self.side_by_side.is_within(worker) && matches!(core.state(next), Some(JobState::Free))
+    }
+
+    /// Notes the launches that came to be ready since this was called last.
+    fn note_ready_launches(&mut self, core: &Core, prefixes: &SharedPrefixes) {
+        for _ in 0..core.launches() {
+            let Some(number) = core.in_line(self.noted) else {
+                return;
+            };
+            self.chain_order.note_ready(prefixes, number);
+            self.noted = self.noted.saturating_add(1);
+        }
+    }
+
+    /// The launch that is to be chained next, if one was noted. Others that were noted and are no longer free are passed.
+    fn next_open_launch(&mut self, core: &Core) -> Option<usize>
+        ensures { IfSome result (IsOpen core.now) }
+    {
+        for _ in 0..self.chain_order.offered() {
+            let number = self.chain_order.next()?;
+            if core.is_open(number) {
+                return Some(number);
+            }
+        }
+        None
+    }
+
+    /// A free page: the one that the worker is to hash next, if that is one.
+    pub(crate) fn next_page(&mut self, core: &mut Core, worker: usize) -> Option<usize>
+        ensures same { core.new ≡ core.old }
+        ensures some { IfSome result (λ page. slice_get core.old.pages page ≡ Some JobState.Free) }
+        ensures none { IfNone result (NoneFree core.old.pages) }
+    {
+        let first = core.free_page()?;
+        let page = free_of(core, self.side_by_side.preferred(worker), first);
+        self.side_by_side.note(worker, page);
+        Some(page)
+    }
+
+    /// A free launch that is ready, of those that are chained from the start: the first that should not wait for another. In a run
+    /// of too many launches to look at each, none waits.
+    pub(crate) fn launch_to_begin(&self, core: &mut Core) -> Option<usize>
+        ensures same { core.new ≡ core.old }
+        ensures some { IfSome result (IsOpen core.old) }
+        ensures none { IfNone result (AllWait core.old) }
+    {
+        let ready = core.ready_launch()?;
+        if core.launches() > LAUNCHES_LOOKED_AT {
+            return Some(ready);
+        }
+        for number in 0..core.launches() {
+            if core.is_open(number) && !self.should_wait(core, number) {
+                return Some(number);
+            }
+        }
+        None
+    }
+
+    /// Whether a launch should wait for an earlier one, where no page is free and those of the earlier ones that are free and ready
+    /// wait too. A worker holds that one; or it holds a page of it, since it is not ready; or that one waits in its turn.
+    fn should_wait(&self, core: &Core, number: usize) -> bool
+        ensures { result ≡ true → HasEarlier core.now number }
+    {
+        let Some(earlier) = self.chain_order.should_wait_for(number) else {
+            return false;
+        };
+        let state = core.state(JobId::Launch(earlier));
+        matches!(state, Some(JobState::Free | JobState::Held(_)))
+    }
+}
+
+/// A page where it is free, or else another, which is.
+fn free_of(core: &Core, page: usize, other: usize) -> usize
+    requires { slice_get core.now.pages other ≡ Some JobState.Free }
+    ensures { slice_get core.now.pages result ≡ Some JobState.Free }
+{
+    match core.state(JobId::Page(page)) {
+        Some(JobState::Free) => page,
+        _ => other,
+    }
+}

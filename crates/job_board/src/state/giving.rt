@@ -1,0 +1,191 @@
+//! What a board gives: jobs, and launches that are lent.
+ghost use Rattle.std.specs.Prelude.{◌≡◌, ◌≢◌, false, true, IfOk, Some, slice_get};
+ghost use Rattle.rim_desc.specs.declared.measurement.Algo.TheVariants as algo;
+ghost use Rattle.rim_chain.specs.Links.{keys_of};
+ghost use Rattle.rim_chain.specs.Rows.{IsRowOf};
+ghost use Rattle.job_board.specs.declared.job.Event.{Event};
+ghost use Rattle.job_board.specs.declared.job.JobId.{JobId};
+ghost use Rattle.job_board.specs.declared.job.JobState.{JobState};
+ghost use Rattle.job_board.specs.declared.work.Work.{Work};
+ghost use Rattle.job_board.specs.Board.{Adds, IsBoard, IsOfRun, SameRest};
+ghost use Rattle.job_board.specs.Gives.{Gives};
+ghost use Rattle.job_board.specs.Jobs.{NoneFree, SomeHeld, held_count, is_out, is_over, is_ready, state_of};
+
+use super::BoardState;
+use crate::job::{Event, JobId};
+use crate::lending::lent_task;
+use crate::rows::{plan_at, take_row};
+use crate::run::Run;
+use crate::task::{LaunchTask, PageTask};
+use crate::work::Work;
+use page_jobs::DigestRow;
+use rim_chain::LaunchJob;
+
+impl<'a, L: Run> BoardState<'a, L> {
+    /// A free job that is ready, or why none is given. Its event is added, and the row of a launch is filled.
+    pub fn take(&mut self, worker: usize) -> Work<'a, L>
+        ensures board { IsBoard self.old × IsOfRun L.pages L.plans self.old }
+        ensures gives { Gives self.old worker result self.new }
+    {
+        let work = self.preferred_work(worker);
+        if !matches!(work, Work::Later) {
+            return work;
+        }
+        match self.core.ready_launch() {
+            Some(number) => Work::Launch(self.give_launch(worker, number)),
+            None => Work::Later,
+        }
+    }
+
+    /// The same for a worker that may come again when a job is put or a worker retires. `Later` may also be answered where free
+    /// launches are ready. It says that this worker holds no job, that another one holds some job, and that nothing is changed.
+    /// Which launches are left for later is not promised; they should wait for an earlier one that begins alike and is not done.
+    pub fn take_or_wait(&mut self, worker: usize) -> Work<'a, L>
+        ensures board { IsBoard self.old × IsOfRun L.pages L.plans self.old }
+        ensures gives { result ≢ Work.Later → Gives self.old worker result self.new }
+        ensures later { result ≡ Work.Later → self.new ≡ self.old }
+        ensures known { result ≡ Work.Later → is_out self.old.core worker ≡ false }
+        ensures idle { result ≡ Work.Later → held_count self.old.core worker ≡ 0 }
+        ensures held { result ≡ Work.Later → SomeHeld self.old.core }
+    {
+        let work = self.preferred_work(worker);
+        if !matches!(work, Work::Later) {
+            return work;
+        }
+        match self.preferences.launch_to_begin(&mut self.core) {
+            Some(number) => Work::Launch(self.give_launch(worker, number)),
+            None => Work::Later,
+        }
+    }
+
+    /// What a worker is given, unless only launches are left that go on from others whose prefixes are not known; then, and where
+    /// nothing is left, it is `Later`.
+    fn preferred_work(&mut self, worker: usize) -> Work<'a, L>
+        ensures board { IsBoard self.old × IsOfRun L.pages L.plans self.old }
+        ensures gives { result ≢ Work.Later → Gives self.old worker result self.new }
+        ensures same { result ≡ Work.Later → self.new ≡ self.old }
+        ensures known { result ≡ Work.Later → is_out self.old.core worker ≡ false }
+        ensures idle { result ≡ Work.Later → held_count self.old.core worker ≡ 0 }
+        ensures open { result ≡ Work.Later → is_over self.old.core ≡ false }
+        ensures pages { result ≡ Work.Later → NoneFree self.old.core.pages }
+    {
+        if self.core.is_out(worker) || self.core.is_finished() {
+            return Work::Done;
+        }
+        if self.core.held(worker).is_some() {
+            return Work::Busy;
+        }
+        if let Some(number) = self
+            .preferences
+            .next_launch(&mut self.core, &self.prefixes, worker)
+        {
+            return Work::Launch(self.give_launch(worker, number));
+        }
+        if let Some(page) = self.preferences.next_page(&mut self.core, worker) {
+            return Work::Page(self.give_page(worker, page));
+        }
+        Work::Later
+    }
+
+    /// Gives a free page to a worker that holds no job.
+    fn give_page(&mut self, worker: usize, page: usize) -> PageTask<'a, L>
+        requires known { is_out self.old.core worker ≡ false }
+        requires idle { held_count self.old.core worker ≡ 0 }
+        requires free { state_of self.old.core (JobId.Page page) ≡ Some JobState.Free }
+        ensures event { Adds self.old (Event.Take worker (JobId.Page page)) self.new }
+        ensures rest { SameRest self.old self.new }
+        ensures number { result.number ≡ page }
+        ensures page { slice_get self.old.table.pages page ≡ Some result.page }
+    {
+        let BoardState {
+            core,
+            history,
+            table,
+            ..
+        } = self;
+        let event = Event::Take {
+            worker,
+            job: JobId::Page(page),
+        };
+        let Ok(()) = core.step(&event) else {
+            unreachable!()
+        };
+        history.push_reserved(event);
+        let Some(task) = PageTask::new(table.pages(), page) else {
+            unreachable!()
+        };
+        task
+    }
+
+    /// Gives a free launch that is ready to a worker that holds no job.
+    fn give_launch(&mut self, worker: usize, number: usize) -> LaunchTask<'a, L>
+        requires known { is_out self.old.core worker ≡ false }
+        requires idle { held_count self.old.core worker ≡ 0 }
+        requires free { state_of self.old.core (JobId.Launch number) ≡ Some JobState.Free }
+        requires ready { is_ready self.old.core (JobId.Launch number) ≡ true }
+        ensures event { Adds self.old (Event.Take worker (JobId.Launch number)) self.new }
+        ensures rest { SameRest self.old self.new }
+        ensures number { result.number ≡ number }
+        ensures plan { slice_get self.old.plans number ≡ Some result.plan }
+        ensures row { IsRowOf self.old.table (keys_of result.plan.links) result.row.digests }
+    {
+        let BoardState {
+            core,
+            history,
+            table,
+            plans,
+            rows,
+            prefixes,
+            ..
+        } = self;
+        let event = Event::Take {
+            worker,
+            job: JobId::Launch(number),
+        };
+        let Ok(()) = core.step(&event) else {
+            unreachable!()
+        };
+        history.push_reserved(event);
+        let plan = plan_at(plans, number);
+        let Some(row) = take_row(rows, worker) else {
+            unreachable!()
+        };
+        let row = row.filled_for(table, plan);
+        // Each filled slot of a table has the digest of its own page.
+        let _pages = table.pages();
+        let shared_prefix = prefixes.prefix(plans, number);
+        let job = LaunchJob::new(number, plan, row);
+        LaunchTask::new(job.going_on(shared_prefix, prefixes.take_checkpoints(number)))
+    }
+}
+
+impl<'a, L: Run> BoardState<'a, L> {
+    /// A row for a launch that is lent to a worker, if one is left.
+    pub fn lend_row(&mut self) -> Option<DigestRow>
+        ensures { self.new ≡ self.old }
+    {
+        self.preferences.lend_row()
+    }
+
+    /// Lends a worker a launch that is ready, to be chained beside one that it has taken. It is not taken by that, and is best
+    /// given to this worker later. The row is handed back where no launch is lent: where too few are left for the other
+    /// workers, or the row has no room for the next.
+    pub fn lend(&mut self, worker: usize, row: DigestRow) -> Result<LaunchTask<'a, L>, DigestRow>
+        ensures same { self.new ≡ self.old }
+        ensures alone { IfOk result (λ task. task.plan.params.algo ≡ algo.Sha256) }
+    {
+        let BoardState {
+            core,
+            table,
+            plans,
+            room,
+            prefixes,
+            preferences,
+            ..
+        } = self;
+        let Some(number) = preferences.next_to_lend(core, prefixes, worker) else {
+            return Err(row);
+        };
+        lent_task(table, plans, *room, number, row)
+    }
+}
