@@ -1,4 +1,7 @@
 //! The line of launches that wait for nothing, in the order in which that came to be.
+//!
+//! Each is in the line once. A launch that a retirement frees is found again from the line's begin. That happens at most 63
+//! times, since of 64 workers worker 0 never retires, and the others do once.
 ghost use Rattle.std.specs.Prelude.{◌≡◌, ◌≢◌, ◌<◌, ◌≤◌, ◌-◌, ◌++◌, ℕ, List, true, false, length, IfOk, Some, slice_get, slice_index, slice_set, vec_capacity};
 ghost use Rattle.job_board.specs.declared.job.JobState.{JobState};
 ghost use Rattle.job_board.specs.inside.Lines.{IsFreeAt, IsLine};

@@ -1,4 +1,9 @@
 //! What launches wait for: the first pages of groups, where a group has pages with numbers in a row.
+//!
+//! Reaches are enough, since the pages of a link are the first ones of their item, and a table has the pages of an item in a
+//! row. So how far a launch reaches into a group is one number, however many pages that has. Each put of a page moves on how
+//! far its group is done without a gap, and lowers the number of each launch whose reach is passed. A launch is ready where
+//! its number is 0, so no list of its pages is kept or searched.
 ghost use Rattle.std.specs.Prelude.{◌≡◌, ◌<◌, ◌≤◌, ◌+◌, ◌^◌, ◌++◌, ℕ, List, true, false, length, drop, IfOk, IfSome, Some, slice_index, vec_capacity};
 ghost use Rattle.job_board.specs.declared.job.JobState.{JobState};
 ghost use Rattle.job_board.specs.declared.reaches.PageGroup.{PageGroup};

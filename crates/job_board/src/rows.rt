@@ -1,4 +1,8 @@
 //! Rows of digests: one for each worker, and some for launches that are lent.
+//!
+//! Rows are the workers', so they take 64 bytes for each page of the largest launch and each row, and not for each page of
+//! each launch. A worker's row is with the launch that it holds, and comes back with the put. A worker that retires takes
+//! the row of what it holds along, since it is given no launch any more.
 ghost use Rattle.std.specs.Prelude.{◌≡◌, ◌<◌, ◌≤◌, ℕ, [], length, replicate, true, IfNone, IfOk, IfSome, None, Some, slice_get, slice_set};
 ghost use Rattle.rim_chain.specs.Links.{PlanView, keys_of};
 ghost use Rattle.rim_chain.specs.Rows.{HaveFirstPages, IsRowOf, has_all};

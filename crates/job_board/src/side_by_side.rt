@@ -1,4 +1,8 @@
 //! Which page a worker is to be given next.
+//!
+//! A worker hashes a group of pages side by side when it is given the first of them, and puts the others when their own jobs
+//! are given. Where another worker is given one of these, it hashes it too. That happens only where no group is left to
+//! begin, so for each worker at most three pages are hashed twice.
 
 use page_jobs::LANES;
 use refusal::NoMemory;

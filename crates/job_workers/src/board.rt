@@ -1,4 +1,11 @@
 //! The board: its state under a lock, for workers in threads of their own.
+//!
+//! A worker that finds nothing ready sleeps. Only a put and a retirement change what is ready, and each wakes all that sleep,
+//! so it misses nothing. Where none sleeps, that makes no system call.
+//!
+//! A worker that leaves launches for later holds no job, and another worker holds one: so the state's `take_or_wait` says. That
+//! one puts its job or retires, and either ends the wait. A job that was taken before the run in the name of worker 0, or
+//! of a worker that could not be started, is waited for as long as nobody puts it.
 ghost use Rattle.std.specs.Prelude.{◌≡◌, ◌≢◌, ◌≤◌, ◌+◌, IfErr, IfOk, OnOk, map};
 ghost use Rattle.rim_desc.specs.declared.measurement.Algo.TheVariants as algo;
 ghost use Rattle.job_board.specs.declared.job.Event.{Event};
