@@ -1,13 +1,13 @@
 -- What a core counts and marks is right after each step.
-use Rattle.std.proofs.Common.{min, ◌≡◌, ℕ, zero, suc, ◌+◌, ◌-◌, ◌<◌, ◌≤◌, Bool, true, false, cond, eqb, ◌&&◌, List, [], ◌∷◌, length, set, map, replicate, Option, Some, None, Result, Ok, Err, refl, sym, ap, ◌∙◌, subst, arith}
+use Rattle.std.proofs.Common.{min, ◌≡◌, ℕ, zero, suc, ◌+◌, ◌-◌, ◌<◌, ◌≤◌, Bool, true, false, cond, eqb, ◌&&◌, List, [], ◌∷◌, length, set, map, replicate}
+use Rattle.std.proofs.Common.{Option, Some, None, Result, Ok, Err, refl, sym, ap, ◌∙◌, subst, arith}
 use Rattle.std.specs.Prelude.{◌==◌, IfSome, OnErr}
 use Rattle.refusal.specs.Answer.{Matches}
 use Rattle.job_board.specs.declared.job.CoreFault.{CoreFault}
 use Rattle.std.specs.List.{count_by, list_all, slice_get}
 use Rattle.std.proofs.lemmas.List.{length-replicate}
-use Rattle.std.proofs.lemmas.List.Sums.{sum_by-cons}
+use Rattle.std.proofs.lemmas.List.Sums.{count_by-le-length, sum_by-cons}
 use Rattle.std.proofs.lemmas.Option.{same_Some}
-use Rattle.std.proofs.lemmas.Bool.{and_parts}
 use Rattle.std.proofs.lemmas.Bool.Decides.{nat_tests}
 use Rattle.job_board.specs.declared.job.JobId.{JobId}
 use Rattle.job_board.specs.declared.job.JobId.TheVariants.{Page, Launch}
@@ -19,7 +19,7 @@ use Rattle.job_board.specs.Jobs.{CoreState, IsCore, NeedsWithin, freed, held_cou
 use Rattle.job_board.specs.Step.{core_step}
 use Rattle.job_board.specs.inside.Notes.{held_of}
 use Rattle.job_board.specs.inside.Marks.{Marks, Passed, lowered_page}
-use Rattle.job_board.proofs.CountsOfJobs.{bit, sum_by-slice_set, sum_by-replicate_zero, sum-freed_done}
+use Rattle.job_board.proofs.CountsOfJobs.{all_done_count, bit, sum_by-slice_set, sum_by-replicate_zero, sum-freed_done}
 use Rattle.job_board.proofs.OneJobChanges.{slice_get-set_other, slice_get-set_same}
 use Rattle.job_board.proofs.NotesOfWorkers.{released_none, released_one}
 use Rattle.job_board.proofs.WhatStepsChange as kept
@@ -30,13 +30,15 @@ core_next s t e is c = record {
   first = kept.first s t e is c.first;
   workers = let n = kept.workers s t e is in omega (arith, n, c.workers);
   launches = kept.launches s t e is ∙ (c.launches ∙ ap length (sym (kept.needs s t e is)));
-  needs = subst (λ (ns : List (List ℕ)). NeedsWithin ns (length t.pages)) (sym (kept.needs s t e is)) (subst (λ (n : ℕ). NeedsWithin s.needs n) (sym (kept.pages s t e is)) c.needs);
+  needs = subst (λ (ns : List (List ℕ)). NeedsWithin ns (length t.pages)) (sym (kept.needs s t e is))
+      (subst (λ (n : ℕ). NeedsWithin s.needs n) (sym (kept.pages s t e is)) c.needs);
 }
 
 -- ---- free pages
 
 -- a place that is free after another one was made so was free before
-pub not_free_at : (xs : List JobState) (j k : ℕ) (x y : JobState) (b : Bool) → eqb k j ≡ b → slice_get xs j ≡ Some x → is_free y ≡ false → slice_get (set xs j y) k ≡ Some Free → slice_get xs k ≡ Some Free
+pub not_free_at : (xs : List JobState) (j k : ℕ) (x y : JobState) (b : Bool) → eqb k j ≡ b → slice_get xs j ≡ Some x → is_free y ≡ false
+    → slice_get (set xs j y) k ≡ Some Free → slice_get xs k ≡ Some Free
 not_free_at xs j k x y true is at taken free =
     let same : k ≡ j = grind (arith, nat_tests) in
     let now : slice_get (set xs j y) k ≡ Some y = ap (slice_get (set xs j y)) same ∙ slice_get-set_same xs j x y at in
@@ -49,7 +51,8 @@ passed_set : (n : ℕ) (xs : List JobState) (j : ℕ) (x y : JobState) → slice
 passed_set n xs j x y at taken before = λ k lt free. before k lt (not_free_at xs j k x y (eqb k j) refl at taken free)
 
 -- a job that is made so, and not free
-passed_job : (f : ℕ) (s : CoreState) (job : JobId) (x y : JobState) → state_of s job ≡ Some x → is_free y ≡ false → Passed f s.pages → Passed f (with_page job y s.pages)
+passed_job : (f : ℕ) (s : CoreState) (job : JobId) (x y : JobState) → state_of s job ≡ Some x → is_free y ≡ false → Passed f s.pages
+    → Passed f (with_page job y s.pages)
 passed_job f s (Page j) x y at taken before = passed_set f s.pages j x y at taken before
 passed_job f s (Launch l) x y at taken before = before
 
@@ -65,7 +68,8 @@ abbrev pub HeldIs : CoreState → ℕ → Option JobId → Type 0
 HeldIs s w None = held_count s w ≡ 0
 HeldIs s w (Some job) = (state_of s job ≡ Some (Held w)) × (held_count s w ≡ 1)
 
-passed_released : (f : ℕ) (s : CoreState) (w : ℕ) (held : Option JobId) → HeldIs s w held → Passed f s.pages → Passed (lowered_page f held) (map (freed w) s.pages)
+passed_released : (f : ℕ) (s : CoreState) (w : ℕ) (held : Option JobId) → HeldIs s w held → Passed f s.pages
+    → Passed (lowered_page f held) (map (freed w) s.pages)
 passed_released f s w None h before = subst (λ (v : CoreState). Passed f v.pages) (released_none s w h) before
 passed_released f s w (Some (Page j)) h before =
     let one : held_count s w ≤ 1 = omega (arith, h.1) in
@@ -76,38 +80,27 @@ passed_released f s w (Some (Launch l)) h before =
 
 -- ---- jobs done
 
-pub done-le : (xs : List JobState) → count_by is_done xs ≤ length xs
-done-le [] = omega arith
-done-le (x ∷ xs) = omega (arith, bit-le (is_done x), done-le xs, sum_by-cons (λ y. cond (is_done y) 1 0) x xs)
-  where
-    bit-le : (b : Bool) → bit b ≤ 1
-    bit-le true = omega arith
-    bit-le false = omega arith
-
-pages_same : (s : CoreState) (job : JobId) (x y : JobState) → state_of s job ≡ Some x → bit (is_done x) ≡ bit (is_done y) → count_by is_done (with_page job y s.pages) ≡ count_by is_done s.pages
+pages_same : (s : CoreState) (job : JobId) (x y : JobState) → state_of s job ≡ Some x → bit (is_done x) ≡ bit (is_done y)
+    → count_by is_done (with_page job y s.pages) ≡ count_by is_done s.pages
 pages_same s (Page j) x y at same = omega (arith, same, sum_by-slice_set (λ z. cond (is_done z) 1 0) s.pages j x y at)
 pages_same s (Launch l) x y at same = refl
 
-launches_same : (s : CoreState) (job : JobId) (x y : JobState) → state_of s job ≡ Some x → bit (is_done x) ≡ bit (is_done y) → count_by is_done (with_launch job y s.launches) ≡ count_by is_done s.launches
+launches_same : (s : CoreState) (job : JobId) (x y : JobState) → state_of s job ≡ Some x → bit (is_done x) ≡ bit (is_done y)
+    → count_by is_done (with_launch job y s.launches) ≡ count_by is_done s.launches
 launches_same s (Page j) x y at same = refl
 launches_same s (Launch l) x y at same = omega (arith, same, sum_by-slice_set (λ z. cond (is_done z) 1 0) s.launches l x y at)
 
 -- none is left where all are done
 all_or_fewer : (xs : List JobState) (b : Bool) → list_all is_done xs ≡ b → (count_by is_done xs == length xs) ≡ b
 all_or_fewer xs true all = let is = all_done_count xs all in grind (arith, nat_tests, is)
-  where
-    all_done_count : (ys : List JobState) → list_all is_done ys ≡ true → count_by is_done ys ≡ length ys
-    all_done_count [] h = refl
-    all_done_count (y ∷ ys) h =
-        let q = and_parts (is_done y) (list_all is_done ys) h in
-        omega (arith, ap bit q.0, all_done_count ys q.1, sum_by-cons (λ z. cond (is_done z) 1 0) y ys)
 all_or_fewer xs false all = let is = open_count xs all in grind (arith, nat_tests, is)
   where
-    open_at : (y : JobState) (ys : List JobState) (b : Bool) → is_done y ≡ b → list_all is_done (y ∷ ys) ≡ false → (list_all is_done ys ≡ false → count_by is_done ys < length ys) → count_by is_done (y ∷ ys) < length (y ∷ ys)
+    open_at : (y : JobState) (ys : List JobState) (b : Bool) → is_done y ≡ b → list_all is_done (y ∷ ys) ≡ false
+        → (list_all is_done ys ≡ false → count_by is_done ys < length ys) → count_by is_done (y ∷ ys) < length (y ∷ ys)
     open_at y ys true is h more =
         let rest = more (sym (ap (λ (c : Bool). c && list_all is_done ys) is) ∙ h) in
         omega (arith, ap bit is, rest, sum_by-cons (λ z. cond (is_done z) 1 0) y ys)
-    open_at y ys false is h more = omega (arith, ap bit is, done-le ys, sum_by-cons (λ z. cond (is_done z) 1 0) y ys)
+    open_at y ys false is h more = omega (arith, ap bit is, count_by-le-length is_done ys, sum_by-cons (λ z. cond (is_done z) 1 0) y ys)
 
     open_count : (ys : List JobState) → list_all is_done ys ≡ false → count_by is_done ys < length ys
     open_count [] h = cc
@@ -156,7 +149,7 @@ put_page_left p s t w j is left =
     let gives = kept.put_says s t w (Page j) is in
     let more : count_by is_done t.pages ≡ count_by is_done s.pages + 1 =
     ap (λ (v : CoreState). count_by is_done v.pages) gives.2 ∙ omega (arith, sum_by-slice_set (λ z. cond (is_done z) 1 0) s.pages j (Held w) Done gives.1) in
-    (more, omega (arith, more, left, done-le t.pages, kept.pages s t (Put w (Page j)) is))
+    (more, omega (arith, more, left, count_by-le-length is_done t.pages, kept.pages s t (Put w (Page j)) is))
 
 pub marks_put_page : (f p q : ℕ) (s t : CoreState) (w j : ℕ) → core_step s (Put w (Page j)) ≡ Ok t → Marks f p q s → (1 ≤ p) × Marks f (p - 1) q t
 marks_put_page f p q s t w j is m =
@@ -174,8 +167,9 @@ put_launch_left : (q : ℕ) (s t : CoreState) (w l : ℕ) → core_step s (Put w
 put_launch_left q s t w l is left =
     let gives = kept.put_says s t w (Launch l) is in
     let more : count_by is_done t.launches ≡ count_by is_done s.launches + 1 =
-    ap (λ (v : CoreState). count_by is_done v.launches) gives.2 ∙ omega (arith, sum_by-slice_set (λ z. cond (is_done z) 1 0) s.launches l (Held w) Done gives.1) in
-    (more, omega (arith, more, left, done-le t.launches, kept.launches s t (Put w (Launch l)) is))
+    ap (λ (v : CoreState). count_by is_done v.launches) gives.2
+    ∙ omega (arith, sum_by-slice_set (λ z. cond (is_done z) 1 0) s.launches l (Held w) Done gives.1) in
+    (more, omega (arith, more, left, count_by-le-length is_done t.launches, kept.launches s t (Put w (Launch l)) is))
 
 pub marks_put_launch : (f p q : ℕ) (s t : CoreState) (w l : ℕ) → core_step s (Put w (Launch l)) ≡ Ok t → Marks f p q s → (1 ≤ q) × Marks f p (q - 1) t
 marks_put_launch f p q s t w l is m =
@@ -233,11 +227,13 @@ core_fresh (suc n) pages needs some few within = record {
 
 -- ---- a take
 
-pub taken_kept : {U : Type 0} (f p q : ℕ) (s t : CoreState) (w : ℕ) (job : JobId) (r : Result U CoreFault) → Matches (λ u. t) r (core_step s (Take w job)) → OnErr r (t ≡ s)
+pub taken_kept : {U : Type 0} (f p q : ℕ) (s t : CoreState) (w : ℕ) (job : JobId) (r : Result U CoreFault) → Matches (λ u. t) r (core_step s (Take w job))
+    → OnErr r (t ≡ s)
     → IsCore s × Marks f p q s → IsCore t × Marks f p q t
 taken_kept f p q s t w job (Ok u) is same m = (core_next s t (Take w job) is m.0, marks_take f p q s t w job is m.1)
 taken_kept f p q s t w job (Err e) is same m = subst (λ (u : CoreState). IsCore u × Marks f p q u) (sym same) m
 
-pub held_is_job : (s : CoreState) (w : ℕ) (held : Option JobId) → IfSome held (λ job. state_of s job ≡ Some (Held w)) → held_count s w ≡ held_of held → HeldIs s w held
+pub held_is_job : (s : CoreState) (w : ℕ) (held : Option JobId) → IfSome held (λ job. state_of s job ≡ Some (Held w)) → held_count s w ≡ held_of held
+    → HeldIs s w held
 held_is_job s w None at count = count
 held_is_job s w (Some job) at count = (at, count)

@@ -1,8 +1,10 @@
 -- How counts over job states change with one job, and where a worker's jobs are freed.
-use Rattle.std.proofs.Common.{◌≡◌, ℕ, zero, suc, ◌+◌, ◌*◌, ◌<◌, ◌≤◌, Bool, true, false, cond, eqb, List, [], ◌∷◌, length, set, map, replicate, Some, refl, sym, ap, ◌∙◌, arith}
-use Rattle.std.specs.List.{sum_by, count_by, range_with_len, slice_get}
+use Rattle.std.proofs.Common.{◌≡◌, ℕ, zero, suc, ◌+◌, ◌*◌, ◌<◌, ◌≤◌, Bool, true, false, cond, eqb, List, [], ◌∷◌, length, set, map, replicate, Some, refl, sym}
+use Rattle.std.proofs.Common.{ap, ◌∙◌, arith}
+use Rattle.std.specs.List.{sum_by, count_by, list_all, range_with_len, slice_get}
 use Rattle.std.proofs.lemmas.List.Sums.{sum_by-set, sum_by-cons}
 use Rattle.std.proofs.lemmas.Option.{slice_get_within, get_or_from_slice_get}
+use Rattle.std.proofs.lemmas.Bool.{and_parts}
 use Rattle.std.proofs.lemmas.Bool.Decides.{nat_tests}
 use Rattle.job_board.specs.declared.job.JobId.{JobId}
 use Rattle.job_board.specs.declared.job.JobId.TheVariants.{Page, Launch}
@@ -30,7 +32,8 @@ sum_by-slice_set f xs i x y at =
     ap (λ z. sum_by f (set xs i y) + f z) (sym is) ∙ sum_by-set f xs i y x within
 
 -- one job changes
-pub total-with_job : (f : JobState → ℕ) (s : CoreState) (job : JobId) (x y : JobState) → state_of s job ≡ Some x → total f (with_job s job y) + f x ≡ total f s + f y
+pub total-with_job : (f : JobState → ℕ) (s : CoreState) (job : JobId) (x y : JobState) → state_of s job ≡ Some x
+    → total f (with_job s job y) + f x ≡ total f s + f y
 total-with_job f s (Page j) x y at = omega (arith, sum_by-slice_set f s.pages j x y at)
 total-with_job f s (Launch l) x y at = omega (arith, sum_by-slice_set f s.launches l x y at)
 
@@ -53,17 +56,20 @@ freed-held w v Done = omega arith
 pub sum-freed_weight : (w : ℕ) (xs : List JobState) → sum_by weight (map (freed w) xs) + count_by (is_held_by w) xs ≡ sum_by weight xs
 sum-freed_weight w [] = refl
 sum-freed_weight w (x ∷ xs) =
-    omega (arith, freed-weight w x, sum-freed_weight w xs, sum_by-cons weight (freed w x) (map (freed w) xs), sum_by-cons weight x xs, sum_by-cons (λ y. cond (is_held_by w y) 1 0) x xs)
+    omega (arith, freed-weight w x, sum-freed_weight w xs, sum_by-cons weight (freed w x) (map (freed w) xs), sum_by-cons weight x xs,
+    sum_by-cons (λ y. cond (is_held_by w y) 1 0) x xs)
 
 pub sum-freed_done : (w : ℕ) (xs : List JobState) → count_by is_done (map (freed w) xs) ≡ count_by is_done xs
 sum-freed_done w [] = refl
 sum-freed_done w (x ∷ xs) =
-    omega (arith, freed-done w x, sum-freed_done w xs, sum_by-cons (λ y. cond (is_done y) 1 0) (freed w x) (map (freed w) xs), sum_by-cons (λ y. cond (is_done y) 1 0) x xs)
+    omega (arith, freed-done w x, sum-freed_done w xs, sum_by-cons (λ y. cond (is_done y) 1 0) (freed w x) (map (freed w) xs),
+    sum_by-cons (λ y. cond (is_done y) 1 0) x xs)
 
 pub sum-freed_held : (w v : ℕ) (xs : List JobState) → count_by (is_held_by v) (map (freed w) xs) ≤ count_by (is_held_by v) xs
 sum-freed_held w v [] = omega arith
 sum-freed_held w v (x ∷ xs) =
-    omega (arith, freed-held w v x, sum-freed_held w v xs, sum_by-cons (λ y. cond (is_held_by v y) 1 0) (freed w x) (map (freed w) xs), sum_by-cons (λ y. cond (is_held_by v y) 1 0) x xs)
+    omega (arith, freed-held w v x, sum-freed_held w v xs, sum_by-cons (λ y. cond (is_held_by v y) 1 0) (freed w x) (map (freed w) xs),
+    sum_by-cons (λ y. cond (is_held_by v y) 1 0) x xs)
 
 weight-le : (x : JobState) → weight x ≤ 2
 weight-le Free = omega arith
@@ -81,6 +87,13 @@ sum_by-replicate_zero f (suc n) x none = omega (arith, none, sum_by-replicate_ze
 pub sum_by-zero : {X : Type 0} (xs : List X) → sum_by (λ (x : X). 0) xs ≡ 0
 sum_by-zero [] = refl
 sum_by-zero (x ∷ xs) = omega (arith, sum_by-zero xs, sum_by-cons (λ y. 0) x xs)
+
+-- where all jobs are done, as many are
+pub all_done_count : (xs : List JobState) → list_all is_done xs ≡ true → count_by is_done xs ≡ length xs
+all_done_count [] all = refl
+all_done_count (x ∷ xs) all =
+    let each = and_parts (is_done x) (list_all is_done xs) all in
+    omega (arith, ap bit each.0, all_done_count xs each.1, sum_by-cons (λ y. bit (is_done y)) x xs)
 
 -- of the numbers below n, just one is v, if v is below n
 one_from_past : (v a n : ℕ) → v < a → sum_by (λ w. cond (eqb v w) 1 0) (range_with_len a n) ≡ 0

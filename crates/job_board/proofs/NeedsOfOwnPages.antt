@@ -1,13 +1,16 @@
 -- The pages that launches need are those of their own plans.
-use Rattle.std.proofs.Common.{◌≡◌, ℕ, zero, suc, ◌+◌, ◌-◌, ◌<◌, ◌≤◌, ◌^◌, Bool, true, false, not, List, [], ◌∷◌, ◌++◌, length, get_or, map, take, Option, Some, None, refl, sym, ap, ◌∙◌, subst, arith, inl, inr}
+use Rattle.std.proofs.Common.{◌≡◌, ℕ, zero, suc, ◌+◌, ◌-◌, ◌<◌, ◌≤◌, ◌^◌, Bool, true, false, not, List, [], ◌∷◌, ◌++◌, length, get_or, is_some, map, take}
+use Rattle.std.proofs.Common.{Option, Some, None, refl, sym, ap, ◌∙◌, subst, arith, inl, inr}
 use Rattle.std.specs.Prelude.{◌==◌, ◌⊎◌, if◌then◌else◌}
 use Rattle.std.specs.List.{All, Contains, flat_map, list_all, range_with_len, slice_get}
 use Rattle.std.specs.List.Sorted.{IsPermutation}
 use Rattle.std.proofs.lemmas.List.{append-nil, append_assoc}
-use Rattle.std.proofs.lemmas.List.Elements.{All-append, All-cons, All-contains, All-contains_itself, All-head, All-nil, All-tail, Contains-append_cases, Contains-append_left, Contains-append_right, Contains-get_or}
+use Rattle.std.proofs.lemmas.List.Elements.{All-append, All-cons, All-contains, All-contains_itself, All-nil, Contains-append_cases}
+use Rattle.std.proofs.lemmas.List.Elements.{Contains-append_left, Contains-append_right, Contains-get_or}
+use Rattle.std.proofs.lemmas.List.Folds.{list_all_at}
 use Rattle.std.proofs.lemmas.List.FromFn.{get_or-map-range_with_len, get_or-range_with_len, length-map-range_with_len, length-range_with_len}
 use Rattle.std.proofs.lemmas.List.Sorted.{All-permutation, Contains-permutation}
-use Rattle.std.proofs.lemmas.Bool.{cases_Bool, cases_eq, cases_lt, eq-eqb, ne_eqb}
+use Rattle.std.proofs.lemmas.Bool.{cases_Bool, cases_eq, cases_lt, eq-eqb, ne_eqb, true≢false}
 use Rattle.std.proofs.lemmas.Bool.Decides.{nat_tests}
 use Rattle.std.proofs.lemmas.Option.{get_or_from_slice_get, none-some, slice_get_within, same_Some}
 use Rattle.page_jobs.specs.Key.{IsRising}
@@ -15,6 +18,7 @@ use Rattle.page_jobs.specs.Page.{PageView}
 use Rattle.page_jobs.specs.Table.{IsTable, TableView, page_keys_of as page_keys, slot_of}
 use Rattle.page_jobs.specs.declared.page.PageKey.{PageKey}
 use Rattle.page_jobs.proofs.SearchByKey.{slot-page}
+use Rattle.page_jobs.proofs.SlotOfNextPage.{slots-there}
 use Rattle.rim_chain.specs.Fitting.{BeginsItem}
 use Rattle.rim_chain.specs.Links.{PlanView, key_after, keys_in, keys_of}
 use Rattle.rim_chain.specs.declared.link.Link.{Link}
@@ -26,7 +30,7 @@ use Rattle.job_board.specs.declared.reaches.PageGroup.{PageGroup}
 use Rattle.job_board.specs.inside.Reaches.{AreGroups, reach_needs}
 use Rattle.job_board.specs.inside.OwnStretches.{link_stretches, plan_stretches, stretch_at, stretches_from}
 use Rattle.job_board.proofs.GroupsOfStretches.{grouped_are}
-use Rattle.job_board.proofs.SlotsInARow.{has_slot, slots_follow}
+use Rattle.job_board.proofs.SlotsInARow.{page_in, slots_follow}
 
 -- ---- a stretch has pages of its launch's plan
 
@@ -37,14 +41,13 @@ pub record IsOwn (pages : List PageView) (plans : List PlanView) (s : Stretch) :
   pub at : slice_get plans s.launch ≡ Some plan
   pub own : (n : ℕ) → n < s.count → (u : PageView) × (slice_get pages (s.first + n) ≡ Some u) × (u.key.number ≡ n) × Contains (keys_of plan.links) u.key
 
--- a stretch of a launch has the page of a key
-pub record HasPage (pages : List PageView) (ss : List Stretch) (l : ℕ) (key : PageKey) : Type 0 where
-  pub stretch : Stretch
-  pub there : Contains ss stretch
-  pub launch : stretch.launch ≡ l
-  pub place : ℕ
-  pub within : place < stretch.count
-  pub slot : slot_of pages key ≡ Some (stretch.first + place)
+-- a stretch of a launch has the slot of a key
+abbrev pub HasSlot : List PageView → ℕ → PageKey → Stretch → Type 0
+HasSlot pages l key s = (j : ℕ) × (slot_of pages key ≡ Some j) × Contains (own_pages l s) j
+
+-- one of some stretches is of a launch and has the page of a key
+abbrev pub HasPage : List PageView → List Stretch → ℕ → PageKey → Type 0
+HasPage pages ss l key = (s : Stretch) × Contains ss s × HasSlot pages l key s
 
 after_at : (key : PageKey) (count n : ℕ) (d : PageKey) → n < count → get_or (map (key_after key) (range_with_len 0 count)) n d ≡ key_after key n
 after_at key count n d lt = get_or-map-range_with_len (key_after key) 0 count n n d lt (omega arith)
@@ -55,40 +58,61 @@ after_in key count n lt = (n, omega (arith, lt, length-map-range_with_len (key_a
 first_key : (key : PageKey) → key_after key 0 ≡ key
 first_key key = let e : key.number + 0 ≡ key.number = omega arith in ap (λ (n : ℕ). let k : PageKey = record key { number = n } in k) e
 
-sooner : (pages : List PageView) (ss others : List Stretch) (l : ℕ) (key : PageKey) → HasPage pages ss l key → HasPage pages (ss ++ others) l key
-sooner pages ss others l key has = record {
-  stretch = has.stretch;
-  there = Contains-append_left ss others has.stretch has.there;
-  launch = has.launch;
-  place = has.place;
-  within = has.within;
-  slot = has.slot;
-}
+-- ---- lists that are joined have what one of them has
 
-after : (pages : List PageView) (ss others : List Stretch) (l : ℕ) (key : PageKey) → HasPage pages others l key → HasPage pages (ss ++ others) l key
-after pages ss others l key has = record {
-  stretch = has.stretch;
-  there = Contains-append_right ss others has.stretch has.there;
-  launch = has.launch;
-  place = has.place;
-  within = has.within;
-  slot = has.slot;
-}
+module _ {X Y : Type 0} (f : X → List Y) where
+  joined_has : (xs : List X) (x : X) (y : Y) → Contains xs x → Contains (f x) y → Contains (flat_map f xs) y
+  joined_has [] x y there has = absurd (omega (arith, there.1))
+  joined_has (first ∷ xs) x y (zero, lt, at) has = Contains-append_left (f first) (flat_map f xs) y (subst (λ (z : X). Contains (f z) y) (sym at) has)
+  joined_has (first ∷ xs) x y (suc k, lt, at) has = Contains-append_right (f first) (flat_map f xs) y (joined_has xs x y (k, omega (arith, lt), at) has)
 
-prefix : {X : Type 0} (P : X → Type 0) (xs ys : List X) → All P (xs ++ ys) → All P xs
-prefix P xs ys all = λ k d lt. All-contains P (xs ++ ys) (get_or xs k d) all (Contains-append_left xs ys (get_or xs k d) (Contains-get_or xs k d lt))
+  joined_from : (xs : List X) (y : Y) → Contains (flat_map f xs) y → (x : X) × Contains xs x × Contains (f x) y
+  joined_from [] y has = absurd (omega (arith, has.1))
+  joined_from (first ∷ xs) y has = by (joined_from xs y) (Contains-append_cases (f first) (flat_map f xs) y has)
+    where
+      by : (Contains (flat_map f xs) y → (x : X) × Contains xs x × Contains (f x) y) → Contains (f first) y ⊎ Contains (flat_map f xs) y
+          → (x : X) × Contains (first ∷ xs) x × Contains (f x) y
+      by others (inl here) = (first, (0, omega arith, refl), here)
+      by others (inr later) = let rest = others later in (rest.0, (suc rest.1.0, omega (arith, rest.1.1), rest.1.2), rest.2)
 
-back : {X : Type 0} (P : X → Type 0) (xs ys : List X) → All P (xs ++ ys) → All P ys
-back P xs ys all = λ k d lt. All-contains P (xs ++ ys) (get_or ys k d) all (Contains-append_right xs ys (get_or ys k d) (Contains-get_or ys k d lt))
+  joined_each : (P : Y → Type 0) (xs : List X) (x : X) → All P (flat_map f xs) → Contains xs x → All P (f x)
+  joined_each P xs x all there = λ i d lt.
+      All-contains P (flat_map f xs) (get_or (f x) i d) all (joined_has xs x (get_or (f x) i d) there (Contains-get_or (f x) i d lt))
 
+-- ---- the pages of a launch's stretch
+
+chosen : (l : ℕ) (s : Stretch) → s.launch ≡ l → own_pages l s ≡ range_with_len s.first s.count
+chosen l s is = rw (eq-eqb s.launch l is) refl
+
+has_place : (l : ℕ) (s : Stretch) (n : ℕ) → s.launch ≡ l → n < s.count → Contains (own_pages l s) (s.first + n)
+has_place l s n is lt =
+    subst (λ (xs : List ℕ). Contains xs (s.first + n)) (sym (chosen l s is))
+    (n, omega (arith, lt, length-range_with_len s.first s.count), get_or-range_with_len s.first s.count n (s.first + n) lt)
+
+place_of : (l : ℕ) (s : Stretch) (j : ℕ) → Contains (own_pages l s) j → (s.launch ≡ l) × (n : ℕ) × (n < s.count) × (s.first + n ≡ j)
+place_of l s j has = by (cases_eq s.launch l)
+  where
+    by : (s.launch ≡ l) ⊎ (s.launch ≡ l → ⊥) → (s.launch ≡ l) × (n : ℕ) × (n < s.count) × (s.first + n ≡ j)
+    by (inl is) =
+        let ranged = subst (λ (xs : List ℕ). Contains xs j) (chosen l s is) has in
+        let lt : ranged.0 < s.count = omega (arith, ranged.1, length-range_with_len s.first s.count) in
+        (is, ranged.0, lt, sym (get_or-range_with_len s.first s.count ranged.0 j lt) ∙ ranged.2)
+    by (inr other) =
+        let none = subst (λ (b : Bool). Contains (if b then range_with_len s.first s.count else []) j) (ne_eqb s.launch l other) has in
+        absurd (omega (arith, none.1))
+
+-- ---- the pages of a link
 -- ---- the pages of a link
 
 module _ (pages : List PageView) (rising : IsRising (page_keys pages)) (plans : List PlanView) (l : ℕ) (p : PlanView) (plan : slice_get plans l ≡ Some p) where
-  has_keys : (key : PageKey) (count : ℕ) → All (Contains (page_keys pages)) (map (key_after key) (range_with_len 0 count)) → (n : ℕ) → n < count → Contains (page_keys pages) (key_after key n)
-  has_keys key count has n lt = All-contains (Contains (page_keys pages)) (map (key_after key) (range_with_len 0 count)) (key_after key n) has (after_in key count n lt)
+  has_keys : (key : PageKey) (count : ℕ) → All (Contains (page_keys pages)) (map (key_after key) (range_with_len 0 count)) → (n : ℕ) → n < count
+      → Contains (page_keys pages) (key_after key n)
+  has_keys key count has n lt =
+      All-contains (Contains (page_keys pages)) (map (key_after key) (range_with_len 0 count)) (key_after key n) has (after_in key count n lt)
 
   pages_own : (key : PageKey) (count : ℕ) → key.number ≡ 0 → All (Contains (page_keys pages)) (map (key_after key) (range_with_len 0 count))
-      → All (Contains (keys_of p.links)) (map (key_after key) (range_with_len 0 count)) → (o : Option ℕ) → slot_of pages key ≡ o → All (IsOwn pages plans) (stretch_at l count o)
+      → All (Contains (keys_of p.links)) (map (key_after key) (range_with_len 0 count)) → (o : Option ℕ) → slot_of pages key ≡ o
+      → All (IsOwn pages plans) (stretch_at l count o)
   pages_own key count begins has among None at = All-nil (IsOwn pages plans)
   pages_own key count begins has among (Some j) at = by_count (cases_Bool (count == 0))
     where
@@ -100,25 +124,30 @@ module _ (pages : List PageView) (rising : IsRising (page_keys pages)) (plans : 
         at = plan;
         own = λ n lt.
             let slot = slots_follow pages rising key j count at (has_keys key count has) n lt in
-            let here = has_slot pages rising (key_after key n) (has_keys key count has n lt) in
-            let same : here.slot ≡ j + n = same_Some here.slot (j + n) (sym here.is ∙ slot) in
-            let number : here.page.key.number ≡ n = ap (λ (k : PageKey). k.number) here.own ∙ omega (arith, begins) in
-            let one = All-contains (Contains (keys_of p.links)) (map (key_after key) (range_with_len 0 count)) (key_after key n) among (after_in key count n lt) in
-            (here.page, ap (slice_get pages) (sym same) ∙ here.at, number, subst (Contains (keys_of p.links)) (sym here.own) one);
+            let here = page_in pages (key_after key n) (j + n) slot in
+            let number : here.0.key.number ≡ n = ap (λ (k : PageKey). k.number) here.2 ∙ omega (arith, begins) in
+            let one =
+            All-contains (Contains (keys_of p.links)) (map (key_after key) (range_with_len 0 count)) (key_after key n) among (after_in key count n lt) in
+            (here.0, here.1, number, subst (Contains (keys_of p.links)) (sym here.2) one);
       }) (All-nil (IsOwn pages plans)))
 
-  link_own : (k : Link) → BeginsItem k → All (Contains (page_keys pages)) (keys_in k) → All (Contains (keys_of p.links)) (keys_in k) → All (IsOwn pages plans) (link_stretches pages l k)
+  link_own : (k : Link) → BeginsItem k → All (Contains (page_keys pages)) (keys_in k) → All (Contains (keys_of p.links)) (keys_in k)
+      → All (IsOwn pages plans) (link_stretches pages l k)
   link_own (Blocks base size count) begins has among = All-nil (IsOwn pages plans)
   link_own (Pages ipa key count) begins has among = pages_own key count begins has among (slot_of pages key) refl
   link_own (Unmeasured ipa count) begins has among = All-nil (IsOwn pages plans)
   link_own (Rec content) begins has among = All-nil (IsOwn pages plans)
 
-  links_own : (ks : List Link) → All BeginsItem ks → All (Contains (page_keys pages)) (keys_of ks) → All (Contains (keys_of p.links)) (keys_of ks) → All (IsOwn pages plans) (flat_map (link_stretches pages l) ks)
-  links_own [] begin has among = All-nil (IsOwn pages plans)
-  links_own (k ∷ ks) begin has among =
-      All-append (IsOwn pages plans) (link_stretches pages l k) (flat_map (link_stretches pages l) ks)
-      (link_own k (All-head BeginsItem k ks begin) (prefix (Contains (page_keys pages)) (keys_in k) (keys_of ks) has) (prefix (Contains (keys_of p.links)) (keys_in k) (keys_of ks) among))
-      (links_own ks (All-tail BeginsItem k ks begin) (back (Contains (page_keys pages)) (keys_in k) (keys_of ks) has) (back (Contains (keys_of p.links)) (keys_in k) (keys_of ks) among))
+  links_own : (ks : List Link) → All BeginsItem ks → All (Contains (page_keys pages)) (keys_of ks) → All (Contains (keys_of p.links)) (keys_of ks)
+      → All (IsOwn pages plans) (flat_map (link_stretches pages l) ks)
+  links_own ks begin has among = λ i d lt.
+      let all = flat_map (link_stretches pages l) ks in
+      let s = get_or all i d in
+      let link = joined_from (link_stretches pages l) ks s (Contains-get_or all i d lt) in
+      All-contains (IsOwn pages plans) (link_stretches pages l link.0) s
+      (link_own link.0 (All-contains BeginsItem ks link.0 begin link.1)
+      (joined_each keys_in (Contains (page_keys pages)) ks link.0 has link.1)
+      (joined_each keys_in (Contains (keys_of p.links)) ks link.0 among link.1)) link.2
 
   -- ---- and every page is in one
 
@@ -126,20 +155,16 @@ module _ (pages : List PageView) (rising : IsRising (page_keys pages)) (plans : 
       → (n : ℕ) → n < count → (o : Option ℕ) → slot_of pages key ≡ o → HasPage pages (stretch_at l count o) l (key_after key n)
   pages_there key count has n lt None at =
       let some : 0 < count = omega (arith, lt) in
-      let first = has_slot pages rising key (subst (Contains (page_keys pages)) (first_key key) (has_keys key count has 0 some)) in
-      absurd (none-some first.slot (sym at ∙ first.is))
+      let there : is_some (slot_of pages key) ≡ true =
+      (slots-there pages rising key).1 (subst (Contains (page_keys pages)) (first_key key) (has_keys key count has 0 some)) in
+      absurd (true≢false (sym there ∙ ap is_some at))
   pages_there key count has n lt (Some j) at =
       let many : (count == 0) ≡ false = grind (arith, nat_tests) in
-      rw many (record {
-        stretch = record { first = j; count = count; launch = l };
-        there = (0, omega arith, refl);
-        launch = refl;
-        place = n;
-        within = lt;
-        slot = slots_follow pages rising key j count at (has_keys key count has) n lt;
-      })
+      let s : Stretch = record { first = j; count = count; launch = l } in
+      rw many (s, (0, omega arith, refl), (j + n, slots_follow pages rising key j count at (has_keys key count has) n lt, has_place l s n refl lt))
 
-  link_there : (k : Link) → All (Contains (page_keys pages)) (keys_in k) → (key : PageKey) → Contains (keys_in k) key → HasPage pages (link_stretches pages l k) l key
+  link_there : (k : Link) → All (Contains (page_keys pages)) (keys_in k) → (key : PageKey) → Contains (keys_in k) key
+      → HasPage pages (link_stretches pages l k) l key
   link_there (Blocks base size count) has key in_it = absurd (omega (arith, in_it.1))
   link_there (Pages ipa first count) has key in_it =
       let lt : in_it.0 < count = omega (arith, in_it.1, length-map-range_with_len (key_after first) 0 count) in
@@ -148,13 +173,12 @@ module _ (pages : List PageView) (rising : IsRising (page_keys pages)) (plans : 
   link_there (Unmeasured ipa count) has key in_it = absurd (omega (arith, in_it.1))
   link_there (Rec content) has key in_it = absurd (omega (arith, in_it.1))
 
-  links_there : (ks : List Link) → All (Contains (page_keys pages)) (keys_of ks) → (key : PageKey) → Contains (keys_of ks) key → HasPage pages (flat_map (link_stretches pages l) ks) l key
-  links_there [] has key in_it = absurd (omega (arith, in_it.1))
-  links_there (k ∷ ks) has key in_it = by (λ later. links_there ks (back (Contains (page_keys pages)) (keys_in k) (keys_of ks) has) key later) (Contains-append_cases (keys_in k) (keys_of ks) key in_it)
-    where
-      by : (Contains (keys_of ks) key → HasPage pages (flat_map (link_stretches pages l) ks) l key) → Contains (keys_in k) key ⊎ Contains (keys_of ks) key → HasPage pages (flat_map (link_stretches pages l) (k ∷ ks)) l key
-      by rest (inl here) = sooner pages (link_stretches pages l k) (flat_map (link_stretches pages l) ks) l key (link_there k (prefix (Contains (page_keys pages)) (keys_in k) (keys_of ks) has) key here)
-      by rest (inr later) = after pages (link_stretches pages l k) (flat_map (link_stretches pages l) ks) l key (rest later)
+  links_there : (ks : List Link) → All (Contains (page_keys pages)) (keys_of ks) → (key : PageKey) → Contains (keys_of ks) key
+      → HasPage pages (flat_map (link_stretches pages l) ks) l key
+  links_there ks has key in_it =
+      let link = joined_from keys_in ks key in_it in
+      let page = link_there link.0 (joined_each keys_in (Contains (page_keys pages)) ks link.0 has link.1) key link.2 in
+      (page.0, joined_has (link_stretches pages l) ks link.0 page.0 link.1 page.1, page.2)
 
 -- ---- all plans
 
@@ -163,17 +187,20 @@ record ArePlans (pages : List PageView) (plans : List PlanView) (n : ℕ) (ps : 
   begin : (k : ℕ) (p : PlanView) → slice_get ps k ≡ Some p → All BeginsItem p.links
   has : (k : ℕ) (p : PlanView) → slice_get ps k ≡ Some p → All (Contains (page_keys pages)) (keys_of p.links)
 
-next_plans : (pages : List PageView) (plans : List PlanView) (n : ℕ) (p : PlanView) (ps : List PlanView) → ArePlans pages plans n (p ∷ ps) → ArePlans pages plans (n + 1) ps
+next_plans : (pages : List PageView) (plans : List PlanView) (n : ℕ) (p : PlanView) (ps : List PlanView) → ArePlans pages plans n (p ∷ ps)
+    → ArePlans pages plans (n + 1) ps
 next_plans pages plans n p ps are = record {
   at = λ k q at. let place : n + suc k ≡ n + 1 + k = omega arith in ap (slice_get plans) (sym place) ∙ are.at (suc k) q at;
   begin = λ k q at. are.begin (suc k) q at;
   has = λ k q at. are.has (suc k) q at;
 }
 
-first_at : (pages : List PageView) (plans : List PlanView) (n : ℕ) (p : PlanView) (ps : List PlanView) → ArePlans pages plans n (p ∷ ps) → slice_get plans n ≡ Some p
+first_at : (pages : List PageView) (plans : List PlanView) (n : ℕ) (p : PlanView) (ps : List PlanView) → ArePlans pages plans n (p ∷ ps)
+    → slice_get plans n ≡ Some p
 first_at pages plans n p ps are = let place : n ≡ n + 0 = omega arith in ap (slice_get plans) place ∙ are.at 0 p refl
 
-stretches_own : (pages : List PageView) → IsRising (page_keys pages) → (plans : List PlanView) (n : ℕ) (ps : List PlanView) → ArePlans pages plans n ps → All (IsOwn pages plans) (stretches_from pages n ps)
+stretches_own : (pages : List PageView) → IsRising (page_keys pages) → (plans : List PlanView) (n : ℕ) (ps : List PlanView) → ArePlans pages plans n ps
+    → All (IsOwn pages plans) (stretches_from pages n ps)
 stretches_own pages rising plans n [] are = All-nil (IsOwn pages plans)
 stretches_own pages rising plans n (p ∷ ps) are =
     All-append (IsOwn pages plans) (plan_stretches pages n p) (stretches_from pages (n + 1) ps)
@@ -181,18 +208,21 @@ stretches_own pages rising plans n (p ∷ ps) are =
     (stretches_own pages rising plans (n + 1) ps (next_plans pages plans n p ps are))
 
 pages_are_there : (pages : List PageView) → IsRising (page_keys pages) → (plans : List PlanView) (n : ℕ) (ps : List PlanView) → ArePlans pages plans n ps
-    → (k : ℕ) (q : PlanView) → slice_get ps k ≡ Some q → (key : PageKey) → Contains (keys_of q.links) key → HasPage pages (stretches_from pages n ps) (n + k) key
+    → (k : ℕ) (q : PlanView) → slice_get ps k ≡ Some q → (key : PageKey) → Contains (keys_of q.links) key
+    → HasPage pages (stretches_from pages n ps) (n + k) key
 pages_are_there pages rising plans n [] are k q at key in_it = absurd (none-some q at)
 pages_are_there pages rising plans n (p ∷ ps) are zero q at key in_it =
     let same : p ≡ q = same_Some p q at in
     let own = subst (λ (r : PlanView). Contains (keys_of r.links) key) (sym same) in_it in
     let place : n ≡ n + 0 = omega arith in
-    sooner pages (plan_stretches pages n p) (stretches_from pages (n + 1) ps) (n + 0) key
-    (subst (λ (l : ℕ). HasPage pages (plan_stretches pages n p) l key) place (links_there pages rising plans n p (first_at pages plans n p ps are) p.links (are.has 0 p refl) key own))
+    let page = links_there pages rising plans n p (first_at pages plans n p ps are) p.links (are.has 0 p refl) key own in
+    let there = Contains-append_left (plan_stretches pages n p) (stretches_from pages (n + 1) ps) page.0 page.1 in
+    (page.0, there, subst (λ (l : ℕ). HasSlot pages l key page.0) place page.2)
 pages_are_there pages rising plans n (p ∷ ps) are (suc k) q at key in_it =
     let place : n + 1 + k ≡ n + suc k = omega arith in
-    after pages (plan_stretches pages n p) (stretches_from pages (n + 1) ps) (n + suc k) key
-    (subst (λ (l : ℕ). HasPage pages (stretches_from pages (n + 1) ps) l key) place (pages_are_there pages rising plans (n + 1) ps (next_plans pages plans n p ps are) k q at key in_it))
+    let page = pages_are_there pages rising plans (n + 1) ps (next_plans pages plans n p ps are) k q at key in_it in
+    let there = Contains-append_right (plan_stretches pages n p) (stretches_from pages (n + 1) ps) page.0 page.1 in
+    (page.0, there, subst (λ (l : ℕ). HasSlot pages l key page.0) place page.2)
 
 -- ---- in order
 
@@ -210,12 +240,15 @@ abbrev pub AreRising : List Stretch → Type 0
 AreRising ss = (k : ℕ) (d : Stretch) → k + 1 < length ss → Rises (get_or ss k d) (get_or ss (k + 1) d)
 
 rising_pairs : (ss : List Stretch) → AreRising ss → (d : Stretch) (i n : ℕ) → i + 1 + n < length ss → Rises (get_or ss i d) (get_or ss (i + 1 + n) d)
-rising_pairs ss rising d i zero lt = let place : i + 1 ≡ i + 1 + 0 = omega arith in subst (λ (k : ℕ). Rises (get_or ss i d) (get_or ss k d)) place (rising i d (omega (arith, lt)))
+rising_pairs ss rising d i zero lt =
+    let place : i + 1 ≡ i + 1 + 0 = omega arith in
+    subst (λ (k : ℕ). Rises (get_or ss i d) (get_or ss k d)) place (rising i d (omega (arith, lt)))
 rising_pairs ss rising d i (suc n) lt =
     let place : i + 1 + n + 1 ≡ i + 1 + suc n = omega arith in
     let before = rising_pairs ss rising d i n (omega (arith, lt)) in
     let here = rising (i + 1 + n) d (omega (arith, lt)) in
-    subst (λ (k : ℕ). Rises (get_or ss i d) (get_or ss k d)) place (rises_on (get_or ss i d) (get_or ss (i + 1 + n) d) (get_or ss (i + 1 + n + 1) d) before here)
+    subst (λ (k : ℕ). Rises (get_or ss i d) (get_or ss k d)) place
+    (rises_on (get_or ss i d) (get_or ss (i + 1 + n) d) (get_or ss (i + 1 + n + 1) d) before here)
 
 -- of two stretches of pages that begin at different pages the first ends before the other, since that begins with number 0
 own_precedes : (pages : List PageView) (plans : List PlanView) (a b : Stretch) → IsOwn pages plans a → IsOwn pages plans b → Rises a b → Precedes a b
@@ -234,14 +267,16 @@ own_precedes pages plans a b own other (inl lt) = by (cases_lt b.first (a.first 
         let number : mine.0.key.number ≡ theirs.0.key.number = ap (λ (u : PageView). u.key.number) same in
         absurd (omega (arith, number, mine.2, theirs.2, lt))
 
-own_within : (pages : List PageView) (plans : List PlanView) (s : Stretch) → IsOwn pages plans s → (s.first + s.count ≤ length pages) × (0 < s.count) × (s.launch < length plans)
+own_within : (pages : List PageView) (plans : List PlanView) (s : Stretch) → IsOwn pages plans s
+    → (s.first + s.count ≤ length pages) × (0 < s.count) × (s.launch < length plans)
 own_within pages plans s own =
     let some = own.some in
     let last = own.own (s.count - 1) (omega (arith, some)) in
     let within = slice_get_within pages (s.first + (s.count - 1)) last.0 last.1 in
     (omega (arith, some, within), some, slice_get_within plans s.launch own.plan own.at)
 
-pub are_stretches : (pages : List PageView) (plans : List PlanView) (ss : List Stretch) → All (IsOwn pages plans) ss → AreRising ss → AreStretches (length pages) (length plans) ss
+pub are_stretches : (pages : List PageView) (plans : List PlanView) (ss : List Stretch) → All (IsOwn pages plans) ss → AreRising ss
+    → AreStretches (length pages) (length plans) ss
 are_stretches pages plans ss own rising = record {
   each = λ k s at. own_within pages plans s (own_at k s at);
   order = λ i k a s lt aat sat.
@@ -251,7 +286,8 @@ are_stretches pages plans ss own rising = record {
       let pair = rising_pairs ss rising a i n (omega (arith, place, within)) in
       let first : get_or ss i a ≡ a = get_or_from_slice_get ss i a a aat in
       let second : get_or ss (i + 1 + n) a ≡ s = ap (λ (m : ℕ). get_or ss m a) place ∙ get_or_from_slice_get ss k s a sat in
-      own_precedes pages plans a s (own_at i a aat) (own_at k s sat) (subst (λ (x : Stretch). Rises x s) first (subst (λ (x : Stretch). Rises (get_or ss i a) x) second pair));
+      own_precedes pages plans a s (own_at i a aat) (own_at k s sat)
+      (subst (λ (x : Stretch). Rises x s) first (subst (λ (x : Stretch). Rises (get_or ss i a) x) second pair));
 }
   where
     own_at : (k : ℕ) (s : Stretch) → slice_get ss k ≡ Some s → IsOwn pages plans s
@@ -274,68 +310,7 @@ found j (x ∷ xs) falls = by (found j xs) (cases_eq x j)
         (suc rest.0, omega (arith, rest.1), rest.2)
 
 not_passed : (j : ℕ) (xs : List ℕ) → Contains xs j → list_all (other_than j) xs ≡ false
-not_passed j [] has = absurd (omega (arith, has.1))
-not_passed j (x ∷ xs) (zero, lt, at) = rw (ap not (eq-eqb x j at)) refl
-not_passed j (x ∷ xs) (suc k, lt, at) = by (not_passed j xs (k, omega (arith, lt), at)) (other_than j x) refl
-  where
-    by : list_all (other_than j) xs ≡ false → (b : Bool) → other_than j x ≡ b → list_all (other_than j) (x ∷ xs) ≡ false
-    by rest true passed = rw passed rest
-    by rest false falls = rw falls refl
-
--- ---- the pages of a launch's stretches
-
-chosen : (l : ℕ) (s : Stretch) → s.launch ≡ l → own_pages l s ≡ range_with_len s.first s.count
-chosen l s is = rw (eq-eqb s.launch l is) refl
-
-in_own : (l n : ℕ) (ss : List Stretch) (s : Stretch) → Contains ss s → s.launch ≡ l → n < s.count → Contains (flat_map (own_pages l) ss) (s.first + n)
-in_own l n [] s there is lt = absurd (omega (arith, there.1))
-in_own l n (a ∷ ss) s (zero, here, at) is lt =
-    let own : a ≡ s = at in
-    let first : Contains (range_with_len s.first s.count) (s.first + n) = (n, omega (arith, lt, length-range_with_len s.first s.count), get_or-range_with_len s.first s.count n (s.first + n) lt) in
-    Contains-append_left (own_pages l a) (flat_map (own_pages l) ss) (s.first + n)
-    (subst (λ (b : Stretch). Contains (own_pages l b) (s.first + n)) (sym own) (subst (λ (xs : List ℕ). Contains xs (s.first + n)) (sym (chosen l s is)) first))
-in_own l n (a ∷ ss) s (suc k, here, at) is lt =
-    Contains-append_right (own_pages l a) (flat_map (own_pages l) ss) (s.first + n) (in_own l n ss s (k, omega (arith, here), at) is lt)
-
--- a stretch of a launch has a page
-record IsOf (ss : List Stretch) (l j : ℕ) : Type 0 where
-  stretch : Stretch
-  there : Contains ss stretch
-  launch : stretch.launch ≡ l
-  place : ℕ
-  within : place < stretch.count
-  page : j ≡ stretch.first + place
-
-from_own : (l j : ℕ) (ss : List Stretch) → Contains (flat_map (own_pages l) ss) j → IsOf ss l j
-from_own l j [] has = absurd (omega (arith, has.1))
-from_own l j (a ∷ ss) has = by (from_own l j ss) (Contains-append_cases (own_pages l a) (flat_map (own_pages l) ss) j has)
-  where
-    by_launch : (a.launch ≡ l) ⊎ (a.launch ≡ l → ⊥) → Contains (own_pages l a) j → IsOf (a ∷ ss) l j
-    by_launch (inl is) here =
-        let ranged = subst (λ (xs : List ℕ). Contains xs j) (chosen l a is) here in
-        let lt : ranged.0 < a.count = omega (arith, ranged.1, length-range_with_len a.first a.count) in
-        record {
-          stretch = a;
-          there = (0, omega arith, refl);
-          launch = is;
-          place = ranged.0;
-          within = lt;
-          page = sym ranged.2 ∙ get_or-range_with_len a.first a.count ranged.0 j lt;
-        }
-    by_launch (inr other) here =
-        let none = subst (λ (b : Bool). Contains (if b then range_with_len a.first a.count else []) j) (ne_eqb a.launch l other) here in
-        absurd (omega (arith, none.1))
-
-    by : (Contains (flat_map (own_pages l) ss) j → IsOf ss l j) → Contains (own_pages l a) j ⊎ Contains (flat_map (own_pages l) ss) j → IsOf (a ∷ ss) l j
-    by others (inl here) = by_launch (cases_eq a.launch l) here
-    by others (inr later) = let rest = others later in record {
-      stretch = rest.stretch;
-      there = (suc rest.there.0, omega (arith, rest.there.1), rest.there.2);
-      launch = rest.launch;
-      place = rest.place;
-      within = rest.within;
-      page = rest.page;
-    }
+not_passed j xs has = list_all_at (other_than j) xs has.0 j has.1 (ap not (eq-eqb (get_or xs has.0 j) j has.2))
 
 -- ---- groups with just these stretches
 
@@ -345,17 +320,19 @@ module _ (t : TableView) (table : IsTable t) (plans : List PlanView) (ss : List 
   key_needed : (l : ℕ) (p : PlanView) → slice_get plans l ≡ Some p → (key : PageKey) → Contains (keys_of p.links) key → IsNeeded t (reach_needs gs l) key
   key_needed l p plan key in_it =
       let has = there l p plan key in_it in
-      let j : ℕ = has.stretch.first + has.place in
-      (j, has.slot, found j (reach_needs gs l) (index l (other_than j) ∙ not_passed j (flat_map (own_pages l) ss) (in_own l has.place ss has.stretch has.there has.launch has.within)))
+      let j : ℕ = has.2.0 in
+      let needed = joined_has (own_pages l) ss has.0 j has.1 has.2.2 in
+      (j, has.2.1, found j (reach_needs gs l) (index l (other_than j) ∙ not_passed j (flat_map (own_pages l) ss) needed))
 
   page_own : (l : ℕ) (p : PlanView) → slice_get plans l ≡ Some p → (j : ℕ) → Contains (reach_needs gs l) j → IsOwnPage t (keys_of p.links) j
   page_own l p plan j in_it =
-      let of = from_own l j ss (found j (flat_map (own_pages l) ss) (sym (index l (other_than j)) ∙ not_passed j (reach_needs gs l) in_it)) in
-      let is = All-contains (IsOwn t.pages plans) ss of.stretch own of.there in
-      let page = is.own of.place of.within in
-      let same : is.plan ≡ p = same_Some is.plan p (sym is.at ∙ (ap (slice_get plans) of.launch ∙ plan)) in
-      let slot = slot-page t.pages table.rising (of.stretch.first + of.place) page.0 page.1 in
-      (page.0.key, subst (λ (q : PlanView). Contains (keys_of q.links) page.0.key) same page.3, slot ∙ ap Some (sym of.page))
+      let of = joined_from (own_pages l) ss j (found j (flat_map (own_pages l) ss) (sym (index l (other_than j)) ∙ not_passed j (reach_needs gs l) in_it)) in
+      let place = place_of l of.0 j of.2 in
+      let is = All-contains (IsOwn t.pages plans) ss of.0 own of.1 in
+      let page = is.own place.1 place.2 in
+      let same : is.plan ≡ p = same_Some is.plan p (sym is.at ∙ (ap (slice_get plans) place.0 ∙ plan)) in
+      let slot = slot-page t.pages table.rising (of.0.first + place.1) page.0 page.1 in
+      (page.0.key, subst (λ (q : PlanView). Contains (keys_of q.links) page.0.key) same page.3, slot ∙ ap (λ (n : ℕ). Some n) place.3)
 
   needs_at : (l : ℕ) → l < length plans → get_or (map (reach_needs gs) (range_with_len 0 (length plans))) l [] ≡ reach_needs gs l
   needs_at l lt = get_or-map-range_with_len (reach_needs gs) 0 (length plans) l l [] lt (omega arith)
@@ -403,20 +380,16 @@ module _ (t : TableView) (table : IsTable t) (plans : List PlanView) (ss sorted 
       plan_at P all k p at = subst P (get_or_from_slice_get plans k p p at) (all k p (slice_get_within plans k p at))
 
   own : All (IsOwn t.pages plans) sorted
-  own = All-permutation (IsOwn t.pages plans) ss sorted moved (subst (All (IsOwn t.pages plans)) (sym are) (stretches_own t.pages table.rising plans 0 plans all_plans))
+  own = All-permutation (IsOwn t.pages plans) ss sorted moved
+      (subst (All (IsOwn t.pages plans)) (sym are) (stretches_own t.pages table.rising plans 0 plans all_plans))
 
   there : (l : ℕ) (p : PlanView) → slice_get plans l ≡ Some p → (key : PageKey) → Contains (keys_of p.links) key → HasPage t.pages sorted l key
   there l p plan key in_it =
-      let has = subst (λ (xs : List Stretch). HasPage t.pages xs (0 + l) key) (sym are) (pages_are_there t.pages table.rising plans 0 plans all_plans l p plan key in_it) in
+      let has =
+      subst (λ (xs : List Stretch). HasPage t.pages xs (0 + l) key) (sym are)
+      (pages_are_there t.pages table.rising plans 0 plans all_plans l p plan key in_it) in
       let place : 0 + l ≡ l = omega arith in
-      record {
-        stretch = has.stretch;
-        there = Contains-permutation ss sorted has.stretch moved has.there;
-        launch = has.launch ∙ place;
-        place = has.place;
-        within = has.within;
-        slot = has.slot;
-      }
+      (has.0, Contains-permutation ss sorted has.0 moved has.1, subst (λ (n : ℕ). HasSlot t.pages n key has.0) place has.2)
 
   is_grouped : IsGrouped (length t.pages) (length plans) sorted gs
   is_grouped = grouped (are_stretches t.pages plans sorted own rising)

@@ -1,9 +1,10 @@
 -- No state is stuck, and no launch is taken early.
-use Rattle.std.proofs.Common.{◌≡◌, ℕ, zero, suc, ◌<◌, ◌≤◌, Bool, true, false, cond, eqb, ◌&&◌, List, [], ◌∷◌, length, get_or, replicate, Option, Some, refl, sym, ap, ◌∙◌, subst, arith, inl, inr}
+use Rattle.std.proofs.Common.{◌≡◌, ℕ, zero, suc, ◌<◌, ◌≤◌, Bool, true, false, cond, eqb, ◌&&◌, List, [], ◌∷◌, length, get_or, replicate, Option, Some, refl}
+use Rattle.std.proofs.Common.{sym, ap, ◌∙◌, subst, arith, inl, inr}
 use Rattle.std.specs.Prelude.{◌⊎◌, is_ok, unwrap_or}
 use Rattle.std.specs.List.{All, count_by, slice_get, list_all}
 use Rattle.std.proofs.lemmas.List.{length-replicate}
-use Rattle.std.proofs.lemmas.List.Sums.{get_or-le-sum_by, list_all-from_AllPass}
+use Rattle.std.proofs.lemmas.List.Sums.{AllPass-from_list_all, get_or-le-sum_by, list_all-from_AllPass}
 use Rattle.std.proofs.lemmas.Bool.{and_parts, ne_eqb, true≢false}
 use Rattle.std.proofs.lemmas.Option.{slice_get_within, get_or_from_slice_get}
 use Rattle.std.proofs.lemmas.Bool.Decides.{nat_tests}
@@ -39,7 +40,8 @@ SomeOpen xs = (j : ℕ) × (x : JobState) × (slice_get xs j ≡ Some x) × (is_
 open_later : (x : JobState) (xs : List JobState) → SomeOpen xs → SomeOpen (x ∷ xs)
 open_later x xs r = (suc r.0, r.1, r.2, r.3)
 
-open_at : (x : JobState) (xs : List JobState) (b : Bool) → is_done x ≡ b → list_all is_done (x ∷ xs) ≡ false → (list_all is_done xs ≡ false → SomeOpen xs) → SomeOpen (x ∷ xs)
+open_at : (x : JobState) (xs : List JobState) (b : Bool) → is_done x ≡ b → list_all is_done (x ∷ xs) ≡ false → (list_all is_done xs ≡ false → SomeOpen xs)
+    → SomeOpen (x ∷ xs)
 open_at x xs false is h more = (0, x, refl, is)
 open_at x xs true is h more = open_later x xs (more (sym (ap (λ (b : Bool). b && list_all is_done xs) is) ∙ h))
 
@@ -47,7 +49,8 @@ pub some_open : (xs : List JobState) → list_all is_done xs ≡ false → SomeO
 some_open [] e = absurd (true≢false e)
 some_open (x ∷ xs) e = open_at x xs (is_done x) refl e (λ h. some_open xs h)
 
-take_ok : (s : CoreState) (w : ℕ) (job : JobId) → is_out s w ≡ false → held_count s w ≡ 0 → state_of s job ≡ Some Free → is_ready s job ≡ true → is_accepted s (Take w job) ≡ true
+take_ok : (s : CoreState) (w : ℕ) (job : JobId) → is_out s w ≡ false → held_count s w ≡ 0 → state_of s job ≡ Some Free → is_ready s job ≡ true
+    → is_accepted s (Take w job) ≡ true
 unfolding is_accepted
 take_ok s w job known idle free ready = ap is_ok (take_is s w job known free idle ready)
 
@@ -66,14 +69,9 @@ first_run s (e ∷ es) h at =
     let p = and_parts (is_accepted s e) (is_legal (next_state s e) es) h in
     first_run (next_state s e) es p.1 (first_next s e p.0 at)
 
-all_at : (xs : List JobState) (p : ℕ) → list_all is_done xs ≡ true → p < length xs → is_page_done xs p ≡ true
-all_at [] p all lt = absurd (omega arith)
-all_at (x ∷ xs) zero all lt = (and_parts (is_done x) (list_all is_done xs) all).0
-all_at (x ∷ xs) (suc p) all lt = let lt' : p < length xs = omega arith in all_at xs p (and_parts (is_done x) (list_all is_done xs) all).1 lt'
-
 -- all pages done: any launch is ready
 pub ready_list : (xs : List JobState) (ps : List ℕ) → list_all is_done xs ≡ true → All (λ p. p < length xs) ps → list_all (is_page_done xs) ps ≡ true
-ready_list xs ps all within = list_all-from_AllPass (is_page_done xs) ps (λ k d lt. all_at xs (get_or ps k d) all (within k d lt))
+ready_list xs ps all within = list_all-from_AllPass (is_page_done xs) ps (λ k d lt. AllPass-from_list_all is_done xs all (get_or ps k d) Free (within k d lt))
 
 pub needs_at : (P : ℕ → Type 0) (needs : List (List ℕ)) (l : ℕ) → All (All P) needs → All P (get_or needs l [])
 needs_at P [] l h = λ k d lt. absurd (omega (arith, lt))
@@ -100,7 +98,8 @@ free_now s known none within true false pages launches more =
     (Launch o.0, take_ok s 0 (Launch o.0) known (none 0) (o.2 ∙ ap Some free) ready)
 free_now s known none within true true pages launches more = cc
 
-pub not_stuck : (workers pages : ℕ) (needs : List (List ℕ)) (es : List Event) → 1 ≤ workers → NeedsWithin needs pages → is_legal (opening workers pages needs) es ≡ true
+pub not_stuck : (workers pages : ℕ) (needs : List (List ℕ)) (es : List Event) → 1 ≤ workers → NeedsWithin needs pages
+    → is_legal (opening workers pages needs) es ≡ true
     → ((w : ℕ) → held_count (replay (opening workers pages needs) es) w ≡ 0) → is_over (replay (opening workers pages needs) es) ≡ false
     → (job : JobId) × (is_accepted (replay (opening workers pages needs) es) (Take 0 job) ≡ true)
 not_stuck workers pages needs es some within legal none more =

@@ -1,12 +1,13 @@
 -- A row of a table's digests is the row of a run's own pages, so a launch chains to its own value.
-use Rattle.std.proofs.Common.{◌≡◌, ℕ, zero, suc, ◌<◌, true, List, [], ◌∷◌, ◌++◌, length, map, take, drop, Option, Some, None, is_some, refl, sym, ap, ◌∙◌, subst, arith}
+use Rattle.std.proofs.Common.{◌≡◌, ℕ, true, List, [], ◌∷◌, ◌++◌, length, map, take, drop, Option, Some, None, is_some, refl, sym, ap, ◌∙◌}
+use Rattle.std.proofs.Common.{subst, arith, inl, inr}
 use Rattle.std.specs.Prelude.{IfNone, IfSome, option_and_then, option_map}
 use Rattle.std.specs.List.{slice_get}
 use Rattle.std.proofs.lemmas.Bool.{and_parts}
 use Rattle.std.proofs.lemmas.List.{take-append-drop}
 use Rattle.std.proofs.lemmas.List.Concat.{flat_map-append}
 use Rattle.std.proofs.lemmas.List.Folds.{list_all-append}
-use Rattle.std.proofs.lemmas.Option.{same_Some, slice_get_within}
+use Rattle.std.proofs.lemmas.Option.{same_Some, slice_get_cases, slice_get_within}
 use Rattle.rim_desc.specs.declared.measurement.Measurement.{Measurement}
 use Rattle.page_jobs.specs.Page.{PageView, digest_of}
 use Rattle.page_jobs.specs.Table.{IsTable, TableView, digest_at, digest_in, slot_of}
@@ -18,11 +19,6 @@ use Rattle.rim_chain.specs.Rows.{HaveFirstPages, IsRowOf, has_all}
 use Rattle.job_board.specs.Tasks.{IsOwnLaunch, IsOwnRow, IsOwnValue, digest_among}
 use Rattle.job_board.specs.inside.Rows.{AreDigestsFor}
 
-page_there : (pages : List PageView) (k : ℕ) → k < length pages → (p : PageView) × (slice_get pages k ≡ Some p)
-page_there [] k lt = absurd (omega (arith, lt))
-page_there (p ∷ pages) zero lt = (p, refl)
-page_there (p ∷ pages) (suc k) lt = page_there pages k (omega (arith, lt))
-
 same_bytes : (m d : Measurement) → m.bytes ≡ d.bytes → m ≡ d
 same_bytes m d same = ap (λ bytes. let n : Measurement = record { bytes = bytes } in n) same
 
@@ -30,15 +26,17 @@ module _ (t : TableView) (table : IsTable t) where
   slot_own : (j : ℕ) (d : Measurement) → digest_in t j ≡ Some d → option_map digest_of (slice_get t.pages j) ≡ Some d.bytes
   slot_own j d at = by (slice_get t.digests j) refl at
     where
-      by : (o : Option (Option Measurement)) → slice_get t.digests j ≡ o → option_and_then (λ slot. slot) o ≡ Some d → option_map digest_of (slice_get t.pages j) ≡ Some d.bytes
+      by : (o : Option (Option Measurement)) → slice_get t.digests j ≡ o → option_and_then (λ slot. slot) o ≡ Some d
+          → option_map digest_of (slice_get t.pages j) ≡ Some d.bytes
       by None is none = cc
       by (Some None) is none = cc
       by (Some (Some m)) is some =
-          let within = slice_get_within t.digests j (Some m) is in
-          let there = page_there t.pages j (omega (arith, within, table.size)) in
-          let own = table.own j there.0 m there.1 is in
           let same : m ≡ d = same_Some m d some in
-          ap (option_map digest_of) there.1 ∙ ap (λ bytes. Some bytes) (sym own ∙ ap (λ (n : Measurement). n.bytes) same)
+          elim (slice_get_cases t.pages j).1 [
+            | inl (page, within, there, _) ↦
+                ap (option_map digest_of) there ∙ ap (λ bytes. Some bytes) (sym (table.own j page m there is) ∙ ap (λ (n : Measurement). n.bytes) same)
+            | inr (past, _) ↦ absurd (omega (arith, past, slice_get_within t.digests j (Some m) is, table.size))
+          ]
 
   key_own : (key : PageKey) (d : Measurement) → digest_at t key ≡ Some d → digest_among t.pages key ≡ Some d.bytes
   key_own key d at = by (slot_of t.pages key) at
@@ -74,7 +72,8 @@ module _ (t : TableView) (table : IsTable t) where
       rw (key_row key d here parts.0, row_of_own keys digests rest parts.1) refl
 
 -- the first digests are those of the first keys
-own_front : (pages : List PageView) (front back : List PageKey) (digests : List Measurement) → IsOwnRow pages (front ++ back) digests → IsOwnRow pages front (take (length front) digests)
+own_front : (pages : List PageView) (front back : List PageKey) (digests : List Measurement) → IsOwnRow pages (front ++ back) digests
+    → IsOwnRow pages front (take (length front) digests)
 own_front pages [] back digests own = refl
 own_front pages (key ∷ front) back [] own = cc
 own_front pages (key ∷ front) back (d ∷ digests) own =
@@ -83,11 +82,13 @@ own_front pages (key ∷ front) back (d ∷ digests) own =
     rw (here, own_front pages front back digests rest) refl
 
 -- the pages of the first n links of a plan are the first ones of another: of a row of the other, the first digests are theirs
-own_begun : (pages : List PageView) (kept links : List Link) (n : ℕ) (digests : List Measurement) → HaveFirstPages n links kept → IsOwnRow pages (keys_of kept) digests
+own_begun : (pages : List PageView) (kept links : List Link) (n : ℕ) (digests : List Measurement) → HaveFirstPages n links kept
+    → IsOwnRow pages (keys_of kept) digests
     → IsOwnRow pages (keys_of (take n links)) (take (length (keys_of (take n links))) digests)
 own_begun pages kept links n digests (m, same) own =
     rw same (own_front pages (keys_of (take m kept)) (keys_of (drop m kept)) digests
-    (subst (λ (keys : List PageKey). IsOwnRow pages keys digests) (ap keys_of (sym (take-append-drop m kept)) ∙ flat_map-append keys_in (take m kept) (drop m kept)) own))
+    (subst (λ (keys : List PageKey). IsOwnRow pages keys digests)
+    (ap keys_of (sym (take-append-drop m kept)) ∙ flat_map-append keys_in (take m kept) (drop m kept)) own))
 
 -- a table with a digest for each key of a plan has one for each of its first links
 begun_filled : (t : TableView) (links : List Link) (n : ℕ) → has_all t (keys_of links) ≡ true → has_all t (keys_of (take n links)) ≡ true
@@ -97,8 +98,10 @@ begun_filled t links n all =
     ∙ (ap (has_all t) (sym (ap keys_of (sym (take-append-drop n links)) ∙ flat_map-append keys_in (take n links) (drop n links))) ∙ all))).0
 
 -- so a row that was filled for another launch, or for none, has the table's digests of the pages that both begin with
-pub row_begun : {X : Type 0} (view : X → PlanView) (t : TableView) (pages : List PageView) (links : List Link) (n : ℕ) (kept : Option X) (digests : List Measurement) → IsTable t → t.pages ≡ pages
-    → AreDigestsFor pages (option_map view kept) digests → IfSome kept (λ k. HaveFirstPages n links (view k).links) → IfNone kept (n ≡ 0) → has_all t (keys_of links) ≡ true
+pub row_begun : {X : Type 0} (view : X → PlanView) (t : TableView) (pages : List PageView) (links : List Link) (n : ℕ) (kept : Option X)
+    (digests : List Measurement) → IsTable t → t.pages ≡ pages
+    → AreDigestsFor pages (option_map view kept) digests → IfSome kept (λ k. HaveFirstPages n links (view k).links) → IfNone kept (n ≡ 0)
+    → has_all t (keys_of links) ≡ true
     → IsRowOf t (keys_of (take n links)) (take (length (keys_of (take n links))) digests)
 row_begun view t pages links n None digests table same empty begun none all =
     subst (λ (m : ℕ). IsRowOf t (keys_of (take m links)) (take (length (keys_of (take m links))) digests)) (sym none) refl
@@ -123,9 +126,11 @@ same_rows pages (key ∷ keys) (d ∷ ds) (e ∷ es) a b =
     let here : d ≡ e = same_bytes d e (same_Some d.bytes e.bytes (sym first ∙ second)) in
     rw (here, same_rows pages keys ds es rest others) refl
 
-pub own_value : (pages : List PageView) (plans : List PlanView) (job : JobView) (value : Measurement) → IsOwnLaunch pages plans job → value.bytes ≡ chain_of job.plan job.row.digests
+pub own_value : (pages : List PageView) (plans : List PlanView) (job : JobView) (value : Measurement) → IsOwnLaunch pages plans job
+    → value.bytes ≡ chain_of job.plan job.row.digests
     → IsOwnValue pages plans job.number value
 own_value pages plans job value own chained = λ p digests at row.
     let same : job.plan ≡ p = same_Some job.plan p (sym own.0 ∙ at) in
-    let rows : job.row.digests ≡ digests = same_rows pages (keys_of p.links) job.row.digests digests (subst (λ (q : PlanView). IsOwnRow pages (keys_of q.links) job.row.digests) same own.1) row in
+    let rows : job.row.digests ≡ digests =
+    same_rows pages (keys_of p.links) job.row.digests digests (subst (λ (q : PlanView). IsOwnRow pages (keys_of q.links) job.row.digests) same own.1) row in
     chained ∙ (ap (λ (q : PlanView). chain_of q job.row.digests) same ∙ ap (chain_of p) rows)
