@@ -56,20 +56,36 @@ freed-held w v Done = omega arith
 pub sum-freed_weight : (w : ℕ) (xs : List JobState) → sum_by weight (map (freed w) xs) + count_by (is_held_by w) xs ≡ sum_by weight xs
 sum-freed_weight w [] = refl
 sum-freed_weight w (x ∷ xs) =
-    omega (arith, freed-weight w x, sum-freed_weight w xs, sum_by-cons weight (freed w x) (map (freed w) xs), sum_by-cons weight x xs,
-    sum_by-cons (λ y. cond (is_held_by w y) 1 0) x xs)
+    omega (
+      arith,
+      freed-weight w x,
+      sum-freed_weight w xs,
+      sum_by-cons weight (freed w x) (map (freed w) xs),
+      sum_by-cons weight x xs,
+      sum_by-cons (λ y. cond (is_held_by w y) 1 0) x xs,
+    )
 
 pub sum-freed_done : (w : ℕ) (xs : List JobState) → count_by is_done (map (freed w) xs) ≡ count_by is_done xs
 sum-freed_done w [] = refl
 sum-freed_done w (x ∷ xs) =
-    omega (arith, freed-done w x, sum-freed_done w xs, sum_by-cons (λ y. cond (is_done y) 1 0) (freed w x) (map (freed w) xs),
-    sum_by-cons (λ y. cond (is_done y) 1 0) x xs)
+    omega (
+      arith,
+      freed-done w x,
+      sum-freed_done w xs,
+      sum_by-cons (λ y. cond (is_done y) 1 0) (freed w x) (map (freed w) xs),
+      sum_by-cons (λ y. cond (is_done y) 1 0) x xs,
+    )
 
 pub sum-freed_held : (w v : ℕ) (xs : List JobState) → count_by (is_held_by v) (map (freed w) xs) ≤ count_by (is_held_by v) xs
 sum-freed_held w v [] = omega arith
 sum-freed_held w v (x ∷ xs) =
-    omega (arith, freed-held w v x, sum-freed_held w v xs, sum_by-cons (λ y. cond (is_held_by v y) 1 0) (freed w x) (map (freed w) xs),
-    sum_by-cons (λ y. cond (is_held_by v y) 1 0) x xs)
+    omega (
+      arith,
+      freed-held w v x,
+      sum-freed_held w v xs,
+      sum_by-cons (λ y. cond (is_held_by v y) 1 0) (freed w x) (map (freed w) xs),
+      sum_by-cons (λ y. cond (is_held_by v y) 1 0) x xs,
+    )
 
 weight-le : (x : JobState) → weight x ≤ 2
 weight-le Free = omega arith

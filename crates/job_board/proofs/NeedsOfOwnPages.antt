@@ -49,10 +49,18 @@ HasSlot pages l key s = (j : ℕ) × (slot_of pages key ≡ Some j) × Contains 
 abbrev pub HasPage : List PageView → List Stretch → ℕ → PageKey → Type 0
 HasPage pages ss l key = (s : Stretch) × Contains ss s × HasSlot pages l key s
 
-after_at : (key : PageKey) (count n : ℕ) (d : PageKey) → n < count → get_or (map (key_after key) (range_with_len 0 count)) n d ≡ key_after key n
+-- as many keys from one on
+abbrev pub keys_after : PageKey → ℕ → List PageKey
+keys_after key count = map (key_after key) (range_with_len 0 count)
+
+-- each of some keys is one of these
+abbrev pub AreAmong : List PageKey → List PageKey → Type 0
+AreAmong keys others = All (Contains keys) others
+
+after_at : (key : PageKey) (count n : ℕ) (d : PageKey) → n < count → get_or (keys_after key count) n d ≡ key_after key n
 after_at key count n d lt = get_or-map-range_with_len (key_after key) 0 count n n d lt (omega arith)
 
-after_in : (key : PageKey) (count n : ℕ) → n < count → Contains (map (key_after key) (range_with_len 0 count)) (key_after key n)
+after_in : (key : PageKey) (count n : ℕ) → n < count → Contains (keys_after key count) (key_after key n)
 after_in key count n lt = (n, omega (arith, lt, length-map-range_with_len (key_after key) 0 count), after_at key count n (key_after key n) lt)
 
 first_key : (key : PageKey) → key_after key 0 ≡ key
@@ -102,17 +110,14 @@ place_of l s j has = by (cases_eq s.launch l)
         absurd (omega (arith, none.1))
 
 -- ---- the pages of a link
--- ---- the pages of a link
 
 module _ (pages : List PageView) (rising : IsRising (page_keys pages)) (plans : List PlanView) (l : ℕ) (p : PlanView) (plan : slice_get plans l ≡ Some p) where
-  has_keys : (key : PageKey) (count : ℕ) → All (Contains (page_keys pages)) (map (key_after key) (range_with_len 0 count)) → (n : ℕ) → n < count
+  has_keys : (key : PageKey) (count : ℕ) → AreAmong (page_keys pages) (keys_after key count) → (n : ℕ) → n < count
       → Contains (page_keys pages) (key_after key n)
-  has_keys key count has n lt =
-      All-contains (Contains (page_keys pages)) (map (key_after key) (range_with_len 0 count)) (key_after key n) has (after_in key count n lt)
+  has_keys key count has n lt = All-contains (Contains (page_keys pages)) (keys_after key count) (key_after key n) has (after_in key count n lt)
 
-  pages_own : (key : PageKey) (count : ℕ) → key.number ≡ 0 → All (Contains (page_keys pages)) (map (key_after key) (range_with_len 0 count))
-      → All (Contains (keys_of p.links)) (map (key_after key) (range_with_len 0 count)) → (o : Option ℕ) → slot_of pages key ≡ o
-      → All (IsOwn pages plans) (stretch_at l count o)
+  pages_own : (key : PageKey) (count : ℕ) → key.number ≡ 0 → AreAmong (page_keys pages) (keys_after key count)
+      → AreAmong (keys_of p.links) (keys_after key count) → (o : Option ℕ) → slot_of pages key ≡ o → All (IsOwn pages plans) (stretch_at l count o)
   pages_own key count begins has among None at = All-nil (IsOwn pages plans)
   pages_own key count begins has among (Some j) at = by_count (cases_Bool (count == 0))
     where
@@ -126,32 +131,30 @@ module _ (pages : List PageView) (rising : IsRising (page_keys pages)) (plans : 
             let slot = slots_follow pages rising key j count at (has_keys key count has) n lt in
             let here = page_in pages (key_after key n) (j + n) slot in
             let number : here.0.key.number ≡ n = ap (λ (k : PageKey). k.number) here.2 ∙ omega (arith, begins) in
-            let one =
-            All-contains (Contains (keys_of p.links)) (map (key_after key) (range_with_len 0 count)) (key_after key n) among (after_in key count n lt) in
+            let one = All-contains (Contains (keys_of p.links)) (keys_after key count) (key_after key n) among (after_in key count n lt) in
             (here.0, here.1, number, subst (Contains (keys_of p.links)) (sym here.2) one);
       }) (All-nil (IsOwn pages plans)))
 
-  link_own : (k : Link) → BeginsItem k → All (Contains (page_keys pages)) (keys_in k) → All (Contains (keys_of p.links)) (keys_in k)
+  link_own : (k : Link) → BeginsItem k → AreAmong (page_keys pages) (keys_in k) → AreAmong (keys_of p.links) (keys_in k)
       → All (IsOwn pages plans) (link_stretches pages l k)
   link_own (Blocks base size count) begins has among = All-nil (IsOwn pages plans)
   link_own (Pages ipa key count) begins has among = pages_own key count begins has among (slot_of pages key) refl
   link_own (Unmeasured ipa count) begins has among = All-nil (IsOwn pages plans)
   link_own (Rec content) begins has among = All-nil (IsOwn pages plans)
 
-  links_own : (ks : List Link) → All BeginsItem ks → All (Contains (page_keys pages)) (keys_of ks) → All (Contains (keys_of p.links)) (keys_of ks)
+  links_own : (ks : List Link) → All BeginsItem ks → AreAmong (page_keys pages) (keys_of ks) → AreAmong (keys_of p.links) (keys_of ks)
       → All (IsOwn pages plans) (flat_map (link_stretches pages l) ks)
   links_own ks begin has among = λ i d lt.
       let all = flat_map (link_stretches pages l) ks in
       let s = get_or all i d in
       let link = joined_from (link_stretches pages l) ks s (Contains-get_or all i d lt) in
       All-contains (IsOwn pages plans) (link_stretches pages l link.0) s
-      (link_own link.0 (All-contains BeginsItem ks link.0 begin link.1)
-      (joined_each keys_in (Contains (page_keys pages)) ks link.0 has link.1)
+      (link_own link.0 (All-contains BeginsItem ks link.0 begin link.1) (joined_each keys_in (Contains (page_keys pages)) ks link.0 has link.1)
       (joined_each keys_in (Contains (keys_of p.links)) ks link.0 among link.1)) link.2
 
   -- ---- and every page is in one
 
-  pages_there : (key : PageKey) (count : ℕ) → All (Contains (page_keys pages)) (map (key_after key) (range_with_len 0 count))
+  pages_there : (key : PageKey) (count : ℕ) → AreAmong (page_keys pages) (keys_after key count)
       → (n : ℕ) → n < count → (o : Option ℕ) → slot_of pages key ≡ o → HasPage pages (stretch_at l count o) l (key_after key n)
   pages_there key count has n lt None at =
       let some : 0 < count = omega (arith, lt) in
@@ -163,8 +166,7 @@ module _ (pages : List PageView) (rising : IsRising (page_keys pages)) (plans : 
       let s : Stretch = record { first = j; count = count; launch = l } in
       rw many (s, (0, omega arith, refl), (j + n, slots_follow pages rising key j count at (has_keys key count has) n lt, has_place l s n refl lt))
 
-  link_there : (k : Link) → All (Contains (page_keys pages)) (keys_in k) → (key : PageKey) → Contains (keys_in k) key
-      → HasPage pages (link_stretches pages l k) l key
+  link_there : (k : Link) → AreAmong (page_keys pages) (keys_in k) → (key : PageKey) → Contains (keys_in k) key → HasPage pages (link_stretches pages l k) l key
   link_there (Blocks base size count) has key in_it = absurd (omega (arith, in_it.1))
   link_there (Pages ipa first count) has key in_it =
       let lt : in_it.0 < count = omega (arith, in_it.1, length-map-range_with_len (key_after first) 0 count) in
@@ -173,7 +175,7 @@ module _ (pages : List PageView) (rising : IsRising (page_keys pages)) (plans : 
   link_there (Unmeasured ipa count) has key in_it = absurd (omega (arith, in_it.1))
   link_there (Rec content) has key in_it = absurd (omega (arith, in_it.1))
 
-  links_there : (ks : List Link) → All (Contains (page_keys pages)) (keys_of ks) → (key : PageKey) → Contains (keys_of ks) key
+  links_there : (ks : List Link) → AreAmong (page_keys pages) (keys_of ks) → (key : PageKey) → Contains (keys_of ks) key
       → HasPage pages (flat_map (link_stretches pages l) ks) l key
   links_there ks has key in_it =
       let link = joined_from keys_in ks key in_it in
@@ -185,7 +187,7 @@ module _ (pages : List PageView) (rising : IsRising (page_keys pages)) (plans : 
 record ArePlans (pages : List PageView) (plans : List PlanView) (n : ℕ) (ps : List PlanView) : Type 0 where
   at : (k : ℕ) (p : PlanView) → slice_get ps k ≡ Some p → slice_get plans (n + k) ≡ Some p
   begin : (k : ℕ) (p : PlanView) → slice_get ps k ≡ Some p → All BeginsItem p.links
-  has : (k : ℕ) (p : PlanView) → slice_get ps k ≡ Some p → All (Contains (page_keys pages)) (keys_of p.links)
+  has : (k : ℕ) (p : PlanView) → slice_get ps k ≡ Some p → AreAmong (page_keys pages) (keys_of p.links)
 
 next_plans : (pages : List PageView) (plans : List PlanView) (n : ℕ) (p : PlanView) (ps : List PlanView) → ArePlans pages plans n (p ∷ ps)
     → ArePlans pages plans (n + 1) ps
