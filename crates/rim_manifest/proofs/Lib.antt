@@ -20,6 +20,7 @@ pub mod MadeWithoutFaults
 -- the steps are those that the texts spell
 pub mod StepsAsSpelled
 -- so each part of a launch that is read is what its table gives
+pub mod ValuesAsGiven
 pub mod ReadAsGiven
 -- (a number of at most 16 digits has room in 64 bits, digit by digit)
 pub mod RoomForDigits
