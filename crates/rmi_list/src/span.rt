@@ -1,4 +1,7 @@
-//! The commands of a list, as it keeps them.
+//! The commands of a list, as it keeps them. A launch has a command for each of its pages, and most of these pages lie side
+//! by side. So the commands of neighbouring pages in one table are kept as one span, and each other command is one.
+//! A span takes at most 32 bytes. How many commands come before each span is kept beside it, and a command is found by binary search.
+//! No contract speaks of spans: a plan is seen as a list of commands.
 use list_model::PageContent;
 
 /// One command of a list, or the commands of neighbouring pages, in at most 32 bytes. A granule is kept by its number in the pool. What is one for the whole list is

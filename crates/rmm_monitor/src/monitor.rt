@@ -1,4 +1,6 @@
-//! The monitor.
+//! The monitor. Finding a granule and giving it a kind is one search: it is put at once, and put back as it was where it had a
+//! kind. A page's granule is given its kind where it is found, and given back where the page cannot have it. So refusals cost
+//! more: a granule that is delegated twice takes one search more, and a page that is given data twice takes two.
 ghost use Rattle.std.specs.Prelude.{◌≡◌, ◌≤◌, not, ◌||◌, ◌∷◌, Err, IfOk, length, option_map, true};
 ghost use Rattle.std.specs.Bool.{OnFalse};
 ghost use Rattle.refusal.specs.Answer.{Applies};

@@ -1,4 +1,6 @@
-//! The acts of a region of RAM, and of pages of data.
+//! The acts of a region of RAM, and of pages of data. A call that finds no memory takes back what it added, the last table
+//! first. A table is put among the acts before it is made, so each that was made is found there. A copy of all tables before each
+//! call would cost time for all that was planned before.
 ghost use Rattle.std.specs.Prelude.{◌≡◌, ◌++◌, ◌*◌, ◌+◌, ◌%◌, ◌<◌, ◌≤◌, ◌^◌, OnOk};
 ghost use Rattle.rmm_model.specs.Blocks.{granules};
 ghost use Rattle.rmm_model.specs.Space.{SameTables};
