@@ -4,6 +4,7 @@ use Rattle.std.specs.Prelude.{◌&&◌, not}
 use Rattle.std.specs.Int.{w32, from_be_bytes}
 use Rattle.std.proofs.lemmas.Bool.{ltb-false}
 use Rattle.std.proofs.lemmas.List.{length-drop, nil_from_length}
+use Rattle.refusal.proofs.AnswersInTurn.{bind-ok}
 use Rattle.fdt_tree.specs.declared.fault.FdtFault.{FdtFault}
 use Rattle.fdt_tree.specs.declared.fault.FdtFault.TheVariants.{BadToken, BadName, LateProperty, TooDeep}
 use Rattle.fdt_tree.specs.declared.reading.place.Place.{Place}
@@ -11,7 +12,6 @@ use Rattle.refusal.specs.Answer.{◌>>=◌}
 use Rattle.fdt_tree.specs.Devicetree.{Token, begin_node, property, end_node, nop, finish}
 use Rattle.fdt_tree.specs.Scanning.{after, number_at, padded_at, string_at, legal_at, begin_at, name_at, property_at, is_over, kind_at, token_at, joins, scan}
 use Rattle.fdt_tree.specs.FirstFault.{Leads}
-use Rattle.fdt_tree.proofs.SpellingOfScan.{bind_ok}
 use Rattle.fdt_tree.proofs.SpellingOfToken.{unless, only_if, chosen, pair_is}
 
 -- ---- each token takes some bytes
@@ -35,8 +35,8 @@ padded_rest n bytes x e =
 begin_rest : (p : Place) (bytes : List ℕ) (t : Token) (rest : List ℕ) → begin_at p bytes ≡ Ok (t, rest) → length rest ≤ length bytes
 unfolding begin_at
 begin_rest p bytes t rest e =
-    let a = bind_ok (string_at BadToken bytes) (λ name. padded_at (length name + 1) bytes >>= λ text. cond (legal_at p name) (cond (ltb p.depth 64) (Ok (begin_node name, text.1)) (Err TooDeep)) (Err BadName)) (t, rest) e in
-    let b = bind_ok (padded_at (length a.0 + 1) bytes) (λ text. cond (legal_at p a.0) (cond (ltb p.depth 64) (Ok (begin_node a.0, text.1)) (Err TooDeep)) (Err BadName)) (t, rest) a.2 in
+    let a = bind-ok (string_at BadToken bytes) (λ name. padded_at (length name + 1) bytes >>= λ text. cond (legal_at p name) (cond (ltb p.depth 64) (Ok (begin_node name, text.1)) (Err TooDeep)) (Err BadName)) (t, rest) e in
+    let b = bind-ok (padded_at (length a.0 + 1) bytes) (λ text. cond (legal_at p a.0) (cond (ltb p.depth 64) (Ok (begin_node a.0, text.1)) (Err TooDeep)) (Err BadName)) (t, rest) a.2 in
     let c = only_if (legal_at p a.0) BadName (cond (ltb p.depth 64) (Ok (begin_node a.0, b.0.1)) (Err TooDeep)) (t, rest) b.2 in
     let d = only_if (ltb p.depth 64) TooDeep (Ok (begin_node a.0, b.0.1)) (t, rest) c.1 in
     let is = pair_is (begin_node a.0) t b.0.1 rest d.1 in
@@ -47,11 +47,11 @@ unfolding property_at
 property_rest strings p bytes t rest e =
     let made_of : List ℕ → List ℕ → List ℕ → Result (Token × List ℕ) FdtFault = λ v r name. Ok (property (record { name = name; value = v }), r) in
     let behind_value : ℕ → List ℕ → List ℕ → Result (Token × List ℕ) FdtFault = λ o v r. cond p.late (Err LateProperty) (name_at strings o >>= made_of v r) in
-    let a = bind_ok (number_at bytes) (λ len. number_at len.1 >>= λ offset. padded_at len.0 offset.1 >>= λ value. behind_value offset.0 value.0 value.1) (t, rest) e in
-    let b = bind_ok (number_at a.0.1) (λ offset. padded_at a.0.0 offset.1 >>= λ value. behind_value offset.0 value.0 value.1) (t, rest) a.2 in
-    let c = bind_ok (padded_at a.0.0 b.0.1) (λ value. behind_value b.0.0 value.0 value.1) (t, rest) b.2 in
+    let a = bind-ok (number_at bytes) (λ len. number_at len.1 >>= λ offset. padded_at len.0 offset.1 >>= λ value. behind_value offset.0 value.0 value.1) (t, rest) e in
+    let b = bind-ok (number_at a.0.1) (λ offset. padded_at a.0.0 offset.1 >>= λ value. behind_value offset.0 value.0 value.1) (t, rest) a.2 in
+    let c = bind-ok (padded_at a.0.0 b.0.1) (λ value. behind_value b.0.0 value.0 value.1) (t, rest) b.2 in
     let g = unless p.late LateProperty (name_at strings b.0.0 >>= made_of c.0.0 c.0.1) (t, rest) c.2 in
-    let i = bind_ok (name_at strings b.0.0) (made_of c.0.0 c.0.1) (t, rest) g.1 in
+    let i = bind-ok (name_at strings b.0.0) (made_of c.0.0 c.0.1) (t, rest) g.1 in
     let is = pair_is (property (record { name = i.0; value = c.0.0 })) t c.0.1 rest i.2 in
     omega (arith, ap length is.1, number_rest bytes a.0 a.1, number_rest a.0.1 b.0 b.1, padded_rest a.0.0 b.0.1 c.0 c.1)
 
@@ -78,7 +78,7 @@ kind_rest strings p kind body t rest e =
 pub token_rest : (strings : List ℕ) (p : Place) (bytes : List ℕ) (t : Token) (rest : List ℕ) → token_at strings p bytes ≡ Ok (t, rest) → length rest + 4 ≤ length bytes
 unfolding token_at
 token_rest strings p bytes t rest e =
-    let b = bind_ok (number_at bytes) (λ kind. kind_at strings p kind.0 kind.1) (t, rest) e in
+    let b = bind-ok (number_at bytes) (λ kind. kind_at strings p kind.0 kind.1) (t, rest) e in
     omega (arith, number_rest bytes b.0 b.1, kind_rest strings p b.0.0 b.0.1 t rest b.2)
 
 no_bytes : (strings : List ℕ) (p : Place) → token_at strings p [] ≡ Err BadToken

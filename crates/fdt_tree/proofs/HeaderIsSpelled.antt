@@ -1,26 +1,21 @@
 -- A header is found where it is spelled, and nowhere else.
-use Rattle.std.proofs.Common.{◌^◌, ◌≡◌, ℕ, ◌+◌, ◌%◌, ◌≤◌, Bool, true, false, ltb, leb, eqb, List, length, Result, Ok, refl, sym, ap, subst, ◌∙◌}
-use Rattle.std.specs.Prelude.{◌&&◌}
-use Rattle.std.proofs.lemmas.Bool.{leb-true, ltb-false, le-ltb, le-leb, eqb-true, eq-eqb}
+use Rattle.std.proofs.Common.{◌^◌, ◌≡◌, ℕ, ◌+◌, ◌%◌, ◌≤◌, true, false, ltb, leb, eqb, List, length, Result, Ok, refl, sym, ap, subst, ◌∙◌}
+use Rattle.std.proofs.lemmas.Bool.{leb-true, ltb-false, le-ltb, le-leb, eqb-true, eq-eqb, and_parts}
 use Rattle.fdt_tree.specs.declared.fault.FdtFault.{FdtFault}
 use Rattle.fdt_tree.specs.declared.fault.FdtFault.TheVariants.{Short, BadMagic, BadVersion, TooLarge, BadBlock}
 use Rattle.fdt_tree.specs.declared.reading.header.Header.{Header}
 use Rattle.fdt_tree.specs.Blocks.{BlocksFit, HasHeader, word_at, header_of, blocks_fit, is_known_version, header_at}
 use Rattle.fdt_tree.proofs.SpellingOfToken.{unless, only_if}
 
-and_true : (a b : Bool) → a && b ≡ true → (a ≡ true) × (b ≡ true)
-and_true true b h = (refl, h)
-and_true false b h = absurd cc
-
 -- what the test of the blocks means
 pub blocks_take : (h : Header) (len : ℕ) → blocks_fit h len ≡ true → BlocksFit h len
 blocks_take h len e =
-    let g = and_true _ (leb (h.off_dt_strings + h.size_dt_strings) h.totalsize) e in
-    let f = and_true _ (leb (h.off_dt_struct + h.size_dt_struct) h.totalsize) g.0 in
-    let d = and_true _ (leb h.off_mem_rsvmap h.totalsize) f.0 in
-    let c = and_true _ (eqb (h.off_mem_rsvmap % 8) 0) d.0 in
-    let b = and_true _ (eqb (h.off_dt_struct % 4) 0) c.0 in
-    let a = and_true (leb 40 h.totalsize) (leb h.totalsize len) b.0 in
+    let g = and_parts _ (leb (h.off_dt_strings + h.size_dt_strings) h.totalsize) e in
+    let f = and_parts _ (leb (h.off_dt_struct + h.size_dt_struct) h.totalsize) g.0 in
+    let d = and_parts _ (leb h.off_mem_rsvmap h.totalsize) f.0 in
+    let c = and_parts _ (eqb (h.off_mem_rsvmap % 8) 0) d.0 in
+    let b = and_parts _ (eqb (h.off_dt_struct % 4) 0) c.0 in
+    let a = and_parts (leb 40 h.totalsize) (leb h.totalsize len) b.0 in
     record {
       own = leb-true _ _ a.0;
       whole = leb-true _ _ a.1;
@@ -44,7 +39,7 @@ header_takes bytes h e =
     let c = only_if (is_known_version own) BadVersion _ h b.1 in
     let d = unless (ltb (2 ^ 21) (length bytes)) TooLarge _ h c.1 in
     let f = only_if (blocks_fit own (length bytes)) BadBlock (Ok own) h d.1 in
-    let v = and_true (eqb own.version 17) (leb own.last_comp_version 17) c.0 in
+    let v = and_parts (eqb own.version 17) (leb own.last_comp_version 17) c.0 in
     let same : own ≡ h = is own h f.1 in
     subst (λ (x : Header). HasHeader bytes x) same (record {
       fields = refl;

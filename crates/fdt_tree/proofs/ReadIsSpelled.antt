@@ -1,5 +1,6 @@
 -- What is read is what is spelled.
 use Rattle.std.proofs.Common.{◌≡◌, ℕ, List, length, Result, Ok, refl, sym, ap, ◌∙◌, arith}
+use Rattle.refusal.proofs.AnswersInTurn.{bind-ok}
 use Rattle.fdt_tree.specs.declared.fault.FdtFault.{FdtFault}
 use Rattle.fdt_tree.specs.declared.reading.header.Header.{Header}
 use Rattle.fdt_tree.specs.declared.tree.Reservation.{Reservation}
@@ -10,7 +11,7 @@ use Rattle.fdt_tree.specs.Reservations.{reservations_at}
 use Rattle.fdt_tree.specs.Scanning.{structure_at}
 use Rattle.fdt_tree.specs.Reading.{Spells, Parts, parts_of, parts_at}
 use Rattle.fdt_tree.specs.Wholeness.{IsWhole}
-use Rattle.fdt_tree.proofs.SpellingOfScan.{IsBytes, bind_ok}
+use Rattle.fdt_tree.proofs.SpellingOfScan.{IsBytes}
 use Rattle.fdt_tree.proofs.SpellingOfToken.{IsBytes-drop, IsBytes-take}
 use Rattle.fdt_tree.proofs.HeaderIsSpelled.{header_takes, header_again}
 use Rattle.fdt_tree.proofs.ReservationsAreSpelled.{pairs_again, pairs_take, spelled_are}
@@ -24,7 +25,11 @@ spelled_reads bytes t s =
     let tokens : structure_at (strings_block s.header bytes) (structure_block s.header bytes) ≡ Ok (root_tokens t.root) = spelled_scans (strings_block s.header bytes) (structure_block s.header bytes) t.root s.root in
     rw (header_again bytes s.header s.sound, pairs, tokens, s.boot_cpu) refl
 
-abbrev behind_tokens : Header → List Reservation → List Token → Result Parts FdtFault
+same_parts : (p q : Parts) → (let x : Result Parts FdtFault = Ok p in x) ≡ Ok q → p ≡ q
+same_parts p q h = cc
+
+-- what is read behind the header, the reservations and the tokens
+abbrev pub behind_tokens : Header → List Reservation → List Token → Result Parts FdtFault
 behind_tokens h rs ts = Ok (record { reservations = rs; boot_cpu = h.boot_cpuid_phys; tokens = ts })
 
 -- what is found is spelled
@@ -32,11 +37,11 @@ pub reads_spelled : (bytes : List ℕ) (t : Devicetree) → IsBytes bytes → pa
 unfolding parts_at
 reads_spelled bytes t fits e =
     let tokens_in : Header → Result (List Token) FdtFault = λ h. structure_at (strings_block h bytes) (structure_block h bytes) in
-    let a = bind_ok (header_at bytes) (λ h. reservations_at (reserve_block h bytes) >>= λ rs. tokens_in h >>= behind_tokens h rs) (parts_of t) e in
+    let a = bind-ok (header_at bytes) (λ h. reservations_at (reserve_block h bytes) >>= λ rs. tokens_in h >>= behind_tokens h rs) (parts_of t) e in
     let h = a.0 in
-    let b = bind_ok (reservations_at (reserve_block h bytes)) (λ rs. tokens_in h >>= behind_tokens h rs) (parts_of t) a.2 in
-    let c = bind_ok (tokens_in h) (behind_tokens h b.0) (parts_of t) b.2 in
-    let same = parts_are (record { reservations = b.0; boot_cpu = h.boot_cpuid_phys; tokens = c.0 }) (parts_of t) c.2 in
+    let b = bind-ok (reservations_at (reserve_block h bytes)) (λ rs. tokens_in h >>= behind_tokens h rs) (parts_of t) a.2 in
+    let c = bind-ok (tokens_in h) (behind_tokens h b.0) (parts_of t) b.2 in
+    let same = same_parts (record { reservations = b.0; boot_cpu = h.boot_cpuid_phys; tokens = c.0 }) (parts_of t) c.2 in
     let pairs : reservations_at (reserve_block h bytes) ≡ Ok t.reservations = b.1 ∙ ap (λ (p : Parts). Ok p.reservations) same in
     let tokens : tokens_in h ≡ Ok (root_tokens t.root) = c.1 ∙ ap (λ (p : Parts). Ok p.tokens) same in
     let reserve_fits : IsBytes (reserve_block h bytes) = IsBytes-drop h.off_mem_rsvmap _ (IsBytes-take h.totalsize bytes fits) in
@@ -48,12 +53,6 @@ reads_spelled bytes t fits e =
       reservations = pairs_take (length (reserve_block h bytes)) (reserve_block h bytes) t.reservations reserve_fits pairs;
       root = scan_spells (strings_block h bytes) (structure_block h bytes) t.root block_fits tokens;
     }
-  where
-    parts_are : (p q : Parts) → (let x : Result Parts FdtFault = Ok p in x) ≡ Ok q → p ≡ q
-    parts_are p q h = cc
-
-same_parts : (p q : Parts) → (let x : Result Parts FdtFault = Ok p in x) ≡ Ok q → p ≡ q
-same_parts p q h = cc
 
 pub same_tree : (t u : Devicetree) → parts_of t ≡ parts_of u → t ≡ u
 same_tree t u e =

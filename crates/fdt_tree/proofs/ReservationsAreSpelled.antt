@@ -5,12 +5,13 @@ use Rattle.std.proofs.lemmas.Bool.{le-ltb, ltb-false}
 use Rattle.std.proofs.lemmas.Bool.Decides.{nat_tests}
 use Rattle.std.proofs.lemmas.List.{take_at, drop_at, take-append-drop, drop-drop, length-append, length-take, length-drop}
 use Rattle.std.proofs.lemmas.Nat.{be_bytes_8, from_be_bytes-to_be_bytes_8}
+use Rattle.refusal.proofs.AnswersInTurn.{bind-ok}
 use Rattle.fdt_tree.specs.declared.fault.FdtFault.{FdtFault}
 use Rattle.fdt_tree.specs.declared.fault.FdtFault.TheVariants.{BadReserve}
 use Rattle.fdt_tree.specs.declared.tree.Reservation.{Reservation}
 use Rattle.refusal.specs.Answer.{◌>>=◌, with_front}
 use Rattle.fdt_tree.specs.Reservations.{AreReservations, SpellsReservations, pair_text, pair_at, pairs_at, is_end}
-use Rattle.fdt_tree.proofs.SpellingOfScan.{IsBytes, bind_ok}
+use Rattle.fdt_tree.proofs.SpellingOfScan.{IsBytes}
 use Rattle.fdt_tree.proofs.SpellingOfToken.{IsBytes-drop, IsBytes-take, unless}
 
 -- ---- the loop
@@ -116,7 +117,7 @@ pub pairs_take : (n : ℕ) (block : List ℕ) (rs : List Reservation) → IsByte
 unfolding pairs_at
 pairs_take zero block rs fits e = absurd cc
 pairs_take (suc n) block rs fits e =
-    let a = bind_ok (pair_at block) (next_pairs n) rs e in
+    let a = bind-ok (pair_at block) (next_pairs n) rs e in
     let t = pair_takes block a.0.0 a.0.1 fits a.1 in
     go (is_end a.0.0) refl a.2 t (pairs_take n)
   where
@@ -126,7 +127,7 @@ pairs_take (suc n) block rs fits e =
         let none_left : [] ≡ rs = cc in
         subst (λ (us : List Reservation). SpellsReservations block us) none_left (rest, t.parts ∙ ap (λ (x : Reservation). pair_text x ++ rest) (zero_pair r h))
     go {r} {rest} false h q t ih =
-        let b = bind_ok (pairs_at n rest) (λ us. Ok (r ∷ us)) rs q in
+        let b = bind-ok (pairs_at n rest) (λ us. Ok (r ∷ us)) rs q in
         let whole : r ∷ b.0 ≡ rs = cc (b.2) in
         subst (λ (us : List Reservation). SpellsReservations block us) whole (rest, (t.address, t.size, some_pair r h), ih rest b.0 t.rest_fits b.1, t.parts)
 

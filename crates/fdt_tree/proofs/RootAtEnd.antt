@@ -1,6 +1,7 @@
 -- At END the reader holds the root.
 use Rattle.std.proofs.Common.{◌≡◌, ℕ, List, [], ◌∷◌, ◌++◌, length, map, Result, Ok, refl, ap, subst, ◌∙◌, arith}
 use Rattle.std.proofs.lemmas.List.{nil_from_length}
+use Rattle.refusal.proofs.AnswersInTurn.{bind-ok}
 use Rattle.fdt_tree.specs.declared.fault.FdtFault.{FdtFault}
 use Rattle.fdt_tree.specs.declared.node.Node.{Node}
 use Rattle.fdt_tree.specs.declared.node.Node.TheViews.{out-Node}
@@ -10,7 +11,7 @@ use Rattle.fdt_tree.specs.NodeViews.{branch, branches, root_of}
 use Rattle.refusal.specs.Answer.{with_front}
 use Rattle.fdt_tree.specs.Scanning.{start, scan}
 use Rattle.fdt_tree.proofs.AcceptedTokens.{Accepts}
-use Rattle.fdt_tree.proofs.SpellingOfScan.{IsBytes, bind_ok, scan_takes}
+use Rattle.fdt_tree.proofs.SpellingOfScan.{IsBytes, scan_takes}
 use Rattle.fdt_tree.proofs.SpellingOfToken.{takes_tokens, takes_end}
 use Rattle.fdt_tree.proofs.TokensOfOneTree.{root_only}
 use Rattle.fdt_tree.proofs.OpenNodes.{branch_out}
@@ -27,7 +28,7 @@ pub at_end : (strings block : List ℕ) (outer : List Node) (cur : Node) → IsB
     → scan strings (length block) start block ≡ Ok (tokens (joined (branches strings (out-Node cur).children.items)))
 at_end strings block outer cur fits none_open e =
     let nothing : outer ≡ [] = nil_from_length outer none_open in
-    let b = bind_ok (scan strings (length block) start block) (λ ts. Ok ((begin_node [] ∷ []) ++ ts)) (opened (branch strings cur)) (e ∙ ap (λ (ns : List Node). Ok (all_opened (branches strings ns) ++ opened (branch strings cur))) nothing) in
+    let b = bind-ok (scan strings (length block) start block) (λ ts. Ok ((begin_node [] ∷ []) ++ ts)) (opened (branch strings cur)) (e ∙ ap (λ (ns : List Node). Ok (all_opened (branches strings ns) ++ opened (branch strings cur))) nothing) in
     let body = map property (branch strings cur).properties ++ tokens (branch strings cur).children in
     let same : b.0 ≡ body = tail_is b.0 body (branch strings cur).name b.2 in
     let ok : Accepts start body = subst (λ (ts : List Token). Accepts start ts) same (accepted strings block b.0 fits b.1) in

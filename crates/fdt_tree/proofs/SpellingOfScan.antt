@@ -1,11 +1,10 @@
 -- What is scanned is spelled so.
-use Rattle.std.proofs.Common.{◌≡◌, ℕ, zero, suc, ◌<◌, ◌≤◌, Bool, true, false, cond, ltb, List, [], ◌∷◌, ◌++◌, length, get_or, take, drop, Result, Ok, Err, refl, sym, ap, subst, ◌∙◌, append_assoc, arith}
+use Rattle.std.proofs.Common.{◌≡◌, ℕ, zero, suc, ◌<◌, ◌≤◌, Bool, true, false, cond, ltb, List, [], ◌∷◌, ◌++◌, length, get_or, take, drop, Ok, Err, refl, sym, ap, subst, ◌∙◌, append_assoc, arith}
 use Rattle.std.specs.Int.{w32, to_be_bytes, from_be_bytes}
 use Rattle.std.proofs.lemmas.Bool.{ltb-false}
-use Rattle.fdt_tree.specs.declared.fault.FdtFault.{FdtFault}
+use Rattle.refusal.proofs.AnswersInTurn.{bind-ok}
 use Rattle.fdt_tree.specs.declared.fault.FdtFault.TheVariants.{BadToken}
 use Rattle.fdt_tree.specs.Devicetree.{Token, begin_node, property, end_node, nop, finish}
-use Rattle.refusal.specs.Answer.{◌>>=◌}
 use Rattle.fdt_tree.specs.declared.reading.place.Place.{Place}
 use Rattle.fdt_tree.specs.Scanning.{after, number_at, kind_at, token_at, joins, scan}
 use Rattle.fdt_tree.specs.Grammar.{IsTokenText, IsText, without_nops}
@@ -13,10 +12,6 @@ use Rattle.fdt_tree.proofs.AcceptedTokens.{Allowed, Accepts}
 
 abbrev pub IsBytes : List ℕ → Type 0
 IsBytes bytes = (i : ℕ) → get_or bytes i 0 < 256
-
-pub bind_ok : {A B : Type 0} (r : Result A FdtFault) (f : A → Result B FdtFault) (y : B) → (r >>= f) ≡ Ok y → (x : A) × (r ≡ Ok x) × (f x ≡ Ok y)
-bind_ok (Ok x) f y e = (x, refl, e)
-bind_ok (Err d) f y e = absurd cc
 
 number_long : (bytes : List ℕ) (x : ℕ × List ℕ) → number_at bytes ≡ Ok x → 0 < length bytes
 unfolding number_at
@@ -31,8 +26,8 @@ scan_long : (strings : List ℕ) (n : ℕ) (p : Place) (bytes : List ℕ) (ts : 
 unfolding scan token_at
 scan_long strings zero p bytes ts e = absurd cc
 scan_long strings (suc n) p bytes ts e =
-    let a = bind_ok (token_at strings p bytes) (λ t. joins t.0 (scan strings n (after p t.0) t.1)) ts e in
-    let b = bind_ok (number_at bytes) (λ kind. kind_at strings p kind.0 kind.1) a.0 a.1 in
+    let a = bind-ok (token_at strings p bytes) (λ t. joins t.0 (scan strings n (after p t.0) t.1)) ts e in
+    let b = bind-ok (number_at bytes) (λ kind. kind_at strings p kind.0 kind.1) a.0 a.1 in
     number_long bytes b.0 b.1
 
 -- what a token that is no fault took from the front
@@ -81,7 +76,7 @@ pub scan_takes : (strings : List ℕ) (takes : TakesTokens strings) (takes_end :
 unfolding scan
 scan_takes strings takes takes_end zero p bytes ts fits e = absurd cc
 scan_takes strings takes takes_end (suc n) p bytes ts fits e =
-    let b = bind_ok (token_at strings p bytes) (λ t. joins t.0 (scan strings n (after p t.0) t.1)) ts e in
+    let b = bind-ok (token_at strings p bytes) (λ t. joins t.0 (scan strings n (after p t.0) t.1)) ts e in
     go b.0.0 b.0.1 b.1 b.2 (scan_takes strings takes takes_end n)
   where
     go : (t : Token) (rest : List ℕ) → token_at strings p bytes ≡ Ok (t, rest) → joins t (scan strings n (after p t) rest) ≡ Ok ts
@@ -95,19 +90,19 @@ scan_takes strings takes takes_end (suc n) p bytes ts fits e =
         let later = ih p rest ts own.rest_fits more in
         cons strings p bytes nop rest ts ts own later later.same later.accepted
     go end_node rest h more ih =
-        let b = bind_ok (scan strings n (after p end_node) rest) (λ us. Ok (end_node ∷ us)) ts more in
+        let b = bind-ok (scan strings n (after p end_node) rest) (λ us. Ok (end_node ∷ us)) ts more in
         let own = takes p end_node bytes rest fits (λ q. cc) (scan_long strings n (after p end_node) rest b.0 b.1) h in
         let later = ih (after p end_node) rest b.0 own.rest_fits b.1 in
         let whole : end_node ∷ b.0 ≡ ts = cc (b.2) in
         cons strings p bytes end_node rest ts b.0 own later (ap (λ (us : List Token). end_node ∷ us) later.same ∙ whole) (subst (λ (us : List Token). Accepts p us) whole (own.allowed, later.accepted))
     go (begin_node name) rest h more ih =
-        let b = bind_ok (scan strings n (after p (begin_node name)) rest) (λ us. Ok (begin_node name ∷ us)) ts more in
+        let b = bind-ok (scan strings n (after p (begin_node name)) rest) (λ us. Ok (begin_node name ∷ us)) ts more in
         let own = takes p (begin_node name) bytes rest fits (λ q. cc) (scan_long strings n (after p (begin_node name)) rest b.0 b.1) h in
         let later = ih (after p (begin_node name)) rest b.0 own.rest_fits b.1 in
         let whole : begin_node name ∷ b.0 ≡ ts = cc (b.2) in
         cons strings p bytes (begin_node name) rest ts b.0 own later (ap (λ (us : List Token). begin_node name ∷ us) later.same ∙ whole) (subst (λ (us : List Token). Accepts p us) whole (own.allowed, later.accepted))
     go (property x) rest h more ih =
-        let b = bind_ok (scan strings n p rest) (λ us. Ok (property x ∷ us)) ts more in
+        let b = bind-ok (scan strings n p rest) (λ us. Ok (property x ∷ us)) ts more in
         let own = takes p (property x) bytes rest fits (λ q. cc) (scan_long strings n p rest b.0 b.1) h in
         let later = ih p rest b.0 own.rest_fits b.1 in
         let whole : property x ∷ b.0 ≡ ts = cc (b.2) in

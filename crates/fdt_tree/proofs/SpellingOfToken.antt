@@ -2,9 +2,10 @@
 use Rattle.std.proofs.Common.{◌≡◌, ℕ, zero, suc, ◌+◌, ◌-◌, ◌%◌, ◌^◌, ◌<◌, ◌≤◌, Bool, true, false, cond, ltb, eqb, List, [], ◌∷◌, ◌++◌, length, take, drop, Option, Some, None, Result, Ok, Err, refl, sym, ap, subst, ◌∙◌, append_assoc, arith, inl, inr, ◌⊎◌}
 use Rattle.std.specs.Prelude.{IsTrue, ◌&&◌, not}
 use Rattle.std.specs.Int.{w32, to_be_bytes, from_be_bytes}
-use Rattle.std.proofs.lemmas.Bool.{cases_lt, ltb-false, ltb-true, eqb-true, eq-eqb}
+use Rattle.std.proofs.lemmas.Bool.{cases_lt, ltb-false, ltb-true, eqb-true, eq-eqb, and_parts}
 use Rattle.std.proofs.lemmas.List.{take_at, take-append-drop, length-append, length-take, length-drop, get_or-drop, get_or-take, get_or_past, drop-drop}
 use Rattle.std.proofs.lemmas.Nat.{be_bytes_4}
+use Rattle.refusal.proofs.AnswersInTurn.{bind-ok}
 use Rattle.fdt_tree.specs.declared.fault.FdtFault.{FdtFault}
 use Rattle.fdt_tree.specs.declared.fault.FdtFault.TheVariants.{BadToken, BadName, BadString, LateProperty, TooDeep}
 use Rattle.fdt_tree.specs.Devicetree.{PropertyData, Token, begin_node, property, end_node, nop, finish}
@@ -14,7 +15,7 @@ use Rattle.fdt_tree.specs.Scanning.{number_at, padded_at, until_zero, legal_at, 
 use Rattle.fdt_tree.specs.Names.{legal}
 use Rattle.fdt_tree.specs.Grammar.{IsPadding, IsStringAt, IsTokenText}
 use Rattle.fdt_tree.proofs.AcceptedTokens.{Allowed}
-use Rattle.fdt_tree.proofs.SpellingOfScan.{IsBytes, bind_ok, Took, TookEnd, TakesTokens, TakesEnd}
+use Rattle.fdt_tree.proofs.SpellingOfScan.{IsBytes, Took, TookEnd, TakesTokens, TakesEnd}
 
 pub IsBytes-drop : (n : ℕ) (bytes : List ℕ) → IsBytes bytes → IsBytes (drop n bytes)
 IsBytes-drop n bytes h i = rw get_or-drop (h (n + i))
@@ -115,9 +116,9 @@ begin_takes : (strings : List ℕ) (p : Place) (bytes : List ℕ) (t : Token) (r
     → (whole : List ℕ) → whole ≡ to_be_bytes w32 1 ++ bytes → Taking strings p whole t rest
 unfolding begin_at
 begin_takes strings p bytes t rest fits early e whole shape =
-    let a = bind_ok (string_at BadToken bytes) (λ name. padded_at (length name + 1) bytes >>= λ text. cond (legal_at p name) (cond (ltb p.depth 64) (Ok (begin_node name, text.1)) (Err TooDeep)) (Err BadName)) (t, rest) e in
+    let a = bind-ok (string_at BadToken bytes) (λ name. padded_at (length name + 1) bytes >>= λ text. cond (legal_at p name) (cond (ltb p.depth 64) (Ok (begin_node name, text.1)) (Err TooDeep)) (Err BadName)) (t, rest) e in
     let name = a.0 in
-    let b = bind_ok (padded_at (length name + 1) bytes) (λ text. cond (legal_at p name) (cond (ltb p.depth 64) (Ok (begin_node name, text.1)) (Err TooDeep)) (Err BadName)) (t, rest) a.2 in
+    let b = bind-ok (padded_at (length name + 1) bytes) (λ text. cond (legal_at p name) (cond (ltb p.depth 64) (Ok (begin_node name, text.1)) (Err TooDeep)) (Err BadName)) (t, rest) a.2 in
     let s = string_takes BadToken bytes name a.1 in
     let c = only_if (legal_at p name) BadName (cond (ltb p.depth 64) (Ok (begin_node name, b.0.1)) (Err TooDeep)) (t, rest) b.2 in
     let d = only_if (ltb p.depth 64) TooDeep (Ok (begin_node name, b.0.1)) (t, rest) c.1 in
@@ -142,7 +143,7 @@ unfolding name_at
 name_takes strings offset name e =
     let made : List ℕ → Result (List ℕ) FdtFault = λ name. cond (legal name) (Ok name) (Err BadName) in
     let h = only_if (ltb offset (length strings)) BadString (string_at BadString (drop offset strings) >>= made) name e in
-    let i = bind_ok (string_at BadString (drop offset strings)) made name h.1 in
+    let i = bind-ok (string_at BadString (drop offset strings)) made name h.1 in
     let k = only_if (legal i.0) BadName (Ok i.0) name i.2 in
     let same : i.0 ≡ name = ok_is i.0 name k.1 in
     let s = string_takes BadString (drop offset strings) i.0 i.1 in
@@ -157,13 +158,13 @@ unfolding property_at
 property_takes strings p bytes t rest fits deep e whole shape =
     let made_of : List ℕ → List ℕ → List ℕ → Result (Token × List ℕ) FdtFault = λ v r name. Ok (property (record { name = name; value = v }), r) in
     let behind_value : ℕ → List ℕ → List ℕ → Result (Token × List ℕ) FdtFault = λ o v r. cond p.late (Err LateProperty) (name_at strings o >>= made_of v r) in
-    let a = bind_ok (number_at bytes) (λ len. number_at len.1 >>= λ offset. padded_at len.0 offset.1 >>= λ value. behind_value offset.0 value.0 value.1) (t, rest) e in
-    let b = bind_ok (number_at a.0.1) (λ offset. padded_at a.0.0 offset.1 >>= λ value. behind_value offset.0 value.0 value.1) (t, rest) a.2 in
-    let c = bind_ok (padded_at a.0.0 b.0.1) (λ value. behind_value b.0.0 value.0 value.1) (t, rest) b.2 in
+    let a = bind-ok (number_at bytes) (λ len. number_at len.1 >>= λ offset. padded_at len.0 offset.1 >>= λ value. behind_value offset.0 value.0 value.1) (t, rest) e in
+    let b = bind-ok (number_at a.0.1) (λ offset. padded_at a.0.0 offset.1 >>= λ value. behind_value offset.0 value.0 value.1) (t, rest) a.2 in
+    let c = bind-ok (padded_at a.0.0 b.0.1) (λ value. behind_value b.0.0 value.0 value.1) (t, rest) b.2 in
     let n = number_takes bytes a.0.0 a.0.1 fits a.1 in
     let o = number_takes a.0.1 b.0.0 b.0.1 n.rest_fits b.1 in
     let g = unless p.late LateProperty (name_at strings b.0.0 >>= made_of c.0.0 c.0.1) (t, rest) c.2 in
-    let i = bind_ok (name_at strings b.0.0) (made_of c.0.0 c.0.1) (t, rest) g.1 in
+    let i = bind-ok (name_at strings b.0.0) (made_of c.0.0 c.0.1) (t, rest) g.1 in
     let k = name_takes strings b.0.0 i.0 i.1 in
     let found : PropertyData = record { name = i.0; value = c.0.0 } in
     let is = pair_is (property found) t c.0.1 rest i.2 in (
@@ -192,10 +193,6 @@ plain strings p whole body kind own t rest fits shape text ok other is =
     let made : Took strings p whole own body = record { front = to_be_bytes w32 kind; parts = shape; text = text; allowed = ok; rest_fits = fits } in
     (λ z. other (is.0 ∙ z), λ more. subst (λ (r : List ℕ). Took strings p whole t r) is.1 (subst (λ (u : Token). Took strings p whole u body) is.0 made))
 
-and_true : (a b : Bool) → a && b ≡ true → (a ≡ true) × (b ≡ true)
-and_true true b h = (refl, h)
-and_true false b h = absurd cc
-
 begins_early : (d : ℕ) (late : Bool) → not (eqb d 0 && late) ≡ true → d ≡ 0 → late ≡ false
 begins_early d true h z = let same : eqb d 0 ≡ true = eq-eqb d 0 z in let no : false ≡ true = rw same at h in absurd cc
 begins_early d false h z = refl
@@ -205,20 +202,20 @@ kind_takes : (strings : List ℕ) (p : Place) (kind : ℕ) (body whole : List �
 unfolding kind_at
 kind_takes strings p kind body whole t rest fits shape e =
     elim (chosen (eqb kind 1 && not (is_over p)) _ _ _ e) [
-      | inl h ↦ let k = and_true _ _ h.0 in
+      | inl h ↦ let k = and_parts _ _ h.0 in
           inl (begin_takes strings p body t rest fits (begins_early p.depth p.late k.1) h.1 whole (at kind 1 (eqb-true _ _ k.0) shape))
       | inr g ↦ elim (chosen (eqb kind 2 && ltb 0 p.depth) _ _ _ g.1) [
-        | inl h ↦ let k = and_true _ _ h.0 in
+        | inl h ↦ let k = and_parts _ _ h.0 in
             inl (plain strings p whole body 2 end_node t rest fits (at kind 2 (eqb-true _ _ k.0) shape) refl (ltb-true _ _ k.1) (λ z. cc) (pair_is end_node t body rest h.1))
         | inr g ↦ elim (chosen (eqb kind 3 && ltb 0 p.depth) _ _ _ g.1) [
-          | inl h ↦ let k = and_true _ _ h.0 in
+          | inl h ↦ let k = and_parts _ _ h.0 in
               inl (property_takes strings p body t rest fits (ltb-true _ _ k.1) h.1 whole (at kind 3 (eqb-true _ _ k.0) shape))
           | inr g ↦ elim (chosen (eqb kind 4) _ _ _ g.1) [
             | inl h ↦ inl (plain strings p whole body 4 nop t rest fits (at kind 4 (eqb-true _ _ h.0) shape) refl tt (λ z. cc) (pair_is nop t body rest h.1))
             | inr g ↦
                 let f = only_if (eqb kind 9 && is_over p) BadToken (Ok (finish, body)) (t, rest) g.1 in
-                let k = and_true _ _ f.0 in
-                let o = and_true (eqb p.depth 0) p.late k.1 in
+                let k = and_parts _ _ f.0 in
+                let o = and_parts (eqb p.depth 0) p.late k.1 in
                 let is = pair_is finish t body rest f.1 in
                 inr (sym is.0, record { parts = at kind 9 (eqb-true _ _ k.0) shape ∙ ap (λ (x : List ℕ). to_be_bytes w32 9 ++ x) is.1; depth = eqb-true _ _ o.0; late = o.1 })
           ]
@@ -232,7 +229,7 @@ kind_takes strings p kind body whole t rest fits shape e =
 token_takes : (strings : List ℕ) (p : Place) (bytes : List ℕ) (t : Token) (rest : List ℕ) → IsBytes bytes → token_at strings p bytes ≡ Ok (t, rest) → Taken strings p bytes t rest
 unfolding token_at
 token_takes strings p bytes t rest fits e =
-    let b = bind_ok (number_at bytes) (λ kind. kind_at strings p kind.0 kind.1) (t, rest) e in
+    let b = bind-ok (number_at bytes) (λ kind. kind_at strings p kind.0 kind.1) (t, rest) e in
     let n = number_takes bytes b.0.0 b.0.1 fits b.1 in
     kind_takes strings p b.0.0 b.0.1 bytes t rest n.rest_fits n.parts b.2
 

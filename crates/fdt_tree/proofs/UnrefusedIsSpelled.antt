@@ -4,6 +4,7 @@ use Rattle.std.specs.Prelude.{All}
 use Rattle.std.specs.Result.{result_err}
 use Rattle.std.proofs.lemmas.Bool.{cases_lt, eqb-true}
 use Rattle.std.proofs.lemmas.List.{length-append, nil_from_length, get_or_past}
+use Rattle.refusal.proofs.AnswersInTurn.{bind-ok}
 use Rattle.fdt_tree.specs.declared.fault.FdtFault.{FdtFault}
 use Rattle.fdt_tree.specs.declared.reading.place.Place.{Place}
 use Rattle.fdt_tree.specs.Devicetree.{Devicetree, PropertyData, Nodes, none, node, Root, Token, begin_node, property, end_node, nop, finish, tokens, root_tokens}
@@ -14,11 +15,10 @@ use Rattle.fdt_tree.specs.Blocks.{reserve_block, structure_block, strings_block,
 use Rattle.fdt_tree.specs.Reservations.{reservations_at}
 use Rattle.fdt_tree.specs.Grammar.{without_nops}
 use Rattle.fdt_tree.specs.declared.reading.header.Header.{Header}
-use Rattle.fdt_tree.specs.declared.tree.Reservation.{Reservation}
 use Rattle.fdt_tree.proofs.AcceptedTokens.{Accepts}
-use Rattle.fdt_tree.proofs.SpellingOfScan.{IsBytes, bind_ok, scan_takes}
+use Rattle.fdt_tree.proofs.SpellingOfScan.{IsBytes, scan_takes}
 use Rattle.fdt_tree.proofs.SpellingOfToken.{IsBytes-drop, IsBytes-take, takes_tokens, takes_end}
-use Rattle.fdt_tree.proofs.ReadIsSpelled.{spelled_reads, reads_spelled}
+use Rattle.fdt_tree.proofs.ReadIsSpelled.{spelled_reads, reads_spelled, behind_tokens}
 
 abbrev NoNops : List Token → Type 0
 NoNops [] = Unit {0}
@@ -114,18 +114,15 @@ bytes_fit bytes h i = elim (cases_lt i (length bytes)) [
   | inr le ↦ rw (get_or_past bytes i 0 le) (omega arith)
 ]
 
-abbrev behind_tokens : Header → List Reservation → List Token → Result Parts FdtFault
-behind_tokens h rs ts = Ok (record { reservations = rs; boot_cpu = h.boot_cpuid_phys; tokens = ts })
-
 -- where reading finds no fault, a tree is spelled
 pub found_spelled : (bytes : List ℕ) (found : Parts) → IsBytes bytes → parts_at bytes ≡ Ok found → (t : Devicetree) × (parts_at bytes ≡ Ok (parts_of t))
 unfolding parts_at
 found_spelled bytes found fits e =
     let tokens_in : Header → Result (List Token) FdtFault = λ h. scan (strings_block h bytes) (length (structure_block h bytes)) start (structure_block h bytes) in
-    let a = bind_ok (header_at bytes) (λ h. reservations_at (reserve_block h bytes) >>= λ rs. tokens_in h >>= behind_tokens h rs) found e in
+    let a = bind-ok (header_at bytes) (λ h. reservations_at (reserve_block h bytes) >>= λ rs. tokens_in h >>= behind_tokens h rs) found e in
     let h = a.0 in
-    let b = bind_ok (reservations_at (reserve_block h bytes)) (λ rs. tokens_in h >>= behind_tokens h rs) found a.2 in
-    let c = bind_ok (tokens_in h) (behind_tokens h b.0) found b.2 in
+    let b = bind-ok (reservations_at (reserve_block h bytes)) (λ rs. tokens_in h >>= behind_tokens h rs) found a.2 in
+    let c = bind-ok (tokens_in h) (behind_tokens h b.0) found b.2 in
     let block_fits : IsBytes (structure_block h bytes) = IsBytes-take h.size_dt_struct _ (IsBytes-drop h.off_dt_struct bytes fits) in
     let strings = strings_block h bytes in
     let t = scan_takes strings (takes_tokens strings) (takes_end strings) (length (structure_block h bytes)) start (structure_block h bytes) c.0 block_fits c.1 in

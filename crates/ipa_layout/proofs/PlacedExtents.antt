@@ -6,7 +6,7 @@ use Rattle.std.specs.Option.{option_or}
 use Rattle.std.specs.Result.{result_map_both}
 use Rattle.std.proofs.lemmas.Bool.{eqb-false, leb-false, lt-ltb, ltb-false, ne_eqb, or_parts}
 use Rattle.std.proofs.lemmas.List.Sums.{sum_by-cons}
-use Rattle.refusal.specs.Answer.{◌>>=◌}
+use Rattle.refusal.proofs.AnswersInTurn.{bind-ok}
 use Rattle.refusal.specs.Checks.{Check, unless_refused}
 use Rattle.arm64_image.specs.ImageHeader.{read_of, load_offset_of, extent_of}
 use Rattle.arm64_image.specs.declared.Header.{Header}
@@ -162,10 +162,6 @@ two-apart (s ∷ ss) n (suc j) (suc k) a b h lt e f =
     two-apart ss (n + 1) j k a b (none-of-both _ (first_met s (n + 1) ss) (first_overlap (n + 1) ss) h).1 (omega arith) e f
 
 -- ---- all items
-
-pub bind-ok : {A B E : Type 0} (r : Result A E) (f : A → Result B E) (y : B) → (r >>= f) ≡ Ok y → (x : A) × (r ≡ Ok x) × (f x ≡ Ok y)
-bind-ok (Ok x) f y e = (x, refl, e)
-bind-ok (Err g) f y e = absurd cc
 
 -- an answer that is the same but for its error
 pub ok-mapped : {A D E : Type 0} (r : Result A D) (g : D → E) (x : A) → result_map_both (λ (a : A). a) g r ≡ Ok x → r ≡ Ok x

@@ -5,6 +5,7 @@ use Rattle.std.specs.List.{find, enumerate_from, slice_get}
 use Rattle.std.specs.Result.{result_unwrap_or}
 use Rattle.std.proofs.lemmas.List.{length-map}
 use Rattle.std.proofs.lemmas.List.FromFn.{length-enumerate_from}
+use Rattle.refusal.proofs.AnswersInTurn.{bind-ok}
 use Rattle.refusal.specs.Answer.{◌>>=◌}
 use Rattle.fdt_tree.specs.declared.fault.FdtFault.{FdtFault}
 use Rattle.rim_launch.specs.declared.item.Item.{Item}
@@ -23,7 +24,7 @@ use Rattle.ipa_layout.specs.Reason.{fault_of}
 use Rattle.ipa_layout.specs.Layout.{IsPlaced, PlacedData, bytes_of, checked_together, edited_bytes, edited_dtb, edited_item, extents_of, file_bytes, item_at, items_at, laid_out, placed_at, source_of}
 use Rattle.ipa_layout.specs.Laws.{HasPage, IsItem, IsSourceOf, page_end, page_total}
 use Rattle.ipa_layout.proofs.FoundInLists.{found-none}
-use Rattle.ipa_layout.proofs.PlacedExtents.{IsSound, bind-ok, item-there, items-length, items-total, no-page-shared, none-there, ok-mapped, pages-low, rows-at, rows-length, rows-total, two-apart}
+use Rattle.ipa_layout.proofs.PlacedExtents.{IsSound, item-there, items-length, items-total, no-page-shared, none-there, ok-mapped, pages-low, rows-at, rows-length, rows-total, two-apart}
 
 -- the extents of a placed launch's items
 record Parts (l : LaunchData) (files : List (List ℕ)) (p : PlacedData) : Type 0 where

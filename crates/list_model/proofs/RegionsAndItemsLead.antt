@@ -1,7 +1,10 @@
 -- Whole regions and items: their entries lead from what was planned before them to what is planned with them.
-use Rattle.std.proofs.Common.{◌≡◌, ℕ, zero, suc, ◌+◌, ◌*◌, ◌<◌, ◌≤◌, ◌∙◌, sym, refl, ap, arith, Bool, true, false, ◌&&◌, ◌||◌, leb, ltb, eqb, List, [], ◌∷◌, ◌++◌, map}
+use Rattle.std.proofs.Common.{◌≡◌, ℕ, zero, suc, ◌+◌, ◌*◌, ◌<◌, ◌≤◌, ◌∙◌, sym, refl, ap, arith, Bool, true, ◌&&◌, ◌||◌, leb, ltb, eqb, List, [], ◌∷◌, ◌++◌, map}
 use Rattle.std.specs.List.{range_with_len}
 use Rattle.std.proofs.lemmas.Bool.Decides.{nat_tests}
+use Rattle.std.proofs.Math.Bool.{or_comm, or_assoc}
+use Rattle.rtt_plan.proofs.OneMoreRange.{or-last}
+use Rattle.rmm_model.proofs.OneMoreInSpace.{or-swap}
 use Rattle.rim_desc.specs.Part.{Ripas}
 use Rattle.rmm_model.specs.Blocks.{granules, size}
 use Rattle.rmm_model.specs.Effects.{ripas_parts}
@@ -43,28 +46,13 @@ same-built b v w s built same taken num_recs some = record {
 
 -- ---- a region
 
-or-turned : (a b c : Bool) → (a || (b || c)) ≡ (b || (a || c))
-or-turned true true c = refl
-or-turned true false c = refl
-or-turned false b c = refl
-
-or-last : (a b : Bool) → (a || b) ≡ (b || (a || false))
-or-last true true = refl
-or-last true false = refl
-or-last false true = refl
-or-last false false = refl
-
 piled-ram : (rs : List Run) (ram : List (ℕ × ℕ)) (y : ℕ) → is_ram (piled rs ram) y ≡ (is_ram (ranges_of rs) y || is_ram ram y)
 unfolding piled
 piled-ram [] ram y = refl
 piled-ram (r ∷ rs) ram y =
     let i = piled-ram rs ((r.base, r.top) ∷ ram) y in
     let h : Bool = leb r.base y && ltb y r.top in
-    i ∙ or-turned (is_ram (ranges_of rs) y) h (is_ram ram y) ∙ turned h (is_ram (ranges_of rs) y) (is_ram ram y)
-  where
-    turned : (a b c : Bool) → (a || (b || c)) ≡ ((a || b) || c)
-    turned true b c = refl
-    turned false b c = refl
+    i ∙ or-swap (is_ram (ranges_of rs) y) h (is_ram ram y) ∙ sym (or_assoc h (is_ram (ranges_of rs) y) (is_ram ram y))
 
 piled-some : (least_level x end : ℕ) (rs : List Run) (ram : List (ℕ × ℕ)) → AreRuns least_level x end rs → are_some ram ≡ true → are_some (piled rs ram) ≡ true
 unfolding piled AreRuns
@@ -126,19 +114,8 @@ region-leads contents b p n num_recs base end s built is_planned lt accepts =
 piled-has : (xs assigned : List ℕ) (y : ℕ) → has (piled_pages xs assigned) y ≡ (has xs y || has assigned y)
 unfolding piled_pages
 piled-has [] assigned y = refl
-piled-has (x ∷ xs) assigned y = piled-has xs (x ∷ assigned) y ∙ turned (has xs y) (eqb x y) (has assigned y)
-  where
-    turned : (a b c : Bool) → (a || (b || c)) ≡ ((b || a) || c)
-    turned true true c = refl
-    turned true false c = refl
-    turned false true c = refl
-    turned false false c = refl
-
-or-swapped : (a b : Bool) → (a || b) ≡ (b || a)
-or-swapped true true = refl
-or-swapped true false = refl
-or-swapped false true = refl
-or-swapped false false = refl
+piled-has (x ∷ xs) assigned y = piled-has xs (x ∷ assigned) y
+    ∙ or-swap (has xs y) (eqb x y) (has assigned y) ∙ sym (or_assoc (eqb x y) (has xs y) (has assigned y))
 
 -- the parts of the pages from the kth on, page by page and as a whole
 module _ (content : PageContent) (contents : Contents) (item base : ℕ) (one : (x k : ℕ) → parts_of_page content contents item x k ≡ page_part content contents item x k ∷ []) where
@@ -182,7 +159,7 @@ item-leads contents b p n num_recs content item base count s built is_planned go
       tables = λ level at. refl;
       ram = λ x. refl;
       ranges = λ from to below. refl;
-      assigned = λ y. piled-has xs p.space.assigned y ∙ or-swapped (has xs y) (has p.space.assigned y) ∙ sym (has-append p.space.assigned xs y);
+      assigned = λ y. piled-has xs p.space.assigned y ∙ or_comm (has xs y) (has p.space.assigned y) ∙ sym (has-append p.space.assigned xs y);
     } in
     let said : parts_from content contents item 0 xs ≡ page_parts content contents item base count = all-parts content contents item base count in
     record {

@@ -18,6 +18,7 @@ use Rattle.std.proofs.lemmas.List.Concat.{get_or-flat_map}
 use Rattle.std.proofs.lemmas.List.Folds.{length-flat_map-take}
 use Rattle.std.proofs.lemmas.List.FromFn.{get_or-map-range_with_len, length-map-range_with_len}
 use Rattle.std.proofs.lemmas.List.Sorted.{Contains-permutation, IsPermutation-sym}
+use Rattle.std.proofs.lemmas.Cmp.{nat_cmp_total}
 use Rattle.rim_desc.specs.Measurement.{algo_value}
 use Rattle.rim_desc.specs.Source.{source_cmp}
 use Rattle.page_jobs.specs.Key.{key_cmp, rising_keys}
@@ -59,9 +60,6 @@ in_order-append (x ∷ xs) ys first second between = (
 
 -- ---- the order of keys of one item and of two
 
-nat_cmp-same : (n : ℕ) → nat_cmp n n ≡ Equal
-nat_cmp-same n = grind (arith, nat_tests)
-
 nat_cmp-less : (m n : ℕ) → m < n → nat_cmp m n ≡ Less
 nat_cmp-less m n low = grind (arith, nat_tests, low)
 
@@ -86,7 +84,7 @@ then-equal Greater = refl
 
 -- whether two keys are of one item, by their order at the same number
 item-is : (a b : PageKey) → is_item a b ≡ is_eq (item_cmp a b)
-item-is a b = ap is_eq (cmp-parts (with_number a 0) (with_number b 0) ∙ ap (ordering_then (item_cmp a b)) (nat_cmp-same 0) ∙ then-equal (item_cmp a b))
+item-is a b = ap is_eq (cmp-parts (with_number a 0) (with_number b 0) ∙ ap (ordering_then (item_cmp a b)) (tied_itself nat_cmp_total 0) ∙ then-equal (item_cmp a b))
 
 -- a key is not after another
 abbrev AtLeast : PageKey → PageKey → Type 0
@@ -115,7 +113,7 @@ one-item e m n low = cmp-parts (with_number e m) (with_number e n) ∙ rw (itsel
     itself : item_cmp (with_number e m) (with_number e n) ≡ Equal
     itself =
         let same : ordering_then (item_cmp e e) (nat_cmp e.number e.number) ≡ Equal = sym (cmp-parts e e) ∙ tied_itself key_total e in
-        let here : ordering_then (item_cmp e e) Equal ≡ Equal = ap (ordering_then (item_cmp e e)) (sym (nat_cmp-same e.number)) ∙ same in
+        let here : ordering_then (item_cmp e e) Equal ≡ Equal = ap (ordering_then (item_cmp e e)) (sym (tied_itself nat_cmp_total e.number)) ∙ same in
         sym (then-equal (item_cmp e e)) ∙ here
 
 item-itself : (a : PageKey) → is_item a a ≡ true

@@ -1,7 +1,7 @@
 -- The order of keys is total, and keys that are equal in it are one.
 use Rattle.std.proofs.Common.{◌≡◌, ℕ, true, refl, ap, ◌∙◌, arith}
 use Rattle.std.proofs.lemmas.Bool.Decides.{nat_tests}
-use Rattle.std.specs.Cmp.{IsTotalOrder, nat_cmp_total, on_total, then_total}
+use Rattle.std.specs.Cmp.{IsTotalOrder, nat_cmp_total, on_total, then_total, tied_itself}
 use Rattle.std.specs.Ordering.{is_eq, nat_cmp, ordering_then}
 use Rattle.std.specs.declared.cmp.Ordering.{Ordering}
 use Rattle.std.specs.declared.cmp.Ordering.TheVariants.{Less, Equal, Greater}
@@ -48,3 +48,6 @@ key-equal a b same =
     ∙ ap (λ (x : Source). let k : PageKey = record { algo = b.algo; source = x; lead = a.lead; number = a.number } in k) source
     ∙ ap (λ (x : ℕ). let k : PageKey = record { algo = b.algo; source = b.source; lead = x; number = a.number } in k) lead
     ∙ ap (λ (x : ℕ). let k : PageKey = record { algo = b.algo; source = b.source; lead = b.lead; number = x } in k) number
+
+pub not-itself : (key : PageKey) → key_cmp key key ≡ Less → ⊥
+not-itself key less = let same : key_cmp key key ≡ Equal = tied_itself key_total key in cc

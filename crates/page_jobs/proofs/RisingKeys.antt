@@ -3,7 +3,6 @@ use Rattle.std.proofs.Common.{◌≡◌, ℕ, ◌<◌, ◌⊎◌, List, [], ◌�
 use Rattle.std.specs.Prelude.{◌↔◌}
 use Rattle.std.specs.List.{AllByRecursion, Contains}
 use Rattle.std.specs.List.Sorted.{IsStrictlySortedBy}
-use Rattle.std.specs.Cmp.{tied_itself}
 use Rattle.std.specs.Ordering.{is_eq, ordering_reverse}
 use Rattle.std.specs.declared.cmp.Ordering.{Ordering}
 use Rattle.std.specs.declared.cmp.Ordering.TheVariants.{Less, Equal, Greater}
@@ -11,7 +10,7 @@ use Rattle.std.proofs.lemmas.List.Elements.{recursion_from_All}
 use Rattle.std.proofs.lemmas.Map.Keys.{Less-from_sorted}
 use Rattle.page_jobs.specs.Key.{IsRising, key_cmp, rising_keys, with_key}
 use Rattle.page_jobs.specs.declared.page.PageKey.{PageKey}
-use Rattle.page_jobs.proofs.OrderOfKeys.{key-equal, key_total}
+use Rattle.page_jobs.proofs.OrderOfKeys.{key-equal, key_total, not-itself}
 
 -- ---- the elements of a list, one by one
 
@@ -47,9 +46,6 @@ above-has (first ∷ others) low key above (inr there) = above-has others low ke
 pub above-lower : (keys : List PageKey) (low key : PageKey) → key_cmp low key ≡ Less → AreAbove key keys → AreAbove low keys
 above-lower [] low key lower above = tt
 above-lower (first ∷ others) low key lower above = (key_total.trans low key first lower above.0, above-lower others low key lower above.1)
-
-not-itself : (key : PageKey) → key_cmp key key ≡ Less → ⊥
-not-itself key less = let same : key_cmp key key ≡ Equal = tied_itself key_total key in cc
 
 abbrev pub AreInOrder : List PageKey → Type 0
 AreInOrder keys = IsStrictlySortedBy key_cmp keys

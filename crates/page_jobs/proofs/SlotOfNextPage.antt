@@ -17,7 +17,7 @@ use Rattle.page_jobs.specs.Page.{PageView}
 use Rattle.page_jobs.specs.Table.{page_keys_of, slot_of}
 use Rattle.page_jobs.specs.declared.page.PageKey.{PageKey}
 use Rattle.page_jobs.proofs.SearchByKey.{slot-key, slot-page}
-use Rattle.page_jobs.proofs.OrderOfKeys.{key_total}
+use Rattle.page_jobs.proofs.OrderOfKeys.{key_total, not-itself}
 
 -- ---- no key is between that of a page and that of the next
 
@@ -35,7 +35,7 @@ both-less {R = R} total x y u v first second =
 below-number : (m n : ℕ) → nat_cmp m n ≡ Less → m < n
 below-number m n less = let P : Ordering → Type 0 = λ o. MatchOrdering o (m < n) (m ≡ n) (n < m) in subst P less (ranks m n)
 
-none-between : (key other : PageKey) → key_cmp key other ≡ Less → key_cmp other (next_key key) ≡ Less → ⊥
+pub none-between : (key other : PageKey) → key_cmp key other ≡ Less → key_cmp other (next_key key) ≡ Less → ⊥
 none-between key other after before =
     let algo = both-less nat_cmp_total (algo_value key.algo) (algo_value other.algo) _ _ after before in
     let source = both-less source_total key.source other.source _ _ algo.0 algo.1 in
@@ -52,18 +52,15 @@ after-itself key =
     then-equal : (o u : Ordering) → o ≡ Equal → ordering_then o u ≡ u
     then-equal o u same = ap (λ first. ordering_then first u) same
 
-not-less-itself : (key : PageKey) → key_cmp key key ≡ Less → ⊥
-not-less-itself key less = let same : key_cmp key key ≡ Equal = tied_itself key_total key in cc
-
 -- in keys that rise, the key of the next page is at the next place
 next-place : (keys : List PageKey) → IsRising keys → (key : PageKey) (i j : ℕ) → i < length keys → j < length keys → get_or keys j (next_key key) ≡ key
     → get_or keys i (next_key key) ≡ next_key key → i ≡ j + 1
 next-place keys rising key i j first second here last = elim (ways i j) [
   | inl same ↦ same
   | inr other ↦ absurd (elim other [
-    | inl low ↦ not-less-itself key (key_total.trans key (next_key key) key (after-itself key) (compared i j low second last here))
+    | inl low ↦ not-itself key (key_total.trans key (next_key key) key (after-itself key) (compared i j low second last here))
     | inr later ↦ elim later [
-      | inl one ↦ not-less-itself key (ap (key_cmp key) (sym here ∙ ap (λ n. get_or keys n (next_key key)) (sym one) ∙ last) ∙ after-itself key)
+      | inl one ↦ not-itself key (ap (key_cmp key) (sym here ∙ ap (λ n. get_or keys n (next_key key)) (sym one) ∙ last) ∙ after-itself key)
       | inr high ↦ none-between key (get_or keys (j + 1) (next_key key)) (compared j (j + 1) (omega arith) (omega arith) here refl) (compared (j + 1) i high first refl last)
     ]
   ])

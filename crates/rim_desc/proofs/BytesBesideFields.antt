@@ -1,10 +1,10 @@
 -- A part that is put in a page leaves the bytes beside it, so what has no field is zero.
-use Rattle.std.proofs.Common.{◌≡◌, ℕ, ◌+◌, ◌-◌, ◌≤◌, ◌<◌, ◌&&◌, ◌||◌, ◌⊎◌, Bool, true, false, List, [], ◌∷◌, ◌++◌, length, take, drop, replicate, get_or, refl, ap, ◌∙◌, arith, length-append, length-drop, inl, inr}
+use Rattle.std.proofs.Common.{◌≡◌, ℕ, ◌+◌, ◌-◌, ◌≤◌, ◌<◌, ◌&&◌, ◌⊎◌, true, false, List, [], ◌∷◌, ◌++◌, length, take, drop, replicate, get_or, ap, ◌∙◌, arith, length-append, length-drop, inl, inr}
 use Rattle.std.specs.Prelude.{nat_le, nat_lt}
 use Rattle.std.proofs.lemmas.List.{length-take-le, length-replicate, get_or-replicate, get_or_past, get_or-take, get_or-drop}
 use Rattle.std.proofs.Math.ListN.{get_or-append}
 use Rattle.std.proofs.Math.Seq.{get_or-append_right}
-use Rattle.std.proofs.lemmas.Bool.{leb-true}
+use Rattle.std.proofs.lemmas.Bool.{leb-true, and_parts, or_parts}
 use Rattle.std.proofs.lemmas.Bool.Decides.{nat_tests}
 use Rattle.rim_desc.specs.Page.{Field, all_fit, covers, is_listed, with_fields, with_part, zeros}
 
@@ -46,21 +46,13 @@ pub beside : (page part : List ℕ) (at k : ℕ) → at + length part ≤ length
 beside page part at k fits outside =
     elim (sides at (length part) k outside) [ inl low ↦ before page part at k fits low | inr high ↦ behind page part at k fits high ]
 
-both : (a b : Bool) → (a && b) ≡ true → (a ≡ true) × (b ≡ true)
-both true b h = (refl, h)
-both false b h = (h, absurd (cc))
-
-neither : (a b : Bool) → (a || b) ≡ false → (a ≡ false) × (b ≡ false)
-neither true b h = absurd (cc)
-neither false b h = (refl, h)
-
 -- what is zero stays zero where no field is put
 pub zero_beside : (fs : List Field) (page : List ℕ) (n k : ℕ) → length page ≡ n → get_or page k 0 ≡ 0
     → all_fit n fs ≡ true → is_listed k fs ≡ false → get_or (with_fields page fs) k 0 ≡ 0
 zero_beside [] page n k size zero fit listed = zero
 zero_beside (f ∷ fs) page n k size zero fit listed =
-    let fits = both (nat_le (f.at + length f.part) n) (all_fit n fs) fit in
-    let apart = neither (covers k f) (is_listed k fs) listed in
+    let fits = and_parts (nat_le (f.at + length f.part) n) (all_fit n fs) fit in
+    let apart = or_parts (covers k f) (is_listed k fs) listed in
     let inside : f.at + length f.part ≤ n = leb-true _ _ fits.0 in
     let within : f.at + length f.part ≤ length page = omega (arith, inside, size) in
     zero_beside fs (with_part page f.at f.part) n k (length-with_part page f.part f.at within ∙ size)

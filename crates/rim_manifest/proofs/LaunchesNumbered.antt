@@ -6,12 +6,11 @@ use Rattle.toml.specs.View.{view}
 use Rattle.toml.specs.declared.value.Value.{Value}
 use Rattle.rim_launch.specs.LaunchData.{has_files}
 use Rattle.std.specs.List.{list_all, list_any}
-use Rattle.std.proofs.lemmas.Bool.{lt-ltb}
+use Rattle.std.proofs.lemmas.Bool.{lt-ltb, or_parts, not-false}
 use Rattle.rim_launch.specs.Kinds.{file_of, is_below}
 use Rattle.rim_manifest.specs.Items.{item_of}
 use Rattle.rim_manifest.specs.Names.{file_at, has_file, is_named, lacks_file, lacks_its_file, needs_file, role_at}
 use Rattle.rim_manifest.specs.Values.{array_at, text_in}
-use Rattle.rim_manifest.proofs.TablesWithoutFaults.{holds, neither}
 use Rattle.rim_manifest.proofs.ItemsFromTables.{file_of-kind, found_below}
 use Rattle.rim_manifest.specs.declared.version.FormatVersion.{FormatVersion}
 use Rattle.rim_manifest.specs.Launches.{AreNumbered, NamedData, ReleaseData, launch_of, launches_from}
@@ -38,7 +37,7 @@ launches_step version files vs i v ls after l h at so_far read pushed =
 
 below_count : (files : List Data) (d : Data) (needed : Bool) → (needed && not (has_file files d)) ≡ false → is_below (length files) (cond needed (Some (file_at files d)) None) ≡ true
 below_count files d true e =
-    let below : file_at files d < length files = found_below (is_named (text_in (get (codes "file") d))) files (holds (has_file files d) e) in
+    let below : file_at files d < length files = found_below (is_named (text_in (get (codes "file") d))) files (not-false (has_file files d) e) in
     lt-ltb _ _ below
 below_count files d false e = refl
 
@@ -47,7 +46,7 @@ files_of_items : (files : List Data) (ds : List Data) → list_any (lacks_its_fi
 unfolding item_of
 files_of_items files [] e = refl
 files_of_items files (d ∷ ds) e =
-    let parts = neither (lacks_its_file files d) (list_any (lacks_its_file files) ds) e in
+    let parts = or_parts (lacks_its_file files d) (list_any (lacks_its_file files) ds) e in
     rw (file_of-kind (role_at d) (file_at files d) d, below_count files d (needs_file (role_at d)) parts.0) (files_of_items files ds parts.1)
 
 place : (v : FormatVersion) (files : List Data) (n : ℕ) (ds : List Data) (i : ℕ) (l : NamedData) → list_any (lacks_file files) ds ≡ false → slice_get (launches_from v files n ds) i ≡ Some l
@@ -55,12 +54,12 @@ place : (v : FormatVersion) (files : List Data) (n : ℕ) (ds : List Data) (i : 
 place v files n [] i l none e = cc
 place v files n (d ∷ ds) zero l none e =
     let same : launch_of v files n d ≡ l = cc in
-    let first : lacks_file files d ≡ false = (neither (lacks_file files d) (list_any (lacks_file files) ds) none).0 in (
+    let first : lacks_file files d ≡ false = (or_parts (lacks_file files d) (list_any (lacks_file files) ds) none).0 in (
       ap (λ (m : NamedData). m.launch.number) (sym same) ∙ omega arith,
       ap (λ (m : NamedData). has_files m.launch (length files)) (sym same) ∙ files_of_items files (array_at (codes "item") d) first,
     )
 place v files n (d ∷ ds) (suc i) l none e =
-    let rest = place v files (n + 1) ds i l (neither (lacks_file files d) (list_any (lacks_file files) ds) none).1 e in
+    let rest = place v files (n + 1) ds i l (or_parts (lacks_file files d) (list_any (lacks_file files) ds) none).1 e in
     (rest.0 ∙ omega arith, rest.1)
 
 pub are_numbered : (v : FormatVersion) (files ds : List Data) (r : ReleaseData) → list_any (lacks_file files) ds ≡ false → length r.paths ≡ length files → r.launches ≡ launches_from v files 0 ds → AreNumbered r

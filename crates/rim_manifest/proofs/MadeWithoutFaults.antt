@@ -1,8 +1,9 @@
--- The type of a launch has what is read where no fault holds, and only then.
-use Rattle.std.proofs.Common.{◌≡◌, ℕ, zero, suc, ◌+◌, ◌<◌, ◌≤◌, List, [], ◌∷◌, ◌++◌, length, get_or, map, Bool, true, false, cond, not, ◌&&◌, ◌||◌, Option, Some, None, Ok, Err, refl, ap, sym, ◌∙◌, codes, arith}
+-- The type of a launch has what is read where no fault not-false, and only then.
+use Rattle.std.proofs.Common.{◌≡◌, ℕ, zero, suc, ◌+◌, ◌<◌, ◌≤◌, List, [], ◌∷◌, ◌++◌, length, get_or, map, Bool, true, false, cond, not, ◌||◌, Option, Some, None, Ok, Err, refl, ap, sym, ◌∙◌, codes, arith}
 use Rattle.std.specs.List.{flat_map, list_all, list_any}
-use Rattle.std.proofs.lemmas.Bool.{le-leb}
+use Rattle.std.proofs.lemmas.Bool.{le-leb, and_parts, or_parts, not-false}
 use Rattle.std.proofs.lemmas.List.{length-map}
+use Rattle.std.proofs.Math.Bool.{and-false}
 use Rattle.toml.specs.Data.{Data, Members, get, table}
 use Rattle.toml.specs.View.{view}
 use Rattle.toml.specs.declared.value.Value.{Value}
@@ -30,7 +31,7 @@ use Rattle.rim_manifest.specs.Names.{has_asked, kinds_once, repeats, share_names
 use Rattle.rim_manifest.specs.Manifest.{all_made, files_at, has_two_names, launch_faults, launches_at, launches_of, made, manifest_faults}
 use Rattle.rim_manifest.specs.Faults.{lowest}
 use Rattle.rim_manifest.proofs.LowestFault.{none_noted}
-use Rattle.rim_manifest.proofs.TablesWithoutFaults.{TopIsGood, both, empty_parts, few_regions, few_tables, good_launch, good_top, holds, neither}
+use Rattle.rim_manifest.proofs.TablesWithoutFaults.{TopIsGood, empty_parts, few_regions, few_tables, good_launch, good_top}
 use Rattle.rim_manifest.proofs.ItemsFromTables.{count-items, initrd-items, memory-items}
 
 -- ---- no fault
@@ -50,7 +51,7 @@ steps_hold : (files : List Data) (d : Data) (o : Option Data) → misnames d o �
     → steps_complete (length (ram_of d)) (length (items_of files d)) (length (recs_of d)) (steps_in (length (ram_of d)) (array_at (codes "item") d) (items_of files d) (length (recs_of d)) o) ≡ true
 steps_hold files d None e = default-complete (length (ram_of d)) (items_of files d) (length (recs_of d))
 steps_hold files d (Some s) e =
-    rw (length-map (array_at (codes "ram") d) region_in, length-map (array_at (codes "item") d) (item_of files), length-map (array_at (codes "rec") d) rec_of) (holds _ e)
+    rw (length-map (array_at (codes "ram") d) region_in, length-map (array_at (codes "item") d) (item_of files), length-map (array_at (codes "rec") d) rec_of) (not-false _ e)
 
 steps_named : (files : List Data) (d : Data) (o : Option Data)
     → steps_complete (length (ram_of d)) (length (items_of files d)) (length (recs_of d)) (steps_in (length (ram_of d)) (array_at (codes "item") d) (items_of files d) (length (recs_of d)) o) ≡ true
@@ -75,7 +76,7 @@ launch_made : (v : FormatVersion) (files : List Data) (n : ℕ) (d : Data) → l
 launch_made v files n (table ms) e single named =
     let good = good_launch v ms e in
     let rest = good.launch.1.1.1.1.1.1.1.1.1.1.1.1.1.1 in
-    let once = holds (kinds_once (array_at (codes "item") (table ms))) (neither (share_names (array_at (codes "item") (table ms))) _ single).1 in
+    let once = not-false (kinds_once (array_at (codes "item") (table ms))) (or_parts (share_names (array_at (codes "item") (table ms))) _ single).1 in
     is_made v files n (table ms) (few_regions (codes "ram") Optional 64 _ rest.0) (few_tables (codes "item") Optional 64 _ rest.1.0) (few_tables (codes "rec") Optional 1024 _ rest.1.1.0) once good.asked named
 launch_made v files n d e single named = is_made v files n d (omega arith) (omega arith) (omega arith) refl refl named
 
@@ -84,8 +85,8 @@ launches_made : (v : FormatVersion) (files : List Data) (n : ℕ) (ds : List Dat
 launches_made v files n [] e single named = refl
 launches_made v files n (d ∷ ds) e single named =
     let parts = empty_parts (launch_faults v d) (flat_map (launch_faults v) ds) e in
-    let each = neither (repeats d) (list_any repeats ds) single in
-    let fits = neither (is_misnamed d) (list_any is_misnamed ds) named in
+    let each = or_parts (repeats d) (list_any repeats ds) single in
+    let fits = or_parts (is_misnamed d) (list_any is_misnamed ds) named in
     rw (launch_made v files n d parts.0 each.0 fits.0) (launches_made v files (n + 1) ds parts.1 each.1 fits.1)
 
 -- where the type has all launches, their steps fit
@@ -93,8 +94,8 @@ launches_named : (v : FormatVersion) (files : List Data) (n : ℕ) (ds : List Da
 unfolding is_launch
 launches_named v files n [] e = refl
 launches_named v files n (d ∷ ds) e =
-    let parts = both (is_launch (launch_of v files n d).launch) (list_all (λ (l : NamedData). is_launch l.launch) (launches_from v files (n + 1) ds)) e in
-    let fits = (both _ (steps_fit (launch_of v files n d).launch) parts.0).1 in
+    let parts = and_parts (is_launch (launch_of v files n d).launch) (list_all (λ (l : NamedData). is_launch l.launch) (launches_from v files (n + 1) ds)) e in
+    let fits = (and_parts _ (steps_fit (launch_of v files n d).launch) parts.0).1 in
     rw (steps_named files d (get (codes "steps") d) fits) (launches_named v files (n + 1) ds parts.1)
 
 -- what the reader of all launches answers
@@ -114,7 +115,7 @@ all_refused ms f e single refused = go (list_any is_misnamed (launches_at ms)) r
     good = good_top ms (none_noted (manifest_faults ms) e)
 
     once : list_any repeats (launches_at ms) ≡ false
-    once = (neither (share_names (files_at ms) || share_names (launches_at ms)) (list_any repeats (launches_at ms)) single).1
+    once = (or_parts (share_names (files_at ms) || share_names (launches_at ms)) (list_any repeats (launches_at ms)) single).1
 
     fault : (b : Bool) → cond b (Ok (launches_of ms)) (Err BadStep) ≡ Err f → f ≡ BadStep
     fault true h = cc
@@ -161,7 +162,7 @@ read_made l x e = go (is_launch l.launch) refl e
 
 all_with_last : (p : NamedData → Bool) (ls : List NamedData) (l : NamedData) → list_all p ls ≡ true → p l ≡ true → list_all p (ls ++ l ∷ []) ≡ true
 all_with_last p [] l e h = rw h refl
-all_with_last p (m ∷ ls) l e h = let parts = both (p m) (list_all p ls) e in rw parts.0 (all_with_last p ls l parts.1 h)
+all_with_last p (m ∷ ls) l e h = let parts = and_parts (p m) (list_all p ls) e in rw parts.0 (all_with_last p ls l parts.1 h)
 
 pub made_step : (ls after : List NamedData) (l : NamedData) → list_all (λ (m : NamedData). is_launch m.launch) ls ≡ true → is_launch l.launch ≡ true → after ≡ ls ++ l ∷ []
     → list_all (λ (m : NamedData). is_launch m.launch) after ≡ true
@@ -169,10 +170,6 @@ made_step ls after l so_far one pushed = ap (list_all (λ (m : NamedData). is_la
 
 pub made_all : (ls wanted : List NamedData) → ls ≡ wanted → list_all (λ (m : NamedData). is_launch m.launch) ls ≡ true → all_made wanted ≡ Ok ls
 made_all ls wanted same all = rw (← same, all) refl
-
-and_false : (b : Bool) → (b && false) ≡ false
-and_false true = refl
-and_false false = refl
 
 not_all : (version : FormatVersion) (files : List Data) (n : ℕ) (vs : List Value) (i : ℕ) (v : Value) → i < length vs → v ≡ get_or vs i v → is_launch (launch_of version files (n + i) (view v)).launch ≡ false
     → list_all (λ (l : NamedData). is_launch l.launch) (launches_from version files n (map view vs)) ≡ false
@@ -183,7 +180,7 @@ not_all version files n (w ∷ vs) zero v h at e =
     rw first refl
 not_all version files n (w ∷ vs) (suc i) v h at e =
     let place : n + 1 + i ≡ n + suc i = omega arith in
-    rw (not_all version files (n + 1) vs i v (omega arith) at (ap (λ k. is_launch (launch_of version files k (view v)).launch) place ∙ e)) (and_false _)
+    rw (not_all version files (n + 1) vs i v (omega arith) at (ap (λ k. is_launch (launch_of version files k (view v)).launch) place ∙ e)) (and-false _)
 
 pub one_not_made : (version : FormatVersion) (files : List Data) (vs : List Value) (i : ℕ) (v : Value) (f : ManifestFault) → i < length vs → v ≡ get_or vs i v → made (launch_of version files i (view v)) ≡ Err f
     → all_made (launches_from version files 0 (map view vs)) ≡ Err f

@@ -5,6 +5,7 @@ use Rattle.std.specs.Prelude.{IsSome, is_some, position, slice_get, unwrap_or}
 use Rattle.std.specs.List.{AllByRecursion, flat_map, list_all, list_any}
 use Rattle.std.specs.Str.{bytes_eq}
 use Rattle.std.proofs.lemmas.Slice.Eq.{bytes_eq-Decides}
+use Rattle.std.proofs.lemmas.Bool.{and_parts, or_parts, not-false}
 use Rattle.toml.specs.Data.{Data, string, integer, array, table, item, Members, at, get, get_member}
 use Rattle.rim_desc.specs.declared.rule.RecRule.{RecRule}
 use Rattle.rim_launch.specs.declared.rec.Rec.{Rec}
@@ -35,8 +36,8 @@ use Rattle.rim_manifest.specs.Rules.{added_rules, dtb_rules, file_rules, item_ru
 use Rattle.rim_manifest.specs.Versions.{is_not_runnable, lacks_rule, rule_for, rule_in, launch_rules_in, version_at}
 use Rattle.rim_manifest.specs.declared.version.FormatVersion.{FormatVersion}
 use Rattle.rim_manifest.specs.declared.version.FormatVersion.TheVariants.{One, Two}
-use Rattle.rim_manifest.proofs.TablesWithoutFaults.{all_first, all_tables, both, each_value, empty_parts, few_regions, good_launch, good_top, good_value, holds}
-use Rattle.rim_manifest.proofs.TablesWithoutFaults.{neither, not_faulty, not_given}
+use Rattle.rim_manifest.proofs.TablesWithoutFaults.{all_first, all_tables, each_value, empty_parts, few_regions, good_launch, good_top, good_value}
+use Rattle.rim_manifest.proofs.TablesWithoutFaults.{not_faulty, not_given}
 use Rattle.rim_manifest.proofs.ItemsFromTables.{found_there, role_of-kind}
 use Rattle.rim_manifest.proofs.FaultsInTurn.{list_any_map}
 use Rattle.rim_manifest.proofs.LowestFault.{none_noted}
@@ -88,7 +89,7 @@ tables_given : {X : Type 0} (Gives : Data → X → Type 0) (f : Data → X) (fa
     → (ds : List Data) → list_all is_table ds ≡ true → flat_map faults ds ≡ [] → EachGives Gives ds (map f ds)
 tables_given Gives f faults each [] tables e = tt
 tables_given Gives f faults each (d ∷ ds) tables e =
-    let shapes = both (is_table d) (list_all is_table ds) tables in
+    let shapes = and_parts (is_table d) (list_all is_table ds) tables in
     let parts = empty_parts (faults d) (flat_map faults ds) e in
     (each d shapes.0 parts.0, tables_given Gives f faults each ds shapes.1 parts.1)
 
@@ -113,7 +114,7 @@ module _ (files : List Data) (tables : list_all is_table files ≡ true) (good :
       (name_there _ (each_value file_rules ms (empty_parts (table_faults file_rules ms) _ e).0).0)
   at_place (_ ∷ fs) zero f t e found = cc
   at_place (g ∷ fs) (suc n) f t e found =
-      at_place fs n f (both (is_table g) (list_all is_table fs) t).1 (empty_parts (ruled_faults file_rules g) _ e).1 found
+      at_place fs n f (and_parts (is_table g) (list_all is_table fs) t).1 (empty_parts (ruled_faults file_rules g) _ e).1 found
 
   file_given : (name : List ℕ) → list_any (is_named name) files ≡ true
       → GivesFile files (Some (string name)) (Some (unwrap_or (position (is_named name) files) 0))
@@ -136,7 +137,7 @@ module _ (files : List Data) (tables : list_all is_table files ≡ true) (good :
       → ItemGives Raw ms
   known_gives ms each found =
       let name = text_there form.AnyText (λ d. refl) (get_member (codes "file") ms) each.1.1.0 in
-      let file = file_given (text_in (get_member (codes "file") ms)) (holds (has_file files (table ms)) found) in (
+      let file = file_given (text_in (get_member (codes "file") ms)) (not-false (has_file files (table ms)) found) in (
         role_there _ each.1.0,
         number_there 0 9223372036854775807 0 _ each.1.1.1.0,
         subst (λ o. GivesFile files o (Some (file_at files (table ms)))) (sym name) file,
@@ -193,9 +194,9 @@ module _ (files : List Data) (tables : list_all is_table files ≡ true) (good :
       → EachGives (GivesItem files) ds (map (item_of files) ds)
   items_given [] t e found = tt
   items_given (d ∷ ds) t e found =
-      let shapes = both (is_table d) (list_all is_table ds) t in
+      let shapes = and_parts (is_table d) (list_all is_table ds) t in
       let parts = empty_parts (item_faults d) (flat_map item_faults ds) e in
-      let files_found = neither (lacks_its_file files d) (list_any (lacks_its_file files) ds) found in
+      let files_found = or_parts (lacks_its_file files d) (list_any (lacks_its_file files) ds) found in
       (item_given d shapes.0 parts.0 files_found.0, items_given ds shapes.1 parts.1 files_found.1)
 
   -- the steps, given or not
@@ -209,7 +210,7 @@ module _ (files : List Data) (tables : list_all is_table files ≡ true) (good :
       let regions = length (array_at (codes "ram") d) in
       let recs = length (array_at (codes "rec") d) in
       let steps = map (step_in items) (items_list ds) in
-      let complete = holds (steps_complete regions (length items) recs steps) fits in
+      let complete = not-false (steps_complete regions (length items) recs steps) fits in
       let once = λ (target : StepTarget) (n : ℕ). each_once target steps n in
       let named = first_of_four _ (once part.Ram regions) (once part.Item (length items)) (once part.Rec recs) complete in
       texts_given items regions (length items) recs (items_list ds) few (good_value form.Texts (array ds) e).kind named
@@ -255,10 +256,10 @@ module _ (files : List Data) (tables : list_all is_table files ≡ true) (good :
       → list_any (lacks_file files) ds ≡ false → list_any is_misnamed ds ≡ false → EachGives (IsGiven v files) ds (launches_from v files n ds)
   launches_given v n [] t e found fits = tt
   launches_given v n (d ∷ ds) t e found fits =
-      let shapes = both (is_table d) (list_all is_table ds) t in
+      let shapes = and_parts (is_table d) (list_all is_table ds) t in
       let parts = empty_parts (launch_faults v d) (flat_map (launch_faults v) ds) e in
-      let each = neither (lacks_file files d) (list_any (lacks_file files) ds) found in
-      let steps = neither (is_misnamed d) (list_any is_misnamed ds) fits in
+      let each = or_parts (lacks_file files d) (list_any (lacks_file files) ds) found in
+      let steps = or_parts (is_misnamed d) (list_any is_misnamed ds) fits in
       (launch_given v n d shapes.0 parts.0 each.0 steps.0, launches_given v (n + 1) ds shapes.1 parts.1 each.1 steps.1)
 
 -- ---- the document
@@ -275,7 +276,7 @@ faultless ms e named =
     let after_names = (empty_parts (fault_if (has_two_names ms) TwoNames) _ named).1 in
     let found = not_faulty (has_no_file ms) NoSuchFile (empty_parts (fault_if (has_no_file ms) NoSuchFile) _ after_names).0 in
     let steps = not_faulty (has_bad_steps (launches_at ms)) BadStep (empty_parts (fault_if (has_no_file ms) NoSuchFile) _ after_names).1 in
-    let fits = (neither (list_any is_miscounted (launches_at ms)) (list_any is_misnamed (launches_at ms)) steps).1 in (
+    let fits = (or_parts (list_any is_miscounted (launches_at ms)) (list_any is_misnamed (launches_at ms)) steps).1 in (
       tables_given GivesPath path_of (ruled_faults file_rules) path_given (files_at ms) files good.files,
       launches_given (files_at ms) files good.files (version_at ms) 0 (launches_at ms) launches good.launches found fits,
     )

@@ -4,7 +4,7 @@ use Rattle.std.specs.Prelude.{option_map, unwrap_or}
 use Rattle.std.specs.List.{list_all}
 use Rattle.std.specs.Str.{bytes_eq}
 use Rattle.std.specs.Str.Parse.{digits_value}
-use Rattle.std.proofs.lemmas.Bool.{ltb-true}
+use Rattle.std.proofs.lemmas.Bool.{ltb-true, and_parts}
 use Rattle.std.proofs.lemmas.List.{take-append-drop}
 use Rattle.std.proofs.lemmas.Slice.Eq.{bytes_eq-Decides}
 use Rattle.toml.specs.Data.{Data, string}
@@ -16,7 +16,6 @@ use Rattle.rim_manifest.specs.Given.{EachGives, GivesStep, SpellsNumber, SpellsS
 use Rattle.rim_manifest.specs.Names.{is_named, name_of}
 use Rattle.rim_manifest.specs.StepTexts.{decimal_number, is_decimal, item_number, or_else, step_in, step_of}
 use Rattle.rim_manifest.specs.Words.{after}
-use Rattle.rim_manifest.proofs.TablesWithoutFaults.{both}
 use Rattle.rim_manifest.proofs.ItemsFromTables.{found_at}
 
 -- what follows some first bytes
@@ -77,6 +76,6 @@ pub texts_given : (items : List Data) (regions things recs : ℕ) (ds : List Dat
     → list_all (names_something regions things recs) (map (step_in items) ds) ≡ true → EachGives (GivesStep items) ds (map (step_in items) ds)
 texts_given items regions things recs [] few t e = tt
 texts_given items regions things recs (d ∷ ds) few t e =
-    let texts = both (is_text d) (list_all is_text ds) t in
-    let named = both (names_something regions things recs (step_in items d)) (list_all (names_something regions things recs) (map (step_in items) ds)) e in
+    let texts = and_parts (is_text d) (list_all is_text ds) t in
+    let named = and_parts (names_something regions things recs (step_in items d)) (list_all (names_something regions things recs) (map (step_in items) ds)) e in
     (one_given items regions things recs d few texts.0 named.0, texts_given items regions things recs ds few texts.1 named.1)

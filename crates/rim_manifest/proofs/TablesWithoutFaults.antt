@@ -1,10 +1,10 @@
--- What holds of the values of a table, where no fault holds.
-use Rattle.std.proofs.Common.{◌≡◌, ℕ, ◌≤◌, List, [], ◌∷◌, ◌++◌, length, Bool, true, false, cond, not, ◌&&◌, ◌||◌, Option, Some, None, Ordering, Less, Equal, Greater, refl, ap, sym, ◌∙◌, codes, true≢false, arith}
+-- What not-false of the values of a table, where no fault not-false.
+use Rattle.std.proofs.Common.{◌≡◌, ℕ, ◌≤◌, List, [], ◌∷◌, ◌++◌, length, Bool, true, false, cond, not, Option, Some, None, Ordering, Less, Equal, Greater, refl, ap, sym, ◌∙◌, codes, true≢false, arith}
 use Rattle.std.specs.Prelude.{nat_lt}
 use Rattle.std.specs.List.{AllByRecursion, flat_map, list_all}
 use Rattle.std.specs.Ordering.{nat_cmp, match_ordering}
 use Rattle.std.specs.Cmp.Lexicographic.{slice_cmp}
-use Rattle.std.proofs.lemmas.Bool.{ltb-false}
+use Rattle.std.proofs.lemmas.Bool.{ltb-false, or_parts, not-false}
 use Rattle.std.proofs.lemmas.Map.Lookups.{exact_bytes}
 use Rattle.toml.specs.Data.{Data, array, table, Members, no_members, member, get_member}
 use Rattle.rim_manifest.specs.declared.fault.ManifestFault.{ManifestFault}
@@ -41,18 +41,6 @@ pub not_faulty : (b : Bool) (f : ManifestFault) → fault_if b f ≡ [] → b �
 not_faulty false f e = refl
 not_faulty true f e = cc
 
-pub both : (a b : Bool) → (a && b) ≡ true → (a ≡ true) × (b ≡ true)
-both true b e = (refl, e)
-both false b e = cc
-
-pub neither : (a b : Bool) → (a || b) ≡ false → (a ≡ false) × (b ≡ false)
-neither true b e = cc
-neither false b e = (refl, e)
-
-pub holds : (b : Bool) → not b ≡ false → b ≡ true
-holds true e = refl
-holds false e = cc
-
 -- ---- the value at a key
 
 pub record IsGood (f : Form) (d : Data) : Type 0 where
@@ -66,7 +54,7 @@ good_value f d e = go (has_kind f d) refl e
     go : (b : Bool) → has_kind f d ≡ b → cond b (value_faults f d) (WrongKind ∷ []) ≡ [] → IsGood f d
     go true k h =
         let parts = empty_parts (fault_if (is_over f d) Limit) _ h in
-        record { kind = k; few = not_faulty (is_over f d) Limit parts.0; within = holds (is_within f d) (not_faulty (not (is_within f d)) Range parts.1) }
+        record { kind = k; few = not_faulty (is_over f d) Limit parts.0; within = not-false (is_within f d) (not_faulty (not (is_within f d)) Range parts.1) }
     go false k h = cc
 
 -- an array of tables has no more members than its form allows
@@ -109,8 +97,8 @@ not_this_key rs k l d ms other known rest = go (slice_cmp nat_cmp k l) refl
 no_other_key : (rs : List Rule) (k : List ℕ) (ms : Members) → is_known rs k ≡ false → has_unknown_key rs ms ≡ false → get_member k ms ≡ None
 no_other_key rs k no_members other e = refl
 no_other_key rs k (member l d ms) other e =
-    let parts = neither (not (is_known rs l)) (has_unknown_key rs ms) e in
-    not_this_key rs k l d ms other (holds (is_known rs l) parts.0) (no_other_key rs k ms other parts.1)
+    let parts = or_parts (not (is_known rs l)) (has_unknown_key rs ms) e in
+    not_this_key rs k l d ms other (not-false (is_known rs l) parts.0) (no_other_key rs k ms other parts.1)
 
 pub not_given : (rs : List Rule) (k : List ℕ) (ms : Members) → is_known rs k ≡ false → table_faults rs ms ≡ [] → get_member k ms ≡ None
 not_given rs k ms other e =
@@ -129,7 +117,7 @@ good_top ms e =
     let after_files = empty_parts (flat_map (ruled_faults file_rules) (files_at ms)) _ after_top.1 in
     record { top = each_value top_rules ms after_top.0; files = after_files.0; launches = after_files.1 }
 
--- the keys of version 1 are in both versions
+-- the keys of version 1 are in and_parts versions
 rules_of_both : (v : FormatVersion) (ms : Members) → table_faults (launch_rules_in v) ms ≡ [] → AllByRecursion (λ r. rule_faults r ms ≡ []) launch_rules
 rules_of_both One ms e = each_value launch_rules ms e
 rules_of_both Two ms e = (all_first (λ r. rule_faults r ms ≡ []) launch_rules added_rules (each_value launch_rules_2 ms e)).0
@@ -154,6 +142,6 @@ good_launch v ms e =
       launch = rules_of_both v ms after_table.0;
       items = after_items.0;
       recs = after_recs.0;
-      asked = holds (has_asked (table ms)) (not_faulty (not (has_asked (table ms))) MissingKey after_asked.0);
+      asked = not-false (has_asked (table ms)) (not_faulty (not (has_asked (table ms))) MissingKey after_asked.0);
       ruled = not_faulty (lacks_rule v (table ms)) MissingKey after_asked.1;
     }

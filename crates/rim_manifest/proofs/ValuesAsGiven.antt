@@ -6,7 +6,7 @@ use Rattle.std.specs.List.{list_all}
 use Rattle.std.specs.Result.{result_unwrap_or}
 use Rattle.std.specs.Str.{bytes_eq}
 use Rattle.std.specs.Str.Parse.{digits_value}
-use Rattle.std.proofs.lemmas.Bool.{eqb-true}
+use Rattle.std.proofs.lemmas.Bool.{eqb-true, and_parts}
 use Rattle.std.proofs.lemmas.Slice.Eq.{bytes_eq-Decides}
 use Rattle.std.proofs.lemmas.List.{take-append-drop}
 use Rattle.std.proofs.lemmas.List.Sums.{AllPass-from_list_all}
@@ -35,7 +35,7 @@ use Rattle.rim_manifest.specs.Items.{bootargs_in, size_in}
 use Rattle.rim_manifest.specs.Names.{role_of_word}
 use Rattle.rim_manifest.specs.Versions.{rule_in}
 use Rattle.rim_manifest.specs.declared.version.FormatVersion.TheVariants.{Two}
-use Rattle.rim_manifest.proofs.TablesWithoutFaults.{IsGood, both, good_value}
+use Rattle.rim_manifest.proofs.TablesWithoutFaults.{IsGood, good_value}
 use Rattle.rim_manifest.proofs.SameRegions.{reads_as}
 use Rattle.rim_desc.specs.Measurement.{algo_word}
 
@@ -118,7 +118,7 @@ decoded (Err f) bytes h = cc
 
 pub bytes_read : (d : Data) → IsGood (form.Digits 128) d → GivesBytes (Some d) (digits_in (Some d))
 bytes_read (string s) good =
-    let parts = both (length s == 128) (list_all is_hex_digit s) good.within in
+    let parts = and_parts (length s == 128) (list_all is_hex_digit s) good.within in
     let long : length s ≡ 128 = eqb-true _ _ parts.0 in
     decoded (decode_sized s 64) (zeros 64) ((IsOk-decode_sized s 64).1 (long, AllPass-from_list_all is_hex_digit s parts.1))
 bytes_read _ good = absurd (true≢false (sym good.kind))
@@ -143,7 +143,7 @@ range_given _ _ e = cc
 
 each_region : (ds : List Data) → list_all is_range_pair ds ≡ true → EachGives GivesRegion ds (map region_in ds)
 each_region [] e = tt
-each_region (d ∷ ds) e = let parts = both (is_range_pair d) (list_all is_range_pair ds) e in (range_given (at 0 d) (at 1 d) parts.0, each_region ds parts.1)
+each_region (d ∷ ds) e = let parts = and_parts (is_range_pair d) (list_all is_range_pair ds) e in (range_given (at 0 d) (at 1 d) parts.0, each_region ds parts.1)
 
 regions_read : (most : ℕ) (d : Data) → IsGood (form.Regions most) d → EachGives GivesRegion (items_in (Some d)) (map region_in (items_in (Some d)))
 regions_read most (array ds) good = each_region (items_list ds) good.within
@@ -183,8 +183,8 @@ word_read d good = let read = some_word d (word_of d) refl good.within in rw rea
 word_fills : (ds : Items) (i : ℕ) → list_all is_word (items_list ds) ≡ true → FillsWord (get_item i ds) (word_at (array ds) i)
 word_fills no_items i e = refl
 word_fills (item d ds) zero e =
-    let read = some_word d (word_of d) refl (both (is_word d) (list_all is_word (items_list ds)) e).0 in rw read.1 read.2
-word_fills (item d ds) (suc i) e = word_fills ds i (both (is_word d) (list_all is_word (items_list ds)) e).1
+    let read = some_word d (word_of d) refl (and_parts (is_word d) (list_all is_word (items_list ds)) e).0 in rw read.1 read.2
+word_fills (item d ds) (suc i) e = word_fills ds i (and_parts (is_word d) (list_all is_word (items_list ds)) e).1
 
 pub words_read : (most : ℕ) (d : Data) → IsGood (form.Words most) d → GivesWords (Some d) (words_in (Some d))
 words_read most (array ds) good =

@@ -1,12 +1,11 @@
 -- A listing of commands that a monitor takes, with the measurement that it holds then, comes to yes.
 use Rattle.std.proofs.Common.{◌≡◌, ℕ, ◌+◌, ◌≤◌, ◌∙◌, true, List, [], ◌∷◌, ◌++◌, append_assoc, refl, sym, ap, subst, arith}
-use Rattle.std.specs.Prelude.{◌==◌, Err, None, Ok, Option, Result, Some, codes, is_ok, option_map}
+use Rattle.std.specs.Prelude.{Err, None, Ok, Option, Result, Some, codes, is_ok, option_map}
 use Rattle.std.specs.List.{All, flat_map}
-use Rattle.std.specs.Str.{bytes_eq}
 use Rattle.std.proofs.lemmas.Bool.{and_parts}
-use Rattle.std.proofs.lemmas.Bool.Decides.{nat_tests}
 use Rattle.std.proofs.lemmas.List.Elements.{All-tail}
 use Rattle.std.proofs.lemmas.Option.{same_Some}
+use Rattle.std.specs.Cmp.Lexicographic.{nat_list_eq_equiv}
 use Rattle.rim_desc.specs.Measurement.{algo_word}
 use Rattle.rim_desc.specs.declared.command.Command.{Command}
 use Rattle.rim_desc.specs.declared.measurement.Algo.{Algo}
@@ -27,13 +26,6 @@ use Rattle.rim_replay.specs.Replay.{ReplayAnswer, Replays, Takes, is_held}
 use Rattle.rim_replay.proofs.LineByLine.{at-line, first-line}
 use Rattle.rim_replay.proofs.PiecesOfTexts.{pieces}
 
-bytes-same : (bytes : List ℕ) → bytes_eq bytes bytes ≡ true
-bytes-same [] = refl
-bytes-same (b ∷ bytes) = rw (own b, bytes-same bytes) refl
-  where
-    own : (n : ℕ) → (n == n) ≡ true
-    own n = grind (arith, nat_tests)
-
 -- the realm has what the last line says
 held : (params : Option RealmParams) (rim : Option (List ℕ)) (algo : Algo) (m : Measurement) → option_map (λ p. p.algo) params ≡ Some algo → rim ≡ Some m.bytes → is_held params rim algo m ≡ true
 held None rim algo m by is = cc
@@ -41,7 +33,7 @@ held (Some p) None algo m by is = cc
 held (Some p) (Some bytes) algo m by is =
     let same : p.algo ≡ algo = same_Some p.algo algo by in
     let own : bytes ≡ m.bytes = same_Some bytes m.bytes is in
-    rw (same, own, bytes-same (algo_word algo), bytes-same (digest_bytes algo m.bytes)) refl
+    rw (same, own, nat_list_eq_equiv.refl (algo_word algo), nat_list_eq_equiv.refl (digest_bytes algo m.bytes)) refl
 
 -- a step that is not refused leads on
 taken : (r : Result State Refused) → is_ok r ≡ true → (t : State) × (r ≡ Ok t)

@@ -2,7 +2,8 @@
 use Rattle.std.proofs.Common.{inl, inr, ◌≡◌, refl, false, ◌⊎◌, List, [], ◌∷◌, ◌++◌}
 use Rattle.std.specs.Prelude.{Ok, Err, Result}
 use Rattle.std.proofs.lemmas.Bool.{cases_Bool, or_parts}
-use Rattle.refusal.specs.Answer.{◌>>=◌, with_front}
+pub use Rattle.refusal.proofs.AnswersInTurn.{bind-ok as bound}
+use Rattle.refusal.specs.Answer.{with_front}
 use Rattle.refusal.specs.Checks.{Check, unless_refused}
 use Rattle.rmm_model.proofs.AnswersOfChecks.{holds}
 use Rattle.rtt_plan.specs.declared.fault.PlanFault.{PlanFault}
@@ -18,10 +19,6 @@ is-done (check ∷ others) done answer = elim (cases_Bool check.1) [
   | inl on ↦ rw on (λ at. absurd (cc))
   | inr off ↦ rw off (λ at. is-done others done answer at)
 ]
-
-pub bound : {A B E : Type 0} (r : Result A E) (f : A → Result B E) (b : B) → (r >>= f) ≡ Ok b → (a : A) × (r ≡ Ok a) × (f a ≡ Ok b)
-bound (Ok a) f b h = (a, refl, h)
-bound (Err e) f b h = absurd (cc)
 
 pub fronted : {A E : Type 0} (front : List A) (r : Result (List A) E) (all : List A) → with_front front r ≡ Ok all → (others : List A) × (r ≡ Ok others) × (all ≡ front ++ others)
 fronted front (Ok others) all h = (others, refl, cc)

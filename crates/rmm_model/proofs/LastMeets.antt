@@ -1,5 +1,5 @@
 -- Whether a range meets one of several ranges in order, by the last of those that begin before its end.
-use Rattle.std.proofs.Common.{inl, inr, ◌≡◌, ℕ, ◌<◌, ◌≤◌, ◌∙◌, sym, refl, arith, Bool, true, false, ◌&&◌, ltb, List, [], ◌∷◌, ◌++◌, ◌⊎◌}
+use Rattle.std.proofs.Common.{inl, inr, ◌≡◌, ℕ, ◌<◌, ◌≤◌, ◌∙◌, sym, refl, arith, Bool, true, false, ◌&&◌, ltb, List, [], ◌∷◌, ◌++◌, ◌⊎◌, ◌+◌}
 use Rattle.std.specs.Prelude.{Option, Some, None}
 use Rattle.std.specs.BTreeMap.{insert_entry}
 use Rattle.std.specs.List.{filter, list_all, list_any}
@@ -11,6 +11,8 @@ use Rattle.std.proofs.Math.Bool.{or-false, or-true}
 use Rattle.std.proofs.lemmas.List.Folds.{list_any-append}
 use Rattle.rmm_model.proofs.TestsThatAgree.{filter-same}
 use Rattle.std.proofs.lemmas.Bool.{and_parts, cases_Bool, or_parts}
+use Rattle.std.specs.BTreeMap.Range.{range_contains}
+use Rattle.std.specs.declared.ops.Bound.TheVariants.{Included, Unbounded}
 use Rattle.rmm_model.specs.Apart.{are_apart}
 
 -- none is below
@@ -139,3 +141,8 @@ apart-some (r ∷ rs) low apart =
     let some : r.0 < r.1 = parts.1 in
     let i : are_some rs ≡ true = apart-some rs r.1 (parts.2) in
     grind (arith, nat_tests)
+
+-- ---- the test of a range up to an address
+
+pub begins-up_to : (last : ℕ) (e : ℕ × ℕ) → range_contains nat_cmp Unbounded (Included last) e.0 ≡ ltb e.0 (last + 1)
+begins-up_to last e = grind (arith, nat_tests)

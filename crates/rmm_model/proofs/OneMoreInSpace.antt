@@ -19,7 +19,7 @@ or-same : (a b : Bool) → (a || b) ≡ (a || (a || b))
 or-same true b = refl
 or-same false b = refl
 
-or-swap : (a b c : Bool) → (a || (b || c)) ≡ (b || (a || c))
+pub or-swap : (a b c : Bool) → (a || (b || c)) ≡ (b || (a || c))
 or-swap true true c = refl
 or-swap true false c = refl
 or-swap false b c = refl

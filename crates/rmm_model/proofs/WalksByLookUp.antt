@@ -60,9 +60,10 @@ walk-1 start ts x formed three two one = walk-at start ts x 1 formed one
     two-or-three : (k : ℕ) → 1 < k → k ≤ 3 → (k ≡ 2) ⊎ (k ≡ 3)
     two-or-three k low high = grind arith
 
+-- a level of a table is one of three
+pub levels : (j : ℕ) → 0 < j → j ≤ 3 → (j ≡ 1) ⊎ ((j ≡ 2) ⊎ (j ≡ 3))
+levels j low high = grind arith
+
 pub walk-none : (start : ℕ) (ts : List Table) (x : ℕ) → ArePlaced start ts → made_at ts 3 x ≡ false → made_at ts 2 x ≡ false → made_at ts 1 x ≡ false → start ≡ walk start ts x
 walk-none start ts x formed three two one = walk-start start ts x formed
     (λ k low high. elim (levels k low high) [ inl e ↦ rw e one | inr (inl e) ↦ rw e two | inr (inr e) ↦ rw e three ])
-  where
-    levels : (j : ℕ) → 0 < j → j ≤ 3 → (j ≡ 1) ⊎ ((j ≡ 2) ⊎ (j ≡ 3))
-    levels j low high = grind arith

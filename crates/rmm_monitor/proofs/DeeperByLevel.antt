@@ -2,12 +2,10 @@
 use Rattle.std.proofs.Common.{inl, inr, ◌≡◌, ℕ, ◌<◌, ◌≤◌, ◌∙◌, refl, arith, Bool, true, false, ◌&&◌, ◌||◌, leb, ltb, List, [], ◌∷◌, ◌⊎◌}
 use Rattle.std.proofs.lemmas.Bool.{cases_Bool}
 use Rattle.std.proofs.lemmas.Bool.Decides.{nat_tests}
+use Rattle.rmm_model.proofs.WalksByLookUp.{levels}
 use Rattle.rmm_model.specs.declared.table.Table.{Table}
 use Rattle.rmm_model.specs.Space.{ArePlaced, deeper, has_table_in, made}
 use Rattle.rmm_model.proofs.EndsOfWalks.{made-here, made-there}
-
-levels : (j : ℕ) → 0 < j → j ≤ 3 → (j ≡ 1) ⊎ ((j ≡ 2) ⊎ (j ≡ 3))
-levels j low high = grind arith
 
 pub deeper-at : (ts : List Table) (l j base top : ℕ) → l < j → has_table_in ts j base top ≡ true → deeper ts l base top ≡ true
 deeper-at [] l j base top lt = λ h. h

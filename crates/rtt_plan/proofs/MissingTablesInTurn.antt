@@ -1,8 +1,9 @@
 -- The tables that a block needs can be made one after another.
-use Rattle.std.proofs.Common.{inl, inr, ◌≡◌, ℕ, zero, suc, ◌+◌, ◌-◌, ◌/◌, ◌<◌, ◌≤◌, ◌∙◌, sym, refl, arith, Bool, true, false, cond, not, ◌||◌, eqb, ltb, ◌⊎◌, List, [], ◌∷◌, ◌++◌}
+use Rattle.std.proofs.Common.{inl, inr, ◌≡◌, ℕ, zero, suc, ◌+◌, ◌-◌, ◌/◌, ◌<◌, ◌≤◌, ◌∙◌, sym, refl, arith, Bool, true, false, cond, not, eqb, ltb, ◌⊎◌, List, [], ◌∷◌, ◌++◌}
 use Rattle.std.specs.List.{filter}
 use Rattle.std.proofs.lemmas.Bool.Decides.{nat_tests}
 use Rattle.std.proofs.lemmas.Bool.{cases_Bool}
+use Rattle.std.proofs.Math.Bool.{or-false}
 use Rattle.rmm_model.specs.Blocks.{down, span}
 use Rattle.rmm_model.specs.Space.{made, walk}
 use Rattle.rmm_model.specs.declared.table.Table.{Table}
@@ -72,11 +73,7 @@ other-level : (us : List Table) (t : Table) (j b : ℕ) → t.level < j → made
 other-level us t j b lt =
     let e : eqb t.level j ≡ false = grind (arith, nat_tests) in
     let n : made (t ∷ []) j b ≡ false = rw e refl in
-    made-append us (t ∷ []) j b ∙ rw n (or-none (made us j b))
-  where
-    or-none : (a : Bool) → (a || false) ≡ a
-    or-none true = refl
-    or-none false = refl
+    made-append us (t ∷ []) j b ∙ rw n (or-false (made us j b))
 
 -- the tables of the n levels below k, where `us` is what is made by then: `ts`, and the tables of levels up to k
 between : (start : ℕ) (ts us : List Table) (n k x : ℕ) → IsFormed start us → start ≤ k → k + n ≤ 3

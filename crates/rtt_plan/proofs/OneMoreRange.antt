@@ -9,6 +9,7 @@ use Rattle.std.proofs.Math.Nat.{mul-div_cancel}
 use Rattle.std.proofs.lemmas.Bool.{and_parts}
 use Rattle.std.proofs.lemmas.Bool.Decides.{nat_tests}
 use Rattle.std.proofs.lemmas.Map.Lookups.{exact_unsigned}
+use Rattle.std.proofs.Math.Bool.{or_comm, or-false}
 use Rattle.rmm_model.specs.Apart.{are_apart}
 use Rattle.rmm_model.specs.Blocks.{granules, is_multiple}
 use Rattle.rmm_model.specs.Space.{has, is_ram, overlaps}
@@ -17,26 +18,20 @@ use Rattle.rmm_model.proofs.LastMeets.{apart-some}
 use Rattle.rmm_model.proofs.OneMoreInSpace.{any-insert_entry, is_ram-insert, none-at, overlaps-insert}
 use Rattle.rtt_plan.specs.inside.PageRanges.{are_pages, pages_of}
 
-turned : (a b : Bool) → (a || b) ≡ (b || (a || false))
-turned true true = refl
-turned true false = refl
-turned false b = or-nothing b
-  where
-    or-nothing : (b : Bool) → b ≡ (b || false)
-    or-nothing true = refl
-    or-nothing false = refl
+pub or-last : (a b : Bool) → (a || b) ≡ (b || (a || false))
+or-last a b = or_comm a b ∙ ap (λ c. b || c) (sym (or-false a))
 
 -- ---- RAM
 
 pub ram-more : (ram : List (ℕ × ℕ)) (base end x : ℕ) → are_apart 0 ram ≡ true → base < end → overlaps ram base end ≡ false
     → is_ram (insert_entry nat_cmp ram base end) x ≡ is_ram (ram ++ (base, end) ∷ []) x
 ram-more ram base end x apart some free =
-    is_ram-insert ram base end x (apart-some ram 0 apart) some free ∙ turned (leb base x && ltb x end) (is_ram ram x) ∙ sym (ram-append ram ((base, end) ∷ []) x)
+    is_ram-insert ram base end x (apart-some ram 0 apart) some free ∙ or-last (leb base x && ltb x end) (is_ram ram x) ∙ sym (ram-append ram ((base, end) ∷ []) x)
 
 pub overlaps-more : (ram : List (ℕ × ℕ)) (base end from to : ℕ) → are_apart 0 ram ≡ true → base < end → overlaps ram base end ≡ false
     → overlaps (insert_entry nat_cmp ram base end) from to ≡ overlaps (ram ++ (base, end) ∷ []) from to
 overlaps-more ram base end from to apart some free =
-    overlaps-insert ram base end from to (apart-some ram 0 apart) some free ∙ turned (ltb base to && ltb from end) (overlaps ram from to)
+    overlaps-insert ram base end from to (apart-some ram 0 apart) some free ∙ or-last (ltb base to && ltb from end) (overlaps ram from to)
     ∙ sym (overlaps-append ram ((base, end) ∷ []) from to)
 
 -- ---- pages
@@ -65,12 +60,6 @@ has-in : (es : List (ℕ × ℕ)) (x : ℕ) → has (pages_of es) x ≡ list_any
 has-in [] x = refl
 has-in (r ∷ rs) x = has-append (granules ((r.1 - r.0) / 4096) r.0) (pages_of rs) x ∙ ap (λ b. has (granules ((r.1 - r.0) / 4096) r.0) x || b) (has-in rs x)
 
-either-way : (a b : Bool) → (a || b) ≡ (b || a)
-either-way true true = refl
-either-way true false = refl
-either-way false true = refl
-either-way false false = refl
-
 pub assigned-more : (es : List (ℕ × ℕ)) (base count x : ℕ) → are_apart 0 es ≡ true → 1 ≤ count → overlaps es base (base + 4096 * count) ≡ false
     → has (pages_of (insert_entry nat_cmp es base (base + 4096 * count))) x ≡ has (pages_of es ++ granules count base) x
 assigned-more es base count x apart some free =
@@ -82,6 +71,6 @@ assigned-more es base count x apart some free =
     has-in (insert_entry nat_cmp es base (base + 4096 * count)) x
     ∙ any-insert_entry p es base (base + 4096 * count) (none-at es base (base + 4096 * count) (apart-some es 0 apart) less free)
     ∙ ap (λ (n : ℕ). has (granules n base) x || list_any p es) number
-    ∙ either-way (has (granules count base) x) (list_any p es)
+    ∙ or_comm (has (granules count base) x) (list_any p es)
     ∙ ap (λ b. b || has (granules count base) x) (sym (has-in es x))
     ∙ sym (has-append (pages_of es) (granules count base) x)

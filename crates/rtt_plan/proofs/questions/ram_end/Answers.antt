@@ -6,13 +6,9 @@ use Rattle.std.specs.declared.ops.Bound.TheVariants.{Included, Unbounded}
 use Rattle.std.proofs.lemmas.Bool.Decides.{nat_tests}
 use Rattle.rmm_model.specs.Blocks.{is_multiple}
 use Rattle.rmm_model.specs.Space.{overlaps}
-use Rattle.rmm_model.proofs.LastMeets.{last-all, last-any, last-meets, last-passes, none-meets}
+use Rattle.rmm_model.proofs.LastMeets.{last-all, last-any, last-meets, last-passes, none-meets, begins-up_to}
 use Rattle.rmm_model.proofs.RangesOfRam.{no-ram}
 use Rattle.rtt_plan.proofs.questions.ram_end.Goals as goal
-
--- the test of the range up to an address
-same : (ipa : ℕ) (e : ℕ × ℕ) → range_contains nat_cmp Unbounded (Included ipa) e.0 ≡ ltb e.0 (ipa + 1)
-same ipa e = grind (arith, nat_tests)
 
 pub returns-then-ipa-top-clause-some : goal.returns-then-ipa-top-clause-some
 returns-then-ipa-top-clause-some c =
@@ -44,7 +40,7 @@ returns-else-ipa-top-clause-none c =
     let meets : ltb c.args.ipa c.in-Some.top.now ≡ overlaps c.args.ram.now.entries c.args.ipa (c.args.ipa + 1) =
     last-meets deref_pair (λ e. range_contains nat_cmp Unbounded (Included c.args.ipa) e.0) c.args.ram.now.entries
     c.range.result c.next_back.new.self c.next_back.result (c.in-Some.field-0-0, c.in-Some.top) c.args.ipa (c.args.ipa + 1)
-    c.requires.apart (same c.args.ipa) (c.range.ensures.between tt) c.in-Some.is c.next_back.ensures.steps in
+    c.requires.apart (begins-up_to c.args.ipa) (c.range.ensures.between tt) c.in-Some.is c.next_back.ensures.steps in
     let off : ltb c.args.ipa c.in-Some.top.now ≡ false = grind (arith, nat_tests) in
     no-ram c.args.ram.now.entries c.args.ipa (c.args.ipa + 1) c.args.ipa (sym meets ∙ off) (omega arith) (omega arith)
 
@@ -53,5 +49,5 @@ returns-in-None-clause-none c =
     no-ram c.args.ram.now.entries c.args.ipa (c.args.ipa + 1) c.args.ipa
     (sym (none-meets deref_pair (λ e. range_contains nat_cmp Unbounded (Included c.args.ipa) e.0) c.args.ram.now.entries
     c.range.result c.next_back.new.self c.next_back.result c.args.ipa (c.args.ipa + 1)
-    (same c.args.ipa) (c.range.ensures.between tt) c.in-None.is c.next_back.ensures.steps))
+    (begins-up_to c.args.ipa) (c.range.ensures.between tt) c.in-None.is c.next_back.ensures.steps))
     (omega arith) (omega arith)
