@@ -15,7 +15,8 @@ found_in_tables ms fs all some = go (lowest fs) refl some
     go (Some f) e h = record { fault = f; refused = ap (fault_or_named ms) (sym (ap lowest all) ∙ e); lowest = e; tables = λ _. all }
     go None e h = cc
 
-pub found_in_names : (ms : Members) (fs : List ManifestFault) (f : ManifestFault) → lowest (manifest_faults ms) ≡ None → named_of ms ≡ Err f → lowest fs ≡ Some f → AreFound ms fs
+pub found_in_names : (ms : Members) (fs : List ManifestFault) (f : ManifestFault) → lowest (manifest_faults ms) ≡ None → named_of ms ≡ Err f
+    → lowest fs ≡ Some f → AreFound ms fs
 found_in_names ms fs f none refused least =
     record { fault = f; refused = ap (fault_or_named ms) none ∙ refused; lowest = least; tables = λ some. absurd (some (none_noted (manifest_faults ms) none)) }
 
@@ -23,7 +24,8 @@ pub accepted : (ms : Members) (r : ReleaseData) → lowest (manifest_faults ms) 
 accepted ms r none read = ap (fault_or_named ms) none ∙ read
 
 -- no table has a fault where none of those that were found is the lowest
-pub none_lowest : (ms : Members) (fs : List ManifestFault) (o : Option ManifestFault) → fs ≡ manifest_faults ms → o ≡ lowest fs → is_some o ≡ false → lowest (manifest_faults ms) ≡ None
+pub none_lowest : (ms : Members) (fs : List ManifestFault) (o : Option ManifestFault) → fs ≡ manifest_faults ms → o ≡ lowest fs → is_some o ≡ false
+    → lowest (manifest_faults ms) ≡ None
 none_lowest ms fs None all least none = ap lowest (sym all) ∙ sym least
 none_lowest ms fs (Some f) all least none = cc
 

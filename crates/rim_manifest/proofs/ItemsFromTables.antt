@@ -1,5 +1,6 @@
 -- What is found among tables, and the items that their tables read as.
-use Rattle.std.proofs.Common.{◌≡◌, ℕ, suc, ◌+◌, ◌<◌, List, [], ◌∷◌, length, map, Bool, true, false, cond, not, ◌&&◌, ◌||◌, Some, None, refl, ap, sym, ◌∙◌, arith}
+use Rattle.std.proofs.Common.{◌≡◌, ℕ, suc, ◌+◌, ◌<◌, List, [], ◌∷◌, length, map, Bool, true, false, cond, not, ◌&&◌, ◌||◌, Some, None, refl, ap, sym, ◌∙◌}
+use Rattle.std.proofs.Common.{arith}
 use Rattle.std.specs.Prelude.{count_by, nat_lt, position, slice_get, unwrap_or}
 use Rattle.std.specs.List.{list_any, position_or_len}
 use Rattle.std.proofs.lemmas.Bool.{lt-ltb, ltb-true}
@@ -30,7 +31,8 @@ place_below p (x ∷ xs) e = below_more (p x) (position_or_len p xs) (length xs)
 pub found_below : {X : Type 0} (p : X → Bool) (xs : List X) → list_any p xs ≡ true → unwrap_or (position p xs) 0 < length xs
 found_below p xs e = let below = place_below p xs e in rw (lt-ltb _ _ below) below
 
-place_more : {X : Type 0} (p : X → Bool) (x : X) (xs : List X) (n m : ℕ) (b : Bool) → p x ≡ b → (n < m → (y : X) × (slice_get xs n ≡ Some y) × (p y ≡ true)) → cond (not b) (1 + n) 0 < suc m
+place_more : {X : Type 0} (p : X → Bool) (x : X) (xs : List X) (n m : ℕ) (b : Bool) → p x ≡ b → (n < m → (y : X) × (slice_get xs n ≡ Some y) × (p y ≡ true))
+    → cond (not b) (1 + n) 0 < suc m
     → (y : X) × (slice_get (x ∷ xs) (cond (not b) (1 + n) 0) ≡ Some y) × (p y ≡ true)
 place_more p x xs n m true h rest below = (x, refl, h)
 place_more p x xs n m false h rest below =
@@ -39,14 +41,17 @@ place_more p x xs n m false h rest below =
     (found.0, ap (slice_get (x ∷ xs)) next ∙ found.1, found.2)
 
 -- what is at the first place that passes
-first_found : {X : Type 0} (p : X → Bool) (xs : List X) → position_or_len p xs < length xs → (y : X) × (slice_get xs (position_or_len p xs) ≡ Some y) × (p y ≡ true)
+first_found : {X : Type 0} (p : X → Bool) (xs : List X) → position_or_len p xs < length xs
+    → (y : X) × (slice_get xs (position_or_len p xs) ≡ Some y) × (p y ≡ true)
 first_found p [] below = absurd (omega (arith, below))
 first_found p (x ∷ xs) below = place_more p x xs (position_or_len p xs) (length xs) (p x) refl (first_found p xs) below
 
-pub found_there : {X : Type 0} (p : X → Bool) (xs : List X) → list_any p xs ≡ true → (y : X) × (slice_get xs (unwrap_or (position p xs) 0) ≡ Some y) × (p y ≡ true)
+pub found_there : {X : Type 0} (p : X → Bool) (xs : List X) → list_any p xs ≡ true
+    → (y : X) × (slice_get xs (unwrap_or (position p xs) 0) ≡ Some y) × (p y ≡ true)
 found_there p xs e = let below = place_below p xs e in rw (lt-ltb _ _ below) (first_found p xs below)
 
-at_position : {X : Type 0} (p : X → Bool) (xs : List X) (n : ℕ) (b : Bool) → nat_lt (position_or_len p xs) (length xs) ≡ b → cond b (Some (position_or_len p xs)) None ≡ Some n
+at_position : {X : Type 0} (p : X → Bool) (xs : List X) (n : ℕ) (b : Bool) → nat_lt (position_or_len p xs) (length xs) ≡ b
+    → cond b (Some (position_or_len p xs)) None ≡ Some n
     → (y : X) × (slice_get xs n ≡ Some y) × (p y ≡ true)
 at_position p xs n true below e =
     let found = first_found p xs (ltb-true _ _ below) in
@@ -102,12 +107,14 @@ count-items files r (d ∷ ds) =
     let same : cond {A = ℕ} (has_role r (item_of files d)) 1 0 ≡ cond {A = ℕ} (is_at_role r d) 1 0 = ap (λ (b : Bool). cond b 1 0) (role-item files r d) in
     omega (arith, first, second, same, count-items files r ds)
 
-pub initrd-items : (files : List Data) (ds : List Data) → list_any (λ i. needs_initrd i.kind) (map (item_of files) ds) ≡ list_any (λ d. is_at_role Dtb d && (edits_of d).initrd) ds
+pub initrd-items : (files : List Data) (ds : List Data)
+    → list_any (λ i. needs_initrd i.kind) (map (item_of files) ds) ≡ list_any (λ d. is_at_role Dtb d && (edits_of d).initrd) ds
 unfolding item_of
 initrd-items files [] = refl
 initrd-items files (d ∷ ds) = rw (initrd-kind (role_at d) (file_at files d) d, initrd-items files ds) refl
 
-pub memory-items : (files : List Data) (ds : List Data) → list_any (λ i. needs_memory i.kind) (map (item_of files) ds) ≡ list_any (λ d. is_at_role Dtb d && (edits_of d).memory) ds
+pub memory-items : (files : List Data) (ds : List Data)
+    → list_any (λ i. needs_memory i.kind) (map (item_of files) ds) ≡ list_any (λ d. is_at_role Dtb d && (edits_of d).memory) ds
 unfolding item_of
 memory-items files [] = refl
 memory-items files (d ∷ ds) = rw (memory-kind (role_at d) (file_at files d) d, memory-items files ds) refl

@@ -1,5 +1,6 @@
 -- The lowest of some faults: where it comes from, and what it is below.
-use Rattle.std.proofs.Common.{◌≡◌, ℕ, ◌≤◌, ◌<◌, List, [], ◌∷◌, ◌++◌, length, zero, suc, Bool, true, false, cond, not, Option, Some, None, Err, refl, ap, ◌∙◌, arith, ◌⊎◌, inl, inr, codes}
+use Rattle.std.proofs.Common.{◌≡◌, ℕ, ◌≤◌, ◌<◌, List, [], ◌∷◌, ◌++◌, length, zero, suc, Bool, true, false, cond, not, Option, Some, None, Err, refl, ap, ◌∙◌}
+use Rattle.std.proofs.Common.{arith, ◌⊎◌, inl, inr, codes}
 use Rattle.std.specs.Prelude.{nat_le, Contains, slice_index_or}
 use Rattle.std.specs.List.{AllByRecursion, flat_map}
 use Rattle.std.proofs.lemmas.Bool.{leb-false, leb-true}
@@ -13,7 +14,8 @@ use Rattle.rim_manifest.specs.Rules.{Rule, file_rules, rec_rules, top_rules}
 use Rattle.rim_manifest.specs.Versions.{has_version, lacks_rule, launch_rules_in, version_at}
 use Rattle.rim_manifest.specs.declared.version.FormatVersion.{FormatVersion}
 use Rattle.rim_manifest.specs.Checks.{cell_faults, has_unknown_key, rule_faults, ruled_faults, table_faults}
-use Rattle.rim_manifest.specs.Manifest.{all_faults, fault_or_named, fault_or_release, files_at, has_no_file, has_two_names, item_faults, launch_faults, launches_at, manifest_faults, name_faults, read_of, rules_of}
+use Rattle.rim_manifest.specs.Manifest.{all_faults, fault_or_named, fault_or_release, files_at, has_no_file, has_two_names, item_faults, launch_faults}
+use Rattle.rim_manifest.specs.Manifest.{launches_at, manifest_faults, name_faults, read_of, rules_of}
 use Rattle.rim_manifest.specs.Names.{has_asked, role_at}
 use Rattle.rim_manifest.specs.StepTexts.{has_bad_steps}
 use Rattle.rim_manifest.specs.Values.{array_at}
@@ -77,7 +79,8 @@ noted_found (Some g) [] f h = record { origin = inl h; start = same_rank f g h; 
 noted_found o (g ∷ gs) f h = found_behind o g gs f (noted_found (lower o g) gs f h)
 
 -- nothing was found only where no fault is
-kept : (x g : ManifestFault) (gs : List ManifestFault) (b : Bool) → ((y : ManifestFault) → (noted (Some y) gs ≡ None) → ⊥) → noted (cond b (Some x) (Some g)) gs ≡ None → ⊥
+kept : (x g : ManifestFault) (gs : List ManifestFault) (b : Bool) → ((y : ManifestFault) → (noted (Some y) gs ≡ None) → ⊥)
+    → noted (cond b (Some x) (Some g)) gs ≡ None → ⊥
 kept x g gs true ih h = ih x h
 kept x g gs false ih h = ih g h
 
@@ -121,7 +124,8 @@ early_cell r (Some d) = by_kind (has_kind r.form d)
 
 early_table : (rs : List Rule) (ms : Members) → Early (table_faults rs ms)
 early_table rs ms =
-    early_append _ _ (early_if (has_unknown_key rs ms) UnknownKey (omega arith)) (early_flat_map (λ r. rule_faults r ms) (λ r. early_cell r (get_member r.key ms)) rs)
+    early_append _ _ (early_if (has_unknown_key rs ms) UnknownKey (omega arith))
+    (early_flat_map (λ r. rule_faults r ms) (λ r. early_cell r (get_member r.key ms)) rs)
 
 early_ruled : (rs : List Rule) (d : Data) → Early (ruled_faults rs d)
 unfolding Early
@@ -142,7 +146,8 @@ unfolding manifest_faults
 early_manifest ms =
     early_append _ _ (early_if (not (has_version (get_member (codes "rim_manifest") ms))) Version (omega arith))
     (early_append _ _ (early_table top_rules ms)
-    (early_append _ _ (early_flat_map (ruled_faults file_rules) (early_ruled file_rules) (files_at ms)) (early_flat_map (launch_faults (version_at ms)) (early_launch (version_at ms)) (launches_at ms))))
+    (early_append _ _ (early_flat_map (ruled_faults file_rules) (early_ruled file_rules) (files_at ms))
+    (early_flat_map (launch_faults (version_at ms)) (early_launch (version_at ms)) (launches_at ms))))
 
 behind_append : (f : ManifestFault) (fs gs : List ManifestFault) → NotBehind f fs → NotBehind f gs → NotBehind f (fs ++ gs)
 unfolding NotBehind
@@ -164,7 +169,8 @@ late_names : (ms : Members) (f : ManifestFault) → rank_of f ≤ 7 → NotBehin
 unfolding name_faults
 late_names ms f low =
     behind_append f _ _ (behind_if f (has_two_names ms) TwoNames low)
-    (behind_append f _ _ (behind_if f (has_no_file ms) NoSuchFile (omega (arith, low))) (behind_if f (has_bad_steps (launches_at ms)) BadStep (omega (arith, low))))
+    (behind_append f _ _ (behind_if f (has_no_file ms) NoSuchFile (omega (arith, low)))
+    (behind_if f (has_bad_steps (launches_at ms)) BadStep (omega (arith, low))))
 
 -- the fault that a document is refused with is the lowest of all that hold: one of a table, or else one of names
 by_tables : (ms : Members) (f : ManifestFault) → lowest (manifest_faults ms) ≡ Some f → IsLowest f (all_faults ms)

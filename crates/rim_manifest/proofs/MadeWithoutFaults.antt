@@ -1,5 +1,6 @@
 -- The type of a launch has what is read where no fault not-false, and only then.
-use Rattle.std.proofs.Common.{◌≡◌, ℕ, zero, suc, ◌+◌, ◌<◌, ◌≤◌, List, [], ◌∷◌, ◌++◌, length, get_or, map, Bool, true, false, cond, not, ◌||◌, Option, Some, None, Ok, Err, refl, ap, sym, ◌∙◌, codes, arith}
+use Rattle.std.proofs.Common.{◌≡◌, ℕ, zero, suc, ◌+◌, ◌<◌, ◌≤◌, List, [], ◌∷◌, ◌++◌, length, get_or, map, Bool, true, false, cond, not, ◌||◌, Option, Some}
+use Rattle.std.proofs.Common.{None, Ok, Err, refl, ap, sym, ◌∙◌, codes, arith}
 use Rattle.std.specs.List.{flat_map, list_all, list_any}
 use Rattle.std.proofs.lemmas.Bool.{le-leb, and_parts, or_parts, not-false}
 use Rattle.std.proofs.lemmas.List.{length-map}
@@ -48,21 +49,33 @@ once-items files d =
 
 -- the steps of a launch, stated or not
 steps_hold : (files : List Data) (d : Data) (o : Option Data) → misnames d o ≡ false
-    → steps_complete (length (ram_of d)) (length (items_of files d)) (length (recs_of d)) (steps_in (length (ram_of d)) (array_at (codes "item") d) (items_of files d) (length (recs_of d)) o) ≡ true
+    → steps_complete (length (ram_of d)) (length (items_of files d)) (length (recs_of d))
+    (steps_in (length (ram_of d)) (array_at (codes "item") d) (items_of files d) (length (recs_of d)) o) ≡ true
 steps_hold files d None e = default-complete (length (ram_of d)) (items_of files d) (length (recs_of d))
 steps_hold files d (Some s) e =
-    rw (length-map (array_at (codes "ram") d) region_in, length-map (array_at (codes "item") d) (item_of files), length-map (array_at (codes "rec") d) rec_of) (not-false _ e)
+    rw (
+      length-map (array_at (codes "ram") d) region_in,
+      length-map (array_at (codes "item") d) (item_of files),
+      length-map (array_at (codes "rec") d) rec_of,
+    ) (not-false _ e)
 
 steps_named : (files : List Data) (d : Data) (o : Option Data)
-    → steps_complete (length (ram_of d)) (length (items_of files d)) (length (recs_of d)) (steps_in (length (ram_of d)) (array_at (codes "item") d) (items_of files d) (length (recs_of d)) o) ≡ true
+    → steps_complete (length (ram_of d)) (length (items_of files d)) (length (recs_of d))
+    (steps_in (length (ram_of d)) (array_at (codes "item") d) (items_of files d) (length (recs_of d)) o) ≡ true
     → misnames d o ≡ false
 steps_named files d None e = refl
 steps_named files d (Some s) e =
-    let lengths : steps_complete (length (array_at (codes "ram") d)) (length (array_at (codes "item") d)) (length (array_at (codes "rec") d)) (map (step_in (array_at (codes "item") d)) (values_of s)) ≡ true =
-    rw (← length-map (array_at (codes "ram") d) region_in, ← length-map (array_at (codes "item") d) (item_of files), ← length-map (array_at (codes "rec") d) rec_of) e in
+    let lengths : steps_complete (length (array_at (codes "ram") d)) (length (array_at (codes "item") d)) (length (array_at (codes "rec") d))
+    (map (step_in (array_at (codes "item") d)) (values_of s)) ≡ true =
+    rw (
+      ← length-map (array_at (codes "ram") d) region_in,
+      ← length-map (array_at (codes "item") d) (item_of files),
+      ← length-map (array_at (codes "rec") d) rec_of,
+    ) e in
     ap not lengths
 
-is_made : (v : FormatVersion) (files : List Data) (n : ℕ) (d : Data) → length (array_at (codes "ram") d) ≤ 64 → length (array_at (codes "item") d) ≤ 64 → length (array_at (codes "rec") d) ≤ 1024
+is_made : (v : FormatVersion) (files : List Data) (n : ℕ) (d : Data) → length (array_at (codes "ram") d) ≤ 64 → length (array_at (codes "item") d) ≤ 64
+    → length (array_at (codes "rec") d) ≤ 1024
     → kinds_once (array_at (codes "item") d) ≡ true → has_asked d ≡ true → is_misnamed d ≡ false → is_launch (launch_of v files n d).launch ≡ true
 unfolding is_launch
 is_made v files n d ram items recs once asked named =
@@ -72,15 +85,18 @@ is_made v files n d ram items recs once asked named =
     rw (le-leb _ _ regions, le-leb _ _ things, le-leb _ _ processors, once-items files d, once, asked-items files d, asked)
     (steps_hold files d (get (codes "steps") d) named)
 
-launch_made : (v : FormatVersion) (files : List Data) (n : ℕ) (d : Data) → launch_faults v d ≡ [] → repeats d ≡ false → is_misnamed d ≡ false → is_launch (launch_of v files n d).launch ≡ true
+launch_made : (v : FormatVersion) (files : List Data) (n : ℕ) (d : Data) → launch_faults v d ≡ [] → repeats d ≡ false → is_misnamed d ≡ false
+    → is_launch (launch_of v files n d).launch ≡ true
 launch_made v files n (table ms) e single named =
     let good = good_launch v ms e in
     let rest = good.launch.1.1.1.1.1.1.1.1.1.1.1.1.1.1 in
     let once = not-false (kinds_once (array_at (codes "item") (table ms))) (or_parts (share_names (array_at (codes "item") (table ms))) _ single).1 in
-    is_made v files n (table ms) (few_regions (codes "ram") Optional 64 _ rest.0) (few_tables (codes "item") Optional 64 _ rest.1.0) (few_tables (codes "rec") Optional 1024 _ rest.1.1.0) once good.asked named
+    is_made v files n (table ms) (few_regions (codes "ram") Optional 64 _ rest.0) (few_tables (codes "item") Optional 64 _ rest.1.0)
+    (few_tables (codes "rec") Optional 1024 _ rest.1.1.0) once good.asked named
 launch_made v files n d e single named = is_made v files n d (omega arith) (omega arith) (omega arith) refl refl named
 
-launches_made : (v : FormatVersion) (files : List Data) (n : ℕ) (ds : List Data) → flat_map (launch_faults v) ds ≡ [] → list_any repeats ds ≡ false → list_any is_misnamed ds ≡ false
+launches_made : (v : FormatVersion) (files : List Data) (n : ℕ) (ds : List Data) → flat_map (launch_faults v) ds ≡ [] → list_any repeats ds ≡ false
+    → list_any is_misnamed ds ≡ false
     → list_all (λ (l : NamedData). is_launch l.launch) (launches_from v files n ds) ≡ true
 launches_made v files n [] e single named = refl
 launches_made v files n (d ∷ ds) e single named =
@@ -90,7 +106,8 @@ launches_made v files n (d ∷ ds) e single named =
     rw (launch_made v files n d parts.0 each.0 fits.0) (launches_made v files (n + 1) ds parts.1 each.1 fits.1)
 
 -- where the type has all launches, their steps fit
-launches_named : (v : FormatVersion) (files : List Data) (n : ℕ) (ds : List Data) → list_all (λ (l : NamedData). is_launch l.launch) (launches_from v files n ds) ≡ true → list_any is_misnamed ds ≡ false
+launches_named : (v : FormatVersion) (files : List Data) (n : ℕ) (ds : List Data)
+    → list_all (λ (l : NamedData). is_launch l.launch) (launches_from v files n ds) ≡ true → list_any is_misnamed ds ≡ false
 unfolding is_launch
 launches_named v files n [] e = refl
 launches_named v files n (d ∷ ds) e =
@@ -99,7 +116,8 @@ launches_named v files n (d ∷ ds) e =
     rw (steps_named files d (get (codes "steps") d) fits) (launches_named v files (n + 1) ds parts.1)
 
 -- what the reader of all launches answers
-pub all_read : (ms : Members) (ls : List NamedData) → all_made (launches_of ms) ≡ Ok ls → (ls ≡ launches_of ms) × (list_any is_misnamed (launches_at ms) ≡ false)
+pub all_read : (ms : Members) (ls : List NamedData) → all_made (launches_of ms) ≡ Ok ls
+    → (ls ≡ launches_of ms) × (list_any is_misnamed (launches_at ms) ≡ false)
 all_read ms ls e = go (list_all (λ (l : NamedData). is_launch l.launch) (launches_of ms)) refl e
   where
     go : (b : Bool) → list_all (λ (l : NamedData). is_launch l.launch) (launches_of ms) ≡ b → cond b (Ok (launches_of ms)) (Err BadStep) ≡ Ok ls
@@ -124,19 +142,24 @@ all_refused ms f e single refused = go (list_any is_misnamed (launches_at ms)) r
     go : (b : Bool) → list_any is_misnamed (launches_at ms) ≡ b → (f ≡ BadStep) × (b ≡ true)
     go true t = (fault (list_all (λ (l : NamedData). is_launch l.launch) (launches_of ms)) refused, refl)
     go false t =
-        let all : list_all (λ (l : NamedData). is_launch l.launch) (launches_of ms) ≡ true = launches_made (version_at ms) (files_at ms) 0 (launches_at ms) good.launches once t in
+        let all : list_all (λ (l : NamedData). is_launch l.launch) (launches_of ms) ≡ true =
+        launches_made (version_at ms) (files_at ms) 0 (launches_at ms) good.launches once t in
         let made_all : all_made (launches_of ms) ≡ Ok (launches_of ms) = rw all refl in
         cc
 
 -- ---- one launch, as the program makes it
 
-pub parts_read : (v : FormatVersion) (files : List Data) (n : ℕ) (d : Data) (config : Config) (ram : List Region) (items : List Item) (recs : List Rec) (steps : List Step) (o : Option LaunchData)
-    → config ≡ config_of v d → ram ≡ ram_of d → items ≡ items_of files d → recs ≡ recs_of d → steps ≡ steps_in (length ram) (array_at (codes "item") d) items (length recs) (get (codes "steps") d)
-    → (let l : LaunchData = record { number = n; config = config; ram = ram; items = items; recs = recs; steps = steps } in o ≡ cond (is_launch l) (Some l) None)
+pub parts_read : (v : FormatVersion) (files : List Data) (n : ℕ) (d : Data) (config : Config) (ram : List Region) (items : List Item) (recs : List Rec)
+    (steps : List Step) (o : Option LaunchData)
+    → config ≡ config_of v d → ram ≡ ram_of d → items ≡ items_of files d → recs ≡ recs_of d
+    → steps ≡ steps_in (length ram) (array_at (codes "item") d) items (length recs) (get (codes "steps") d)
+    → (let l : LaunchData = record { number = n; config = config; ram = ram; items = items; recs = recs; steps = steps } in o ≡ cond (is_launch l)
+    (Some l) None)
     → o ≡ cond (is_launch (launch_of v files n d).launch) (Some (launch_of v files n d).launch) None
 parts_read v files n d config ram items recs steps o config_is ram_is items_is recs_is steps_is e = rw (steps_is, config_is, ram_is, items_is, recs_is) at e
 
-pub some_made : (l : NamedData) (name : List ℕ) (x : LaunchData) (o : Option LaunchData) → name ≡ l.name → o ≡ cond (is_launch l.launch) (Some l.launch) None → o ≡ Some x
+pub some_made : (l : NamedData) (name : List ℕ) (x : LaunchData) (o : Option LaunchData) → name ≡ l.name
+    → o ≡ cond (is_launch l.launch) (Some l.launch) None → o ≡ Some x
     → made l ≡ Ok (record { name = name; launch = x })
 some_made l name x o named e there = go (is_launch l.launch) (sym there ∙ e)
   where
@@ -164,30 +187,38 @@ all_with_last : (p : NamedData → Bool) (ls : List NamedData) (l : NamedData) �
 all_with_last p [] l e h = rw h refl
 all_with_last p (m ∷ ls) l e h = let parts = and_parts (p m) (list_all p ls) e in rw parts.0 (all_with_last p ls l parts.1 h)
 
-pub made_step : (ls after : List NamedData) (l : NamedData) → list_all (λ (m : NamedData). is_launch m.launch) ls ≡ true → is_launch l.launch ≡ true → after ≡ ls ++ l ∷ []
+pub made_step : (ls after : List NamedData) (l : NamedData) → list_all (λ (m : NamedData). is_launch m.launch) ls ≡ true → is_launch l.launch ≡ true
+    → after ≡ ls ++ l ∷ []
     → list_all (λ (m : NamedData). is_launch m.launch) after ≡ true
-made_step ls after l so_far one pushed = ap (list_all (λ (m : NamedData). is_launch m.launch)) pushed ∙ all_with_last (λ (m : NamedData). is_launch m.launch) ls l so_far one
+made_step ls after l so_far one pushed =
+    ap (list_all (λ (m : NamedData). is_launch m.launch)) pushed ∙ all_with_last (λ (m : NamedData). is_launch m.launch) ls l so_far one
 
 pub made_all : (ls wanted : List NamedData) → ls ≡ wanted → list_all (λ (m : NamedData). is_launch m.launch) ls ≡ true → all_made wanted ≡ Ok ls
 made_all ls wanted same all = rw (← same, all) refl
 
-not_all : (version : FormatVersion) (files : List Data) (n : ℕ) (vs : List Value) (i : ℕ) (v : Value) → i < length vs → v ≡ get_or vs i v → is_launch (launch_of version files (n + i) (view v)).launch ≡ false
+not_all : (version : FormatVersion) (files : List Data) (n : ℕ) (vs : List Value) (i : ℕ) (v : Value) → i < length vs → v ≡ get_or vs i v
+    → is_launch (launch_of version files (n + i) (view v)).launch ≡ false
     → list_all (λ (l : NamedData). is_launch l.launch) (launches_from version files n (map view vs)) ≡ false
 not_all version files n [] i v h at e = absurd (omega arith)
 not_all version files n (w ∷ vs) zero v h at e =
     let place : n + 0 ≡ n = omega arith in
-    let first : is_launch (launch_of version files n (view w)).launch ≡ false = ap (λ u. is_launch (launch_of version files n (view u)).launch) (sym at) ∙ ap (λ k. is_launch (launch_of version files k (view v)).launch) (sym place) ∙ e in
+    let first : is_launch (launch_of version files n (view w)).launch ≡ false =
+    ap (λ u. is_launch (launch_of version files n (view u)).launch) (sym at)
+    ∙ ap (λ k. is_launch (launch_of version files k (view v)).launch) (sym place) ∙ e in
     rw first refl
 not_all version files n (w ∷ vs) (suc i) v h at e =
     let place : n + 1 + i ≡ n + suc i = omega arith in
     rw (not_all version files (n + 1) vs i v (omega arith) at (ap (λ k. is_launch (launch_of version files k (view v)).launch) place ∙ e)) (and-false _)
 
-pub one_not_made : (version : FormatVersion) (files : List Data) (vs : List Value) (i : ℕ) (v : Value) (f : ManifestFault) → i < length vs → v ≡ get_or vs i v → made (launch_of version files i (view v)) ≡ Err f
+pub one_not_made : (version : FormatVersion) (files : List Data) (vs : List Value) (i : ℕ) (v : Value) (f : ManifestFault) → i < length vs
+    → v ≡ get_or vs i v → made (launch_of version files i (view v)) ≡ Err f
     → all_made (launches_from version files 0 (map view vs)) ≡ Err f
 one_not_made version files vs i v f h at e = go (is_launch (launch_of version files i (view v)).launch) refl e
   where
-    go : (b : Bool) → is_launch (launch_of version files i (view v)).launch ≡ b → cond b (Ok (launch_of version files i (view v))) (Err BadStep) ≡ Err f → all_made (launches_from version files 0 (map view vs)) ≡ Err f
+    go : (b : Bool) → is_launch (launch_of version files i (view v)).launch ≡ b → cond b (Ok (launch_of version files i (view v))) (Err BadStep) ≡ Err f
+        → all_made (launches_from version files 0 (map view vs)) ≡ Err f
     go true t same = cc
     go false t same =
         let place : 0 + i ≡ i = omega arith in
-        rw (not_all version files 0 vs i v h at (ap (λ k. is_launch (launch_of version files k (view v)).launch) place ∙ t)) (let fault : BadStep ≡ f = cc in ap Err fault)
+        rw (not_all version files 0 vs i v h at (ap (λ k. is_launch (launch_of version files k (view v)).launch) place ∙ t))
+        (let fault : BadStep ≡ f = cc in ap Err fault)

@@ -9,7 +9,8 @@ use Rattle.rim_manifest.specs.declared.fault.ManifestFault.TheVariants.{BadStep,
 use Rattle.rim_manifest.specs.Faults.{fault_if, lower, lowest}
 use Rattle.rim_manifest.specs.Launches.{ReleaseData}
 use Rattle.rim_manifest.specs.StepTexts.{has_bad_steps}
-use Rattle.rim_manifest.specs.Manifest.{document_of, fault_or_named, fault_or_release, has_no_file, has_two_names, launches_at, launches_of, manifest_faults, manifest_of, name_faults, named_of, paths_of}
+use Rattle.rim_manifest.specs.Manifest.{document_of, fault_or_named, fault_or_release, has_no_file, has_two_names, launches_at, launches_of, manifest_faults}
+use Rattle.rim_manifest.specs.Manifest.{manifest_of, name_faults, named_of, paths_of}
 
 pub document_read : (b : List ℕ) (ms : Members) → IsUtf8 b → parse_document b ≡ Some ms → document_of b ≡ Some ms
 unfolding document_of
@@ -25,7 +26,8 @@ document_refused b h = elim (is_utf8 b) as (λ t. is_utf8 b ≡ t → cond t (pa
 pub refused : (b : List ℕ) → document_of b ≡ None → Err Syntax ≡ manifest_of b
 refused b d = rw d
 
-pub answered : (b : List ℕ) (ms : Members) (o : Option ManifestFault) → document_of b ≡ Some ms → o ≡ lowest (manifest_faults ms) → fault_or_named ms o ≡ manifest_of b
+pub answered : (b : List ℕ) (ms : Members) (o : Option ManifestFault) → document_of b ≡ Some ms → o ≡ lowest (manifest_faults ms)
+    → fault_or_named ms o ≡ manifest_of b
 answered b ms o d e = rw (d, ← e)
 
 -- ---- the faults of names and of steps, one after another
@@ -49,7 +51,8 @@ lowest_file false = refl
 pub refused_twice : (ms : Members) → has_two_names ms ≡ true → named_of ms ≡ Err TwoNames
 unfolding name_faults first_of
 refused_twice ms two =
-    ap (fault_or_release ms) (ap (λ a. lowest (first_of a (has_no_file ms) (has_bad_steps (launches_at ms)))) two ∙ lowest_two (has_no_file ms) (has_bad_steps (launches_at ms)))
+    ap (fault_or_release ms) (ap (λ a. lowest (first_of a (has_no_file ms) (has_bad_steps (launches_at ms)))) two
+    ∙ lowest_two (has_no_file ms) (has_bad_steps (launches_at ms)))
 
 pub refused_without : (ms : Members) → has_two_names ms ≡ false → has_no_file ms ≡ true → named_of ms ≡ Err NoSuchFile
 unfolding name_faults first_of

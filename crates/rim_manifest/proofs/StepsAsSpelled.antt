@@ -1,5 +1,6 @@
 -- The steps of a launch without faults are those that its texts spell.
-use Rattle.std.proofs.Common.{◌≡◌, ℕ, ◌<◌, ◌≤◌, List, [], ◌∷◌, ◌++◌, length, map, take, drop, Bool, true, false, cond, Option, Some, None, refl, ap, subst, sym, ◌∙◌, codes, arith}
+use Rattle.std.proofs.Common.{◌≡◌, ℕ, ◌<◌, ◌≤◌, List, [], ◌∷◌, ◌++◌, length, map, take, drop, Bool, true, false, cond, Option, Some, None, refl, ap, subst, sym}
+use Rattle.std.proofs.Common.{◌∙◌, codes, arith}
 use Rattle.std.specs.Prelude.{option_map, unwrap_or}
 use Rattle.std.specs.List.{list_all}
 use Rattle.std.specs.Str.{bytes_eq}
@@ -37,7 +38,8 @@ number_spelled first text (Some digits) n e h = go (is_decimal digits) refl h
     go true test k = let value : digits_value 10 digits ≡ n = cc in (digits, followed first text digits e, test, value)
     go false test k = cc
 
-item_spelled : (items : List Data) (text : List ℕ) (o : Option (List ℕ)) (n : ℕ) → after (codes "item ") text ≡ o → item_number items o ≡ Some n → SpellsStep items text (step.Item n)
+item_spelled : (items : List Data) (text : List ℕ) (o : Option (List ℕ)) (n : ℕ) → after (codes "item ") text ≡ o → item_number items o ≡ Some n
+    → SpellsStep items text (step.Item n)
 item_spelled items text None n e h = cc
 item_spelled items text (Some name) n e h =
     let found = found_at (is_named name) items n h in
@@ -58,16 +60,20 @@ step_spelled items text s e = of_ram (decimal_number (after (codes "ram ") text)
     of_item (Some n) h k = let same : step.Item n ≡ s = cc in subst (SpellsStep items text) same (item_spelled items text _ n refl h)
 
     of_ram : (o : Option ℕ) → decimal_number (after (codes "ram ") text) ≡ o
-        → or_else (option_map step.Ram o) (or_else (option_map step.Item (item_number items (after (codes "item ") text))) (option_map step.Rec (decimal_number (after (codes "rec ") text)))) ≡ Some s
+        → or_else (option_map step.Ram o)
+        (or_else (option_map step.Item (item_number items (after (codes "item ") text))) (option_map step.Rec (decimal_number (after (codes "rec ") text))))
+        ≡ Some s
         → SpellsStep items text s
     of_ram None h k = of_item (item_number items (after (codes "item ") text)) refl k
     of_ram (Some n) h k = let same : step.Ram n ≡ s = cc in subst (SpellsStep items text) same (number_spelled (codes "ram ") text _ n refl h)
 
 -- a text whose step names something spells that step
-one_given : (items : List Data) (regions things recs : ℕ) (d : Data) → regions ≤ 64 → is_text d ≡ true → names_something regions things recs (step_in items d) ≡ true → GivesStep items d (step_in items d)
+one_given : (items : List Data) (regions things recs : ℕ) (d : Data) → regions ≤ 64 → is_text d ≡ true
+    → names_something regions things recs (step_in items d) ≡ true → GivesStep items d (step_in items d)
 one_given items regions things recs (string text) few t e = go (step_of items text) refl e
   where
-    go : (o : Option Step) → step_of items text ≡ o → names_something regions things recs (unwrap_or o (step.Ram 64)) ≡ true → SpellsStep items text (unwrap_or o (step.Ram 64))
+    go : (o : Option Step) → step_of items text ≡ o → names_something regions things recs (unwrap_or o (step.Ram 64)) ≡ true
+        → SpellsStep items text (unwrap_or o (step.Ram 64))
     go (Some s) h k = step_spelled items text s h
     go None h k = absurd (let low : 64 < regions = ltb-true _ _ k in omega (arith, low, few))
 one_given items regions things recs _ few t e = cc

@@ -1,5 +1,6 @@
 -- What not-false of the values of a table, where no fault not-false.
-use Rattle.std.proofs.Common.{◌≡◌, ℕ, ◌≤◌, List, [], ◌∷◌, ◌++◌, length, Bool, true, false, cond, not, Option, Some, None, Ordering, Less, Equal, Greater, refl, ap, sym, ◌∙◌, codes, true≢false, arith}
+use Rattle.std.proofs.Common.{◌≡◌, ℕ, ◌≤◌, List, [], ◌∷◌, ◌++◌, length, Bool, true, false, cond, not, Option, Some, None, Ordering, Less, Equal, Greater, refl}
+use Rattle.std.proofs.Common.{ap, sym, ◌∙◌, codes, true≢false, arith}
 use Rattle.std.specs.Prelude.{nat_lt}
 use Rattle.std.specs.List.{AllByRecursion, flat_map, list_all}
 use Rattle.std.specs.Ordering.{nat_cmp, match_ordering}
@@ -86,7 +87,8 @@ pub each_value : (rs : List Rule) (ms : Members) → table_faults rs ms ≡ [] �
 each_value rs ms e = each_empty (λ r. rule_faults r ms) rs (empty_parts (fault_if (has_unknown_key rs ms) UnknownKey) _ e).1
 
 -- a key without a rule is in no table without faults
-not_this_key : (rs : List Rule) (k l : List ℕ) (d : Data) (ms : Members) → is_known rs k ≡ false → is_known rs l ≡ true → get_member k ms ≡ None → get_member k (member l d ms) ≡ None
+not_this_key : (rs : List Rule) (k l : List ℕ) (d : Data) (ms : Members) → is_known rs k ≡ false → is_known rs l ≡ true → get_member k ms ≡ None
+    → get_member k (member l d ms) ≡ None
 not_this_key rs k l d ms other known rest = go (slice_cmp nat_cmp k l) refl
   where
     go : (o : Ordering) → slice_cmp nat_cmp k l ≡ o → match_ordering o (get_member k ms) (Some d) (get_member k ms) ≡ None

@@ -143,7 +143,8 @@ range_given _ _ e = cc
 
 each_region : (ds : List Data) → list_all is_range_pair ds ≡ true → EachGives GivesRegion ds (map region_in ds)
 each_region [] e = tt
-each_region (d ∷ ds) e = let parts = and_parts (is_range_pair d) (list_all is_range_pair ds) e in (range_given (at 0 d) (at 1 d) parts.0, each_region ds parts.1)
+each_region (d ∷ ds) e =
+    let parts = and_parts (is_range_pair d) (list_all is_range_pair ds) e in (range_given (at 0 d) (at 1 d) parts.0, each_region ds parts.1)
 
 regions_read : (most : ℕ) (d : Data) → IsGood (form.Regions most) d → EachGives GivesRegion (items_in (Some d)) (map region_in (items_in (Some d)))
 regions_read most (array ds) good = each_region (items_list ds) good.within

@@ -14,6 +14,7 @@ pub returns : goal.returns
 returns c =
     let ms = table_view c.args.table.now in
     let rs = map rule_of c.args.rules.now in
-    on_ok_weaker c.check_rules.result (λ e. noted_two (kept c.args.found.now) _ _ (fault_if (has_unknown_key rs ms) UnknownKey) (flat_map (λ r. rule_faults r ms) rs)
+    on_ok_weaker c.check_rules.result
+    (λ e. noted_two (kept c.args.found.now) _ _ (fault_if (has_unknown_key rs ms) UnknownKey) (flat_map (λ r. rule_faults r ms) rs)
     (c.in_ok-note_if.ensures ∙ ap (λ b. with_faults (kept c.args.found.now) (fault_if b UnknownKey)) c.has_unknown_key.ensures)
     (e ∙ ap (with_faults (kept c.note_if.new.found)) (sym (flat_map_map (λ r. rule_faults r ms) rule_of c.args.rules.now)))) c.check_rules.ensures

@@ -17,7 +17,9 @@ invariant_of-result c =
     record {
       low = subst (λ n. n < 2 ^ 63) (sym c.number.ensures) (number_low (get (codes "at") d));
       size_low = subst (λ s. unwrap_or s 0 < 2 ^ 63) (sym size) (size_within (role_at d) (get (codes "size") d));
-      whole = (λ i. is_whole (c.in_ok-kind.ensures i) (size i) (measured i)) ∙ is_whole_for (role_at d) c.file_number.result d (get (codes "size") d) (get (codes "measured") d);
+      whole =
+          (λ i. is_whole (c.in_ok-kind.ensures i) (size i) (measured i))
+          ∙ is_whole_for (role_at d) c.file_number.result d (get (codes "size") d) (get (codes "measured") d);
     }
 
 pub returns : goal.returns

@@ -21,5 +21,7 @@ invariant_of-result c =
 
 pub returns : goal.returns
 unfolding config_of
-returns c = same-config _ _ c.algorithm.ensures c.byte.ensures c.truth.ensures c.truth-2.ensures c.byte-2.ensures c.byte-3.ensures c.byte-4.ensures c.byte-5.ensures c.digits.ensures c.byte-6.ensures
+returns c =
+    same-config _ _ c.algorithm.ensures c.byte.ensures c.truth.ensures c.truth-2.ensures c.byte-2.ensures c.byte-3.ensures c.byte-4.ensures c.byte-5.ensures
+    c.digits.ensures c.byte-6.ensures
     c.byte-7.ensures c.rec_rule.ensures c.pool_base.ensures c.number.ensures

@@ -24,10 +24,12 @@ returns-in-Dtb c =
 pub returns-in-Unknown : goal.returns-in-Unknown
 returns-in-Unknown c =
     on_ok_weaker c.check_ruled-in-Unknown.result (λ e. e
-    ∙ ap (λ r. with_faults (kept c.args.found.now) (ruled_faults (rules_of r) (view c.args.item.now))) (sym c.in-Unknown.is ∙ c.role.ensures)) c.check_ruled-in-Unknown.ensures
+    ∙ ap (λ r. with_faults (kept c.args.found.now) (ruled_faults (rules_of r) (view c.args.item.now)))
+    (sym c.in-Unknown.is ∙ c.role.ensures)) c.check_ruled-in-Unknown.ensures
 
 pub returns-in_default : goal.returns-in_default
 returns-in_default c =
     on_ok_weaker c.check_ruled-in_default.result (λ e. e
-    ∙ ap (λ rs. with_faults (kept c.args.found.now) (ruled_faults rs (view c.args.item.now))) (sym (ap rules_of (sym c.role.ensures) ∙ other_rules c.role.result c.in_default.not-Dtb c.in_default.not-Unknown)))
+    ∙ ap (λ rs. with_faults (kept c.args.found.now) (ruled_faults rs (view c.args.item.now)))
+    (sym (ap rules_of (sym c.role.ensures) ∙ other_rules c.role.result c.in_default.not-Dtb c.in_default.not-Unknown)))
     c.check_ruled-in_default.ensures

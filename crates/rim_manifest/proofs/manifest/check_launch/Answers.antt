@@ -31,20 +31,26 @@ noted_launch v ms items recs asked lacks rs o a b c e f rules_are of_table items
     let things : List ManifestFault = flat_map item_faults (array_at (codes "item") (table ms)) in
     let processors : List ManifestFault = flat_map (ruled_faults rec_rules) (array_at (codes "rec") (table ms)) in
     let missing : List ManifestFault = fault_if (not (has_asked (table ms))) MissingKey in
-    let of_things : b ≡ with_faults a things = of_items ∙ ap (with_faults a) (sym (flat_map_map item_faults view items) ∙ ap (flat_map item_faults) items_are) in
-    let of_processors : c ≡ with_faults b processors = of_recs ∙ ap (with_faults b) (sym (flat_map_map (ruled_faults rec_rules) view recs) ∙ ap (flat_map (ruled_faults rec_rules)) recs_are) in
+    let of_things : b ≡ with_faults a things =
+    of_items ∙ ap (with_faults a) (sym (flat_map_map item_faults view items) ∙ ap (flat_map item_faults) items_are) in
+    let of_processors : c ≡ with_faults b processors =
+    of_recs ∙ ap (with_faults b) (sym (flat_map_map (ruled_faults rec_rules) view recs) ∙ ap (flat_map (ruled_faults rec_rules)) recs_are) in
     let ruleless : List ManifestFault = fault_if (lacks_rule v (table ms)) MissingKey in
     let of_missing : e ≡ with_faults c missing = of_asked ∙ ap (λ x. with_faults c (fault_if (not x) MissingKey)) asked_is in
     let of_ruleless : f ≡ with_faults e ruleless = last ∙ ap (λ x. with_faults e (fault_if x MissingKey)) lacks_is in
-    noted_two o a f (table_faults (launch_rules_in v) ms) (things ++ (processors ++ (missing ++ ruleless))) (of_table ∙ ap (λ x. with_faults o (table_faults x ms)) rules_are)
+    noted_two o a f (table_faults (launch_rules_in v) ms) (things ++ (processors ++ (missing ++ ruleless)))
+    (of_table ∙ ap (λ x. with_faults o (table_faults x ms)) rules_are)
     (noted_two a b f things (processors ++ (missing ++ ruleless)) of_things
     (noted_two b c f processors (missing ++ ruleless) of_processors (noted_two c e f missing ruleless of_missing of_ruleless)))
 
 pub returns : goal.returns
 returns c =
     let is : view c.args.launch.now ≡ table _ = ap view c.in-Table.is ∙ view-Table c.in-Table.table in
-    on_ok_weaker c.note_if-2.result (λ last. noted_launch c.args.version _ c.array.result.now c.array-2.result.now c.has_asked.result c.lacks_rule.result _ _ _ _ _ _ _ c.launch_rules.ensures c.in_ok-check_table.ensures
-    (c.array.ensures ∙ ap (array_at (codes "item")) is) c.in_ok-check_items.ensures (c.array-2.ensures ∙ ap (array_at (codes "rec")) is) c.in_ok-check_tables.ensures
+    on_ok_weaker c.note_if-2.result
+    (λ last. noted_launch c.args.version _ c.array.result.now c.array-2.result.now c.has_asked.result c.lacks_rule.result _ _ _ _ _ _ _
+    c.launch_rules.ensures c.in_ok-check_table.ensures
+    (c.array.ensures ∙ ap (array_at (codes "item")) is) c.in_ok-check_items.ensures
+    (c.array-2.ensures ∙ ap (array_at (codes "rec")) is) c.in_ok-check_tables.ensures
     (c.has_asked.ensures ∙ ap has_asked is) c.in_ok-note_if.ensures (c.lacks_rule.ensures ∙ ap (lacks_rule c.args.version) is)
     (last ∙ ap (λ f. with_faults (kept c.note_if.new.found) (fault_if c.lacks_rule.result f)) c.at_key-no_rule.ensures)
     ∙ ap (λ d. with_faults (kept c.args.found.now) (launch_faults c.args.version d)) (sym is)) c.note_if-2.ensures

@@ -8,4 +8,5 @@ use Rattle.rim_manifest.proofs.manifest.check_launches.Goals as goal
 pub loop-number-preserved : goal.loop-number-preserved
 loop-number-preserved c =
     noted_step (λ d. launch_faults c.args.version (view d)) _ _ c.index-launches-number.result _ _ c.loop-number-test.true
-    (c.in_ok-check_launch.ensures ∙ ap (λ v. with_faults (kept c.loop-number.found) (launch_faults c.args.version (view v))) c.index-launches-number.is) ∙ c.loop-number.invariant
+    (c.in_ok-check_launch.ensures ∙ ap (λ v. with_faults (kept c.loop-number.found) (launch_faults c.args.version (view v))) c.index-launches-number.is)
+    ∙ c.loop-number.invariant

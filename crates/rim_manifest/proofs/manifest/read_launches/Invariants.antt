@@ -7,4 +7,5 @@ use Rattle.rim_manifest.proofs.manifest.read_launches.Given as goal
 
 abbrev pub invariant-loop-number : goal.invariant-loop-number
 invariant-loop-number l =
-    (l.launches.items ≡ launches_from l.version (map view l.files) 0 (map view (take l.number l.tables))) × (list_all (λ (m : NamedData). is_launch m.launch) l.launches.items ≡ true)
+    (l.launches.items ≡ launches_from l.version (map view l.files) 0 (map view (take l.number l.tables)))
+    × (list_all (λ (m : NamedData). is_launch m.launch) l.launches.items ≡ true)

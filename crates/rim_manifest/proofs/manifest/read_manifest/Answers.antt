@@ -16,5 +16,6 @@ returns-in-Some c =
 
 pub returns-in-Err : goal.returns-in-Err
 returns-in-Err c =
-    let not_memory : ¬ (IsMemory c.in-Err.error) = λ m. let t : c.is_memory.result ≡ true = c.is_memory.ensures.1 m in false≢true (sym c.if-is_memory.false ∙ t) in
+    let not_memory : ¬ (IsMemory c.in-Err.error) = λ m. let t : c.is_memory.result ≡ true = c.is_memory.ensures.1 m in
+    false≢true (sym c.if-is_memory.false ∙ t) in
     inr (sym (refused c.args.text.now (document_refused c.args.text.now (c.in-Err.ensures.refused not_memory))))

@@ -42,7 +42,8 @@ returns-then-has_no_file c =
     (sym (without ms _ _ _ c.entries-files.ensures c.entries-launches.ensures c.has_no_file.ensures) ∙ c.if-has_no_file.true))
 
 -- what a launch's steps say of all of them
-counted : (ms : Members) (launches : List Value) (b : Bool) → map view launches ≡ launches_at ms → b ≡ list_any (λ l. is_miscounted (view l)) launches → b ≡ list_any is_miscounted (launches_at ms)
+counted : (ms : Members) (launches : List Value) (b : Bool) → map view launches ≡ launches_at ms → b ≡ list_any (λ l. is_miscounted (view l)) launches
+    → b ≡ list_any is_miscounted (launches_at ms)
 counted ms launches b launches_are h = rw (← launches_are, list_any_map is_miscounted view launches) h
 
 one_miscounted : (ds : List Data) → list_any is_miscounted ds ≡ true → has_bad_steps ds ≡ true
@@ -70,7 +71,9 @@ returns-in_err-launches c =
     let p = err_from_is_err_and c.from_residual-in_err-launches.result c.from_residual-in_err-launches.ensures.1 in
     rw (p.1, p.2) (elim c.in_err-launches.ensures [
       | inl memory ↦ inl memory
-      | inr refused ↦ let why = all_refused ms _ c.requires single (same (sym c.version.ensures) (sym c.entries-files.ensures) (sym c.entries-launches.ensures) ∙ refused) in
+      | inr refused ↦
+          let why =
+          all_refused ms _ c.requires single (same (sym c.version.ensures) (sym c.entries-files.ensures) (sym c.entries-launches.ensures) ∙ refused) in
           inr (refused_steps ms single found (one_misnamed (launches_at ms) whole why.1) ∙ ap Err (sym why.0))
     ])
 
@@ -80,7 +83,8 @@ invariant_of-result c =
     let found = sym (without ms _ _ _ c.entries-files.ensures c.entries-launches.ensures c.has_no_file.ensures) ∙ c.if-has_no_file.false in
     let read = all_read ms _ (same (sym c.version.ensures) (sym c.entries-files.ensures) (sym c.entries-launches.ensures) ∙ c.in_ok-launches.ensures) in
     let paths = c.in_ok-paths.ensures ∙ map_of_views path_of c.entries-files.result.now _ c.entries-files.ensures in
-    are_numbered (version_at ms) (files_at ms) (launches_at ms) (record { paths = map string_bytes c.in_ok-paths.paths.items; launches = c.in_ok-launches.launches.items }) found
+    are_numbered (version_at ms) (files_at ms) (launches_at ms)
+    (record { paths = map string_bytes c.in_ok-paths.paths.items; launches = c.in_ok-launches.launches.items }) found
     (ap length paths ∙ length-map (files_at ms) path_of) read.0
 
 pub returns : goal.returns

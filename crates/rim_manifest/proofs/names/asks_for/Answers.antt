@@ -12,5 +12,6 @@ use Rattle.rim_manifest.proofs.names.asks_for.Goals as goal
 
 pub returns : goal.returns
 returns c =
-    any_from_yields_List (λ (v : Value). is_at_role Dtb (view v) && truth_in false (get c.args.key.now (view v))) _ _ _ c.any.ensures.ran (YieldsList-from_slice c.args.items.now cc) (λ x b q k. search (rules, tests))
+    any_from_yields_List (λ (v : Value). is_at_role Dtb (view v) && truth_in false (get c.args.key.now (view v))) _ _ _ c.any.ensures.ran
+    (YieldsList-from_slice c.args.items.now cc) (λ x b q k. search (rules, tests))
     ∙ sym (list_any_map (λ d. is_at_role Dtb d && truth_in false (get c.args.key.now d)) view c.args.items.now)

@@ -4,4 +4,10 @@ use Rattle.rim_manifest.proofs.ItemsFromTables.{position-map}
 use Rattle.rim_manifest.proofs.names.file_number.Goals as goal
 
 pub returns : goal.returns
-returns c = rw (← c.text.ensures, ← c.as_bytes.ensures.value, position-map (is_named c.as_bytes.result.now) view c.args.files.now, ← c.position_of.ensures) c.unwrap_or.ensures
+returns c =
+    rw (
+      ← c.text.ensures,
+      ← c.as_bytes.ensures.value,
+      position-map (is_named c.as_bytes.result.now) view c.args.files.now,
+      ← c.position_of.ensures,
+    ) c.unwrap_or.ensures

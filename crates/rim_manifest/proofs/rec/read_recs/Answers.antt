@@ -8,4 +8,5 @@ use Rattle.rim_manifest.proofs.rec.read_recs.Goals as goal
 pub returns : goal.returns
 returns c =
     items_from_collect {s = c.map.result} c.collect.result c.collect.ensures.ran
-    (YieldsList-from_map {s = c.map.result} _ (λ (v : Value). rec_of (view v)) {f = c.map.result.f} (YieldsList-from_slice c.args.tables.now cc) refl (λ x r q k. search rules))
+    (YieldsList-from_map {s = c.map.result} _ (λ (v : Value). rec_of (view v)) {f = c.map.result.f} (YieldsList-from_slice c.args.tables.now cc) refl
+    (λ x r q k. search rules))

@@ -10,9 +10,12 @@ use Rattle.rim_manifest.specs.Values.{array_at}
 use Rattle.rim_manifest.proofs.ListsOfValues.{map_of_views}
 use Rattle.rim_manifest.proofs.step.read_steps.Goals as goal
 
-spelled : (tables texts : List Value) (launch d : Data) (o : Option Data) (regions : ℕ) (things : List Item) (recs : ℕ) (steps : List Step) → map view tables ≡ array_at (codes "item") launch
-    → map view texts ≡ items_of d → o ≡ Some d → steps ≡ map (λ t. step_in (map view tables) (view t)) texts → steps ≡ steps_in regions (array_at (codes "item") launch) things recs o
-spelled tables texts launch d o regions things recs steps tables_are texts_are there e = rw (there, ← tables_are) (e ∙ map_of_views (step_in (map view tables)) texts _ texts_are)
+spelled : (tables texts : List Value) (launch d : Data) (o : Option Data) (regions : ℕ) (things : List Item) (recs : ℕ) (steps : List Step)
+    → map view tables ≡ array_at (codes "item") launch
+    → map view texts ≡ items_of d → o ≡ Some d → steps ≡ map (λ t. step_in (map view tables) (view t)) texts
+    → steps ≡ steps_in regions (array_at (codes "item") launch) things recs o
+spelled tables texts launch d o regions things recs steps tables_are texts_are there e =
+    rw (there, ← tables_are) (e ∙ map_of_views (step_in (map view tables)) texts _ texts_are)
 
 pub returns-in_ok-spelled_steps-in-Some : goal.returns-in_ok-spelled_steps-in-Some
 returns-in_ok-spelled_steps-in-Some c =
