@@ -84,7 +84,8 @@ then-equal Greater = refl
 
 -- whether two keys are of one item, by their order at the same number
 item-is : (a b : PageKey) → is_item a b ≡ is_eq (item_cmp a b)
-item-is a b = ap is_eq (cmp-parts (with_number a 0) (with_number b 0) ∙ ap (ordering_then (item_cmp a b)) (tied_itself nat_cmp_total 0) ∙ then-equal (item_cmp a b))
+item-is a b =
+    ap is_eq (cmp-parts (with_number a 0) (with_number b 0) ∙ ap (ordering_then (item_cmp a b)) (tied_itself nat_cmp_total 0) ∙ then-equal (item_cmp a b))
 
 -- a key is not after another
 abbrev AtLeast : PageKey → PageKey → Type 0

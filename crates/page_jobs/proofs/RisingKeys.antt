@@ -67,7 +67,8 @@ past us vs key u v above there same (inl here) = absurd (not-itself u (ap (key_c
 past us vs key u v above there same (inr after) = after
 
 -- two lists in order that have the same keys are one
-one-list : (xs ys : List PageKey) → AreInOrder xs → AreInOrder ys → ((key : PageKey) → Has xs key → Has ys key) → ((key : PageKey) → Has ys key → Has xs key) → xs ≡ ys
+one-list : (xs ys : List PageKey) → AreInOrder xs → AreInOrder ys → ((key : PageKey) → Has xs key → Has ys key)
+    → ((key : PageKey) → Has ys key → Has xs key) → xs ≡ ys
 unfolding IsStrictlySortedBy
 one-list [] [] first second to back = refl
 one-list [] (y ∷ ys) first second to back = absurd (back y (inl refl))
@@ -164,7 +165,8 @@ rising_keys-same keys key = (
   λ there. contains-has (rising_keys keys) key (rising_keys-has keys key (has-contains keys key there)),
 )
 
-pub rising_keys-only : (keys others : List PageKey) → AreInOrder others → ((key : PageKey) → Contains others key ↔ Contains keys key) → others ≡ rising_keys keys
+pub rising_keys-only : (keys others : List PageKey) → AreInOrder others → ((key : PageKey) → Contains others key ↔ Contains keys key)
+    → others ≡ rising_keys keys
 rising_keys-only keys others order same = one-list others (rising_keys keys) order (in_order-rising_keys keys)
     (λ key there. rising_keys-has keys key (has-contains keys key ((same key).0 (contains-has others key there))))
     (λ key there. has-contains others key ((same key).1 (contains-has keys key (has-rising_keys keys key there))))

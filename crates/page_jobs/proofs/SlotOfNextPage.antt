@@ -61,7 +61,9 @@ next-place keys rising key i j first second here last = elim (ways i j) [
     | inl low ↦ not-itself key (key_total.trans key (next_key key) key (after-itself key) (compared i j low second last here))
     | inr later ↦ elim later [
       | inl one ↦ not-itself key (ap (key_cmp key) (sym here ∙ ap (λ n. get_or keys n (next_key key)) (sym one) ∙ last) ∙ after-itself key)
-      | inr high ↦ none-between key (get_or keys (j + 1) (next_key key)) (compared j (j + 1) (omega arith) (omega arith) here refl) (compared (j + 1) i high first refl last)
+      | inr high ↦
+          none-between key (get_or keys (j + 1) (next_key key)) (compared j (j + 1) (omega arith) (omega arith) here refl)
+          (compared (j + 1) i high first refl last)
     ]
   ])
 ]
@@ -83,7 +85,8 @@ unfolding page_with
 key-page pages key i low = get_or-map (λ p. p.key) pages i (page_with key) key low
 
 -- a key has its place among the keys for its slot
-slot-there : (pages : List PageView) (key : PageKey) → IsRising (page_keys_of pages) → (there : Contains (page_keys_of pages) key) → slot_of pages key ≡ Some there.0
+slot-there : (pages : List PageView) (key : PageKey) → IsRising (page_keys_of pages) → (there : Contains (page_keys_of pages) key)
+    → slot_of pages key ≡ Some there.0
 slot-there pages key rising there =
     let low : there.0 < length pages = omega (arith, there.1, length-map pages (λ (p : PageView). p.key)) in
     let page = get_or pages there.0 (page_with key) in
@@ -109,7 +112,8 @@ pub slots-there : (pages : List PageView) → IsRising (page_keys_of pages) → 
 slots-there pages rising key = (λ some. slot-contains pages key (slot_of pages key) refl some, λ there. ap is_some (slot-there pages key rising there))
 
 -- the slot of the next page is the next one
-pub slot-next : (pages : List PageView) → IsRising (page_keys_of pages) → (key : PageKey) (j : ℕ) → slot_of pages key ≡ Some j → Contains (page_keys_of pages) (next_key key)
+pub slot-next : (pages : List PageView) → IsRising (page_keys_of pages) → (key : PageKey) (j : ℕ) → slot_of pages key ≡ Some j
+    → Contains (page_keys_of pages) (next_key key)
     → slot_of pages (next_key key) ≡ Some (j + 1)
 slot-next pages rising key j at there =
     let inside : j < length (page_keys_of pages) = omega (arith, slot-within pages key j at, length-map pages (λ (p : PageView). p.key)) in

@@ -1,10 +1,11 @@
 -- A part that is put in a page leaves the bytes beside it, so what has no field is zero.
-use Rattle.std.proofs.Common.{◌≡◌, ℕ, ◌+◌, ◌-◌, ◌≤◌, ◌<◌, ◌&&◌, ◌⊎◌, true, false, List, [], ◌∷◌, ◌++◌, length, take, drop, replicate, get_or, ap, ◌∙◌, arith, length-append, length-drop, inl, inr}
+use Rattle.std.proofs.Common.{◌≡◌, ℕ, ◌+◌, ◌-◌, ◌≤◌, ◌<◌, ◌&&◌, ◌⊎◌, true, false, List, [], ◌∷◌, ◌++◌, length, take, drop, replicate, get_or, ap, ◌∙◌, arith}
+use Rattle.std.proofs.Common.{length-append, length-drop, inl, inr}
 use Rattle.std.specs.Prelude.{nat_le, nat_lt}
 use Rattle.std.proofs.lemmas.List.{length-take-le, length-replicate, get_or-replicate, get_or_past, get_or-take, get_or-drop}
 use Rattle.std.proofs.Math.ListN.{get_or-append}
 use Rattle.std.proofs.Math.Seq.{get_or-append_right}
-use Rattle.std.proofs.lemmas.Bool.{leb-true, and_parts, or_parts}
+use Rattle.std.proofs.lemmas.Bool.{leb-true, and_parts, or_parts, cases_lt}
 use Rattle.std.proofs.lemmas.Bool.Decides.{nat_tests}
 use Rattle.rim_desc.specs.Page.{Field, all_fit, covers, is_listed, with_fields, with_part, zeros}
 
@@ -64,7 +65,5 @@ length-zeros n = length-replicate n 0
 
 pub get_or-zeros : (n k : ℕ) → get_or (zeros n) k 0 ≡ 0
 unfolding zeros
-get_or-zeros n k = elim (less n k) [ inl low ↦ get_or-replicate n k 0 0 low | inr high ↦ get_or_past (replicate n 0) k 0 (rw (length-replicate {A = ℕ} n 0) high) ]
-  where
-    less : (n k : ℕ) → (k < n) ⊎ (n ≤ k)
-    less n k = grind arith
+get_or-zeros n k =
+    elim (cases_lt k n) [ inl low ↦ get_or-replicate n k 0 0 low | inr high ↦ get_or_past (replicate n 0) k 0 (rw (length-replicate {A = ℕ} n 0) high) ]

@@ -31,7 +31,8 @@ pub any-insert : {K : Type 0} (cmp : K → K → Ordering) → CmpEqualImpliesEq
 any-insert cmp exact p [] k = refl
 any-insert {K} cmp exact p (x ∷ xs) k = placed (any-insert cmp exact p xs k) (cmp k x) refl
   where
-    placed : list_any p (insert_key cmp xs k) ≡ p k || list_any p xs → (o : Ordering) → cmp k x ≡ o → list_any p (match_ordering o (k ∷ x ∷ xs) (x ∷ xs) (x ∷ insert_key cmp xs k)) ≡ p k || (p x || list_any p xs)
+    placed : list_any p (insert_key cmp xs k) ≡ p k || list_any p xs → (o : Ordering) → cmp k x ≡ o
+        → list_any p (match_ordering o (k ∷ x ∷ xs) (x ∷ xs) (x ∷ insert_key cmp xs k)) ≡ p k || (p x || list_any p xs)
     placed i Less at = refl
     placed i Equal at = rw (exact k x at) (or-same (p x) (list_any p xs))
     placed i Greater at = rw i (or-swap (p x) (p k) (list_any p xs))

@@ -53,7 +53,8 @@ walk-3 start ts x formed three = walk-at start ts x 3 formed three (λ k low hig
 pub walk-2 : (start : ℕ) (ts : List Table) (x : ℕ) → ArePlaced start ts → made_at ts 3 x ≡ false → made_at ts 2 x ≡ true → 2 ≡ walk start ts x
 walk-2 start ts x formed three two = walk-at start ts x 2 formed two (λ k low high. (let e : k ≡ 3 = omega arith in rw e three))
 
-pub walk-1 : (start : ℕ) (ts : List Table) (x : ℕ) → ArePlaced start ts → made_at ts 3 x ≡ false → made_at ts 2 x ≡ false → made_at ts 1 x ≡ true → 1 ≡ walk start ts x
+pub walk-1 : (start : ℕ) (ts : List Table) (x : ℕ) → ArePlaced start ts → made_at ts 3 x ≡ false → made_at ts 2 x ≡ false → made_at ts 1 x ≡ true
+    → 1 ≡ walk start ts x
 walk-1 start ts x formed three two one = walk-at start ts x 1 formed one
     (λ k low high. elim (two-or-three k low high) [ inl e ↦ rw e two | inr e ↦ rw e three ])
   where
@@ -64,6 +65,7 @@ walk-1 start ts x formed three two one = walk-at start ts x 1 formed one
 pub levels : (j : ℕ) → 0 < j → j ≤ 3 → (j ≡ 1) ⊎ ((j ≡ 2) ⊎ (j ≡ 3))
 levels j low high = grind arith
 
-pub walk-none : (start : ℕ) (ts : List Table) (x : ℕ) → ArePlaced start ts → made_at ts 3 x ≡ false → made_at ts 2 x ≡ false → made_at ts 1 x ≡ false → start ≡ walk start ts x
+pub walk-none : (start : ℕ) (ts : List Table) (x : ℕ) → ArePlaced start ts → made_at ts 3 x ≡ false → made_at ts 2 x ≡ false → made_at ts 1 x ≡ false
+    → start ≡ walk start ts x
 walk-none start ts x formed three two one = walk-start start ts x formed
     (λ k low high. elim (levels k low high) [ inl e ↦ rw e one | inr (inl e) ↦ rw e two | inr (inr e) ↦ rw e three ])

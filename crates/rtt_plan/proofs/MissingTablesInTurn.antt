@@ -1,5 +1,6 @@
 -- The tables that a block needs can be made one after another.
-use Rattle.std.proofs.Common.{inl, inr, ◌≡◌, ℕ, zero, suc, ◌+◌, ◌-◌, ◌/◌, ◌<◌, ◌≤◌, ◌∙◌, sym, refl, arith, Bool, true, false, cond, not, eqb, ltb, ◌⊎◌, List, [], ◌∷◌, ◌++◌}
+use Rattle.std.proofs.Common.{inl, inr, ◌≡◌, ℕ, zero, suc, ◌+◌, ◌-◌, ◌/◌, ◌<◌, ◌≤◌, ◌∙◌, sym, refl, arith, Bool, true, false, cond, not, eqb, ltb, ◌⊎◌, List}
+use Rattle.std.proofs.Common.{[], ◌∷◌, ◌++◌}
 use Rattle.std.specs.List.{filter}
 use Rattle.std.proofs.lemmas.Bool.Decides.{nat_tests}
 use Rattle.std.proofs.lemmas.Bool.{cases_Bool}
@@ -99,7 +100,9 @@ between start ts us (suc n) k x formed o deep above same =
     over : start < k → made us k (down (span k) b) ≡ true
     over lt = rw (down-up k x) (above lt)
 
-    by_test : ((vs : List Table) → IsFormed start vs → (start < suc k → made vs (suc k) b ≡ true) → ((j c : ℕ) → suc k < j → made vs j c ≡ made ts j c) → AreMadeInTurn start vs rest)
+    by_test :
+        ((vs : List Table) → IsFormed start vs → (start < suc k → made vs (suc k) b ≡ true) → ((j c : ℕ) → suc k < j → made vs j c ≡ made ts j c)
+        → AreMadeInTurn start vs rest)
         → (c : Bool) → made ts (suc k) b ≡ c → AreMadeInTurn start us (cond (not c) (t ∷ rest) rest)
     by_test later true h = later us formed (λ lt. same (suc k) b (omega arith) ∙ h) (λ j c lt. same j c (omega arith))
     by_test later false h =
@@ -122,4 +125,6 @@ missing-in-turn start l x ts deep formed = by_level (cases_Bool (ltb l start))
   where
     by_level : (ltb l start ≡ true) ⊎ (ltb l start ≡ false) → AreMadeInTurn start ts (missing start ts l x)
     by_level (inl h) = (let lt : l < start = grind (arith, nat_tests) in let e : l - start ≡ 0 = omega arith in rw e tt)
-    by_level (inr h) = (let le : start ≤ l = grind (arith, nat_tests) in between start ts ts (l - start) start x formed (omega arith) (omega arith) (λ lt. absurd (omega arith)) (λ j b lt. refl))
+    by_level (inr h) =
+        (let le : start ≤ l = grind (arith, nat_tests) in between start ts ts (l - start) start x formed (omega arith) (omega arith)
+        (λ lt. absurd (omega arith)) (λ j b lt. refl))

@@ -1,5 +1,6 @@
 -- Ranges in order, with one more that meets none of them.
-use Rattle.std.proofs.Common.{◌≡◌, ℕ, ◌+◌, ◌-◌, ◌*◌, ◌/◌, ◌%◌, ◌<◌, ◌≤◌, ◌∙◌, sym, refl, ap, arith, Bool, true, false, ◌&&◌, ◌||◌, leb, ltb, List, [], ◌∷◌, ◌++◌}
+use Rattle.std.proofs.Common.{◌≡◌, ℕ, ◌+◌, ◌-◌, ◌*◌, ◌/◌, ◌%◌, ◌<◌, ◌≤◌, ◌∙◌, sym, refl, ap, arith, Bool, true, false, ◌&&◌, ◌||◌, leb, ltb, List, [], ◌∷◌}
+use Rattle.std.proofs.Common.{◌++◌}
 use Rattle.std.specs.declared.cmp.Ordering.{Ordering}
 use Rattle.std.specs.declared.cmp.Ordering.TheVariants.{Less, Equal, Greater}
 use Rattle.std.specs.BTreeMap.{insert_entry}
@@ -26,7 +27,8 @@ or-last a b = or_comm a b ∙ ap (λ c. b || c) (sym (or-false a))
 pub ram-more : (ram : List (ℕ × ℕ)) (base end x : ℕ) → are_apart 0 ram ≡ true → base < end → overlaps ram base end ≡ false
     → is_ram (insert_entry nat_cmp ram base end) x ≡ is_ram (ram ++ (base, end) ∷ []) x
 ram-more ram base end x apart some free =
-    is_ram-insert ram base end x (apart-some ram 0 apart) some free ∙ or-last (leb base x && ltb x end) (is_ram ram x) ∙ sym (ram-append ram ((base, end) ∷ []) x)
+    is_ram-insert ram base end x (apart-some ram 0 apart) some free ∙ or-last (leb base x && ltb x end) (is_ram ram x)
+    ∙ sym (ram-append ram ((base, end) ∷ []) x)
 
 pub overlaps-more : (ram : List (ℕ × ℕ)) (base end from to : ℕ) → are_apart 0 ram ≡ true → base < end → overlaps ram base end ≡ false
     → overlaps (insert_entry nat_cmp ram base end) from to ≡ overlaps (ram ++ (base, end) ∷ []) from to
@@ -51,7 +53,8 @@ all-insert p (e ∷ es) k v new all =
         rw put rest
     placed Greater at here rest i = rw here i
 
-pub pages-more : (es : List (ℕ × ℕ)) (base top : ℕ) → are_pages es ≡ true → base % 4096 ≡ 0 → top % 4096 ≡ 0 → base < top → are_pages (insert_entry nat_cmp es base top) ≡ true
+pub pages-more : (es : List (ℕ × ℕ)) (base top : ℕ) → are_pages es ≡ true → base % 4096 ≡ 0 → top % 4096 ≡ 0 → base < top
+    → are_pages (insert_entry nat_cmp es base top) ≡ true
 pages-more es base top pages at to some =
     all-insert (λ r. is_multiple 4096 r.0 && is_multiple 4096 r.1 && ltb r.0 r.1) es base top (grind (arith, nat_tests)) pages
 

@@ -17,18 +17,21 @@ returns-then-ipa-top-clause-some c =
     let top : ℕ = c.in-Some.top.now in
     let begins : range_contains nat_cmp Unbounded (Included c.args.ipa) first ≡ true =
     last-passes deref_pair (λ e. range_contains nat_cmp Unbounded (Included c.args.ipa) e.0) ram
-    c.range.result c.next_back.new.self c.next_back.result (c.in-Some.field-0-0, c.in-Some.top) (c.range.ensures.between tt) c.in-Some.is c.next_back.ensures.steps in
+    c.range.result c.next_back.new.self c.next_back.result (c.in-Some.field-0-0, c.in-Some.top)
+    (c.range.ensures.between tt) c.in-Some.is c.next_back.ensures.steps in
     let below : first ≤ c.args.ipa = grind (arith, nat_tests) in
     let pages : (is_multiple 4096 first && is_multiple 4096 top && ltb first top) ≡ true =
     last-all deref_pair (λ e. range_contains nat_cmp Unbounded (Included c.args.ipa) e.0) (λ r. is_multiple 4096 r.0 && is_multiple 4096 r.1 && ltb r.0 r.1) ram
-    c.range.result c.next_back.new.self c.next_back.result (c.in-Some.field-0-0, c.in-Some.top) (c.range.ensures.between tt) c.in-Some.is c.next_back.ensures.steps c.requires.whole in
+    c.range.result c.next_back.new.self c.next_back.result (c.in-Some.field-0-0, c.in-Some.top)
+    (c.range.ensures.between tt) c.in-Some.is c.next_back.ensures.steps c.requires.whole in
     let some : c.args.ipa < top = grind (arith, nat_tests) in
     record {
       past = some;
       whole = grind (arith, nat_tests);
       all = λ y lo hi.
           last-any deref_pair (λ e. range_contains nat_cmp Unbounded (Included c.args.ipa) e.0) (λ r. leb r.0 y && ltb y r.1) ram
-          c.range.result c.next_back.new.self c.next_back.result (c.in-Some.field-0-0, c.in-Some.top) (c.range.ensures.between tt) c.in-Some.is c.next_back.ensures.steps
+          c.range.result c.next_back.new.self c.next_back.result (c.in-Some.field-0-0, c.in-Some.top)
+          (c.range.ensures.between tt) c.in-Some.is c.next_back.ensures.steps
           (both first top y (omega arith) hi);
     }
   where
