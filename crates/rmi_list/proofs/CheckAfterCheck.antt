@@ -20,7 +20,8 @@ is-done (check ∷ others) done answer = elim (cases_Bool check.1) [
   | inr off ↦ rw off (λ at. is-done others done answer at)
 ]
 
-pub fronted : {A E : Type 0} (front : List A) (r : Result (List A) E) (all : List A) → with_front front r ≡ Ok all → (others : List A) × (r ≡ Ok others) × (all ≡ front ++ others)
+pub fronted : {A E : Type 0} (front : List A) (r : Result (List A) E) (all : List A) → with_front front r ≡ Ok all
+    → (others : List A) × (r ≡ Ok others) × (all ≡ front ++ others)
 fronted front (Ok others) all h = (others, refl, cc)
 fronted front (Err e) all h = absurd (cc)
 
@@ -40,7 +41,8 @@ passed-front (c ∷ cs) a ok others b = elim (cases_Bool c.1) [
   | inr off ↦ rw off (λ at. passed-front cs a ok others b at)
 ]
 
-pub refused-front : {A B : Type 0} (checks : List (Check PlanFault)) (a : A) (e : PlanFault) (others : List (Check ListFault)) (b : B) → unless_refused checks a ≡ Err e
+pub refused-front : {A B : Type 0} (checks : List (Check PlanFault)) (a : A) (e : PlanFault) (others : List (Check ListFault)) (b : B)
+    → unless_refused checks a ≡ Err e
     → unless_refused (plan_checks checks ++ others) b ≡ Err (fault.Plan e)
 refused-front [] a e others b = λ at. absurd (cc)
 refused-front (c ∷ cs) a e others b = elim (cases_Bool c.1) [

@@ -1,6 +1,7 @@
 -- The monitor follows the list of a launch, step by step.
-use Rattle.std.proofs.Common.{inl, inr, ◌≡◌, ℕ, ◌+◌, ◌%◌, ◌<◌, ◌≤◌, ◌∙◌, sym, refl, ap, subst, arith, Bool, true, false, cond, not, ◌&&◌, eqb, List, [], ◌∷◌, ◌++◌, length}
-use Rattle.std.specs.Prelude.{Option, Ok, None, Some, nat_lt, is_some, option_map, if◌then◌else◌}
+use Rattle.std.proofs.Common.{inl, inr, ◌≡◌, ℕ, ◌+◌, ◌%◌, ◌<◌, ◌≤◌, ◌∙◌, sym, refl, ap, subst, arith, Bool, true, false, cond, not, ◌&&◌, eqb, List, [], ◌∷◌}
+use Rattle.std.proofs.Common.{◌++◌, length}
+use Rattle.std.specs.Prelude.{Option, Ok, None, Some, nat_lt, is_some, option_map, if◌then◌else◌, Result}
 use Rattle.std.specs.List.{flat_map, slice_get}
 use Rattle.std.proofs.lemmas.Bool.{cases_Bool, eqb-true, not-false}
 use Rattle.std.proofs.lemmas.Bool.Decides.{nat_tests}
@@ -34,7 +35,8 @@ use Rattle.rtt_plan.proofs.AcceptedCalls.{data-accepted, region-accepted}
 use Rattle.rtt_plan.proofs.PlansStayFormed.{planned-data, planned-nothing, planned-region}
 use Rattle.list_model.specs.declared.content.PageContent.{PageContent}
 use Rattle.list_model.specs.declared.content.PageContent.TheVariants.{Measured, Unmeasured, Unknown}
-use Rattle.list_model.specs.Entries.{Contents, Entry, Whole, command_of, commands_of, delegate_all, delegated, granule, item_entries, rec_entries, rec_granules, region_entries}
+use Rattle.list_model.specs.Entries.{Contents, Entry, Whole, command_of, commands_of, delegate_all, delegated, granule, item_entries, rec_entries, rec_granules}
+use Rattle.list_model.specs.Entries.{region_entries}
 use Rattle.list_model.specs.Leading.{Build, Built, IsBuilt, IsNextRec, planned}
 use Rattle.list_model.specs.Parts.{AreContents, block_parts, page_parts}
 use Rattle.list_model.proofs.GranulesOfEntries.{count-all, count-append}
@@ -52,7 +54,8 @@ use Rattle.ipa_layout.specs.declared.rec.PlacedRec.{PlacedRec}
 use Rattle.rmi_list.specs.declared.fault.ListFault.{ListFault}
 use Rattle.rmi_list.specs.declared.fault.ListFault.TheVariants as fault
 use Rattle.rmi_list.specs.Following.{IsFollowed}
-use Rattle.rmi_list.specs.Listed.{lacks_rule, Listing, Progress, list_item, list_named, list_rec, list_region, list_step, list_steps, listed, opening_progress, opening_checks, opening_entries, plan_checks, pool_check}
+use Rattle.rmi_list.specs.Listed.{lacks_rule, Listing, Progress, list_item, list_named, list_rec, list_region, list_step, list_steps, listed, opening_progress}
+use Rattle.rmi_list.specs.Listed.{opening_checks, opening_entries, plan_checks, pool_check}
 use Rattle.rmi_list.specs.Measured.{least_level, measured, of_named, page_base, page_content, rec_parts_of, step_parts}
 use Rattle.rmi_list.specs.RecParams.{rec_params}
 use Rattle.rmi_list.proofs.CheckAfterCheck.{bound, fronted, is-done, plan-off}
@@ -81,6 +84,20 @@ record Follows (c : Config) (s : State) (cs : List Command) (ps : List Part) (w 
 nothing-follows : (c : Config) (s : State) (w : Progress) → IsListed c w s → Follows c s [] [] w
 unfolding accepted shown run
 nothing-follows c s w is_listed = record { accepted = refl; shown = refl; listed = is_listed }
+
+-- where nothing is listed
+idle-follows : (c : Config) (contents : Contents) (s : State) (w : Progress) (done : Listing) → IsListed c w s
+    → (let idle : Listing = record { entries = []; next = w } in idle) ≡ done → Follows c s (commands_of contents done.entries) [] done.next
+idle-follows c contents s w done is_listed same =
+    subst (λ (d : Listing). Follows c s (commands_of contents d.entries) [] d.next) same (nothing-follows c s w is_listed)
+
+-- what a number names is listed, and nothing where it names nothing
+named-follows : {A : Type 0} (c : Config) (contents : Contents) (s : State) (w : Progress) (list : A → Result Listing ListFault) (parts : A → List Part)
+    (o : Option A) (done : Listing) → IsListed c w s
+    → ((x : A) → o ≡ Some x → list x ≡ Ok done → Follows c s (commands_of contents done.entries) (parts x) done.next)
+    → list_named w list o ≡ Ok done → Follows c s (commands_of contents done.entries) (of_named parts o) done.next
+named-follows c contents s w list parts None done is_listed each at = idle-follows c contents s w done is_listed cc
+named-follows c contents s w list parts (Some x) done is_listed each at = each x refl at
 
 -- ---- steps
 
@@ -115,10 +132,7 @@ unfolding list_item
 item-follows c contents s w number item done is_listed good = elim (cases_Bool (eqb item.pages 0)) [
   | inl none ↦ rw none (λ at.
       (let no_pages : item.pages ≡ 0 = eqb-true item.pages 0 none in
-      let idle : Listing = record { entries = []; next = w } in
-      let same : idle ≡ done = cc in
-      subst (λ (d : Listing). Follows c s (commands_of contents d.entries) (page_parts (page_content item) contents number (page_base item) item.pages) d.next) same
-      (rw (no_pages, no-parts (page_content item) contents number (page_base item)) (nothing-follows c s w is_listed))))
+      rw (no_pages, no-parts (page_content item) contents number (page_base item)) (idle-follows c contents s w done is_listed cc)))
   | inr some ↦ rw some (λ at.
       (let base : ℕ = page_base item in
       let entries : List Entry = item_entries c.pool_base w.taken w.plan (page_content item) number base item.pages in
@@ -128,8 +142,11 @@ item-follows c contents s w number item done is_listed good = elim (cases_Bool (
       let same : made ≡ done = is-done checks made done at in
       let off : holds (data_checks w.plan base item.pages) ≡ false = plan-off (data_checks w.plan base item.pages) last (none-holds checks made done at) in
       let accepts = data-accepted w.plan base item.pages off in
-      let led = item-leads contents (build_of c) w.plan w.taken w.num_recs (page_content item) number base item.pages s is_listed.built is_listed.planned good accepts in
-      subst (λ (d : Listing). Follows c s (commands_of contents d.entries) (page_parts (page_content item) contents number base item.pages) d.next) same (record {
+      let led =
+      item-leads contents (build_of c) w.plan w.taken w.num_recs
+      (page_content item) number base item.pages s is_listed.built is_listed.planned good accepts in
+      subst (λ (d : Listing). Follows c s (commands_of contents d.entries) (page_parts (page_content item) contents number base item.pages) d.next) same
+      (record {
         accepted = led.accepted;
         shown = led.shown;
         listed = record { built = led.built; planned = planned-data w.plan base item.pages is_listed.planned accepts.in_ram; least = is_listed.least };
@@ -158,7 +175,8 @@ rec-follows c contents s w number r done is_listed few at =
     let params : RecData = rec_params number r (granules c.num_aux (granule c.pool_base (w.taken + 1))) in
     let entries : List Entry = rec_entries c.pool_base w.taken c.num_aux params in
     let made : Listing = record { entries = entries; next = record w { taken = w.taken + delegated entries; num_recs = w.num_recs + 1 } } in
-    let checks : List (Check ListFault) = (fault.RecOrder, not (eqb number w.num_recs)) ∷ (fault.RecNotRunnable, lacks_rule c.rec_rule r) ∷ pool_check c w.taken entries ∷ [] in
+    let checks : List (Check ListFault) =
+    (fault.RecOrder, not (eqb number w.num_recs)) ∷ (fault.RecNotRunnable, lacks_rule c.rec_rule r) ∷ pool_check c w.taken entries ∷ [] in
     let same : made ≡ done = is-done checks made done at in
     let off : holds checks ≡ false = none-holds checks made done at in
     let order : number ≡ w.num_recs = eqb-true number w.num_recs (not-false (eqb number w.num_recs) (off-at checks 0 fault.NoMemory off)) in
@@ -173,35 +191,26 @@ rec-follows c contents s w number r done is_listed few at =
     let count : delegated entries ≡ c.num_aux + 1 = count-append (delegate_all (rec_granules c.pool_base w.taken c.num_aux)) _ ∙ omega arith in
     subst (λ (d : Listing). Follows c s (commands_of contents d.entries) (rec_parts_of c number r) d.next) same (record {
       accepted = led.accepted;
-      shown = led.shown ∙ ap (λ page. if extends c.rec_rule (is_runnable (flag_of r.runnable)) then Rec (measurement_of c.algo page) ∷ [] else []) (same-page number r params.aux);
+      shown =
+          led.shown ∙ ap (λ page. if extends c.rec_rule (is_runnable (flag_of r.runnable)) then Rec (measurement_of c.algo page) ∷ [] else [])
+          (same-page number r params.aux);
       listed = record { built = rw count led.built; planned = is_listed.planned; least = is_listed.least };
     })
 
-step-follows : (l : LaunchData) (p : PlacedData) (contents : Contents) (s : State) (w : Progress) (st : Step) (done : Listing) → AreContents l.config.algo contents
+step-follows : (l : LaunchData) (p : PlacedData) (contents : Contents) (s : State) (w : Progress) (st : Step) (done : Listing)
+    → AreContents l.config.algo contents
     → length p.recs ≤ 512 → IsListed l.config w s → list_step l p w st ≡ Ok done
     → Follows l.config s (commands_of contents done.entries) (step_parts l p contents st) done.next
-step-follows l p contents s w (step.Ram n) done good few is_listed at = by_region (slice_get l.ram n) at
-  where
-    by_region : (o : Option Region) → list_named w (list_region l.config w) o ≡ Ok done
-        → Follows l.config s (commands_of contents done.entries) (of_named (λ r. block_parts r.base r.end (least_level l.config)) o) done.next
-    by_region None h = (let idle : Listing = record { entries = []; next = w } in let same : idle ≡ done = cc in
-        subst (λ (d : Listing). Follows l.config s (commands_of contents d.entries) [] d.next) same (nothing-follows l.config s w is_listed))
-    by_region (Some r) h = region-follows l.config contents s w r done is_listed h
-step-follows l p contents s w (step.Item n) done good few is_listed at = by_item (slice_get p.items n) at
-  where
-    by_item : (o : Option PlacedItem) → list_named w (list_item l.config w n) o ≡ Ok done
-        → Follows l.config s (commands_of contents done.entries) (of_named (λ i. page_parts (page_content i) contents n (page_base i) i.pages) o) done.next
-    by_item None h = (let idle : Listing = record { entries = []; next = w } in let same : idle ≡ done = cc in
-        subst (λ (d : Listing). Follows l.config s (commands_of contents d.entries) [] d.next) same (nothing-follows l.config s w is_listed))
-    by_item (Some item) h = item-follows l.config contents s w n item done is_listed good h
-step-follows l p contents s w (step.Rec n) done good few is_listed at = by_rec (slice_get p.recs n) refl at
-  where
-    by_rec : (o : Option PlacedRec) → slice_get p.recs n ≡ o → list_named w (list_rec l.config w n) o ≡ Ok done
-        → Follows l.config s (commands_of contents done.entries) (of_named (rec_parts_of l.config n) o) done.next
-    by_rec None e h = (let idle : Listing = record { entries = []; next = w } in let same : idle ≡ done = cc in
-        subst (λ (d : Listing). Follows l.config s (commands_of contents d.entries) [] d.next) same (nothing-follows l.config s w is_listed))
-    by_rec (Some r) e h = (let inside : n < length p.recs = slice_get_within p.recs n r e in
-        rec-follows l.config contents s w n r done is_listed (omega arith) h)
+step-follows l p contents s w (step.Ram n) done good few is_listed at =
+    named-follows l.config contents s w (list_region l.config w) (λ r. block_parts r.base r.end (least_level l.config)) (slice_get l.ram n) done is_listed
+    (λ r there. region-follows l.config contents s w r done is_listed) at
+step-follows l p contents s w (step.Item n) done good few is_listed at =
+    named-follows l.config contents s w (list_item l.config w n) (λ i. page_parts (page_content i) contents n (page_base i) i.pages) (slice_get p.items n)
+    done is_listed (λ item there. item-follows l.config contents s w n item done is_listed good) at
+step-follows l p contents s w (step.Rec n) done good few is_listed at =
+    named-follows l.config contents s w (list_rec l.config w n) (rec_parts_of l.config n) (slice_get p.recs n) done is_listed (λ r there.
+    let inside : n < length p.recs = slice_get_within p.recs n r there in
+    rec-follows l.config contents s w n r done is_listed (omega arith)) at
 
 -- ---- the whole list
 
@@ -230,7 +239,8 @@ activated c w s is_listed =
       realm = ap (λ t. t.params) (run-taken s next Activate [] at) ∙ is_listed.built.params;
     }
 
-steps-end : (l : LaunchData) (p : PlacedData) (contents : Contents) (ss : List Step) (s : State) (w : Progress) (entries : List Entry) → AreContents l.config.algo contents
+steps-end : (l : LaunchData) (p : PlacedData) (contents : Contents) (ss : List Step) (s : State) (w : Progress) (entries : List Entry)
+    → AreContents l.config.algo contents
     → length p.recs ≤ 512 → IsListed l.config w s → list_steps l p w ss ≡ Ok entries
     → Ends s (commands_of contents entries) (flat_map (step_parts l p contents) ss) (realm_params l.config)
 unfolding list_steps
@@ -248,15 +258,18 @@ steps-end l p contents (st ∷ ss) s w entries good few is_listed at =
     let rest = steps-end l p contents ss (run s cs) done.next others good few here.listed (second.1) in
     let words : commands_of contents entries ≡ cs ++ commands_of contents others =
     ap (commands_of contents) (second.2) ∙ map-append (command_of contents) done.entries others in
-    rw words (then-ends s cs (commands_of contents others) (step_parts l p contents st) (flat_map (step_parts l p contents) ss) (realm_params l.config) here.accepted here.shown rest)
+    rw words (then-ends s cs (commands_of contents others) (step_parts l p contents st) (flat_map (step_parts l p contents) ss)
+    (realm_params l.config) here.accepted here.shown rest)
 
 opened-listed : (c : Config) (contents : Contents)
     → Follows c (empty_state c.num_aux c.rec_rule) (commands_of contents (opening_entries c)) (Realm (realm_page_of (realm_params c)) ∷ []) (opening_progress c)
 opened-listed c contents =
     let pool : c.pool_base % 65536 ≡ 0 = c.pool_aligned in
     let led = realm-leads contents (build_of c) (good-realm c) refl (omega arith) in
-    let own : delegated (delegate_all (granules (start_count c.s2sz + 1) c.pool_base)) ≡ start_count c.s2sz + 1 = count-all (start_count c.s2sz + 1) c.pool_base in
-    let count : delegated (opening_entries c) ≡ start_count c.s2sz + 1 = count-append (delegate_all (granules (start_count c.s2sz + 1) c.pool_base)) _ ∙ omega arith in
+    let own : delegated (delegate_all (granules (start_count c.s2sz + 1) c.pool_base)) ≡ start_count c.s2sz + 1 =
+    count-all (start_count c.s2sz + 1) c.pool_base in
+    let count : delegated (opening_entries c) ≡ start_count c.s2sz + 1 =
+    count-append (delegate_all (granules (start_count c.s2sz + 1) c.pool_base)) _ ∙ omega arith in
     record {
       accepted = led.accepted;
       shown = led.shown;
@@ -281,7 +294,8 @@ list-is-followed l p contents entries good at =
     let words : commands_of contents entries ≡ cs ++ commands_of contents others =
     ap (commands_of contents) (second.2 ∙ ap (λ es. es ++ others) (sym opened)) ∙ map-append (command_of contents) (opening_entries c) others in
     let ends : Ends s (commands_of contents entries) (measured l p contents) (realm_params c) =
-    rw words (then-ends s cs (commands_of contents others) (Realm (realm_page_of (realm_params c)) ∷ []) (flat_map (step_parts l p contents) l.steps) (realm_params c)
+    rw words (then-ends s cs (commands_of contents others) (Realm (realm_page_of (realm_params c)) ∷ []) (flat_map (step_parts l p contents) l.steps)
+    (realm_params c)
     here.accepted here.shown rest) in
     record {
       accepted = ends.accepted;

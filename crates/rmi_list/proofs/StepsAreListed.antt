@@ -1,5 +1,6 @@
 -- A step of the code makes the listing of the step's definition.
-use Rattle.std.proofs.Common.{inl, inr, ◌≡◌, ℕ, zero, suc, ◌+◌, ◌*◌, ◌/◌, ◌<◌, ◌≤◌, ◌^◌, ◌∙◌, sym, refl, ap, subst, arith, true, false, not, ◌&&◌, ltb, eqb, List, [], ◌∷◌, ◌++◌, ◌⊎◌, append_assoc, length, map}
+use Rattle.std.proofs.Common.{inl, inr, ◌≡◌, ℕ, zero, suc, ◌+◌, ◌*◌, ◌/◌, ◌<◌, ◌≤◌, ◌^◌, ◌∙◌, sym, refl, ap, subst, arith, true, false, not, ◌&&◌, ltb, eqb}
+use Rattle.std.proofs.Common.{List, [], ◌∷◌, ◌++◌, ◌⊎◌, append_assoc, length, map}
 use Rattle.std.specs.Prelude.{Ok, Err, Option, Some, None, Result, nat_lt, slice_index_or}
 use Rattle.std.specs.List.{slice_get}
 use Rattle.std.proofs.lemmas.Bool.Decides.{nat_tests}
@@ -48,12 +49,14 @@ unfolding HaveRoom
 no-room [] k = tt
 no-room (a ∷ acts) k = (tt, no-room acts (k + 0))
 
-tables-room : (item : PageContent × ℕ) (k : ℕ) (ts : List Table) (acts : List Act) → HaveRoom (Some item) k acts → HaveRoom (Some item) k (map table_act ts ++ acts)
+tables-room : (item : PageContent × ℕ) (k : ℕ) (ts : List Table) (acts : List Act) → HaveRoom (Some item) k acts
+    → HaveRoom (Some item) k (map table_act ts ++ acts)
 unfolding HaveRoom
 tables-room item k [] acts room = room
 tables-room item k (t ∷ ts) acts room = let e : k + 0 ≡ k = omega arith in (tt, rw e (tables-room item k ts acts room))
 
-room-put : (item : PageContent × ℕ) (k x : ℕ) (acts : List Act) → k + 1 ≤ 2 ^ 32 → x + 4096 ≤ 2 ^ 47 → HaveRoom (Some item) (k + 1) acts → HaveRoom (Some item) k (put_page x acts)
+room-put : (item : PageContent × ℕ) (k x : ℕ) (acts : List Act) → k + 1 ≤ 2 ^ 32 → x + 4096 ≤ 2 ^ 47 → HaveRoom (Some item) (k + 1) acts
+    → HaveRoom (Some item) k (put_page x acts)
 unfolding HaveRoom
 room-put item k x [] few low room = ((omega arith, omega arith), room)
 room-put item k x (act.Table base level ∷ acts) few low room = ((omega arith, omega arith), room)
@@ -79,17 +82,35 @@ pages-room item start (suc count) k x ts few low =
     tables-room item k new (put_page x rest)
     (room-put item k x rest (omega arith) (omega arith) (pages-room item start count (k + 1) (x + 4096) (ts ++ new) (omega arith) (omega arith)))
 
+-- ---- what a step lists
+
+-- entries, after which the plan is this one
+abbrev listing : Draft → Planned → List Entry → Listing
+listing old plan es = record { entries = es; next = record (progress_of old) { plan = plan; taken = old.taken + delegated es } }
+
+abbrev nothing : Draft → Listing
+nothing old = record { entries = []; next = progress_of old }
+
+makes-nothing : (old : Draft) → InPool old → Makes old old (nothing old)
+makes-nothing old within = record {
+  launch = refl;
+  placed = refl;
+  entries = sym (append-nil (entries_in old));
+  taken = omega arith;
+  progress = record { plan = agrees-refl old.tables; taken = refl; num_recs = refl };
+  pool = within;
+  spans = λ all. all;
+}
+
 -- ---- a step that the planner takes
 
 -- the planner has passed its checks, and the list goes on from what was planned
-planned-continues : {A U : Type 0} (old new : Draft) (t after : Planned) (checks : List (Check PlanFault)) (a ok : A) (es : List Entry) (result : Result U ListFault) → InPool old
+planned-continues : {A U : Type 0} (old new : Draft) (t after : Planned) (checks : List (Check PlanFault)) (a ok : A) (es : List Entry)
+    (result : Result U ListFault) → InPool old
     → unless_refused checks a ≡ Ok ok → AgreesWith t after → Lists (record old { tables = t }) new result es
-    → Continues old new result (unless_refused (plan_checks checks ++ pool_check old.launch.now.config old.taken es ∷ []) (record {
-      entries = es;
-      next = record (progress_of old) { plan = after; taken = old.taken + delegated es };
-    }))
+    → Continues old new result (unless_refused (plan_checks checks ++ pool_check old.launch.now.config old.taken es ∷ []) (listing old after es))
 planned-continues old new t after checks a ok es (Ok u) within passed agrees grows =
-    let made : Listing = record { entries = es; next = record (progress_of old) { plan = after; taken = old.taken + delegated es } } in
+    let made = listing old after es in
     let size : InPool new = grows.pool within in
     let taken : new.taken ≡ old.taken + delegated es = grows.taken in
     let pool : new.launch.now.config.pool_count ≡ old.launch.now.config.pool_count = ap (λ (l : _). l.now.config.pool_count) grows.launch in
@@ -108,7 +129,7 @@ planned-continues old new t after checks a ok es (Ok u) within passed agrees gro
     )
 planned-continues old new t after checks a ok es (Err e) within passed agrees (inl memory) = inl memory
 planned-continues old new t after checks a ok es (Err e) within passed agrees (inr full) =
-    let made : Listing = record { entries = es; next = record (progress_of old) { plan = after; taken = old.taken + delegated es } } in
+    let made = listing old after es in
     let small : old.launch.now.config.pool_count < old.taken + delegated es = full.1 in
     let on : nat_lt old.launch.now.config.pool_count (old.taken + delegated es) ≡ true = grind (arith, nat_tests) in
     inr (passed-front checks a ok (pool_check old.launch.now.config old.taken es ∷ []) made passed ∙ rw (on, full.0) refl)
@@ -125,7 +146,8 @@ region-continues old new t r acts result within planned agrees lists =
     let same : region_acts p r.base r.end ≡ acts = is-done (region_checks p r.base r.end) (region_acts p r.base r.end) acts planned in
     let es : List Entry = region_entries (pool_of old) old.taken p r.base r.end in
     let listed : act_entries (pool_of old) old.taken None 0 acts ≡ es =
-    ap (act_entries (pool_of old) old.taken None 0) (sym same) ∙ acts-of-runs (pool_of old) p.space.start None 0 (runs_of r.base r.end p.least_level) old.taken p.space.tables in
+    ap (act_entries (pool_of old) old.taken None 0) (sym same)
+    ∙ acts-of-runs (pool_of old) p.space.start None 0 (runs_of r.base r.end p.least_level) old.taken p.space.tables in
     planned-continues old new t (after_region p r.base r.end) (region_checks p r.base r.end) (region_acts p r.base r.end) acts es result within planned agrees
     (subst (Lists (record old { tables = t }) new result) listed lists)
 
@@ -135,7 +157,7 @@ unfolding plan_region list_region
 region-refused old r e h =
     let c : Config = old.launch.now.config in
     let es : List Entry = region_entries c.pool_base old.taken old.tables r.base r.end in
-    let made : Listing = record { entries = es; next = record (progress_of old) { plan = after_region old.tables r.base r.end; taken = old.taken + delegated es } } in
+    let made : Listing = listing old (after_region old.tables r.base r.end) es in
     plan-refused e (plan_region old.tables r.base r.end) (list_region c (progress_of old) r)
     (refused-front (region_checks old.tables r.base r.end) (region_acts old.tables r.base r.end) e (pool_check c old.taken es ∷ []) made) h
 
@@ -154,7 +176,8 @@ item-continues old new t number item acts result within some planned agrees list
     let listed : act_entries (pool_of old) old.taken (Some (page_content item, number)) 0 acts ≡ es =
     ap (act_entries (pool_of old) old.taken (Some (page_content item, number)) 0) (sym same)
     ∙ acts-of-pages (pool_of old) p.space.start (page_content item) number (granules item.pages base) 0 old.taken p.space.tables in
-    rw some (planned-continues old new t (after_data p base item.pages) (data_checks p base item.pages) (data_acts p base item.pages) acts es result within planned agrees
+    rw some (planned-continues old new t (after_data p base item.pages) (data_checks p base item.pages)
+    (data_acts p base item.pages) acts es result within planned agrees
     (subst (Lists (record old { tables = t }) new result) listed lists))
 
 pub item-refused : (old : Draft) (number : ℕ) (item : PlacedItem) (e : PlanFault) → eqb item.pages 0 ≡ false
@@ -165,7 +188,7 @@ item-refused old number item e some h =
     let c : Config = old.launch.now.config in
     let base : ℕ = page_base item in
     let es : List Entry = item_entries c.pool_base old.taken old.tables (page_content item) number base item.pages in
-    let made : Listing = record { entries = es; next = record (progress_of old) { plan = after_data old.tables base item.pages; taken = old.taken + delegated es } } in
+    let made : Listing = listing old (after_data old.tables base item.pages) es in
     let last : List (Check ListFault) = pool_check c old.taken es ∷ [] in
     rw some (plan-refused e (plan_data old.tables base item.pages) (unless_refused (plan_checks (data_checks old.tables base item.pages) ++ last) made)
     (refused-front (data_checks old.tables base item.pages) (data_acts old.tables base item.pages) e last made) h)
@@ -173,11 +196,7 @@ item-refused old number item e some h =
 pub item-idle : (old : Draft) (number : ℕ) (item : PlacedItem) → InPool old → eqb item.pages 0 ≡ true
     → (done : Listing) × (list_item old.launch.now.config (progress_of old) number item ≡ Ok done) × Makes old old done
 unfolding list_item
-item-idle old number item within none = rw none (
-  record { entries = []; next = progress_of old },
-  refl,
-  record { launch = refl; placed = refl; entries = sym (append-nil (entries_in old)); taken = omega arith; progress = record { plan = agrees-refl old.tables; taken = refl; num_recs = refl }; pool = within; spans = λ all. all },
-)
+item-idle old number item within none = rw none (nothing old, refl, makes-nothing old within)
 
 -- ---- RECs
 
@@ -243,7 +262,8 @@ order-off number num_recs e = grind (arith, nat_tests)
 order-on : (number num_recs : ℕ) → (number ≡ num_recs → ⊥) → not (eqb number num_recs) ≡ true
 order-on number num_recs e = grind (arith, nat_tests)
 
-pub rec-out-of-order : (old : Draft) (number : ℕ) (r : PlacedRec) → (number ≡ old.num_recs → ⊥) → list_rec old.launch.now.config (progress_of old) number r ≡ Err fault.RecOrder
+pub rec-out-of-order : (old : Draft) (number : ℕ) (r : PlacedRec) → (number ≡ old.num_recs → ⊥)
+    → list_rec old.launch.now.config (progress_of old) number r ≡ Err fault.RecOrder
 unfolding list_rec
 rec-out-of-order old number r other = rw (order-on number old.num_recs other) refl
 
@@ -309,19 +329,17 @@ pub rec-same : (old now : Draft) (n number : ℕ) (r : PlacedRec) → now.launch
     → slice_get old.placed.now.recs number ≡ Some r → span_in now (span.RecCreate n number) ≡ rec_itself old number r
 rec-same old now n number r launch placed at own =
     let found : slice_get now.placed.now.recs number ≡ Some r = ap (λ (p : _). slice_get p.now.recs number) placed ∙ own in
-    ap (λ e. e ∷ []) (named-rec (pool_of now) now.launch.now.config.num_aux n number (slice_get now.placed.now.recs number) r found
-    ∙ ap (λ (l : _). Whole (RecCreate (granule l.now.config.pool_base n) (rec_params number r (granules l.now.config.num_aux (granule l.now.config.pool_base (n + 1)))))) launch
-    ∙ ap (λ (m : ℕ). Whole (RecCreate (granule (pool_of old) m) (rec_params number r (granules old.launch.now.config.num_aux (granule (pool_of old) (m + 1)))))) at)
+    let by_number = named-rec (pool_of now) now.launch.now.config.num_aux n number (slice_get now.placed.now.recs number) r found in
+    ap (λ e. e ∷ []) (by_number ∙ ap (λ (l : _). entry l.now.config n) launch ∙ ap (entry old.launch.now.config) at)
+  where
+    entry : Config → ℕ → Entry
+    entry c m = Whole (RecCreate (granule c.pool_base m) (rec_params number r (granules c.num_aux (granule c.pool_base (m + 1)))))
 
 -- ---- steps that name nothing
 
 pub nothing-named : {A : Type 0} (old : Draft) (list : A → Result Listing ListFault) (o : Option A) → InPool old → o ≡ None
     → (done : Listing) × (list_named (progress_of old) list o ≡ Ok done) × Makes old old done
-nothing-named old list o within none = rw none (
-  record { entries = []; next = progress_of old },
-  refl,
-  record { launch = refl; placed = refl; entries = sym (append-nil (entries_in old)); taken = omega arith; progress = record { plan = agrees-refl old.tables; taken = refl; num_recs = refl }; pool = within; spans = λ all. all },
-)
+nothing-named old list o within none = rw none (nothing old, refl, makes-nothing old within)
 
 -- what a number names, as a look-up found it
 pub found-at : {A : Type 0} (xs ys : List A) (i : ℕ) (x d : A) → ys ≡ xs → true ≡ ltb i (length ys) → x ≡ slice_index_or ys i d → slice_get xs i ≡ Some x
