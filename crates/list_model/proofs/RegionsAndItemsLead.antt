@@ -30,7 +30,8 @@ use Rattle.list_model.proofs.PagesCreatedInTurn.{pages-lead, parts_from, parts_o
 use Rattle.list_model.proofs.RunsSetInTurn.{piled, runs-lead, with_runs}
 
 -- what is built is the same where the spaces are
-same-built : (b : Build) (v w : Built) (s : State) → IsBuilt b v s → SameSpace v.space w.space → v.taken ≡ w.taken → v.num_recs ≡ w.num_recs → are_some w.space.ram ≡ true → IsBuilt b w s
+same-built : (b : Build) (v w : Built) (s : State) → IsBuilt b v s → SameSpace v.space w.space → v.taken ≡ w.taken → v.num_recs ≡ w.num_recs
+    → are_some w.space.ram ≡ true → IsBuilt b w s
 same-built b v w s built same taken num_recs some = record {
   new = built.new;
   params = built.params;
@@ -75,7 +76,8 @@ block-parts : (base end least_level : ℕ) (xs : List ℕ)
 block-parts base end least_level [] = refl
 block-parts base end least_level (x ∷ xs) = ap (λ ps. Ripas x (x + size (block_level base end least_level x)) ∷ ps) (block-parts base end least_level xs)
 
-pub region-leads : (contents : Contents) (b : Build) (p : Planned) (n num_recs base end : ℕ) (s : State) → IsBuilt b (planned p n num_recs) s → IsPlanned p → base < end
+pub region-leads : (contents : Contents) (b : Build) (p : Planned) (n num_recs base end : ℕ) (s : State) → IsBuilt b (planned p n num_recs) s → IsPlanned p
+    → base < end
     → AcceptsRegion p base end
     → Leads b (planned (after_region p base end) (n + delegated (region_entries b.pool n p base end)) num_recs) s
     (commands_of contents (region_entries b.pool n p base end)) (block_parts base end p.least_level)
@@ -102,7 +104,8 @@ region-leads contents b p n num_recs base end s built is_planned lt accepts =
       assigned = λ x. refl;
     } in
     let said : ripas_parts (blocks_of rs) ≡ block_parts base end p.least_level =
-    ap ripas_parts (region-blocks base end p.least_level accepts.whole is_planned.deepest lt) ∙ block-parts base end p.least_level (entries base end p.least_level) in
+    ap ripas_parts (region-blocks base end p.least_level accepts.whole is_planned.deepest lt)
+    ∙ block-parts base end p.least_level (entries base end p.least_level) in
     record {
       accepted = led.accepted;
       shown = led.shown ∙ said;
@@ -118,9 +121,11 @@ piled-has (x ∷ xs) assigned y = piled-has xs (x ∷ assigned) y
     ∙ or-swap (has xs y) (eqb x y) (has assigned y) ∙ sym (or_assoc (eqb x y) (has xs y) (has assigned y))
 
 -- the parts of the pages from the kth on, page by page and as a whole
-module _ (content : PageContent) (contents : Contents) (item base : ℕ) (one : (x k : ℕ) → parts_of_page content contents item x k ≡ page_part content contents item x k ∷ []) where
+module _ (content : PageContent) (contents : Contents) (item base : ℕ)
+    (one : (x k : ℕ) → parts_of_page content contents item x k ≡ page_part content contents item x k ∷ []) where
   parts-numbered : (count k : ℕ)
-      → parts_from content contents item k (granules count (base + 4096 * k)) ≡ map (λ page. page_part content contents item (base + 4096 * page) page) (range_with_len k count)
+      → parts_from content contents item k (granules count (base + 4096 * k))
+      ≡ map (λ page. page_part content contents item (base + 4096 * page) page) (range_with_len k count)
   unfolding parts_from granules
   parts-numbered zero k = refl
   parts-numbered (suc count) k =
@@ -132,7 +137,8 @@ unfolding parts_from
 no-parts contents item k [] = refl
 no-parts contents item k (x ∷ xs) = no-parts contents item (k + 1) xs
 
-all-parts : (content : PageContent) (contents : Contents) (item base count : ℕ) → parts_from content contents item 0 (granules count base) ≡ page_parts content contents item base count
+all-parts : (content : PageContent) (contents : Contents) (item base count : ℕ)
+    → parts_from content contents item 0 (granules count base) ≡ page_parts content contents item base count
 all-parts Measured contents item base count =
     let first : base + 4096 * 0 ≡ base = omega arith in
     ap (λ x. parts_from Measured contents item 0 (granules count x)) (sym first) ∙ parts-numbered Measured contents item base (λ x k. refl) count 0
@@ -141,7 +147,8 @@ all-parts Unmeasured contents item base count =
     ap (λ x. parts_from Unmeasured contents item 0 (granules count x)) (sym first) ∙ parts-numbered Unmeasured contents item base (λ x k. refl) count 0
 all-parts Unknown contents item base count = no-parts contents item 0 (granules count base)
 
-pub item-leads : (contents : Contents) (b : Build) (p : Planned) (n num_recs : ℕ) (content : PageContent) (item base count : ℕ) (s : State) → IsBuilt b (planned p n num_recs) s → IsPlanned p
+pub item-leads : (contents : Contents) (b : Build) (p : Planned) (n num_recs : ℕ) (content : PageContent) (item base count : ℕ) (s : State)
+    → IsBuilt b (planned p n num_recs) s → IsPlanned p
     → AreContents b.params.algo contents → AcceptsData p base count
     → Leads b (planned (after_data p base count) (n + delegated (item_entries b.pool n p content item base count)) num_recs) s
     (commands_of contents (item_entries b.pool n p content item base count)) (page_parts content contents item base count)

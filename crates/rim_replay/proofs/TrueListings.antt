@@ -27,7 +27,8 @@ use Rattle.rim_replay.proofs.LineByLine.{at-line, first-line}
 use Rattle.rim_replay.proofs.PiecesOfTexts.{pieces}
 
 -- the realm has what the last line says
-held : (params : Option RealmParams) (rim : Option (List ℕ)) (algo : Algo) (m : Measurement) → option_map (λ p. p.algo) params ≡ Some algo → rim ≡ Some m.bytes → is_held params rim algo m ≡ true
+held : (params : Option RealmParams) (rim : Option (List ℕ)) (algo : Algo) (m : Measurement) → option_map (λ p. p.algo) params ≡ Some algo
+    → rim ≡ Some m.bytes → is_held params rim algo m ≡ true
 held None rim algo m by is = cc
 held (Some p) None algo m by is = cc
 held (Some p) (Some bytes) algo m by is =
@@ -44,7 +45,8 @@ module _ (algo : Algo) (m : Measurement) (fit : Are64Bytes m.bytes) where
   abbrev end : List ℕ
   end = with_newline (last_line algo m.bytes)
 
-  replays : (n : ℕ) (s : State) (cs : List Command) → All IsTyped cs → accepted s cs ≡ true → option_map (λ p. p.algo) (run s cs).params ≡ Some algo → (run s cs).rim ≡ Some m.bytes
+  replays : (n : ℕ) (s : State) (cs : List Command) → All IsTyped cs → accepted s cs ≡ true → option_map (λ p. p.algo) (run s cs).params ≡ Some algo
+      → (run s cs).rim ≡ Some m.bytes
       → Replays n s (pieces (flat_map command_line cs ++ end)) (Ok tt)
   unfolding accepted run
   replays n s [] typed ok by is =
@@ -61,10 +63,12 @@ module _ (algo : Algo) (m : Measurement) (fit : Are64Bytes m.bytes) where
       (ap (λ t. accepted t cs) (sym same) ∙ parts.1)
       (ap (λ t. option_map (λ (p : RealmParams). p.algo) (run t cs).params) (sym same) ∙ by)
       (ap (λ t. (run t cs).rim) (sym same) ∙ is) in
-      at-line n s ((command_line c ++ flat_map command_line cs) ++ end) (line_of c) more (Ok tt) (Some c) text (line_of-one_line c) (refl, typed 0 c (omega arith))
+      at-line n s ((command_line c ++ flat_map command_line cs) ++ end) (line_of c) more (Ok tt) (Some c) text (line_of-one_line c)
+      (refl, typed 0 c (omega arith))
       (subst (λ (r : Result State Refused). Takes n r (λ t. Replays (n + 1) t (pieces more) (Ok tt)) (Ok tt)) (sym next.1) rest)
 
-pub true-listing : (num_aux : ℕ) (rule : Option RecRule) (commands : List Command) (algo : Algo) (rim : List ℕ) → num_aux ≤ AUX_LIMIT → All IsTyped commands → Are64Bytes rim → accepted (empty_state num_aux rule) commands ≡ true
+pub true-listing : (num_aux : ℕ) (rule : Option RecRule) (commands : List Command) (algo : Algo) (rim : List ℕ) → num_aux ≤ AUX_LIMIT → All IsTyped commands
+    → Are64Bytes rim → accepted (empty_state num_aux rule) commands ≡ true
     → option_map (λ p. p.algo) (run (empty_state num_aux rule) commands).params ≡ Some algo → (run (empty_state num_aux rule) commands).rim ≡ Some rim
     → ReplayAnswer (listing_text num_aux rule commands algo rim) (Ok tt)
 true-listing num_aux rule commands algo rim few typed fit ok by is =
@@ -73,5 +77,6 @@ true-listing num_aux rule commands algo rim few typed fit ok by is =
     let more : List ℕ = flat_map command_line commands ++ last in
     let text : listing_text num_aux rule commands algo rim ≡ first_line num_aux rule ++ (10 ∷ more) =
     append_assoc (with_newline (first_line num_aux rule)) (flat_map command_line commands) last ∙ append_assoc (first_line num_aux rule) (codes "\n") more in
-    first-line (listing_text num_aux rule commands algo rim) (first_line num_aux rule) more (Ok tt) (Some (num_aux, rule)) text (first-one_line num_aux rule) (refl, few)
+    first-line (listing_text num_aux rule commands algo rim) (first_line num_aux rule) more (Ok tt) (Some (num_aux, rule)) text
+    (first-one_line num_aux rule) (refl, few)
     (replays algo m fit 2 (empty_state num_aux rule) commands typed ok by is)

@@ -36,7 +36,8 @@ deeper-levels start (t ∷ ts) l base top placed =
     below : (t : Table) (l base top : ℕ) → (ltb l t.level && (leb base t.base && ltb t.base top)) ≡ true → l < t.level
     below t l base top h = grind (arith, nat_tests)
 
-    there : (t : Table) (ts : List Table) (l j base top : ℕ) → t.level ≡ j → (ltb l t.level && (leb base t.base && ltb t.base top)) ≡ true → has_table_in (t ∷ ts) j base top ≡ true
+    there : (t : Table) (ts : List Table) (l j base top : ℕ) → t.level ≡ j → (ltb l t.level && (leb base t.base && ltb t.base top)) ≡ true
+        → has_table_in (t ∷ ts) j base top ≡ true
     there t ts l j base top level h = grind (arith, nat_tests)
 
     later : (t : Table) (ts : List Table) (j base top : ℕ) → has_table_in ts j base top ≡ true → has_table_in (t ∷ ts) j base top ≡ true
