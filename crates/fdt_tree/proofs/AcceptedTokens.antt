@@ -23,7 +23,8 @@ abbrev pub behind : Place → Nodes → Place
 behind p none = p
 behind p (node n es children next) = record { depth = p.depth; late = true }
 
-pub properties_accept : (es : List PropertyData) (d : ℕ) (more : List Token) → 0 < d → AreLegal es → Accepts (record { depth = d; late = false }) more → Accepts (record { depth = d; late = false }) (map property es ++ more)
+pub properties_accept : (es : List PropertyData) (d : ℕ) (more : List Token) → 0 < d → AreLegal es → Accepts (record { depth = d; late = false }) more
+    → Accepts (record { depth = d; late = false }) (map property es ++ more)
 properties_accept [] d more h legal_es rest = rest
 properties_accept (e ∷ es) d more h legal_es rest = ((h, refl, legal_es.0), properties_accept es d more h legal_es.1 rest)
 
@@ -39,16 +40,20 @@ nodes_accept (node n es children next) p more h legal_f rest =
     let last : Accepts ended (tokens next ++ more) = nodes_accept next ended more h legal_f.4 (settle next rest) in
     let back : d - 1 ≡ p.depth = omega arith in
     let closing : Accepts (behind inner children) (end_node ∷ (tokens next ++ more)) = close children d (tokens next ++ more) (omega arith) (rw back last) in
-    let children_in : Accepts inner (tokens children ++ (end_node ∷ (tokens next ++ more))) = nodes_accept children inner (end_node ∷ (tokens next ++ more)) (omega arith) legal_f.3 closing in
+    let children_in : Accepts inner (tokens children ++ (end_node ∷ (tokens next ++ more))) =
+    nodes_accept children inner (end_node ∷ (tokens next ++ more)) (omega arith) legal_f.3 closing in
     let es_in = properties_accept es d (tokens children ++ (end_node ∷ (tokens next ++ more))) (omega arith) legal_f.2 children_in in
-    let shape : map property es ++ (tokens children ++ (end_node ∷ (tokens next ++ more))) ≡ (map property es ++ (tokens children ++ (end_node ∷ tokens next))) ++ more
-    = ap (λ (ts : List Token). map property es ++ ts) (sym (append_assoc (tokens children) (end_node ∷ tokens next) more)) ∙ sym (append_assoc (map property es) (tokens children ++ (end_node ∷ tokens next)) more) in
+    let shape : map property es ++ (tokens children ++ (end_node ∷ (tokens next ++ more)))
+    ≡ (map property es ++ (tokens children ++ (end_node ∷ tokens next))) ++ more
+    = ap (λ (ts : List Token). map property es ++ ts) (sym (append_assoc (tokens children) (end_node ∷ tokens next) more))
+    ∙ sym (append_assoc (map property es) (tokens children ++ (end_node ∷ tokens next)) more) in
     ((inner_legal n p h legal_f.1, legal_f.0, λ e. absurd (omega arith)), subst (λ (ts : List Token). Accepts inner ts) shape es_in)
   where
     settle : (next : Nodes) → Accepts (record { depth = p.depth; late = true }) more → Accepts (behind (record { depth = p.depth; late = true }) next) more
     settle none r = r
     settle (node a b c d) r = r
 
-    close : (children : Nodes) (d : ℕ) (ts : List Token) → 0 < d → Accepts (record { depth = d - 1; late = true }) ts → Accepts (behind (record { depth = d; late = false }) children) (end_node ∷ ts)
+    close : (children : Nodes) (d : ℕ) (ts : List Token) → 0 < d → Accepts (record { depth = d - 1; late = true }) ts
+        → Accepts (behind (record { depth = d; late = false }) children) (end_node ∷ ts)
     close none d ts h r = (h, r)
     close (node a b c e) d ts h r = (h, r)

@@ -1,5 +1,6 @@
 -- A scan fails as the first token that has a fault.
-use Rattle.std.proofs.Common.{◌≡◌, ℕ, zero, suc, ◌+◌, ◌-◌, ◌%◌, ◌≤◌, cond, ltb, eqb, List, [], ◌∷◌, length, take, drop, Result, Ok, Err, refl, sym, ap, ◌∙◌, arith, inl, inr}
+use Rattle.std.proofs.Common.{◌≡◌, ℕ, zero, suc, ◌+◌, ◌-◌, ◌%◌, ◌≤◌, cond, ltb, eqb, List, [], ◌∷◌, length, take, drop, Result, Ok, Err, refl, sym, ap, ◌∙◌}
+use Rattle.std.proofs.Common.{arith, inl, inr}
 use Rattle.std.specs.Prelude.{◌&&◌, not}
 use Rattle.std.specs.Int.{w32, from_be_bytes}
 use Rattle.std.proofs.lemmas.Bool.{ltb-false}
@@ -35,19 +36,27 @@ padded_rest n bytes x e =
 begin_rest : (p : Place) (bytes : List ℕ) (t : Token) (rest : List ℕ) → begin_at p bytes ≡ Ok (t, rest) → length rest ≤ length bytes
 unfolding begin_at
 begin_rest p bytes t rest e =
-    let a = bind-ok (string_at BadToken bytes) (λ name. padded_at (length name + 1) bytes >>= λ text. cond (legal_at p name) (cond (ltb p.depth 64) (Ok (begin_node name, text.1)) (Err TooDeep)) (Err BadName)) (t, rest) e in
-    let b = bind-ok (padded_at (length a.0 + 1) bytes) (λ text. cond (legal_at p a.0) (cond (ltb p.depth 64) (Ok (begin_node a.0, text.1)) (Err TooDeep)) (Err BadName)) (t, rest) a.2 in
+    let a =
+    bind-ok (string_at BadToken bytes)
+    (λ name. padded_at (length name + 1) bytes >>= λ text. cond (legal_at p name) (cond (ltb p.depth 64) (Ok (begin_node name, text.1)) (Err TooDeep))
+    (Err BadName)) (t, rest) e in
+    let b =
+    bind-ok (padded_at (length a.0 + 1) bytes)
+    (λ text. cond (legal_at p a.0) (cond (ltb p.depth 64) (Ok (begin_node a.0, text.1)) (Err TooDeep)) (Err BadName)) (t, rest) a.2 in
     let c = only_if (legal_at p a.0) BadName (cond (ltb p.depth 64) (Ok (begin_node a.0, b.0.1)) (Err TooDeep)) (t, rest) b.2 in
     let d = only_if (ltb p.depth 64) TooDeep (Ok (begin_node a.0, b.0.1)) (t, rest) c.1 in
     let is = pair_is (begin_node a.0) t b.0.1 rest d.1 in
     omega (arith, ap length is.1, padded_rest (length a.0 + 1) bytes b.0 b.1)
 
-property_rest : (strings : List ℕ) (p : Place) (bytes : List ℕ) (t : Token) (rest : List ℕ) → property_at strings p bytes ≡ Ok (t, rest) → length rest ≤ length bytes
+property_rest : (strings : List ℕ) (p : Place) (bytes : List ℕ) (t : Token) (rest : List ℕ) → property_at strings p bytes ≡ Ok (t, rest)
+    → length rest ≤ length bytes
 unfolding property_at
 property_rest strings p bytes t rest e =
     let made_of : List ℕ → List ℕ → List ℕ → Result (Token × List ℕ) FdtFault = λ v r name. Ok (property (record { name = name; value = v }), r) in
     let behind_value : ℕ → List ℕ → List ℕ → Result (Token × List ℕ) FdtFault = λ o v r. cond p.late (Err LateProperty) (name_at strings o >>= made_of v r) in
-    let a = bind-ok (number_at bytes) (λ len. number_at len.1 >>= λ offset. padded_at len.0 offset.1 >>= λ value. behind_value offset.0 value.0 value.1) (t, rest) e in
+    let a =
+    bind-ok (number_at bytes) (λ len. number_at len.1 >>= λ offset. padded_at len.0 offset.1 >>= λ value. behind_value offset.0 value.0 value.1)
+    (t, rest) e in
     let b = bind-ok (number_at a.0.1) (λ offset. padded_at a.0.0 offset.1 >>= λ value. behind_value offset.0 value.0 value.1) (t, rest) a.2 in
     let c = bind-ok (padded_at a.0.0 b.0.1) (λ value. behind_value b.0.0 value.0 value.1) (t, rest) b.2 in
     let g = unless p.late LateProperty (name_at strings b.0.0 >>= made_of c.0.0 c.0.1) (t, rest) c.2 in
@@ -55,7 +64,8 @@ property_rest strings p bytes t rest e =
     let is = pair_is (property (record { name = i.0; value = c.0.0 })) t c.0.1 rest i.2 in
     omega (arith, ap length is.1, number_rest bytes a.0 a.1, number_rest a.0.1 b.0 b.1, padded_rest a.0.0 b.0.1 c.0 c.1)
 
-kind_rest : (strings : List ℕ) (p : Place) (kind : ℕ) (body : List ℕ) (t : Token) (rest : List ℕ) → kind_at strings p kind body ≡ Ok (t, rest) → length rest ≤ length body
+kind_rest : (strings : List ℕ) (p : Place) (kind : ℕ) (body : List ℕ) (t : Token) (rest : List ℕ) → kind_at strings p kind body ≡ Ok (t, rest)
+    → length rest ≤ length body
 unfolding kind_at
 kind_rest strings p kind body t rest e =
     elim (chosen (eqb kind 1 && not (is_over p)) _ _ _ e) [
@@ -75,7 +85,8 @@ kind_rest strings p kind body t rest e =
     same : (own : Token) → (let r : Result (Token × List ℕ) FdtFault = Ok (own, body) in r) ≡ Ok (t, rest) → length rest ≤ length body
     same own q = omega (arith, ap length (pair_is own t body rest q).1)
 
-pub token_rest : (strings : List ℕ) (p : Place) (bytes : List ℕ) (t : Token) (rest : List ℕ) → token_at strings p bytes ≡ Ok (t, rest) → length rest + 4 ≤ length bytes
+pub token_rest : (strings : List ℕ) (p : Place) (bytes : List ℕ) (t : Token) (rest : List ℕ) → token_at strings p bytes ≡ Ok (t, rest)
+    → length rest + 4 ≤ length bytes
 unfolding token_at
 token_rest strings p bytes t rest e =
     let b = bind-ok (number_at bytes) (λ kind. kind_at strings p kind.0 kind.1) (t, rest) e in
@@ -107,7 +118,8 @@ joins_fault (begin_node n) f h = refl
 joins_fault (property x) f h = refl
 joins_fault end_node f h = refl
 
-pub scan_fails : (strings : List ℕ) (n : ℕ) (p : Place) (bytes : List ℕ) (f : FdtFault) → length bytes ≤ n → scan strings n p bytes ≡ Err f → FaultBehind strings p bytes f
+pub scan_fails : (strings : List ℕ) (n : ℕ) (p : Place) (bytes : List ℕ) (f : FdtFault) → length bytes ≤ n → scan strings n p bytes ≡ Err f
+    → FaultBehind strings p bytes f
 unfolding scan
 scan_fails strings zero p bytes f le e =
     let none_left : bytes ≡ [] = nil_from_length bytes (omega arith) in
@@ -125,7 +137,8 @@ scan_fails strings (suc n) p bytes f le e = go (token_at strings p bytes) refl e
         let i = ih (after p t.0) t.1 f (omega (arith, token_rest strings p bytes t.0 t.1 h)) j.1 in
         (t.0 ∷ i.0, i.1, i.2, (j.0, t.1, h, i.3), i.4)
 
-pub fault_scans : (strings : List ℕ) (ts : List Token) (n : ℕ) (p q : Place) (bytes rest : List ℕ) (f : FdtFault) → length bytes ≤ n → Leads strings p bytes ts q rest → token_at strings q rest ≡ Err f → scan strings n p bytes ≡ Err f
+pub fault_scans : (strings : List ℕ) (ts : List Token) (n : ℕ) (p q : Place) (bytes rest : List ℕ) (f : FdtFault) → length bytes ≤ n
+    → Leads strings p bytes ts q rest → token_at strings q rest ≡ Err f → scan strings n p bytes ≡ Err f
 unfolding scan
 fault_scans strings [] zero p q bytes rest f le l e =
     let none_left : rest ≡ [] = sym l.1 ∙ nil_from_length bytes (omega arith) in
@@ -139,5 +152,6 @@ fault_scans strings [] (suc n) p q bytes rest f le l e =
 fault_scans strings (t ∷ ts) zero p q bytes rest f le l e =
     absurd (omega (arith, token_rest strings p bytes t l.1 l.2))
 fault_scans strings (t ∷ ts) (suc n) p q bytes rest f le l e =
-    let later : scan strings n (after p t) l.1 ≡ Err f = fault_scans strings ts n (after p t) q l.1 rest f (omega (arith, token_rest strings p bytes t l.1 l.2)) l.3 e in
+    let later : scan strings n (after p t) l.1 ≡ Err f =
+    fault_scans strings ts n (after p t) q l.1 rest f (omega (arith, token_rest strings p bytes t l.1 l.2)) l.3 e in
     rw (l.2, later) (joins_fault t f l.0)

@@ -28,7 +28,16 @@ blocks_take h len e =
 
 blocks_again : (h : Header) (len : ℕ) → BlocksFit h len → blocks_fit h len ≡ true
 blocks_again h len b =
-    rw (le-leb 40 h.totalsize b.own, le-leb h.totalsize len b.whole, eq-eqb (h.off_dt_struct % 4) 0 b.structure_aligned, eq-eqb (h.off_mem_rsvmap % 8) 0 b.reserve_aligned, le-leb h.off_mem_rsvmap h.totalsize b.reserve, le-leb (h.off_dt_struct + h.size_dt_struct) h.totalsize b.structure, le-leb (h.off_dt_strings + h.size_dt_strings) h.totalsize b.strings) refl
+    rw (
+      le-leb 40 h.totalsize b.own,
+      le-leb h.totalsize len b.whole,
+      eq-eqb (h.off_dt_struct % 4) 0 b.structure_aligned,
+      eq-eqb (h.off_mem_rsvmap % 8) 0 b.reserve_aligned,
+      le-leb h.off_mem_rsvmap h.totalsize b.reserve,
+      le-leb
+          (h.off_dt_struct + h.size_dt_struct) h.totalsize b.structure,
+      le-leb (h.off_dt_strings + h.size_dt_strings) h.totalsize b.strings,
+    ) refl
 
 pub header_takes : (bytes : List ℕ) (h : Header) → header_at bytes ≡ Ok h → HasHeader bytes h
 unfolding header_at

@@ -1,5 +1,6 @@
 -- Names that are looked up.
-use Rattle.std.proofs.Common.{◌≡◌, ℕ, suc, ◌+◌, ◌<◌, Bool, true, false, cond, eqb, List, [], ◌∷◌, length, get_or, take, drop, Option, Some, None, refl, sym, ap, ◌∙◌, arith}
+use Rattle.std.proofs.Common.{◌≡◌, ℕ, suc, ◌+◌, ◌<◌, Bool, true, false, cond, eqb, List, [], ◌∷◌, length, get_or, take, drop, Option, Some, None, refl, sym, ap}
+use Rattle.std.proofs.Common.{◌∙◌, arith}
 use Rattle.std.specs.Prelude.{option_and_then}
 use Rattle.std.specs.List.{position_from}
 use Rattle.std.specs.Str.{bytes_eq}
@@ -13,8 +14,10 @@ use Rattle.fdt_tree.proofs.OpenNodes.{branch_out}
 
 -- ---- among the children
 
-at_item : (strings name : List ℕ) (items : List Node) (i : ℕ) (n : Node) (b : Bool) → i < length items → n ≡ get_or items i n → bytes_eq (out-Node n).name.items name ≡ b
-    → first_named name (joined (branches strings (drop i items))) ≡ cond b (Some (branch strings n)) (first_named name (joined (branches strings (drop (i + 1) items))))
+at_item : (strings name : List ℕ) (items : List Node) (i : ℕ) (n : Node) (b : Bool) → i < length items → n ≡ get_or items i n
+    → bytes_eq (out-Node n).name.items name ≡ b
+    → first_named name (joined (branches strings (drop i items)))
+    ≡ cond b (Some (branch strings n)) (first_named name (joined (branches strings (drop (i + 1) items))))
 at_item strings name items i n b lt is e =
     let rest = first_named name (joined (branches strings (drop (i + 1) items))) in
     let test : bytes_eq (branch strings n).name name ≡ b = ap (λ (x : Branch). bytes_eq x.name name) (branch_out strings n) ∙ e in
@@ -22,12 +25,16 @@ at_item strings name items i n b lt is e =
     ∙ ap (λ (x : Node). first_named name (joined (branches strings (x ∷ drop (i + 1) items)))) (sym is)
     ∙ ap (λ (t : Bool). cond t (Some (branch strings n)) rest) test
 
-pub found : (strings name : List ℕ) (node n : Node) (items : List Node) (i : ℕ) → items ≡ (out-Node node).children.items → i < length items → n ≡ get_or items i n → bytes_eq (out-Node n).name.items name ≡ true
-    → first_named name (joined (branches strings (drop i items))) ≡ first_named name (joined (branches strings items)) → Some (branch strings n) ≡ first_named name (branch strings node).children
+pub found : (strings name : List ℕ) (node n : Node) (items : List Node) (i : ℕ) → items ≡ (out-Node node).children.items → i < length items
+    → n ≡ get_or items i n → bytes_eq (out-Node n).name.items name ≡ true
+    → first_named name (joined (branches strings (drop i items))) ≡ first_named name (joined (branches strings items))
+    → Some (branch strings n) ≡ first_named name (branch strings node).children
 found strings name node n items i of_node lt is e so_far =
-    sym (at_item strings name items i n true lt is e) ∙ so_far ∙ ap (λ (ns : List Node). first_named name (joined (branches strings ns))) of_node ∙ ap (λ (x : Branch). first_named name x.children) (sym (branch_out strings node))
+    sym (at_item strings name items i n true lt is e) ∙ so_far ∙ ap (λ (ns : List Node). first_named name (joined (branches strings ns))) of_node
+    ∙ ap (λ (x : Branch). first_named name x.children) (sym (branch_out strings node))
 
-pub passed : (strings name : List ℕ) (n : Node) (items : List Node) (i : ℕ) (total : Option Branch) → i < length items → n ≡ get_or items i n → bytes_eq (out-Node n).name.items name ≡ false
+pub passed : (strings name : List ℕ) (n : Node) (items : List Node) (i : ℕ) (total : Option Branch) → i < length items → n ≡ get_or items i n
+    → bytes_eq (out-Node n).name.items name ≡ false
     → first_named name (joined (branches strings (drop i items))) ≡ total → first_named name (joined (branches strings (drop (i + 1) items))) ≡ total
 passed strings name n items i total lt is e so_far = sym (at_item strings name items i n false lt is e) ∙ so_far
 
@@ -40,7 +47,8 @@ one_name : (path : List ℕ) (i : ℕ) → position_from slash i path ≡ None �
 one_name [] i e = refl
 one_name (c ∷ cs) i e = go (slash c) e (one_name cs (i + 1))
   where
-    go : (b : Bool) → cond b (Some i) (position_from slash (i + 1) cs) ≡ None → (position_from slash (i + 1) cs ≡ None → between_slashes cs ≡ cs ∷ []) → cond b ([] ∷ between_slashes cs) (put_first c (between_slashes cs)) ≡ (c ∷ cs) ∷ []
+    go : (b : Bool) → cond b (Some i) (position_from slash (i + 1) cs) ≡ None → (position_from slash (i + 1) cs ≡ None → between_slashes cs ≡ cs ∷ [])
+        → cond b ([] ∷ between_slashes cs) (put_first c (between_slashes cs)) ≡ (c ∷ cs) ∷ []
     go true q ih = absurd cc
     go false q ih = ap (put_first c) (ih q)
 
@@ -51,7 +59,8 @@ split_name : (path : List ℕ) (i at : ℕ) → position_from slash i path ≡ S
 split_name [] i at e = absurd cc
 split_name (c ∷ cs) i at e = go (slash c) refl e (split_name cs (i + 1) at)
   where
-    go : (b : Bool) → slash c ≡ b → cond b (Some i) (position_from slash (i + 1) cs) ≡ Some at → (position_from slash (i + 1) cs ≡ Some at → Split cs (i + 1) at) → Split (c ∷ cs) i at
+    go : (b : Bool) → slash c ≡ b → cond b (Some i) (position_from slash (i + 1) cs) ≡ Some at
+        → (position_from slash (i + 1) cs ≡ Some at → Split cs (i + 1) at) → Split (c ∷ cs) i at
     go true h q ih = let here : i ≡ at = cc in (0, omega arith, rw h refl)
     go false h q ih = let t = ih q in (suc t.0, omega (arith, t.1), rw h (ap (put_first c) t.2))
 
@@ -62,7 +71,8 @@ last_name path b e = ap (λ (ns : List (List ℕ)). node_below ns b) (one_name p
     same None = refl
     same (Some x) = refl
 
-pub next_name : (path : List ℕ) (b : Branch) (at : ℕ) → Some at ≡ position_from slash 0 path → node_below (between_slashes path) b ≡ option_and_then (node_below (between_slashes (drop (at + 1) path))) (first_named (take at path) b.children)
+pub next_name : (path : List ℕ) (b : Branch) (at : ℕ) → Some at ≡ position_from slash 0 path
+    → node_below (between_slashes path) b ≡ option_and_then (node_below (between_slashes (drop (at + 1) path))) (first_named (take at path) b.children)
 next_name path b at e =
     let t = split_name path 0 at (sym e) in
     let same : t.0 ≡ at = omega (arith, t.1) in

@@ -1,5 +1,6 @@
 -- The table of names, and a name that is added.
-use Rattle.std.proofs.Common.{◌^◌, ◌≡◌, ℕ, ◌+◌, ◌<◌, ◌≤◌, Bool, true, false, cond, List, [], ◌∷◌, ◌++◌, length, take, drop, Option, Some, None, Result, Ok, Err, IfOk, refl, sym, ap, ◌∙◌, append_assoc, arith, subst}
+use Rattle.std.proofs.Common.{◌^◌, ◌≡◌, ℕ, ◌+◌, ◌<◌, ◌≤◌, Bool, true, false, cond, List, [], ◌∷◌, ◌++◌, length, take, drop, Option, Some, None, Result, Ok, Err}
+use Rattle.std.proofs.Common.{IfOk, refl, sym, ap, ◌∙◌, append_assoc, arith, subst}
 use Rattle.std.proofs.lemmas.List.{length-append}
 use Rattle.std.specs.declared.vec.Vec.{Vec}
 use Rattle.std.specs.BTreeMap.{BTreeMap, get_by, UpdatesBy}
@@ -16,14 +17,16 @@ use Rattle.fdt_tree.specs.declared.writing.names.NameTable.{NameTable}
 -- ---- a map whose keys are bytes
 
 module _ {K : Type 0} (eq : K → K → Bool) (test : K → Bool) where
-  other_entries : {X : Type 0} (old new : List (K × X)) → KeepsOthers eq test old new → (other : K → Bool) → IsKeyTest eq other → AreApart test other → lookup other new ≡ lookup other old
+  other_entries : {X : Type 0} (old new : List (K × X)) → KeepsOthers eq test old new → (other : K → Bool) → IsKeyTest eq other → AreApart test other
+      → lookup other new ≡ lookup other old
   unfolding KeepsOthers
   other_entries old new h = h
 
 apart : (bs cs ks : List ℕ) → bytes_eq bs cs ≡ false → is_eq (slice_cmp nat_cmp bs ks) ≡ true → is_eq (slice_cmp nat_cmp cs ks) ≡ false
 apart bs cs ks n y = is_eq-slice_cmp cs ks ∙ nat_list_eq_equiv.symm cs ks ∙ sym (nat_list_eq_equiv.congr bs ks cs (sym (is_eq-slice_cmp bs ks) ∙ y)) ∙ n
 
-pub map_at : {A X : Type 0} (bs : List ℕ) (m n : BTreeMap (Vec ℕ A) X) (w : Option X) → UpdatesBy (λ x y. slice_cmp nat_cmp x.items y.items) (λ k. slice_cmp nat_cmp bs k.items) m n w
+pub map_at : {A X : Type 0} (bs : List ℕ) (m n : BTreeMap (Vec ℕ A) X) (w : Option X)
+    → UpdatesBy (λ x y. slice_cmp nat_cmp x.items y.items) (λ k. slice_cmp nat_cmp bs k.items) m n w
     → (cs : List ℕ) → get_by (λ k. slice_cmp nat_cmp cs k.items) n ≡ cond (bytes_eq bs cs) w (get_by (λ k. slice_cmp nat_cmp cs k.items) m)
 map_at {A} {X} bs m n w h cs = go (bytes_eq bs cs) refl
   where
@@ -40,9 +43,6 @@ strings_push (n ∷ ns) name =
     ∙ sym (append_assoc n (0 ∷ (strings_text ns ++ name)) (0 ∷ []))
     ∙ ap (λ (x : List ℕ). x ++ 0 ∷ []) (sym (append_assoc n (0 ∷ strings_text ns) name))
 
-pub same_bytes : (bs : List ℕ) → bytes_eq bs bs ≡ true
-same_bytes bs = nat_list_eq_equiv.refl bs
-
 any_push : (q : List ℕ) (names : List (List ℕ)) (name : List ℕ) → is_among q (names ++ name ∷ []) ≡ cond (is_among q names) true (bytes_eq q name)
 any_push q [] name = last (bytes_eq q name)
   where
@@ -51,15 +51,17 @@ any_push q [] name = last (bytes_eq q name)
     last false = refl
 any_push q (n ∷ ns) name = go (bytes_eq q n) (any_push q ns name)
   where
-    go : (b : Bool) → is_among q (ns ++ name ∷ []) ≡ cond (is_among q ns) true (bytes_eq q name) → cond b true (is_among q (ns ++ name ∷ [])) ≡ cond (cond b true (is_among q ns)) true (bytes_eq q name)
+    go : (b : Bool) → is_among q (ns ++ name ∷ []) ≡ cond (is_among q ns) true (bytes_eq q name)
+        → cond b true (is_among q (ns ++ name ∷ [])) ≡ cond (cond b true (is_among q ns)) true (bytes_eq q name)
     go true ih = refl
     go false ih = ih
 
 pub offset_new : (names : List (List ℕ)) (name : List ℕ) → is_among name names ≡ false → offset_in (names ++ name ∷ []) name ≡ length (strings_text names)
-offset_new [] name h = rw (same_bytes name) refl
+offset_new [] name h = rw (nat_list_eq_equiv.refl name) refl
 offset_new (n ∷ ns) name h = go (bytes_eq name n) h (offset_new ns name)
   where
-    go : (b : Bool) → cond b true (is_among name ns) ≡ false → (is_among name ns ≡ false → offset_in (ns ++ name ∷ []) name ≡ length (strings_text ns)) → cond b 0 (length n + 1 + offset_in (ns ++ name ∷ []) name) ≡ length (n ++ (0 ∷ strings_text ns))
+    go : (b : Bool) → cond b true (is_among name ns) ≡ false → (is_among name ns ≡ false → offset_in (ns ++ name ∷ []) name ≡ length (strings_text ns))
+        → cond b 0 (length n + 1 + offset_in (ns ++ name ∷ []) name) ≡ length (n ++ (0 ∷ strings_text ns))
     go true q ih = absurd cc
     go false q ih = omega (arith, ih q, length-append n (0 ∷ strings_text ns))
 
@@ -67,7 +69,8 @@ pub offset_kept : (names more : List (List ℕ)) (name : List ℕ) → is_among 
 offset_kept [] more name h = absurd cc
 offset_kept (n ∷ ns) more name h = go (bytes_eq name n) h (offset_kept ns more name)
   where
-    go : (b : Bool) → cond b true (is_among name ns) ≡ true → (is_among name ns ≡ true → offset_in (ns ++ more) name ≡ offset_in ns name) → cond b 0 (length n + 1 + offset_in (ns ++ more) name) ≡ cond b 0 (length n + 1 + offset_in ns name)
+    go : (b : Bool) → cond b true (is_among name ns) ≡ true → (is_among name ns ≡ true → offset_in (ns ++ more) name ≡ offset_in ns name)
+        → cond b 0 (length n + 1 + offset_in (ns ++ more) name) ≡ cond b 0 (length n + 1 + offset_in ns name)
     go true q ih = refl
     go false q ih = ap (λ (m : ℕ). length n + 1 + m) (ih q)
 
@@ -85,7 +88,7 @@ is_noted names name = go (is_among name names) refl
   where
     go : (b : Bool) → is_among name names ≡ b → is_among name (cond b names (names ++ name ∷ [])) ≡ true
     go true e = e
-    go false e = any_push name names name ∙ ap (λ (x : Bool). cond x true (bytes_eq name name)) e ∙ same_bytes name
+    go false e = any_push name names name ∙ ap (λ (x : Bool). cond x true (bytes_eq name name)) e ∙ nat_list_eq_equiv.refl name
 
 pub place_noted : (names : List (List ℕ)) (name : List ℕ) (at : ℕ) → at ≡ offset_in (noted names name) name → place_in (noted names name) name ≡ Some at
 place_noted names name at e = ap (λ (b : Bool). cond b (Some (offset_in (noted names name) name)) None) (is_noted names name) ∙ ap (λ (x : ℕ). Some x) (sym e)
@@ -107,7 +110,8 @@ absent names name h = go (is_among name names) h
 pub noted_new : (names : List (List ℕ)) (name : List ℕ) → place_in names name ≡ None → noted names name ≡ names ++ name ∷ []
 noted_new names name h = rw (absent names name h) refl
 
-pub place_new : (names : List (List ℕ)) (name q : List ℕ) → place_in names name ≡ None → place_in (names ++ name ∷ []) q ≡ cond (bytes_eq name q) (Some (length (strings_text names))) (place_in names q)
+pub place_new : (names : List (List ℕ)) (name q : List ℕ) → place_in names name ≡ None
+    → place_in (names ++ name ∷ []) q ≡ cond (bytes_eq name q) (Some (length (strings_text names))) (place_in names q)
 place_new names name q h = go (bytes_eq name q) refl
   where
     there : (b : Bool) → is_among q names ≡ b → bytes_eq q name ≡ false → place_in (names ++ name ∷ []) q ≡ cond b (Some (offset_in names q)) None
@@ -120,19 +124,25 @@ place_new names name q h = go (bytes_eq name q) refl
 
     go : (b : Bool) → bytes_eq name q ≡ b → place_in (names ++ name ∷ []) q ≡ cond b (Some (length (strings_text names))) (place_in names q)
     go true y =
-        let any : is_among name (names ++ name ∷ []) ≡ true = any_push name names name ∙ ap (λ (x : Bool). cond x true (bytes_eq name name)) (absent names name h) ∙ same_bytes name in
-        subst (λ (l : List ℕ). place_in (names ++ name ∷ []) l ≡ Some (length (strings_text names))) ((bytes_decides name q).0 y) (rw any (ap (λ (x : ℕ). Some x) (offset_new names name (absent names name h))))
+        let any : is_among name (names ++ name ∷ []) ≡ true =
+        any_push name names name ∙ ap (λ (x : Bool). cond x true (bytes_eq name name)) (absent names name h) ∙ nat_list_eq_equiv.refl name in
+        subst (λ (l : List ℕ). place_in (names ++ name ∷ []) l ≡ Some (length (strings_text names))) ((bytes_decides name q).0 y)
+        (rw any (ap (λ (x : ℕ). Some x) (offset_new names name (absent names name h))))
     go false y = there (is_among q names) refl (nat_list_eq_equiv.symm q name ∙ y) ∙ refl
 
 -- ---- the table with one more
 
-pub too_long : (names : List (List ℕ)) (name : List ℕ) (at : ℕ) → at ≡ length (strings_text names) → 2 ^ 21 ≤ at + length name → 2 ^ 21 < length (strings_text (names ++ name ∷ []))
+pub too_long : (names : List (List ℕ)) (name : List ℕ) (at : ℕ) → at ≡ length (strings_text names) → 2 ^ 21 ≤ at + length name
+    → 2 ^ 21 < length (strings_text (names ++ name ∷ []))
 too_long names name at e h =
     let p = ap length (strings_push names name) in
     omega (arith, p, length-append (strings_text names ++ name) (0 ∷ []), length-append (strings_text names) name)
 
-pub has_one_more : (source : List ℕ) (names : List (List ℕ)) (name : List ℕ) (old new : NameTable) (at : ℕ) → HasNames source old names → place_in names name ≡ None → at ≡ length old.strings.items
-    → new.strings.items ≡ (old.strings.items ++ name) ++ 0 ∷ [] → ((q : List ℕ) → get_by (λ k. slice_cmp nat_cmp q k.items) new.offsets ≡ cond (bytes_eq name q) (Some at) (get_by (λ k. slice_cmp nat_cmp q k.items) old.offsets))
+pub has_one_more : (source : List ℕ) (names : List (List ℕ)) (name : List ℕ) (old new : NameTable) (at : ℕ) → HasNames source old names
+    → place_in names name ≡ None → at ≡ length old.strings.items
+    → new.strings.items ≡ (old.strings.items ++ name) ++ 0 ∷ []
+    → ((q : List ℕ) → get_by (λ k. slice_cmp nat_cmp q k.items) new.offsets ≡ cond (bytes_eq name q) (Some at)
+    (get_by (λ k. slice_cmp nat_cmp q k.items) old.offsets))
     → new.ranges ≡ old.ranges → HasNames source new (names ++ name ∷ [])
 has_one_more source names name old new at h missing here text map kept = record {
   strings = text ∙ ap (λ (x : List ℕ). (x ++ name) ++ 0 ∷ []) h.strings ∙ sym (strings_push names name);
@@ -144,6 +154,7 @@ has_one_more source names name old new at h missing here text map kept = record 
 pub offset_noted : (names : List (List ℕ)) (name : List ℕ) → place_in names name ≡ None → offset_in (noted names name) name ≡ length (strings_text names)
 offset_noted names name h = ap (λ (ns : List (List ℕ)). offset_in ns name) (noted_new names name h) ∙ offset_new names name (absent names name h)
 
-pub offset_ok : {E : Type 0} (r : Result ℕ E) (names : List (List ℕ)) (name : List ℕ) → place_in names name ≡ None → IfOk r (λ at. at ≡ length (strings_text names)) → IfOk r (λ at. at ≡ offset_in (noted names name) name)
+pub offset_ok : {E : Type 0} (r : Result ℕ E) (names : List (List ℕ)) (name : List ℕ) → place_in names name ≡ None
+    → IfOk r (λ at. at ≡ length (strings_text names)) → IfOk r (λ at. at ≡ offset_in (noted names name) name)
 offset_ok (Ok at) names name h e = e ∙ sym (offset_noted names name h)
 offset_ok (Err f) names name h e = e

@@ -1,9 +1,11 @@
 -- The names in a strings block, found from its runs of name characters and its last zero byte.
-use Rattle.std.proofs.Common.{◌≡◌, ℕ, zero, suc, ◌+◌, ◌<◌, ◌≤◌, Bool, true, false, cond, ltb, eqb, List, [], ◌∷◌, ◌++◌, length, get_or, take, drop, Option, Some, None, Ok, Err, refl, sym, ap, subst, ◌∙◌, arith, inl, inr, ◌⊎◌}
+use Rattle.std.proofs.Common.{◌≡◌, ℕ, zero, suc, ◌+◌, ◌<◌, ◌≤◌, Bool, true, false, cond, ltb, eqb, List, [], ◌∷◌, ◌++◌, length, get_or, take, drop, Option}
+use Rattle.std.proofs.Common.{Some, None, Ok, Err, refl, sym, ap, subst, ◌∙◌, arith, inl, inr, ◌⊎◌}
 use Rattle.std.specs.Prelude.{◌&&◌}
 use Rattle.std.proofs.lemmas.Bool.{cases_lt, lt-ltb, le-ltb, cases_Bool}
 use Rattle.std.proofs.lemmas.Bool.Decides.{nat_tests}
 use Rattle.std.proofs.lemmas.List.{take_more, length-drop, length-take-le, get_or-drop}
+use Rattle.std.proofs.Math.Bool.{and-false}
 use Rattle.fdt_tree.specs.declared.fault.FdtFault.TheVariants.{BadName, BadString}
 use Rattle.refusal.specs.Answer.{◌>>=◌}
 use Rattle.fdt_tree.specs.Names.{is_name_character, all_name_characters, legal}
@@ -96,7 +98,8 @@ name_or_not (suc b ∷ cs) n e = go (until_zero cs) refl e (name_or_not cs)
     )
 
     go : (o : Option ℕ) → until_zero cs ≡ o → (let r : Option ℕ = elim o [ None ↦ None | Some m ↦ Some (suc m) ] in r) ≡ Some n
-        → ((m : ℕ) → until_zero cs ≡ Some m → (m < length cs) × (IsName cs m ⊎ IsNoName cs m)) → (n < suc (length cs)) × (IsName (suc b ∷ cs) n ⊎ IsNoName (suc b ∷ cs) n)
+        → ((m : ℕ) → until_zero cs ≡ Some m → (m < length cs) × (IsName cs m ⊎ IsNoName cs m))
+        → (n < suc (length cs)) × (IsName (suc b ∷ cs) n ⊎ IsNoName (suc b ∷ cs) n)
     go None h q ih = absurd cc
     go (Some m) h q ih = let z : suc m ≡ n = cc in
         subst (λ (k : ℕ). (k < suc (length cs)) × (IsName (suc b ∷ cs) k ⊎ IsNoName (suc b ∷ cs) k)) z (next m (ih m h))
@@ -115,7 +118,8 @@ no_name s o h = go (ltb o (length s))
     go true = rw (none_ahead s o h, string_at) refl
     go false = refl
 
-named : (s : List ℕ) (o n : ℕ) → o < zero_end s → until_zero (drop o s) ≡ Some n → name_at s o ≡ cond (legal (take n (drop o s))) (Ok (take n (drop o s))) (Err BadName)
+named : (s : List ℕ) (o n : ℕ) → o < zero_end s → until_zero (drop o s) ≡ Some n
+    → name_at s o ≡ cond (legal (take n (drop o s))) (Ok (take n (drop o s))) (Err BadName)
 unfolding name_at string_at
 named s o n h e =
     let inside : ltb o (length s) ≡ true = lt-ltb _ _ (omega (arith, zero_end_le s)) in
@@ -153,16 +157,13 @@ bad_name s o k h is other =
           let wrong : legal (take n (drop o s)) ≡ false = legal_is (drop o s) n q.0 ∙ rw no refl in
           named s o n h t.1 ∙ rw wrong refl
       | inr a ↦
-          let wrong : legal (take n (drop o s)) ≡ false = legal_is (drop o s) n q.0 ∙ rw a.1 (never (ltb 0 n)) in
+          let wrong : legal (take n (drop o s)) ≡ false = legal_is (drop o s) n q.0 ∙ rw a.1 (and-false (ltb 0 n)) in
           named s o n h t.1 ∙ rw wrong refl
     ]
-  where
-    never : (b : Bool) → b && false ≡ false
-    never true = refl
-    never false = refl
 
 -- one more byte in front of which the last zero byte is sought
-pub end_more : (bytes : List ℕ) (i last : ℕ) → i < length bytes → last ≡ zero_end (take i bytes) → zero_end (take (i + 1) bytes) ≡ cond (eqb (get_or bytes i 0) 0) (i + 1) last
+pub end_more : (bytes : List ℕ) (i last : ℕ) → i < length bytes → last ≡ zero_end (take i bytes)
+    → zero_end (take (i + 1) bytes) ≡ cond (eqb (get_or bytes i 0) 0) (i + 1) last
 end_more bytes i last lt e =
     let long : length (take i bytes) ≡ i = length-take-le i bytes (omega arith) in
     ap zero_end (take_more bytes i 0 lt) ∙ zero_end_push (take i bytes) (get_or bytes i 0) ∙ rw (long, sym e) refl

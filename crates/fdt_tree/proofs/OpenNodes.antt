@@ -11,10 +11,17 @@ use Rattle.fdt_tree.specs.inside.OpenNodes.{has_any, opened, all_opened, with_pr
 use Rattle.fdt_tree.specs.NodeViews.{branch, branches, branch_step, property_data}
 use Rattle.fdt_tree.specs.declared.reading.place.Place.{Place}
 
-pub branch_roll : (strings : List ℕ) (x : Node-F Node) → branch strings (roll-Node x) ≡ record { name = x.name.items; properties = map (property_data strings) x.properties.items; children = joined (branches strings x.children.items) }
+pub branch_roll : (strings : List ℕ) (x : Node-F Node)
+    → branch strings (roll-Node x)
+    ≡ record { name = x.name.items; properties = map (property_data strings) x.properties.items; children = joined (branches strings x.children.items) }
 branch_roll strings = fold-roll-Node Branch (branch_step strings)
 
-pub branch_out : (strings : List ℕ) (n : Node) → branch strings n ≡ record { name = (out-Node n).name.items; properties = map (property_data strings) (out-Node n).properties.items; children = joined (branches strings (out-Node n).children.items) }
+pub branch_out : (strings : List ℕ) (n : Node)
+    → branch strings n ≡ record {
+      name = (out-Node n).name.items;
+      properties = map (property_data strings) (out-Node n).properties.items;
+      children = joined (branches strings (out-Node n).children.items);
+    }
 branch_out strings = fold_out-Node Branch (branch_step strings)
 
 pub all_opened_push : (bs : List Branch) (b : Branch) → all_opened (bs ++ b ∷ []) ≡ all_opened bs ++ opened b
@@ -44,17 +51,22 @@ opened_child b child =
 opened_property : (b : Branch) (e : PropertyData) → has_any b.children ≡ false → opened (with_property b e) ≡ opened b ++ property e ∷ []
 opened_property b e h = go b.children h
   where
-    go : (f : Nodes) → has_any f ≡ false → opened (record { name = b.name; properties = b.properties ++ e ∷ []; children = f }) ≡ opened (record { name = b.name; properties = b.properties; children = f }) ++ property e ∷ []
+    go : (f : Nodes) → has_any f ≡ false
+        → opened (record { name = b.name; properties = b.properties ++ e ∷ []; children = f })
+        ≡ opened (record { name = b.name; properties = b.properties; children = f }) ++ property e ∷ []
     go none q =
         ap (λ (ts : List Token). begin_node b.name ∷ (ts ++ [])) (map_push property b.properties e)
-        ∙ ap (λ (ts : List Token). begin_node b.name ∷ ts) (append-nil (map property b.properties ++ property e ∷ []) ∙ ap (λ (ts : List Token). ts ++ property e ∷ []) (sym (append-nil (map property b.properties))))
+        ∙ ap (λ (ts : List Token). begin_node b.name ∷ ts)
+        (append-nil (map property b.properties ++ property e ∷ [])
+        ∙ ap (λ (ts : List Token). ts ++ property e ∷ []) (sym (append-nil (map property b.properties))))
     go (node a b' c d) q = absurd cc
 
 has_any_followed : (f : Nodes) (b : Branch) → has_any (followed f b) ≡ true
 has_any_followed none b = refl
 has_any_followed (node n es k next) b = refl
 
-pub child_step : (strings : List ℕ) (parent child : Node) (x : Node-F Node) → x.name.items ≡ (out-Node parent).name.items → x.properties.items ≡ (out-Node parent).properties.items → x.children.items ≡ (out-Node parent).children.items ++ child ∷ []
+pub child_step : (strings : List ℕ) (parent child : Node) (x : Node-F Node) → x.name.items ≡ (out-Node parent).name.items
+    → x.properties.items ≡ (out-Node parent).properties.items → x.children.items ≡ (out-Node parent).children.items ++ child ∷ []
     → branch strings (roll-Node x) ≡ with_child (branch strings parent) (branch strings child)
 child_step strings parent child x n p k =
     let o = out-Node parent in
@@ -67,23 +79,30 @@ child_step strings parent child x n p k =
 
 -- ---- what each token adds
 
-outer_push : (strings : List ℕ) (outer outer' : List Node) (cur : Node) → outer' ≡ outer ++ cur ∷ [] → all_opened (branches strings outer') ≡ all_opened (branches strings outer) ++ opened (branch strings cur)
+outer_push : (strings : List ℕ) (outer outer' : List Node) (cur : Node) → outer' ≡ outer ++ cur ∷ []
+    → all_opened (branches strings outer') ≡ all_opened (branches strings outer) ++ opened (branch strings cur)
 outer_push strings outer outer' cur e =
-    ap (λ (ns : List Node). all_opened (branches strings ns)) e ∙ ap all_opened (map_push (branch strings) outer cur) ∙ all_opened_push (branches strings outer) (branch strings cur)
+    ap (λ (ns : List Node). all_opened (branches strings ns)) e ∙ ap all_opened (map_push (branch strings) outer cur)
+    ∙ all_opened_push (branches strings outer) (branch strings cur)
 
 pub begin_step : (strings : List ℕ) (outer outer' : List Node) (cur new : Node) (name : List ℕ) → outer' ≡ outer ++ cur ∷ [] → branch strings new ≡ bare name
-    → all_opened (branches strings outer') ++ opened (branch strings new) ≡ (all_opened (branches strings outer) ++ opened (branch strings cur)) ++ begin_node name ∷ []
+    → all_opened (branches strings outer') ++ opened (branch strings new) ≡ (all_opened (branches strings outer) ++ opened (branch strings cur))
+    ++ begin_node name ∷ []
 begin_step strings outer outer' cur new name e n = rw (outer_push strings outer outer' cur e, n) refl
 
-pub property_step : (strings : List ℕ) (outer : List Node) (cur new : Node) (e : PropertyData) → has_any (branch strings cur).children ≡ false → branch strings new ≡ with_property (branch strings cur) e
-    → all_opened (branches strings outer) ++ opened (branch strings new) ≡ (all_opened (branches strings outer) ++ opened (branch strings cur)) ++ property e ∷ []
+pub property_step : (strings : List ℕ) (outer : List Node) (cur new : Node) (e : PropertyData) → has_any (branch strings cur).children ≡ false
+    → branch strings new ≡ with_property (branch strings cur) e
+    → all_opened (branches strings outer) ++ opened (branch strings new) ≡ (all_opened (branches strings outer) ++ opened (branch strings cur))
+    ++ property e ∷ []
 property_step strings outer cur new e early n =
     ap (λ (b : Branch). all_opened (branches strings outer) ++ opened b) n
     ∙ ap (λ (ts : List Token). all_opened (branches strings outer) ++ ts) (opened_property (branch strings cur) e early)
     ∙ sym (append_assoc (all_opened (branches strings outer)) (opened (branch strings cur)) (property e ∷ []))
 
-pub end_step : (strings : List ℕ) (outer outer' : List Node) (parent cur new : Node) → outer ≡ outer' ++ parent ∷ [] → branch strings new ≡ with_child (branch strings parent) (branch strings cur)
-    → all_opened (branches strings outer') ++ opened (branch strings new) ≡ (all_opened (branches strings outer) ++ opened (branch strings cur)) ++ end_node ∷ []
+pub end_step : (strings : List ℕ) (outer outer' : List Node) (parent cur new : Node) → outer ≡ outer' ++ parent ∷ []
+    → branch strings new ≡ with_child (branch strings parent) (branch strings cur)
+    → all_opened (branches strings outer') ++ opened (branch strings new) ≡ (all_opened (branches strings outer) ++ opened (branch strings cur)) ++ end_node
+    ∷ []
 end_step strings outer outer' parent cur new e n =
     let front = all_opened (branches strings outer') in
     let b = opened (branch strings parent) in
@@ -91,15 +110,18 @@ end_step strings outer outer' parent cur new e n =
     ap (λ (x : Branch). front ++ opened x) n
     ∙ ap (λ (ts : List Token). front ++ ts) (opened_child (branch strings parent) (branch strings cur))
     ∙ sym (append_assoc front (b ++ c) (end_node ∷ []))
-    ∙ ap (λ (ts : List Token). ts ++ end_node ∷ []) (sym (append_assoc front b c) ∙ ap (λ (ts : List Token). ts ++ c) (sym (outer_push strings outer' outer parent e)))
+    ∙ ap (λ (ts : List Token). ts ++ end_node ∷ [])
+    (sym (append_assoc front b c) ∙ ap (λ (ts : List Token). ts ++ c) (sym (outer_push strings outer' outer parent e)))
 
 -- ---- and where it leads
 
-pub end_place : (strings : List ℕ) (outer outer' : List Node) (parent cur new : Node) → outer ≡ outer' ++ parent ∷ [] → branch strings new ≡ with_child (branch strings parent) (branch strings cur)
+pub end_place : (strings : List ℕ) (outer outer' : List Node) (parent cur new : Node) → outer ≡ outer' ++ parent ∷ []
+    → branch strings new ≡ with_child (branch strings parent) (branch strings cur)
     → (let p : Place = record { depth = length outer'; late = has_any (branch strings new).children } in p) ≡ record { depth = length outer - 1; late = true }
 end_place strings outer outer' parent cur new e n =
     let f : length outer' ≡ length outer - 1 = omega (arith, ap length e, length-append outer' (parent ∷ [])) in
-    let late : has_any (branch strings new).children ≡ true = ap (λ (x : Branch). has_any x.children) n ∙ has_any_followed (branch strings parent).children (branch strings cur) in
+    let late : has_any (branch strings new).children ≡ true =
+    ap (λ (x : Branch). has_any x.children) n ∙ has_any_followed (branch strings parent).children (branch strings cur) in
     rw (f, late) refl
 
 late_of : (strings : List ℕ) (ns : List Node) → has_any (joined (branches strings ns)) ≡ nat_lt 0 (length ns)

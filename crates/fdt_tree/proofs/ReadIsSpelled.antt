@@ -21,8 +21,10 @@ use Rattle.fdt_tree.proofs.ScanIsSpelling.{spelled_scans, scan_spells, same_root
 pub spelled_reads : (bytes : List ℕ) (t : Devicetree) → Spells bytes t → parts_at bytes ≡ Ok (parts_of t)
 unfolding parts_at
 spelled_reads bytes t s =
-    let pairs : reservations_at (reserve_block s.header bytes) ≡ Ok t.reservations = pairs_again t.reservations (reserve_block s.header bytes) (length (reserve_block s.header bytes)) s.reservations (omega arith) in
-    let tokens : structure_at (strings_block s.header bytes) (structure_block s.header bytes) ≡ Ok (root_tokens t.root) = spelled_scans (strings_block s.header bytes) (structure_block s.header bytes) t.root s.root in
+    let pairs : reservations_at (reserve_block s.header bytes) ≡ Ok t.reservations =
+    pairs_again t.reservations (reserve_block s.header bytes) (length (reserve_block s.header bytes)) s.reservations (omega arith) in
+    let tokens : structure_at (strings_block s.header bytes) (structure_block s.header bytes) ≡ Ok (root_tokens t.root) =
+    spelled_scans (strings_block s.header bytes) (structure_block s.header bytes) t.root s.root in
     rw (header_again bytes s.header s.sound, pairs, tokens, s.boot_cpu) refl
 
 same_parts : (p q : Parts) → (let x : Result Parts FdtFault = Ok p in x) ≡ Ok q → p ≡ q

@@ -1,5 +1,6 @@
 -- Reading reservation after reservation, as the loop does; and what they are spelled as.
-use Rattle.std.proofs.Common.{◌≡◌, ℕ, zero, suc, ◌+◌, ◌-◌, ◌^◌, ◌<◌, ◌≤◌, Bool, true, false, cond, ltb, List, [], ◌∷◌, ◌++◌, length, take, drop, Result, Ok, Err, refl, sym, ap, subst, ◌∙◌, append_assoc, arith}
+use Rattle.std.proofs.Common.{◌≡◌, ℕ, zero, suc, ◌+◌, ◌-◌, ◌^◌, ◌<◌, ◌≤◌, Bool, true, false, cond, ltb, List, [], ◌∷◌, ◌++◌, length, take, drop, Result, Ok}
+use Rattle.std.proofs.Common.{Err, refl, sym, ap, subst, ◌∙◌, append_assoc, arith}
 use Rattle.std.specs.Int.{w64, to_be_bytes, from_be_bytes}
 use Rattle.std.proofs.lemmas.Bool.{le-ltb, ltb-false}
 use Rattle.std.proofs.lemmas.Bool.Decides.{nat_tests}
@@ -23,13 +24,15 @@ one_more : (count i : ℕ) (bytes : List ℕ) → i < count → pairs_at (count 
 unfolding pairs_at
 one_more count i bytes lt = let k : count - i ≡ suc (count - (i + 1)) = omega arith in rw k refl
 
-pub pairs_go_on : (count i : ℕ) (bytes rest : List ℕ) (r : Reservation) → i < count → pair_at bytes ≡ Ok (r, rest) → is_end r ≡ false → pairs_at (count - i) bytes ≡ with_front (r ∷ []) (pairs_at (count - (i + 1)) rest)
+pub pairs_go_on : (count i : ℕ) (bytes rest : List ℕ) (r : Reservation) → i < count → pair_at bytes ≡ Ok (r, rest) → is_end r ≡ false
+    → pairs_at (count - i) bytes ≡ with_front (r ∷ []) (pairs_at (count - (i + 1)) rest)
 pairs_go_on count i bytes rest r lt h more = one_more count i bytes lt ∙ rw (h, more) refl
 
 pub pairs_fail : (count i : ℕ) (bytes : List ℕ) (f : FdtFault) → i < count → pair_at bytes ≡ Err f → pairs_at (count - i) bytes ≡ Err f
 pairs_fail count i bytes f lt h = one_more count i bytes lt ∙ rw h refl
 
-pub pairs_end : (count i : ℕ) (bytes rest : List ℕ) (r : Reservation) → i < count → pair_at bytes ≡ Ok (r, rest) → is_end r ≡ true → pairs_at (count - i) bytes ≡ Ok []
+pub pairs_end : (count i : ℕ) (bytes rest : List ℕ) (r : Reservation) → i < count → pair_at bytes ≡ Ok (r, rest) → is_end r ≡ true
+    → pairs_at (count - i) bytes ≡ Ok []
 pairs_end count i bytes rest r lt h last = one_more count i bytes lt ∙ rw (h, last) refl
 
 pub pairs_over : (count i : ℕ) (bytes : List ℕ) → count ≤ i → pairs_at (count - i) bytes ≡ Err BadReserve
@@ -39,10 +42,13 @@ pairs_over count i bytes le = let k : count - i ≡ 0 = omega arith in rw k refl
 -- ---- what is spelled is read
 
 abbrev guarded : ℕ → ℕ → List ℕ → Result (Reservation × List ℕ) FdtFault
-guarded k m bytes = cond (ltb (length bytes) m) (Err BadReserve) (Ok (record { address = from_be_bytes w64 (take k bytes); size = from_be_bytes w64 (take k (drop k bytes)) }, drop m bytes))
+guarded k m bytes =
+    cond (ltb (length bytes) m) (Err BadReserve)
+    (Ok (record { address = from_be_bytes w64 (take k bytes); size = from_be_bytes w64 (take k (drop k bytes)) }, drop m bytes))
 
 -- with the widths as variables: at numerals the bytes compute to single cells, and rw finds nothing
-cut : (xs ys rest : List ℕ) (k m : ℕ) → length xs ≡ k → length ys ≡ k → k + k ≡ m → guarded k m (xs ++ (ys ++ rest)) ≡ Ok (record { address = from_be_bytes w64 xs; size = from_be_bytes w64 ys }, rest)
+cut : (xs ys rest : List ℕ) (k m : ℕ) → length xs ≡ k → length ys ≡ k → k + k ≡ m
+    → guarded k m (xs ++ (ys ++ rest)) ≡ Ok (record { address = from_be_bytes w64 xs; size = from_be_bytes w64 ys }, rest)
 cut xs ys rest k m a b s =
     let long : ltb (length (xs ++ (ys ++ rest))) m ≡ false = le-ltb _ _ (omega (arith, length-append xs (ys ++ rest), length-append ys rest)) in
     let whole : xs ++ (ys ++ rest) ≡ (xs ++ ys) ++ rest = sym (append_assoc xs ys rest) in
@@ -98,9 +104,15 @@ pair_takes bytes r rest fits e =
     let b_fits = IsBytes-take 8 (drop 8 bytes) (IsBytes-drop 8 bytes fits) in
     let a_text : to_be_bytes w64 (from_be_bytes w64 a) ≡ a = number_text a a_fits (omega (arith, length-take 8 bytes)) in
     let b_text : to_be_bytes w64 (from_be_bytes w64 b) ≡ b = number_text b b_fits (omega (arith, length-take 8 (drop 8 bytes), length-drop 8 bytes)) in
-    let whole : bytes ≡ a ++ (b ++ drop 16 bytes) = sym (take-append-drop 8 bytes) ∙ ap (λ (x : List ℕ). a ++ x) (sym (take-append-drop 8 (drop 8 bytes)) ∙ ap (λ (x : List ℕ). b ++ x) (drop-drop 8 8 bytes)) in
-    let parts : bytes ≡ pair_text own ++ drop 16 bytes = whole ∙ sym (append_assoc a b (drop 16 bytes)) ∙ ap (λ (x : List ℕ). x ++ drop 16 bytes) (ap (λ (x : List ℕ). x ++ b) (sym a_text) ∙ ap (λ (x : List ℕ). to_be_bytes w64 (from_be_bytes w64 a) ++ x) (sym b_text)) in
-    let took : TookPair bytes own (drop 16 bytes) = record { parts = parts; address = number_below a a_fits; size = number_below b b_fits; rest_fits = IsBytes-drop 16 bytes fits } in
+    let whole : bytes ≡ a ++ (b ++ drop 16 bytes) =
+    sym (take-append-drop 8 bytes)
+    ∙ ap (λ (x : List ℕ). a ++ x) (sym (take-append-drop 8 (drop 8 bytes)) ∙ ap (λ (x : List ℕ). b ++ x) (drop-drop 8 8 bytes)) in
+    let parts : bytes ≡ pair_text own ++ drop 16 bytes =
+    whole ∙ sym (append_assoc a b (drop 16 bytes))
+    ∙ ap (λ (x : List ℕ). x ++ drop 16 bytes)
+    (ap (λ (x : List ℕ). x ++ b) (sym a_text) ∙ ap (λ (x : List ℕ). to_be_bytes w64 (from_be_bytes w64 a) ++ x) (sym b_text)) in
+    let took : TookPair bytes own (drop 16 bytes) =
+    record { parts = parts; address = number_below a a_fits; size = number_below b b_fits; rest_fits = IsBytes-drop 16 bytes fits } in
     let q : (let x : Reservation × List ℕ = (own, drop 16 bytes) in x) ≡ (r, rest) = same (own, drop 16 bytes) (r, rest) g.1 in
     subst (λ (x : Reservation × List ℕ). TookPair bytes x.0 x.1) q took
   where

@@ -28,26 +28,34 @@ pub at_end : (strings block : List ℕ) (outer : List Node) (cur : Node) → IsB
     → scan strings (length block) start block ≡ Ok (tokens (joined (branches strings (out-Node cur).children.items)))
 at_end strings block outer cur fits none_open e =
     let nothing : outer ≡ [] = nil_from_length outer none_open in
-    let b = bind-ok (scan strings (length block) start block) (λ ts. Ok ((begin_node [] ∷ []) ++ ts)) (opened (branch strings cur)) (e ∙ ap (λ (ns : List Node). Ok (all_opened (branches strings ns) ++ opened (branch strings cur))) nothing) in
+    let b =
+    bind-ok (scan strings (length block) start block) (λ ts. Ok ((begin_node [] ∷ []) ++ ts)) (opened (branch strings cur))
+    (e ∙ ap (λ (ns : List Node). Ok (all_opened (branches strings ns) ++ opened (branch strings cur))) nothing) in
     let body = map property (branch strings cur).properties ++ tokens (branch strings cur).children in
     let same : b.0 ≡ body = tail_is b.0 body (branch strings cur).name b.2 in
     let ok : Accepts start body = subst (λ (ts : List Token). Accepts start ts) same (accepted strings block b.0 fits b.1) in
-    b.1 ∙ ap (λ (ts : List Token). Ok ts) (same ∙ bare (branch strings cur).properties (branch strings cur).children ok ∙ ap (λ (x : Branch). tokens x.children) (branch_out strings cur))
+    b.1 ∙ ap (λ (ts : List Token). Ok ts)
+    (same ∙ bare (branch strings cur).properties (branch strings cur).children ok ∙ ap (λ (x : Branch). tokens x.children) (branch_out strings cur))
   where
     tail_is : (ts us : List Token) (name : List ℕ) → (let r : Result (List Token) FdtFault = Ok (begin_node [] ∷ ts) in r) ≡ Ok (begin_node name ∷ us) → ts ≡ us
     tail_is ts us name q = cc
 
 -- where nodes are a root alone, the last of them is that root
-only_child : (strings : List ℕ) (rest : List Node) (root : Node) (es : List PropertyData) (k : Nodes) → joined (branches strings (rest ++ root ∷ [])) ≡ node [] es k none
+only_child : (strings : List ℕ) (rest : List Node) (root : Node) (es : List PropertyData) (k : Nodes)
+    → joined (branches strings (rest ++ root ∷ [])) ≡ node [] es k none
     → ((branch strings root).name ≡ []) × (tokens (joined (branches strings (rest ++ root ∷ []))) ≡ root_tokens (root_of strings root))
 only_child strings [] root es k e =
     let name : (branch strings root).name ≡ [] = cc in
     (name, ap (λ (n : List ℕ). tokens (node n (branch strings root).properties (branch strings root).children none)) name)
-only_child strings (a ∷ []) root es k e = absurd (let q : node (branch strings root).name (branch strings root).properties (branch strings root).children none ≡ none = cc in let z : ⊥ = cc in z)
-only_child strings (a ∷ (b ∷ rest)) root es k e = absurd (let q : node (branch strings b).name (branch strings b).properties (branch strings b).children (joined (branches strings (rest ++ root ∷ []))) ≡ none = cc in let z : ⊥ = cc in z)
+only_child strings (a ∷ []) root es k e =
+    absurd (let q : node (branch strings root).name (branch strings root).properties (branch strings root).children none ≡ none = cc in let z : ⊥ = cc in z)
+only_child strings (a ∷ (b ∷ rest)) root es k e =
+    absurd (let q : node (branch strings b).name (branch strings b).properties (branch strings b).children
+    (joined (branches strings (rest ++ root ∷ []))) ≡ none = cc in let z : ⊥ = cc in z)
 
 pub root_is : (strings block : List ℕ) (items rest : List Node) (root : Node) → IsBytes block → items ≡ rest ++ root ∷ []
-    → scan strings (length block) start block ≡ Ok (tokens (joined (branches strings items))) → scan strings (length block) start block ≡ Ok (root_tokens (root_of strings root))
+    → scan strings (length block) start block ≡ Ok (tokens (joined (branches strings items)))
+    → scan strings (length block) start block ≡ Ok (root_tokens (root_of strings root))
 root_is strings block items rest root fits parts e =
     let f = joined (branches strings (rest ++ root ∷ [])) in
     let g : scan strings (length block) start block ≡ Ok (tokens f) = e ∙ ap (λ (ns : List Node). Ok (tokens (joined (branches strings ns)))) parts in

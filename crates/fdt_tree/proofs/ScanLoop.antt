@@ -31,19 +31,24 @@ joins_added nop (Ok ts) h = refl
 joins_added nop (Err f) h = refl
 joins_added finish more h = absurd (h refl)
 
-pub scan_goes_on : (strings : List ℕ) (count i : ℕ) (p p' : Place) (bytes rest : List ℕ) (t : Token) → i < count → token_at strings p bytes ≡ Ok (t, rest) → (t ≡ finish → ⊥) → p' ≡ after p t
+pub scan_goes_on : (strings : List ℕ) (count i : ℕ) (p p' : Place) (bytes rest : List ℕ) (t : Token) → i < count → token_at strings p bytes ≡ Ok (t, rest)
+    → (t ≡ finish → ⊥) → p' ≡ after p t
     → scan strings (count - i) p bytes ≡ with_front (added t) (scan strings (count - (i + 1)) p' rest)
-scan_goes_on strings count i p p' bytes rest t lt h more_comes q = one_more strings count i p bytes lt ∙ rw (h, q) (joins_added t (scan strings (count - (i + 1)) (after p t) rest) more_comes)
+scan_goes_on strings count i p p' bytes rest t lt h more_comes q =
+    one_more strings count i p bytes lt ∙ rw (h, q) (joins_added t (scan strings (count - (i + 1)) (after p t) rest) more_comes)
 
-pub scan_fails : (strings : List ℕ) (count i : ℕ) (p : Place) (bytes : List ℕ) (f : FdtFault) → i < count → token_at strings p bytes ≡ Err f → scan strings (count - i) p bytes ≡ Err f
+pub scan_fails : (strings : List ℕ) (count i : ℕ) (p : Place) (bytes : List ℕ) (f : FdtFault) → i < count → token_at strings p bytes ≡ Err f
+    → scan strings (count - i) p bytes ≡ Err f
 scan_fails strings count i p bytes f lt h = one_more strings count i p bytes lt ∙ rw h refl
 
-pub scan_ends : (strings : List ℕ) (count i : ℕ) (p : Place) (bytes rest : List ℕ) → i < count → token_at strings p bytes ≡ Ok (finish, rest) → scan strings (count - i) p bytes ≡ Ok []
+pub scan_ends : (strings : List ℕ) (count i : ℕ) (p : Place) (bytes rest : List ℕ) → i < count → token_at strings p bytes ≡ Ok (finish, rest)
+    → scan strings (count - i) p bytes ≡ Ok []
 scan_ends strings count i p bytes rest lt h = one_more strings count i p bytes lt ∙ rw h refl
 
 pub scan_is_over : (strings : List ℕ) (count i : ℕ) (p : Place) (bytes : List ℕ) → count ≤ i → scan strings (count - i) p bytes ≡ Err BadToken
 unfolding scan
 scan_is_over strings count i p bytes le = let k : count - i ≡ 0 = omega arith in rw k refl
 
-pub at_place : (strings bytes : List ℕ) (p q : Place) (r : Result (Token × List ℕ) FdtFault) → p ≡ q → token_at strings p bytes ≡ r → token_at strings q bytes ≡ r
+pub at_place : (strings bytes : List ℕ) (p q : Place) (r : Result (Token × List ℕ) FdtFault) → p ≡ q → token_at strings p bytes ≡ r
+    → token_at strings q bytes ≡ r
 at_place strings bytes p q r same e = ap (λ (x : Place). token_at strings x bytes) (sym same) ∙ e

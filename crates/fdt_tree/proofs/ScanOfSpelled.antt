@@ -1,8 +1,9 @@
 -- What is spelled is scanned.
-use Rattle.std.proofs.Common.{◌≡◌, ℕ, zero, suc, ◌+◌, ◌-◌, ◌%◌, ◌^◌, ◌<◌, Bool, true, false, cond, ltb, eqb, List, [], ◌∷◌, ◌++◌, length, take, drop, Some, Result, Ok, Err, refl, sym, ap, ◌∙◌, append_assoc, arith}
-use Rattle.std.specs.Prelude.{IsTrue, ◌&&◌}
+use Rattle.std.proofs.Common.{◌≡◌, ℕ, zero, suc, ◌+◌, ◌-◌, ◌%◌, ◌^◌, ◌<◌, Bool, true, false, cond, ltb, eqb, List, [], ◌∷◌, ◌++◌, length, take, drop, Some}
+use Rattle.std.proofs.Common.{Result, Ok, Err, refl, sym, ap, ◌∙◌, append_assoc, arith}
+use Rattle.std.specs.Prelude.{IsTrue}
 use Rattle.std.specs.Int.{w32, to_be_bytes, from_be_bytes}
-use Rattle.std.proofs.lemmas.Bool.{le-ltb, lt-ltb, ne_eqb, eqb-true}
+use Rattle.std.proofs.lemmas.Bool.{le-ltb, lt-ltb, ne_eqb, eqb-true, and_parts}
 use Rattle.std.proofs.lemmas.List.{take_at, drop_at, length-append, length-drop, nil_from_length}
 use Rattle.std.proofs.lemmas.Nat.{from_be_bytes-to_be_bytes_4}
 use Rattle.fdt_tree.specs.declared.fault.FdtFault.{FdtFault}
@@ -58,23 +59,22 @@ nothing name h = rw (nil_from_length name (eqb-true _ _ h)) refl
 is_true : (b : Bool) → IsTrue b → b ≡ true
 is_true b h = h
 
-and_both : (a b : Bool) → a && b ≡ true → b ≡ true
-and_both true b h = h
-and_both false b h = absurd cc
-
 characters_at : (b : Bool) (name : List ℕ) → cond b (eqb (length name) 0) (legal name) ≡ true → all_name_characters name ≡ true
 characters_at true name h = nothing name h
-characters_at false name h = and_both (ltb 0 (length name)) (all_name_characters name) h
+characters_at false name h = (and_parts (ltb 0 (length name)) (all_name_characters name) h).1
 
-begin_again : (p : Place) (name pad rest : List ℕ) → IsPadding (length name + 1) pad → Allowed p (begin_node name) → begin_at p (name ++ ((0 ∷ pad) ++ rest)) ≡ Ok (begin_node name, rest)
+begin_again : (p : Place) (name pad rest : List ℕ) → IsPadding (length name + 1) pad → Allowed p (begin_node name)
+    → begin_at p (name ++ ((0 ∷ pad) ++ rest)) ≡ Ok (begin_node name, rest)
 unfolding begin_at
 begin_again p name pad rest h ok =
     let legal_here : legal_at p name ≡ true = is_true _ ok.0 in
-    let named : string_at BadToken (name ++ ((0 ∷ pad) ++ rest)) ≡ Ok name = string_again BadToken name (pad ++ rest) (characters_at (eqb p.depth 0) name legal_here) in
+    let named : string_at BadToken (name ++ ((0 ∷ pad) ++ rest)) ≡ Ok name =
+    string_again BadToken name (pad ++ rest) (characters_at (eqb p.depth 0) name legal_here) in
     let text = name ++ 0 ∷ [] in
     let len : length text ≡ length name + 1 = omega (arith, length-append name (0 ∷ [])) in
     let shape : name ++ ((0 ∷ pad) ++ rest) ≡ text ++ (pad ++ rest) = sym (append_assoc name (0 ∷ []) (pad ++ rest)) in
-    let padded : padded_at (length name + 1) (name ++ ((0 ∷ pad) ++ rest)) ≡ Ok (text, rest) = ap (padded_at (length name + 1)) shape ∙ ap (λ (n : ℕ). padded_at n (text ++ (pad ++ rest))) (sym len) ∙ padded_again text pad rest (rw len h) in
+    let padded : padded_at (length name + 1) (name ++ ((0 ∷ pad) ++ rest)) ≡ Ok (text, rest) =
+    ap (padded_at (length name + 1)) shape ∙ ap (λ (n : ℕ). padded_at n (text ++ (pad ++ rest))) (sym len) ∙ padded_again text pad rest (rw len h) in
     let low : ltb p.depth 64 ≡ true = lt-ltb _ _ ok.1 in
     rw (named, padded, legal_here, low) refl
 
@@ -85,16 +85,24 @@ pub name_again : (strings : List ℕ) (offset : ℕ) (name : List ℕ) → IsStr
 unfolding name_at
 name_again strings offset name there legal_here =
     let within : ltb offset (length strings) ≡ true = lt-ltb _ _ (inside offset strings name there.0 there.1) in
-    let named : string_at BadString (drop offset strings) ≡ Ok name = ap (string_at BadString) there.1 ∙ string_again BadString name there.0 (and_both (ltb 0 (length name)) (all_name_characters name) legal_here) in
+    let named : string_at BadString (drop offset strings) ≡ Ok name =
+    ap (string_at BadString) there.1 ∙ string_again BadString name there.0 (and_parts (ltb 0 (length name)) (all_name_characters name) legal_here).1 in
     rw (within, named, legal_here) refl
 
-property_again : (strings : List ℕ) (p : Place) (e : PropertyData) (offset : ℕ) (pad rest : List ℕ) → offset < 2 ^ 32 → length e.value < 2 ^ 32 → IsPadding (length e.value) pad
+property_again : (strings : List ℕ) (p : Place) (e : PropertyData) (offset : ℕ) (pad rest : List ℕ) → offset < 2 ^ 32 → length e.value < 2 ^ 32
+    → IsPadding (length e.value) pad
     → IsStringAt strings offset e.name → Allowed p (property e)
     → property_at strings p (to_be_bytes w32 (length e.value) ++ (to_be_bytes w32 offset ++ (e.value ++ (pad ++ rest)))) ≡ Ok (property e, rest)
 unfolding property_at
 property_again strings p e offset pad rest o v h there ok =
     let named : name_at strings offset ≡ Ok e.name = name_again strings offset e.name there (is_true _ ok.2) in
-    rw (number_again (length e.value) (to_be_bytes w32 offset ++ (e.value ++ (pad ++ rest))) v, number_again offset (e.value ++ (pad ++ rest)) o, padded_again e.value pad rest h, ok.1, named) refl
+    rw (
+      number_again (length e.value) (to_be_bytes w32 offset ++ (e.value ++ (pad ++ rest))) v,
+      number_again offset (e.value ++ (pad ++ rest)) o,
+      padded_again e.value pad rest h,
+      ok.1,
+      named,
+    ) refl
 
 -- ---- a whole text, given each token's law
 -- token by token: what the text of a token is read as
@@ -112,23 +120,29 @@ end_again strings p rest d l = rw (number_again 9 rest (omega arith), d, l) refl
 regroup : (a b c d e f : List ℕ) → (a ++ (b ++ (c ++ (d ++ e)))) ++ f ≡ a ++ (b ++ (c ++ (d ++ (e ++ f))))
 regroup a b c d e f = simp append_assoc
 
-begin_kind : (strings rest : List ℕ) (d : ℕ) (late : Bool) → (d ≡ 0 → late ≡ false) → kind_at strings (record { depth = d; late = late }) 1 rest ≡ begin_at (record { depth = d; late = late }) rest
+begin_kind : (strings rest : List ℕ) (d : ℕ) (late : Bool) → (d ≡ 0 → late ≡ false)
+    → kind_at strings (record { depth = d; late = late }) 1 rest ≡ begin_at (record { depth = d; late = late }) rest
 unfolding kind_at
 begin_kind strings rest zero late h = rw (h refl) refl
 begin_kind strings rest (suc d) late h = let z : eqb (suc d) 0 ≡ false = ne_eqb (suc d) 0 (λ e. omega arith) in rw z refl
 
-token_is : (strings : List ℕ) (p : Place) (kind : ℕ) (body : List ℕ) → kind < 2 ^ 32 → token_at strings p (to_be_bytes w32 kind ++ body) ≡ kind_at strings p kind body
+token_is : (strings : List ℕ) (p : Place) (kind : ℕ) (body : List ℕ) → kind < 2 ^ 32
+    → token_at strings p (to_be_bytes w32 kind ++ body) ≡ kind_at strings p kind body
 unfolding token_at
 token_is strings p kind body lt = rw (number_again kind body lt) refl
 
 pub reads_tokens : (strings : List ℕ) → ReadsTokens strings
 unfolding kind_at
 reads_tokens strings p (begin_node name) text rest h ok =
-    let shape : text ++ rest ≡ to_be_bytes w32 1 ++ (name ++ ((0 ∷ h.0) ++ rest)) = ap (λ (x : List ℕ). x ++ rest) h.2 ∙ append_assoc (to_be_bytes w32 1) (name ++ (0 ∷ h.0)) rest ∙ ap (λ (x : List ℕ). to_be_bytes w32 1 ++ x) (append_assoc name (0 ∷ h.0) rest) in
-    ap (token_at strings p) shape ∙ token_is strings p 1 (name ++ ((0 ∷ h.0) ++ rest)) (omega arith) ∙ begin_kind strings (name ++ ((0 ∷ h.0) ++ rest)) p.depth p.late ok.2 ∙ begin_again p name h.0 rest h.1 ok
+    let shape : text ++ rest ≡ to_be_bytes w32 1 ++ (name ++ ((0 ∷ h.0) ++ rest)) =
+    ap (λ (x : List ℕ). x ++ rest) h.2 ∙ append_assoc (to_be_bytes w32 1) (name ++ (0 ∷ h.0)) rest
+    ∙ ap (λ (x : List ℕ). to_be_bytes w32 1 ++ x) (append_assoc name (0 ∷ h.0) rest) in
+    ap (token_at strings p) shape ∙ token_is strings p 1 (name ++ ((0 ∷ h.0) ++ rest)) (omega arith)
+    ∙ begin_kind strings (name ++ ((0 ∷ h.0) ++ rest)) p.depth p.late ok.2 ∙ begin_again p name h.0 rest h.1 ok
 reads_tokens strings p (property e) text rest h ok =
     let body = to_be_bytes w32 (length e.value) ++ (to_be_bytes w32 h.0 ++ (e.value ++ (h.1 ++ rest))) in
-    let shape : text ++ rest ≡ to_be_bytes w32 3 ++ body = ap (λ (x : List ℕ). x ++ rest) h.6 ∙ regroup (to_be_bytes w32 3) (to_be_bytes w32 (length e.value)) (to_be_bytes w32 h.0) e.value h.1 rest in
+    let shape : text ++ rest ≡ to_be_bytes w32 3 ++ body =
+    ap (λ (x : List ℕ). x ++ rest) h.6 ∙ regroup (to_be_bytes w32 3) (to_be_bytes w32 (length e.value)) (to_be_bytes w32 h.0) e.value h.1 rest in
     let third : kind_at strings p 3 body ≡ property_at strings p body = rw (lt-ltb 0 p.depth ok.0) refl in
     ap (token_at strings p) shape ∙ token_is strings p 3 body (omega arith) ∙ third ∙ property_again strings p e h.0 h.1 rest h.2 h.3 h.4 h.5 ok
 reads_tokens strings p end_node text rest h ok =

@@ -1,5 +1,6 @@
 -- What is scanned is spelled so.
-use Rattle.std.proofs.Common.{◌≡◌, ℕ, zero, suc, ◌<◌, ◌≤◌, Bool, true, false, cond, ltb, List, [], ◌∷◌, ◌++◌, length, get_or, take, drop, Ok, Err, refl, sym, ap, subst, ◌∙◌, append_assoc, arith}
+use Rattle.std.proofs.Common.{◌≡◌, ℕ, zero, suc, ◌<◌, ◌≤◌, Bool, true, false, cond, ltb, List, [], ◌∷◌, ◌++◌, length, get_or, take, drop, Ok, Err, refl, sym}
+use Rattle.std.proofs.Common.{ap, subst, ◌∙◌, append_assoc, arith}
 use Rattle.std.specs.Int.{w32, to_be_bytes, from_be_bytes}
 use Rattle.std.proofs.lemmas.Bool.{ltb-false}
 use Rattle.refusal.proofs.AnswersInTurn.{bind-ok}
@@ -44,7 +45,9 @@ pub record TookEnd (p : Place) (bytes rest : List ℕ) : Type 0 where
   pub late : p.late ≡ true
 
 abbrev pub TakesTokens : List ℕ → Type 0
-TakesTokens strings = (p : Place) (t : Token) (bytes rest : List ℕ) → IsBytes bytes → (t ≡ finish → ⊥) → 0 < length rest → token_at strings p bytes ≡ Ok (t, rest) → Took strings p bytes t rest
+TakesTokens strings =
+    (p : Place) (t : Token) (bytes rest : List ℕ) → IsBytes bytes → (t ≡ finish → ⊥) → 0 < length rest → token_at strings p bytes ≡ Ok
+    (t, rest) → Took strings p bytes t rest
 
 abbrev pub TakesEnd : List ℕ → Type 0
 TakesEnd strings = (p : Place) (bytes rest : List ℕ) → IsBytes bytes → token_at strings p bytes ≡ Ok (finish, rest) → TookEnd p bytes rest
@@ -59,7 +62,8 @@ pub record TookAll (strings : List ℕ) (p : Place) (bytes : List ℕ) (ts : Lis
   pub same : without_nops all ≡ ts
   pub accepted : Accepts p ts
 
-cons : (strings : List ℕ) (p : Place) (bytes : List ℕ) (t : Token) (rest : List ℕ) (new ts : List Token) (own : Took strings p bytes t rest) (later : TookAll strings (after p t) rest ts)
+cons : (strings : List ℕ) (p : Place) (bytes : List ℕ) (t : Token) (rest : List ℕ) (new ts : List Token) (own : Took strings p bytes t rest)
+    (later : TookAll strings (after p t) rest ts)
     → without_nops (t ∷ later.all) ≡ new → Accepts p new → TookAll strings p bytes new
 cons strings p bytes t rest new ts own later same ok = record {
   all = t ∷ later.all;
@@ -84,7 +88,8 @@ scan_takes strings takes takes_end (suc n) p bytes ts fits e =
     go finish rest h more ih =
         let t = takes_end p bytes rest fits h in
         let none_left : [] ≡ ts = cc in
-        subst (λ (us : List Token). TookAll strings p bytes us) none_left (record { all = []; front = []; rest = rest; parts = t.parts; text = refl; same = refl; accepted = (t.depth, t.late) })
+        subst (λ (us : List Token). TookAll strings p bytes us) none_left
+        (record { all = []; front = []; rest = rest; parts = t.parts; text = refl; same = refl; accepted = (t.depth, t.late) })
     go nop rest h more ih =
         let own = takes p nop bytes rest fits (λ q. cc) (scan_long strings n p rest ts more) h in
         let later = ih p rest ts own.rest_fits more in
@@ -94,16 +99,19 @@ scan_takes strings takes takes_end (suc n) p bytes ts fits e =
         let own = takes p end_node bytes rest fits (λ q. cc) (scan_long strings n (after p end_node) rest b.0 b.1) h in
         let later = ih (after p end_node) rest b.0 own.rest_fits b.1 in
         let whole : end_node ∷ b.0 ≡ ts = cc (b.2) in
-        cons strings p bytes end_node rest ts b.0 own later (ap (λ (us : List Token). end_node ∷ us) later.same ∙ whole) (subst (λ (us : List Token). Accepts p us) whole (own.allowed, later.accepted))
+        cons strings p bytes end_node rest ts b.0 own later (ap (λ (us : List Token). end_node ∷ us) later.same ∙ whole)
+        (subst (λ (us : List Token). Accepts p us) whole (own.allowed, later.accepted))
     go (begin_node name) rest h more ih =
         let b = bind-ok (scan strings n (after p (begin_node name)) rest) (λ us. Ok (begin_node name ∷ us)) ts more in
         let own = takes p (begin_node name) bytes rest fits (λ q. cc) (scan_long strings n (after p (begin_node name)) rest b.0 b.1) h in
         let later = ih (after p (begin_node name)) rest b.0 own.rest_fits b.1 in
         let whole : begin_node name ∷ b.0 ≡ ts = cc (b.2) in
-        cons strings p bytes (begin_node name) rest ts b.0 own later (ap (λ (us : List Token). begin_node name ∷ us) later.same ∙ whole) (subst (λ (us : List Token). Accepts p us) whole (own.allowed, later.accepted))
+        cons strings p bytes (begin_node name) rest ts b.0 own later (ap (λ (us : List Token). begin_node name ∷ us) later.same ∙ whole)
+        (subst (λ (us : List Token). Accepts p us) whole (own.allowed, later.accepted))
     go (property x) rest h more ih =
         let b = bind-ok (scan strings n p rest) (λ us. Ok (property x ∷ us)) ts more in
         let own = takes p (property x) bytes rest fits (λ q. cc) (scan_long strings n p rest b.0 b.1) h in
         let later = ih p rest b.0 own.rest_fits b.1 in
         let whole : property x ∷ b.0 ≡ ts = cc (b.2) in
-        cons strings p bytes (property x) rest ts b.0 own later (ap (λ (us : List Token). property x ∷ us) later.same ∙ whole) (subst (λ (us : List Token). Accepts p us) whole (own.allowed, later.accepted))
+        cons strings p bytes (property x) rest ts b.0 own later (ap (λ (us : List Token). property x ∷ us) later.same ∙ whole)
+        (subst (λ (us : List Token). Accepts p us) whole (own.allowed, later.accepted))

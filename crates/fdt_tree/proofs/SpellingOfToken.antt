@@ -1,5 +1,6 @@
 -- A token that is read is spelled so.
-use Rattle.std.proofs.Common.{◌≡◌, ℕ, zero, suc, ◌+◌, ◌-◌, ◌%◌, ◌^◌, ◌<◌, ◌≤◌, Bool, true, false, cond, ltb, eqb, List, [], ◌∷◌, ◌++◌, length, take, drop, Option, Some, None, Result, Ok, Err, refl, sym, ap, subst, ◌∙◌, append_assoc, arith, inl, inr, ◌⊎◌}
+use Rattle.std.proofs.Common.{◌≡◌, ℕ, zero, suc, ◌+◌, ◌-◌, ◌%◌, ◌^◌, ◌<◌, ◌≤◌, Bool, true, false, cond, ltb, eqb, List, [], ◌∷◌, ◌++◌, length, take, drop}
+use Rattle.std.proofs.Common.{Option, Some, None, Result, Ok, Err, refl, sym, ap, subst, ◌∙◌, append_assoc, arith, inl, inr, ◌⊎◌}
 use Rattle.std.specs.Prelude.{IsTrue, ◌&&◌, not}
 use Rattle.std.specs.Int.{w32, to_be_bytes, from_be_bytes}
 use Rattle.std.proofs.lemmas.Bool.{cases_lt, ltb-false, ltb-true, eqb-true, eq-eqb, and_parts}
@@ -60,7 +61,13 @@ number_takes bytes n rest fits e =
     let front : to_be_bytes w32 n ≡ take 4 bytes = ap (to_be_bytes w32) (sym is.0) ∙ be_bytes_4 (take 4 bytes) _ (omega (arith, length-take 4 bytes)) f refl in
     let whole : bytes ≡ take 4 bytes ++ drop 4 bytes = sym (take-append-drop 4 bytes) in
     let limit : from_be_bytes w32 (take 4 bytes) < 2 ^ 32 = below (take 4 bytes) f in
-    record { parts = whole ∙ ap (λ (x : List ℕ). x ++ drop 4 bytes) (sym front) ∙ ap (λ (x : List ℕ). to_be_bytes w32 n ++ x) is.1; below = subst (λ (m : ℕ). m < 2 ^ 32) is.0 limit; rest_fits = subst IsBytes is.1 (IsBytes-drop 4 bytes fits) }
+    record {
+      parts = whole ∙ ap (λ (x : List ℕ). x ++ drop 4 bytes) (sym front)
+          ∙ ap (λ (x : List ℕ). to_be_bytes w32 n ++ x) is.1;
+      below = subst (λ (m : ℕ). m < 2 ^ 32) is.0 limit;
+      rest_fits = subst IsBytes is.1
+          (IsBytes-drop 4 bytes fits);
+    }
   where
     below : (bs : List ℕ) → IsBytes bs → from_be_bytes w32 bs < 2 ^ 32
     below bs h = omega (arith, h 0, h 1, h 2, h 3)
@@ -83,7 +90,9 @@ padded_takes n bytes text rest fits more e =
     let len : length (take n bytes) ≡ n = omega (arith, length-take n bytes) in
     record {
       pad = take k (drop n bytes);
-      parts = sym (take-append-drop n bytes) ∙ ap (λ (x : List ℕ). x ++ drop n bytes) is.0 ∙ ap (λ (x : List ℕ). text ++ x) (sym (take-append-drop k (drop n bytes)) ∙ ap (λ (x : List ℕ). take k (drop n bytes) ++ x) back);
+      parts =
+          sym (take-append-drop n bytes) ∙ ap (λ (x : List ℕ). x ++ drop n bytes) is.0
+          ∙ ap (λ (x : List ℕ). text ++ x) (sym (take-append-drop k (drop n bytes)) ∙ ap (λ (x : List ℕ). take k (drop n bytes) ++ x) back);
       len = ap length (sym is.0) ∙ len;
       padding = omega (arith, length-take k (drop n bytes), length-drop n bytes);
       rest_fits = subst IsBytes is.1 (IsBytes-drop (n + k) bytes fits);
@@ -95,7 +104,8 @@ zero_takes (zero ∷ bs) n e = let z : 0 ≡ n = cc in subst (λ (m : ℕ). (oth
 zero_takes (suc b ∷ bs) n e = go (until_zero bs) refl e (zero_takes bs)
   where
     go : (o : Option ℕ) → until_zero bs ≡ o → (let r : Option ℕ = elim o [ None ↦ None | Some m ↦ Some (suc m) ] in r) ≡ Some n
-        → ((m : ℕ) → until_zero bs ≡ Some m → (others : List ℕ) × (bs ≡ take m bs ++ (0 ∷ others))) → (others : List ℕ) × (suc b ∷ bs ≡ take n (suc b ∷ bs) ++ (0 ∷ others))
+        → ((m : ℕ) → until_zero bs ≡ Some m → (others : List ℕ) × (bs ≡ take m bs ++ (0 ∷ others)))
+        → (others : List ℕ) × (suc b ∷ bs ≡ take n (suc b ∷ bs) ++ (0 ∷ others))
     go None h q ih = absurd cc
     go (Some m) h q ih = let z : suc m ≡ n = cc in let t = ih m h in
         subst (λ (k : ℕ). (others : List ℕ) × (suc b ∷ bs ≡ take k (suc b ∷ bs) ++ (0 ∷ others))) z (t.0, ap (λ (x : List ℕ). suc b ∷ x) t.1)
@@ -104,7 +114,9 @@ string_takes : (f : FdtFault) (bytes name : List ℕ) → string_at f bytes ≡ 
 unfolding string_at
 string_takes f bytes name e = go (until_zero bytes) refl e
   where
-    go : (o : Option ℕ) → until_zero bytes ≡ o → (let r : Result (List ℕ) FdtFault = elim o [ None ↦ Err f | Some n ↦ Ok (take n bytes) ] in r) ≡ done {A = List ℕ} name → (others : List ℕ) × (bytes ≡ name ++ (0 ∷ others))
+    go : (o : Option ℕ) → until_zero bytes ≡ o
+        → (let r : Result (List ℕ) FdtFault = elim o [ None ↦ Err f | Some n ↦ Ok (take n bytes) ] in r) ≡ done {A = List ℕ} name
+        → (others : List ℕ) × (bytes ≡ name ++ (0 ∷ others))
     go None h q = absurd cc
     go (Some n) h q = let z : take n bytes ≡ name = cc in let t = zero_takes bytes n h in (t.0, t.1 ∙ ap (λ (x : List ℕ). x ++ (0 ∷ t.0)) z)
 
@@ -112,13 +124,19 @@ string_takes f bytes name e = go (until_zero bytes) refl e
 abbrev Taking : List ℕ → Place → List ℕ → Token → List ℕ → Type 0
 Taking strings p whole t rest = (t ≡ finish → ⊥) × (0 < length rest → Took strings p whole t rest)
 
-begin_takes : (strings : List ℕ) (p : Place) (bytes : List ℕ) (t : Token) (rest : List ℕ) → IsBytes bytes → (p.depth ≡ 0 → p.late ≡ false) → begin_at p bytes ≡ Ok (t, rest)
+begin_takes : (strings : List ℕ) (p : Place) (bytes : List ℕ) (t : Token) (rest : List ℕ) → IsBytes bytes → (p.depth ≡ 0 → p.late ≡ false)
+    → begin_at p bytes ≡ Ok (t, rest)
     → (whole : List ℕ) → whole ≡ to_be_bytes w32 1 ++ bytes → Taking strings p whole t rest
 unfolding begin_at
 begin_takes strings p bytes t rest fits early e whole shape =
-    let a = bind-ok (string_at BadToken bytes) (λ name. padded_at (length name + 1) bytes >>= λ text. cond (legal_at p name) (cond (ltb p.depth 64) (Ok (begin_node name, text.1)) (Err TooDeep)) (Err BadName)) (t, rest) e in
+    let a =
+    bind-ok (string_at BadToken bytes)
+    (λ name. padded_at (length name + 1) bytes >>= λ text. cond (legal_at p name) (cond (ltb p.depth 64) (Ok (begin_node name, text.1)) (Err TooDeep))
+    (Err BadName)) (t, rest) e in
     let name = a.0 in
-    let b = bind-ok (padded_at (length name + 1) bytes) (λ text. cond (legal_at p name) (cond (ltb p.depth 64) (Ok (begin_node name, text.1)) (Err TooDeep)) (Err BadName)) (t, rest) a.2 in
+    let b =
+    bind-ok (padded_at (length name + 1) bytes)
+    (λ text. cond (legal_at p name) (cond (ltb p.depth 64) (Ok (begin_node name, text.1)) (Err TooDeep)) (Err BadName)) (t, rest) a.2 in
     let s = string_takes BadToken bytes name a.1 in
     let c = only_if (legal_at p name) BadName (cond (ltb p.depth 64) (Ok (begin_node name, b.0.1)) (Err TooDeep)) (t, rest) b.2 in
     let d = only_if (ltb p.depth 64) TooDeep (Ok (begin_node name, b.0.1)) (t, rest) c.1 in
@@ -128,10 +146,14 @@ begin_takes strings p bytes t rest fits early e whole shape =
           let q = padded_takes (length name + 1) bytes b.0.0 b.0.1 fits (omega (arith, more, ap length is.1)) b.1 in
           let ended = name ++ 0 ∷ [] in
           let text_is : b.0.0 ≡ ended =
-          sym (take_at b.0.0 (q.pad ++ b.0.1) (length name + 1) q.len) ∙ ap (take (length name + 1)) (sym q.parts ∙ s.1 ∙ sym (append_assoc name (0 ∷ []) s.0)) ∙ take_at ended s.0 (length name + 1) (length-append name (0 ∷ [])) in
+          sym (take_at b.0.0 (q.pad ++ b.0.1) (length name + 1) q.len)
+          ∙ ap (take (length name + 1)) (sym q.parts ∙ s.1 ∙ sym (append_assoc name (0 ∷ []) s.0))
+          ∙ take_at ended s.0 (length name + 1) (length-append name (0 ∷ [])) in
           let front = to_be_bytes w32 1 ++ (name ++ (0 ∷ q.pad)) in
-          let parts : whole ≡ front ++ b.0.1 = shape ∙ ap (λ (x : List ℕ). to_be_bytes w32 1 ++ x) (q.parts ∙ ap (λ (x : List ℕ). x ++ (q.pad ++ b.0.1)) text_is) ∙ simp append_assoc in
-          let made : Took strings p whole (begin_node name) b.0.1 = record { front = front; parts = parts; text = (q.pad, q.padding, refl); allowed = (c.0, ltb-true _ _ d.0, early); rest_fits = q.rest_fits } in
+          let parts : whole ≡ front ++ b.0.1 =
+          shape ∙ ap (λ (x : List ℕ). to_be_bytes w32 1 ++ x) (q.parts ∙ ap (λ (x : List ℕ). x ++ (q.pad ++ b.0.1)) text_is) ∙ simp append_assoc in
+          let made : Took strings p whole (begin_node name) b.0.1 =
+          record { front = front; parts = parts; text = (q.pad, q.padding, refl); allowed = (c.0, ltb-true _ _ d.0, early); rest_fits = q.rest_fits } in
           subst (λ (r : List ℕ). Took strings p whole t r) is.1 (subst (λ (u : Token). Took strings p whole u b.0.1) is.0 made),
     )
   where
@@ -152,13 +174,16 @@ name_takes strings offset name e =
     ok_is : (a b : List ℕ) → done {A = List ℕ} a ≡ done {A = List ℕ} b → a ≡ b
     ok_is a b q = cc
 
-property_takes : (strings : List ℕ) (p : Place) (bytes : List ℕ) (t : Token) (rest : List ℕ) → IsBytes bytes → 0 < p.depth → property_at strings p bytes ≡ Ok (t, rest)
+property_takes : (strings : List ℕ) (p : Place) (bytes : List ℕ) (t : Token) (rest : List ℕ) → IsBytes bytes → 0 < p.depth
+    → property_at strings p bytes ≡ Ok (t, rest)
     → (whole : List ℕ) → whole ≡ to_be_bytes w32 3 ++ bytes → Taking strings p whole t rest
 unfolding property_at
 property_takes strings p bytes t rest fits deep e whole shape =
     let made_of : List ℕ → List ℕ → List ℕ → Result (Token × List ℕ) FdtFault = λ v r name. Ok (property (record { name = name; value = v }), r) in
     let behind_value : ℕ → List ℕ → List ℕ → Result (Token × List ℕ) FdtFault = λ o v r. cond p.late (Err LateProperty) (name_at strings o >>= made_of v r) in
-    let a = bind-ok (number_at bytes) (λ len. number_at len.1 >>= λ offset. padded_at len.0 offset.1 >>= λ value. behind_value offset.0 value.0 value.1) (t, rest) e in
+    let a =
+    bind-ok (number_at bytes) (λ len. number_at len.1 >>= λ offset. padded_at len.0 offset.1 >>= λ value. behind_value offset.0 value.0 value.1)
+    (t, rest) e in
     let b = bind-ok (number_at a.0.1) (λ offset. padded_at a.0.0 offset.1 >>= λ value. behind_value offset.0 value.0 value.1) (t, rest) a.2 in
     let c = bind-ok (padded_at a.0.0 b.0.1) (λ value. behind_value b.0.0 value.0 value.1) (t, rest) b.2 in
     let n = number_takes bytes a.0.0 a.0.1 fits a.1 in
@@ -172,9 +197,29 @@ property_takes strings p bytes t rest fits deep e whole shape =
       λ more.
           let v = padded_takes a.0.0 b.0.1 c.0.0 c.0.1 o.rest_fits (omega (arith, more, ap length is.1)) c.1 in
           let front = to_be_bytes w32 3 ++ (to_be_bytes w32 (length c.0.0) ++ (to_be_bytes w32 b.0.0 ++ (c.0.0 ++ v.pad))) in
-          let parts : whole ≡ front ++ c.0.1 = shape ∙ ap (λ (x : List ℕ). to_be_bytes w32 3 ++ x) (n.parts ∙ ap (λ (m : ℕ). to_be_bytes w32 m ++ a.0.1) (sym v.len) ∙ ap (λ (x : List ℕ). to_be_bytes w32 (length c.0.0) ++ x) (o.parts ∙ ap (λ (x : List ℕ). to_be_bytes w32 b.0.0 ++ x) v.parts)) ∙ grouped (to_be_bytes w32 3) (to_be_bytes w32 (length c.0.0)) (to_be_bytes w32 b.0.0) c.0.0 v.pad c.0.1 in
+          let parts : whole ≡ front ++ c.0.1 =
+          shape ∙ ap (λ (x : List ℕ). to_be_bytes w32 3 ++ x)
+          (n.parts ∙ ap (λ (m : ℕ). to_be_bytes w32 m ++ a.0.1) (sym v.len)
+          ∙ ap (λ (x : List ℕ). to_be_bytes w32 (length c.0.0) ++ x)
+          (o.parts ∙ ap (λ (x : List ℕ). to_be_bytes w32 b.0.0 ++ x) v.parts))
+          ∙ grouped (to_be_bytes w32 3) (to_be_bytes w32 (length c.0.0)) (to_be_bytes w32 b.0.0) c.0.0 v.pad c.0.1 in
           let fits_len : length c.0.0 < 2 ^ 32 = subst (λ (m : ℕ). m < 2 ^ 32) (sym v.len) n.below in
-          let made : Took strings p whole (property found) c.0.1 = record { front = front; parts = parts; text = (b.0.0, v.pad, o.below, fits_len, subst (λ (m : ℕ). IsPadding m v.pad) (sym v.len) v.padding, k.0, refl); allowed = (deep, g.0, k.1); rest_fits = v.rest_fits } in
+          let made : Took strings p whole (property found) c.0.1 =
+          record {
+            front = front;
+            parts = parts;
+            text = (
+              b.0.0,
+              v.pad,
+              o.below,
+              fits_len,
+              subst (λ (m : ℕ). IsPadding m v.pad) (sym v.len) v.padding,
+              k.0,
+              refl,
+            );
+            allowed = (deep, g.0, k.1);
+            rest_fits = v.rest_fits;
+          } in
           subst (λ (r : List ℕ). Took strings p whole t r) is.1 (subst (λ (u : Token). Took strings p whole u c.0.1) is.0 made),
     )
   where
@@ -206,7 +251,8 @@ kind_takes strings p kind body whole t rest fits shape e =
           inl (begin_takes strings p body t rest fits (begins_early p.depth p.late k.1) h.1 whole (at kind 1 (eqb-true _ _ k.0) shape))
       | inr g ↦ elim (chosen (eqb kind 2 && ltb 0 p.depth) _ _ _ g.1) [
         | inl h ↦ let k = and_parts _ _ h.0 in
-            inl (plain strings p whole body 2 end_node t rest fits (at kind 2 (eqb-true _ _ k.0) shape) refl (ltb-true _ _ k.1) (λ z. cc) (pair_is end_node t body rest h.1))
+            inl (plain strings p whole body 2 end_node t rest fits (at kind 2 (eqb-true _ _ k.0) shape) refl (ltb-true _ _ k.1) (λ z. cc)
+            (pair_is end_node t body rest h.1))
         | inr g ↦ elim (chosen (eqb kind 3 && ltb 0 p.depth) _ _ _ g.1) [
           | inl h ↦ let k = and_parts _ _ h.0 in
               inl (property_takes strings p body t rest fits (ltb-true _ _ k.1) h.1 whole (at kind 3 (eqb-true _ _ k.0) shape))
@@ -217,7 +263,15 @@ kind_takes strings p kind body whole t rest fits shape e =
                 let k = and_parts _ _ f.0 in
                 let o = and_parts (eqb p.depth 0) p.late k.1 in
                 let is = pair_is finish t body rest f.1 in
-                inr (sym is.0, record { parts = at kind 9 (eqb-true _ _ k.0) shape ∙ ap (λ (x : List ℕ). to_be_bytes w32 9 ++ x) is.1; depth = eqb-true _ _ o.0; late = o.1 })
+                inr (
+                  sym is.0,
+                  record {
+                    parts = at kind 9 (eqb-true _ _ k.0) shape
+                        ∙ ap (λ (x : List ℕ). to_be_bytes w32 9 ++ x) is.1;
+                    depth = eqb-true _ _ o.0;
+                    late = o.1;
+                  },
+                )
           ]
         ]
       ]
@@ -226,7 +280,8 @@ kind_takes strings p kind body whole t rest fits shape e =
     at : (a b : ℕ) → a ≡ b → whole ≡ to_be_bytes w32 a ++ body → whole ≡ to_be_bytes w32 b ++ body
     at a b q w = w ∙ ap (λ (n : ℕ). to_be_bytes w32 n ++ body) q
 
-token_takes : (strings : List ℕ) (p : Place) (bytes : List ℕ) (t : Token) (rest : List ℕ) → IsBytes bytes → token_at strings p bytes ≡ Ok (t, rest) → Taken strings p bytes t rest
+token_takes : (strings : List ℕ) (p : Place) (bytes : List ℕ) (t : Token) (rest : List ℕ) → IsBytes bytes → token_at strings p bytes ≡ Ok (t, rest)
+    → Taken strings p bytes t rest
 unfolding token_at
 token_takes strings p bytes t rest fits e =
     let b = bind-ok (number_at bytes) (λ kind. kind_at strings p kind.0 kind.1) (t, rest) e in

@@ -16,11 +16,13 @@ properties_legal (e ∷ es) p more ok = let r = properties_legal es p more ok.1 
 was_legal : (n : List ℕ) (p : Place) → 0 < p.depth → IsTrue (legal_at p n) → IsTrue (legal n)
 was_legal n p h l = let z : eqb p.depth 0 ≡ false = ne_eqb p.depth 0 (λ e. omega arith) in rw z at l
 
-merge : (next : Nodes) (d : ℕ) (more : List Token) → Accepts (behind (record { depth = d; late = true }) next) more → Accepts (record { depth = d; late = true }) more
+merge : (next : Nodes) (d : ℕ) (more : List Token) → Accepts (behind (record { depth = d; late = true }) next) more
+    → Accepts (record { depth = d; late = true }) more
 merge none d more r = r
 merge (node a b c e) d more r = r
 
-shut : (children : Nodes) (d : ℕ) (ts : List Token) → Accepts (behind (record { depth = d; late = false }) children) (end_node ∷ ts) → Accepts (record { depth = d - 1; late = true }) ts
+shut : (children : Nodes) (d : ℕ) (ts : List Token) → Accepts (behind (record { depth = d; late = false }) children) (end_node ∷ ts)
+    → Accepts (record { depth = d - 1; late = true }) ts
 shut none d ts r = r.1
 shut (node a b c e) d ts r = r.1
 
@@ -30,8 +32,10 @@ nodes_legal (node n es children next) p rest h ok =
     let more = rest in
     let inner : Place = record { depth = p.depth + 1; late = false } in
     let ended : Place = record { depth = p.depth; late = true } in
-    let shape : (map property es ++ (tokens children ++ (end_node ∷ tokens next))) ++ more ≡ map property es ++ (tokens children ++ (end_node ∷ (tokens next ++ more)))
-    = append_assoc (map property es) (tokens children ++ (end_node ∷ tokens next)) more ∙ ap (λ (ts : List Token). map property es ++ ts) (append_assoc (tokens children) (end_node ∷ tokens next) more) in
+    let shape : (map property es ++ (tokens children ++ (end_node ∷ tokens next))) ++ more
+    ≡ map property es ++ (tokens children ++ (end_node ∷ (tokens next ++ more)))
+    = append_assoc (map property es) (tokens children ++ (end_node ∷ tokens next)) more
+    ∙ ap (λ (ts : List Token). map property es ++ ts) (append_assoc (tokens children) (end_node ∷ tokens next) more) in
     let a = properties_legal es inner (tokens children ++ (end_node ∷ (tokens next ++ more))) (subst (λ (ts : List Token). Accepts inner ts) shape ok.1) in
     let b = nodes_legal children inner (end_node ∷ (tokens next ++ more)) (omega arith) a.1 in
     let back : p.depth + 1 - 1 ≡ p.depth = omega arith in
@@ -80,7 +84,8 @@ NoProperty (end_node ∷ ts) = Unit {0}
 NoProperty (nop ∷ ts) = Unit {0}
 NoProperty (finish ∷ ts) = Unit {0}
 
-same_properties : (es fs : List PropertyData) (x y : List Token) → NoProperty x → NoProperty y → map property es ++ x ≡ map property fs ++ y → (es ≡ fs) × (x ≡ y)
+same_properties : (es fs : List PropertyData) (x y : List Token) → NoProperty x → NoProperty y → map property es ++ x ≡ map property fs ++ y
+    → (es ≡ fs) × (x ≡ y)
 same_properties [] [] x y p q e = (refl, e)
 same_properties [] (f ∷ fs) x y p q e = absurd (subst NoProperty e p)
 same_properties (f ∷ es) [] x y p q e = absurd (subst NoProperty (sym e) q)
@@ -104,11 +109,16 @@ same_nodes (node n es k next) (node m fs l after_it) x y p q e =
     let name : n ≡ m = cc in
     let bodies : (map property es ++ (tokens k ++ (end_node ∷ tokens next))) ++ x ≡ (map property fs ++ (tokens l ++ (end_node ∷ tokens after_it))) ++ y = cc in
     let grouped = sym (group es k next x) ∙ bodies ∙ group fs l after_it y in
-    let r = same_properties es fs (tokens k ++ (end_node ∷ (tokens next ++ x))) (tokens l ++ (end_node ∷ (tokens after_it ++ y))) (no_property k (tokens next ++ x)) (no_property l (tokens after_it ++ y)) grouped in
+    let r =
+    same_properties es fs (tokens k ++ (end_node ∷ (tokens next ++ x))) (tokens l ++ (end_node ∷ (tokens after_it ++ y)))
+    (no_property k (tokens next ++ x)) (no_property l (tokens after_it ++ y)) grouped in
     let inner = same_nodes k l (end_node ∷ (tokens next ++ x)) (end_node ∷ (tokens after_it ++ y)) tt tt r.1 in
     let tails : tokens next ++ x ≡ tokens after_it ++ y = cc (inner.1) in
     let outer = same_nodes next after_it x y p q tails in
     (rw (name, r.0, inner.0, outer.0) refl, outer.1)
   where
-    group : (es : List PropertyData) (k next : Nodes) (x : List Token) → (map property es ++ (tokens k ++ (end_node ∷ tokens next))) ++ x ≡ map property es ++ (tokens k ++ (end_node ∷ (tokens next ++ x)))
-    group es k next x = append_assoc (map property es) (tokens k ++ (end_node ∷ tokens next)) x ∙ ap (λ (ts : List Token). map property es ++ ts) (append_assoc (tokens k) (end_node ∷ tokens next) x)
+    group : (es : List PropertyData) (k next : Nodes) (x : List Token)
+        → (map property es ++ (tokens k ++ (end_node ∷ tokens next))) ++ x ≡ map property es ++ (tokens k ++ (end_node ∷ (tokens next ++ x)))
+    group es k next x =
+        append_assoc (map property es) (tokens k ++ (end_node ∷ tokens next)) x
+        ∙ ap (λ (ts : List Token). map property es ++ ts) (append_assoc (tokens k) (end_node ∷ tokens next) x)

@@ -11,21 +11,31 @@ use Rattle.fdt_tree.proofs.UnrefusedIsSpelled.{found_spelled}
 use Rattle.fdt_tree.proofs.ReadIsSpelled.{spelled_reads, reads_spelled}
 
 -- properties in front
-after_properties : (es : List PropertyData) (ts : List Token) (b : Pending) (around : List Pending) → pending_of ts ≡ b ∷ around → b.properties ≡ [] → pending_of (map property es ++ ts) ≡ record { properties = es; children = b.children } ∷ around
+after_properties : (es : List PropertyData) (ts : List Token) (b : Pending) (around : List Pending) → pending_of ts ≡ b ∷ around → b.properties ≡ []
+    → pending_of (map property es ++ ts) ≡ record { properties = es; children = b.children } ∷ around
 after_properties [] ts b around e none_yet = e ∙ ap (λ (xs : List PropertyData). record { properties = xs; children = b.children } ∷ around) none_yet
 after_properties (x ∷ es) ts b around e none_yet = ap (with_token (property x)) (after_properties es ts b around e none_yet)
 
 -- nodes in front, where no child is yet
-behind_nodes : (f : Nodes) (ts : List Token) (es : List PropertyData) (around : List Pending) → pending_of ts ≡ record { properties = es; children = none } ∷ around → pending_of (tokens f ++ ts) ≡ record { properties = es; children = f } ∷ around
+behind_nodes : (f : Nodes) (ts : List Token) (es : List PropertyData) (around : List Pending)
+    → pending_of ts ≡ record { properties = es; children = none } ∷ around → pending_of (tokens f ++ ts) ≡ record { properties = es; children = f } ∷ around
 behind_nodes none ts es around e = e
 behind_nodes (node name properties children next) ts es around e =
-    let after : pending_of (end_node ∷ (tokens next ++ ts)) ≡ empty_pending ∷ record { properties = es; children = next } ∷ around = ap (with_token end_node) (behind_nodes next ts es around e) in
-    let inner : pending_of (tokens children ++ (end_node ∷ (tokens next ++ ts))) ≡ record { properties = []; children = children } ∷ record { properties = es; children = next } ∷ around = behind_nodes children (end_node ∷ (tokens next ++ ts)) [] _ after in
-    let whole = after_properties properties (tokens children ++ (end_node ∷ (tokens next ++ ts))) (record { properties = []; children = children }) _ inner refl in
+    let after : pending_of (end_node ∷ (tokens next ++ ts)) ≡ empty_pending ∷ record { properties = es; children = next } ∷ around =
+    ap (with_token end_node) (behind_nodes next ts es around e) in
+    let inner : pending_of (tokens children ++ (end_node ∷ (tokens next ++ ts))) ≡ record {
+      properties = [];
+      children = children;
+    } ∷ record { properties = es; children = next } ∷ around = behind_nodes children (end_node ∷ (tokens next ++ ts)) [] _ after in
+    let whole =
+    after_properties properties (tokens children ++ (end_node ∷ (tokens next ++ ts))) (record { properties = []; children = children }) _ inner refl in
     ap pending_of (regroup name (map property properties) (tokens children) (tokens next) ts) ∙ ap (with_token (begin_node name)) whole
   where
-    regroup : (name : List ℕ) (a b c d : List Token) → (begin_node name ∷ (a ++ (b ++ (end_node ∷ c)))) ++ d ≡ begin_node name ∷ (a ++ (b ++ (end_node ∷ (c ++ d))))
-    regroup name a b c d = ap (λ (us : List Token). begin_node name ∷ us) (append_assoc a (b ++ (end_node ∷ c)) d ∙ ap (λ (us : List Token). a ++ us) (append_assoc b (end_node ∷ c) d))
+    regroup : (name : List ℕ) (a b c d : List Token)
+        → (begin_node name ∷ (a ++ (b ++ (end_node ∷ c)))) ++ d ≡ begin_node name ∷ (a ++ (b ++ (end_node ∷ (c ++ d))))
+    regroup name a b c d =
+        ap (λ (us : List Token). begin_node name ∷ us)
+        (append_assoc a (b ++ (end_node ∷ c)) d ∙ ap (λ (us : List Token). a ++ us) (append_assoc b (end_node ∷ c) d))
 
 root_again : (r : Root) → root_at (pending_of (root_tokens r)) ≡ r
 root_again r = ap root_at (ap pending_of (sym (append-nil (root_tokens r))) ∙ behind_nodes (node [] r.properties r.children none) [] [] [] refl)

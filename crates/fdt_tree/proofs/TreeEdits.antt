@@ -1,5 +1,6 @@
 -- What a new value makes of a tree.
-use Rattle.std.proofs.Common.{◌≡◌, ℕ, ◌+◌, ◌<◌, Bool, true, false, cond, ◌&&◌, nat_lt, IsTrue, List, [], ◌∷◌, length, Result, Ok, Err, IsOk, OnOk, OnErr, refl, sym, ap, ◌∙◌, arith}
+use Rattle.std.proofs.Common.{◌≡◌, ℕ, ◌+◌, ◌<◌, Bool, true, false, cond, ◌&&◌, nat_lt, IsTrue, List, [], ◌∷◌, length, Result, Ok, Err, IsOk, OnOk, OnErr, refl}
+use Rattle.std.proofs.Common.{sym, ap, ◌∙◌, arith}
 use borrow.Author.Tests.{ltb-true}
 use Rattle.std.specs.Str.{bytes_eq}
 use Rattle.fdt_tree.specs.declared.fault.FdtFault.{FdtFault}
@@ -19,7 +20,8 @@ pub values_legal : (name value : List ℕ) (es : List PropertyData) → IsTrue (
 values_legal name value [] good h = (good, tt)
 values_legal name value (e ∷ es) good h = go (bytes_eq e.name name) (values_legal name value es good h.1)
   where
-    go : (b : Bool) → AreLegal (with_value name value es) → AreLegal (cond b (let w : List PropertyData = record { name = e.name; value = value } ∷ es in w) (e ∷ with_value name value es))
+    go : (b : Bool) → AreLegal (with_value name value es)
+        → AreLegal (cond b (let w : List PropertyData = record { name = e.name; value = value } ∷ es in w) (e ∷ with_value name value es))
     go true ih = (h.0, h.1)
     go false ih = (h.0, ih)
 
@@ -31,11 +33,13 @@ IsLegalBranch depth b = AreLegal b.properties × IsLegal depth b.children
 abbrev Keeps : ℕ → (Branch → Branch) → Type 0
 Keeps depth edit = (b : Branch) → IsLegalBranch depth b → ((edit b).name ≡ b.name) × IsLegalBranch depth (edit b)
 
-pub first_legal : (depth : ℕ) (test : List ℕ → Bool) (edit : Branch → Branch) (new : Branch) (f : Nodes) → depth < 64 → IsTrue (legal new.name) → IsLegalBranch (depth + 1) new → Keeps (depth + 1) edit → IsLegal depth f → IsLegal depth (first_such test edit new f)
+pub first_legal : (depth : ℕ) (test : List ℕ → Bool) (edit : Branch → Branch) (new : Branch) (f : Nodes) → depth < 64 → IsTrue (legal new.name)
+    → IsLegalBranch (depth + 1) new → Keeps (depth + 1) edit → IsLegal depth f → IsLegal depth (first_such test edit new f)
 first_legal depth test edit new none low good whole keeps h = (low, good, whole.0, whole.1, tt)
 first_legal depth test edit new (node n es ks next) low good whole keeps h = go (test n) (first_legal depth test edit new next low good whole keeps h.4)
   where
-    go : (t : Bool) → IsLegal depth (first_such test edit new next) → IsLegal depth (cond t (in_front_of next (edit (record { name = n; properties = es; children = ks }))) (node n es ks (first_such test edit new next)))
+    go : (t : Bool) → IsLegal depth (first_such test edit new next)
+        → IsLegal depth (cond t (in_front_of next (edit (record { name = n; properties = es; children = ks }))) (node n es ks (first_such test edit new next)))
     go true ih = let k = keeps (record { name = n; properties = es; children = ks }) (h.2, h.3) in (low, ap legal k.0 ∙ h.1, k.1.0, k.1.1, h.4)
     go false ih = (h.0, h.1, h.2, h.3, ih)
 
@@ -43,7 +47,8 @@ and_left : (a b : Bool) → a && b ≡ true → IsTrue a × IsTrue b
 and_left true b e = (refl, e)
 and_left false b e = absurd cc
 
-pub edited_keeps : (depth : ℕ) (names : List (List ℕ)) (name value : List ℕ) → depth + length names < 65 → all_legal names ≡ true → IsTrue (legal name) → Keeps depth (edited_below names (value_put name value))
+pub edited_keeps : (depth : ℕ) (names : List (List ℕ)) (name value : List ℕ) → depth + length names < 65 → all_legal names ≡ true → IsTrue (legal name)
+    → Keeps depth (edited_below names (value_put name value))
 edited_keeps depth [] name value deep all good b h = (refl, (values_legal name value b.properties good h.0, h.1))
 edited_keeps depth (n ∷ ns) name value deep all good b h =
     let parts = and_left (legal n) (all_legal ns) all in
@@ -72,39 +77,48 @@ stands names name u e = go (all_legal names) (legal name) (nat_lt (length names)
 abbrev pub tree_with : List Reservation → ℕ → List ℕ → Node → Devicetree
 tree_with rs boot s n = record { reservations = rs; boot_cpu = boot; root = root_of s n }
 
-pub set_done : (path name value s : List ℕ) (names : List (List ℕ)) (rs : List Reservation) (boot : ℕ) (old new : Node) (u : Unit {0}) → path_names (names_on path) ≡ Ok names → check_names names name ≡ Ok u
-    → (branch s old).name ≡ [] → branch s new ≡ edited_below names (value_put name value) (branch s old) → set_at path name value (tree_with rs boot s old) ≡ Ok (tree_with rs boot s new)
+pub set_done : (path name value s : List ℕ) (names : List (List ℕ)) (rs : List Reservation) (boot : ℕ) (old new : Node) (u : Unit {0})
+    → path_names (names_on path) ≡ Ok names → check_names names name ≡ Ok u
+    → (branch s old).name ≡ [] → branch s new ≡ edited_below names (value_put name value) (branch s old)
+    → set_at path name value (tree_with rs boot s old) ≡ Ok (tree_with rs boot s new)
 unfolding set_at
 set_done path name value s names rs boot old new u e f unnamed made =
     let put = edited_below names (value_put name value) in
     let t = tree_with rs boot s old in
-    let named : branch_of_root (root_of s old) ≡ branch s old = ap (λ (n : List ℕ). let b : Branch = record { name = n; properties = (branch s old).properties; children = (branch s old).children } in b) (sym unnamed) in
+    let named : branch_of_root (root_of s old) ≡ branch s old =
+    ap (λ (n : List ℕ). let b : Branch = record { name = n; properties = (branch s old).properties; children = (branch s old).children } in b)
+    (sym unnamed) in
     rw (e, f) (ap (λ (b : Branch). Ok (with_root t b)) (ap put named ∙ sym made))
 
 pub path_refused : (path name value : List ℕ) (t : Devicetree) (e : FdtFault) → path_names (names_on path) ≡ Err e → set_at path name value t ≡ Err e
 unfolding set_at
 path_refused path name value t e h = rw h refl
 
-pub name_refused : (path name value : List ℕ) (names : List (List ℕ)) (t : Devicetree) (e : FdtFault) → path_names (names_on path) ≡ Ok names → check_names names name ≡ Err e → set_at path name value t ≡ Err e
+pub name_refused : (path name value : List ℕ) (names : List (List ℕ)) (t : Devicetree) (e : FdtFault) → path_names (names_on path) ≡ Ok names
+    → check_names names name ≡ Err e → set_at path name value t ≡ Err e
 unfolding set_at
 name_refused path name value names t e g h = rw (g, h) refl
 
 -- a root that stays the same
-pub tree_kept : (s : List ℕ) (rs : List Reservation) (boot : ℕ) (old new : Node) → branch s new ≡ branch s old → tree_with rs boot s new ≡ tree_with rs boot s old
+pub tree_kept : (s : List ℕ) (rs : List Reservation) (boot : ℕ) (old new : Node) → branch s new ≡ branch s old
+    → tree_with rs boot s new ≡ tree_with rs boot s old
 tree_kept s rs boot old new same = ap (λ (b : Branch). let t : Devicetree = record { reservations = rs; boot_cpu = boot; root = root_in b } in t) same
 
-pub may_be_set : (path name value : List ℕ) (names : List (List ℕ)) (t : Devicetree) (u : Unit {0}) → path_names (names_on path) ≡ Ok names → check_names names name ≡ Ok u → IsOk (set_at path name value t)
+pub may_be_set : (path name value : List ℕ) (names : List (List ℕ)) (t : Devicetree) (u : Unit {0}) → path_names (names_on path) ≡ Ok names
+    → check_names names name ≡ Ok u → IsOk (set_at path name value t)
 unfolding set_at
 may_be_set path name value names t u g h = rw (g, h) refl
 
-pub set_whole : (name value s : List ℕ) (names : List (List ℕ)) (rs : List Reservation) (boot : ℕ) (old new : Node) (u : Unit {0}) → check_names names name ≡ Ok u
+pub set_whole : (name value s : List ℕ) (names : List (List ℕ)) (rs : List Reservation) (boot : ℕ) (old new : Node) (u : Unit {0})
+    → check_names names name ≡ Ok u
     → branch s new ≡ edited_below names (value_put name value) (branch s old) → IsWhole (tree_with rs boot s old) → IsWhole (tree_with rs boot s new)
 set_whole name value s names rs boot old new u f made w =
     let st = stands names name u f in
     let kept = edited_keeps 1 names name value (omega (arith, st.low)) st.all st.good (branch s old) (w.properties, w.children) in
     record { reservations = w.reservations; properties = rw made kept.1.0; children = rw made kept.1.1 }
 
-pub set_unnamed : (name value s : List ℕ) (names : List (List ℕ)) (old new : Node) → branch s new ≡ edited_below names (value_put name value) (branch s old) → (branch s old).name ≡ [] → (branch s new).name ≡ []
+pub set_unnamed : (name value s : List ℕ) (names : List (List ℕ)) (old new : Node) → branch s new ≡ edited_below names (value_put name value) (branch s old)
+    → (branch s old).name ≡ [] → (branch s new).name ≡ []
 set_unnamed name value s names old new made unnamed = ap (λ (b : Branch). b.name) made ∙ same names ∙ unnamed
   where
     same : (ns : List (List ℕ)) → (edited_below ns (value_put name value) (branch s old)).name ≡ (branch s old).name
@@ -113,12 +127,19 @@ set_unnamed name value s names old new made unnamed = ap (λ (b : Branch). b.nam
 
 -- ---- also where memory was refused
 
-pub either_whole : {E : Type 0} (r : Result (Unit {0}) E) (name value s : List ℕ) (names : List (List ℕ)) (rs : List Reservation) (boot : ℕ) (old new : Node) (u : Unit {0}) → check_names names name ≡ Ok u
-    → OnOk r (branch s new ≡ edited_below names (value_put name value) (branch s old)) → OnErr r (branch s new ≡ branch s old) → IsWhole (tree_with rs boot s old) → IsWhole (tree_with rs boot s new)
+pub either_whole : {E : Type 0} (r : Result (Unit {0}) E) (name value s : List ℕ) (names : List (List ℕ)) (rs : List Reservation) (boot : ℕ)
+    (old new : Node) (u : Unit {0}) → check_names names name ≡ Ok u
+    → OnOk r (branch s new ≡ edited_below names (value_put name value) (branch s old)) → OnErr r (branch s new ≡ branch s old)
+    → IsWhole (tree_with rs boot s old) → IsWhole (tree_with rs boot s new)
 either_whole (Ok x) name value s names rs boot old new u f done kept w = set_whole name value s names rs boot old new u f done w
-either_whole (Err e) name value s names rs boot old new u f done kept w = record { reservations = w.reservations; properties = rw kept w.properties; children = rw kept w.children }
+either_whole (Err e) name value s names rs boot old new u f done kept w = record {
+  reservations = w.reservations;
+  properties = rw kept w.properties;
+  children = rw kept w.children;
+}
 
 pub either_unnamed : {E : Type 0} (r : Result (Unit {0}) E) (name value s : List ℕ) (names : List (List ℕ)) (old new : Node)
-    → OnOk r (branch s new ≡ edited_below names (value_put name value) (branch s old)) → OnErr r (branch s new ≡ branch s old) → (branch s old).name ≡ [] → (branch s new).name ≡ []
+    → OnOk r (branch s new ≡ edited_below names (value_put name value) (branch s old)) → OnErr r (branch s new ≡ branch s old) → (branch s old).name ≡ []
+    → (branch s new).name ≡ []
 either_unnamed (Ok x) name value s names old new done kept unnamed = set_unnamed name value s names old new done unnamed
 either_unnamed (Err e) name value s names old new done kept unnamed = rw kept unnamed

@@ -1,5 +1,6 @@
 -- Tokens that are allowed where they are spell a tree, so bytes that are not refused do.
-use Rattle.std.proofs.Common.{◌≡◌, ℕ, zero, suc, ◌+◌, ◌-◌, ◌<◌, ◌≤◌, true, false, List, [], ◌∷◌, ◌++◌, length, map, None, Result, Ok, Err, refl, sym, ap, subst, ◌∙◌, append_assoc, arith, inl, inr}
+use Rattle.std.proofs.Common.{◌≡◌, ℕ, zero, suc, ◌+◌, ◌-◌, ◌<◌, ◌≤◌, true, false, List, [], ◌∷◌, ◌++◌, length, map, None, Result, Ok, Err, refl, sym, ap, subst}
+use Rattle.std.proofs.Common.{◌∙◌, append_assoc, arith, inl, inr}
 use Rattle.std.specs.Prelude.{All}
 use Rattle.std.specs.Result.{result_err}
 use Rattle.std.proofs.lemmas.Bool.{cases_lt, eqb-true}
@@ -7,7 +8,8 @@ use Rattle.std.proofs.lemmas.List.{length-append, nil_from_length, get_or_past}
 use Rattle.refusal.proofs.AnswersInTurn.{bind-ok}
 use Rattle.fdt_tree.specs.declared.fault.FdtFault.{FdtFault}
 use Rattle.fdt_tree.specs.declared.reading.place.Place.{Place}
-use Rattle.fdt_tree.specs.Devicetree.{Devicetree, PropertyData, Nodes, none, node, Root, Token, begin_node, property, end_node, nop, finish, tokens, root_tokens}
+use Rattle.fdt_tree.specs.Devicetree.{Devicetree, PropertyData, Nodes, none, node, Root, Token, begin_node, property, end_node, nop, finish, tokens}
+use Rattle.fdt_tree.specs.Devicetree.{root_tokens}
 use Rattle.fdt_tree.specs.Scanning.{start, scan}
 use Rattle.fdt_tree.specs.Reading.{Spells, Parts, parts_of, parts_at, refusal_of}
 use Rattle.refusal.specs.Answer.{◌>>=◌}
@@ -47,7 +49,13 @@ record Inside (p : Place) (ts : List Token) : Type 0 where
   plain : NoNops rest
 
 rest_shorter : (p : Place) (ts : List Token) (i : Inside p ts) → length i.rest < length ts
-rest_shorter p ts i = omega (arith, ap length i.parts, length-append (map property i.properties) (tokens i.children ++ (end_node ∷ i.rest)), length-append (tokens i.children) (end_node ∷ i.rest))
+rest_shorter p ts i =
+    omega (
+      arith,
+      ap length i.parts,
+      length-append (map property i.properties) (tokens i.children ++ (end_node ∷ i.rest)),
+      length-append (tokens i.children) (end_node ∷ i.rest),
+    )
 
 inside : (n : ℕ) (p : Place) (ts : List Token) → length ts ≤ n → 0 < p.depth → NoNops ts → Accepts p ts → Inside p ts
 inside n p [] le deep plain ok = absurd (omega (arith, ok.0))
@@ -58,7 +66,15 @@ inside (suc n) p (end_node ∷ ts) le deep plain ok =
     record { properties = []; children = none; rest = ts; parts = refl; early = λ h. refl; accepted = ok.1; plain = plain }
 inside (suc n) p (property e ∷ ts) le deep plain ok =
     let i = inside n p ts (omega arith) deep plain ok.1 in
-    record { properties = e ∷ i.properties; children = i.children; rest = i.rest; parts = ap (λ (us : List Token). property e ∷ us) i.parts; early = λ h. absurd (never (sym h ∙ ok.0.1)); accepted = i.accepted; plain = i.plain }
+    record {
+      properties = e ∷ i.properties;
+      children = i.children;
+      rest = i.rest;
+      parts = ap (λ (us : List Token). property e ∷ us) i.parts;
+      early = λ h. absurd (never (sym h ∙ ok.0.1));
+      accepted = i.accepted;
+      plain = i.plain;
+    }
   where
     never : true ≡ false → ⊥
     never q = cc
@@ -70,12 +86,16 @@ inside (suc n) p (begin_node name ∷ ts) le deep plain ok =
     let accepted : Accepts behind i.rest = subst (λ (d : ℕ). Accepts (record { depth = d; late = true }) i.rest) same i.accepted in
     let j = inside n behind i.rest (omega (arith, rest_shorter child ts i)) deep i.plain accepted in
     let no_more : j.properties ≡ [] = j.early refl in
-    let tail : i.rest ≡ tokens j.children ++ (end_node ∷ j.rest) = j.parts ∙ ap (λ (es : List PropertyData). map property es ++ (tokens j.children ++ (end_node ∷ j.rest))) no_more in
+    let tail : i.rest ≡ tokens j.children ++ (end_node ∷ j.rest) =
+    j.parts ∙ ap (λ (es : List PropertyData). map property es ++ (tokens j.children ++ (end_node ∷ j.rest))) no_more in
     record {
       properties = [];
       children = node name i.properties i.children j.children;
       rest = j.rest;
-      parts = ap (λ (us : List Token). begin_node name ∷ us) (i.parts ∙ ap (λ (us : List Token). map property i.properties ++ (tokens i.children ++ (end_node ∷ us))) tail ∙ regroup (map property i.properties) (tokens i.children) (tokens j.children) (end_node ∷ j.rest));
+      parts =
+          ap (λ (us : List Token). begin_node name ∷ us)
+          (i.parts ∙ ap (λ (us : List Token). map property i.properties ++ (tokens i.children ++ (end_node ∷ us))) tail
+          ∙ regroup (map property i.properties) (tokens i.children) (tokens j.children) (end_node ∷ j.rest));
       early = λ h. refl;
       accepted = j.accepted;
       plain = j.plain;
@@ -104,7 +124,8 @@ some_root (begin_node name ∷ ts) plain ok =
     let last : i.rest ≡ [] = empty_pending i.rest i.plain i.accepted in
     let no_name : name ≡ [] = nil_from_length name (eqb-true _ _ ok.0.0) in (
       record { properties = i.properties; children = i.children },
-      ap (λ (us : List Token). begin_node name ∷ us) (i.parts ∙ ap (λ (us : List Token). map property i.properties ++ (tokens i.children ++ (end_node ∷ us))) last)
+      ap (λ (us : List Token). begin_node name ∷ us)
+          (i.parts ∙ ap (λ (us : List Token). map property i.properties ++ (tokens i.children ++ (end_node ∷ us))) last)
           ∙ ap (λ (n : List ℕ). begin_node n ∷ (map property i.properties ++ (tokens i.children ++ (end_node ∷ [])))) no_name,
     )
 
@@ -118,14 +139,16 @@ bytes_fit bytes h i = elim (cases_lt i (length bytes)) [
 pub found_spelled : (bytes : List ℕ) (found : Parts) → IsBytes bytes → parts_at bytes ≡ Ok found → (t : Devicetree) × (parts_at bytes ≡ Ok (parts_of t))
 unfolding parts_at
 found_spelled bytes found fits e =
-    let tokens_in : Header → Result (List Token) FdtFault = λ h. scan (strings_block h bytes) (length (structure_block h bytes)) start (structure_block h bytes) in
+    let tokens_in : Header → Result (List Token) FdtFault =
+    λ h. scan (strings_block h bytes) (length (structure_block h bytes)) start (structure_block h bytes) in
     let a = bind-ok (header_at bytes) (λ h. reservations_at (reserve_block h bytes) >>= λ rs. tokens_in h >>= behind_tokens h rs) found e in
     let h = a.0 in
     let b = bind-ok (reservations_at (reserve_block h bytes)) (λ rs. tokens_in h >>= behind_tokens h rs) found a.2 in
     let c = bind-ok (tokens_in h) (behind_tokens h b.0) found b.2 in
     let block_fits : IsBytes (structure_block h bytes) = IsBytes-take h.size_dt_struct _ (IsBytes-drop h.off_dt_struct bytes fits) in
     let strings = strings_block h bytes in
-    let t = scan_takes strings (takes_tokens strings) (takes_end strings) (length (structure_block h bytes)) start (structure_block h bytes) c.0 block_fits c.1 in
+    let t =
+    scan_takes strings (takes_tokens strings) (takes_end strings) (length (structure_block h bytes)) start (structure_block h bytes) c.0 block_fits c.1 in
     let r = some_root c.0 (subst (λ (us : List Token). NoNops us) t.same (no_nops t.all)) t.accepted in (
       record { reservations = b.0; boot_cpu = h.boot_cpuid_phys; root = r.0 },
       e ∙ sym c.2 ∙ ap (λ (us : List Token). behind_tokens h b.0 us) r.1,

@@ -1,5 +1,6 @@
 -- A file that is written is spelled, whatever follows it.
-use Rattle.std.proofs.Common.{◌≡◌, ℕ, ◌+◌, ◌%◌, ◌^◌, ◌<◌, ◌≤◌, List, [], ◌∷◌, ◌++◌, length, take, drop, Result, Ok, Err, IfOk, refl, sym, ap, subst, ◌∙◌, append_assoc, arith}
+use Rattle.std.proofs.Common.{◌≡◌, ℕ, ◌+◌, ◌%◌, ◌^◌, ◌<◌, ◌≤◌, List, [], ◌∷◌, ◌++◌, length, take, drop, Result, Ok, Err, IfOk, refl, sym, ap, subst, ◌∙◌}
+use Rattle.std.proofs.Common.{append_assoc, arith}
 use Rattle.std.specs.declared.vec.Vec.{Vec}
 use Rattle.std.specs.Int.{w32, to_be_bytes, from_be_bytes}
 use Rattle.std.proofs.lemmas.List.{length-append, take_at, drop_at}
@@ -18,14 +19,16 @@ use Rattle.fdt_tree.proofs.WrittenBlocksAreSpelled.{text_again, no_nop_in_root}
 
 reservations_again : (rs : List Reservation) (rest : List ℕ) → AreReservations rs → SpellsReservations (reservations_text rs ++ rest) rs
 reservations_again [] rest ok = (rest, refl)
-reservations_again (r ∷ rs) rest ok = (reservations_text rs ++ rest, ok.0, reservations_again rs rest ok.1, append_assoc (pair_text r) (reservations_text rs) rest)
+reservations_again (r ∷ rs) rest ok =
+    (reservations_text rs ++ rest, ok.0, reservations_again rs rest ok.1, append_assoc (pair_text r) (reservations_text rs) rest)
 
 -- ---- what the header says, and what its numbers cut out
 
-same_header : (h k : Header) → h.totalsize ≡ k.totalsize → h.off_dt_struct ≡ k.off_dt_struct → h.off_dt_strings ≡ k.off_dt_strings → h.off_mem_rsvmap ≡ k.off_mem_rsvmap
-    → h.version ≡ k.version → h.last_comp_version ≡ k.last_comp_version → h.boot_cpuid_phys ≡ k.boot_cpuid_phys → h.size_dt_strings ≡ k.size_dt_strings → h.size_dt_struct ≡ k.size_dt_struct
-    → h ≡ k
-same_header h k a b c d e f g i j = rw (a, b, c, d, e, f, g, i, j) refl
+same_header : (h k : Header) → h.totalsize ≡ k.totalsize → h.off_dt_struct ≡ k.off_dt_struct → h.off_dt_strings ≡ k.off_dt_strings
+    → h.off_mem_rsvmap ≡ k.off_mem_rsvmap → h.version ≡ k.version → h.last_comp_version ≡ k.last_comp_version → h.boot_cpuid_phys ≡ k.boot_cpuid_phys
+    → h.size_dt_strings ≡ k.size_dt_strings → h.size_dt_struct ≡ k.size_dt_struct → h ≡ k
+same_header h k whole structure strings reserved version oldest boot_cpu strings_size structure_size =
+    rw (whole, structure, strings, reserved, version, oldest, boot_cpu, strings_size, structure_size) refl
 
 middle : (front this behind : List ℕ) (at : ℕ) → length front ≡ at → take (length this) (drop at (front ++ (this ++ behind))) ≡ this
 middle front this behind at e = ap (take (length this)) (drop_at front (this ++ behind) at e) ∙ take_at this behind (length this) refl
@@ -81,7 +84,8 @@ module _ (boot : ℕ) (reserve structure strings z : List ℕ) where
   strings_are =
       let shape : file ++ z ≡ ((head ++ reserve) ++ structure) ++ (strings ++ z) = simp append_assoc in
       ap (λ (x : List ℕ). take (length strings) (drop (40 + length reserve + length structure) x)) shape
-      ∙ middle ((head ++ reserve) ++ structure) strings z (40 + length reserve + length structure) (omega (arith, length-append (head ++ reserve) structure, length-append head reserve))
+      ∙ middle ((head ++ reserve) ++ structure) strings z (40 + length reserve + length structure)
+      (omega (arith, length-append (head ++ reserve) structure, length-append head reserve))
 
   has_header : length reserve % 4 ≡ 0 → length (file ++ z) ≤ 2 ^ 21 → boot < 2 ^ 32 → HasHeader (file ++ z) header
   has_header aligned le lt =
@@ -134,7 +138,9 @@ written_again t z whole boot le =
       header = head;
       sound = has_header t.boot_cpu reserve structure strings z (omega (arith, reservations_len t.reservations)) le boot;
       boot_cpu = refl;
-      reservations = subst (λ (x : List ℕ). SpellsReservations x t.reservations) (sym (reserve_is t.boot_cpu reserve structure strings z)) (reservations_again t.reservations (structure ++ strings) whole.reservations);
+      reservations =
+          subst (λ (x : List ℕ). SpellsReservations x t.reservations) (sym (reserve_is t.boot_cpu reserve structure strings z))
+          (reservations_again t.reservations (structure ++ strings) whole.reservations);
       root = subst (λ (x : List ℕ). SpellsRoot (strings_block head bytes) x t.root) (sym (structure_is t.boot_cpu reserve structure strings z))
           (subst (λ (x : List ℕ). SpellsRoot x structure t.root) (sym (strings_are t.boot_cpu reserve structure strings z)) root);
     }

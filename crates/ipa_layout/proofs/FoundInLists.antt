@@ -1,6 +1,7 @@
 -- What a search through a list found, and what it did not.
 use Rattle.std.proofs.Common.{◌≡◌, Bool, true, false, cond, ◌&&◌, ◌||◌, List, [], ◌∷◌, Option, Some, None, refl}
 use Rattle.std.specs.List.{find, list_all, list_any}
+use Rattle.std.proofs.lemmas.Bool.{or_right}
 
 none-here : {X : Type 0} (b : Bool) (x : X) (o : Option X) (any : Bool) → (o ≡ None → any ≡ false) → cond b (Some x) o ≡ None → (b || any) ≡ false
 none-here true x o any h e = cc
@@ -20,20 +21,18 @@ pub found-passes : {X : Type 0} (p : X → Bool) (xs : List X) (y : X) → find 
 found-passes p [] y e = cc
 found-passes p (x ∷ xs) y e = some-here (p x) x y (find p xs) p refl (found-passes p xs y) e
 
-any-here : {X : Type 0} (b : Bool) (x y : X) (o : Option X) (q : X → Bool) (any : Bool) → q y ≡ true → (o ≡ Some y → any ≡ true) → cond b (Some x) o ≡ Some y → (q x || any) ≡ true
+any-here : {X : Type 0} (b : Bool) (x y : X) (o : Option X) (q : X → Bool) (any : Bool) → q y ≡ true → (o ≡ Some y → any ≡ true)
+    → cond b (Some x) o ≡ Some y → (q x || any) ≡ true
 any-here true x y o q any is h e = let same : q x ≡ true = cc in rw same refl
-any-here false x y o q any is h e = or-right (q x) any (h e)
-  where
-    or-right : (a b : Bool) → b ≡ true → (a || b) ≡ true
-    or-right true b e = refl
-    or-right false b e = e
+any-here false x y o q any is h e = or_right (q x) any (h e)
 
 -- what is found is among the list, so another test that it passes finds some
 pub found-any : {X : Type 0} (p q : X → Bool) (xs : List X) (y : X) → find p xs ≡ Some y → q y ≡ true → list_any q xs ≡ true
 found-any p q [] y e h = cc
 found-any p q (x ∷ xs) y e h = any-here (p x) x y (find p xs) q (list_any q xs) h (λ again. found-any p q xs y again h) e
 
-holds-here : {X : Type 0} (b d rest : Bool) (x y : X) (o : Option X) (p : X → Bool) → p x ≡ d → (rest ≡ true → o ≡ Some y → p y ≡ true) → (d && rest) ≡ true → cond b (Some x) o ≡ Some y → p y ≡ true
+holds-here : {X : Type 0} (b d rest : Bool) (x y : X) (o : Option X) (p : X → Bool) → p x ≡ d → (rest ≡ true → o ≡ Some y → p y ≡ true) → (d && rest) ≡ true
+    → cond b (Some x) o ≡ Some y → p y ≡ true
 holds-here true true rest x y o p is h all e = cc
 holds-here true false rest x y o p is h all e = absurd cc
 holds-here false true rest x y o p is h all e = h all e

@@ -1,5 +1,6 @@
 -- Extents that do not meet share no page, and each item that is placed has its own extent.
-use Rattle.std.proofs.Common.{◌≡◌, ℕ, zero, suc, ◌+◌, ◌-◌, ◌*◌, ◌^◌, ◌<◌, ◌≤◌, max, Bool, true, false, cond, eqb, List, [], ◌∷◌, length, Option, Some, Result, Ok, Err, refl, sym, ap, subst, ◌∙◌, arith}
+use Rattle.std.proofs.Common.{◌≡◌, ℕ, zero, suc, ◌+◌, ◌-◌, ◌*◌, ◌^◌, ◌<◌, ◌≤◌, max, Bool, true, false, cond, eqb, List, [], ◌∷◌, length, Option, Some, Result}
+use Rattle.std.proofs.Common.{Ok, Err, refl, sym, ap, subst, ◌∙◌, arith}
 use Rattle.std.specs.Prelude.{◌==◌, ◌&&◌, not, None, option_map, sum_by}
 use Rattle.std.specs.List.{list_any, slice_get}
 use Rattle.std.specs.Option.{option_or}
@@ -39,7 +40,9 @@ wanted-fits : (i : Item) (bytes : List ℕ) (a : WantedExtent) → wanted_of i b
 unfolding wanted_of
 wanted-fits i bytes a e = go (has_role role.Kernel i) (read_of bytes) e
   where
-    go : (b : Bool) (r : Result Header ImageFault) → (let q : Result WantedExtent ItemReason = cond b (kernel_at i (length bytes) r) (Ok (record { address = i.at; size = size_of i (length bytes); len = size_of i (length bytes) })) in q) ≡ Ok a → a.size ≤ a.len
+    go : (b : Bool) (r : Result Header ImageFault)
+        → (let q : Result WantedExtent ItemReason = cond b (kernel_at i (length bytes) r)
+        (Ok (record { address = i.at; size = size_of i (length bytes); len = size_of i (length bytes) })) in q) ≡ Ok a → a.size ≤ a.len
     go true (Err f) q = absurd cc
     go true (Ok h) q =
         let n = size_of i (length bytes) in
@@ -59,12 +62,14 @@ none-refuse : {A R : Type 0} (checks : List (Check R)) (x y : A) → unless_refu
 none-refuse [] x y e = (tt, cc)
 none-refuse {A} {R} (check ∷ others) x y e = go check.1 refl e (none-refuse others x y)
   where
-    go : (b : Bool) → check.1 ≡ b → (let r : Result A R = cond b (Err check.0) (unless_refused others x) in r) ≡ Ok y → (unless_refused others x ≡ Ok y → NoneHolds others × (x ≡ y))
+    go : (b : Bool) → check.1 ≡ b → (let r : Result A R = cond b (Err check.0) (unless_refused others x) in r) ≡ Ok y
+        → (unless_refused others x ≡ Ok y → NoneHolds others × (x ≡ y))
         → NoneHolds (check ∷ others) × (x ≡ y)
     go true q h rest = absurd cc
     go false q h rest = let r = rest h in ((q, r.0), r.1)
 
-checked_wanted-sound : (ram : List Region) (pages : ℕ) (i : Item) (count : ℕ) (a : WantedExtent) (s : Extent) → a.size ≤ a.len → checked_wanted ram pages i count a ≡ Ok s
+checked_wanted-sound : (ram : List Region) (pages : ℕ) (i : Item) (count : ℕ) (a : WantedExtent) (s : Extent) → a.size ≤ a.len
+    → checked_wanted ram pages i count a ≡ Ok s
     → IsSound s × (pages + page_count_of s.address s.size ≤ 1048576)
 unfolding checked_wanted
 checked_wanted-sound ram pages i count a s fits e =
@@ -76,10 +81,12 @@ checked_wanted-sound ram pages i count a s fits e =
     let end = ltb-false (2 ^ 64) (a.address + a.len) past.1 in
     subst (λ (x : Extent). IsSound x × (pages + page_count_of x.address x.size ≤ 1048576)) none.1 (record { size = fits; low = low; end = end }, few)
 
-placed-sound : (ram : List Region) (pages : ℕ) (i : Item) (bytes : List ℕ) (s : Extent) → checked_item ram pages i bytes ≡ Ok s → IsSound s × (pages + page_count_of s.address s.size ≤ 1048576)
+placed-sound : (ram : List Region) (pages : ℕ) (i : Item) (bytes : List ℕ) (s : Extent) → checked_item ram pages i bytes ≡ Ok s
+    → IsSound s × (pages + page_count_of s.address s.size ≤ 1048576)
 placed-sound ram pages i bytes s e = go (wanted_of i bytes) refl e
   where
-    go : (r : Result WantedExtent ItemReason) → wanted_of i bytes ≡ r → checked_if ram pages i (length bytes) r ≡ Ok s → IsSound s × (pages + page_count_of s.address s.size ≤ 1048576)
+    go : (r : Result WantedExtent ItemReason) → wanted_of i bytes ≡ r → checked_if ram pages i (length bytes) r ≡ Ok s
+        → IsSound s × (pages + page_count_of s.address s.size ≤ 1048576)
     go (Err f) q h = absurd cc
     go (Ok a) q h = checked_wanted-sound ram pages i (length bytes) a s (wanted-fits i bytes a q) h
 
@@ -87,7 +94,8 @@ placed-sound ram pages i bytes s e = go (wanted_of i bytes) refl e
 pages-end : (s : Extent) → IsSound s → 0 < page_count_of s.address s.size → first_page s.address + page_count_of s.address s.size ≤ end_page (s.address + s.len)
 pages-end s sound = go (eqb s.size 0) refl
   where
-    go : (b : Bool) → eqb s.size 0 ≡ b → 0 < cond b 0 (first_page (s.address + s.size - 1) + 1 - first_page s.address) → first_page s.address + cond b 0 (first_page (s.address + s.size - 1) + 1 - first_page s.address) ≤ end_page (s.address + s.len)
+    go : (b : Bool) → eqb s.size 0 ≡ b → 0 < cond b 0 (first_page (s.address + s.size - 1) + 1 - first_page s.address)
+        → first_page s.address + cond b 0 (first_page (s.address + s.size - 1) + 1 - first_page s.address) ≤ end_page (s.address + s.len)
     go true e some = absurd (omega arith)
     go false e some = omega (arith, sound.size, eqb-false s.size 0 e)
 
@@ -124,7 +132,8 @@ no-page-shared a b sa sb checked_together page from-a to-a from-b to-b =
     let end-a = pages-end a sa some-a in
     let end-b = pages-end b sb some-b in
     let met : overlaps a b ≡ true = all-four _ _ _ _ (not-none a.len (has-extent a sa some-a)) (not-none b.len (has-extent b sb some-b))
-    (lt-ltb (first_page a.address) (end_page (b.address + b.len)) (omega (arith, end-b))) (lt-ltb (first_page b.address) (end_page (a.address + a.len)) (omega (arith, end-a))) in
+    (lt-ltb (first_page a.address) (end_page (b.address + b.len)) (omega (arith, end-b)))
+    (lt-ltb (first_page b.address) (end_page (a.address + a.len)) (omega (arith, end-a))) in
     let z : true ≡ false = sym met ∙ checked_together in absurd cc
 
 pub none-there : {X : Type 0} (t : X → Bool) (xs : List X) (k : ℕ) (x : X) → list_any t xs ≡ false → slice_get xs k ≡ Some x → t x ≡ false
@@ -142,7 +151,8 @@ met-none a n (x ∷ others) zero b none e = let same : x ≡ b = cc in ap (overl
     passed false h = refl
 met-none a n (x ∷ others) (suc k) b none e = met-none a (n + 1) others k b (passed (overlaps a x) none) e
   where
-    passed : (t : Bool) → cond t (Some (let s : ItemExtent = record { item = n; extent = x } in s)) (first_met a (n + 1) others) ≡ None → first_met a (n + 1) others ≡ None
+    passed : (t : Bool) → cond t (Some (let s : ItemExtent = record { item = n; extent = x } in s)) (first_met a (n + 1) others) ≡ None
+        → first_met a (n + 1) others ≡ None
     passed true h = absurd cc
     passed false h = h
 
@@ -151,7 +161,8 @@ none-of-both f None p h = (refl, h)
 none-of-both f (Some x) p h = absurd cc
 
 -- where no two meet
-pub two-apart : (ss : List Extent) (n j k : ℕ) (a b : Extent) → first_overlap n ss ≡ None → j < k → slice_get ss j ≡ Some a → slice_get ss k ≡ Some b → overlaps a b ≡ false
+pub two-apart : (ss : List Extent) (n j k : ℕ) (a b : Extent) → first_overlap n ss ≡ None → j < k → slice_get ss j ≡ Some a → slice_get ss k ≡ Some b
+    → overlaps a b ≡ false
 two-apart [] n j k a b h lt e f = absurd cc
 two-apart (s ∷ ss) n zero zero a b h lt e f = absurd (omega arith)
 two-apart (s ∷ ss) n zero (suc k) a b h lt e f =
@@ -208,7 +219,8 @@ module _ (ram : List Region) (edited : Result (Option (List ℕ)) FdtFault) (fil
       let own : slice_get (p.first ∷ p.others) (suc k) ≡ Some s = rw p.is at g in
       rows-at (n + 1) (pages + page_count_of p.first.address p.first.size) items p.others k i s p.rest f own
 
-  pub rows-total : (n pages : ℕ) (items : List Item) (ss : List Extent) → pages ≤ 1048576 → extents_of ram edited files n pages items ≡ Ok ss → pages + sum_by (λ s. page_count_of s.address s.size) ss ≤ 1048576
+  pub rows-total : (n pages : ℕ) (items : List Item) (ss : List Extent) → pages ≤ 1048576 → extents_of ram edited files n pages items ≡ Ok ss
+      → pages + sum_by (λ s. page_count_of s.address s.size) ss ≤ 1048576
   rows-total n pages [] ss few e = let same : [] ≡ ss = cc in rw (sym same) (omega arith)
   rows-total n pages (i ∷ items) ss few e =
       let p = split n pages i items ss e in
@@ -223,7 +235,8 @@ items-length launch [] ss e = refl
 items-length launch (i ∷ items) [] e = absurd (omega arith)
 items-length launch (i ∷ items) (s ∷ ss) e = omega (arith, items-length launch items ss (omega arith))
 
-pub item-there : (launch : ℕ) (items : List Item) (ss : List Extent) (k : ℕ) (i : Item) (p : PlacedItem) → slice_get items k ≡ Some i → slice_get (items_at launch items ss) k ≡ Some p
+pub item-there : (launch : ℕ) (items : List Item) (ss : List Extent) (k : ℕ) (i : Item) (p : PlacedItem) → slice_get items k ≡ Some i
+    → slice_get (items_at launch items ss) k ≡ Some p
     → (s : Extent) × (slice_get ss k ≡ Some s) × (p ≡ item_at launch i s)
 item-there launch [] ss k i p e f = absurd cc
 item-there launch (j ∷ items) [] k i p e f = absurd cc
@@ -233,10 +246,16 @@ item-there launch (j ∷ items) (s ∷ ss) zero i p e f =
     (s, refl, sym placed ∙ ap (λ (x : Item). item_at launch x s) same)
 item-there launch (j ∷ items) (s ∷ ss) (suc k) i p e f = item-there launch items ss k i p e f
 
-pub items-total : (launch : ℕ) (items : List Item) (ss : List Extent) → length ss ≡ length items → sum_by (λ i. i.pages) (items_at launch items ss) ≡ sum_by (λ s. page_count_of s.address s.size) ss
+pub items-total : (launch : ℕ) (items : List Item) (ss : List Extent) → length ss ≡ length items
+    → sum_by (λ i. i.pages) (items_at launch items ss) ≡ sum_by (λ s. page_count_of s.address s.size) ss
 unfolding item_at
 items-total launch [] [] e = refl
 items-total launch [] (s ∷ ss) e = absurd (omega arith)
 items-total launch (i ∷ items) [] e = absurd (omega arith)
 items-total launch (i ∷ items) (s ∷ ss) e =
-    omega (arith, sum_by-cons (λ i. i.pages) (item_at launch i s) (items_at launch items ss), sum_by-cons (λ s. page_count_of s.address s.size) s ss, items-total launch items ss (omega arith))
+    omega (
+      arith,
+      sum_by-cons (λ i. i.pages) (item_at launch i s) (items_at launch items ss),
+      sum_by-cons (λ s. page_count_of s.address s.size) s ss,
+      items-total launch items ss (omega arith),
+    )

@@ -1,5 +1,6 @@
 -- The laws of placed launches: their parts, each item, few pages, and no page of two items.
-use Rattle.std.proofs.Common.{◌≡◌, ℕ, ◌*◌, ◌%◌, ◌^◌, ◌<◌, ◌≤◌, Bool, true, false, cond, List, length, Option, Some, None, Result, Ok, Err, refl, sym, ap, ◌∙◌, arith, subst}
+use Rattle.std.proofs.Common.{◌≡◌, ℕ, ◌*◌, ◌%◌, ◌^◌, ◌<◌, ◌≤◌, Bool, true, false, cond, List, length, Option, Some, None, Result, Ok, Err, refl, sym, ap, ◌∙◌}
+use Rattle.std.proofs.Common.{arith, subst}
 use Rattle.std.specs.Prelude.{IsSome, option_map}
 use Rattle.std.specs.List.{find, enumerate_from, slice_get}
 use Rattle.std.specs.Result.{result_unwrap_or}
@@ -21,10 +22,12 @@ use Rattle.rim_launch.specs.Kinds.{file_of, has_edits}
 use Rattle.rim_launch.specs.Whole.{is_whole}
 use Rattle.ipa_layout.specs.Overlap.{apart_unless, checked_all, first_overlap}
 use Rattle.ipa_layout.specs.Reason.{fault_of}
-use Rattle.ipa_layout.specs.Layout.{IsPlaced, PlacedData, bytes_of, checked_together, edited_bytes, edited_dtb, edited_item, extents_of, file_bytes, item_at, items_at, laid_out, placed_at, source_of}
+use Rattle.ipa_layout.specs.Layout.{IsPlaced, PlacedData, bytes_of, checked_together, edited_bytes, edited_dtb, edited_item, extents_of, file_bytes, item_at}
+use Rattle.ipa_layout.specs.Layout.{items_at, laid_out, placed_at, source_of}
 use Rattle.ipa_layout.specs.Laws.{HasPage, IsItem, IsSourceOf, page_end, page_total}
 use Rattle.ipa_layout.proofs.FoundInLists.{found-none}
-use Rattle.ipa_layout.proofs.PlacedExtents.{IsSound, item-there, items-length, items-total, no-page-shared, none-there, ok-mapped, pages-low, rows-at, rows-length, rows-total, two-apart}
+use Rattle.ipa_layout.proofs.PlacedExtents.{IsSound, item-there, items-length, items-total, no-page-shared, none-there, ok-mapped, pages-low, rows-at}
+use Rattle.ipa_layout.proofs.PlacedExtents.{rows-length, rows-total, two-apart}
 
 -- the extents of a placed launch's items
 record Parts (l : LaunchData) (files : List (List ℕ)) (p : PlacedData) : Type 0 where
@@ -67,7 +70,12 @@ module _ (l : LaunchData) (files : List (List ℕ)) (p : PlacedData) (h : IsPlac
   few-pages =
       let r = parts l files p h in
       let rows = rows-length l.ram (edited_dtb l files) files 0 0 l.items r.extents r.stood in
-      omega (arith, ap page_total r.is, items-total l.number l.items r.extents rows, rows-total l.ram (edited_dtb l files) files 0 0 l.items r.extents (omega arith) r.stood)
+      omega (
+        arith,
+        ap page_total r.is,
+        items-total l.number l.items r.extents rows,
+        rows-total l.ram (edited_dtb l files) files 0 0 l.items r.extents (omega arith) r.stood,
+      )
 
   -- the extent of an item of the launch, and its bytes
   record Own (k : ℕ) (item : Item) (i : PlacedItem) : Type 0 where
@@ -98,7 +106,8 @@ module _ (l : LaunchData) (files : List (List ℕ)) (p : PlacedData) (h : IsPlac
   unfolding item_at
   end-is k item i it = let o = own k item i it in rw o.is (pages-low o.extent o.sound)
 
-  pub pages-checked_together : (m n : ℕ) (a b : Item) (i j : PlacedItem) → m < n → IsItem l p m a i → IsItem l p n b j → (page : ℕ) → HasPage i page → HasPage j page → ⊥
+  pub pages-checked_together : (m n : ℕ) (a b : Item) (i j : PlacedItem) → m < n → IsItem l p m a i → IsItem l p n b j → (page : ℕ) → HasPage i page
+      → HasPage j page → ⊥
   unfolding item_at
   pages-checked_together m n a b i j lt of-a of-b page in-a in-b =
       let o = own m a i of-a in
@@ -110,15 +119,19 @@ module _ (l : LaunchData) (files : List (List ℕ)) (p : PlacedData) (h : IsPlac
       no-page-shared o.extent q.extent o.sound q.sound apart page x.0 x.1 y.0 y.1
 
   -- an item with edits is the devicetree that was edited
-  with_edits-some : (item : Item) (k : ℕ) (bytes : List ℕ) → slice_get l.items k ≡ Some item → has_edits item.kind ≡ true → edited_bytes (edited_dtb l files) ≡ Ok bytes
+  with_edits-some : (item : Item) (k : ℕ) (bytes : List ℕ) → slice_get l.items k ≡ Some item → has_edits item.kind ≡ true
+      → edited_bytes (edited_dtb l files) ≡ Ok bytes
       → IsSome (result_unwrap_or (edited_dtb l files) None)
   with_edits-some item k bytes at edits has = go (find (λ i. has_edits i.kind) l.items) refl has
     where
-      some-of : (o : Option Item) (r : Result (List ℕ) FdtFault) → (let q : Result (Option (List ℕ)) FdtFault = r >>= λ b. Ok (Some b) in edited_bytes q) ≡ Ok bytes → (let q : Result (Option (List ℕ)) FdtFault = r >>= λ b. Ok (Some b) in IsSome (result_unwrap_or q None))
+      some-of : (o : Option Item) (r : Result (List ℕ) FdtFault)
+          → (let q : Result (Option (List ℕ)) FdtFault = r >>= λ b. Ok (Some b) in edited_bytes q) ≡ Ok bytes
+          → (let q : Result (Option (List ℕ)) FdtFault = r >>= λ b. Ok (Some b) in IsSome (result_unwrap_or q None))
       some-of o (Ok b) e = refl
       some-of o (Err f) e = absurd cc
 
-      go : (o : Option Item) → find (λ i. has_edits i.kind) l.items ≡ o → edited_bytes (edited_item l files o) ≡ Ok bytes → IsSome (result_unwrap_or (edited_item l files o) None)
+      go : (o : Option Item) → find (λ i. has_edits i.kind) l.items ≡ o → edited_bytes (edited_item l files o) ≡ Ok bytes
+          → IsSome (result_unwrap_or (edited_item l files o) None)
       go None e q =
           let passed = none-there (λ (i : Item). has_edits i.kind) l.items k item (found-none (λ (i : Item). has_edits i.kind) l.items e) at in
           let z : true ≡ false = sym edits ∙ passed in absurd cc
@@ -130,7 +143,8 @@ module _ (l : LaunchData) (files : List (List ℕ)) (p : PlacedData) (h : IsPlac
       let o = own k item i it in
       rw o.is (go o.bytes (has_edits item.kind) refl o.has)
     where
-      go : (bytes : List ℕ) (b : Bool) → has_edits item.kind ≡ b → (let r : Result (List ℕ) ItemReason = cond b (edited_bytes (edited_dtb l files)) (Ok (file_bytes files item.kind)) in r) ≡ Ok bytes
+      go : (bytes : List ℕ) (b : Bool) → has_edits item.kind ≡ b
+          → (let r : Result (List ℕ) ItemReason = cond b (edited_bytes (edited_dtb l files)) (Ok (file_bytes files item.kind)) in r) ≡ Ok bytes
           → IsSourceOf l p item (cond b (Some (Edited l.number)) (option_map File (file_of item.kind)))
       go bytes true e q = (e, refl, rw (ap (λ (x : PlacedData). x.edited) (parts l files p h).is) (with_edits-some item k bytes it.in_launch e q))
       go bytes false e q = from-file (file_of item.kind) refl

@@ -23,7 +23,9 @@ returns-in-Some-child_index-clause-done t c =
     let split : names_in c.args.names ≡ c.split_names.result.0.now ∷ rest = ap names_in c.in-Some.is ∙ c.split_names.ensures.parts in
     let whole = ap (λ (ns : List (List ℕ)). edited_below ns put (branch s n)) split in
     on_ok c.put_below.result _ _
-    (λ e. edited_found s (λ x. bytes_eq x first) (edited_below rest put) (edited_below rest put (bare first)) n _ c.in-Some-child_index.at c.index_mut.result.now c.put_below.new.node refl refl refl (rw c.deref.ensures.value at c.in-Some-child_index.ensures.exact) c.index_mut.ensures.value e ∙ sym whole)
+    (λ e. edited_found s (λ x. bytes_eq x first) (edited_below rest put)
+    (edited_below rest put (bare first)) n _ c.in-Some-child_index.at c.index_mut.result.now c.put_below.new.node refl refl refl
+    (rw c.deref.ensures.value at c.in-Some-child_index.ensures.exact) c.index_mut.ensures.value e ∙ sym whole)
     c.put_below.ensures.done
 
 pub returns-in-Some-child_index-clause-unchanged :
@@ -31,7 +33,8 @@ pub returns-in-Some-child_index-clause-unchanged :
 returns-in-Some-child_index-clause-unchanged t c =
     let within = rw c.deref.ensures.value at c.in-Some-child_index.ensures.within in
     on_err c.put_below.result _ _
-    (λ e. kept_found c.args.strings.now c.args.node.now _ c.in-Some-child_index.at c.index_mut.result.now c.put_below.new.node refl refl refl within c.index_mut.ensures.value e)
+    (λ e. kept_found c.args.strings.now c.args.node.now _ c.in-Some-child_index.at c.index_mut.result.now c.put_below.new.node refl refl refl within
+    c.index_mut.ensures.value e)
     c.put_below.ensures.unchanged
 
 pub returns-in_ok-push-in-None-clause-done : goal.returns-in_ok-push-in-None-clause-done
@@ -44,4 +47,6 @@ returns-in_ok-push-in-None-clause-done t c =
     let split : names_in c.args.names ≡ c.split_names.result.0.now ∷ rest = ap names_in c.in-Some.is ∙ c.split_names.ensures.parts in
     let whole = ap (λ (ns : List (List ℕ)). edited_below ns put (branch s n)) split in
     let made = c.in_ok-put_below-in-None.ensures.done ∙ ap (λ (b : Branch). edited_below rest put b) (c.in_ok-child-in-None.ensures s) in
-    edited_pushed s (λ x. bytes_eq x first) (edited_below rest put) (edited_below rest put (bare first)) n c.put_below-in-None.new.node _ refl refl c.in_ok-push-in-None.ensures.items (rw c.deref.ensures.value at c.in-None.ensures.exact) made ∙ sym whole
+    edited_pushed s (λ x. bytes_eq x first) (edited_below rest put)
+    (edited_below rest put (bare first)) n c.put_below-in-None.new.node _ refl refl c.in_ok-push-in-None.ensures.items
+    (rw c.deref.ensures.value at c.in-None.ensures.exact) made ∙ sym whole

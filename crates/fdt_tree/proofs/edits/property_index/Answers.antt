@@ -10,5 +10,6 @@ use Rattle.fdt_tree.proofs.edits.property_index.Goals as goal
 pub returns-clause-exact : goal.returns-clause-exact
 returns-clause-exact c =
     let named : Property → Bool = λ p. bytes_eq (name_of c.args.strings.now p.name) c.args.name.now in
-    position_from_yields_List named _ _ c.position.result c.position.ensures.ran (YieldsList-from_slice c.args.properties.now cc) (λ x b q k. search (rules, tests))
+    position_from_yields_List named _ _ c.position.result c.position.ensures.ran (YieldsList-from_slice c.args.properties.now cc)
+    (λ x b q k. search (rules, tests))
     ∙ position_from-zero named c.args.properties.now

@@ -23,4 +23,5 @@ returns-in_ok-child-in-Some t c = λ strings.
     let h = next_name c.args.names.now (branch strings c.args.node.now) c.in-Some.at c.in-Some.ensures.exact in
     let e = c.in_ok-child-in-Some.ensures strings in
     let rest : List ℕ → Option Branch = λ xs. node_below (between_slashes xs) (branch strings c.in_ok-child-in-Some.field-0.now) in
-    c.below.ensures strings ∙ ap rest (take_rest c.args.names.now (c.in-Some.at + 1)) ∙ ap (option_and_then (node_below (between_slashes (drop (c.in-Some.at + 1) c.args.names.now)))) e ∙ sym h
+    c.below.ensures strings ∙ ap rest (take_rest c.args.names.now (c.in-Some.at + 1))
+    ∙ ap (option_and_then (node_below (between_slashes (drop (c.in-Some.at + 1) c.args.names.now)))) e ∙ sym h

@@ -13,14 +13,18 @@ use Rattle.fdt_tree.proofs.lookup.child.Goals as goal
 pub returns-then-eq : goal.returns-then-eq
 returns-then-eq c = λ strings.
     let n = c.child-item.result in
-    let same : bytes_eq (out-Node n).name.items c.args.name.now ≡ true = ap (λ (xs : List ℕ). bytes_eq xs c.args.name.now) (sym c.as_slice.ensures.value) ∙ sym c.eq.ensures ∙ c.if-eq.true in
-    found strings c.args.name.now c.args.node.now n c.deref-child-items.result.now c.loop-child.child-index c.deref-child-items.ensures.value c.loop-child-test.true c.child-item.is same (c.loop-child.invariant strings)
+    let same : bytes_eq (out-Node n).name.items c.args.name.now ≡ true =
+    ap (λ (xs : List ℕ). bytes_eq xs c.args.name.now) (sym c.as_slice.ensures.value) ∙ sym c.eq.ensures ∙ c.if-eq.true in
+    found strings c.args.name.now c.args.node.now n c.deref-child-items.result.now c.loop-child.child-index c.deref-child-items.ensures.value
+    c.loop-child-test.true c.child-item.is same (c.loop-child.invariant strings)
 
 pub loop-child-preserved : goal.loop-child-preserved
 loop-child-preserved c = λ strings.
     let n = c.child-item.result in
-    let other : bytes_eq (out-Node n).name.items c.args.name.now ≡ false = ap (λ (xs : List ℕ). bytes_eq xs c.args.name.now) (sym c.as_slice.ensures.value) ∙ sym c.eq.ensures ∙ c.if-eq.false in
-    passed strings c.args.name.now n c.deref-child-items.result.now c.loop-child.child-index _ c.loop-child-test.true c.child-item.is other (c.loop-child.invariant strings)
+    let other : bytes_eq (out-Node n).name.items c.args.name.now ≡ false =
+    ap (λ (xs : List ℕ). bytes_eq xs c.args.name.now) (sym c.as_slice.ensures.value) ∙ sym c.eq.ensures ∙ c.if-eq.false in
+    passed strings c.args.name.now n c.deref-child-items.result.now c.loop-child.child-index _ c.loop-child-test.true c.child-item.is other
+    (c.loop-child.invariant strings)
 
 pub returns : goal.returns
 returns c = λ strings.

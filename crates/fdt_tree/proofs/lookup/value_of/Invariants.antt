@@ -5,4 +5,5 @@ use Rattle.fdt_tree.proofs.lookup.value_of.Given as goal
 
 abbrev pub invariant-loop-property : goal.invariant-loop-property
 invariant-loop-property l =
-    first_value l.name (map (property_data l.strings) (drop l.property-index l.property-items)) ≡ first_value l.name (map (property_data l.strings) l.property-items)
+    first_value l.name (map (property_data l.strings) (drop l.property-index l.property-items)) ≡ first_value l.name
+    (map (property_data l.strings) l.property-items)

@@ -5,4 +5,12 @@ use Rattle.fdt_tree.proofs.reading.contents_of.Goals as goal
 pub returns-clause-exact : goal.returns-clause-exact
 unfolding parts_at
 returns-clause-exact c =
-    rw (← c.in_ok-header.ensures.exact, ← c.reserve_block.ensures, c.in_ok-reservations.ensures, ← c.strings_block.ensures, ← c.structure_block.ensures, ← c.in_ok-strings.ensures, c.in_ok-root.ensures.exact) refl
+    rw (
+      ← c.in_ok-header.ensures.exact,
+      ← c.reserve_block.ensures,
+      c.in_ok-reservations.ensures,
+      ← c.strings_block.ensures,
+      ← c.structure_block.ensures,
+      ← c.in_ok-strings.ensures,
+      c.in_ok-root.ensures.exact,
+    ) refl

@@ -11,7 +11,9 @@ use Rattle.fdt_tree.proofs.Faults.{more_than}
 use Rattle.fdt_tree.proofs.WrittenFileIsSpelled.{again_if_ok}
 use Rattle.fdt_tree.proofs.writing.written.Goals as goal
 
-whole : (c : goal.After-drop-out-4) → file_text c.args.contents.now.boot_cpu (reservations_text c.deref-2.result.now) c.in_ok-out.out.structure.items c.in_ok-out.out.names.strings.items ≡ written (tree_in c.args.contents.now)
+whole : (c : goal.After-drop-out-4)
+    → file_text c.args.contents.now.boot_cpu (reservations_text c.deref-2.result.now) c.in_ok-out.out.structure.items c.in_ok-out.out.names.strings.items
+    ≡ written (tree_in c.args.contents.now)
 whole c =
     let t = c.args.contents.now in
     let o = c.in_ok-out.out in

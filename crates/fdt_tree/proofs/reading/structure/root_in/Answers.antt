@@ -15,7 +15,8 @@ pub returns-in-Some-clause-unnamed : goal.returns-in-Some-clause-unnamed
 returns-in-Some-clause-unnamed c =
     let fits : IsBytes c.args.block.now = λ i. omega (arith, c.type_inv.block i) in
     let p = c.in_ok-current.field-0 in
-    root_named c.args.strings.now.bytes.items c.args.block.now (out-Node p.current).children.items c.pop.new.self.items c.in-Some.root fits c.in-Some.ensures.items
+    root_named c.args.strings.now.bytes.items c.args.block.now
+    (out-Node p.current).children.items c.pop.new.self.items c.in-Some.root fits c.in-Some.ensures.items
     (at_end c.args.strings.now.bytes.items c.args.block.now p.outer.items p.current fits c.in_ok-current.ensures.outermost c.in_ok-current.ensures.exact)
 
 pub returns-clause-exact : goal.returns-clause-exact

@@ -6,4 +6,7 @@ use Rattle.fdt_tree.specs.inside.OpenNodes.{so_far, place_of}
 use Rattle.fdt_tree.proofs.reading.structure.run.Given as goal
 
 abbrev pub invariant-loop : goal.invariant-loop
-invariant-loop l = with_front (so_far l.strings.bytes.items l.nodes) (scan l.strings.bytes.items (length l.block - l.counter) (place_of l.strings.bytes.items l.nodes) l.rest) ≡ with_front (begin_node [] ∷ []) (scan l.strings.bytes.items (length l.block) start l.block)
+invariant-loop l =
+    with_front (so_far l.strings.bytes.items l.nodes)
+    (scan l.strings.bytes.items (length l.block - l.counter) (place_of l.strings.bytes.items l.nodes) l.rest) ≡ with_front (begin_node [] ∷ [])
+    (scan l.strings.bytes.items (length l.block) start l.block)

@@ -5,7 +5,8 @@ use Rattle.fdt_tree.proofs.reading.structure.take.Goals as goal
 
 pub returns-in_ok-push-in-Begin-clause-tokens : goal.returns-in_ok-push-in-Begin-clause-tokens
 returns-in_ok-push-in-Begin-clause-tokens c = λ strings.
-    rw c.in-Begin.is (begin_step strings c.args.nodes.outer.items c.push.new.self.items c.args.nodes.current c.in_ok-node-in-Begin.node c.in-Begin.name.now c.in_ok-push-in-Begin.ensures.items (c.in_ok-node-in-Begin.ensures strings))
+    rw c.in-Begin.is (begin_step strings c.args.nodes.outer.items c.push.new.self.items c.args.nodes.current c.in_ok-node-in-Begin.node c.in-Begin.name.now
+    c.in_ok-push-in-Begin.ensures.items (c.in_ok-node-in-Begin.ensures strings))
 
 pub returns-in_ok-current-in-Property-clause-tokens :
     goal.returns-in_ok-current-in-Property-clause-tokens
@@ -27,8 +28,10 @@ returns-in-None-clause-place c = λ strings.
 
 pub returns-in_ok-current-in-Some-clause-tokens : goal.returns-in_ok-current-in-Some-clause-tokens
 returns-in_ok-current-in-Some-clause-tokens c = λ strings.
-    rw c.in-EndNode.is (end_step strings c.args.nodes.outer.items c.pop.new.self.items c.in-Some.parent c.args.nodes.current c.in_ok-current-in-Some.current c.in-Some.ensures.items (c.in_ok-current-in-Some.ensures strings))
+    rw c.in-EndNode.is (end_step strings c.args.nodes.outer.items c.pop.new.self.items c.in-Some.parent c.args.nodes.current c.in_ok-current-in-Some.current
+    c.in-Some.ensures.items (c.in_ok-current-in-Some.ensures strings))
 
 pub returns-in_ok-current-in-Some-clause-place : goal.returns-in_ok-current-in-Some-clause-place
 returns-in_ok-current-in-Some-clause-place c = λ strings.
-    rw c.in-EndNode.is (end_place strings c.args.nodes.outer.items c.pop.new.self.items c.in-Some.parent c.args.nodes.current c.in_ok-current-in-Some.current c.in-Some.ensures.items (c.in_ok-current-in-Some.ensures strings))
+    rw c.in-EndNode.is (end_place strings c.args.nodes.outer.items c.pop.new.self.items c.in-Some.parent c.args.nodes.current
+    c.in_ok-current-in-Some.current c.in-Some.ensures.items (c.in_ok-current-in-Some.ensures strings))

@@ -30,7 +30,8 @@ invariant_of-self c =
     let done = rw c.deref-2.ensures.value at c.put_memory.ensures.done in
     let kept = rw c.deref-2.ensures.value at c.put_memory.ensures.unchanged in
     record {
-      whole = either_memory c.put_memory.result c.args.base reg t.strings.items t.reservations.items t.boot_cpu t.root c.put_memory.new.root done kept own.whole;
+      whole =
+          either_memory c.put_memory.result c.args.base reg t.strings.items t.reservations.items t.boot_cpu t.root c.put_memory.new.root done kept own.whole;
       unnamed = either_memory_unnamed c.put_memory.result c.args.base reg t.strings.items t.root c.put_memory.new.root done kept own.unnamed;
     }
 

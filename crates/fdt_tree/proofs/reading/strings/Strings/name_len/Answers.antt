@@ -32,12 +32,22 @@ index-len-requires c = inside c.args.self.now c.args.offset c.if-offset-self.fal
 pub overflow_add-offset : goal.overflow_add-offset
 overflow_add-offset c =
     let s = c.args.self.now in
-    omega (arith, stop_inside s c.args.offset c.index-len.result.now c.if-offset-self.false (run_is s c.args.offset c.index-len.result.now c.if-offset-self.false c.index-len.ensures), s.bytes.ok.0)
+    omega (
+      arith,
+      stop_inside s c.args.offset c.index-len.result.now c.if-offset-self.false
+          (run_is s c.args.offset c.index-len.result.now c.if-offset-self.false c.index-len.ensures),
+      s.bytes.ok.0,
+    )
 
 pub index-requires : goal.index-requires
 index-requires c =
     let s = c.args.self.now in
-    omega (arith, stop_inside s c.args.offset c.index-len.result.now c.if-offset-self.false (run_is s c.args.offset c.index-len.result.now c.if-offset-self.false c.index-len.ensures), s.bytes.ok.0)
+    omega (
+      arith,
+      stop_inside s c.args.offset c.index-len.result.now c.if-offset-self.false
+          (run_is s c.args.offset c.index-len.result.now c.if-offset-self.false c.index-len.ensures),
+      s.bytes.ok.0,
+    )
 
 pub returns-then-len-eq0 : goal.returns-then-len-eq0
 returns-then-len-eq0 c =
@@ -47,7 +57,8 @@ returns-then-len-eq0 c =
     bad_name s.bytes.items c.args.offset c.index-len.result.now (before_end s c.args.offset c.if-offset-self.false) run
     (elim c.then-len-eq0.branch [
       | then-len-eq0-via-then-len-eq0 w ↦ λ long. absurd (omega arith)
-      | then-len-eq0-via-else-len-eq0+then-index-ne0 w ↦ λ long. omega (arith, get_or_read s.bytes.items (c.args.offset + c.index-len.result.now) w.index.result.now stop w.index.ensures 0)
+      | then-len-eq0-via-else-len-eq0+then-index-ne0 w ↦
+          λ long. omega (arith, get_or_read s.bytes.items (c.args.offset + c.index-len.result.now) w.index.result.now stop w.index.ensures 0)
     ])
 
 pub returns : goal.returns

@@ -11,7 +11,11 @@ pub returns-then-saturating_sub-name-clause-refused :
 returns-then-saturating_sub-name-clause-refused c = λ source names h.
     let v = c.args.self.now.strings in
     let e = h.strings in
-    inr (refl, too_long names c.args.name.now c.len-at.result (omega (arith, c.len-at.ensures, v.ok.0, ap length e)) (omega (arith, c.if-saturating_sub-name.true, c.saturating_sub.ensures)))
+    inr (
+      refl,
+      too_long names c.args.name.now c.len-at.result (omega (arith, c.len-at.ensures, v.ok.0, ap length e))
+          (omega (arith, c.if-saturating_sub-name.true, c.saturating_sub.ensures)),
+    )
 
 pub returns-clause-after : goal.returns-clause-after
 returns-clause-after c = λ source names h absent.

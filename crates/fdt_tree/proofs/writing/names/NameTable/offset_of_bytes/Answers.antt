@@ -13,4 +13,5 @@ returns-in-None-clause-offset c = λ source names h.
 
 pub returns-in-None-clause-refused : goal.returns-in-None-clause-refused
 returns-in-None-clause-refused c = λ source names h.
-    subst (λ (ns : List (List ℕ)). IfErr c.add.result (λ e. TooMuch e (length (strings_text ns)))) (sym (noted_new names c.args.name.now (missing c source names h))) (c.add.ensures.refused source names h)
+    subst (λ (ns : List (List ℕ)). IfErr c.add.result (λ e. TooMuch e (length (strings_text ns))))
+    (sym (noted_new names c.args.name.now (missing c source names h))) (c.add.ensures.refused source names h)

@@ -13,7 +13,8 @@ returns-in_err-offset-clause-refused c = λ names h.
 
 pub returns-clause-offset : goal.returns-clause-offset
 returns-clause-offset c = λ names h.
-    subst (λ (name : List ℕ). c.in_ok-offset.offset ≡ offset_in (noted names name) name) c.range_of.ensures (c.in_ok-offset.ensures.offset c.args.source.now names h)
+    subst (λ (name : List ℕ). c.in_ok-offset.offset ≡ offset_in (noted names name) name) c.range_of.ensures
+    (c.in_ok-offset.ensures.offset c.args.source.now names h)
 
 pub returns-clause-after : goal.returns-clause-after
 returns-clause-after c = λ names h.
@@ -21,4 +22,5 @@ returns-clause-after c = λ names h.
     let name : List ℕ = take c.args.len (drop c.args.start source) in
     c.in_ok-keep.ensures source (noted names name)
     (subst (λ (x : List ℕ). HasNames source c.offset_of_bytes.new.self (noted names x)) c.range_of.ensures (c.in_ok-offset.ensures.after source names h))
-    (place_noted names name c.in_ok-offset.offset (subst (λ (x : List ℕ). c.in_ok-offset.offset ≡ offset_in (noted names x) x) c.range_of.ensures (c.in_ok-offset.ensures.offset source names h)))
+    (place_noted names name c.in_ok-offset.offset (subst (λ (x : List ℕ). c.in_ok-offset.offset ≡ offset_in (noted names x) x) c.range_of.ensures
+    (c.in_ok-offset.ensures.offset source names h)))
