@@ -1,6 +1,8 @@
 -- The laws of placed launches: their parts, each item, few pages, and no page of two items.
 use Rattle.std.proofs.Common.{◌≡◌, ℕ, ◌*◌, ◌%◌, ◌^◌, ◌<◌, ◌≤◌, Bool, true, false, cond, List, length, Option, Some, None, Result, Ok, Err, refl, sym, ap, ◌∙◌}
-use Rattle.std.proofs.Common.{arith, subst}
+use Rattle.std.proofs.Common.{arith, get_or, subst, [], ◌∷◌}
+use Rattle.std.proofs.Math.Nat.{mod-lt}
+use Rattle.std.proofs.lemmas.Option.{slice_get-get_or, slice_get_within}
 use Rattle.std.specs.Prelude.{IsSome, option_map}
 use Rattle.std.specs.List.{find, enumerate_from, slice_get}
 use Rattle.std.specs.Result.{result_unwrap_or}
@@ -171,3 +173,20 @@ module _ (l : LaunchData) (files : List (List ℕ)) (p : PlacedData) (h : IsPlac
       of-kind (Raw file) size whole = refl
       of-kind Unknown None whole = absurd (cc)
       of-kind Unknown (Some n) whole = absurd (cc)
+
+-- an item begins within its first page
+pub lead-low : (l : LaunchData) (files : List (List ℕ)) (p : PlacedData) (number : ℕ) (item : PlacedItem) → IsPlaced l files p
+    → slice_get p.items number ≡ Some item → item.lead < 4096
+lead-low l files p number item is_placed at =
+    let inside : number < length p.items = slice_get_within p.items number item at in
+    by_items l.items refl (omega (arith, inside, as-many-items l files p is_placed))
+  where
+    by_items : (items : List Item) → items ≡ l.items → number < length items → item.lead < 4096
+    by_items [] e within = absurd (omega (arith, within))
+    by_items (first ∷ others) e within =
+        let asked : slice_get l.items number ≡ Some (get_or (first ∷ others) number first)
+        = ap (λ xs. slice_get xs number) (sym e) ∙ slice_get-get_or (first ∷ others) number first within in
+        let lead : item.lead ≡ item.address % 4096
+        = lead-is l files p is_placed number (get_or (first ∷ others) number first) item (record { in_launch = asked; placed = at }) in
+        let low : item.address % 4096 < 4096 = mod-lt item.address (omega arith) in
+        omega (arith, lead, low)

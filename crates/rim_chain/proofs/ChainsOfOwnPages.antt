@@ -2,9 +2,8 @@
 use Rattle.std.proofs.Common.{◌≡◌, ℕ, ◌%◌, ◌<◌, ◌∙◌, sym, refl, ap, arith, List, [], ◌∷◌, length, map, get_or}
 use Rattle.std.specs.Prelude.{Some, Ok}
 use Rattle.std.specs.List.{All, slice_get}
-use Rattle.std.proofs.Math.Nat.{mod-lt}
 use Rattle.std.proofs.lemmas.List.Elements.{All-head, All-tail}
-use Rattle.std.proofs.lemmas.Option.{option_and_then_some, same_Some, slice_get-get_or, slice_get_within}
+use Rattle.std.proofs.lemmas.Option.{option_and_then_some, same_Some}
 use Rattle.rim_desc.specs.Measurement.{measurement_of}
 use Rattle.rim_desc.specs.Part.{rim_of}
 use Rattle.rim_desc.specs.declared.measurement.Measurement.{Measurement}
@@ -13,10 +12,9 @@ use Rattle.rmm_model.specs.Run.{run}
 use Rattle.rmm_model.specs.State.{empty_state}
 use Rattle.list_model.specs.Entries.{Entry, commands_of}
 use Rattle.rim_launch.specs.LaunchData.{LaunchData}
-use Rattle.rim_launch.specs.declared.item.Item.{Item}
 use Rattle.ipa_layout.specs.Layout.{IsPlaced, PlacedData, bytes_of_source}
 use Rattle.ipa_layout.specs.declared.placed.PlacedItem.{PlacedItem}
-use Rattle.ipa_layout.proofs.PlacedLaunchLaws.{as-many-items, lead-is}
+use Rattle.ipa_layout.proofs.PlacedLaunchLaws.{lead-low}
 use Rattle.page_jobs.specs.Page.{page_named}
 use Rattle.page_jobs.specs.Table.{IsTable, TableView, digest_at, digest_in, slot_of}
 use Rattle.page_jobs.specs.declared.page.PageKey.{PageKey}
@@ -31,21 +29,6 @@ use Rattle.rim_chain.specs.Reading.{GoByKeys, IsReadOf}
 use Rattle.rim_chain.specs.Rows.{IsRowOf}
 
 -- ---- the contents of a placed launch go by their keys
-
-pub lead-low : (l : LaunchData) (files : List (List ℕ)) (p : PlacedData) (number : ℕ) (item : PlacedItem) → IsPlaced l files p
-    → slice_get p.items number ≡ Some item → item.lead < 4096
-lead-low l files p number item is_placed at =
-    let inside : number < length p.items = slice_get_within p.items number item at in
-    let same : length p.items ≡ length l.items = as-many-items l files p is_placed in
-    by_items l.items refl (omega arith)
-  where
-    by_items : (items : List Item) → items ≡ l.items → number < length items → item.lead < 4096
-    by_items [] e within = absurd (omega arith)
-    by_items (i ∷ others) e within =
-        (let asked : slice_get l.items number ≡ Some (get_or (i ∷ others) number i) = ap (λ xs. slice_get xs number) (sym e) ∙ slice_get-get_or (i ∷ others) number i within in
-        let lead : item.lead ≡ item.address % 4096 = lead-is l files p is_placed number (get_or (i ∷ others) number i) item (record { in_launch = asked; placed = at }) in
-        let low : item.address % 4096 < 4096 = mod-lt item.address (omega arith) in
-        omega arith)
 
 by-keys : (l : LaunchData) (files : List (List ℕ)) (p : PlacedData) → IsPlaced l files p → GoByKeys l p (own_digest files p) (page_contents l files p)
 by-keys l files p is_placed number page item source at from =

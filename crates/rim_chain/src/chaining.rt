@@ -77,7 +77,8 @@ struct Place {
     value: Measurement,
 }
 
-/// The Realm Initial Measurement that a plan and the digests of its pages make. It takes a hash for each part.
+/// The Realm Initial Measurement that a plan and the digests of its pages make. It takes a hash for each part. This is the plain
+/// form of `chain_from`, which programs call.
 pub fn chain(plan: &LaunchPlan, row: &DigestRow) -> Measurement
     requires { IsFilled plan.now row.now.digests }
     ensures { result.bytes ≡ chain_of plan.now row.now.digests }

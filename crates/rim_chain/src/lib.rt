@@ -26,5 +26,6 @@ pub use laws::{
 pub use link::Link;
 pub use plan::LaunchPlan;
 pub use prefix::{Checkpoint, Prefix, SharedPrefix};
+pub use reading::page_key;
 pub use shared_prefixes::SharedPrefixes;
 pub use starting::first_prefixes;

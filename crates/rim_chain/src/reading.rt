@@ -5,6 +5,7 @@ ghost use Rattle.rtt_plan.specs.Places.{IsRegion};
 ghost use Rattle.rtt_plan.specs.Runs.{runs_of};
 ghost use Rattle.rmi_list.specs.Listed.{listed};
 ghost use Rattle.rmi_list.specs.Measured as measured;
+ghost use Rattle.rim_chain.specs.Keys.{key_at};
 ghost use Rattle.rim_chain.specs.Links.{keys_of};
 ghost use Rattle.rim_chain.specs.Reading.{IsReadOf};
 ghost use Rattle.rim_chain.specs.inside.Steps.{IsReadable, item_links, rec_links, run_link, step_links};
@@ -14,7 +15,7 @@ use crate::plan::{LaunchPlan, page_count};
 use crate::rec_content::{HashedRec, rec_content};
 use ipa_layout::{Placed, PlacedItem, PlacedRec};
 use page_jobs::PageKey;
-use rim_desc::{Algo, NoMemory, RecRule, extends};
+use rim_desc::{Algo, NoMemory, RecRule, Source, extends};
 use rim_launch::{Config, Launch, Region, Step, realm_params};
 use rmi_list::Plan;
 use rmm_model::{size_of_level, start_level};
@@ -22,7 +23,8 @@ use rtt_plan::{Run, run_from};
 use std::alloc::Global;
 
 impl LaunchPlan {
-    /// The plan of a launch that has its place and this list of commands. It has no page's digest yet.
+    /// The plan of a launch that has its place and this list of commands. It has no page's digest yet. This is the plain form of
+    /// `of_launch`, which needs no list and which programs call.
     pub fn read(
         alloc: Global,
         algo: Algo,
@@ -183,17 +185,24 @@ fn push_item(links: &mut Vec<Link>, algo: Algo, item: &PlacedItem) -> Result<(),
     let ipa = item.address.saturating_sub(item.lead);
     let count = item.pages;
     links.push(if item.measured {
-        let key = PageKey {
-            algo,
-            source,
-            lead: item.lead,
-            number: 0,
-        };
+        let key = page_key(algo, source, item, 0);
         Link::Pages { ipa, key, count }
     } else {
         Link::Unmeasured { ipa, count }
     })?;
     Ok(())
+}
+
+/// The key of the page of this number of an item that has its bytes from this source.
+pub fn page_key(algo: Algo, source: Source, item: &PlacedItem, number: u64) -> PageKey
+    ensures { result ≡ key_at algo source item.now number }
+{
+    PageKey {
+        algo,
+        source,
+        lead: item.lead,
+        number,
+    }
 }
 
 /// Adds the link of a REC, if it extends the measurement. The REC that was hashed last is kept.
