@@ -42,7 +42,8 @@ impl Model for Core {
 }
 
 impl Core {
-    /// A core of 1 to 64 workers and this many pages, and of launches that need the pages listed. No worker is
+    /// A core of 1 to 64 workers and this many pages, and of launches that need the pages listed: the plain form, for boards that are
+    /// written down page by page. A run makes its core of its plans. No worker is
     /// retired, and each job is free. It takes all memory that its steps need.
     pub fn new(
         alloc: Global,
