@@ -61,7 +61,7 @@ def unlike(folder):
 
 
 def prepare():
-    counter = crates.built("prefixes", "rim_release rim_manifest rim_desc rim_chain", [SMALL], [COUNTED])
+    counter = crates.built("prefixes", "rim_accepted rim_report rim_manifest rim_desc rim_chain", [SMALL], [COUNTED])
     return counter, [measuring(), measuring([NO_PREFIX])]
 
 

@@ -155,9 +155,12 @@ def promises(known):
 
 def headline(known):
     """What the contract of `measure_release` and the law beside it name: the two promises of docs/PROMISES.md that are the headline."""
-    row = re.compile(r"^\| \*\*[^|]*\| ([^|]*) \|", re.M)
-    for cell in row.findall((TOP / "docs/PROMISES.md").read_text()):
-        yield from pointed_at(known, "rim_release", cell)
+    crate = None
+    for line in (TOP / "docs/PROMISES.md").read_text().splitlines():
+        if line.startswith("## "):
+            crate = line[3:].strip()
+        if line.startswith("| **"):
+            yield from pointed_at(known, crate, line.split(" | ")[1])
 
 
 def reading(known):

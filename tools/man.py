@@ -18,7 +18,7 @@ import command_table
 
 TOP = pathlib.Path(__file__).resolve().parent.parent
 CRATES = TOP / "crates"
-FAULTS = ["rim_cli/src/fault.rt", "rim_manifest/src/fault.rt", "rim_release/src/fault.rt", "rim_release/src/audit_fault.rt",
+FAULTS = ["rim_cli/src/fault.rt", "rim_manifest/src/fault.rt", "rim_report/src/fault.rt", "rim_accepted/src/audit_fault.rt",
           "rim_show/src/fault.rt", "rim_replay/src/fault.rt"]
 
 

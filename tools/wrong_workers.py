@@ -103,8 +103,8 @@ BODIES = [
     ),
     (
         "memory is always wanting",
-        "rim_release/src/workers.rt",
-        [("    let launches = release.all_launches();", "    if workers > 0 {\n        return Err(StartFault::NoMemory);\n    }\n    let launches = release.all_launches();")],
+        "rim_report/src/workers.rt",
+        [("    let accepted = accept_all(alloc, release, files)?;", "    if workers > 0 {\n        return Err(StartFault::NoMemory);\n    }\n    let accepted = accept_all(alloc, release, files)?;")],
         "rim_tests::workers",
     ),
     (

@@ -8,8 +8,8 @@ use Rattle.std.proofs.lemmas.List.Folds.{list_any-append}
 use Rattle.std.proofs.lemmas.Option.{slice_get_read}
 use Rattle.rim_launch.specs.LaunchData.{has_files}
 use Rattle.rim_manifest.specs.Launches.{AreNumbered, NamedData, ReleaseData}
-use Rattle.rim_release.specs.Accepted.{accepted_of}
-use Rattle.rim_release.specs.Report.{has_refused}
+use Rattle.rim_accepted.specs.Accepted.{accepted_of}
+use Rattle.rim_accepted.specs.Lines.{has_refused}
 use Rattle.rim_check.specs.Explained.{AreSaidOf, IsSaidOf, ShowsRefusals}
 use Rattle.rim_check.specs.Lines.{Saying}
 use Rattle.rim_check.specs.inside.Refused.{AddsSaid}

@@ -17,8 +17,8 @@ use Rattle.rtt_plan.specs.declared.fault.PlanFault.{PlanFault}
 use Rattle.rtt_plan.specs.declared.fault.PlanFault.TheVariants as plan
 use Rattle.rmi_list.specs.declared.reason.StepReason.{StepReason}
 use Rattle.rmi_list.specs.declared.reason.StepReason.TheVariants as why
-use Rattle.rim_check.specs.declared.reason.LaunchReason.{LaunchReason}
-use Rattle.rim_check.specs.declared.reason.LaunchReason.TheVariants as launch
+use Rattle.rim_accepted.specs.declared.reason.LaunchReason.{LaunchReason}
+use Rattle.rim_accepted.specs.declared.reason.LaunchReason.TheVariants as launch
 use Rattle.rim_desc.specs.declared.page.TheConstants.{PAGE_SIZE}
 use Rattle.rim_desc.specs.declared.rec.TheConstants.{REC_LIMIT}
 use Rattle.rtt_plan.specs.declared.counting.TheConstants.{ENTRY_LIMIT}

@@ -1,24 +1,18 @@
 -- What is said of a manifest's faults and of the launches that are refused. This project's choice.
 use Rattle.std.specs.Prelude.{◌≡◌, ◌⊎◌, ℕ, List, [], ◌∷◌, ◌++◌, map, Some, None, IsOk, Ok, Err, codes}
-use Rattle.ipa_layout.specs.Layout.{PlacedData, laid_out, places}
-use Rattle.ipa_layout.specs.Reason.{fault_of}
-use Rattle.rim_launch.specs.LaunchData.{LaunchData}
 use Rattle.rim_manifest.specs.declared.fault.ManifestFault.{ManifestFault}
 use Rattle.rim_manifest.specs.Faults.{kind_of, lowest}
 use Rattle.rim_manifest.specs.Launches.{NamedData}
 use Rattle.rim_manifest.specs.Manifest.{Answer}
-use Rattle.rim_release.specs.Accepted.{rim_for}
-use Rattle.rim_release.specs.AuditFaults.{audit_kind_of}
-use Rattle.rim_release.specs.declared.audit_fault.AuditFault.{AuditFault}
-use Rattle.rim_release.specs.declared.audit_fault.AuditFault.TheVariants as fault
-use Rattle.rmi_list.specs.Reason.{IsReason, list_fault_of}
+use Rattle.rim_accepted.specs.Accepted.{rim_for}
+use Rattle.rim_accepted.specs.AuditFaults.{audit_kind_of}
+use Rattle.rim_accepted.specs.Reasons.{IsRefusedFor, audit_fault_of}
+use Rattle.rim_accepted.specs.declared.reason.LaunchReason.{LaunchReason}
 use Rattle.rim_check.specs.Details.{reason_detail}
 use Rattle.rim_check.specs.Lines.{Saying, SayInTurn}
 use Rattle.rim_check.specs.Readables.{item_name, item_names_in}
 use Rattle.rim_check.specs.declared.manifest.ManifestCheck.{ManifestCheck}
 use Rattle.rim_check.specs.declared.manifest.ManifestCheck.TheVariants.{Faulty, Readable}
-use Rattle.rim_check.specs.declared.reason.LaunchReason.{LaunchReason}
-use Rattle.rim_check.specs.declared.reason.LaunchReason.TheVariants.{Layout, List as Lists}
 
 -- ---- manifests
 
@@ -48,21 +42,6 @@ HasNames bytes (Readable readable) = readable.names ≡ item_names_in bytes
 -- how the line of a launch begins
 abbrev pub launch_front : List ℕ → List ℕ
 launch_front name = codes "launch \"" ++ (name ++ codes "\": ")
-
--- the fault that a reason is one of
-abbrev pub audit_fault_of : LaunchReason → AuditFault
-audit_fault_of (Layout why) = fault.Layout (fault_of why)
-audit_fault_of (Lists why) = fault.List (list_fault_of why)
-
--- the launch has this reason: it cannot be laid out, or it has its place and no list
-abbrev pub HasReason : LaunchData → List (List ℕ) → LaunchReason → Type 0
-HasReason l files (Layout why) = laid_out l files ≡ Err why
-HasReason l files (Lists why) = (p : PlacedData) × (places l files ≡ Ok p) × IsReason l p why
-
--- the launch is refused for this reason, whose fault is the one that the report has
-pub record IsRefusedFor (l : LaunchData) (files : List (List ℕ)) (why : LaunchReason) : Type 0 where
-  pub refused : rim_for l files ≡ Err (audit_fault_of why)
-  pub reason : HasReason l files why
 
 -- what is said of a launch that is refused for this reason: its name, the word of its refusal, and the reason's detail
 abbrev pub refusal_said : List (List (List ℕ)) → NamedData → LaunchReason → Saying

@@ -6,10 +6,10 @@ ghost use Rattle.rim_check.specs.inside.Names.{names_of};
 ghost use Rattle.ipa_layout.specs.declared.reason.ItemReason.TheVariants as ItemReason;
 
 use crate::names::ItemNames;
-use crate::reason::LaunchReason;
 use arm64_image::ImageFault;
 use fdt_tree::SIZE_LIMIT;
 use ipa_layout::{Extent, IpaRange, ItemExtent, ItemReason, LayoutReason, PAGE_LIMIT};
+use rim_accepted::LaunchReason;
 use rim_desc::{GRANULE_SIZE, REC_LIMIT};
 use rim_launch::{Config, Step};
 use rmi_list::{ListReason, StepReason};

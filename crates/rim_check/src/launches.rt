@@ -2,23 +2,22 @@
 ghost use Rattle.std.specs.Prelude.{◌≡◌, ◌++◌, IfOk, OnOk, Some, codes, is_err, length, true, vec_len};
 ghost use Rattle.rim_launch.specs.LaunchData.{has_files};
 ghost use Rattle.ipa_layout.specs.Files.{bytes_of_files};
-ghost use Rattle.rim_release.specs.Accepted.{accepted_of};
-ghost use Rattle.rim_release.specs.Report.{has_refused};
+ghost use Rattle.rim_accepted.specs.Accepted.{accepted_of};
+ghost use Rattle.rim_accepted.specs.Lines.{has_refused};
 ghost use Rattle.rim_check.specs.Details.{reason_detail};
 ghost use Rattle.rim_check.specs.Explained.{ShowsRefusals, launch_front, refusal_said};
 ghost use Rattle.rim_check.specs.Lines.{AddsLine, IsKnown};
 ghost use Rattle.rim_check.specs.inside.Names.{names_of};
-ghost use Rattle.rim_check.specs.inside.Refused.{AddsSaid};
+ghost use Rattle.rim_check.specs.inside.Refused.{AddsSaid, IsFound};
 
 use crate::detail::reason_detail;
 use crate::line::{Line, push_line};
 use crate::names::ItemNames;
 use crate::readable::Readable;
-use crate::reason::{LaunchReason, find_reason};
 use refusal::NoMemory;
-use rim_launch::Config;
+use rim_accepted::{Files, LaunchReason, Report, accept_with_reason};
+use rim_launch::{Config, Launch};
 use rim_manifest::NamedLaunch;
-use rim_release::{Files, Report};
 use std::alloc::{AllocError, Global};
 
 /// A line for each launch that is refused, in the manifest's order: its name, the word of its refusal as the report has
@@ -72,6 +71,19 @@ fn check_launch(
             Ok(true)
         }
     }
+}
+
+/// Why a launch is refused, if it is.
+fn find_reason(
+    alloc: Global,
+    launch: &Launch,
+    files: &[Vec<u8>],
+) -> Result<Option<LaunchReason>, NoMemory>
+    requires { has_files launch.now (length files.now) ≡ true }
+    ensures { IfOk result (IsFound launch.now (bytes_of_files files.now)) }
+{
+    let found = accept_with_reason(alloc, launch, files)?;
+    Ok(found.err())
 }
 
 /// Adds the line of a launch that is refused.

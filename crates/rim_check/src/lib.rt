@@ -12,7 +12,6 @@ mod names;
 mod nearest;
 mod place;
 mod readable;
-mod reason;
 mod shown;
 mod syntax;
 
@@ -20,4 +19,4 @@ pub use launches::check_launches;
 pub use line::push_file;
 pub use manifest::{ManifestCheck, check_manifest};
 pub use readable::Readable;
-pub use reason::LaunchReason;
+pub use rim_accepted::LaunchReason;

@@ -5,8 +5,8 @@ use Rattle.std.proofs.lemmas.Option.{slice_get_cases}
 use Rattle.rim_manifest.specs.Manifest.{manifest_of, name_in}
 use Rattle.rim_manifest.specs.Launches.{NamedData, ReleaseData}
 use Rattle.rim_manifest.specs.declared.fault.ManifestFault.{ManifestFault}
-use Rattle.rim_release.specs.Listing.{text_or_line}
-use Rattle.rim_release.specs.declared.audit_fault.AuditFault.{AuditFault}
+use Rattle.rim_audit.specs.Listing.{text_or_line}
+use Rattle.rim_accepted.specs.declared.audit_fault.AuditFault.{AuditFault}
 use Rattle.rim_cli.specs.Done.{IsShown, OfLaunch}
 use Rattle.rim_cli.specs.Files.{AreRead, IfFile, Known}
 

@@ -9,7 +9,8 @@ use Rattle.clap.specs.Words.{subcommand_of, takes}
 use Rattle.rim_manifest.specs.Launches.{ReleaseData}
 use Rattle.rim_manifest.specs.Manifest.{manifest_of}
 use Rattle.rim_manifest.specs.declared.fault.ManifestFault.{ManifestFault}
-use Rattle.rim_release.specs.Report.{has_refused, measured_of}
+use Rattle.rim_accepted.specs.Lines.{has_refused}
+use Rattle.rim_report.specs.Report.{measured_of}
 use Rattle.rim_cli.specs.Command.{ReadsRequest, rim}
 use Rattle.rim_cli.specs.Done.{IsAnswer, IsMade, IsReport, path_of}
 use Rattle.rim_cli.specs.Examples.{plain}

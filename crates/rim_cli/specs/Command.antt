@@ -11,7 +11,7 @@ use Rattle.clap.specs.declared.builder.action.ArgAction.TheVariants.{SetTrue}
 use Rattle.clap.specs.declared.builder.value_parser.ValueParser.TheVariants as parser
 use Rattle.clap.specs.declared.error.kind.ErrorKind.{ErrorKind}
 use Rattle.clap.specs.declared.error.kind.ErrorKind.TheVariants as kind
-use Rattle.rim_release.specs.Report.{is_crew}
+use Rattle.rim_report.specs.Report.{is_crew}
 use Rattle.rim_cli.specs.declared.words.CommandFault.{CommandFault}
 use Rattle.rim_cli.specs.declared.words.CommandFault.TheVariants.{Usage, NoMemory}
 use Rattle.rim_cli.specs.declared.words.Format.{Format}

@@ -5,18 +5,20 @@ use Rattle.clap.specs.Words.{Text, subcommand_of}
 use Rattle.rim_manifest.specs.Manifest.{Answer, manifest_of, name_in}
 use Rattle.rim_manifest.specs.Launches.{NamedData, ReleaseData}
 use Rattle.rim_manifest.specs.declared.fault.ManifestFault.TheVariants as manifest
-use Rattle.rim_release.specs.Devicetree.{devicetree_of}
-use Rattle.rim_release.specs.Listing.{listing_of, text_or_line}
-use Rattle.rim_release.specs.Trace.{trace_of}
+use Rattle.rim_accepted.specs.Devicetree.{devicetree_of}
+use Rattle.rim_audit.specs.Listing.{listing_of, text_or_line}
+use Rattle.rim_audit.specs.Trace.{trace_of}
 use Rattle.rim_show.specs.ShownDevicetree.{IsDevicetreeFault, ShowsDevicetree}
-use Rattle.rim_release.specs.Json.{json_of}
-use Rattle.rim_release.specs.Report.{audit_text_of, has_refused, measured_of, report_of, unless_too_many}
+use Rattle.rim_report.specs.Json.{json_of}
+use Rattle.rim_accepted.specs.Lines.{has_refused}
+use Rattle.rim_audit.specs.Audit.{audit_text_of}
+use Rattle.rim_report.specs.Report.{measured_of, report_of, unless_too_many}
 use Rattle.rim_show.specs.ShownImage.{image_answer_of}
-use Rattle.rim_release.specs.declared.audit_fault.AuditFault.{AuditFault}
-use Rattle.rim_release.specs.declared.audit_fault.AuditFault.TheVariants as audit
+use Rattle.rim_accepted.specs.declared.audit_fault.AuditFault.{AuditFault}
+use Rattle.rim_accepted.specs.declared.audit_fault.AuditFault.TheVariants as audit
 use Rattle.rim_show.specs.declared.fault.ShowFault.TheVariants as show
-use Rattle.rim_release.specs.declared.fault.StartFault.{StartFault}
-use Rattle.rim_release.specs.declared.fault.StartFault.TheVariants as start
+use Rattle.rim_report.specs.declared.fault.StartFault.{StartFault}
+use Rattle.rim_report.specs.declared.fault.StartFault.TheVariants as start
 use Rattle.rim_check.specs.Explained.{Explains, ShowsRefusals}
 use Rattle.rim_check.specs.Lines.{Saying, SayInTurn}
 use Rattle.rim_check.specs.Readables.{ReadableData, item_names_in}
@@ -93,7 +95,7 @@ abbrev pub IsCheck : (List ℕ → Known) → List (List (List ℕ)) → Answer 
 IsCheck held names (Err fault) text status = Explains fault text × (status ≡ 3)
 IsCheck held names (Ok r) text status = IsReleaseCheck held (record { names = names; release = r }) text status
 
--- what is shown of a launch of which this came, and its status
+-- what is shown of a launch with what came of it, and its status
 abbrev pub IsShown : NamedData → Result (List ℕ) AuditFault → List ℕ → ℕ → Type 0
 IsShown l outcome text status = (text ≡ text_or_line l outcome) × (status ≡ (if is_err outcome then 1 else 0))
 

@@ -1,6 +1,7 @@
 //! The answer to a request, made whole.
 ghost use Rattle.std.specs.Prelude.{◌≡◌, ◌⊎◌, ◌<◌, ◌≤◌, Err, IfErr, IfOk, IsOkAnd, Ok, Some, if◌then◌else◌, length, map, position, true, vec_len};
-ghost use Rattle.rim_release.specs.Report.{has_refused, is_crew, measured_of};
+ghost use Rattle.rim_accepted.specs.Lines.{has_refused};
+ghost use Rattle.rim_report.specs.Report.{is_crew, measured_of};
 ghost use Rattle.rim_cli.specs.Command.{HasCrew};
 ghost use Rattle.rim_manifest.specs.Manifest.{manifest_of, name_in};
 ghost use Rattle.rim_show.specs.ShownDevicetree.{ShowsDevicetree};

@@ -4,7 +4,8 @@ ghost use Rattle.std.specs.Str.{bytes_eq};
 ghost use Rattle.rim_manifest.specs.Launches.{ReleaseData};
 ghost use Rattle.rim_manifest.specs.Manifest.{manifest_of};
 ghost use Rattle.rim_manifest.specs.declared.fault.ManifestFault.{ManifestFault};
-ghost use Rattle.rim_release.specs.Report.{has_refused, measured_of};
+ghost use Rattle.rim_accepted.specs.Lines.{has_refused};
+ghost use Rattle.rim_report.specs.Report.{measured_of};
 
 use crate::file::Opener;
 use crate::program::run;

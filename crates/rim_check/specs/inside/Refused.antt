@@ -2,10 +2,11 @@
 use Rattle.std.specs.Prelude.{List, ◌++◌, Option, Some, None, IsOk, ℕ}
 use Rattle.rim_launch.specs.LaunchData.{LaunchData}
 use Rattle.rim_manifest.specs.Launches.{NamedData}
-use Rattle.rim_release.specs.Accepted.{rim_for}
-use Rattle.rim_check.specs.Explained.{IsRefusedFor, IsSaidOf}
+use Rattle.rim_accepted.specs.Accepted.{rim_for}
+use Rattle.rim_check.specs.Explained.{IsSaidOf}
+use Rattle.rim_accepted.specs.Reasons.{IsRefusedFor}
+use Rattle.rim_accepted.specs.declared.reason.LaunchReason.{LaunchReason}
 use Rattle.rim_check.specs.Lines.{Saying, SayInTurn}
-use Rattle.rim_check.specs.declared.reason.LaunchReason.{LaunchReason}
 
 -- the reason for which a launch is refused, or none where it is accepted
 abbrev pub IsFound : LaunchData → List (List ℕ) → Option LaunchReason → Type 0

@@ -1,8 +1,8 @@
 use Rattle.std.proofs.Common.{◌≡◌, ℕ, Global, List, Option, Some, None, Vec, inl, inr, map, option_map, refl, subst}
 use Rattle.std.specs.List.{slice_get}
 use Rattle.std.specs.Prelude.{IfSome, Ok, Err}
-use Rattle.rim_release.specs.Devicetree.{devicetree_of}
-use Rattle.rim_release.specs.declared.audit_fault.AuditFault.TheVariants as audit
+use Rattle.rim_accepted.specs.Devicetree.{devicetree_of}
+use Rattle.rim_accepted.specs.declared.audit_fault.AuditFault.TheVariants as audit
 use Rattle.rim_cli.specs.Done.{IsDevicetree, RefusesDtb}
 use Rattle.rim_cli.specs.Files.{Known}
 use Rattle.rim_cli.specs.declared.fault.Fault.TheVariants.{NoDevicetree, Refused}

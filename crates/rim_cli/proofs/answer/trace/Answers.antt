@@ -1,6 +1,6 @@
 use Rattle.std.proofs.Common.{ℕ, List, map}
 use Rattle.std.specs.List.{slice_get}
-use Rattle.rim_release.specs.Trace.{trace_of}
+use Rattle.rim_audit.specs.Trace.{trace_of}
 use Rattle.rim_cli.specs.Done.{IsShown, IsTrace}
 use Rattle.rim_cli.specs.Files.{Known}
 use Rattle.rim_cli.proofs.ReleaseOfManifest.{found_launch, of_release, shown}

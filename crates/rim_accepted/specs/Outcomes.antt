@@ -1,0 +1,35 @@
+-- What launches come to, as they are laid out one after another. This project's choice.
+use Rattle.std.specs.Prelude.{◌≡◌, ℕ, List, [], ◌∷◌, length, Result, Ok, Err}
+use Rattle.std.specs.Result.{result_map_both}
+use Rattle.ipa_layout.specs.Files.{bytes_of_files}
+use Rattle.ipa_layout.specs.Layout.{PlacedData}
+use Rattle.rim_manifest.specs.Launches.{AreNumbered, NamedData, ReleaseData}
+use Rattle.rim_accepted.specs.Accepted.{accepted_of}
+use Rattle.rim_accepted.specs.declared.accepted.AcceptedLaunch.{AcceptedLaunch}
+use Rattle.rim_accepted.specs.declared.audit_fault.AuditFault.{AuditFault}
+
+-- what a launch comes to: it is accepted, with these files, or refused so
+abbrev pub IsOutcome : List (List ℕ) → NamedData → Result AcceptedLaunch AuditFault → Type 0
+IsOutcome files l (Ok a) = (a.launch.now ≡ l.launch) × (bytes_of_files a.files.now ≡ files)
+IsOutcome files l (Err fault) = accepted_of l.launch files ≡ Err fault
+
+-- the place of a launch that is accepted
+abbrev pub place_of : Result AcceptedLaunch AuditFault → Result PlacedData AuditFault
+place_of outcome = result_map_both (λ a. a.placed) (λ fault. fault) outcome
+
+-- of each launch
+abbrev pub AreOutcomes : List (List ℕ) → List NamedData → List (Result AcceptedLaunch AuditFault) → Type 0
+AreOutcomes files [] [] = Unit {0}
+AreOutcomes files [] (r ∷ rs) = ⊥
+AreOutcomes files (l ∷ ls) [] = ⊥
+AreOutcomes files (l ∷ ls) (r ∷ rs) = IsOutcome files l r × AreOutcomes files ls rs
+
+-- a release with its files, and what its launches come to
+pub record OutcomesView : Type 0 where
+  pub release : ReleaseData
+  pub files : List (List ℕ)
+  pub launches : List (Result AcceptedLaunch AuditFault)
+
+-- the launches have their numbers, all files are there, and each launch is what it comes to
+abbrev pub IsLaidOut : OutcomesView → Type 0
+IsLaidOut v = AreNumbered v.release × (length v.files ≡ length v.release.paths) × AreOutcomes v.files v.release.launches v.launches

@@ -1,0 +1,32 @@
+-- Why a launch is refused, with what the refusing check looked at. This project's choice.
+use Rattle.std.specs.Prelude.{◌≡◌, ℕ, List, Result, Ok, Err}
+use Rattle.ipa_layout.specs.Layout.{PlacedData, laid_out, places}
+use Rattle.ipa_layout.specs.Reason.{fault_of}
+use Rattle.rim_launch.specs.LaunchData.{LaunchData}
+use Rattle.rmi_list.specs.Reason.{IsReason, list_fault_of}
+use Rattle.rim_accepted.specs.Accepted.{accepted_of, rim_for}
+use Rattle.rim_accepted.specs.declared.accepted.AcceptedLaunch.{AcceptedLaunch}
+use Rattle.rim_accepted.specs.declared.audit_fault.AuditFault.{AuditFault}
+use Rattle.rim_accepted.specs.declared.audit_fault.AuditFault.TheVariants as fault
+use Rattle.rim_accepted.specs.declared.reason.LaunchReason.{LaunchReason}
+use Rattle.rim_accepted.specs.declared.reason.LaunchReason.TheVariants.{Layout, List as Lists}
+
+-- the fault that a reason is one of
+abbrev pub audit_fault_of : LaunchReason → AuditFault
+audit_fault_of (Layout why) = fault.Layout (fault_of why)
+audit_fault_of (Lists why) = fault.List (list_fault_of why)
+
+-- the launch has this reason: it cannot be laid out, or it has its place and no list
+abbrev pub HasReason : LaunchData → List (List ℕ) → LaunchReason → Type 0
+HasReason l files (Layout why) = laid_out l files ≡ Err why
+HasReason l files (Lists why) = (p : PlacedData) × (places l files ≡ Ok p) × IsReason l p why
+
+-- the launch is refused for this reason, whose fault is the one that the report has
+pub record IsRefusedFor (l : LaunchData) (files : List (List ℕ)) (why : LaunchReason) : Type 0 where
+  pub refused : rim_for l files ≡ Err (audit_fault_of why)
+  pub reason : HasReason l files why
+
+-- a launch is accepted, with its place, or refused for this reason
+abbrev pub IsReasoned : LaunchData → List (List ℕ) → Result AcceptedLaunch LaunchReason → Type 0
+IsReasoned l files (Ok a) = accepted_of l files ≡ Ok a.placed
+IsReasoned l files (Err why) = IsRefusedFor l files why

@@ -1,0 +1,80 @@
+//! The devicetree of a launch as it is placed.
+ghost use Rattle.std.specs.Prelude.{◌≡◌, ◌<◌, length, option_map, vec_len, true, IfOk, IfSome};
+ghost use Rattle.std.specs.List.{slice_get};
+ghost use Rattle.refusal.specs.Answer.{Answers};
+ghost use Rattle.rim_launch.specs.Kinds.{has_role};
+ghost use Rattle.rim_launch.specs.LaunchData.{has_files};
+ghost use Rattle.ipa_layout.specs.Files.{bytes_of_files};
+ghost use Rattle.rim_accepted.specs.Devicetree.{devicetree_in, devicetree_number, devicetree_of};
+
+use crate::accepted::{AcceptedLaunch, accept};
+use crate::audit_fault::AuditFault;
+use crate::text::Files;
+use refusal::NoMemory;
+use rim_launch::{Launch, Role};
+use rim_manifest::Release;
+use std::alloc::Global;
+
+/// The devicetree of the launch of this number, as it is placed: the bytes of its file, or the edited ones. `None` where
+/// the launch has no devicetree. A launch that is refused has none to give: its first refusal is the answer.
+pub fn placed_devicetree(
+    alloc: Global,
+    release: &Release,
+    files: &Files,
+    i: usize,
+) -> Result<Option<Vec<u8>>, AuditFault>
+    requires files { vec_len files.now ≡ length release.now.paths }
+    requires launch { i < length release.now.launches }
+    ensures { IfSome (slice_get release.now.launches i) (λ l. Answers AuditFault.NoMemory
+        (option_map (λ bytes. bytes.items)) result
+        (devicetree_of l.launch (bytes_of_files files.now.items))) }
+{
+    devicetree_of(alloc, release.all_launches()[i].launch(), files)
+}
+
+/// The devicetree of a launch, or why the launch is refused.
+#[tactic(auto, unfolding(crate::specs::Devicetree::devicetree_of))]
+fn devicetree_of(
+    alloc: Global,
+    launch: &Launch,
+    files: &[Vec<u8>],
+) -> Result<Option<Vec<u8>>, AuditFault>
+    requires { has_files launch.now (length files.now) ≡ true }
+    ensures { Answers AuditFault.NoMemory (option_map (λ bytes. bytes.items)) result
+        (devicetree_of launch.now (bytes_of_files files.now)) }
+{
+    let accepted = accept(alloc, launch, files)?;
+    match devicetree_bytes(&accepted) {
+        Some(bytes) => Ok(Some(copied(alloc, bytes)?)),
+        None => Ok(None),
+    }
+}
+
+/// The bytes of the devicetree of a launch that is accepted, if it has one.
+fn devicetree_bytes<'a>(accepted: &'a AcceptedLaunch<'_>) -> Option<&'a [u8]>
+    ensures { option_map (λ bytes. bytes.now) result ≡ devicetree_in accepted.entry.now.launch.now
+        (bytes_of_files accepted.entry.now.files.now) accepted.entry.now.placed }
+{
+    let number = number_of(accepted.launch)?;
+    let source = accepted.placed.items().get(number)?.source?;
+    Some(accepted.placed.bytes(accepted.files, source))
+}
+
+/// Which item of a launch is its devicetree, if it has one.
+fn number_of(launch: &Launch) -> Option<usize>
+    ensures { result ≡ devicetree_number launch.now }
+{
+    launch
+        .items()
+        .iter()
+        .position(|item| item.has_role(Role::Dtb))
+}
+
+/// A copy of some bytes.
+fn copied(alloc: Global, bytes: &[u8]) -> Result<Vec<u8>, NoMemory>
+    ensures { IfOk result (λ copy. copy.items ≡ bytes.now) }
+{
+    let mut copy = Vec::with_capacity(alloc, bytes.len())?;
+    copy.extend_from_slice(bytes)?;
+    Ok(copy)
+}

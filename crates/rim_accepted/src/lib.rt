@@ -1,0 +1,20 @@
+//! The launches of a release that are accepted: each is laid out once, and all that is said of it is said of that.
+#![tactic(auto)]
+
+mod accepted;
+mod audit_fault;
+mod devicetree;
+mod laws;
+mod lines;
+mod reason;
+mod release;
+mod text;
+
+pub use accepted::{AcceptedLaunch, accept, item_at};
+pub use audit_fault::AuditFault;
+pub use devicetree::placed_devicetree;
+pub use laws::{a_line_says_what_a_monitor_holds, devicetrees_are_measured};
+pub use lines::{push_digest, push_line, push_lines, push_rim};
+pub use reason::{LaunchReason, accept_with_reason};
+pub use release::{AcceptedRelease, accept_all};
+pub use text::{Files, Report, has_refused, refused_report};

@@ -1,0 +1,4 @@
+pub mod Audit
+pub mod Listing
+pub mod Trace
+pub mod inside

@@ -1,0 +1,192 @@
+//! The audit of a release: a monitor is given the commands of each launch.
+ghost use Rattle.std.specs.Prelude.{◌≡◌, ◌<◌, length, map, vec_len, true, IfOk, IfSome};
+ghost use Rattle.std.specs.List.{All, slice_get};
+ghost use Rattle.refusal.specs.Answer.{Answers};
+ghost use Rattle.rim_launch.specs.LaunchData.{has_files};
+ghost use Rattle.ipa_layout.specs.Files.{bytes_of_files};
+ghost use Rattle.rim_accepted.specs.Accepted.{rim_after, rim_for};
+ghost use Rattle.rim_accepted.specs.Lines.{has_refused, seen};
+ghost use Rattle.rim_audit.specs.Audit.{audit_text_of};
+ghost use Rattle.rim_audit.specs.inside.Commands.{commands_in};
+ghost use Rattle.rim_audit.specs.inside.Copies.{AreKept, IsCopyIn};
+
+use crate::commands::LaunchCommands;
+use crate::copies::{MonitorCopy, begin};
+use crate::kept::Kept;
+use crate::laying_out::lay_out;
+use refusal::NoMemory;
+use rim_accepted::{AuditFault, Files, Report, has_refused, push_lines};
+use rim_desc::Measurement;
+use rim_launch::Launch;
+use rim_manifest::Release;
+use std::alloc::Global;
+
+/// The Realm Initial Measurement that a monitor holds after the commands of the launch of this number, or why the launch
+/// is refused. Each page is hashed as its command is given, and nothing is kept of it: this is the plain form, with which the audit
+/// of a release is compared.
+pub fn audit(
+    alloc: Global,
+    release: &Release,
+    files: &Files,
+    i: usize,
+) -> Result<Measurement, AuditFault>
+    requires files { vec_len files.now ≡ length release.now.paths }
+    requires launch { i < length release.now.launches }
+    ensures { IfSome (slice_get release.now.launches i) (λ l. Answers AuditFault.NoMemory
+        (λ m. m.bytes) result (rim_for l.launch (bytes_of_files files.now.items))) }
+{
+    let mut kept = Kept::nothing(alloc, files);
+    audit_launch(alloc, release.all_launches()[i].launch(), files, &mut kept)
+}
+
+/// The audit of all launches: a line `rim-audit 1`; and a line `NAME ALGO HEX` for each launch in the manifest's order, or
+/// `NAME refused KIND`. Programs call `audit_launches`, which says too whether one is refused.
+pub fn audit_report(alloc: Global, release: &Release, files: &Files) -> Result<Vec<u8>, NoMemory>
+    requires { vec_len files.now ≡ length release.now.paths }
+    ensures { IfOk result
+        (λ text. text.items ≡ audit_text_of (bytes_of_files files.now.items) release.now.launches) }
+{
+    let report = audit_launches(alloc, release, files)?;
+    Ok(report.text)
+}
+
+/// The same audit, and whether some launch in it is refused.
+pub fn audit_launches(alloc: Global, release: &Release, files: &Files) -> Result<Report, NoMemory>
+    requires { vec_len files.now ≡ length release.now.paths }
+    ensures text { IfOk result
+        (λ r. r.text.items ≡ audit_text_of (bytes_of_files files.now.items) release.now.launches) }
+    ensures refused { IfOk result
+        (λ r. r.has_refused ≡ has_refused (bytes_of_files files.now.items) release.now.launches) }
+{
+    let outcomes = outcomes(alloc, release, files)?;
+    let mut text = Vec::new(alloc);
+    text.extend_from_slice(b"rim-audit 1\n")?;
+    push_lines(&mut text, release.all_launches(), &outcomes)?;
+    Ok(Report {
+        text,
+        has_refused: has_refused(&outcomes),
+    })
+}
+
+/// What came of each launch. What launches share is done once where there is room and memory for it: pages of files are hashed, and
+/// first commands are given to a monitor.
+fn outcomes(
+    alloc: Global,
+    release: &Release,
+    files: &[Vec<u8>],
+) -> Result<Vec<Result<Measurement, AuditFault>>, NoMemory>
+    requires { length files.now ≡ length release.now.paths }
+    ensures { IfOk result (λ found. map seen found.items
+        ≡ map (λ l. rim_for l.launch (bytes_of_files files.now)) release.now.launches) }
+{
+    let mut kept = Kept::new(alloc, files);
+    let mut found = Vec::with_capacity(alloc, release.launches())?;
+    for (number, launch) in release.all_launches().iter().enumerate() {
+        kept.close_at_last(number.saturating_add(1) >= release.launches());
+        found.push(outcome(alloc, launch.launch(), files, &mut kept)?)?;
+    }
+    Ok(found)
+}
+
+/// What came of a launch: its measurement, or its own refusal. Where memory is refused, what is kept of other launches is freed,
+/// and this launch alone is audited again.
+fn outcome<'a>(
+    alloc: Global,
+    launch: &'a Launch,
+    files: &'a [Vec<u8>],
+    kept: &mut Kept<'a>,
+) -> Result<Result<Measurement, AuditFault>, NoMemory>
+    requires there { has_files launch.now (length files.now) ≡ true }
+    requires kept { AreKept (bytes_of_files files.now) kept.old }
+    ensures outcome { IfOk result
+        (λ outcome. seen outcome ≡ rim_for launch.now (bytes_of_files files.now)) }
+    ensures kept { AreKept (bytes_of_files files.now) kept.new }
+{
+    match audit_launch(alloc, launch, files, kept) {
+        Ok(rim) => Ok(Ok(rim)),
+        Err(AuditFault::NoMemory) => {
+            kept.free(files);
+            outcome_again(alloc, launch, files, kept)
+        }
+        Err(fault) => Ok(Err(fault)),
+    }
+}
+
+/// The same, where nothing is kept that could be freed.
+fn outcome_again<'a>(
+    alloc: Global,
+    launch: &'a Launch,
+    files: &'a [Vec<u8>],
+    kept: &mut Kept<'a>,
+) -> Result<Result<Measurement, AuditFault>, NoMemory>
+    requires there { has_files launch.now (length files.now) ≡ true }
+    requires kept { AreKept (bytes_of_files files.now) kept.old }
+    ensures outcome { IfOk result
+        (λ outcome. seen outcome ≡ rim_for launch.now (bytes_of_files files.now)) }
+    ensures kept { AreKept (bytes_of_files files.now) kept.new }
+{
+    match audit_launch(alloc, launch, files, kept) {
+        Ok(rim) => Ok(Ok(rim)),
+        Err(fault) => Ok(Err(fault.own_fault()?)),
+    }
+}
+
+/// The measurement that a monitor holds after the commands of a launch, or why the launch is refused. Its edited devicetree is
+/// made here and dropped.
+#[tactic(auto, unfolding(rim_accepted::specs::Accepted::rim_for))]
+fn audit_launch<'a>(
+    alloc: Global,
+    launch: &'a Launch,
+    files: &'a [Vec<u8>],
+    kept: &mut Kept<'a>,
+) -> Result<Measurement, AuditFault>
+    requires there { has_files launch.now (length files.now) ≡ true }
+    requires kept { AreKept (bytes_of_files files.now) kept.old }
+    ensures rim { Answers AuditFault.NoMemory (λ m. m.bytes) result
+        (rim_for launch.now (bytes_of_files files.now)) }
+    ensures kept { AreKept (bytes_of_files files.now) kept.new }
+{
+    let commands = lay_out(alloc, launch, files)?;
+    let (rim, copies) = followed(alloc, &commands, kept)?;
+    kept.keep(commands, copies);
+    Ok(rim)
+}
+
+/// The measurement that a monitor holds after the commands of a launch, and copies of the monitor for later launches. It goes on
+/// from a copy that is kept, where one serves.
+fn followed(
+    alloc: Global,
+    commands: &LaunchCommands,
+    kept: &mut Kept,
+) -> Result<(Measurement, Vec<MonitorCopy>), NoMemory>
+    requires { AreKept (bytes_of_files commands.now.accepted.files.now) kept.old }
+    ensures rim { IfOk result (λ found. found.0.bytes
+        ≡ rim_after commands.now.accepted.launch.now (commands_in commands.now)) }
+    ensures copies { IfOk result (λ found. All (IsCopyIn commands.now) found.1.items) }
+    ensures kept { AreKept (bytes_of_files commands.now.accepted.files.now) kept.new }
+{
+    let (mut monitor, first) = begin(alloc, commands, &kept.launches);
+    kept.beside.begin_launch();
+    let mut copies = Vec::new(alloc);
+    let mut last = first;
+    for index in first..commands.len() {
+        if is_worth_a_copy(commands, index, last) {
+            kept.push_copy(&mut copies, commands, index, &monitor);
+            last = index;
+        }
+        commands.give(&mut monitor, &mut kept.beside, index)?;
+    }
+    Ok((commands.rim(&monitor), copies))
+}
+
+/// Whether a copy is made before a command, where the last one was made, or the launch begun, before the command `last`: where an
+/// item begins, and as many commands were given since then as before. So a launch's copies were given less than twice its commands.
+fn is_worth_a_copy(commands: &LaunchCommands, index: usize, last: usize) -> bool
+    requires { index < length (commands_in commands.now) }
+{
+    let given = index.saturating_sub(last);
+    given >= LEAST_COPIED && given >= last && commands.begins_item(index)
+}
+
+/// No copy is made after fewer commands than this. This project's choice.
+const LEAST_COPIED: usize = 1_024;

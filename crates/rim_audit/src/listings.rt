@@ -1,0 +1,178 @@
+//! The listing of a launch: the commands that build its realm, as a monitor takes them.
+ghost use Rattle.std.specs.Prelude.{◌≡◌, ◌≢◌, ◌++◌, ◌<◌, length, is_err, vec_len, false, true, Err, Ok, IfOk, IfSome, OnOk};
+ghost use Rattle.std.specs.List.{All, flat_map, slice_get};
+ghost use Rattle.refusal.specs.Answer.{Answers};
+ghost use Rattle.rim_launch.specs.LaunchData.{has_files};
+ghost use Rattle.ipa_layout.specs.Files.{bytes_of_files};
+ghost use Rattle.rim_accepted.specs.Accepted.{rim_after};
+ghost use Rattle.rmi_line.specs.Ends.{command_line, first_line, last_line, with_newline};
+ghost use Rattle.rmi_line.specs.Typed.{Are64Bytes, IsTyped};
+ghost use Rattle.rim_replay.specs.Replay.{ReplayAnswer};
+ghost use Rattle.rim_audit.specs.Listing.{listing_of, listing_with, shown_of};
+ghost use Rattle.rim_accepted.specs.Lines.{line_with};
+ghost use Rattle.rim_audit.specs.inside.Commands.{commands_in};
+
+use crate::beside::Beside;
+use crate::commands::LaunchCommands;
+use crate::known_pages::KnownPages;
+use crate::laying_out::lay_out;
+use itoa::Buffer;
+use refusal::NoMemory;
+use rim_accepted::{AuditFault, Files, Report, push_line, push_rim, refused_report};
+use rim_desc::{Algo, Command, Measurement, RecRule};
+use rim_launch::Launch;
+use rim_manifest::{NamedLaunch, Release};
+use rmi_line::print_line;
+use std::alloc::Global;
+
+/// The listing of the launch of this number, or why the launch is refused: a line `rim-list 1 aux N`, where a REC has N
+/// auxiliary granules, or `rim-list 2 aux N rec RULE` where the launch has a rule for RECs; a line for each command that builds the realm; and a line `rim ALGO HEX` with the Realm Initial
+/// Measurement that a monitor holds then. A monitor is given each command before the command is printed. Its replay says yes.
+pub fn listing(
+    alloc: Global,
+    release: &Release,
+    files: &Files,
+    i: usize,
+) -> Result<Vec<u8>, AuditFault>
+    requires files { vec_len files.now ≡ length release.now.paths }
+    requires launch { i < length release.now.launches }
+    ensures text { IfSome (slice_get release.now.launches i) (λ l. Answers AuditFault.NoMemory
+        (λ text. text.items) result (listing_of l.launch (bytes_of_files files.now.items))) }
+    ensures confirmed { IfOk result (λ text. ReplayAnswer text.items (Ok tt)) }
+{
+    list_launch(alloc, release.all_launches()[i].launch(), files)
+}
+
+/// The listing of the launch of this number; or, where the launch is refused, its line of a report: `NAME refused KIND`.
+pub fn listing_or_refusal(
+    alloc: Global,
+    release: &Release,
+    files: &Files,
+    i: usize,
+) -> Result<Report, NoMemory>
+    requires files { vec_len files.now ≡ length release.now.paths }
+    requires launch { i < length release.now.launches }
+    ensures text { IfSome (slice_get release.now.launches i)
+        (λ l. IfOk result (λ r. r.text.items ≡ shown_of (bytes_of_files files.now.items) l)) }
+    ensures refused { IfSome (slice_get release.now.launches i) (λ l. IfOk result
+        (λ r. r.has_refused ≡ is_err (listing_of l.launch (bytes_of_files files.now.items)))) }
+    ensures confirmed { IfOk result
+        (λ r. r.has_refused ≡ false → ReplayAnswer r.text.items (Ok tt)) }
+{
+    list_or_refuse(alloc, &release.all_launches()[i], files)
+}
+
+/// The listing of a launch, or its line of a report where it is refused.
+fn list_or_refuse(
+    alloc: Global,
+    launch: &NamedLaunch,
+    files: &[Vec<u8>],
+) -> Result<Report, NoMemory>
+    requires { has_files launch.now.launch (length files.now) ≡ true }
+    ensures text { IfOk result
+        (λ r. r.text.items ≡ shown_of (bytes_of_files files.now) launch.now) }
+    ensures refused { IfOk result
+        (λ r. r.has_refused ≡ is_err (listing_of launch.now.launch (bytes_of_files files.now))) }
+    ensures confirmed { IfOk result
+        (λ r. r.has_refused ≡ false → ReplayAnswer r.text.items (Ok tt)) }
+{
+    match list_launch(alloc, launch.launch(), files) {
+        Ok(text) => Ok(Report {
+            text,
+            has_refused: false,
+        }),
+        Err(fault) => refused_report(alloc, launch, fault),
+    }
+}
+
+/// The listing of a launch, or why it is refused.
+#[tactic(auto, unfolding(crate::specs::Listing::listing_of))]
+fn list_launch(alloc: Global, launch: &Launch, files: &[Vec<u8>]) -> Result<Vec<u8>, AuditFault>
+    requires { has_files launch.now (length files.now) ≡ true }
+    ensures text { Answers AuditFault.NoMemory (λ text. text.items) result
+        (listing_of launch.now (bytes_of_files files.now)) }
+    ensures confirmed { IfOk result (λ text. ReplayAnswer text.items (Ok tt)) }
+{
+    let commands = lay_out(alloc, launch, files)?;
+    let text = print(alloc, &commands)?;
+    Ok(text)
+}
+
+/// The lines of a launch that is accepted.
+fn print(alloc: Global, commands: &LaunchCommands) -> Result<Vec<u8>, NoMemory>
+    ensures text { IfOk result (λ text. text.items
+        ≡ listing_with commands.now.accepted.launch.now (commands_in commands.now)) }
+    ensures confirmed { IfOk result (λ text. ReplayAnswer text.items (Ok tt)) }
+{
+    let config = commands.accepted.launch.config();
+    let mut text = Vec::new(alloc);
+    push_first(&mut text, config.num_aux, config.rec_rule)?;
+    let rim = push_commands(alloc, &mut text, commands)?;
+    push_last(&mut text, config.algo, &rim)?;
+    Ok(text)
+}
+
+/// Adds the first line.
+fn push_first(text: &mut Vec<u8>, num_aux: u8, rule: Option<RecRule>) -> Result<(), NoMemory>
+    ensures { OnOk result
+        (text.new.items ≡ text.old.items ++ with_newline (first_line num_aux rule)) }
+{
+    match rule {
+        None => {
+            text.extend_from_slice(b"rim-list 1 aux ")?;
+            text.extend_from_slice(Buffer::new().format(num_aux).as_bytes())?;
+        }
+        Some(rule) => {
+            text.extend_from_slice(b"rim-list 2 aux ")?;
+            text.extend_from_slice(Buffer::new().format(num_aux).as_bytes())?;
+            text.extend_from_slice(b" rec ")?;
+            text.extend_from_slice(rule.word().as_bytes())?;
+        }
+    }
+    text.extend_from_slice(b"\n")?;
+    Ok(())
+}
+
+/// Adds the line of each command, which a monitor takes before. It answers the measurement that the monitor holds then.
+fn push_commands(
+    alloc: Global,
+    text: &mut Vec<u8>,
+    commands: &LaunchCommands,
+) -> Result<Measurement, NoMemory>
+    ensures text { OnOk result
+        (text.new.items ≡ text.old.items ++ flat_map command_line (commands_in commands.now)) }
+    ensures typed { IfOk result (λ m. All IsTyped (commands_in commands.now)) }
+    ensures rim { IfOk result
+        (λ m. m.bytes ≡ rim_after commands.now.accepted.launch.now (commands_in commands.now)) }
+{
+    let mut monitor = commands.monitor(alloc);
+    let mut beside = Beside::new(KnownPages::new(alloc, commands.accepted.files, 0));
+    for index in 0..commands.len() {
+        let command = commands.give(&mut monitor, &mut beside, index)?;
+        push_command(alloc, text, &command)?;
+    }
+    Ok(commands.rim(&monitor))
+}
+
+/// Adds the line of a command.
+fn push_command(alloc: Global, text: &mut Vec<u8>, command: &Command) -> Result<(), NoMemory>
+    ensures text { OnOk result (text.new.items ≡ text.old.items ++ command_line command.now) }
+    ensures typed { OnOk result (IsTyped command.now) }
+{
+    let line = print_line(alloc, command)?;
+    text.extend_from_slice(&line)?;
+    text.extend_from_slice(b"\n")?;
+    Ok(())
+}
+
+/// Adds the last line.
+fn push_last(text: &mut Vec<u8>, algo: Algo, rim: &Measurement) -> Result<(), NoMemory>
+    ensures text { OnOk result (text.new.items
+        ≡ text.old.items ++ with_newline (last_line algo rim.now.bytes)) }
+    ensures bytes { OnOk result (Are64Bytes rim.now.bytes) }
+{
+    text.extend_from_slice(b"rim")?;
+    push_rim(text, algo, rim)?;
+    text.extend_from_slice(b"\n")?;
+    Ok(())
+}

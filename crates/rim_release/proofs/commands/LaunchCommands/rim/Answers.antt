@@ -1,5 +1,0 @@
-use Rattle.rim_release.proofs.MonitorFollows.{has-rim}
-use Rattle.rim_release.proofs.commands.LaunchCommands.rim.Goals as goal
-
-pub unreachable-requires : goal.unreachable-requires
-unreachable-requires c = has-rim c.args.self.now c.args.monitor.now c.rim.result c.requires c.rim.ensures c.in-None.is

@@ -1,6 +1,0 @@
-use Rattle.std.specs.Prelude.{IfSome}
-use Rattle.rim_release.specs.inside.Copies.{Serves}
-use Rattle.rim_release.proofs.copies.longest.Given as goal
-
-abbrev pub invariant-loop-copy : goal.invariant-loop-copy
-invariant-loop-copy l = IfSome l.found (λ copy. Serves l.commands copy.now)

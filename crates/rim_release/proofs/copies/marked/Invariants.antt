@@ -1,5 +1,0 @@
-use Rattle.rim_release.specs.inside.Copies.{AreMarked}
-use Rattle.rim_release.proofs.copies.marked.Given as goal
-
-abbrev pub invariant-loop-number : goal.invariant-loop-number
-invariant-loop-number l = AreMarked l.items l.others l.marks

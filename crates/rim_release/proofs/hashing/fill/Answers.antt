@@ -1,5 +1,0 @@
-use Rattle.rim_release.proofs.FilledSlots.{filled-next}
-use Rattle.rim_release.proofs.hashing.fill.Goals as goal
-
-pub returns-clause-filled : goal.returns-clause-filled
-returns-clause-filled c = filled-next _ _ _ _ _ c.requires.filled c.in-Ok.ensures.ok.0 c.in-Ok.ensures.ok.1

@@ -1,7 +1,0 @@
-use Rattle.std.proofs.Common.{ℕ, List}
-use Rattle.std.specs.List.{All}
-use Rattle.rim_release.specs.inside.Copies.{IsKept}
-use Rattle.rim_release.proofs.kept.drop_first.Given as goal
-
-abbrev pub invariant-loop : goal.invariant-loop
-invariant-loop l = (files : List (List ℕ)) → All (IsKept files) l.fn.launches.items → All (IsKept files) l.launches.items

@@ -1,5 +1,0 @@
-use Rattle.rim_release.proofs.DevicetreeGivenOut.{devicetrees-are-measured}
-use Rattle.rim_release.proofs.laws.devicetrees_are_measured.Goals as goal
-
-pub returns : goal.returns
-returns c = devicetrees-are-measured

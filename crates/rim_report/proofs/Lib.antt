@@ -1,0 +1,15 @@
+-- To prove: the report is the definitions', however workers share the jobs.
+-- Before hashing: each launch that is accepted is read as its plan
+pub mod PlansInTurn
+-- the measured pages of these launches, each once, in the order of their keys: a table has a slot for each
+pub mod DifferentPages
+-- and one thread fills it slot by slot
+pub mod FilledSlots
+-- THE VALUES: with the digests of that table each launch chains to what a monitor holds after its list of commands,
+pub mod ChainsAreRims
+-- and the report as JSON is made launch by launch
+pub mod ReportAsJson
+-- The length of a report does not depend on measurements, so it is known before hashing.
+pub mod LengthOfReport
+-- Laws: any legal list of events that does all jobs gives the lines of the report
+pub mod LinesOfAnyRun

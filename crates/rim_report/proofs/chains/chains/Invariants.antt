@@ -1,0 +1,11 @@
+use Rattle.std.proofs.Common.{◌≡◌, map, take}
+use Rattle.rim_chain.specs.Rows.{value_in}
+use Rattle.rim_chain.specs.SharedPrefixes.{AreShared}
+use Rattle.rim_report.proofs.chains.chains.Given as goal
+
+abbrev pub invariant-loop-number : goal.invariant-loop-number
+invariant-loop-number l = record {
+  room : l.row.room ≡ l.initial.row.room;
+  prefixes : AreShared l.table l.plans l.prefixes;
+  rims : map (λ m. m.bytes) l.rims.items ≡ map (value_in l.table) (take l.number l.plans);
+}

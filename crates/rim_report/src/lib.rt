@@ -1,0 +1,22 @@
+//! The report of a release, made on one thread or by workers.
+#![tactic(auto)]
+
+mod chains;
+mod fault;
+mod hashing;
+mod json;
+mod laws;
+mod one_thread;
+mod outcomes;
+mod pages;
+mod pending_report;
+mod plans;
+mod report;
+mod workers;
+
+pub use fault::StartFault;
+pub use json::json_report;
+pub use laws::{a_value_is_its_launchs_rim, values_make_the_lines};
+pub use one_thread::{measure_alone, report_alone};
+pub use plans::accepted_plans;
+pub use workers::{Outcome, measure_release};

@@ -1,0 +1,51 @@
+//! The report of a release, made on the calling thread.
+ghost use Rattle.std.specs.Prelude.{◌≡◌, IfOk, length, vec_len};
+ghost use Rattle.refusal.specs.Answer.{Answers};
+ghost use Rattle.ipa_layout.specs.Files.{bytes_of_files};
+ghost use Rattle.rim_accepted.specs.Lines.{has_refused};
+ghost use Rattle.rim_report.specs.Report.{measured_of};
+
+use crate::chains::chains;
+use crate::fault::StartFault;
+use crate::hashing::hashed;
+use crate::outcomes::{set_rims, unknown_outcomes};
+use crate::pages::pages;
+use crate::plans::accepted_plans;
+use crate::report::report;
+use rim_accepted::{Files, Report, accept_all, has_refused};
+use rim_manifest::Release;
+use std::alloc::Global;
+
+/// The report of a release, made on the calling thread without waiting: a line `rim-report 1`; a line `NAME ALGO HEX`
+/// for each launch in the manifest's order, or `NAME refused KIND`; and a line `pages N`. This is the plain form of
+/// `measure_release`, whose report is compared with this one.
+pub fn measure_alone(alloc: Global, release: &Release, files: &Files) -> Result<Vec<u8>, StartFault>
+    requires { vec_len files.now ≡ length release.now.paths }
+    ensures { Answers StartFault.NoMemory (λ text. text.items) result
+        (measured_of (bytes_of_files files.now.items) release.now.launches) }
+{
+    let report = report_alone(alloc, release, files)?;
+    Ok(report.text)
+}
+
+/// The same report, and whether some launch in it is refused.
+pub fn report_alone(alloc: Global, release: &Release, files: &Files) -> Result<Report, StartFault>
+    requires { vec_len files.now ≡ length release.now.paths }
+    ensures text { Answers StartFault.NoMemory (λ r. r.text.items) result
+        (measured_of (bytes_of_files files.now.items) release.now.launches) }
+    ensures refused { IfOk result
+        (λ r. r.has_refused ≡ has_refused (bytes_of_files files.now.items) release.now.launches) }
+{
+    let accepted = accept_all(alloc, release, files)?;
+    let plans = accepted_plans(alloc, &accepted)?;
+    let pages = pages(alloc, &accepted)?;
+    let table = hashed(alloc, &pages)?;
+    let rims = chains(alloc, &table, &plans)?;
+    let mut outcomes = unknown_outcomes(alloc, accepted.outcomes())?;
+    set_rims(&mut outcomes, &rims);
+    let text = report(alloc, accepted.launches(), &outcomes, pages.len())?;
+    Ok(Report {
+        text,
+        has_refused: has_refused(accepted.outcomes()),
+    })
+}

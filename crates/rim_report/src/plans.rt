@@ -1,0 +1,34 @@
+//! What is measured of each launch that is accepted.
+ghost use Rattle.std.specs.Prelude.{◌≡◌, IfOk};
+ghost use Rattle.rim_chain.specs.Reading.{IsReadOf};
+ghost use Rattle.rim_report.specs.Plans.{ArePlans};
+
+use refusal::NoMemory;
+use rim_accepted::{AcceptedLaunch, AcceptedRelease};
+use rim_chain::LaunchPlan;
+use std::alloc::Global;
+
+/// The plans of the launches that are accepted, in their order.
+pub fn accepted_plans(
+    alloc: Global,
+    accepted: &AcceptedRelease<'_>,
+) -> Result<Vec<LaunchPlan>, NoMemory>
+    ensures { IfOk result
+        (λ plans. ArePlans accepted.now.files accepted.now.release.launches plans.items) }
+{
+    let mut plans = Vec::new(alloc);
+    for outcome in accepted.outcomes() {
+        if let Ok(accepted) = outcome {
+            plans.push(plan(alloc, accepted)?)?;
+        }
+    }
+    Ok(plans)
+}
+
+/// The plan of a launch.
+fn plan(alloc: Global, accepted: &AcceptedLaunch<'_>) -> Result<LaunchPlan, NoMemory>
+    ensures { IfOk result (IsReadOf accepted.now.launch.now accepted.now.placed) }
+{
+    let AcceptedLaunch { launch, placed, .. } = accepted;
+    LaunchPlan::of_launch(alloc, launch.config().algo, launch, placed)
+}

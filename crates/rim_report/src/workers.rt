@@ -1,0 +1,158 @@
+//! The report of a release, made by workers.
+ghost use Rattle.std.specs.Prelude.{◌≡◌, ◌≤◌, Err, IfOk, OnErr, OnOk, false, length, map, sum, vec_len};
+ghost use Rattle.std.specs.List.{All, Contains};
+ghost use Rattle.refusal.specs.Answer.{Answers};
+ghost use Rattle.ipa_layout.specs.Files.{bytes_of_files};
+ghost use Rattle.job_board.specs.Board.{AreValuesOf};
+ghost use Rattle.page_jobs.specs.Key.{IsRising};
+ghost use Rattle.page_jobs.specs.Page.{page_view};
+ghost use Rattle.page_jobs.specs.Table.{page_keys_of};
+ghost use Rattle.rim_chain.specs.Links.{keys_of};
+ghost use Rattle.rim_report.specs.Pages.{page_keys};
+ghost use Rattle.rim_accepted.specs.Lines.{has_refused, outcomes_for, seen};
+ghost use Rattle.rim_report.specs.Report.{is_crew, started_of};
+ghost use Rattle.job_board.specs.declared.machine.TheConstants.{WORKER_LIMIT};
+
+use crate::fault::StartFault;
+use crate::outcomes::UNKNOWN;
+use crate::pages::pages;
+use crate::pending_report::PendingReport;
+use crate::plans::accepted_plans;
+use job_board::{BoardState, Run, WORKER_LIMIT};
+use job_workers::{Board, Gate, run_workers};
+use page_jobs::{Page, Table};
+use refusal::NoMemory;
+use rim_accepted::{AuditFault, Files, accept_all, has_refused};
+use rim_chain::LaunchPlan;
+use rim_desc::Measurement;
+use rim_manifest::Release;
+use std::alloc::Global;
+use std::marker::Brand;
+use std::sync::Wait;
+use std::sync::ledger::Blank;
+use std::thread::Threads;
+
+/// What a run of workers came to.
+#[derive(Drop)]
+pub struct Outcome {
+    /// The report.
+    pub report: Vec<u8>,
+    /// What came of each launch, in the manifest's order.
+    pub launches: Vec<Result<Measurement, AuditFault>>,
+    /// Whether some launch in it is refused.
+    pub has_refused: bool,
+    /// How many different pages were hashed.
+    pub pages: u64,
+    /// How many of them each worker has put.
+    pub shares: Vec<u64>,
+    /// How many workers were started. The caller is one of them.
+    pub started: usize,
+}
+
+/// What each worker has put, and how many workers were started.
+#[derive(Drop)]
+struct Counted {
+    shares: Vec<u64>,
+    started: usize,
+}
+
+/// The report of a release, made by 1 to 64 workers. It is the one that `measure_alone` makes, in whatever order the
+/// workers come to their jobs. All memory is taken before the first worker is started, and from then on nothing is
+/// refused. Of that the clause `unstarted` says that after a fault the gate is as it was, so it was lent to no run; that
+/// there is no run with another gate is read in the code. A worker that cannot be started is gone without.
+pub fn measure_release<G: Gate + Sync, R: Threads + Wait + Sync>(
+    rt: &R,
+    alloc: Global,
+    gate: &mut G,
+    release: &Release,
+    files: &Files,
+    workers: usize,
+) -> Result<Outcome, StartFault>
+    requires { vec_len files.now ≡ length release.now.paths }
+    ensures report { Answers StartFault.NoMemory (λ o. o.report.items) result
+        (started_of workers (bytes_of_files files.now.items) release.now.launches) }
+    ensures launches { IfOk result (λ o. map seen o.launches.items
+        ≡ outcomes_for (bytes_of_files files.now.items) release.now.launches) }
+    ensures workers { is_crew workers ≡ false → result ≡ Err StartFault.Workers }
+    ensures refused { IfOk result
+        (λ o. o.has_refused ≡ has_refused (bytes_of_files files.now.items) release.now.launches) }
+    ensures pages { IfOk result
+        (λ o. o.pages ≡ length (page_keys (bytes_of_files files.now.items) release.now.launches)) }
+    ensures shares { IfOk result
+        (λ o. (vec_len o.shares ≡ workers) × (sum o.shares.items ≡ o.pages)) }
+    ensures started { IfOk result (λ o. (1 ≤ o.started) × (o.started ≤ workers)) }
+    ensures unstarted { OnErr result (gate.new ≡ gate.old) }
+{
+    if !(1..=WORKER_LIMIT).contains(&workers) {
+        return Err(StartFault::Workers);
+    }
+    let accepted = accept_all(alloc, release, files)?;
+    let plans = accepted_plans(alloc, &accepted)?;
+    let pages = pages(alloc, &accepted)?;
+    let mut rims = vec![in alloc; UNKNOWN; plans.len()]?;
+    let pending_report = PendingReport::new(alloc, &accepted, pages.len())?;
+    let counted = run::<Brand, G, R>(
+        rt,
+        alloc,
+        gate,
+        Blank::new(workers as u64),
+        &pages,
+        &plans,
+        workers,
+        &mut rims,
+    )?;
+    let filled = pending_report.fill(accepted.launches(), &rims, pages.len());
+    Ok(Outcome {
+        report: filled.text,
+        launches: filled.outcomes,
+        has_refused: has_refused(accepted.outcomes()),
+        pages: pages.len() as u64,
+        shares: counted.shares,
+        started: counted.started,
+    })
+}
+
+/// Hashes pages and chains plans by workers. The growths are made before the first worker is started.
+fn run<'a, L: Run + Send + Sync, G: Gate + Sync, R: Threads + Wait + Sync>(
+    rt: &R,
+    alloc: Global,
+    gate: &mut G,
+    blank: Blank,
+    pages: &'a [Page<'a>],
+    plans: &'a [LaunchPlan],
+    workers: usize,
+    rims: &mut Vec<Measurement>,
+) -> Result<Counted, NoMemory>
+    requires name { blank.name ≡ L.name }
+    requires parts { (blank.parts ≡ L.parts) × (blank.parts ≡ workers) }
+    requires workers { (1 ≤ workers) × (workers ≤ WORKER_LIMIT) }
+    requires pages { map page_view pages.now ≡ L.pages }
+    requires plans { plans.now ≡ L.plans }
+    requires rising { IsRising (page_keys_of (map page_view pages.now)) }
+    requires keys { All
+        (λ p. All (Contains (page_keys_of (map page_view pages.now))) (keys_of p.links)) plans.now }
+    requires rims { length rims.old.items ≡ length plans.now }
+    ensures rims { OnOk result (AreValuesOf (map page_view pages.now) plans.now rims.new.items) }
+    ensures shares { IfOk result
+        (λ c. (vec_len c.shares ≡ workers) × (sum c.shares.items ≡ length pages.now)) }
+    ensures started { IfOk result (λ c. (1 ≤ c.started) × (c.started ≤ workers)) }
+    ensures unstarted { OnErr result (gate.new ≡ gate.old) }
+{
+    let mut counts = vec![in alloc; 0; workers]?;
+    let table = Table::reserve(alloc, pages)?;
+    let (state, shares) = BoardState::<L>::new(alloc, blank, workers, table, plans)?;
+    let board = Board::new(state);
+    gate.begin(pages.len(), plans.len());
+    let tally = run_workers(
+        rt,
+        gate,
+        &board,
+        shares,
+        counts.as_mut_slice(),
+        rims.as_mut_slice(),
+    );
+    Ok(Counted {
+        shares: counts,
+        started: tally.started,
+    })
+}
