@@ -5,10 +5,12 @@
     tools/man.py --check   status 1 where something is not named
 
 docs/rim.1 has to name each command and option of the command line, each exit status of `rim --help` and 127, the word of
-each fault and of each refusal, and each key of a manifest that docs/FORMATS.md lists. The table of the shells' completions has
+each fault and of each refusal, and each key of a manifest that docs/FORMATS.md lists. Its SYNOPSIS has a form for each command, with
+its operands in their order and its options, and no form of another command. The table of the shells' completions has
 to have the same commands, their operands, and the same options. What the table says of `rim-manifest` is compared with the
-help texts of that script, and its man page has to name all of it.
+help texts of that script, and its man page has to name all of it; its SYNOPSIS has a form for each command.
 """
+import itertools
 import pathlib
 import re
 import subprocess
@@ -73,13 +75,44 @@ def faults_of_page(name, wanted):
     return [f"docs/{name}: the {kind} `{word}` is not named" for kind, some in wanted.items() for word in some if word not in words]
 
 
+def differences(what, here, there, where="tools/command_table.py"):
+    """A line for each word that only this place or only the program has."""
+    lines = [f"{where}: {what}: `{word}` is missing" for word in sorted(there - here)]
+    return lines + [f"{where}: {what}: the program has no `{word}`" for word in sorted(here - there)]
+
+
+# ---- the SYNOPSIS of a page
+
+
+def forms(name, program):
+    """The words after the program's name in each form of the SYNOPSIS of a man page."""
+    page = (TOP / "docs" / name).read_text().replace("\\-", "-")
+    section = re.search(r"^\.SH SYNOPSIS\n(.*?)^\.SH ", page, re.M | re.S)[1]
+    texts = [re.sub(r"^\.[A-Z]+ |\\f[A-Z]", "", form, flags=re.M) for form in section.split(".br\n")]
+    words = [re.findall(r"[\w-]+", text) for text in texts]
+    return [some[1:] for some in words if some[:1] == [program] and some[1:]]
+
+
+def faults_of_synopsis(name, program, commands):
+    """A line for each command without a form, for each form of another command, and where help or version has none."""
+    some = forms(name, program)
+    lines = differences("SYNOPSIS", {form[0] for form in some if form[0][0].islower()}, set(commands), f"docs/{name}")
+    options_there = {word for form in some for word in form} & {"--help", "--version"}
+    return lines + differences("SYNOPSIS", options_there, {"--help", "--version"}, f"docs/{name}")
+
+
+def faults_of_forms():
+    """A line for each form of docs/rim.1 that has not the operands or the options of its command."""
+    lines, taken, added = [], operands(), options()
+    for command, *words in forms("rim.1", "rim"):
+        if command in taken:
+            given, wanted = list(itertools.takewhile(lambda word: word[0] != "-", words)), [word.upper() for word in taken[command]]
+            lines += differences(f"SYNOPSIS: {command}", {word for word in words if word[0] == "-"}, added.get(command, set()), "docs/rim.1")
+            lines += [f"docs/rim.1: SYNOPSIS: `{command}` has the operands {' '.join(wanted)}"] if given != wanted else []
+    return lines
+
+
 # ---- the table
-
-
-def differences(what, here, there):
-    """A line for each word that only the table or only the program has."""
-    lines = [f"tools/command_table.py: {what}: `{word}` is missing" for word in sorted(there - here)]
-    return lines + [f"tools/command_table.py: {what}: the program has no `{word}`" for word in sorted(here - there)]
 
 
 def names_of(some):
@@ -130,10 +163,12 @@ def named_of_rim_manifest():
 def faults():
     """All that is not named."""
     lines = faults_of_page("rim.1", named()) + faults_of_rim()
+    lines += faults_of_synopsis("rim.1", "rim", operands()) + faults_of_forms()
     if (TOP / "rim-manifest").exists():
         lines += faults_of_rim_manifest()
     if (TOP / "docs/rim-manifest.1").exists():
         lines += faults_of_page("rim-manifest.1", named_of_rim_manifest())
+        lines += faults_of_synopsis("rim-manifest.1", "rim-manifest", named_of_rim_manifest()["command"])
     return lines
 
 
