@@ -1,5 +1,5 @@
 -- The measured pages of a release, each once, are found launch by launch, in the order of their keys.
-use Rattle.std.proofs.Common.{◌≡◌, ℕ, ◌+◌, ◌^◌, ◌<◌, ◌≤◌, ◌⊎◌, inl, inr, ◌∙◌, Bool, true, false, List, [], ◌∷◌, ◌++◌, length, map, get_or, take, zero, suc}
+use Rattle.std.proofs.Common.{◌≡◌, ℕ, ◌+◌, ◌^◌, ◌<◌, ◌≤◌, inl, inr, ◌∙◌, Bool, true, false, List, [], ◌∷◌, ◌++◌, length, map, get_or, take, zero, suc}
 use Rattle.std.proofs.Common.{refl, ap, sym, subst, arith, append_assoc, sum_by}
 use Rattle.std.specs.Prelude.{Option, Some, None, Result, Ok, Err, if◌then◌else◌}
 use Rattle.std.proofs.Common.{nat_lt, length-append, ◌-◌}
@@ -39,7 +39,7 @@ use Rattle.rim_manifest.specs.Launches.{AreNumbered, NamedData, ReleaseData}
 use Rattle.rim_chain.specs.Keys.{item_keys, key_at, measured_keys, source_keys, step_keys}
 use Rattle.rim_accepted.specs.Accepted.{accepted_of}
 use Rattle.rim_report.specs.Pages.{keys_at, launch_keys, page_keys, release_pages}
-use Rattle.rim_report.specs.inside.Ends.{item_ends, outcome_ends, step_ends, source_ends}
+use Rattle.rim_report.specs.inside.Ends.{item_ends, launch_ends, outcome_ends, step_ends, source_ends}
 use Rattle.rim_accepted.specs.declared.audit_fault.AuditFault.{AuditFault}
 
 -- ---- lists
@@ -121,10 +121,20 @@ steps-keys-before l p (s ∷ ss) =
     ∙ ap (λ (ks : List PageKey). ks ++ flat_map keys_before (flat_map (step_ends l p) ss)) (step-keys-before l p s)
     ∙ ap (λ (ks : List PageKey). step_keys l p s ++ ks) (steps-keys-before l p ss)
 
+-- those of a launch
+launch-keys-before : (a : AcceptedLaunch) → flat_map keys_before (launch_ends a) ≡ measured_keys a.launch.now a.placed
+launch-keys-before a = steps-keys-before a.launch.now a.placed a.launch.now.steps
+
+pub added-keys : (a : AcceptedLaunch) (old new : List PageKey) → new ≡ old ++ launch_ends a
+    → flat_map keys_before new ≡ flat_map keys_before old ++ measured_keys a.launch.now a.placed
+added-keys a old new is =
+    ap (flat_map keys_before) is ∙ flat_map-append keys_before old (launch_ends a)
+    ∙ ap (λ (ks : List PageKey). flat_map keys_before old ++ ks) (launch-keys-before a)
+
 outcome-keys-before : (files : List (List ℕ)) (l : NamedData) (r : Result AcceptedLaunch AuditFault) → IsOutcome files l r
     → flat_map keys_before (outcome_ends r) ≡ launch_keys files l
 outcome-keys-before files l (Ok a) is =
-    steps-keys-before a.launch.now a.placed a.launch.now.steps
+    launch-keys-before a
     ∙ ap (λ (x : LaunchData). measured_keys x a.placed) is.0
     ∙ sym (ap (keys_at l.launch) (own-place files l a is))
 outcome-keys-before files l (Err fault) is = sym (ap (keys_at l.launch) is)
@@ -266,35 +276,15 @@ ranges-length (r ∷ ranges) =
     ∙ ap (λ (n : ℕ). r.count + n) (ranges-length ranges)
     ∙ sym (sum_by-cons (λ (x : KeyRange). x.count) r ranges)
 
-pub too-many : (files : List (List ℕ)) (ls : List NamedData) (ranges : List KeyRange) (count : Option ℕ)
-    → flat_map range_keys ranges ≡ page_keys files ls
-    → count ≡ (if nat_lt 1048576 (sum_by (λ r. r.count) ranges) then None else Some (sum_by (λ r. r.count) ranges))
-    → count ≡ None → pages_of files ls ≡ Err TooManyPages
-too-many files ls ranges count same is none = at (nat_lt 1048576 (sum_by (λ r. r.count) ranges)) refl is
-  where
-    size : length (page_keys files ls) ≡ sum_by (λ r. r.count) ranges
-    size = ap length (sym same) ∙ ranges-length ranges
+pub keys-counted : (keys : List PageKey) (ranges : List KeyRange) → flat_map range_keys ranges ≡ keys → length keys ≡ sum_by (λ r. r.count) ranges
+keys-counted keys ranges same = ap length (sym same) ∙ ranges-length ranges
 
-    at : (b : Bool) → nat_lt 1048576 (sum_by (λ r. r.count) ranges) ≡ b → count ≡ (if b then None else Some (sum_by (λ r. r.count) ranges))
-        → pages_of files ls ≡ Err TooManyPages
-    at true over e = ap (λ (n : ℕ). if nat_lt 1048576 n then Err TooManyPages else Ok (release_pages files ls)) size
-        ∙ ap (λ (b : Bool). if b then Err TooManyPages else Ok (release_pages files ls)) over
-    at false over e = absurd (let no_one : None ≡ Some (sum_by (λ r. r.count) ranges) = sym none ∙ e in cc)
-
-pub few-enough : (files : List (List ℕ)) (ls : List NamedData) (ranges : List KeyRange) (count : Option ℕ) (n : ℕ)
-    → flat_map range_keys ranges ≡ page_keys files ls
-    → count ≡ (if nat_lt 1048576 (sum_by (λ r. r.count) ranges) then None else Some (sum_by (λ r. r.count) ranges))
-    → count ≡ Some n → pages_of files ls ≡ Ok (release_pages files ls)
-few-enough files ls ranges count n same is some = at (nat_lt 1048576 (sum_by (λ r. r.count) ranges)) refl is
-  where
-    size : length (page_keys files ls) ≡ sum_by (λ r. r.count) ranges
-    size = ap length (sym same) ∙ ranges-length ranges
-
-    at : (b : Bool) → nat_lt 1048576 (sum_by (λ r. r.count) ranges) ≡ b → count ≡ (if b then None else Some (sum_by (λ r. r.count) ranges))
-        → pages_of files ls ≡ Ok (release_pages files ls)
-    at false over e = ap (λ (n : ℕ). if nat_lt 1048576 n then Err TooManyPages else Ok (release_pages files ls)) size
-        ∙ ap (λ (b : Bool). if b then Err TooManyPages else Ok (release_pages files ls)) over
-    at true over e = absurd (let one : Some n ≡ None = sym some ∙ e in cc)
+pub found-by-count : (files : List (List ℕ)) (ls : List NamedData) (ranges : List KeyRange) (count : ℕ) (over : Bool)
+    → flat_map range_keys ranges ≡ page_keys files ls → count ≡ sum_by (λ r. r.count) ranges → nat_lt 1048576 count ≡ over
+    → pages_of files ls ≡ (if over then Err TooManyPages else Ok (release_pages files ls))
+found-by-count files ls ranges count over same counted is =
+    ap (λ (n : ℕ). if nat_lt 1048576 n then Err TooManyPages else Ok (release_pages files ls)) (keys-counted (page_keys files ls) ranges same ∙ sym counted)
+    ∙ ap (λ (b : Bool). if b then Err TooManyPages else Ok (release_pages files ls)) is
 
 -- a release whose files were all read
 pub files-there : (r : ReleaseData) (files : List (List ℕ)) → AreNumbered r → length files ≡ length r.paths

@@ -1,5 +1,5 @@
 //! The different measured pages of a release.
-ghost use Rattle.std.specs.Prelude.{◌≡◌, ◌++◌, None, Some, IfOk, OnOk, Ok, Err, Result, length, map, nat_lt, option_map, sum_by, if◌then◌else◌};
+ghost use Rattle.std.specs.Prelude.{◌≡◌, ◌++◌, IfOk, OnOk, length, map, option_map};
 ghost use Rattle.std.specs.List.{All, flat_map};
 ghost use Rattle.refusal.specs.Answer.{Answers};
 ghost use Rattle.ipa_layout.specs.Files.{bytes_of_files};
@@ -7,22 +7,19 @@ ghost use Rattle.page_jobs.specs.Page.{page_named, page_view};
 ghost use Rattle.page_jobs.specs.Ranges.{range_keys};
 ghost use Rattle.rim_accepted.specs.Outcomes.{place_of};
 ghost use Rattle.rim_report.specs.Pages.{edited_at, source_bytes};
-ghost use Rattle.rim_report.specs.inside.Ends.{item_ends, launch_ends, outcome_ends, step_ends};
+ghost use Rattle.rim_report.specs.inside.Ends.{outcome_ends};
 ghost use Rattle.rim_report.specs.inside.Sources.{IsUsable, pages_of};
-ghost use Rattle.rim_report.specs.declared.pages.TheConstants.{DISTINCT_LIMIT};
 
 use crate::fault::StartFault;
-use ipa_layout::PlacedItem;
+use crate::measured::{page_count, push_launch};
 use page_jobs::{Blob, KeyRange, Page, PageKey, distinct_ranges};
 use refusal::NoMemory;
-use rim_accepted::{AcceptedLaunch, AcceptedRelease, AuditFault, item_at};
-use rim_chain::page_key;
-use rim_desc::{Algo, Source};
-use rim_launch::Step;
+use rim_accepted::{AcceptedLaunch, AcceptedRelease, AuditFault};
+use rim_desc::Source;
 use std::alloc::{AllocError, Global};
 
 /// The most different measured pages of a release: 1,048,576. This project's choice.
-pub(crate) const DISTINCT_LIMIT: u64 = 1_048_576;
+pub const DISTINCT_LIMIT: u64 = 1_048_576;
 
 /// The different measured pages of the launches that are accepted, in the order of their keys. No byte is copied, and no
 /// page is looked at twice, however many launches measure it.
@@ -36,13 +33,11 @@ pub fn pages<'a>(
     let outcomes = accepted.outcomes();
     let ends = ends(alloc, outcomes)?;
     let ranges = distinct_ranges(alloc, ends)?;
-    match page_count(&ranges) {
-        Some(count) => {
-            let pages = pages_in(alloc, count, &ranges, outcomes, accepted.files())?;
-            Ok(pages)
-        }
-        None => Err(StartFault::TooManyPages),
+    let count = page_count(&ranges);
+    if count > u128::from(DISTINCT_LIMIT) {
+        return Err(StartFault::TooManyPages);
     }
+    Ok(pages_in(alloc, count as usize, &ranges, outcomes, accepted.files())?)
 }
 
 /// The measured items of the launches that are accepted, each by the key after its last page.
@@ -54,75 +49,22 @@ fn ends(
 {
     let mut ends = Vec::new(alloc);
     for outcome in outcomes {
-        push_launch(&mut ends, outcome)?;
+        push_outcome(&mut ends, outcome)?;
     }
     Ok(ends)
 }
 
 /// Adds the measured items of a launch, if it is accepted.
-fn push_launch(
+fn push_outcome(
     ends: &mut Vec<PageKey>,
     outcome: &Result<AcceptedLaunch<'_>, AuditFault>,
 ) -> Result<(), AllocError>
     ensures { OnOk result (ends.new.items ≡ ends.old.items ++ outcome_ends outcome.now) }
 {
     match outcome {
-        Ok(accepted) => push_steps(ends, accepted),
+        Ok(accepted) => push_launch(ends, accepted),
         Err(_) => Ok(()),
     }
-}
-
-fn push_steps(ends: &mut Vec<PageKey>, accepted: &AcceptedLaunch<'_>) -> Result<(), AllocError>
-    ensures { OnOk result (ends.new.items ≡ ends.old.items ++ launch_ends accepted.now) }
-{
-    for step in accepted.launch.steps() {
-        push_step(ends, accepted, *step)?;
-    }
-    Ok(())
-}
-
-/// Adds the item of a step, where the step has one that is measured.
-fn push_step(
-    ends: &mut Vec<PageKey>,
-    accepted: &AcceptedLaunch<'_>,
-    step: Step,
-) -> Result<(), AllocError>
-    ensures { OnOk result (ends.new.items
-        ≡ ends.old.items ++ step_ends accepted.now.launch.now accepted.now.placed step) }
-{
-    let Step::Item(number) = step else {
-        return Ok(());
-    };
-    match item_at(accepted.placed.items(), number) {
-        Some(item) => push_item(ends, accepted.launch.config().algo, &item),
-        None => Ok(()),
-    }
-}
-
-/// Adds the key after the last page of an item, if it is measured.
-fn push_item(ends: &mut Vec<PageKey>, algo: Algo, item: &PlacedItem) -> Result<(), AllocError>
-    ensures { OnOk result (ends.new.items ≡ ends.old.items ++ item_ends algo (Some item.now)) }
-{
-    match item.source {
-        Some(source) if item.measured => ends.push(page_key(algo, source, item, item.pages))?,
-        _ => {}
-    }
-    Ok(())
-}
-
-/// How many pages some ranges have, unless these are too many.
-fn page_count(ranges: &[KeyRange]) -> Option<usize>
-    ensures { let count = sum_by (λ r. r.count) ranges.now in
-        result ≡ (if nat_lt DISTINCT_LIMIT count then None else Some count) }
-{
-    let mut count = 0;
-    for range in ranges {
-        if DISTINCT_LIMIT - count < range.count {
-            return None;
-        }
-        count += range.count;
-    }
-    Some(count as usize)
 }
 
 /// The pages of some ranges, this many in all.
