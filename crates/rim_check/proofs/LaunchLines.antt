@@ -1,8 +1,11 @@
 -- The launches of a release, checked one after another.
-use Rattle.std.proofs.Common.{◌≡◌, ◌∙◌, ◌+◌, ◌<◌, ◌≤◌, ◌||◌, ℕ, Bool, true, false, List, [], ◌∷◌, ◌++◌, ap, append_assoc, arith, get_or, length, refl, subst, suc, sym, take}
-use Rattle.std.specs.Prelude.{is_err}
-use Rattle.std.specs.List.{slice_get}
+use Rattle.std.proofs.Common.{◌≡◌, Some, ◌∙◌, ◌+◌, ◌<◌, ◌≤◌, ◌||◌, ℕ, Bool, true, false, List, [], ◌∷◌, ◌++◌, ap, append_assoc, arith, get_or, length, refl}
+use Rattle.std.proofs.Common.{subst, suc, sym, take}
+use Rattle.std.specs.Prelude.{Result, Ok, Err, IfOk, is_err}
+use Rattle.refusal.specs.declared.memory.NoMemory.{NoMemory}
+use Rattle.std.specs.List.{flat_map, slice_get}
 use Rattle.std.proofs.Math.Seq.{take-suc}
+use Rattle.std.proofs.lemmas.Grind.{flat_map-append}
 use Rattle.std.proofs.lemmas.List.{append-nil, take_all}
 use Rattle.std.proofs.lemmas.List.Folds.{list_any-append}
 use Rattle.std.proofs.lemmas.Option.{slice_get_read}
@@ -10,64 +13,81 @@ use Rattle.rim_launch.specs.LaunchData.{has_files}
 use Rattle.rim_manifest.specs.Launches.{AreNumbered, NamedData, ReleaseData}
 use Rattle.rim_accepted.specs.Accepted.{accepted_of}
 use Rattle.rim_accepted.specs.Lines.{has_refused}
-use Rattle.rim_check.specs.Explained.{AreSaidOf, IsSaidOf, ShowsRefusals}
-use Rattle.rim_check.specs.Lines.{Saying}
-use Rattle.rim_check.specs.inside.Refused.{AddsSaid}
+use Rattle.page_jobs.specs.Key.{rising_keys}
+use Rattle.page_jobs.specs.declared.page.PageKey.{PageKey}
+use Rattle.rim_report.specs.Pages.{launch_keys, page_keys}
+use Rattle.rim_check.specs.Explained.{AreSaidOf, IsLaunchCheck, IsSaidOf, fault_of, pages_said}
+use Rattle.rim_check.specs.Lines.{AddsAll, Saying, SayInTurn}
+use Rattle.rim_check.specs.Warned.{ShowsWarnings}
+use Rattle.rim_check.specs.declared.found.Found.{Found}
+use Rattle.rim_check.specs.declared.found.LaunchCheck.{LaunchCheck}
+use Rattle.rim_check.specs.inside.Found.{AddsFound, AreWarned, numbers_of}
 
--- what is kept of the launches before one: their lines, and whether one of them is refused
-pub record AreChecked (names : List (List (List ℕ))) (files : List (List ℕ)) (ls : List NamedData) (text : List ℕ) (is_some : Bool) : Type 0 where
-  pub shows : ShowsRefusals names files ls text
-  pub refused : is_some ≡ has_refused files ls
+-- a text is one line for each launch that is refused
+pub record ShowsRefusals (names : List (List (List ℕ))) (files : List (List ℕ)) (ls : List NamedData) (text : List ℕ) : Type 0 where
+  pub said : List Saying
+  pub are : AreSaidOf names files ls said
+  pub lines : SayInTurn said text
+
+-- what is found of the launches before one: their lines, whether one of them is refused, their pages and their warnings
+pub record AreChecked (names : List (List (List ℕ))) (files : List (List ℕ)) (all ls : List NamedData) (found : Found) : Type 0 where
+  pub shows : ShowsRefusals names files ls found.refusals.items
+  pub refused : found.has_refused ≡ has_refused files ls
+  pub pages : found.pages ≡ flat_map (launch_keys files) ls
+  pub warned : AreWarned files all (numbers_of found.warnings)
 
 or-false : (b : Bool) → (b || false) ≡ b
 or-false true = refl
 or-false false = refl
 
-or-true : (b : Bool) → (b || true) ≡ true
-or-true true = refl
-or-true false = refl
-
 -- what is said of some launches, and then of one more
-said-next : (names : List (List (List ℕ))) (files : List (List ℕ)) (ls : List NamedData) (l : NamedData) (said own : List Saying) → AreSaidOf names files ls said → IsSaidOf names files l own
+said-next : (names : List (List (List ℕ))) (files : List (List ℕ)) (ls : List NamedData) (l : NamedData) (said own : List Saying)
+    → AreSaidOf names files ls said → IsSaidOf names files l own
     → AreSaidOf names files (ls ++ l ∷ []) (said ++ own)
 said-next names files [] l said own are is = (own, [], is, refl, ap (λ (ss : List Saying). ss ++ own) are ∙ sym (append-nil own))
 said-next names files (x ∷ ls) l said own are is =
     let others : List Saying = are.1 in
     (are.0, others ++ own, are.2, said-next names files ls l others own are.3 is, ap (λ (ss : List Saying). ss ++ own) are.4 ∙ append_assoc are.0 others own)
 
-some-next : (files : List (List ℕ)) (ls : List NamedData) (l : NamedData) → has_refused files (ls ++ l ∷ []) ≡ (has_refused files ls || is_err (accepted_of l.launch files))
+some-next : (files : List (List ℕ)) (ls : List NamedData) (l : NamedData) → has_refused files (ls ++ l ∷ []) ≡ (has_refused files ls || is_err
+    (accepted_of l.launch files))
 some-next files ls l =
     list_any-append (λ (x : NamedData). is_err (accepted_of x.launch files)) ls (l ∷ [])
     ∙ ap (λ (b : Bool). has_refused files ls || b) (or-false (is_err (accepted_of l.launch files)))
 
 -- one launch more
-checked-next : (names : List (List (List ℕ))) (files : List (List ℕ)) (ls : List NamedData) (l : NamedData) (text text' : List ℕ) (is_some is_some' : Bool) → AddsSaid names files l text text'
-    → is_some' ≡ (is_some || is_err (accepted_of l.launch files)) → AreChecked names files ls text is_some → AreChecked names files (ls ++ l ∷ []) text' is_some'
-checked-next names files ls l text text' is_some is_some' adds is are = record {
+checked-next : (names : List (List (List ℕ))) (files : List (List ℕ)) (all ls : List NamedData) (l : NamedData) (old new : Found)
+    → slice_get all l.launch.number ≡ Some l → AddsFound names files l old new → AreChecked names files all ls old → AreChecked names files all
+    (ls ++ l ∷ []) new
+checked-next names files all ls l old new there adds are = record {
   shows = record {
-    said = are.shows.said ++ adds.own;
-    are = said-next names files ls l are.shows.said adds.own are.shows.are adds.are;
-    lines = adds.adds are.shows.said are.shows.lines;
+    said = are.shows.said ++ adds.said.own;
+    are = said-next names files ls l are.shows.said adds.said.own are.shows.are adds.said.are;
+    lines = adds.said.adds are.shows.said are.shows.lines;
   };
-  refused = is ∙ ap (λ (b : Bool). b || is_err (accepted_of l.launch files)) are.refused ∙ sym (some-next files ls l);
+  refused = adds.refused ∙ ap (λ (b : Bool). b || is_err (accepted_of l.launch files)) are.refused ∙ sym (some-next files ls l);
+  pages = adds.pages ∙ ap (λ (ks : List PageKey). ks ++ launch_keys files l) are.pages
+      ∙ ap (λ (ks : List PageKey). flat_map (launch_keys files) ls ++ ks) (sym (append-nil (launch_keys files l)))
+      ∙ sym (flat_map-append (launch_keys files) ls (l ∷ []));
+  warned = adds.warned all there are.warned;
 }
 
 -- in a loop over the launches, of which this is the one with number i
-pub checked-at : (names : List (List (List ℕ))) (files : List (List ℕ)) (ls : List NamedData) (i : ℕ) (l : NamedData) (text text' : List ℕ) (is_some is_some' : Bool)
-    → i < length ls → l ≡ get_or ls i l → AddsSaid names files l text text'
-    → is_some' ≡ (is_some || is_err (accepted_of l.launch files)) → AreChecked names files (take i ls) text is_some → AreChecked names files (take (i + 1) ls) text' is_some'
-checked-at names files ls i l text text' is_some is_some' inside is adds some are =
+pub checked-at : (names : List (List (List ℕ))) (files : List (List ℕ)) (all ls : List NamedData) (i : ℕ) (l : NamedData) (old new : Found)
+    → i < length ls → l ≡ get_or ls i l → slice_get all l.launch.number ≡ Some l → AddsFound names files l old new
+    → AreChecked names files all (take i ls) old → AreChecked names files all (take (i + 1) ls) new
+checked-at names files all ls i l old new inside is there adds are =
     let next : i + 1 ≡ suc i = omega arith in
-    subst (λ (front : List NamedData). AreChecked names files front text' is_some')
+    subst (λ (front : List NamedData). AreChecked names files all front new)
     (sym (ap (λ (n : ℕ). take n ls) next ∙ take-suc ls i l inside ∙ ap (λ (x : NamedData). take i ls ++ x ∷ []) (sym is)))
-    (checked-next names files (take i ls) l text text' is_some is_some' adds some are)
+    (checked-next names files all (take i ls) l old new there adds are)
 
--- a launch that is refused, and one that is not
-pub some-refused : (is_some is_refused is_some' : Bool) (wanted : Bool) → is_refused ≡ wanted → is_refused ≡ true → is_some' ≡ true → is_some' ≡ (is_some || wanted)
-some-refused is_some is_refused is_some' wanted is true-is now = now ∙ sym (or-true is_some) ∙ ap (λ (b : Bool). is_some || b) (sym true-is ∙ is)
-
-pub none-refused : (is_some is_refused is_some' : Bool) (wanted : Bool) → is_refused ≡ wanted → is_refused ≡ false → is_some' ≡ is_some → is_some' ≡ (is_some || wanted)
-none-refused is_some is_refused is_some' wanted is false-is now = now ∙ sym (or-false is_some) ∙ ap (λ (b : Bool). is_some || b) (sym false-is ∙ is)
+-- the launch at a place of a release has it as its number
+pub numbered-at : (r : ReleaseData) (ls : List NamedData) (i : ℕ) (l : NamedData) → AreNumbered r → ls ≡ r.launches
+    → i < length ls → l ≡ get_or ls i l → slice_get r.launches l.launch.number ≡ Some l
+numbered-at r ls i l are own inside is =
+    let here : slice_get r.launches i ≡ Some l = ap (λ (xs : List NamedData). slice_get xs i) (sym own) ∙ slice_get_read ls (length ls) i l refl inside is in
+    ap (slice_get r.launches) (are i l here).0 ∙ here
 
 -- each launch of a release has its files
 pub has-its-files : (r : ReleaseData) (ls : List NamedData) (i : ℕ) (l : NamedData) (count : ℕ) → AreNumbered r → ls ≡ r.launches
@@ -77,7 +97,34 @@ has-its-files r ls i l count are own inside is number =
     ∙ (are i l (ap (λ (xs : List NamedData). slice_get xs i) (sym own) ∙ slice_get_read ls (length ls) i l refl inside is)).1
 
 -- all launches are checked
-pub all-checked : (names : List (List (List ℕ))) (files : List (List ℕ)) (ls all : List NamedData) (i : ℕ) (text : List ℕ) (is_some : Bool) → ls ≡ all → length ls ≤ i
-    → AreChecked names files (take i ls) text is_some → AreChecked names files all text is_some
-all-checked names files ls all i text is_some own past are =
-    subst (λ (xs : List NamedData). AreChecked names files xs text is_some) (take_all i ls past ∙ own) are
+pub all-checked : (names : List (List (List ℕ))) (files : List (List ℕ)) (ls all : List NamedData) (i : ℕ) (found : Found) → ls ≡ all → length ls ≤ i
+    → AreChecked names files all (take i ls) found → AreChecked names files all all found
+all-checked names files ls all i found own past are =
+    subst (λ (xs : List NamedData). AreChecked names files all xs found) (take_all i ls past ∙ own) are
+
+-- what was found of all launches is what the check shows
+pub is-check : (names : List (List (List ℕ))) (files : List (List ℕ)) (all : List NamedData) (found : Found) (check : LaunchCheck)
+    → check.fault ≡ fault_of (length (rising_keys found.pages)) found.has_refused
+    → AddsAll (pages_said (length (rising_keys found.pages))) found.refusals.items check.faults.items
+    → ((fs : List (List ℕ)) → AreWarned fs all (numbers_of found.warnings) → ShowsWarnings fs all check.warnings.items)
+    → AreChecked names files all all found → IsLaunchCheck names files all check
+unfolding page_keys
+is-check names files all found check fault faults warnings are =
+    let count : length (rising_keys found.pages) ≡ length (page_keys files all) = ap (λ (ks : List PageKey). length (rising_keys ks)) are.pages in
+    record {
+      fault = fault ∙ ap (λ (n : ℕ). fault_of n found.has_refused) count ∙ ap (fault_of (length (page_keys files all))) are.refused;
+      faults = record {
+        said = are.shows.said;
+        are = are.shows.are;
+        lines = subst (λ (n : ℕ). SayInTurn (are.shows.said ++ pages_said n) check.faults.items) count (faults are.shows.said are.shows.lines);
+      };
+      warnings = warnings files are.warned;
+    }
+
+pub all-found : (names : List (List (List ℕ))) (files : List (List ℕ)) (all : List NamedData) (found : Found) (answer : Result LaunchCheck NoMemory)
+    → IfOk answer (λ c. c.fault ≡ fault_of (length (rising_keys found.pages)) found.has_refused)
+    → IfOk answer (λ c. AddsAll (pages_said (length (rising_keys found.pages))) found.refusals.items c.faults.items)
+    → IfOk answer (λ c. (fs : List (List ℕ)) → AreWarned fs all (numbers_of found.warnings) → ShowsWarnings fs all c.warnings.items)
+    → AreChecked names files all all found → IfOk answer (IsLaunchCheck names files all)
+all-found names files all found (Ok check) fault faults warnings are = is-check names files all found check fault faults warnings are
+all-found names files all found (Err e) fault faults warnings are = tt

@@ -11,6 +11,10 @@ pub mod LaunchLines
 pub mod PlainBytes
 -- in each turn of that loop: nothing is said of a launch that is accepted, and one line of one that is refused, for its reason
 pub mod SaidOfLaunches
+-- and its pages and its warnings, or that some launch is refused
+pub mod FoundOfLaunches
+-- Warnings are about launches that are accepted
+pub mod WarningLines
 -- The numbers of a reason: their hexadecimal digits
 pub mod HexadecimalDigits
 -- and the names of its items

@@ -1,7 +1,6 @@
 -- What is found of a launch: it is refused for its reason, or it is accepted and nothing is said of it.
 use Rattle.std.proofs.Common.{◌≡◌, ◌∙◌, inl, inr, ℕ, true, false, List, [], ◌∷◌, ◌++◌, ap, codes, refl, subst, sym}
-use Rattle.std.specs.Prelude.{Option, Some, None, Result, Ok, Err, IsOk, is_err}
-use Rattle.std.specs.Result.{result_err}
+use Rattle.std.specs.Prelude.{Option, Some, Result, Ok, Err, IsOk, is_err}
 use Rattle.std.proofs.lemmas.List.{append-nil}
 use Rattle.rim_launch.specs.LaunchData.{LaunchData}
 use Rattle.rim_launch.specs.declared.config.Config.{Config}
@@ -9,8 +8,7 @@ use Rattle.ipa_layout.specs.Layout.{PlacedData}
 use Rattle.rim_manifest.specs.Launches.{NamedData}
 use Rattle.rim_accepted.specs.Accepted.{accepted_of, rim_for}
 use Rattle.rim_accepted.specs.AuditFaults.{audit_kind_of}
-use Rattle.rim_accepted.specs.Reasons.{IsReasoned, audit_fault_of}
-use Rattle.rim_accepted.specs.declared.accepted.AcceptedLaunch.{AcceptedLaunch}
+use Rattle.rim_accepted.specs.Reasons.{IsRefusedFor, audit_fault_of}
 use Rattle.rim_accepted.specs.declared.audit_fault.AuditFault.{AuditFault}
 use Rattle.rim_accepted.specs.declared.reason.LaunchReason.{LaunchReason}
 use Rattle.rim_accepted.proofs.RefusedLaunches.{same_refusal}
@@ -18,7 +16,7 @@ use Rattle.rim_check.specs.Details.{reason_detail}
 use Rattle.rim_check.specs.Explained.{launch_front, refusal_said}
 use Rattle.rim_check.specs.Lines.{AddsLine, IsKnown, Saying, SayInTurn}
 use Rattle.rim_check.specs.Readables.{item_name}
-use Rattle.rim_check.specs.inside.Refused.{AddsSaid, IsFound}
+use Rattle.rim_check.specs.inside.Refused.{AddsSaid}
 
 -- a line that is made of these parts is the line of a launch's refusal
 pub says-refusal : (names : List (List (List ℕ))) (l : NamedData) (why : LaunchReason) (name kind before after old new : List ℕ) (fault : AuditFault)
@@ -37,33 +35,22 @@ says-refusal names l why name kind before after old new fault number config name
     same : s ≡ refusal_said names l why
     same = rw (named, numbered, configured, word, faulty) refl
 
--- the reason that is found with a launch, or without one
-pub found-by : (l : LaunchData) (files : List (List ℕ)) (found : Result AcceptedLaunch LaunchReason) → IsReasoned l files found → IsFound l files (result_err found)
-found-by l files (Ok a) accepted = not-refused (rim_for l files) (same_refusal l files ∙ ap (λ (r : Result PlacedData AuditFault). is_err r) accepted)
-  where
-    not-refused : (r : Result (List ℕ) AuditFault) → is_err r ≡ false → IsOk r
-    not-refused (Ok rim) off = refl
-    not-refused (Err fault) off = absurd cc
-found-by l files (Err why) refused = refused
+not-refused : (r : Result (List ℕ) AuditFault) → is_err r ≡ false → IsOk r
+not-refused (Ok rim) off = refl
+not-refused (Err fault) off = absurd cc
 
-pub says-nothing : (names : List (List (List ℕ))) (files : List (List ℕ)) (l : NamedData) (text : List ℕ)
-    → IsFound l.launch files None → AddsSaid names files l text text
-says-nothing names files l text accepted = record {
+-- nothing is said of a launch that is accepted
+pub says-nothing : (names : List (List (List ℕ))) (files : List (List ℕ)) (l : NamedData) (p : PlacedData) (text : List ℕ)
+    → accepted_of l.launch files ≡ Ok p → AddsSaid names files l text text
+says-nothing names files l p text accepted = record {
   own = [];
-  are = inl (accepted, refl);
+  are = inl (not-refused (rim_for l.launch files) (same_refusal l.launch files ∙ ap (λ (r : Result PlacedData AuditFault). is_err r) accepted), refl);
   adds = λ (said : List Saying) (says : SayInTurn said text). subst (λ (ss : List Saying). SayInTurn ss text) (sym (append-nil said)) says;
 }
 
-pub says-why : (names : List (List (List ℕ))) (files : List (List ℕ)) (l : NamedData) (why : LaunchReason) (old new : List ℕ) → IsFound l.launch files (Some why)
+pub says-why : (names : List (List (List ℕ))) (files : List (List ℕ)) (l : NamedData) (why : LaunchReason) (old new : List ℕ) → IsRefusedFor l.launch files why
     → AddsLine (refusal_said names l why) old new → AddsSaid names files l old new
 says-why names files l why old new refused adds = record { own = refusal_said names l why ∷ []; are = inr (why, refused, refl); adds = adds }
 
-pub none-refused : (l : LaunchData) (files : List (List ℕ)) → IsFound l files None → false ≡ is_err (accepted_of l files)
-none-refused l files accepted = not-err (rim_for l files) accepted ∙ same_refusal l files
-  where
-    not-err : {X : Type 0} (r : Result X AuditFault) → IsOk r → false ≡ is_err r
-    not-err (Ok x) ok = refl
-    not-err (Err e) ok = absurd cc
-
-pub is-refused : (l : LaunchData) (files : List (List ℕ)) (why : LaunchReason) → IsFound l files (Some why) → true ≡ is_err (accepted_of l files)
-is-refused l files why found = sym (ap (λ (r : Result (List ℕ) AuditFault). is_err r) found.refused) ∙ same_refusal l files
+pub is-refused : (l : LaunchData) (files : List (List ℕ)) (why : LaunchReason) → IsRefusedFor l files why → is_err (accepted_of l files) ≡ true
+is-refused l files why found = sym (same_refusal l files) ∙ ap (λ (r : Result (List ℕ) AuditFault). is_err r) found.refused

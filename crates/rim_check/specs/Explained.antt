@@ -1,16 +1,25 @@
 -- What is said of a manifest's faults and of the launches that are refused. This project's choice.
-use Rattle.std.specs.Prelude.{◌≡◌, ◌⊎◌, ℕ, List, [], ◌∷◌, ◌++◌, map, Some, None, IsOk, Ok, Err, codes}
+use Rattle.std.specs.Prelude.{◌≡◌, ◌⊎◌, ℕ, Bool, List, [], ◌∷◌, ◌++◌, length, map, Option, Some, None, IsOk, Ok, Err, codes, decimal, nat_lt, if◌then◌else◌}
 use Rattle.rim_manifest.specs.declared.fault.ManifestFault.{ManifestFault}
 use Rattle.rim_manifest.specs.Faults.{kind_of, lowest}
 use Rattle.rim_manifest.specs.Launches.{NamedData}
 use Rattle.rim_manifest.specs.Manifest.{Answer}
 use Rattle.rim_accepted.specs.Accepted.{rim_for}
 use Rattle.rim_accepted.specs.AuditFaults.{audit_kind_of}
+use Rattle.rim_accepted.specs.Lines.{has_refused}
 use Rattle.rim_accepted.specs.Reasons.{IsRefusedFor, audit_fault_of}
 use Rattle.rim_accepted.specs.declared.reason.LaunchReason.{LaunchReason}
+use Rattle.rim_report.specs.Faults.{start_kind_of}
+use Rattle.rim_report.specs.Pages.{page_keys}
+use Rattle.rim_report.specs.declared.fault.StartFault.TheVariants as start
+use Rattle.rim_report.specs.declared.pages.TheConstants.{DISTINCT_LIMIT}
 use Rattle.rim_check.specs.Details.{reason_detail}
 use Rattle.rim_check.specs.Lines.{Saying, SayInTurn}
 use Rattle.rim_check.specs.Readables.{item_name, item_names_in}
+use Rattle.rim_check.specs.Warned.{ShowsWarnings}
+use Rattle.rim_check.specs.declared.found.LaunchCheck.{LaunchCheck}
+use Rattle.rim_check.specs.declared.found.ReleaseFault.{ReleaseFault}
+use Rattle.rim_check.specs.declared.found.ReleaseFault.TheVariants.{Refused, TooManyPages}
 use Rattle.rim_check.specs.declared.manifest.ManifestCheck.{ManifestCheck}
 use Rattle.rim_check.specs.declared.manifest.ManifestCheck.TheVariants.{Faulty, Readable}
 
@@ -61,8 +70,34 @@ abbrev pub AreSaidOf : List (List (List ℕ)) → List (List ℕ) → List Named
 AreSaidOf names files [] said = said ≡ []
 AreSaidOf names files (l ∷ ls) said = (own others : List Saying) × IsSaidOf names files l own × AreSaidOf names files ls others × (said ≡ own ++ others)
 
--- a text is one line for each launch that is refused
-pub record ShowsRefusals (names : List (List (List ℕ))) (files : List (List ℕ)) (ls : List NamedData) (text : List ℕ) : Type 0 where
+-- how many different measured pages a release has, and how many it may have
+abbrev pub pages_detail : ℕ → List ℕ
+pages_detail count = codes ": " ++ (decimal count ++ (codes " different measured pages, expected at most " ++ decimal DISTINCT_LIMIT))
+
+-- what is said of the pages of a release, where the launches that are accepted have too many different measured ones: how many they are
+abbrev pub pages_said : ℕ → List Saying
+pages_said count = if nat_lt DISTINCT_LIMIT count then record {
+  front = Some (codes "manifest: ");
+  word = start_kind_of start.TooManyPages;
+  detail = Some (pages_detail count);
+} ∷ [] else []
+
+-- a text is one line for each launch that is refused, and then one where there are too many pages
+pub record ShowsFaults (names : List (List (List ℕ))) (files : List (List ℕ)) (ls : List NamedData) (text : List ℕ) : Type 0 where
   pub said : List Saying
   pub are : AreSaidOf names files ls said
-  pub lines : SayInTurn said text
+  pub lines : SayInTurn (said ++ pages_said (length (page_keys files ls))) text
+
+-- what is at fault where there are this many of these pages, and some launch is refused or none is
+abbrev pub fault_of : ℕ → Bool → Option ReleaseFault
+fault_of count has_refused = if nat_lt DISTINCT_LIMIT count then Some TooManyPages else if has_refused then Some Refused else None
+
+-- what is at fault in a release: that it has no report, else that a line of its report says of a launch that it is refused
+abbrev pub fault_in : List (List ℕ) → List NamedData → Option ReleaseFault
+fault_in files ls = fault_of (length (page_keys files ls)) (has_refused files ls)
+
+-- what a check of launches finds
+pub record IsLaunchCheck (names : List (List (List ℕ))) (files : List (List ℕ)) (ls : List NamedData) (check : LaunchCheck) : Type 0 where
+  pub fault : check.fault ≡ fault_in files ls
+  pub faults : ShowsFaults names files ls check.faults.items
+  pub warnings : ShowsWarnings files ls check.warnings.items

@@ -1,5 +1,6 @@
 pub mod Lines
 pub mod Readables
 pub mod Details
+pub mod Warned
 pub mod Explained
 pub mod inside

@@ -1,14 +1,18 @@
 -- Texts of lines, each of which says a word. This project's choice.
-use Rattle.std.specs.Prelude.{◌≡◌, ℕ, Bool, true, not, ◌&&◌, ◌==◌, nat_le, List, [], ◌∷◌, ◌++◌, Option, Some, IfSome, codes}
+use Rattle.std.specs.Prelude.{◌≡◌, ℕ, Bool, true, not, ◌&&◌, ◌||◌, ◌==◌, nat_le, List, [], ◌∷◌, ◌++◌, Option, Some, IfSome, codes}
 use Rattle.std.specs.List.{list_all}
+
+abbrev pub is_between : ℕ → ℕ → ℕ → Bool
+is_between low high n = nat_le low n && nat_le n high
 
 -- a byte that ends no line
 abbrev pub is_inside : ℕ → Bool
 is_inside b = not (b == 10)
 
--- a byte that a line shows as it is: it begins no control character. Those of two bytes begin with 194.
+-- a byte that a line shows as it is in any text: a sign or a letter of ASCII that is no `\`, or a byte of a character of
+-- another script of which no character is invisible. What a line shows of others is tested alone.
 abbrev pub is_plain : ℕ → Bool
-is_plain b = nat_le 32 b && not (b == 127) && not (b == 194)
+is_plain b = not (b == 92) && not (b == 127) && (is_between 32 191 b || is_between 195 204 b || is_between 208 211 b || is_between 228 233 b)
 
 -- what a line says: a word; and what is before it and after it, where that is known
 pub record Saying : Type 0 where
@@ -49,3 +53,7 @@ SayInTurn (s ∷ said) text = Begins s (SayInTurn said) text
 -- a text has one more line than it had, which says this
 abbrev pub AddsLine : Saying → List ℕ → List ℕ → Type 0
 AddsLine s old new = (said : List Saying) → SayInTurn said old → SayInTurn (said ++ s ∷ []) new
+
+-- a text has lines more than it had, which say these in turn
+abbrev pub AddsAll : List Saying → List ℕ → List ℕ → Type 0
+AddsAll more old new = (said : List Saying) → SayInTurn said old → SayInTurn (said ++ more) new

@@ -38,7 +38,7 @@ fn words_of(form: Form) -> &'static str {
         Form::PoolBase => "a multiple of 0x10000 below 0x1000000000000",
         Form::Word => "a whole number or a text 0x and 1 to 16 hexadecimal digits",
         Form::Text => "a text that is not empty",
-        Form::AnyText => "the name of a file",
+        Form::AnyText => "the name of a [[file]] table",
         Form::ItemKind => "\"kernel\", \"initrd\", \"dtb\", \"raw\" or \"unknown\"",
         Form::Bootargs => "a text without a zero character",
         Form::Texts => "an array of steps, each a text",

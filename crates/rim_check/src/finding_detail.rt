@@ -1,13 +1,15 @@
 //! What is given and what is expected, where a manifest has a fault.
 use crate::expected::Expected;
+use crate::hint::{element_hint, value_hint};
 use crate::line::{Line, Quoted};
 use crate::nearest::Nearest;
+use crate::other_keys::write_other_keys;
 use crate::place::text_at;
 use crate::shown::{Shown, bad_element};
+use crate::steps::{write_step, write_steps};
 use rim_launch::Role;
 use rim_manifest::{
-    DTB_RULES, Document, FILE_RULES, Finding, Form, ITEM_RULES, ManifestFault, Place, REC_RULES,
-    Rule, Subject, TOP_RULES, UNKNOWN_RULES, asks_for, cell, entries, name, role,
+    Document, Finding, Form, ManifestFault, Subject, asks_for, cell, entries, name, role,
 };
 use std::alloc::Global;
 use std::fmt;
@@ -29,53 +31,41 @@ pub(crate) fn write_detail(
         (Subject::Key { .. }, ManifestFault::NoSuchFile) => {
             write_no_file(alloc, line, document, table)
         }
-        (Subject::Key { key, form }, fault) => write_value(line, cell(table, key), form, fault),
-        (Subject::OtherKeys, _) => {
-            write_other_keys(alloc, line, table, rules_of(document, finding.place, table))
-        }
+        (Subject::Key { key, form }, fault) => write_value(line, table, key, form, fault),
+        (Subject::OtherKeys, _) => write_other_keys(alloc, line, document, finding.place, table),
         (Subject::Asked, _) => write_asked(line, table),
-        (Subject::Step { step }, _) => write_step(line, table, step),
-        (Subject::Steps, _) => write_steps(line, table),
+        (Subject::Step { step }, _) => write_step(alloc, line, table, step),
+        (Subject::Steps, _) => write_steps(alloc, line, table),
         (Subject::Whole, _) => Ok(()),
-    }
-}
-
-/// The keys that a table may have.
-fn rules_of(document: &Document, place: Place, table: &Table) -> &'static [Rule] {
-    match place {
-        Place::Top => &TOP_RULES,
-        Place::File { .. } => &FILE_RULES,
-        Place::Launch { .. } => document.launch_rules(),
-        Place::Item { .. } => match text_at(table, "kind") {
-            Some("dtb") => &DTB_RULES,
-            Some("unknown") => &UNKNOWN_RULES,
-            _ => &ITEM_RULES,
-        },
-        Place::Rec { .. } => &REC_RULES,
     }
 }
 
 /// A value that is not what its key may hold, or that is not there.
 fn write_value(
     line: &mut Line,
-    value: Option<&Value>,
+    table: &Table,
+    key: &'static str,
     form: Form,
     fault: ManifestFault,
 ) -> fmt::Result {
     let expected = Expected(form);
-    let Some(value) = value else {
+    let Some(value) = cell(table, key) else {
         return write!(line, ": not given, expected {expected}");
     };
-    let shown = Shown(value);
     match bad_element(value, form, fault) {
         Some((index, element)) => {
-            let element = Shown(element);
+            let shown = Shown(element);
+            let hint = element_hint(key, form, value, element);
             write!(
                 line,
-                ": value {index} of it is {element}, expected {expected}"
+                ": value {index} of it is {shown}, expected {expected}{hint}"
             )
         }
-        None => write!(line, ": {shown}, expected {expected}"),
+        None => {
+            let shown = Shown(value);
+            let hint = value_hint(key, form, value);
+            write!(line, ": {shown}, expected {expected}{hint}")
+        }
     }
 }
 
@@ -85,7 +75,7 @@ fn write_shared(line: &mut Line, table: &Table, key: &str) -> fmt::Result {
     write!(line, ": an earlier one has {text} too")
 }
 
-/// The name of a file that is not there.
+/// The name of a file that is not there. Where it is the path of one, that one is meant.
 fn write_no_file(
     alloc: Global,
     line: &mut Line,
@@ -95,32 +85,24 @@ fn write_no_file(
     let text = text_at(table, "file").unwrap_or("");
     let mut nearest = Nearest::new(text);
     for file in entries(&document.table, "file") {
-        nearest.add(alloc, name(file))?;
-    }
-    let quoted = Quoted(text);
-    write!(line, ": {quoted}, expected the name of a file{nearest}")
-}
-
-/// The keys of a table that no rule has.
-fn write_other_keys(alloc: Global, line: &mut Line, table: &Table, rules: &[Rule]) -> fmt::Result {
-    let mut is_first = true;
-    for key in table.keys() {
-        if !rules.iter().any(|rule| rule.0 == key.as_str()) {
-            write!(line, "{}", if is_first { ": " } else { ", " })?;
-            write_other_key(alloc, line, key.as_str(), rules)?;
-            is_first = false;
+        if has_path(file, text) {
+            nearest.take(name(file));
+        } else {
+            nearest.add(alloc, name(file))?;
         }
     }
-    Ok(())
+    let quoted = Quoted(text);
+    let expected = Expected(Form::AnyText);
+    write!(line, ": {quoted}, expected {expected}{nearest}")
 }
 
-fn write_other_key(alloc: Global, line: &mut Line, key: &str, rules: &[Rule]) -> fmt::Result {
-    let mut nearest = Nearest::new(key);
-    for rule in rules {
-        nearest.add(alloc, rule.0)?;
-    }
-    let key = Quoted(key);
-    write!(line, "{key}{nearest}")
+/// Whether the path of a file is this one, or ends in it.
+fn has_path(file: &Value, path: &str) -> bool {
+    let Value::Table(file) = file else {
+        return false;
+    };
+    let front = text_at(file, "path").and_then(|whole| whole.strip_suffix(path));
+    front.is_some_and(|front| front.is_empty() || front.ends_with('/'))
 }
 
 /// What a launch's devicetree asks for and the launch has not.
@@ -132,39 +114,14 @@ fn write_asked(line: &mut Line, launch: &Table) -> fmt::Result {
     match (lacks_initrd, lacks_ram) {
         (true, true) => write!(
             line,
-            ": its devicetree asks for initrd and for memory, and it has no such item and no ram"
+            ": its devicetree asks for initrd and for memory, \
+             and it has no item of kind \"initrd\" and no ram"
         ),
         (true, false) => write!(
             line,
-            ": its devicetree asks for initrd, and it has no such item"
+            ": its devicetree asks for initrd, and it has no item of kind \"initrd\""
         ),
         (false, true) => write!(line, ": its devicetree asks for memory, and it has no ram"),
         (false, false) => Ok(()),
     }
-}
-
-/// A step that names what is not there, or what an earlier step names.
-fn write_step(line: &mut Line, launch: &Table, step: usize) -> fmt::Result {
-    match entries(launch, "steps").get(step) {
-        Some(text) => {
-            let text = Shown(text);
-            write!(
-                line,
-                ": step {step}, {text}, names nothing of the launch, or what an earlier step names"
-            )
-        }
-        None => Ok(()),
-    }
-}
-
-/// Steps that are not as many as what they have to name.
-fn write_steps(line: &mut Line, launch: &Table) -> fmt::Result {
-    let steps = entries(launch, "steps").len();
-    let regions = entries(launch, "ram").len();
-    let parts = entries(launch, "item").len();
-    let recs = entries(launch, "rec").len();
-    write!(
-        line,
-        ": {steps} steps, expected one for each of {regions} regions, {parts} items and {recs} RECs"
-    )
 }

@@ -1,89 +1,98 @@
 //! The launches of a release that are refused.
-ghost use Rattle.std.specs.Prelude.{◌≡◌, ◌++◌, IfOk, OnOk, Some, codes, is_err, length, true, vec_len};
+ghost use Rattle.std.specs.Prelude.{◌≡◌, ◌++◌, IfOk, Ok, OnOk, Some, codes, length, true, vec_len};
 ghost use Rattle.rim_launch.specs.LaunchData.{has_files};
 ghost use Rattle.ipa_layout.specs.Files.{bytes_of_files};
-ghost use Rattle.rim_accepted.specs.Accepted.{accepted_of};
-ghost use Rattle.rim_accepted.specs.Lines.{has_refused};
 ghost use Rattle.rim_check.specs.Details.{reason_detail};
-ghost use Rattle.rim_check.specs.Explained.{ShowsRefusals, launch_front, refusal_said};
+ghost use Rattle.rim_check.specs.Explained.{IsLaunchCheck, launch_front, refusal_said};
 ghost use Rattle.rim_check.specs.Lines.{AddsLine, IsKnown};
 ghost use Rattle.rim_check.specs.inside.Names.{names_of};
-ghost use Rattle.rim_check.specs.inside.Refused.{AddsSaid, IsFound};
+ghost use Rattle.rim_check.specs.inside.Found.{AddsFound, AddsNumber, numbers_of};
+ghost use Rattle.rim_report.specs.Pages.{keys_at};
 
 use crate::detail::reason_detail;
+use crate::found::{Found, LaunchCheck};
 use crate::line::{Line, push_line};
 use crate::names::ItemNames;
 use crate::readable::Readable;
+use crate::unusual::find_unusual;
 use refusal::NoMemory;
-use rim_accepted::{Files, LaunchReason, Report, accept_with_reason};
-use rim_launch::{Config, Launch};
+use rim_accepted::{AcceptedLaunch, Files, LaunchReason, accept_with_reason};
+use rim_launch::Config;
 use rim_manifest::NamedLaunch;
 use std::alloc::{AllocError, Global};
 
 /// A line for each launch that is refused, in the manifest's order: its name, the word of its refusal as the report has
-/// it, and what is at fault. And whether there is one.
-pub fn check_launches(alloc: Global, readable: &Readable, files: &Files) -> Result<Report, NoMemory>
+/// it, and what is at fault. Then a line where the release has too many different measured pages, and beside them the warnings of
+/// the launches that are accepted. What is at fault is what keeps `rim measure` from a report without a refused launch.
+pub fn check_launches(
+    alloc: Global,
+    readable: &Readable,
+    files: &Files,
+) -> Result<LaunchCheck, NoMemory>
     requires { vec_len files.now ≡ length readable.now.release.paths }
-    ensures text { IfOk result (λ r. ShowsRefusals readable.now.names
-        (bytes_of_files files.now.items) readable.now.release.launches r.text.items) }
-    ensures refused { IfOk result (λ r. r.has_refused
-        ≡ has_refused (bytes_of_files files.now.items) readable.now.release.launches) }
+    ensures { IfOk result (IsLaunchCheck readable.now.names
+        (bytes_of_files files.now.items) readable.now.release.launches) }
 {
     check_all(alloc, readable, files)
 }
 
-fn check_all(alloc: Global, readable: &Readable, files: &[Vec<u8>]) -> Result<Report, NoMemory>
+fn check_all(alloc: Global, readable: &Readable, files: &[Vec<u8>]) -> Result<LaunchCheck, NoMemory>
     requires { length files.now ≡ length readable.now.release.paths }
-    ensures text { IfOk result (λ r. ShowsRefusals readable.now.names
-        (bytes_of_files files.now) readable.now.release.launches r.text.items) }
-    ensures refused { IfOk result (λ r. r.has_refused
-        ≡ has_refused (bytes_of_files files.now) readable.now.release.launches) }
+    ensures { IfOk result (IsLaunchCheck readable.now.names
+        (bytes_of_files files.now) readable.now.release.launches) }
 {
-    let mut text = Vec::new(alloc);
-    let mut has_refused = false;
-    for launch in readable.release().all_launches() {
-        let is_refused = check_launch(&mut text, readable, launch, files)?;
-        if is_refused {
-            has_refused = true;
-        }
+    let launches = readable.release().all_launches();
+    let mut found = Found::new(alloc);
+    for launch in launches {
+        look_at(alloc, &mut found, readable, launch, files)?;
     }
-    Ok(Report { text, has_refused })
+    found.finish(alloc, launches)
 }
 
-/// Adds the line of a launch, where it is refused; and whether it is.
-fn check_launch(
-    text: &mut Vec<u8>,
+/// Adds what is found of a launch.
+fn look_at(
+    alloc: Global,
+    found: &mut Found,
     readable: &Readable,
     launch: &NamedLaunch,
     files: &[Vec<u8>],
-) -> Result<bool, NoMemory>
+) -> Result<(), NoMemory>
     requires { has_files launch.now.launch (length files.now) ≡ true }
-    ensures text { OnOk result (AddsSaid readable.now.names (bytes_of_files files.now)
-        launch.now text.old.items text.new.items) }
-    ensures refused { IfOk result (λ is_refused. is_refused
-        ≡ is_err (accepted_of launch.now.launch (bytes_of_files files.now))) }
+    ensures { OnOk result (AddsFound readable.now.names (bytes_of_files files.now)
+        launch.now found.old found.new) }
 {
-    let alloc = *text.allocator();
-    match find_reason(alloc, launch.launch(), files)? {
-        None => Ok(false),
-        Some(reason) => {
-            push_refused(text, readable, launch, &reason)?;
-            Ok(true)
+    match accept_with_reason(alloc, launch.launch(), files)? {
+        Ok(accepted) => add_accepted(alloc, found, readable, launch, &accepted),
+        Err(reason) => {
+            found.has_refused = true;
+            push_refused(&mut found.refusals, readable, launch, &reason)
         }
     }
 }
 
-/// Why a launch is refused, if it is.
-fn find_reason(
+/// Adds the pages of a launch that is accepted, and what is rarely meant in it.
+fn add_accepted(
     alloc: Global,
-    launch: &Launch,
-    files: &[Vec<u8>],
-) -> Result<Option<LaunchReason>, NoMemory>
-    requires { has_files launch.now (length files.now) ≡ true }
-    ensures { IfOk result (IsFound launch.now (bytes_of_files files.now)) }
+    found: &mut Found,
+    readable: &Readable,
+    launch: &NamedLaunch,
+    accepted: &AcceptedLaunch<'_>,
+) -> Result<(), NoMemory>
+    ensures refusals { OnOk result ((found.new.refusals.items ≡ found.old.refusals.items)
+        × (found.new.has_refused ≡ found.old.has_refused)) }
+    ensures pages { OnOk result (found.new.pages
+        ≡ found.old.pages ++ keys_at accepted.now.launch.now (Ok accepted.now.placed)) }
+    ensures warnings { OnOk result (AddsNumber launch.now.launch.number
+        (numbers_of found.old.warnings) (numbers_of found.new.warnings)) }
 {
-    let found = accept_with_reason(alloc, launch, files)?;
-    Ok(found.err())
+    found.pages.add(accepted)?;
+    let number = launch.launch().number();
+    let names = ItemNames {
+        readable,
+        launch: number,
+    };
+    let unusual = find_unusual(alloc, names, accepted)?;
+    found.warnings.add_all(number, &unusual)
 }
 
 /// Adds the line of a launch that is refused.

@@ -2,19 +2,30 @@
 //! given and what is expected.
 #![tactic(auto)]
 
+mod alike;
+mod belongs;
 mod detail;
 mod expected;
 mod finding_detail;
+mod found;
+mod hint;
 mod launches;
 mod line;
 mod manifest;
 mod names;
 mod nearest;
+mod number;
+mod other_keys;
+mod part;
 mod place;
 mod readable;
 mod shown;
+mod steps;
 mod syntax;
+mod unusual;
+mod warnings;
 
+pub use found::{LaunchCheck, ReleaseFault};
 pub use launches::check_launches;
 pub use line::push_file;
 pub use manifest::{ManifestCheck, check_manifest};

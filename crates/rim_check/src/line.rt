@@ -7,12 +7,15 @@ use refusal::NoMemory;
 use std::alloc::{AllocError, Global};
 use std::fmt;
 use std::fmt::Write;
+use ucd_category::{GeneralCategory, GeneralCategoryGroup};
+use ucd_derived::is_default_ignorable_code_point;
 
 /// The most bytes that are shown of a text.
 const MOST_SHOWN: usize = 64;
 
-/// A line that is being written, without its line feed. A control character is written as `\x` and the two
-/// hexadecimal digits of its number, so that no text can end the line or change how a terminal shows it.
+/// A line that is being written, without its line feed. A character that a person cannot see, or cannot tell from a space, is
+/// written as its number: `\x` and two hexadecimal digits, `\u` and four or `\U` and eight. So no text can end the line or change
+/// how a terminal shows it.
 #[derive(Drop)]
 pub struct Line {
     text: Vec<u8>,
@@ -41,6 +44,14 @@ impl Line {
         self.text.as_slice()
     }
 
+    /// Adds another line's bytes.
+    pub fn append(&mut self, other: &Line) -> Result<(), AllocError>
+        ensures { OnOk result (self.new.text.items ≡ self.old.text.items ++ other.now.text.items) }
+    {
+        self.text.extend_from_slice(other.as_slice())?;
+        Ok(())
+    }
+
     /// Adds a text: as it is, where all of its bytes are shown so.
     pub fn push_text(&mut self, text: &str) -> Result<(), AllocError>
         ensures { OnOk result (list_all is_plain text.now ≡ true
@@ -62,6 +73,23 @@ impl Line {
         Ok(())
     }
 
+    /// Adds a text that is not between quotes, as a path: each `\` is doubled, so that none is taken for the first of a number.
+    pub fn push_path(&mut self, text: &str) -> Result<(), AllocError>
+        ensures { OnOk result (list_all is_plain text.now ≡ true
+            → self.new.text.items ≡ self.old.text.items ++ text.now) }
+    {
+        if is_all_plain(text) {
+            return self.push_plain(text.as_bytes());
+        }
+        for c in text.chars() {
+            if c == '\\' {
+                self.push_inside(b'\\')?;
+            }
+            self.push_char(c)?;
+        }
+        Ok(())
+    }
+
     /// Adds each character of a text.
     fn push_chars(&mut self, text: &str) -> Result<(), AllocError> {
         for c in text.chars() {
@@ -70,10 +98,10 @@ impl Line {
         Ok(())
     }
 
-    /// Adds a character. A control character of two bytes is written as the digits of its number.
+    /// Adds a character, or its number where it is not shown.
     fn push_char(&mut self, c: char) -> Result<(), AllocError> {
-        if let '\u{80}'..='\u{9f}' = c {
-            return self.push_digits(c as u8);
+        if !is_shown(c) {
+            return self.push_number(c as u32);
         }
         let mut bytes = [0; 4];
         for byte in c.encode_utf8(&mut bytes).as_bytes() {
@@ -82,21 +110,27 @@ impl Line {
         Ok(())
     }
 
-    /// Adds a byte, or the digits of a control byte.
+    /// Adds a byte of a character that is shown. None of these ends a line.
     fn push(&mut self, byte: u8) -> Result<(), AllocError> {
-        if byte < 0x20 || byte == 0x7f {
-            self.push_digits(byte)
-        } else {
-            self.push_inside(byte)
+        if byte == b'\n' {
+            return Ok(());
         }
+        self.push_inside(byte)
     }
 
-    /// Adds `\x` and the two hexadecimal digits of a byte.
-    fn push_digits(&mut self, byte: u8) -> Result<(), AllocError> {
+    /// Adds the number of a character.
+    fn push_number(&mut self, number: u32) -> Result<(), AllocError> {
+        let (letter, count) = match number {
+            0..=0xff => (b'x', 2),
+            0x100..=0xffff => (b'u', 4),
+            _ => (b'U', 8),
+        };
         self.push_inside(b'\\')?;
-        self.push_inside(b'x')?;
-        self.push_inside(digit(byte / 16))?;
-        self.push_inside(digit(byte % 16))
+        self.push_inside(letter)?;
+        for place in 0..count {
+            self.push_inside(digit_at(number, count - 1 - place))?;
+        }
+        Ok(())
     }
 
     /// Adds a byte that ends no line.
@@ -115,11 +149,34 @@ fn is_all_plain(text: &str) -> bool
     text.as_bytes().iter().all(|byte| is_plain(*byte))
 }
 
-/// Whether a byte is shown as it is: it begins no control character. Those of two bytes begin with 0xc2.
+/// Whether a byte is shown as it is in any text. Those above 127 are the later bytes of a character, or begin one that is a letter
+/// or a sign: others that begin such a character are looked at with it.
 fn is_plain(byte: u8) -> bool
     ensures { result ≡ is_plain byte }
 {
-    byte >= 0x20 && byte != 0x7f && byte != 0xc2
+    match byte {
+        b'\\' | 0x7f => false,
+        0x20..=0xbf | 0xc3..=0xcc | 0xd0..=0xd3 | 0xe4..=0xe9 => true,
+        _ => false,
+    }
+}
+
+/// Whether a person can see a character, and can tell it from a space (Unicode, `General_Category` and
+/// `Default_Ignorable_Code_Point`).
+fn is_shown(c: char) -> bool {
+    let category = GeneralCategory::for_char(c);
+    let is_sign = !GeneralCategoryGroup::Other.contains(category)
+        && !GeneralCategoryGroup::Separator.contains(category)
+        && !is_default_ignorable_code_point(c);
+    c == ' ' || is_sign
+}
+
+/// The hexadecimal digit of a number at a place, of which the last is 0.
+fn digit_at(number: u32, place: u32) -> u8
+    requires { place < 8 }
+    ensures { is_inside result ≡ true }
+{
+    digit(((number >> (4 * place)) % 16) as u8)
 }
 
 /// A hexadecimal digit.
@@ -141,7 +198,8 @@ impl fmt::Write for Line {
     }
 }
 
-/// A text of a manifest, as it is shown: between double quotes, and cut at 64 bytes with `..` after it.
+/// A text of a manifest, as it is shown: between double quotes, with a `\` before each double quote and each `\` in it, and cut at
+/// 64 bytes with `..` after it.
 #[derive(Clone, Copy)]
 pub struct Quoted<'a>(pub &'a str);
 
@@ -149,8 +207,21 @@ impl fmt::Display for Quoted<'_> {
     fn fmt<W: fmt::Write>(&self, f: &mut fmt::Formatter<W>) -> fmt::Result {
         let Quoted(text) = *self;
         let (front, cut) = shown(text);
-        write!(f, "\"{front}\"{cut}")
+        f.write_str("\"")?;
+        write_escaped(f, front)?;
+        write!(f, "\"{cut}")
     }
+}
+
+/// Writes a text with a `\` before each double quote and each `\`.
+fn write_escaped<W: fmt::Write>(f: &mut fmt::Formatter<W>, text: &str) -> fmt::Result {
+    for c in text.chars() {
+        if c == '"' || c == '\\' {
+            f.write_str("\\")?;
+        }
+        f.write_char(c)?;
+    }
+    Ok(())
 }
 
 /// The first bytes of a text, and `..` where it has more.
@@ -189,7 +260,7 @@ pub fn push_file(text: &mut Vec<u8>, path: &str, kind: &str) -> Result<(), NoMem
 {
     let alloc = *text.allocator();
     let mut before = Line::new(alloc);
-    before.push_text(path)?;
+    before.push_path(path)?;
     before.push_text(": ")?;
     push_line(text, &before, kind, &Line::new(alloc))
 }

@@ -9,11 +9,10 @@ use crate::finding_detail::write_detail;
 use crate::line::{Line, push_line};
 use crate::place::write_place;
 use crate::readable::Readable;
-use crate::syntax::write_position;
+use crate::syntax::{write_message, write_position};
 use refusal::NoMemory;
 use rim_manifest::{Checked, Document, Finding, ManifestFault};
 use std::alloc::Global;
-use std::fmt::Write;
 use toml::de::Error;
 
 /// A manifest that was checked.
@@ -56,8 +55,7 @@ fn syntax_line(alloc: Global, text: &[u8], error: &Error) -> Result<Vec<u8>, NoM
     let mut before = Line::new(alloc);
     write_position(&mut before, text, error).map_err(|_| NoMemory)?;
     let mut after = Line::new(alloc);
-    let message = error.message();
-    write!(after, ": {message}").map_err(|_| NoMemory)?;
+    write_message(&mut after, text, error).map_err(|_| NoMemory)?;
     let mut lines = Vec::new(alloc);
     push_line(&mut lines, &before, ManifestFault::Syntax.kind(), &after)?;
     Ok(lines)

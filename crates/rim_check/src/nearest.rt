@@ -1,4 +1,5 @@
 //! The known word that is nearest to another one.
+use crate::alike::is_alike;
 use std::alloc::{AllocError, Global};
 use std::fmt;
 use strsim::levenshtein;
@@ -28,10 +29,19 @@ impl<'a, 'k> Nearest<'a, 'k> {
         }
     }
 
-    /// Adds a known word.
+    /// Takes a known word as the one that is meant.
+    pub(crate) fn take(&mut self, known: &'k str) {
+        self.distance = 0;
+        self.found = Some(known);
+    }
+
+    /// Adds a known word. One that differs by case, `-` and `_` alone is as near as can be.
     pub(crate) fn add(&mut self, alloc: Global, known: &'k str) -> Result<(), AllocError> {
         if self.word.len() > LONGEST || known.len() > LONGEST {
             return Ok(());
+        }
+        if self.distance > 0 && is_alike(self.word, known) {
+            self.take(known);
         }
         let distance = levenshtein(alloc, self.word, known)?;
         if distance < self.distance {

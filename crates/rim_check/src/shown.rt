@@ -1,10 +1,12 @@
 //! A value of a manifest, as a fault shows it.
 use crate::line::Quoted;
+use crate::number::{Number, NumberPair};
 use rim_manifest::{Form, ManifestFault, is_word};
 use std::fmt;
 use toml::Value;
 
-/// A value: a number or a text as it is, and of another one what it is.
+/// A value: a number or a text as it is, and of another one what it is. A number that may have been typed in hexadecimal digits
+/// is shown in these too, so that whichever was typed is found again.
 #[derive(Clone, Copy)]
 pub struct Shown<'a>(pub &'a Value);
 
@@ -16,7 +18,10 @@ impl fmt::Display for Shown<'_> {
                 let text = Quoted(text.as_str());
                 write!(f, "{text}")
             }
-            Value::Integer(number) => write!(f, "{number}"),
+            Value::Integer(number) => {
+                let number = Number(*number);
+                write!(f, "{number}")
+            }
             Value::Boolean(truth) => write!(f, "{truth}"),
             Value::Float(_) => f.write_str("a number with a fraction"),
             Value::Datetime(_) => f.write_str("a date or a time"),
@@ -29,7 +34,8 @@ impl fmt::Display for Shown<'_> {
 /// An array: its values, where they are two numbers, or how many they are.
 fn write_array<W: fmt::Write>(f: &mut fmt::Formatter<W>, items: &[Value]) -> fmt::Result {
     if let [Value::Integer(base), Value::Integer(end)] = items {
-        return write!(f, "[{base:#x}, {end:#x}]");
+        let pair = NumberPair(*base, *end);
+        return write!(f, "{pair}");
     }
     let count = items.len();
     write!(f, "an array of {count}")

@@ -5,7 +5,7 @@ use crate::calls::ReleaseCall;
 use crate::inputs::{files_of, split};
 use crate::trial::{Fault, Seen, begin, digest, end, seen};
 use refusal::NoMemory;
-use rim_check::{ManifestCheck, Readable, check_launches, check_manifest};
+use rim_check::{LaunchCheck, ManifestCheck, Readable, check_launches, check_manifest};
 use rim_desc::Measurement;
 use rim_release::{
     AuditFault, Files, Gate, JobId, Outcome, Release, Report, StartFault, audit, audit_report,
@@ -206,7 +206,7 @@ fn launches_checked<R: Print + AllocGlobal>(
     begin(rt, is_tried)?;
     let answer = check_launches(alloc, readable, files);
     end(rt, is_tried)?;
-    Ok(seen!(alloc, answer, report_digest, NoMemory))
+    Ok(seen!(alloc, answer, check_digest, NoMemory))
 }
 
 /// Counts the calls around jobs.
@@ -304,6 +304,10 @@ fn text_digest(_alloc: Global, text: &Vec<u8>) -> Result<u64, AllocError> {
 
 fn report_digest(_alloc: Global, report: &Report) -> Result<u64, AllocError> {
     Ok(digest(report.text.as_slice()))
+}
+
+fn check_digest(_alloc: Global, check: &LaunchCheck) -> Result<u64, AllocError> {
+    Ok(digest(check.faults.as_slice()) ^ digest(check.warnings.as_slice()))
 }
 
 fn value_digest(_alloc: Global, value: &Measurement) -> Result<u64, AllocError> {

@@ -1,34 +1,39 @@
-use Rattle.std.proofs.Common.{[], ◌∙◌, ap, length, refl, sym}
-use Rattle.rim_manifest.specs.Launches.{ReleaseData}
-use Rattle.rim_check.proofs.LaunchLines.{all-checked, checked-at, has-its-files, none-refused, some-refused}
+use Rattle.std.proofs.Common.{◌≡◌, [], ◌∙◌, ℕ, List, Some, IfOk, ap, length, refl, slice_get, subst, sym}
+use Rattle.ipa_layout.specs.Files.{bytes_of_files}
+use Rattle.rim_manifest.specs.Launches.{NamedData, ReleaseData}
+use Rattle.rim_check.specs.Warned.{ShowsWarnings}
+use Rattle.rim_check.specs.inside.Found.{AreWarned, numbers_of}
+use Rattle.rim_check.proofs.LaunchLines.{all-checked, all-found, checked-at, has-its-files, numbered-at}
 use Rattle.rim_check.proofs.launches.check_all.Goals as goal
-use Rattle.rim_check.proofs.launches.check_all.Goals.{then-is_refused, else-is_refused}
 
 pub loop-launch-init : goal.loop-launch-init
-loop-launch-init c = record { shows = record { said = []; are = refl; lines = c.new-text.ensures.items }; refused = refl }
+loop-launch-init c = record {
+  shows = record { said = []; are = refl; lines = c.new-found.ensures.refusals };
+  refused = c.new-found.ensures.refused;
+  pages = c.new-found.ensures.pages;
+  warned = subst (AreWarned (bytes_of_files c.args.files.now) c.args.readable.now.release.launches) (sym c.new-found.ensures.warnings) tt;
+}
 
-pub check_launch-requires : goal.check_launch-requires
-check_launch-requires c =
+pub look_at-requires : goal.look_at-requires
+look_at-requires c =
     has-its-files c.release.result.now _ c.loop-launch.launch-index c.launch-item.result _
-    c.all_launches-launch-items.ensures.kept c.all_launches-launch-items.ensures.value
+    c.all_launches-launches.ensures.kept c.all_launches-launches.ensures.value
     c.loop-launch-test.true c.launch-item.is (c.requires ∙ ap (λ (r : ReleaseData). length r.paths) (sym c.release.ensures))
 
 pub loop-launch-preserved : goal.loop-launch-preserved
 loop-launch-preserved c =
-    checked-at _ _ _ c.loop-launch.launch-index c.launch-item.result _ _ c.loop-launch.has_refused _
-    c.loop-launch-test.true c.launch-item.is c.in_ok-is_refused.ensures.text
-    (elim c.if-is_refused.branch [
-      | then-is_refused w ↦ some-refused _ _ _ _ c.in_ok-is_refused.ensures.refused w.if-is_refused.true w.has_refused-is
-      | else-is_refused w ↦ none-refused _ _ _ _ c.in_ok-is_refused.ensures.refused w.if-is_refused.false w.has_refused-is
-    ])
-    c.loop-launch.invariant
+    let l = c.launch-item.result in
+    let there = numbered-at c.release.result.now _ c.loop-launch.launch-index l
+    c.all_launches-launches.ensures.kept c.all_launches-launches.ensures.value c.loop-launch-test.true c.launch-item.is in
+    checked-at _ _ _ _ c.loop-launch.launch-index l _ _ c.loop-launch-test.true c.launch-item.is
+    (subst (λ (r : ReleaseData). slice_get r.launches l.launch.number ≡ Some l) c.release.ensures there) c.in_ok-look_at.ensures c.loop-launch.invariant
 
-pub returns-clause-text : goal.returns-clause-text
-returns-clause-text c =
-    let own = c.all_launches-launch-items.ensures.value ∙ ap (λ (r : ReleaseData). r.launches) c.release.ensures in
-    (all-checked _ _ _ _ _ _ _ own c.loop-launch-test.false c.loop-launch.invariant).shows
-
-pub returns-clause-refused : goal.returns-clause-refused
-returns-clause-refused c =
-    let own = c.all_launches-launch-items.ensures.value ∙ ap (λ (r : ReleaseData). r.launches) c.release.ensures in
-    (all-checked _ _ _ _ _ _ _ own c.loop-launch-test.false c.loop-launch.invariant).refused
+pub returns : goal.returns
+returns c =
+    let own = c.all_launches-launches.ensures.value ∙ ap (λ (r : ReleaseData). r.launches) c.release.ensures in
+    let are = all-checked _ _ _ _ _ _ own c.loop-launch-test.false c.loop-launch.invariant in
+    let warnings = subst (λ (all : List NamedData). IfOk c.finish.result (λ check. (fs : List (List ℕ)) → AreWarned fs all
+    (numbers_of c.loop-launch.found.warnings) → ShowsWarnings fs all check.warnings.items))
+    own c.finish.ensures.warnings in
+    all-found c.args.readable.now.names (bytes_of_files c.args.files.now) c.args.readable.now.release.launches c.loop-launch.found c.finish.result
+    c.finish.ensures.fault c.finish.ensures.faults warnings are

@@ -4,4 +4,4 @@ use Rattle.rim_check.proofs.LaunchLines.{AreChecked}
 use Rattle.rim_check.proofs.launches.check_all.Given as goal
 
 abbrev pub invariant-loop-launch : goal.invariant-loop-launch
-invariant-loop-launch l = AreChecked l.readable.names (bytes_of_files l.files) (take l.launch-index l.launch-items) l.text.items l.has_refused
+invariant-loop-launch l = AreChecked l.readable.names (bytes_of_files l.files) l.readable.release.launches (take l.launch-index l.launches) l.found

@@ -7,10 +7,10 @@ use Rattle.rim_check.proofs.line.push_file.Goals as goal
 pub returns : goal.returns
 returns c =
     let path : List ℕ = c.args.path.now in
-    let before : List ℕ = c.push_text-2.new.self.text.items in
+    let before : List ℕ = c.push_text.new.self.text.items in
     let front : IsKnown (Some (path ++ codes ": ")) before =
-    λ plain. adds-both c.new-before.result.text.items c.push_text.new.self.text.items before path (codes ": ")
-    c.in_ok-push_text.ensures c.in_ok-push_text-2.ensures plain
+    λ plain. adds-both c.new-before.result.text.items c.push_path.new.self.text.items before path (codes ": ")
+    c.in_ok-push_path.ensures c.in_ok-push_text.ensures plain
     ∙ ap (λ (old : List ℕ). old ++ (path ++ codes ": ")) c.new-before.ensures in
     on_ok_weaker _
     (λ (adds : (known detail : Option (List ℕ)) → IsKnown known before → IsKnown detail c.new.result.text.items → AddsLine (record { front = known; word = c.args.kind.now; detail = detail }) c.args.text.now.items c.push_line.new.text.items).

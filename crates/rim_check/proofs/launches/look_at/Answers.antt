@@ -1,0 +1,22 @@
+use Rattle.std.proofs.Common.{refl}
+use Rattle.std.proofs.lemmas.Result.{on_ok_weaker}
+use Rattle.ipa_layout.specs.Files.{bytes_of_files}
+use Rattle.rim_check.specs.Explained.{refusal_said}
+use Rattle.rim_check.specs.Lines.{AddsLine}
+use Rattle.rim_check.proofs.FoundOfLaunches.{accepted-all, refused-found}
+use Rattle.rim_check.proofs.launches.look_at.Goals as goal
+
+pub returns-in-Ok : goal.returns-in-Ok
+returns-in-Ok c =
+    let reasoned = rw (c.in-Ok.is, c.launch.ensures) at c.in_ok-accepted.ensures.reason in
+    let own = rw (c.in-Ok.is, c.launch.ensures) at c.in_ok-accepted.ensures.own in
+    accepted-all c.args.readable.now.names (bytes_of_files c.args.files.now) c.args.launch.now c.in-Ok.accepted c.args.found.now c.add_accepted.new.found
+    c.add_accepted.result reasoned own.0 c.add_accepted.ensures.refusals c.add_accepted.ensures.pages c.add_accepted.ensures.warnings
+
+pub returns-in-Err : goal.returns-in-Err
+returns-in-Err c =
+    let refused = rw (c.in-Err.is, c.launch.ensures) at c.in_ok-accepted.ensures.reason in
+    on_ok_weaker _ (λ (adds : AddsLine
+    (refusal_said c.args.readable.now.names c.args.launch.now c.in-Err.reason) c.args.found.now.refusals.items c.push_refused.new.text.items).
+    refused-found c.args.readable.now.names (bytes_of_files c.args.files.now) c.args.launch.now c.in-Err.reason c.args.found.now _ refused adds refl refl refl)
+    c.push_refused.ensures

@@ -1,0 +1,25 @@
+-- Warnings: what is rarely meant in launches that are accepted. What a warning says of its launch is tested alone. This project's choice.
+use Rattle.std.specs.Prelude.{◌≡◌, ℕ, List, [], ◌∷◌, ◌++◌, Some, None, IsOk, codes, decimal, nat_lt, if◌then◌else◌}
+use Rattle.std.specs.List.{AllByRecursion, slice_get}
+use Rattle.rim_manifest.specs.Launches.{NamedData}
+use Rattle.rim_accepted.specs.Accepted.{accepted_of}
+use Rattle.rim_check.specs.Lines.{Saying, SayInTurn}
+
+-- a line that is about a launch of this name
+abbrev pub warning_said : List ℕ → Saying
+warning_said name = record { front = Some (codes "warning: launch \""); word = name; detail = None }
+
+-- it is about a launch that is accepted
+abbrev pub IsWarning : List (List ℕ) → List NamedData → Saying → Type 0
+IsWarning files ls s = (l : NamedData) × (number : ℕ) × (slice_get ls number ≡ Some l) × IsOk (accepted_of l.launch files) × (s ≡ warning_said l.name)
+
+-- that there are more warnings than are shown
+abbrev pub more_said : ℕ → List Saying
+more_said more = if nat_lt 0 more then record { front = Some (codes "warning: "); word = decimal more; detail = Some (codes " more") } ∷ [] else []
+
+-- a text is lines of warnings, each about a launch that is accepted, and then how many more there are
+pub record ShowsWarnings (files : List (List ℕ)) (ls : List NamedData) (text : List ℕ) : Type 0 where
+  pub said : List Saying
+  pub each : AllByRecursion (IsWarning files ls) said
+  pub more : ℕ
+  pub lines : SayInTurn (said ++ more_said more) text

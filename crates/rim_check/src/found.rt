@@ -1,0 +1,133 @@
+//! What a check of the launches of a release has found.
+ghost use Rattle.std.specs.Prelude.{◌≡◌, IfOk, OnOk, Some, codes};
+ghost use Rattle.rim_check.specs.Explained.{fault_of, pages_detail, pages_said};
+ghost use Rattle.rim_check.specs.Lines.{AddsAll, IsKnown};
+
+use crate::line::{Line, push_line};
+use crate::warnings::Warnings;
+use refusal::NoMemory;
+use rim_manifest::NamedLaunch;
+use rim_report::{DISTINCT_LIMIT, MeasuredPages, StartFault};
+use std::alloc::{AllocError, Global};
+
+/// What is at fault in a release whose manifest is not, and whose files can be read.
+#[derive(Clone, Copy, Debug, PartialEq, Eq)]
+pub enum ReleaseFault {
+    /// Some launch is refused.
+    Refused,
+    /// The launches that are accepted have too many different measured pages, so that there is no report.
+    TooManyPages,
+}
+
+/// What a check of the launches of a release found.
+#[derive(Drop)]
+pub struct LaunchCheck {
+    /// What is at fault, if anything is.
+    pub fault: Option<ReleaseFault>,
+    /// A line for each launch that is refused, and one where there are too many pages.
+    pub faults: Vec<u8>,
+    /// A line for each thing that is rarely meant in launches that are accepted.
+    pub warnings: Vec<u8>,
+}
+
+/// What was found in the launches that were looked at.
+#[derive(Drop)]
+pub struct Found {
+    pub refusals: Vec<u8>,
+    pub has_refused: bool,
+    pub pages: MeasuredPages,
+    pub warnings: Warnings,
+}
+
+impl Found {
+    ghost use Rattle.std.specs.Prelude.{◌≡◌, [], IfOk, List, false, length, ℕ};
+    ghost use Rattle.page_jobs.specs.Key.{rising_keys};
+    ghost use Rattle.rim_check.specs.Explained.{fault_of, pages_said};
+    ghost use Rattle.rim_check.specs.Lines.{AddsAll};
+    ghost use Rattle.rim_check.specs.Warned.{ShowsWarnings};
+    ghost use Rattle.rim_check.specs.inside.Found.{AreWarned, numbers_of};
+
+    /// Nothing: no launch was looked at.
+    pub fn new(alloc: Global) -> Found
+        ensures refusals { result.refusals.items ≡ [] }
+        ensures refused { result.has_refused ≡ false }
+        ensures pages { result.pages ≡ [] }
+        ensures warnings { numbers_of result.warnings ≡ [] }
+    {
+        Found {
+            refusals: Vec::new(alloc),
+            has_refused: false,
+            pages: MeasuredPages::new(alloc),
+            warnings: Warnings::new(alloc),
+        }
+    }
+
+    /// All of it, where these are the launches that were looked at.
+    pub fn finish(self, alloc: Global, launches: &[NamedLaunch]) -> Result<LaunchCheck, NoMemory>
+        ensures fault { IfOk result
+            (λ c. c.fault ≡ fault_of (length (rising_keys self.pages)) self.has_refused) }
+        ensures faults { IfOk result (λ c. AddsAll (pages_said (length (rising_keys self.pages)))
+            self.refusals.items c.faults.items) }
+        ensures warnings { IfOk result (λ c. (files : List (List ℕ))
+            → AreWarned files launches.now (numbers_of self.warnings)
+            → ShowsWarnings files launches.now c.warnings.items) }
+    {
+        let count = self.pages.count(alloc)?;
+        let warnings = self.warnings.lines(alloc, launches)?;
+        let mut faults = self.refusals;
+        push_pages(&mut faults, count)?;
+        Ok(LaunchCheck {
+            fault: fault_of(count, self.has_refused),
+            faults,
+            warnings,
+        })
+    }
+}
+
+/// What is at fault where there are this many different measured pages, and some launch is refused or none is.
+fn fault_of(count: u128, has_refused: bool) -> Option<ReleaseFault>
+    ensures { result ≡ fault_of count has_refused }
+{
+    if count > u128::from(DISTINCT_LIMIT) {
+        return Some(ReleaseFault::TooManyPages);
+    }
+    if has_refused {
+        Some(ReleaseFault::Refused)
+    } else {
+        None
+    }
+}
+
+/// Adds a line that says how many different measured pages there are, where these are too many.
+fn push_pages(text: &mut Vec<u8>, count: u128) -> Result<(), NoMemory>
+    ensures { OnOk result (AddsAll (pages_said count) text.old.items text.new.items) }
+{
+    if count <= u128::from(DISTINCT_LIMIT) {
+        return Ok(());
+    }
+    let alloc = *text.allocator();
+    let before = pages_front(alloc)?;
+    let after = pages_detail(alloc, count)?;
+    push_line(text, &before, StartFault::TooManyPages.kind(), &after)
+}
+
+/// How that line begins.
+fn pages_front(alloc: Global) -> Result<Line, AllocError>
+    ensures { IfOk result (λ line. IsKnown (Some (codes "manifest: ")) line.text.items) }
+{
+    let mut line = Line::new(alloc);
+    line.push_text("manifest: ")?;
+    Ok(line)
+}
+
+/// How many pages there are, and how many there may be, with a colon before it.
+fn pages_detail(alloc: Global, count: u128) -> Result<Line, AllocError>
+    ensures { IfOk result (λ line. IsKnown (Some (pages_detail count)) line.text.items) }
+{
+    let text = format!(in alloc;
+        ": {count} different measured pages, expected at most {DISTINCT_LIMIT}"
+    )?;
+    let mut line = Line::new(alloc);
+    line.push_text(text.as_str())?;
+    Ok(line)
+}

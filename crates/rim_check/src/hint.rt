@@ -1,0 +1,191 @@
+//! How a value is to be written in place of what is given.
+use crate::alike::is_alike;
+use crate::number::{are_word_digits, is_number};
+use rim_manifest::Form;
+use std::fmt;
+use toml::Value;
+
+/// The words of algorithms.
+const ALGORITHMS: [&str; 2] = ["sha256", "sha512"];
+
+/// The words of an item's kind.
+const KINDS: [&str; 5] = ["kernel", "initrd", "dtb", "raw", "unknown"];
+
+/// The words of a rule for RECs.
+const REC_RULES: [&str; 2] = ["all", "runnable"];
+
+/// What helps to mend a value, beside what is expected. Printed, it follows that.
+#[derive(Clone, Copy)]
+pub(crate) enum Hint<'a> {
+    /// Nothing is known.
+    Nothing,
+    /// It is right but for its quotes.
+    Quotes,
+    /// The word that is meant.
+    Word(&'static str),
+    /// It lacks the `0x` before its digits.
+    WordDigits(&'a str),
+    /// A character that may not be in it.
+    Character(char),
+    /// How many characters it has.
+    Characters(usize),
+    /// How many hexadecimal digits it has, and the first character that is none.
+    Digits { count: usize, other: Option<char> },
+    /// The second number of a region is its size.
+    Size { base: i64, size: i64, end: i64 },
+    /// A region is not in an array of regions.
+    Region { base: i64, end: i64 },
+    /// A table is not in an array of tables, which a key has.
+    Tables(&'static str),
+}
+
+impl fmt::Display for Hint<'_> {
+    fn fmt<W: fmt::Write>(&self, f: &mut fmt::Formatter<W>) -> fmt::Result {
+        match *self {
+            Hint::Nothing => Ok(()),
+            Hint::Quotes => f.write_str(", written without quotes"),
+            Hint::Word(word) => write!(f, " (write \"{word}\")"),
+            Hint::WordDigits(digits) => write!(f, " (in hexadecimal digits: \"0x{digits}\")"),
+            Hint::Character(c) => write!(f, " ('{c}' is not allowed)"),
+            Hint::Characters(count) => write!(f, " (it has {count} characters)"),
+            Hint::Digits { count, other } => write_digits(f, count, other),
+            Hint::Size { base, size, end } => write!(
+                f,
+                " (for {size:#x} bytes from {base:#x}: [{base:#x}, {end:#x}])"
+            ),
+            Hint::Region { base, end } => write!(f, " (write [[{base:#x}, {end:#x}]])"),
+            Hint::Tables(key) => {
+                let header = Header(key);
+                write!(f, " (write {header})")
+            }
+        }
+    }
+}
+
+fn write_digits<W: fmt::Write>(
+    f: &mut fmt::Formatter<W>,
+    count: usize,
+    other: Option<char>,
+) -> fmt::Result {
+    match other {
+        Some(c) => write!(f, " (it has {count}, and '{c}' is none)"),
+        None => write!(f, " (it has {count})"),
+    }
+}
+
+/// The header of a table in the array of tables at a key.
+#[derive(Clone, Copy)]
+pub(crate) struct Header<'a>(pub &'a str);
+
+impl fmt::Display for Header<'_> {
+    fn fmt<W: fmt::Write>(&self, f: &mut fmt::Formatter<W>) -> fmt::Result {
+        let Header(key) = *self;
+        match key {
+            "item" | "rec" => write!(f, "[[launch.{key}]]"),
+            _ => write!(f, "[[{key}]]"),
+        }
+    }
+}
+
+/// What helps to mend the value at a key of a form.
+pub(crate) fn value_hint<'a>(key: &'static str, form: Form, value: &'a Value) -> Hint<'a> {
+    match (form, value) {
+        (_, Value::String(text)) => text_hint(form, text.as_str()),
+        (Form::Regions { .. }, Value::Array(items)) => size_hint(items.as_slice()),
+        (Form::Tables { .. }, Value::Table(_)) => Hint::Tables(key),
+        _ => Hint::Nothing,
+    }
+}
+
+/// What helps to mend a value of an array at a key of a form.
+pub(crate) fn element_hint<'a>(
+    key: &'static str,
+    form: Form,
+    array: &'a Value,
+    element: &'a Value,
+) -> Hint<'a> {
+    match (form, array, element) {
+        (Form::Regions { .. }, Value::Array(items), Value::Integer(_)) => {
+            region_hint(items.as_slice())
+        }
+        (Form::Tables { .. }, _, _) => Hint::Nothing,
+        _ => value_hint(key, form, element),
+    }
+}
+
+fn text_hint(form: Form, text: &str) -> Hint<'_> {
+    match form {
+        Form::Version | Form::Number { .. } | Form::PoolBase if is_number(text) => Hint::Quotes,
+        Form::Truth if text == "true" || text == "false" => Hint::Quotes,
+        Form::Word | Form::Words { .. } if are_word_digits(text) => Hint::WordDigits(text),
+        Form::Algorithm => word_hint(&ALGORITHMS, text),
+        Form::ItemKind => word_hint(&KINDS, text),
+        Form::RecRule => word_hint(&REC_RULES, text),
+        Form::Name => name_hint(text),
+        Form::Digits { .. } => digits_hint(text),
+        _ => Hint::Nothing,
+    }
+}
+
+/// The word that a text is but for its spelling.
+fn word_hint<'a>(words: &[&'static str], text: &str) -> Hint<'a> {
+    match words.iter().find(|word| is_alike(**word, text)) {
+        Some(word) => Hint::Word(*word),
+        None => Hint::Nothing,
+    }
+}
+
+/// Why a text is no name.
+fn name_hint<'a>(text: &str) -> Hint<'a> {
+    match text.chars().find(|c| !is_of_names(*c)) {
+        Some(c) => Hint::Character(c),
+        None => Hint::Characters(text.len()),
+    }
+}
+
+/// Whether a name may have a character.
+fn is_of_names(c: char) -> bool {
+    c.is_ascii_alphanumeric() || matches!(c, '.' | '_' | '-')
+}
+
+fn digits_hint<'a>(text: &str) -> Hint<'a> {
+    Hint::Digits {
+        count: text.chars().filter(|c| c.is_ascii_hexdigit()).count(),
+        other: text.chars().find(|c| !c.is_ascii_hexdigit()),
+    }
+}
+
+/// Whether a pair is the base and the size of a region, or has a number between quotes.
+fn size_hint<'a>(pair: &[Value]) -> Hint<'a> {
+    match pair {
+        [Value::Integer(base), Value::Integer(size)] => match base.checked_add(*size) {
+            Some(end) if 0 <= *base && 0 < *size && *size <= *base => Hint::Size {
+                base: *base,
+                size: *size,
+                end,
+            },
+            _ => Hint::Nothing,
+        },
+        _ if pair.iter().any(is_quoted) => Hint::Quotes,
+        _ => Hint::Nothing,
+    }
+}
+
+/// Whether a value is a number between quotes.
+fn is_quoted(value: &Value) -> bool {
+    match value {
+        Value::String(text) => is_number(text.as_str()),
+        _ => false,
+    }
+}
+
+/// Whether an array has a region alone, and not in an array of its own.
+fn region_hint<'a>(items: &[Value]) -> Hint<'a> {
+    match items {
+        [Value::Integer(base), Value::Integer(end)] if 0 <= *base && *base < *end => Hint::Region {
+            base: *base,
+            end: *end,
+        },
+        _ => Hint::Nothing,
+    }
+}

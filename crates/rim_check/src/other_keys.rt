@@ -1,0 +1,163 @@
+//! The keys of a table that the format does not list for it.
+use crate::alike::is_alike;
+use crate::belongs::{form_in, is_anywhere, write_owners};
+use crate::hint::Header;
+use crate::line::{Line, Quoted};
+use crate::nearest::Nearest;
+use crate::place::text_at;
+use rim_manifest::{
+    DTB_RULES, Document, FILE_RULES, Form, ITEM_RULES, Place, REC_RULES, Rule, TOP_RULES,
+    UNKNOWN_RULES,
+};
+use std::alloc::Global;
+use std::fmt;
+use std::fmt::Write;
+use toml::Table;
+
+/// The most keys of a table that are listed.
+const MOST_KEYS: usize = 8;
+
+/// Words of other programs, and the keys that say the same.
+const ALIASES: [(&str, &str); 20] = [
+    ("append", "bootargs"),
+    ("args", "bootargs"),
+    ("cmdline", "bootargs"),
+    ("command_line", "bootargs"),
+    ("algorithm", "algo"),
+    ("hash", "algo"),
+    ("hash_algo", "algo"),
+    ("hash_algorithm", "algo"),
+    ("ipa", "s2sz"),
+    ("ipa_bits", "s2sz"),
+    ("ipa_width", "s2sz"),
+    ("addr", "at"),
+    ("address", "at"),
+    ("base", "at"),
+    ("load", "at"),
+    ("type", "kind"),
+    ("memory", "ram"),
+    ("cpu", "rec"),
+    ("cpus", "rec"),
+    ("vcpus", "rec"),
+];
+
+/// What a key of a table is that the format does not list for it.
+#[derive(Clone, Copy)]
+enum OtherKey {
+    /// Another word for a key of the table.
+    Alias { key: &'static str, form: Form },
+    /// The kind of an item, in a launch.
+    Kind,
+    /// A key of version 2.
+    Later,
+    /// A key of other tables.
+    Elsewhere,
+    /// Perhaps a key of the table with a slip.
+    Slip,
+}
+
+/// The keys that a table may have.
+fn rules_of(document: &Document, place: Place, table: &Table) -> &'static [Rule] {
+    match place {
+        Place::Top => &TOP_RULES,
+        Place::File { .. } => &FILE_RULES,
+        Place::Launch { .. } => document.launch_rules(),
+        Place::Item { .. } => match text_at(table, "kind") {
+            Some("dtb") => &DTB_RULES,
+            Some("unknown") => &UNKNOWN_RULES,
+            _ => &ITEM_RULES,
+        },
+        Place::Rec { .. } => &REC_RULES,
+    }
+}
+
+/// Adds the keys of a table that no rule has. More than a few are counted.
+pub(crate) fn write_other_keys(
+    alloc: Global,
+    line: &mut Line,
+    document: &Document,
+    place: Place,
+    table: &Table,
+) -> fmt::Result {
+    let rules = rules_of(document, place, table);
+    let mut listed = 0;
+    let mut more = 0usize;
+    for key in table.keys() {
+        if form_in(rules, key.as_str()).is_some() {
+            continue;
+        }
+        if listed < MOST_KEYS {
+            write!(line, "{}", if listed == 0 { ": " } else { ", " })?;
+            write_other_key(alloc, line, document, place, rules, key.as_str())?;
+            listed += 1;
+        } else {
+            more = more.saturating_add(1);
+        }
+    }
+    match more {
+        0 => Ok(()),
+        _ => write!(line, " and {more} more"),
+    }
+}
+
+/// Adds a key that no rule has, and what helps to mend it.
+fn write_other_key(
+    alloc: Global,
+    line: &mut Line,
+    document: &Document,
+    place: Place,
+    rules: &[Rule],
+    key: &str,
+) -> fmt::Result {
+    let quoted = Quoted(key);
+    write!(line, "{quoted}")?;
+    match other_key(document, place, rules, key) {
+        OtherKey::Alias {
+            key,
+            form: Form::Tables { .. },
+        } => {
+            let header = Header(key);
+            write!(line, " (write {header})")
+        }
+        OtherKey::Alias { key, .. } => write!(line, " (write {key})"),
+        OtherKey::Kind => write!(line, " (write an item with kind = \"{key}\")"),
+        OtherKey::Later => write!(line, " (belongs to version 2: write rim_manifest = 2)"),
+        OtherKey::Elsewhere => write_owners(line, document, place, key),
+        OtherKey::Slip => write_nearest(alloc, line, rules, key),
+    }
+}
+
+/// What a key is that no rule has.
+fn other_key(document: &Document, place: Place, rules: &[Rule], key: &str) -> OtherKey {
+    if let Some(alias) = alias_in(rules, key) {
+        return alias;
+    }
+    let is_of_launch = matches!(place, Place::Launch { .. });
+    match key {
+        "kernel" | "initrd" | "dtb" if is_of_launch => OtherKey::Kind,
+        "rec_rule" if is_of_launch => OtherKey::Later,
+        _ if is_anywhere(document, key) => OtherKey::Elsewhere,
+        _ => OtherKey::Slip,
+    }
+}
+
+/// The key of these rules that another word says.
+fn alias_in(rules: &[Rule], word: &str) -> Option<OtherKey> {
+    for (alias, key) in ALIASES {
+        if is_alike(alias, word)
+            && let Some(form) = form_in(rules, key)
+        {
+            return Some(OtherKey::Alias { key, form });
+        }
+    }
+    None
+}
+
+/// Adds the key of these rules that is nearest to another one.
+fn write_nearest(alloc: Global, line: &mut Line, rules: &[Rule], key: &str) -> fmt::Result {
+    let mut nearest = Nearest::new(key);
+    for rule in rules {
+        nearest.add(alloc, rule.0)?;
+    }
+    write!(line, "{nearest}")
+}

@@ -1,0 +1,71 @@
+//! What is rarely meant in a launch that is accepted.
+mod cells;
+mod chosen;
+mod devicetree;
+mod initrd;
+mod items;
+mod memory;
+mod processors;
+mod ram;
+mod ranges;
+mod recs;
+
+use crate::names::ItemNames;
+use crate::unusual::devicetree::{UnusualTree, find_in_tree};
+use crate::unusual::items::{UnusualItem, find_in_items};
+use crate::unusual::ram::{UnusualRam, find_in_ram};
+use crate::unusual::recs::{UnusualRec, find_in_recs};
+use refusal::NoMemory;
+use rim_accepted::AcceptedLaunch;
+use rim_launch::Launch;
+use std::alloc::Global;
+use std::fmt;
+
+/// What is rarely meant in a launch. Printed, it is what a warning says after the launch's name.
+#[derive(Clone, Copy)]
+pub enum Unusual<'a> {
+    /// It has no RAM, no item and no REC.
+    Empty,
+    Rec(UnusualRec),
+    Item(UnusualItem<'a>),
+    Ram(UnusualRam),
+    Tree(UnusualTree<'a>),
+}
+
+impl fmt::Display for Unusual<'_> {
+    fn fmt<W: fmt::Write>(&self, f: &mut fmt::Formatter<W>) -> fmt::Result {
+        match *self {
+            Unusual::Empty => {
+                f.write_str("no RAM, no item and no REC: only the realm's parameters are measured")
+            }
+            Unusual::Rec(rec) => write!(f, "{rec}"),
+            Unusual::Item(item) => write!(f, "{item}"),
+            Unusual::Ram(ram) => write!(f, "{ram}"),
+            Unusual::Tree(tree) => write!(f, "{tree}"),
+        }
+    }
+}
+
+/// What is rarely meant in a launch that is accepted: of its RECs, its items, its RAM and its devicetree, in this order. A
+/// launch with none of them has that alone.
+pub(crate) fn find_unusual<'a>(
+    alloc: Global,
+    names: ItemNames<'a>,
+    accepted: &'a AcceptedLaunch<'_>,
+) -> Result<Vec<Unusual<'a>>, NoMemory> {
+    let mut found = Vec::new(alloc);
+    if is_empty(accepted.launch) {
+        found.push(Unusual::Empty)?;
+        return Ok(found);
+    }
+    find_in_recs(&mut found, accepted.placed.recs())?;
+    find_in_items(&mut found, names, accepted)?;
+    find_in_ram(&mut found, accepted.launch)?;
+    find_in_tree(alloc, &mut found, names, accepted)?;
+    Ok(found)
+}
+
+/// Whether a launch has no RAM, no item and no REC.
+fn is_empty(launch: &Launch) -> bool {
+    launch.ram().is_empty() && launch.items().is_empty() && launch.recs().is_empty()
+}

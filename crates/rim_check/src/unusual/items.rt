@@ -1,0 +1,155 @@
+//! Items that are rarely meant: those that are missing, those whose bytes are of another kind, and a file that two have.
+use crate::line::Quoted;
+use crate::names::ItemNames;
+use crate::unusual::Unusual;
+use crate::unusual::initrd::{Front, is_initrd};
+use refusal::NoMemory;
+use rim_accepted::AcceptedLaunch;
+use rim_launch::{Item, Role};
+use std::fmt;
+
+/// How a flattened devicetree begins.
+const DEVICETREE_MAGIC: [u8; 4] = [0xd0, 0x0d, 0xfe, 0xed];
+
+/// What is rarely meant of a launch's items.
+#[derive(Clone, Copy)]
+pub(crate) enum UnusualItem<'a> {
+    /// None is a kernel.
+    NoKernel,
+    /// None is a devicetree.
+    NoDevicetree,
+    /// A raw one begins as an arm64 Image.
+    RawImage { item: &'a str },
+    /// A raw one begins as a devicetree.
+    RawDevicetree { item: &'a str },
+    /// The initrd has no bytes.
+    EmptyInitrd { item: &'a str },
+    /// The initrd begins as none that Linux can unpack.
+    OtherInitrd { item: &'a str, front: Front<'a> },
+    /// Two have the same file.
+    SameFile { first: &'a str, second: &'a str },
+}
+
+impl fmt::Display for UnusualItem<'_> {
+    fn fmt<W: fmt::Write>(&self, f: &mut fmt::Formatter<W>) -> fmt::Result {
+        match *self {
+            UnusualItem::NoKernel => {
+                f.write_str("no item of kind \"kernel\", expected one for REC 0 to enter")
+            }
+            UnusualItem::NoDevicetree => {
+                f.write_str("no item of kind \"dtb\", expected one for Linux to read")
+            }
+            UnusualItem::RawImage { item } => write_raw(f, item, "an arm64 Image", "kernel"),
+            UnusualItem::RawDevicetree { item } => write_raw(f, item, "a devicetree", "dtb"),
+            UnusualItem::EmptyInitrd { item } => {
+                let item = Quoted(item);
+                write!(f, "item {item} has no bytes, expected an initrd")
+            }
+            UnusualItem::OtherInitrd { item, front } => write_other_initrd(f, item, front),
+            UnusualItem::SameFile { first, second } => {
+                let first = Quoted(first);
+                let second = Quoted(second);
+                write!(
+                    f,
+                    "items {first} and {second} have the same file, expected one for each"
+                )
+            }
+        }
+    }
+}
+
+/// That a raw item begins as what has a kind of its own.
+fn write_raw<W: fmt::Write>(
+    f: &mut fmt::Formatter<W>,
+    item: &str,
+    form: &str,
+    kind: &str,
+) -> fmt::Result {
+    let item = Quoted(item);
+    write!(
+        f,
+        "item {item} of kind \"raw\" begins as {form}, expected kind \"{kind}\""
+    )
+}
+
+/// That an initrd begins as none.
+fn write_other_initrd<W: fmt::Write>(
+    f: &mut fmt::Formatter<W>,
+    item: &str,
+    front: Front<'_>,
+) -> fmt::Result {
+    let item = Quoted(item);
+    write!(
+        f,
+        "item {item} of kind \"initrd\" begins with {front}, \
+         expected gzip, xz, zstd, lz4, lzma, lzo, bzip2 or cpio"
+    )
+}
+
+/// Adds what is rarely meant of the items of a launch.
+pub(crate) fn find_in_items<'a>(
+    found: &mut Vec<Unusual<'a>>,
+    names: ItemNames<'a>,
+    accepted: &'a AcceptedLaunch<'_>,
+) -> Result<(), NoMemory> {
+    let items = accepted.launch.items();
+    if !has_role(items, Role::Kernel) {
+        found.push(Unusual::Item(UnusualItem::NoKernel))?;
+    }
+    if !has_role(items, Role::Dtb) {
+        found.push(Unusual::Item(UnusualItem::NoDevicetree))?;
+    }
+    for (number, item) in items.iter().enumerate() {
+        let bytes = placed_bytes(accepted, number);
+        if let Some(unusual) = unusual_bytes(item.kind.role(), names.name(number), bytes) {
+            found.push(Unusual::Item(unusual))?;
+        }
+        if let Some(unusual) = same_file(names, items, number) {
+            found.push(Unusual::Item(unusual))?;
+        }
+    }
+    Ok(())
+}
+
+/// Whether some item has a role.
+fn has_role(items: &[Item], role: Role) -> bool {
+    items.iter().any(|item| item.has_role(role))
+}
+
+/// The bytes of an item as it is placed, by its number; none where it has no file.
+pub(crate) fn placed_bytes<'a>(accepted: &'a AcceptedLaunch<'_>, number: usize) -> &'a [u8] {
+    let items = accepted.placed.items();
+    match items.get(number).and_then(|item| item.source) {
+        Some(source) => accepted.placed.bytes(accepted.files, source),
+        None => &[],
+    }
+}
+
+/// What is rarely meant of the bytes of an item with a role.
+fn unusual_bytes<'a>(role: Role, item: &'a str, bytes: &'a [u8]) -> Option<UnusualItem<'a>> {
+    match role {
+        Role::Raw if arm64_image::read(bytes).is_ok() => Some(UnusualItem::RawImage { item }),
+        Role::Raw if bytes.starts_with(&DEVICETREE_MAGIC) => {
+            Some(UnusualItem::RawDevicetree { item })
+        }
+        Role::Initrd if bytes.is_empty() => Some(UnusualItem::EmptyInitrd { item }),
+        Role::Initrd if !is_initrd(bytes) => Some(UnusualItem::OtherInitrd {
+            item,
+            front: Front(bytes),
+        }),
+        _ => None,
+    }
+}
+
+/// Whether an earlier item has the file of this one.
+fn same_file<'a>(names: ItemNames<'a>, items: &[Item], number: usize) -> Option<UnusualItem<'a>> {
+    let file = items.get(number)?.kind.file()?;
+    let first = items
+        .iter()
+        .take(number)
+        .position(|earlier| earlier.kind.file() == Some(file))?;
+    Some(UnusualItem::SameFile {
+        first: names.name(first),
+        second: names.name(number),
+    })
+}

@@ -1,0 +1,83 @@
+//! Sets of addresses.
+use ipa_layout::IpaRange;
+use refusal::NoMemory;
+use std::alloc::Global;
+use std::fmt;
+
+/// Where two sets of addresses differ first: the range of the one and of the other. Where one of them has no more, its range
+/// is `None`.
+#[derive(Clone, Copy)]
+pub(crate) struct Difference {
+    found: Option<IpaRange>,
+    expected: Option<IpaRange>,
+}
+
+impl fmt::Display for Difference {
+    fn fmt<W: fmt::Write>(&self, f: &mut fmt::Formatter<W>) -> fmt::Result {
+        let found = RangeText(self.found);
+        let expected = RangeText(self.expected);
+        write!(f, "{found}, expected {expected}")
+    }
+}
+
+/// A range as it is shown, or `none`.
+#[derive(Clone, Copy)]
+struct RangeText(Option<IpaRange>);
+
+impl fmt::Display for RangeText {
+    fn fmt<W: fmt::Write>(&self, f: &mut fmt::Formatter<W>) -> fmt::Result {
+        match *self {
+            RangeText(Some(range)) => {
+                let IpaRange { base, end } = range;
+                write!(f, "{base:#x} to {end:#x}")
+            }
+            RangeText(None) => f.write_str("none"),
+        }
+    }
+}
+
+/// Where two sets of addresses differ first, if they do. Neither the order of ranges matters nor whether they touch.
+pub(crate) fn compare(
+    alloc: Global,
+    found: Vec<IpaRange>,
+    expected: Vec<IpaRange>,
+) -> Result<Option<Difference>, NoMemory> {
+    let found = merged(alloc, found)?;
+    let expected = merged(alloc, expected)?;
+    Ok(first_difference(&found, &expected))
+}
+
+/// The same addresses as ranges in rising order that do not touch.
+fn merged(alloc: Global, mut ranges: Vec<IpaRange>) -> Result<Vec<IpaRange>, NoMemory> {
+    ranges.sort_by_key(|range| range.base)?;
+    let mut all = Vec::new(alloc);
+    for range in &ranges {
+        add(&mut all, *range)?;
+    }
+    Ok(all)
+}
+
+/// Adds a range that begins at the last one or after it: to the last one, where they touch.
+fn add(all: &mut Vec<IpaRange>, range: IpaRange) -> Result<(), NoMemory> {
+    match all.last_mut() {
+        Some(last) if range.base <= last.end => last.end = last.end.max(range.end),
+        _ => all.push(range)?,
+    }
+    Ok(())
+}
+
+/// Where two lists of ranges differ first, if they do.
+fn first_difference(found: &[IpaRange], expected: &[IpaRange]) -> Option<Difference> {
+    let same = found
+        .iter()
+        .zip(expected.iter())
+        .take_while(|(one, other)| one == other)
+        .count();
+    let found = found.get(same).copied();
+    let expected = expected.get(same).copied();
+    if found.is_none() && expected.is_none() {
+        None
+    } else {
+        Some(Difference { found, expected })
+    }
+}

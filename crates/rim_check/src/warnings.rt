@@ -1,0 +1,160 @@
+//! The warnings of a release: what is rarely meant in launches that are accepted, said once for all launches that have it.
+ghost use Rattle.std.specs.Prelude.{◌<◌, OnOk};
+ghost use Rattle.rim_check.specs.Lines.{AddsAll, AddsLine};
+ghost use Rattle.rim_check.specs.Warned.{more_said, warning_said};
+
+use crate::line::{Line, push_line};
+use crate::unusual::Unusual;
+use itoa::Buffer;
+use refusal::NoMemory;
+use rim_manifest::NamedLaunch;
+use std::alloc::Global;
+use std::fmt::Write;
+
+/// The most warnings that have a line: 200. How many more there are is said in one line. This project's choice.
+const WARNING_LIMIT: usize = 200;
+
+/// What a warning says, the number of the first launch that it is about, and how many others have the same.
+#[derive(Drop)]
+pub struct Warning {
+    text: Line,
+    launch: usize,
+    others: usize,
+}
+
+/// The warnings of some launches.
+#[derive(Drop)]
+pub struct Warnings {
+    found: Vec<Warning>,
+    /// How many have no line.
+    more: usize,
+}
+
+impl Warnings {
+    ghost use Rattle.std.specs.Prelude.{◌≡◌, ◌<◌, [], IfOk, IfSome, List, OnOk, length, ℕ};
+    ghost use Rattle.rim_check.specs.Warned.{ShowsWarnings};
+    ghost use Rattle.rim_check.specs.inside.Found.{AddsNumber, AreWarned, numbers_of};
+
+    /// No warning.
+    pub fn new(alloc: Global) -> Warnings
+        ensures { numbers_of result ≡ [] }
+    {
+        Warnings {
+            found: Vec::new(alloc),
+            more: 0,
+        }
+    }
+
+    /// Adds what is rarely meant in the launch of this number.
+    pub fn add_all(&mut self, launch: usize, unusual: &[Unusual<'_>]) -> Result<(), NoMemory>
+        ensures { OnOk result (AddsNumber launch (numbers_of self.old) (numbers_of self.new)) }
+    {
+        for one in unusual {
+            self.add(launch, one)?;
+        }
+        Ok(())
+    }
+
+    /// Adds one: it is counted with the same of an earlier launch.
+    fn add(&mut self, launch: usize, unusual: &Unusual<'_>) -> Result<(), NoMemory>
+        ensures { OnOk result (AddsNumber launch (numbers_of self.old) (numbers_of self.new)) }
+    {
+        let alloc = *self.found.allocator();
+        let mut text = Line::new(alloc);
+        write!(text, "{unusual}").map_err(|_| NoMemory)?;
+        match self.position(&text) {
+            Some(at) => self.count_other(at),
+            None => self.push(launch, text)?,
+        }
+        Ok(())
+    }
+
+    /// Where the warning with this text is.
+    fn position(&self, text: &Line) -> Option<usize>
+        ensures { IfSome result (λ at. at < length self.now.found.items) }
+    {
+        self.found
+            .iter()
+            .position(|warning| warning.text.as_slice() == text.as_slice())
+    }
+
+    /// Counts one more launch that has the warning at a place.
+    fn count_other(&mut self, at: usize)
+        requires { at < length self.old.found.items }
+        ensures { numbers_of self.new ≡ numbers_of self.old }
+    {
+        let others = self.found[at].others;
+        self.found[at].others = others.saturating_add(1);
+    }
+
+    /// Adds a warning that no launch has had.
+    fn push(&mut self, launch: usize, text: Line) -> Result<(), NoMemory>
+        ensures { OnOk result (AddsNumber launch (numbers_of self.old) (numbers_of self.new)) }
+    {
+        if self.found.len() >= WARNING_LIMIT {
+            self.more = self.more.saturating_add(1);
+            return Ok(());
+        }
+        self.found.push(Warning {
+            text,
+            launch,
+            others: 0,
+        })?;
+        Ok(())
+    }
+
+    /// A line for each, and one that says how many more there are.
+    pub fn lines(&self, alloc: Global, launches: &[NamedLaunch]) -> Result<Vec<u8>, NoMemory>
+        ensures { IfOk result (λ lines. (files : List (List ℕ))
+            → AreWarned files launches.now (numbers_of self.now)
+            → ShowsWarnings files launches.now lines.items) }
+    {
+        let mut lines = Vec::new(alloc);
+        for warning in &self.found {
+            if let Some(launch) = launches.get(warning.launch) {
+                push_warning(&mut lines, launch.name(), warning)?;
+            }
+        }
+        if self.more > 0 {
+            push_more(&mut lines, self.more)?;
+        }
+        Ok(lines)
+    }
+}
+
+/// Adds the line of a warning about a launch of this name, and how many others have the same.
+fn push_warning(lines: &mut Vec<u8>, name: &str, warning: &Warning) -> Result<(), NoMemory>
+    ensures { OnOk result (AddsLine (warning_said name.now) lines.old.items lines.new.items) }
+{
+    let alloc = *lines.allocator();
+    let mut before = Line::new(alloc);
+    before.push_text("warning: launch \"")?;
+    let after = warning_end(alloc, warning)?;
+    push_line(lines, &before, name, &after)
+}
+
+/// How that line ends.
+fn warning_end(alloc: Global, warning: &Warning) -> Result<Line, NoMemory> {
+    let mut line = Line::new(alloc);
+    match warning.others {
+        0 => write!(line, "\": "),
+        1 => write!(line, "\" and 1 other: "),
+        others => write!(line, "\" and {others} others: "),
+    }
+    .map_err(|_| NoMemory)?;
+    line.append(&warning.text)?;
+    Ok(line)
+}
+
+/// Adds a line that says how many warnings have none.
+fn push_more(lines: &mut Vec<u8>, more: usize) -> Result<(), NoMemory>
+    requires { 0 < more }
+    ensures { OnOk result (AddsAll (more_said more) lines.old.items lines.new.items) }
+{
+    let alloc = *lines.allocator();
+    let mut before = Line::new(alloc);
+    before.push_text("warning: ")?;
+    let mut after = Line::new(alloc);
+    after.push_text(" more")?;
+    push_line(lines, &before, Buffer::new().format(more), &after)
+}
