@@ -65,6 +65,7 @@ ROWS = [
     (["rim", "list", "none.toml", ""], []),
     (["rim", "list", "$(touch made)", ""], []),
     (["rim", "measure", "--j"], ["--json"]),
+    (["rim", "check", "--q"], ["--quiet"]),
     (["rim", "measure", "m.toml", "--w"], ["--workers"]),
     (["rim", "measure", "--workers", ""], []),
     (["rim", "measure", "--workers", "4", ""], PATHS),

@@ -417,7 +417,7 @@ def read_by(program: str, folder: Folder, out="out", count: int | None = None):
     wrong = []
     path = os.path.join(folder.path, out)
     for name in sorted(each for each in os.listdir(path) if each.endswith(".toml")):
-        ran = subprocess.run([program, "check", name], cwd=path, capture_output=True, timeout=SECONDS, check=False)
+        ran = subprocess.run([program, "check", "--quiet", name], cwd=path, capture_output=True, timeout=SECONDS, check=False)
         if ran.returncode or ran.stdout or ran.stderr:
             wrong.append(f"check {name}: status {ran.returncode}, {ran.stdout + ran.stderr!r}")
     status, report, said = folder.run(start=os.path.join(path, "measure"), RIM=program)

@@ -68,7 +68,7 @@ RIM = Program(
         Command("list", "Print the commands that build the realm of a launch", (MANIFEST, LAUNCH)),
         Command("trace", "Print the measurement of a launch step by step", (MANIFEST, LAUNCH)),
         Command("audit", "Print each measurement as a monitor holds it", (MANIFEST,)),
-        Command("check", "Print what is wrong with a manifest", (MANIFEST,)),
+        Command("check", "Print what is wrong with a manifest", (MANIFEST,), (Option(("--quiet",), "Print no warnings"),)),
         Command("dtb", "Write the devicetree of a launch", (MANIFEST, LAUNCH)),
         Command("replay", "Say whether a listing is what it says", (FILE,)),
         Command("image", "Print the header of an arm64 kernel Image", (FILE,)),

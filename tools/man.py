@@ -22,6 +22,8 @@ TOP = pathlib.Path(__file__).resolve().parent.parent
 CRATES = TOP / "crates"
 FAULTS = ["rim_cli/src/fault.rt", "rim_manifest/src/fault.rt", "rim_report/src/fault.rt", "rim_accepted/src/audit_fault.rt",
           "rim_show/src/fault.rt", "rim_replay/src/fault.rt"]
+# The name of an option or a flag, where the command line is defined.
+LONG = r'(?:\.long\(|\bflag_arg\(\s*alloc,\s*)"([\w-]+)"'
 
 
 def found(pattern, *paths):
@@ -43,7 +45,7 @@ def named():
     definition, words = CRATES / "rim_cli/src/definition.rt", CRATES / "rim_cli/src/words.rt"
     return {
         "command": found(r'^\s+"(\w+)" => Request::', words),
-        "option": ["--" + name for name in ["help", "version"] + found(r'\.long\("([\w-]+)"\)', definition)],
+        "option": ["--" + name for name in ["help", "version"] + found(LONG, definition)],
         "status": found(r"^  (\d)  ", definition) + ["127"],
         # a wrong number of workers is refused as a mistake in the command line, and never by this word
         "fault": [word for word in found(r'=> "([a-z0-9-]+)"', *(CRATES / path for path in FAULTS)) if word != "workers"],
@@ -62,8 +64,8 @@ def options():
     """The options of each command, as its definition adds them."""
     text = (CRATES / "rim_cli/src/definition.rt").read_text()
     bodies = dict(re.findall(r"^fn (\w+)<'a>\((.*?)^\}", text, re.M | re.S))
-    longs = {name: re.findall(r'\.long\("([\w-]+)"\)', body) for name, body in bodies.items()}
-    added = {name: re.findall(r"\b(\w+_arg)\(", body) for name, body in bodies.items() if name.endswith("_command")}
+    longs = {name: re.findall(LONG, body) for name, body in bodies.items()}
+    added = {name: [name, *re.findall(r"\b(\w+_arg)\(", body)] for name, body in bodies.items() if name.endswith("_command")}
     return {name.removesuffix("_command"): {f"--{long}" for arg in args for long in longs[arg]} for name, args in added.items()}
 
 

@@ -17,7 +17,7 @@ use Rattle.clap.specs.declared.parser.matches.SubCommand.{SubCommand}
 use Rattle.clap.specs.declared.parser.matches.ArgMatches.TheViews.{out-SubCommand}
 use Rattle.clap.proofs.ValueTestLemmas.{accepts-Accepts}
 use Rattle.clap.specs.declared.builder.value_parser.ValueParser.TheVariants as parser
-use Rattle.rim_cli.specs.Command.{IsEntered, IsMeasure, IsOfLaunch, IsOne, measure, operand_rule, rim, with_launch, with_operand, workers_rule}
+use Rattle.rim_cli.specs.Command.{check, IsEntered, IsMeasure, IsOfLaunch, IsOne, measure, operand_rule, rim, with_launch, with_operand, workers_rule}
 use Rattle.rim_cli.proofs.MatchesPassParsers.{none_of, settled_fits, walk_fits}
 use Rattle.rim_cli.proofs.ValuesOfArguments.{IsSound, fits, first_given, first_passes, keeps, keeps_default}
 
@@ -168,6 +168,30 @@ one_entered verb id words passes = (refl, first_given (one_shape verb id).rules 
     given : is_given id rows ≡ true
     given = go (is_given id rows) (checks_pass (one_shape verb id) words sound passes)
 
+-- `check`, as it is built below `rim`
+abbrev check_shape : Shape
+check_shape = built_leaf (inherited (with_leaf_noted (marked_built rim.top)) check.top)
+
+check_entered : (words : List Text) → level_fault check_shape [] nothing_held words false [] ≡ []
+    → IsOne (codes "check") (codes "manifest") (codes "check") (rows_after check_shape.rules [] words)
+check_entered words passes = (refl, first_given check_shape.rules manifest_built refl rows all given)
+  where
+    sound : Each (IsSound check_shape.rules) check_shape.rules
+    sound = (inl (record { set = inl refl; some = inl refl; own = refl }), (inl (record { set = inr refl; some = inr (omega arith); own = refl }), (inr (refl, refl), tt)))
+
+    rows : List Row
+    rows = rows_after check_shape.rules [] words
+
+    all : list_all (fits check_shape.rules) rows ≡ true
+    all = rows_fit check_shape words sound passes
+
+    go : (b : Bool) → check_kinds false false (not b || false) ≡ [] → b ≡ true
+    go true e = refl
+    go false e = cc
+
+    given : is_given (codes "manifest") rows ≡ true
+    given = go (is_given (codes "manifest") rows) (checks_pass check_shape words sound passes)
+
 -- the matches of each subcommand hold what they are to
 abbrev IsGood : Shape → Type 0
 IsGood s = (words : List Text) → level_fault s [] nothing_held words false [] ≡ [] → IsEntered s.name (rows_after s.rules [] words)
@@ -203,7 +227,7 @@ stopped_good (Some q) p is passes = found_good q.0 q.1 (built rim).subs p each i
           (
             (λ words fits. inr (inr (inr (inl (one_entered (codes "audit") (codes "manifest") words fits))))),
             (
-              (λ words fits. inr (inr (inr (inr (inl (one_entered (codes "check") (codes "manifest") words fits)))))),
+              (λ words fits. inr (inr (inr (inr (inl (check_entered words fits)))))),
               (
                 (λ words fits. inr (inr (inr (inr (inr (inl (launch_entered (codes "dtb") words fits))))))),
                 (

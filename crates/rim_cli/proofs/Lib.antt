@@ -17,3 +17,5 @@ pub mod RequestsOfSubcommands
 pub mod RunInMemory
 -- what a check says of files that cannot be read
 pub mod FaultsOfFiles
+-- and of launches, where all files are read
+pub mod CheckedLaunches

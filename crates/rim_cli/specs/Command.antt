@@ -32,23 +32,24 @@ workers_rule = record (new_rule (codes "workers")) {
   parser = Some (parser.Signed (pos 1) (pos WORKER_LIMIT));
 }
 
--- `--json`, a flag
-abbrev pub json_rule : Rule
-json_rule = record (new_rule (codes "json")) { long = Some (codes "json"); action = Some SetTrue }
+-- a flag of this name, as `--json` and `--quiet`
+abbrev pub flag_rule : Text → Rule
+flag_rule id = record (new_rule id) { long = Some id; action = Some SetTrue }
 
 -- `measure MANIFEST [--workers N] [--json]`
 abbrev pub measure : App
-measure = with_rule (with_rule (with_rule (new_app (codes "measure")) (operand_rule (codes "manifest"))) workers_rule) json_rule
+measure = with_rule (with_rule (with_rule (new_app (codes "measure")) (operand_rule (codes "manifest"))) workers_rule) (flag_rule (codes "json"))
 
--- a subcommand with one operand: `audit MANIFEST`, `check MANIFEST`, `replay FILE`, `image FILE`, `fdt FILE`
+-- a subcommand with one operand: `audit MANIFEST`, `replay FILE`, `image FILE`, `fdt FILE`
 abbrev pub with_operand : Text → Text → App
 with_operand name id = with_rule (new_app name) (operand_rule id)
 
 abbrev pub audit : App
 audit = with_operand (codes "audit") (codes "manifest")
 
+-- `check MANIFEST [--quiet]`
 abbrev pub check : App
-check = with_operand (codes "check") (codes "manifest")
+check = with_rule (with_operand (codes "check") (codes "manifest")) (flag_rule (codes "quiet"))
 
 abbrev pub replay : App
 replay = with_operand (codes "replay") (codes "file")
@@ -88,10 +89,14 @@ abbrev pub HasCrew : Request → Type 0
 HasCrew (Measure manifest workers format) = is_crew workers ≡ true
 HasCrew request = ⊤
 
--- the format of a report, by the value that `clap` gives the flag: `true` where the words have it, and else `false`
+-- whether the words have a flag, by the value that `clap` gives it: `true` where they have it, and else `false`
+abbrev pub is_set : Option Text → Bool
+is_set None = false
+is_set (Some text) = bytes_eq text (codes "true")
+
+-- the format of a report, by the flag `--json`
 abbrev pub format_of : Option Text → Format
-format_of None = format.Text
-format_of (Some text) = if bytes_eq text (codes "true") then format.Json else format.Text
+format_of flag = if is_set flag then format.Json else format.Text
 
 -- the request is the one of a subcommand's name, and has what the matches of that subcommand hold
 abbrev pub ReadsRow : Text → List Row → Request → Type 0
@@ -103,7 +108,8 @@ ReadsRow name rows (Lists manifest launch) = (name ≡ codes "list")
 ReadsRow name rows (Trace manifest launch) = (name ≡ codes "trace")
     × (first_of (codes "manifest") rows ≡ Some manifest.now) × (first_of (codes "launch") rows ≡ Some launch.now)
 ReadsRow name rows (Audit manifest) = (name ≡ codes "audit") × (first_of (codes "manifest") rows ≡ Some manifest.now)
-ReadsRow name rows (Check manifest) = (name ≡ codes "check") × (first_of (codes "manifest") rows ≡ Some manifest.now)
+ReadsRow name rows (Check manifest quiet) = (name ≡ codes "check") × (first_of (codes "manifest") rows ≡ Some manifest.now)
+    × (quiet ≡ is_set (first_of (codes "quiet") rows))
 ReadsRow name rows (Dtb manifest launch) = (name ≡ codes "dtb")
     × (first_of (codes "manifest") rows ≡ Some manifest.now) × (first_of (codes "launch") rows ≡ Some launch.now)
 ReadsRow name rows (Replay file) = (name ≡ codes "replay") × (first_of (codes "file") rows ≡ Some file.now)

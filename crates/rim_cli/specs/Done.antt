@@ -1,5 +1,5 @@
 -- What a run of the program has written when it is done, and why it is refused. This project's choice.
-use Rattle.std.specs.Prelude.{◌≡◌, ◌≢◌, ◌⊎◌, ℕ, List, [], Option, Some, None, IsOkAnd, Result, Ok, Err, is_err, is_some, true, option_and_then, position, slice_get, if◌then◌else◌}
+use Rattle.std.specs.Prelude.{◌≡◌, ◌≢◌, ◌⊎◌, ℕ, Bool, List, [], ◌++◌, Option, Some, None, IsOkAnd, Result, Ok, Err, is_err, is_some, true, option_and_then, position, slice_get, if◌then◌else◌}
 use Rattle.std.specs.Io.KnownBytes.{Appends}
 use Rattle.clap.specs.Words.{Text, subcommand_of}
 use Rattle.rim_manifest.specs.Manifest.{Answer, manifest_of, name_in}
@@ -19,7 +19,10 @@ use Rattle.rim_accepted.specs.declared.audit_fault.AuditFault.TheVariants as aud
 use Rattle.rim_show.specs.declared.fault.ShowFault.TheVariants as show
 use Rattle.rim_report.specs.declared.fault.StartFault.{StartFault}
 use Rattle.rim_report.specs.declared.fault.StartFault.TheVariants as start
-use Rattle.rim_check.specs.Explained.{Explains, ShowsRefusals}
+use Rattle.rim_check.specs.Explained.{Explains, ShowsFaults, fault_in}
+use Rattle.rim_check.specs.Warned.{ShowsWarnings}
+use Rattle.rim_check.specs.declared.found.ReleaseFault.{ReleaseFault}
+use Rattle.rim_check.specs.declared.found.ReleaseFault.TheVariants as release
 use Rattle.rim_check.specs.Lines.{Saying, SayInTurn}
 use Rattle.rim_check.specs.Readables.{ReadableData, item_names_in}
 use Rattle.rim_cli.specs.declared.words.Format.{Format}
@@ -40,7 +43,7 @@ path_of (Measure path workers format) = path.now
 path_of (Lists path launch) = path.now
 path_of (Trace path launch) = path.now
 path_of (Audit path) = path.now
-path_of (Check path) = path.now
+path_of (Check path quiet) = path.now
 path_of (Dtb path launch) = path.now
 path_of (Replay file) = file.now
 path_of (Image file) = file.now
@@ -78,22 +81,32 @@ pub record ChecksFiles (held : List ℕ → Known) (r : ReleaseData) (shown : Li
   pub lines : SayInTurn said shown
   pub status : answer ≡ 3
 
--- one is checked whose files are read: a line for each launch that is refused, and the status is 1 where there is one
-pub record ChecksLaunches (held : List ℕ → Known) (m : ReadableData) (shown : List ℕ) (answer : ℕ) : Type 0 where
+-- the status that a check of launches ends with: 3 where there is no report, 1 where some launch is refused
+abbrev pub check_status : Option ReleaseFault → ℕ
+check_status None = 0
+check_status (Some release.Refused) = 1
+check_status (Some release.TooManyPages) = 3
+
+-- one is checked whose files are read: what is at fault, and then, unless the check is quiet, the warnings
+pub record ChecksLaunches (held : List ℕ → Known) (quiet : Bool) (m : ReadableData) (shown : List ℕ) (answer : ℕ) : Type 0 where
   pub files : List (List ℕ)
   pub read : AreRead held m.release.paths files
-  pub lines : ShowsRefusals m.names files m.release.launches shown
-  pub status : answer ≡ (if has_refused files m.release.launches then 1 else 0)
+  pub faults : List ℕ
+  pub warnings : List ℕ
+  pub text : shown ≡ faults ++ (if quiet then [] else warnings)
+  pub faulty : ShowsFaults m.names files m.release.launches faults
+  pub warned : ShowsWarnings files m.release.launches warnings
+  pub status : answer ≡ check_status (fault_in files m.release.launches)
 
 -- a release is checked: its files, or its launches where all files are read
-abbrev pub IsReleaseCheck : (List ℕ → Known) → ReadableData → List ℕ → ℕ → Type 0
-IsReleaseCheck held m text status = ChecksFiles held m.release text status ⊎ ChecksLaunches held m text status
+abbrev pub IsReleaseCheck : (List ℕ → Known) → Bool → ReadableData → List ℕ → ℕ → Type 0
+IsReleaseCheck held quiet m text status = ChecksFiles held m.release text status ⊎ ChecksLaunches held quiet m text status
 
 -- a manifest whose items have these names is checked: a line for each of some faults, the lowest of its faults among
 -- them, and the status is 3; or else the release that it describes is
-abbrev pub IsCheck : (List ℕ → Known) → List (List (List ℕ)) → Answer → List ℕ → ℕ → Type 0
-IsCheck held names (Err fault) text status = Explains fault text × (status ≡ 3)
-IsCheck held names (Ok r) text status = IsReleaseCheck held (record { names = names; release = r }) text status
+abbrev pub IsCheck : (List ℕ → Known) → Bool → List (List (List ℕ)) → Answer → List ℕ → ℕ → Type 0
+IsCheck held quiet names (Err fault) text status = Explains fault text × (status ≡ 3)
+IsCheck held quiet names (Ok r) text status = IsReleaseCheck held quiet (record { names = names; release = r }) text status
 
 -- what is shown of a launch with what came of it, and its status
 abbrev pub IsShown : NamedData → Result (List ℕ) AuditFault → List ℕ → ℕ → Type 0
@@ -131,7 +144,7 @@ IsAnswer held (Measure path workers format) bytes text status = IsOkAnd (manifes
 IsAnswer held (Lists path launch) bytes text status = IsOkAnd (manifest_of bytes) (λ r. IsListing held r launch.now text status)
 IsAnswer held (Trace path launch) bytes text status = IsOkAnd (manifest_of bytes) (λ r. IsTrace held r launch.now text status)
 IsAnswer held (Audit path) bytes text status = IsOkAnd (manifest_of bytes) (λ r. IsAudit held r text status)
-IsAnswer held (Check path) bytes text status = IsCheck held (item_names_in bytes) (manifest_of bytes) text status
+IsAnswer held (Check path quiet) bytes text status = IsCheck held quiet (item_names_in bytes) (manifest_of bytes) text status
 IsAnswer held (Dtb path launch) bytes text status = IsOkAnd (manifest_of bytes) (λ r. IsDevicetree held r launch.now text status)
 IsAnswer held (Replay file) bytes text status = IsReplayed bytes text status
 IsAnswer held (Image file) bytes text status = (image_answer_of bytes ≡ Ok text) × (status ≡ 0)
@@ -194,7 +207,7 @@ Refuses held (Measure path workers format) fault = RefusesManifest (RefusesRepor
 Refuses held (Lists path launch) fault = RefusesManifest (RefusesListing held launch.now) (held path.now) fault
 Refuses held (Trace path launch) fault = RefusesManifest (RefusesListing held launch.now) (held path.now) fault
 Refuses held (Audit path) fault = RefusesManifest (RefusesAudit held) (held path.now) fault
-Refuses held (Check path) fault = IsFileFault (held path.now) fault
+Refuses held (Check path quiet) fault = IsFileFault (held path.now) fault
 Refuses held (Dtb path launch) fault = RefusesManifest (RefusesDtb held launch.now) (held path.now) fault
 Refuses held (Replay file) fault = IsFileFault (held file.now) fault
 Refuses held (Image file) fault = RefusesImage (held file.now) fault

@@ -56,7 +56,7 @@ pub fn answer_to<R: Threads + Wait + Sync, G: Gate + Sync, O: Opener>(
         Request::List { manifest, launch } => list(alloc, opener, manifest, launch),
         Request::Trace { manifest, launch } => trace(alloc, opener, manifest, launch),
         Request::Audit { manifest } => audit(alloc, opener, manifest),
-        Request::Check { manifest } => check(alloc, opener, manifest),
+        Request::Check { manifest, quiet } => check(alloc, opener, manifest, quiet),
         Request::Dtb { manifest, launch } => dtb(alloc, opener, manifest, launch),
         Request::Replay { file } => replay(alloc, opener, file),
         Request::Image { file } => image(alloc, opener, file),

@@ -1,6 +1,6 @@
 //! What is wrong with a manifest, with its files and with its launches.
-ghost use Rattle.std.specs.Prelude.{◌≡◌, ◌≢◌, ◌⊎◌, ◌≤◌, IfErr, IfOk, OnOk, map};
-ghost use Rattle.rim_cli.specs.Done.{IsCheck, IsReleaseCheck};
+ghost use Rattle.std.specs.Prelude.{◌≡◌, ◌≢◌, ◌⊎◌, ◌≤◌, [], ◌++◌, IfErr, IfOk, OnOk, if◌then◌else◌, map};
+ghost use Rattle.rim_cli.specs.Done.{IsCheck, IsReleaseCheck, check_status};
 ghost use Rattle.rim_cli.specs.Files.{IfFile, IsFileFault};
 ghost use Rattle.rim_cli.specs.Status.{word_of};
 ghost use Rattle.rim_cli.specs.inside.Found.{AreFound};
@@ -8,17 +8,24 @@ ghost use Rattle.rim_check.specs.Lines.{AddsLine, file_said};
 ghost use Rattle.rim_manifest.specs.Manifest.{manifest_of};
 ghost use Rattle.rim_check.specs.Readables.{item_names_in};
 
-use crate::answer::{Answer, answer_of};
+use crate::answer::Answer;
 use crate::fault::Fault;
 use crate::file::{Opener, read_file};
-use rim_check::{ManifestCheck, Readable, check_launches, check_manifest, push_file};
+use rim_check::{
+    LaunchCheck, ManifestCheck, Readable, ReleaseFault, check_launches, check_manifest, push_file,
+};
 use rim_release::{Files, Release};
 use std::alloc::Global;
 
 /// What is wrong with the manifest at a path; or else with the files and the launches of its release.
-pub fn check<O: Opener>(alloc: Global, opener: &mut O, path: &str) -> Result<Answer, Fault>
+pub fn check<O: Opener>(
+    alloc: Global,
+    opener: &mut O,
+    path: &str,
+    quiet: bool,
+) -> Result<Answer, Fault>
     ensures answered { IfOk result (λ a. IfFile (O.held opener.old path.now)
-        (λ bytes. IsCheck (O.held opener.old) (item_names_in bytes) (manifest_of bytes)
+        (λ bytes. IsCheck (O.held opener.old) quiet (item_names_in bytes) (manifest_of bytes)
         a.text.items a.status)) }
     ensures refused { IfErr result (IsFileFault (O.held opener.old path.now)) }
     ensures status { IfOk result (λ a. (a.status ≤ 1) ⊎ (a.status ≡ 3)) }
@@ -26,7 +33,7 @@ pub fn check<O: Opener>(alloc: Global, opener: &mut O, path: &str) -> Result<Ans
     let bytes = read_file(alloc, opener, path)?;
     match check_manifest(alloc, bytes.as_slice()) {
         Ok(ManifestCheck::Faulty(text)) => Ok(Answer { text, status: 3 }),
-        Ok(ManifestCheck::Readable(readable)) => check_release(alloc, opener, &readable),
+        Ok(ManifestCheck::Readable(readable)) => check_release(alloc, opener, &readable, quiet),
         Err(_) => Err(Fault::NoMemory),
     }
 }
@@ -36,9 +43,10 @@ fn check_release<O: Opener>(
     alloc: Global,
     opener: &mut O,
     readable: &Readable,
+    quiet: bool,
 ) -> Result<Answer, Fault>
     ensures answered { IfOk result
-        (λ a. IsReleaseCheck (O.held opener.old) readable.now a.text.items a.status) }
+        (λ a. IsReleaseCheck (O.held opener.old) quiet readable.now a.text.items a.status) }
     ensures refused { IfErr result (λ e. e ≡ Fault.NoMemory) }
     ensures status { IfOk result (λ a. (a.status ≤ 1) ⊎ (a.status ≡ 3)) }
 {
@@ -50,8 +58,37 @@ fn check_release<O: Opener>(
         });
     }
     match check_launches(alloc, readable, &found.files) {
-        Ok(report) => Ok(answer_of(report)),
+        Ok(check) => release_answer(check, quiet),
         Err(_) => Err(Fault::NoMemory),
+    }
+}
+
+/// The answer that a check of launches is: what is at fault, and the warnings unless it is quiet.
+fn release_answer(check: LaunchCheck, quiet: bool) -> Result<Answer, Fault>
+    ensures text { IfOk result (λ a. a.text.items
+        ≡ check.faults.items ++ (if quiet then [] else check.warnings.items)) }
+    ensures status { IfOk result (λ a. a.status ≡ check_status check.fault) }
+    ensures refused { IfErr result (λ e. e ≡ Fault.NoMemory) }
+{
+    let mut text = check.faults;
+    if !quiet && text.extend_from_slice(&check.warnings).is_err() {
+        return Err(Fault::NoMemory);
+    }
+    Ok(Answer {
+        text,
+        status: check_status(check.fault),
+    })
+}
+
+/// The status that a check of launches ends with.
+fn check_status(fault: Option<ReleaseFault>) -> u8
+    ensures value { result ≡ check_status fault }
+    ensures known { (result ≤ 1) ⊎ (result ≡ 3) }
+{
+    match fault {
+        None => 0,
+        Some(ReleaseFault::Refused) => 1,
+        Some(ReleaseFault::TooManyPages) => 3,
     }
 }
 

@@ -2,7 +2,7 @@
 ghost use Rattle.std.specs.Prelude.{◌≡◌, IfOk, codes, true, false};
 ghost use Rattle.clap.specs.Words.{app_of, rule_of, with_subcommand};
 ghost use Rattle.clap.specs.declared.builder.command.Command.TheViews.{out-Command};
-ghost use Rattle.rim_cli.specs.Command.{audit, check, dtb, fdt, image, json_rule, list, measure, operand_rule, replay, rim, trace, with_launch, with_operand, workers_rule};
+ghost use Rattle.rim_cli.specs.Command.{audit, check, dtb, fdt, flag_rule, image, list, measure, operand_rule, replay, rim, trace, with_launch, with_operand, workers_rule};
 
 use clap::{Arg, ArgAction, Command};
 use job_board::WORKER_LIMIT;
@@ -45,7 +45,9 @@ two measurements part.
 `rim check MANIFEST` prints a line for each fault of a manifest, with its place. Where
 there is none, it prints `PATH: file-unreadable` or `PATH: file-too-large` for each file
 that cannot be read; where all are read, a line for each launch that is refused, with
-what is at fault. It prints nothing where nothing is wrong.
+what is at fault, and one where the release has too many pages. Lines that begin with
+`warning:` say what is rarely meant in launches that are accepted; they change no exit
+status, and `--quiet` leaves them out. Else it prints nothing where nothing is wrong.
 
 `rim dtb MANIFEST LAUNCH` writes the devicetree of a launch as it is placed: the bytes
 that are measured, to be given to a hypervisor. They are not written to a terminal.
@@ -75,6 +77,7 @@ pub fn rim_command<'a>(alloc: Global) -> Result<Command<'a>, AllocError>
     ensures globals { IfOk result (λ c. (out-Command c).has_globals ≡ false) }
 {
     let rim = Command::new(alloc, "rim")
+        .bin_name("rim")?
         .version(VERSION)
         .about("Computes Realm Initial Measurements of Arm CCA realms")
         .after_help(GUIDE);
@@ -165,7 +168,11 @@ fn measure_command<'a>(alloc: Global) -> Result<Command<'a>, AllocError>
     let measure = Command::new(alloc, "measure")
         .arg(operand_arg(alloc, "manifest", "MANIFEST", MANIFEST))?
         .arg(workers_arg(alloc))?
-        .arg(json_arg(alloc))?;
+        .arg(flag_arg(
+            alloc,
+            "json",
+            "The report as one JSON object, and not as lines",
+        ))?;
     Ok(
         measure
             .about("Prints the measurement of each launch of a manifest")
@@ -224,9 +231,9 @@ fn check_command<'a>(alloc: Global) -> Result<Command<'a>, AllocError>
     ensures shape { IfOk result (λ c. app_of c ≡ check) }
     ensures globals { IfOk result (λ c. (out-Command c).has_globals ≡ false) }
 {
-    let check = Command::new(alloc, "check").arg(operand_arg(
-        alloc, "manifest", "MANIFEST", MANIFEST,
-    ))?;
+    let check = Command::new(alloc, "check")
+        .arg(operand_arg(alloc, "manifest", "MANIFEST", MANIFEST))?
+        .arg(flag_arg(alloc, "quiet", "No warnings: only what is wrong is printed"))?;
     Ok(check.about(
         "Prints what is wrong with a manifest and which launches are refused, each with its place",
     ))
@@ -268,12 +275,13 @@ fn workers_arg<'a>(alloc: Global) -> Arg<'a>
         .help("Threads that hash pages and chain launches, 1 to 64; 4 where not given")
 }
 
-fn json_arg<'a>(alloc: Global) -> Arg<'a>
-    ensures rule { rule_of result ≡ json_rule }
+/// A flag, with the name that it is given by.
+fn flag_arg<'a>(alloc: Global, name: &'a str, help: &'a str) -> Arg<'a>
+    ensures rule { rule_of result ≡ flag_rule name.entry.now }
     ensures local { result.global ≡ false }
 {
-    Arg::new(alloc, "json")
-        .long("json")
+    Arg::new(alloc, name)
+        .long(name)
         .action(ArgAction::SetTrue)
-        .help("The report as one JSON object, and not as lines")
+        .help(help)
 }

@@ -1,5 +1,5 @@
 //! A run of the program, over any files and streams.
-ghost use Rattle.std.specs.Prelude.{◌≡◌, ◌≢◌, ◌≤◌, ◌⊎◌, IfErr, IfOk, OnOk, map, false, true};
+ghost use Rattle.std.specs.Prelude.{◌≡◌, ◌≢◌, ◌≤◌, ◌⊎◌, IfOk, OnOk, map, false, true};
 ghost use Rattle.std.specs.Io.KnownBytes.{Appends};
 ghost use Rattle.clap.specs.Words.{kind_of, takes};
 ghost use Rattle.rim_cli.specs.Command.{AsksForBytes, AsksForHelp, IsMistaken, is_asked, is_for_bytes, rim};
@@ -97,12 +97,26 @@ fn show_usage<W: Write, E: Write>(
 
 /// Names the flag that asks for the report as JSON, where the words have the option that did so before it.
 fn show_new_words<S: AsStr, E: Write>(words: &[S], err: &mut E) {
-    if words
-        .iter()
-        .any(|word| word.as_str().starts_with("--format"))
-    {
-        let _ = writeln!(err, "\n  tip: '--json' prints the report as JSON");
+    let mut is_next = false;
+    for word in words {
+        let word = word.as_str();
+        if is_next {
+            return show_json_flag(word, err);
+        }
+        if let Some(value) = word.strip_prefix("--format=") {
+            return show_json_flag(value, err);
+        }
+        is_next = word == "--format";
     }
+}
+
+/// Names that flag, and the format that was asked for in the old way.
+fn show_json_flag<E: Write>(format: &str, err: &mut E) {
+    let _ = writeln!(
+        err,
+        "\n  tip: '--json' prints the report as JSON, and without it the report is lines; \
+         '--format {format}' is not known"
+    );
 }
 
 /// Writes the text that a request asked for, and answers the exit status: this one, or that of the fault.
@@ -116,17 +130,27 @@ fn finish<W: Write, E: Write>(text: &[u8], status: u8, out: &mut W, err: &mut E)
 {
     match write_text(text, out) {
         Ok(()) => status,
-        Err(failed) => report_fault(failed, err),
+        Err(error) => report_unwritten(&error, err),
     }
 }
 
-/// Writes a whole text.
-fn write_text<W: Write>(text: &[u8], out: &mut W) -> Result<(), Fault>
-    ensures written { OnOk result (Appends (W.contents out.old) (W.contents out.new) text.now) }
-    ensures fault { IfErr result (λ e. e ≡ Fault.OutputFailed) }
+/// Reports that the output cannot be written, and answers the exit status, 3. A reader that closed its end, as `head` does after
+/// some lines, has all that it asked for: nothing is said then.
+fn report_unwritten<E: Write>(error: &io::Error, err: &mut E) -> u8
+    ensures { result ≡ 3 }
 {
-    out.write_all(text).map_err(|_| Fault::OutputFailed)?;
-    out.flush().map_err(|_| Fault::OutputFailed)
+    if error.kind() == ErrorKind::BrokenPipe {
+        return 3;
+    }
+    report_fault(Fault::OutputFailed, err)
+}
+
+/// Writes a whole text.
+fn write_text<W: Write>(text: &[u8], out: &mut W) -> io::Result<()>
+    ensures { OnOk result (Appends (W.contents out.old) (W.contents out.new) text.now) }
+{
+    out.write_all(text)?;
+    out.flush()
 }
 
 /// Writes a fault's line, and answers the exit status.

@@ -3,7 +3,7 @@ ghost use Rattle.std.specs.Prelude.{◌≡◌, ◌≢◌, [], IfOk, IfErr, IfSom
 ghost use Rattle.clap.specs.Values.{IsSignedIn};
 ghost use Rattle.clap.specs.Words.{HasKind, Kinds, fault_of, first_of, found_of, kind_of, rows_of, subcommand_of, takes};
 ghost use Rattle.rim_cli.specs.declared.words.CommandFault.TheVariants as fault;
-ghost use Rattle.rim_cli.specs.Command.{CountsWorkers, HasCrew, IsEntered, IsRefusalOf, ReadsRequest, ReadsRow, format_of, rim};
+ghost use Rattle.rim_cli.specs.Command.{CountsWorkers, HasCrew, IsEntered, IsRefusalOf, ReadsRequest, ReadsRow, format_of, is_set, rim};
 ghost use Rattle.job_board.specs.declared.machine.TheConstants.{WORKER_LIMIT};
 
 use crate::definition::rim_command;
@@ -36,9 +36,10 @@ pub enum Request<'a> {
     Audit {
         manifest: &'a str,
     },
-    /// What is wrong with a manifest, at a path, and which of its launches are refused.
+    /// What is wrong with a manifest, at a path, and which of its launches are refused; and the warnings, unless it is quiet.
     Check {
         manifest: &'a str,
+        quiet: bool,
     },
     /// The devicetree of a launch of a manifest, at a path, by the launch's name: bytes, and no text.
     Dtb {
@@ -132,6 +133,7 @@ fn request_of<'a>(name: &str, given: &ArgMatches<'a>) -> Request<'a>
         },
         "check" => Request::Check {
             manifest: operand(given, "manifest"),
+            quiet: flag(given, "quiet"),
         },
         "dtb" => Request::Dtb {
             manifest: operand(given, "manifest"),
@@ -193,9 +195,20 @@ fn workers(given: &ArgMatches) -> u8
 fn report_format(given: &ArgMatches) -> Format
     ensures { result ≡ format_of (first_of (codes "json") (rows_of (found_of given.now))) }
 {
-    match value(given, "json") {
-        Some("true") => Format::Json,
-        _ => Format::Text,
+    if flag(given, "json") {
+        Format::Json
+    } else {
+        Format::Text
+    }
+}
+
+/// Whether a flag is given.
+fn flag(given: &ArgMatches, id: &str) -> bool
+    ensures { result ≡ is_set (first_of id.now (rows_of (found_of given.now))) }
+{
+    match value(given, id) {
+        Some(text) => text == "true",
+        None => false,
     }
 }
 

@@ -1,8 +1,8 @@
-use Rattle.std.proofs.Common.{◌≡◌, ◌∙◌, ℕ, Bool, List, arith, ap, inr, length, map, subst}
-use Rattle.std.specs.Prelude.{if◌then◌else◌}
+use Rattle.std.proofs.Common.{◌≡◌, ℕ, List, arith, length, map, subst}
 use Rattle.std.proofs.lemmas.List.{length-map}
 use Rattle.rim_manifest.specs.Launches.{ReleaseData}
 use Rattle.rim_cli.specs.Files.{AreRead, Known}
+use Rattle.rim_cli.proofs.CheckedLaunches.{launches-checked}
 use Rattle.rim_cli.proofs.FaultsOfFiles.{all_files, read_count}
 use Rattle.rim_cli.proofs.checking.check_release.Goals as goal
 
@@ -19,9 +19,6 @@ returns-in-Ok-clause-answered g c =
     let held : List ℕ → Known = g.O.Opener.held c.args.opener.now in
     let files : List (List ℕ) = map (λ file. file.items) c.in_ok-found.found.files.items in
     let read = all_files held c.release.result.now.paths files c.in_ok-found.found.unread c.in_ok-found.ensures.found c.if-not-is_empty.ensures in
-    inr (record {
-      files = files;
-      read = subst (λ (r : ReleaseData). AreRead held r.paths files) c.release.ensures read;
-      lines = rw c.answer_of.ensures.text c.in-Ok.ensures.text;
-      status = c.answer_of.ensures.status ∙ ap (λ (b : Bool). if b then 1 else 0) c.in-Ok.ensures.refused;
-    })
+    launches-checked held c.args.quiet c.args.readable.now files c.in-Ok.check c.release_answer.result
+    (subst (λ (r : ReleaseData). AreRead held r.paths files) c.release.ensures read) c.in-Ok.ensures c.release_answer.ensures.text
+    c.release_answer.ensures.status
