@@ -8,7 +8,8 @@ docs/rim.1 has to name each command and option of the command line, each exit st
 each fault and of each refusal, and each key of a manifest that docs/FORMATS.md lists. Its SYNOPSIS has a form for each command, with
 its operands in their order and its options, and no form of another command. The table of the shells' completions has
 to have the same commands, their operands, and the same options. What the table says of `rim-manifest` is compared with the
-help texts of that script, and its man page has to name all of it; its SYNOPSIS has a form for each command.
+help texts of that script, and its man page has to name all of it; its SYNOPSIS has a form for each command. The man page of `rim-match`
+has to name the options of its help text.
 """
 import itertools
 import pathlib
@@ -134,9 +135,9 @@ def faults_of_rim():
     return lines
 
 
-def helped(*words):
-    """The options that a help text of `rim-manifest` lists."""
-    text = subprocess.run([TOP / "rim-manifest", *words, "--help"], capture_output=True, text=True, check=True).stdout
+def helped(*words, program="rim-manifest"):
+    """The options that a help text of a script lists."""
+    text = subprocess.run([TOP / program, *words, "--help"], capture_output=True, text=True, check=True).stdout
     lines = re.findall(r"^ {1,8}(-.*?)(?: {2}|$)", text, re.M)
     return {name for line in lines for name in re.findall(r"(?<![\w-])--?[A-Za-z][\w-]*", line)}
 
@@ -171,7 +172,8 @@ def faults():
     if (TOP / "docs/rim-manifest.1").exists():
         lines += faults_of_page("rim-manifest.1", named_of_rim_manifest())
         lines += faults_of_synopsis("rim-manifest.1", "rim-manifest", named_of_rim_manifest()["command"])
-    return lines
+    lines += faults_of_page("rim-match.1", {"option": sorted(helped(program="rim-match"))})
+    return lines + faults_of_synopsis("rim-match.1", "rim-match", [])
 
 
 def main(words):

@@ -1,0 +1,283 @@
+"""A launch: what its table in the manifest says, what of it is measured, and the text of its table."""
+import functools
+import json
+from dataclasses import dataclass, fields, replace
+
+from .files import Blob
+
+PAGE, MIB, GIB = 1 << 12, 1 << 20, 1 << 30
+KINDS = ("kernel", "initrd", "dtb", "raw", "unknown")
+Region = tuple[int, int]
+
+
+@dataclass(frozen=True)
+class Item:
+    """An item; a key that its table has not is None."""
+
+    name: str
+    kind: str
+    at: int
+    file: str | None = None
+    size: int | None = None
+    measured: bool | None = None
+    bootargs: str | None = None
+    initrd: bool | None = None
+    memory: bool | None = None
+
+
+@dataclass(frozen=True)
+class Rec:
+    """A REC; a key that its table has not is None."""
+
+    pc: int | None = None
+    x: tuple[int, ...] | None = None
+    runnable: bool | None = None
+
+    @property
+    def is_off(self) -> bool:
+        return self.runnable is False
+
+
+@dataclass(frozen=True)
+class Launch:
+    """A launch; a key that its table has not is None, and an array of it is empty."""
+
+    name: str
+    algo: str
+    s2sz: int
+    sve: bool | None = None
+    sve_vl: int | None = None
+    num_bps: int | None = None
+    num_wps: int | None = None
+    pmu: bool | None = None
+    pmu_num_ctrs: int | None = None
+    rpv: str | None = None
+    block_level: int | None = None
+    num_aux: int | None = None
+    pool_base: int | None = None
+    pool_count: int | None = None
+    ram: tuple[Region, ...] = ()
+    item: tuple[Item, ...] = ()
+    rec_rule: str | None = None
+    rec: tuple[Rec, ...] = ()
+    steps: tuple[str, ...] | None = None
+
+    def of_kind(self, kind: str) -> Item | None:
+        return next((each for each in self.item if each.kind == kind), None)
+
+    @property
+    def order(self) -> tuple[str, ...]:
+        """Its steps: those of its table, or the default ones."""
+        if self.steps is not None:
+            return self.steps
+        return default_steps(len(self.ram), tuple((each.kind, each.name) for each in self.item), len(self.rec))
+
+
+# The keys of a launch that have one value each, and what docs/FORMATS.md says where a table has not the key.
+SCALARS = ("algo", "s2sz", "sve", "sve_vl", "num_bps", "num_wps", "pmu", "pmu_num_ctrs", "rpv", "block_level", "num_aux", "pool_base",
+           "pool_count", "rec_rule")
+DEFAULTS = {"sve": False, "sve_vl": 0, "num_bps": 0, "num_wps": 0, "pmu": False, "pmu_num_ctrs": 0, "block_level": 2}
+
+
+@functools.lru_cache(maxsize=4096)
+def default_steps(regions: int, items: tuple[tuple[str, str], ...], recs: int) -> tuple[str, ...]:
+    by_kind = sorted(items, key=lambda each: KINDS.index(each[0]))
+    return (*(f"ram {number}" for number in range(regions)), *(f"item {name}" for _, name in by_kind),
+            *(f"rec {number}" for number in range(recs)))
+
+
+# ---- reading
+
+
+def word(value: int | str) -> int:
+    """A word of a REC: a number, or a text with its digits."""
+    return int(value, 16) if isinstance(value, str) else value
+
+
+def rec_of(table: dict) -> Rec:
+    return Rec(word(table["pc"]) if "pc" in table else None, tuple(map(word, table["x"])) if "x" in table else None, table.get("runnable"))
+
+
+def launch_of(table: dict) -> Launch:
+    """The launch of a table that `rim` has taken."""
+    lists = {"ram": tuple((base, end) for base, end in table.get("ram", [])), "item": tuple(Item(**each) for each in table.get("item", [])),
+             "rec": tuple(map(rec_of, table.get("rec", []))), "steps": tuple(table["steps"]) if "steps" in table else None}
+    return Launch(**(table | lists))
+
+
+# ---- changes that keep the steps in order
+
+
+def with_recs(launch: Launch, recs: tuple[Rec, ...]) -> Launch:
+    """The launch with these RECs. New ones come right after the last one that has a step."""
+    steps = launch.steps
+    if steps is not None and len(recs) != len(launch.rec):
+        kept = [step for step in steps if not step.startswith("rec ") or int(step[4:]) < len(recs)]
+        at = max((at + 1 for at, step in enumerate(kept) if step.startswith("rec ")), default=len(kept))
+        kept[at:at] = [f"rec {number}" for number in range(len(launch.rec), len(recs))]
+        steps = tuple(kept)
+    return replace(launch, rec=recs, steps=steps)
+
+
+def with_item(launch: Launch, old: Item, new: Item) -> Launch:
+    return replace(launch, item=tuple(new if each is old else each for each in launch.item))
+
+
+def without_item(launch: Launch, item: Item) -> Launch:
+    """The launch without an item. A devicetree has not the place of an initrd that is left out."""
+    items = tuple(each for each in launch.item if each is not item)
+    if item.kind == "initrd":
+        items = tuple(replace(each, initrd=None) if each.initrd else each for each in items)
+    steps = launch.steps and tuple(step for step in launch.steps if step != f"item {item.name}")
+    return replace(launch, item=items, steps=steps)
+
+
+def with_ram(launch: Launch, groups: list[list[Region]]) -> Launch:
+    """The launch with some regions, or none, in the place of each of its own."""
+    steps = launch.steps
+    if steps is not None:
+        starts = [sum(map(len, groups[:number])) for number in range(len(groups))]
+        new = {f"ram {old}": [f"ram {start + at}" for at in range(len(group))] for old, (start, group) in enumerate(zip(starts, groups))}
+        steps = tuple(each for step in steps for each in new.get(step, [step]))
+    return replace(launch, ram=tuple(region for group in groups for region in group), steps=steps)
+
+
+# ---- what is measured
+
+
+def entry_of(launch: Launch, files: dict[str, Blob]) -> int:
+    """The address of the kernel's first byte, with which REC 0 begins by default; zero without a kernel."""
+    kernel = launch.of_kind("kernel")
+    if kernel is None:
+        return 0
+    image = files[kernel.file].image
+    return kernel.at + (image.load_offset if image else 0)
+
+
+def first_rec(launch: Launch, files: dict[str, Blob]) -> Rec:
+    """REC 0 with its values, also where they are the default ones."""
+    first, dtb = launch.rec[0], launch.of_kind("dtb")
+    default = (dtb.at,) if dtb else ()
+    return replace(first, pc=entry_of(launch, files) if first.pc is None else first.pc, x=default if first.x is None else first.x)
+
+
+def block_level_of(launch: Launch) -> int:
+    """The level that its blocks have: 0 and 1 are as a higher one where no region has such a block (docs/FORMATS.md)."""
+    level = 2 if launch.block_level is None else launch.block_level
+    for at, size, bits in ((0, 512 * GIB, 44), (1, GIB, 35)):
+        if level == at and (launch.s2sz < bits or not any(-(-base // size) * size + size <= end for base, end in launch.ram)):
+            level += 1
+    return level
+
+
+def blocks_of(launch: Launch) -> int:
+    """About how many blocks of RAM are measured."""
+    size = (512 * GIB, GIB, 2 * MIB, PAGE)[block_level_of(launch)]
+    return sum((end - base) // size + 1 for base, end in launch.ram)
+
+
+def steps_of(launch: Launch, files: dict[str, Blob]) -> int:
+    """About how many steps of it are measured: blocks of RAM, and pages of items."""
+    sizes = (files[each.file].length if each.size is None else each.size for each in launch.item if each.file is not None)
+    return blocks_of(launch) + sum(size // PAGE + 1 for size in sizes)
+
+
+def measured_of(launch: Launch, files: dict[str, Blob]) -> tuple:
+    """What is measured of a launch. Two launches that agree in it have one measurement, where `rim` takes both."""
+    parts: list = []
+    items = {each.name: each for each in launch.item}
+    for step in launch.order:
+        what, _, which = step.partition(" ")
+        if what == "ram":
+            parts.append(launch.ram[int(which)])
+        elif what == "item":
+            item = items[which]
+            parts.append((item.kind, item.file, item.at, item.size, item.measured is not False, item.bootargs, bool(item.initrd),
+                          bool(item.memory)))
+        elif not (launch.rec[int(which)].is_off and launch.rec_rule == "runnable"):
+            rec = first_rec(launch, files) if which == "0" else launch.rec[int(which)]
+            x = rec.x or ()
+            parts.append((rec.is_off, rec.pc or 0, x + (0,) * (8 - len(x))))
+    # where the granules of the pool are counted, it matters how many RECs there are
+    taken = len(launch.rec) if launch.pool_count is not None else 0
+    return (launch.algo, launch.s2sz, bool(launch.sve), launch.sve_vl or 0, launch.num_bps or 0, launch.num_wps or 0, bool(launch.pmu),
+            launch.pmu_num_ctrs or 0, block_level_of(launch), launch.ram, taken, tuple(parts))
+
+
+def is_whole(launch: Launch) -> bool:
+    """Whether a manifest may have it, and its RECs are in their order. One launch that a manifest may not have costs a run of many."""
+    recs = [int(step[4:]) for step in launch.steps or () if step.startswith("rec ")]
+    if len(launch.rec) > 512 or recs != sorted(recs) or (launch.rec_rule is None and any(rec.is_off for rec in launch.rec)):
+        return False
+    if len(launch.ram) > 64 or any(base >= end or base % PAGE or end % PAGE for base, end in launch.ram):
+        return False
+    dtb = launch.of_kind("dtb")
+    return dtb is None or ((not dtb.initrd or launch.of_kind("initrd") is not None) and (not dtb.memory or bool(launch.ram)))
+
+
+# ---- text
+
+
+def text(value: str) -> str:
+    """A text of TOML."""
+    return json.dumps(value, ensure_ascii=False).replace("\x7f", "\\u007f")
+
+
+def value_text(key: str, value) -> str:
+    """A value of a key, as a manifest has it."""
+    if isinstance(value, bool):
+        return "true" if value else "false"
+    if isinstance(value, str):
+        return text(value)
+    return f"{value:#x}" if key in ("at", "size", "pool_base") else str(value)
+
+
+def ram_text(ram: tuple[Region, ...]) -> str:
+    return "[" + ", ".join(f"[{base:#x}, {end:#x}]" for base, end in ram) + "]"
+
+
+def item_text(item: Item) -> str:
+    given = [(each.name, getattr(item, each.name)) for each in fields(Item)]
+    return "{ " + ", ".join(f"{key} = {value_text(key, value)}" for key, value in given if value is not None) + " }"
+
+
+@functools.lru_cache(maxsize=4096)
+def items_text(items: tuple[Item, ...]) -> str:
+    return "[" + ", ".join(map(item_text, items)) + "]"
+
+
+def rec_text(rec: Rec) -> str:
+    parts = [] if rec.pc is None else [f'pc = "{rec.pc:#x}"']
+    parts += [] if rec.x is None else ["x = [" + ", ".join(f'"{each:#x}"' for each in rec.x) + "]"]
+    parts += [] if rec.runnable is None else [f"runnable = {value_text('runnable', rec.runnable)}"]
+    return "{ " + ", ".join(parts) + " }" if parts else "{}"
+
+
+@functools.lru_cache(maxsize=4096)
+def recs_text(recs: tuple[Rec, ...]) -> str:
+    return "[" + ", ".join(map(rec_text, recs)) + "]"
+
+
+@functools.lru_cache(maxsize=4096)
+def steps_text(steps: tuple[str, ...]) -> str:
+    return "[" + ", ".join(map(text, steps)) + "]"
+
+
+def table_text(launch: Launch, name: str) -> str:
+    """The table of a launch, by another name."""
+    lines = ["[[launch]]", f'name = "{name}"']
+    for key in SCALARS:
+        value = getattr(launch, key)
+        if value is not None:
+            lines.append(f"{key} = {value_text(key, value)}")
+    lines += [f"ram = {ram_text(launch.ram)}", f"item = {items_text(launch.item)}", f"rec = {recs_text(launch.rec)}"]
+    if launch.steps is not None:
+        lines.append(f"steps = {steps_text(launch.steps)}")
+    return "\n".join(lines) + "\n"
+
+
+def manifest_text(launches: list[Launch], files: dict[str, Blob]) -> str:
+    """A manifest of launches, by their numbers, with the files that they name."""
+    named = {each.file for launch in launches for each in launch.item}
+    heads = [f"[[file]]\nname = {text(name)}\npath = {text(blob.path)}\n" for name, blob in files.items() if name in named]
+    return "".join(["rim_manifest = 2\n", *heads, *(table_text(launch, str(number)) for number, launch in enumerate(launches))])

@@ -1,0 +1,79 @@
+"""Which launch of a manifest shares the longest beginning with the trace of a machine, and where it parts from it."""
+import itertools
+from dataclasses import dataclass
+
+from .faults import Fault, shown
+from .program import Rim
+
+# The words of a line after the RIM and the command, as docs/FORMATS.md names them.
+WORDS = {
+    "realm_create": ("rtt_level_start", "rtt_num_start", "s2sz", "algo", "flags", "sve_vl", "num_bps", "num_wps", "pmu_num_ctrs", "rpv"),
+    "init_ripas": ("base", "top"),
+    "data_create": ("ipa", "measured", "contents"),
+    "rec_create": ("flags", "mpidr", "pc", *(f"x{number}" for number in range(8))),
+}
+
+
+@dataclass(frozen=True)
+class Near:
+    """A launch with its trace, and how many first lines of it are those of the machine's."""
+
+    name: str
+    trace: list[str]
+    shared: int
+
+
+def lines_of(path: str) -> list[str]:
+    """The lines of a trace."""
+    try:
+        with open(path, encoding="utf-8") as file:
+            lines = file.read().rstrip().split("\n")
+    except OSError as why:
+        raise Fault(f"{shown(path)}: {why.strerror}") from None
+    except UnicodeDecodeError:
+        raise Fault(f"{shown(path)}: it is not UTF-8, expected lines as `rim trace` prints them") from None
+    lines = [line.rstrip() for line in lines]
+    if lines == [""] or len(lines[0].split(" ")) < 2 or lines[0].split(" ")[1] not in WORDS:
+        raise Fault(f"{shown(path)}: its first line is {shown(lines[0])}, expected lines as `rim trace` prints them")
+    return lines
+
+
+def shared(one: list[str], other: list[str]) -> int:
+    return sum(1 for _ in itertools.takewhile(lambda pair: pair[0] == pair[1], zip(one, other)))
+
+
+def differing(one: str, other: str) -> list[str]:
+    """The names of the words in which two lines of one command differ."""
+    (rim, command, *words), (other_rim, other_command, *others) = one.split(" "), other.split(" ")
+    if command != other_command or command not in WORDS or len(words) != len(others):
+        return ["the command"]
+    names = [name for name, here, there in zip(WORDS[command], words, others) if here != there]
+    return names or ["the RIM"] * (rim != other_rim)
+
+
+def of_launches(rim: Rim, manifest: str, names: list[str], there: list[str]) -> tuple[list[Near], list[str]]:
+    """Each launch that `rim` takes, and of the others what it says."""
+    found, refused = [], []
+    for name in names:
+        ran = rim.run("trace", "--", manifest, name)
+        if ran.status == 0:
+            here = ran.out.splitlines()
+            found.append(Near(name, here, shared(here, there)))
+        elif ran.status == 1:
+            refused.append(ran.out.strip())
+        else:
+            raise Fault(f"{ran.said}; `rim check {manifest}` says where")
+    return found, refused
+
+
+def said_of(near: Near, path: str, there: list[str]) -> list[str]:
+    """What is said of the nearest launch."""
+    here, count = near.trace, near.shared
+    if here == there:
+        return [f'launch "{near.name}": all {count} lines are those of {path}']
+    lines = [f'launch "{near.name}": the first {count} of its {len(here)} lines are those of {path}, which has {len(there)}']
+    if min(len(here), len(there)) == count:
+        return [*lines, f"line {count + 1}: {'the launch' if count == len(here) else path} has none"] + [
+            f"{where}: {trace[count]}" for where, trace in ((near.name, here), (path, there)) if count < len(trace)]
+    names = ", ".join(differing(here[count], there[count]))
+    return [*lines, f"line {count + 1} differs in {names}", f"{near.name}: {here[count]}", f"{path}: {there[count]}"]

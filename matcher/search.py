@@ -1,0 +1,152 @@
+"""The launches that are tried, in their order: each once, and as many in a run of `rim` as a manifest has."""
+import itertools
+import sys
+import time
+from collections.abc import Iterator
+from concurrent.futures import Future, ThreadPoolExecutor
+from dataclasses import dataclass, field
+
+from .axes import AXES, Axis, Files
+from .launch import Launch, is_whole, measured_of, steps_of
+from .program import Outcome, Rim, outcome
+from .value import Value
+
+MOST_LAUNCHES = 1024
+# A launch of more steps is tried at the end of its round, and the launches of a run have about this many at most.
+COSTLY_STEPS, MOST_STEPS = 1 << 17, 1 << 23
+# How many axes are changed at once, and how many of the changes need not be likely ones; what is said of a round.
+ROUNDS = ((1, 1, "one change"), (2, 0, "two likely changes"), (2, 2, "two changes"), (3, 0, "three likely changes"),
+          (3, 1, "three changes, two of them likely"), (3, 3, "three changes"))
+
+
+@dataclass(frozen=True)
+class Candidate:
+    """A launch, and the changes that lead to it."""
+
+    texts: tuple[str, ...]
+    launch: Launch
+
+
+def combined(texts: tuple[str, ...], launch: Launch, files: Files, axes: tuple[Axis, ...], count: int, others: int) -> Iterator[Candidate]:
+    """The launches that are changed by `count` of these axes, each change of one with each of another; at most `others` are not likely."""
+    for at, axis in enumerate(axes[:len(axes) - count + 1]):
+        changes = axis.changes(launch, files)
+        for number, (text, changed) in enumerate(changes if others else itertools.islice(changes, axis.likely)):
+            if count == 1:
+                yield Candidate((*texts, text), changed)
+            else:
+                yield from combined((*texts, text), changed, files, axes[at + 1:], count - 1, others - (number >= axis.likely))
+
+
+@dataclass
+class Round:
+    """A round of the search: what is changed in it, how many launches were tried, and whether these are all of it."""
+
+    about: str
+    tried: int = 0
+    refused: int = 0
+    seconds: float = 0.0
+    is_whole: bool = False
+
+
+@dataclass
+class Search:
+    """The search for a launch that has the value."""
+
+    rim: Rim
+    files: Files
+    value: Value
+    limit: int
+    axes: tuple[Axis, ...] = AXES
+    rounds: list[Round] = field(default_factory=list)
+    seen: set[int] = field(default_factory=set)
+    shown_at: float = 0.0
+
+    @property
+    def tried(self) -> int:
+        return sum(each.tried for each in self.rounds)
+
+    def is_new(self, launch: Launch) -> bool:
+        """Whether no launch was tried of which the same is measured."""
+        if not is_whole(launch):
+            return False
+        # a hash takes less room than what it is of; two of one hash among a million are not to be expected
+        key = hash(measured_of(launch, self.files))
+        if key in self.seen:
+            return False
+        self.seen.add(key)
+        return True
+
+    def launches(self, base: Launch, count: int, others: int) -> Iterator[Candidate]:
+        """The launches of a round. Those of very many steps, which take long to measure, come last, unless all are such."""
+        costly, late = max(COSTLY_STEPS, 2 * steps_of(base, self.files)), []
+        for each in combined((), base, self.files, self.axes, count, others):
+            if self.is_new(each.launch):
+                if steps_of(each.launch, self.files) > costly:
+                    late.append(each)
+                else:
+                    yield each
+        yield from late
+
+    def batches(self, base: Launch, count: int, others: int, limit: int) -> Iterator[list[Candidate]]:
+        batch, steps = [], 0
+        for each in itertools.islice(self.launches(base, count, others), limit):
+            batch.append(each)
+            steps += steps_of(each.launch, self.files)
+            if len(batch) == MOST_LAUNCHES or steps > MOST_STEPS:
+                yield batch
+                batch, steps = [], 0
+        if batch:
+            yield batch
+
+    def progress(self, done: bool = False):
+        """How far the search is, on a terminal, at most four times a second."""
+        if not sys.stderr.isatty() or (not done and time.monotonic() < self.shown_at + 0.25):
+            return
+        self.shown_at = time.monotonic()
+        text = "" if done else f"rim-match: {self.tried:,} launches tried, {self.rounds[-1].about}"
+        print(f"\r\x1b[K{text}", end="", file=sys.stderr, flush=True)
+
+    def taken(self, waiting: tuple[list[Candidate], Future]) -> Candidate | None:
+        """What came of a batch, once it is measured."""
+        batch, future = waiting
+        came: Outcome = future.result()
+        self.rounds[-1].tried += came.tried
+        self.rounds[-1].refused += came.refused
+        self.progress()
+        return next((each for each in batch if each.launch is came.hit), None)
+
+    def round(self, base: Launch, count: int, others: int, pool: ThreadPoolExecutor) -> Candidate | None:
+        """One round. While a batch is measured, the next one is made."""
+        limit = self.limit - self.tried
+        waiting, made = None, 0
+        for batch in self.batches(base, count, others, limit):
+            made += len(batch)
+            if waiting and (hit := self.taken(waiting)):
+                return hit
+            waiting = batch, pool.submit(outcome, self.rim, [each.launch for each in batch], self.files, self.value)
+        self.rounds[-1].is_whole = made < limit
+        return self.taken(waiting) if waiting else None
+
+    def found(self, base: Launch) -> Candidate | None:
+        """The first launch that has the value: the one as it is, and then round after round."""
+        pool = ThreadPoolExecutor(1)
+        try:
+            self.rounds.append(Round("no change"))
+            hit = None
+            if self.is_new(base):
+                hit = self.taken(([Candidate((), base)], pool.submit(outcome, self.rim, [base], self.files, self.value)))
+                if self.rounds[0].refused:
+                    # another launch of which the same is measured may be one that is not refused
+                    self.seen.clear()
+            for count, others, about in ROUNDS:
+                if hit or self.tried >= self.limit:
+                    break
+                self.rounds.append(Round(about))
+                start = time.monotonic()
+                hit = self.round(base, count, others, pool)
+                self.rounds[-1].seconds = time.monotonic() - start
+        finally:
+            pool.shutdown(cancel_futures=True)
+            self.progress(done=True)
+        return hit

@@ -1,0 +1,550 @@
+#!/usr/bin/env python3
+"""Gives rim-match measurements of changed launches, and looks at which change it finds.
+
+    tests/matching.py [PROGRAM]          by default the program that `rt ci` has built
+
+- Changes: a launch is changed here by one axis, PROGRAM measures it, and rim-match is given the manifest without the change and the
+  measurement. It has to find one change, and the lines that it prints, put into the manifest here, have to give that measurement. The
+  same for pairs, and one of three.
+- Lines: each single change of each axis, of several launches, measured as rim-match writes it and as its lines change the manifest.
+- Launches that rim-match takes for the same have the same measurement.
+- What no launch has, forms of the value, wrong words and faults, traces, what a terminal shows, an installed rim-match, its man page.
+
+The files are made here, and PROGRAM measures. The last line is 'N passed, M failed'.
+"""
+import base64
+import concurrent.futures
+import copy
+import json
+import os
+import re
+import shutil
+import subprocess
+import sys
+import tomllib
+
+from hypervisors import TOP, Folder, differs, image, tree, tried
+
+sys.path.insert(0, TOP)
+
+from matcher import files, lines, main, search  # noqa: E402, the path is set by hypervisors
+from matcher.axes import AXES  # noqa: E402
+from matcher.launch import blocks_of, is_whole, manifest_text, measured_of  # noqa: E402
+
+START = os.path.join(TOP, "rim-match")
+LOW, MIB = 0x4000_0000, 1 << 20
+FILES = {"Image": image(text_offset=0x1000, length=9_000), "initrd": bytes(n * 91 % 253 for n in range(5001)), "stub": bytes(range(1, 41)),
+         "tree": tree([(LOW, LOW + 64 * MIB)], "quiet", (LOW, LOW + MIB), length=6000)}
+MANIFEST = """\
+rim_manifest = 2
+file = [{ name = "k", path = "Image" }, { name = "i", path = "initrd" }, { name = "t", path = "tree" }, { name = "s", path = "stub" }]
+
+[[launch]]
+name = "plain"
+algo = "sha256"
+s2sz = 40
+num_bps = 5
+num_wps = 3
+pmu = true
+pmu_num_ctrs = 6
+ram = [[0x40000000, 0x44000000]]
+item = [
+    { name = "kernel", kind = "kernel", file = "k", at = 0x40200000 },
+    { name = "dtb", kind = "dtb", file = "t", at = 0x42000000, bootargs = "console=ttyAMA0", initrd = true, memory = true },
+    { name = "initrd", kind = "initrd", file = "i", at = 0x43000000 },
+]
+rec = [{}, { runnable = false }]
+rec_rule = "runnable"
+
+[[launch]]
+name = "stub"
+algo = "sha512"
+s2sz = 36
+sve = true
+sve_vl = 3
+ram = [[0x40000000, 0x40800000], [0x40800000, 0x42000000], [0x48000000, 0x48400000]]
+item = [
+    { name = "stub", kind = "raw", file = "s", at = 0x40000000 },
+    { name = "kernel", kind = "kernel", file = "k", at = 0x40a00000, size = 0x8000 },
+    { name = "log", kind = "unknown", at = 0x48000000, size = 0x1000 },
+    { name = "dtb", kind = "dtb", file = "t", at = 0x48200000, measured = false },
+]
+rec = [{ pc = "0x40000000", x = [] }, { pc = 0x40a01000, x = ["0x1", 2] }]
+steps = ["ram 0", "ram 1", "ram 2", "item stub", "item kernel", "item dtb", "item log", "rec 0", "rec 1"]
+"""
+OLD = """\
+rim_manifest = 1
+file = [{ name = "k", path = "Image" }]
+launch = [{ name = "old", algo = "sha256", s2sz = 36, ram = [[0x40000000, 0x40800000]], rec = [{}, {}], item = [
+{ name = "kernel", kind = "kernel", file = "k", at = 0x40000000 }] }]
+"""
+NEVER = "5a" * 32
+
+
+def folder() -> Folder:
+    return Folder(FILES | {"m.toml": MANIFEST.encode(), "old.toml": OLD.encode()})
+
+
+# ---- a manifest that is changed here
+
+
+def written(value) -> str:
+    """A value in TOML."""
+    if isinstance(value, dict):
+        return "{ " + ", ".join(f"{key} = {written(each)}" for key, each in value.items()) + " }"
+    if isinstance(value, list):
+        return "[" + ", ".join(map(written, value)) + "]"
+    return json.dumps(value)
+
+
+def whole(table: dict) -> str:
+    return "".join(f"{key} = {written(value)}\n" for key, value in table.items())
+
+
+def launch_of(table: dict, name: str) -> dict:
+    return next(each for each in table["launch"] if each["name"] == name)
+
+
+def of_name(launch: dict, name: str) -> dict:
+    return next(each for each in launch["item"] if each["name"] == name)
+
+
+def applied(table: dict, name: str, changes: list[str]):
+    """Puts lines that rim-match prints into a manifest."""
+    launch = launch_of(table, name)
+    for line in changes:
+        place, target = re.match(r'(?:item "([^"]+)": )?', line), launch
+        if place[1]:
+            target = of_name(launch, place[1])
+        rest = line[place.end():]
+        if gone := re.match(r'leave out item "([^"]+)"', rest):
+            launch["item"].remove(of_name(launch, gone[1]))
+        elif gone := re.match(r"leave out (\w+) ", rest):
+            del target[gone[1]]
+        else:
+            (key, value), = tomllib.loads(rest).items()
+            (table if key == "rim_manifest" else target)[key] = value
+
+
+def measured(program: str, here: Folder, table: dict) -> dict[str, str]:
+    """The measurement of each launch, or why it is refused."""
+    here.put("measured.toml", whole(table).encode())
+    ran = subprocess.run([program, "measure", "measured.toml"], cwd=here.path, capture_output=True, text=True, check=False)
+    if ran.returncode > 1:
+        raise ValueError(ran.stderr.strip())
+    return {line.split(" ")[0]: line.split(" ")[2] for line in ran.stdout.splitlines()[1:-1]}
+
+
+# ---- changes, by the axis that they are of
+
+
+def put(key: str, value):
+    return lambda launch: launch.update({key: value})
+
+
+def gone(key: str):
+    return lambda launch: launch.pop(key)
+
+
+def item(name: str, **keys):
+    return lambda launch: of_name(launch, name).update(keys)
+
+
+def not_in(name: str, *keys: str):
+    return lambda launch: [of_name(launch, name).pop(key) for key in keys]
+
+
+def left_out(name: str):
+    def change(launch: dict):
+        launch["item"].remove(of_name(launch, name))
+        if "steps" in launch:
+            launch["steps"].remove(f"item {name}")
+    return change
+
+
+def both(*changes):
+    return lambda launch: [change(launch) for change in changes]
+
+
+OFF = {"runnable": False}
+SINGLES = [
+    ("block_level", "plain", put("block_level", 3)),
+    ("rec", "plain", put("rec_rule", "all")),
+    ("rec", "plain", both(put("rec", [{}, OFF, OFF, OFF]), put("rec_rule", "all"))),
+    ("rec", "plain", put("rec", [{}, {}])),
+    ("rec", "plain", put("rec", [{}] * 16)),
+    ("rec", "stub", both(put("rec", [{"pc": "0x40000000", "x": []}]), lambda launch: launch["steps"].remove("rec 1"))),
+    ("rec", "stub", both(put("rec", [{"pc": "0x40000000", "x": []}, {"runnable": False}]), put("rec_rule", "runnable"))),
+    ("rec", "old", put("rec", [{}])),
+    ("rec", "old", put("rec", [])),
+    ("entry", "plain", put("rec", [{"x": []}, OFF])),
+    ("entry", "plain", put("rec", [{"pc": "0x0"}, OFF])),
+    ("entry", "plain", put("rec", [{"pc": 0x40200000}, OFF])),
+    ("entry", "stub", lambda launch: launch["rec"].__setitem__(0, {})),
+    ("entry", "old", put("rec", [{}, {"pc": 0x40001000}])),
+    ("steps", "plain", put("steps", ["ram 0", "item kernel", "item dtb", "item initrd", "rec 0", "rec 1"])),
+    ("steps", "plain", put("steps", ["ram 0", "rec 0", "rec 1", "item kernel", "item initrd", "item dtb"])),
+    ("steps", "plain", put("steps", ["rec 0", "ram 0", "item dtb", "item initrd", "item kernel", "rec 1"])),
+    ("steps", "stub", put("steps", ["ram 0", "item stub", "ram 1", "item kernel", "ram 2", "item dtb", "item log", "rec 0", "rec 1"])),
+    ("steps", "stub", gone("steps")),
+    ("steps", "old", put("steps", ["rec 0", "rec 1", "ram 0", "item kernel"])),
+    ("measured", "plain", item("dtb", measured=False)),
+    ("measured", "stub", not_in("dtb", "measured")),
+    ("measured", "plain", lambda launch: [each.update(measured=False) for each in launch["item"]]),
+    ("item", "plain", both(left_out("initrd"), not_in("dtb", "initrd"))),
+    ("item", "plain", left_out("dtb")),
+    ("item", "plain", both(left_out("dtb"), put("rec", [{"x": [0x42000000]}, OFF]))),
+    ("item", "stub", left_out("stub")),
+    ("size", "plain", item("kernel", size=2 * MIB)),
+    ("size", "plain", item("initrd", size=0x10000)),
+    ("size", "plain", item("initrd", size=0x3000)),
+    ("size", "stub", not_in("kernel", "size")),
+    ("devicetree", "plain", not_in("dtb", "bootargs", "initrd", "memory")),
+    ("devicetree", "plain", not_in("dtb", "initrd")),
+    ("devicetree", "plain", item("dtb", bootargs="")),
+    ("kernel", "plain", item("kernel", at=0x40400000)),
+    ("kernel", "plain", item("kernel", at=0x40800000)),
+    ("kernel", "stub", item("kernel", at=0x40800000)),
+    ("s2sz", "plain", put("s2sz", 48)),
+    ("s2sz", "stub", put("s2sz", 32)),
+    ("sve", "plain", both(put("sve", True), put("sve_vl", 15))),
+    ("sve", "stub", both(gone("sve"), gone("sve_vl"))),
+    ("sve", "stub", put("sve_vl", 4)),
+    ("pmu", "plain", both(put("pmu", False), put("pmu_num_ctrs", 0))),
+    ("pmu", "plain", put("pmu_num_ctrs", 31)),
+    ("pmu", "stub", both(put("pmu", True), put("pmu_num_ctrs", 6))),
+    ("num_bps", "plain", put("num_bps", 6)),
+    ("num_bps", "stub", put("num_bps", 15)),
+    ("num_wps", "plain", put("num_wps", 0)),
+    ("counts", "plain", both(put("num_bps", 6), put("num_wps", 4))),
+    ("counts", "plain", both(put("num_bps", 4), put("num_wps", 2), put("pmu_num_ctrs", 5))),
+    ("ram", "plain", put("ram", [[0x40000000, 0x48000000]])),
+    ("ram", "old", put("ram", [[0x40000000, 0x80800000]])),
+    ("ram", "stub", both(put("ram", [[0x40000000, 0x40800000], [0x40800000, 0x42000000], [0x48000000, 0x48800000]]))),
+    ("ram", "old", put("ram", [[0x40000000, 0x40001000], [0x40001000, 0x40800000]])),
+    ("ram", "plain", both(put("ram", [[0x40000000, 0x40201000], [0x40201000, 0x42000000], [0x42000000, 0x43000000],
+                                      [0x43000000, 0x44000000]]),
+                          put("steps", ["ram 0", "ram 1", "item kernel", "ram 2", "item dtb", "ram 3", "item initrd", "rec 0", "rec 1"]))),
+]
+# More than one: the axes, the launch, the change, and how many are found.
+SEVERAL = [
+    ("two of the realm", "plain", both(put("num_bps", 4), put("s2sz", 36)), 2),
+    ("two of RECs and order", "plain", both(put("rec", [{}, {}]), put("steps", ["rec 0", "rec 1", "ram 0", "item kernel", "item initrd",
+                                                                               "item dtb"])), 2),
+    ("RAM and a kernel", "plain", both(put("ram", [[0x40000000, 0x50000000]]), item("kernel", at=0x40600000)), 2),
+    ("an algorithm and a size", "stub", both(put("algo", "sha256"), not_in("kernel", "size")), 2),
+    ("a devicetree that is measured, and edited", "stub", both(item("dtb", memory=True), not_in("dtb", "measured")), 2),
+    ("an algorithm", "old", put("algo", "sha512"), 1),
+    ("a version and an order", "old", both(put("rec", [{}, OFF, OFF]), put("rec_rule", "all"), put("block_level", 3)), 2),
+    ("three", "old", both(put("block_level", 3), put("num_bps", 1), put("rec", [{}])), 3),
+]
+
+
+def file_of(name: str) -> str:
+    return "old.toml" if name == "old" else "m.toml"
+
+
+def base_table(name: str) -> dict:
+    return tomllib.loads(OLD if name == "old" else MANIFEST)
+
+
+def change(program: str, name: str, changed, count: int) -> list[str]:
+    """The measurement of a changed launch, given to rim-match with the manifest without the change."""
+    here, table = folder(), base_table(name)
+    changed(launch_of(table, name))
+    value = measured(program, here, table | {"rim_manifest": 2})[name]
+    if len(value) < 64:
+        return [f"the changed launch is refused: {value}"]
+    status, out, said = here.run(file_of(name), name, value, start=START, RIM=program)
+    wrong = differs("status, standard error", (status, said), (0, ""))
+    if status:
+        return wrong + [out]
+    first, *rest, last = out.splitlines()
+    found = re.fullmatch(rf'launch "{name}" has the value by (\d+) changes?: .+', first)
+    wrong += differs("changes", found and int(found[1]), count)
+    wrong += differs("the last line", re.fullmatch(r"  [\d,]+ launches were tried", last) is not None, True)
+    again = base_table(name)
+    applied(again, name, [line[2:] for line in rest])
+    return wrong + differs("with the lines: " + "; ".join(rest), measured(program, here, again)[name], value)
+
+
+def lines_of(program: str, axis, name: str) -> list[str]:
+    """Each change of an axis, as it is measured and as its lines change the manifest."""
+    here, table = folder(), base_table(name)
+    blobs = {each["name"]: files.Blob(each["path"], *measures(here, each["path"])) for each in table["file"]}
+    launch = main.launch_named(table, name)
+    some = [(text, new) for text, new in axis.changes(launch, blobs) if is_whole(new)]
+    if not some:
+        return [] if axis.name == "devicetree" else ["no change"]
+    here.put("theirs.toml", manifest_text([new for _, new in some], blobs).encode())
+    ran = subprocess.run([program, "measure", "theirs.toml"], cwd=here.path, capture_output=True, text=True, check=False)
+    if ran.returncode > 1:
+        return [ran.stderr.strip()]
+    theirs = [line.split(" ")[2] for line in ran.stdout.splitlines()[1:-1]]
+    ours = []
+    for number, (_, new) in enumerate(some):
+        again = copy.deepcopy(table)
+        applied(again, name, lines.between(launch, new, table["rim_manifest"]))
+        ours.append(launch_of(again, name) | {"name": str(number)})
+    found = measured(program, here, {"rim_manifest": 2, "file": table["file"], "launch": ours})
+    rows = zip(some, found.values(), theirs, strict=True)
+    return [f"{text}: {mine}, expected {their}" for (text, _), mine, their in rows if mine != their]
+
+
+def measures(here: Folder, path: str):
+    blob = files.read(os.path.join(here.path, path))
+    return blob.length, blob.image
+
+
+def same_measured(program: str, name: str) -> list[str]:
+    """Launches of which rim-match takes the same to be measured have one measurement, so that trying one of them is enough."""
+    here, table = folder(), base_table(name)
+    blobs = {each["name"]: files.Blob(each["path"], *measures(here, each["path"])) for each in table["file"]}
+    launch = main.launch_named(table, name)
+    some = [each.launch for others in (1, 0) for each in search.combined((), launch, blobs, AXES, 2 - others, others)]
+    some = [each for each in some if is_whole(each) and blocks_of(each) < 10_000]
+    found: dict[tuple, str] = {}
+    wrong = []
+    for at in range(0, len(some), 1024):
+        part = some[at:at + 1024]
+        here.put("part.toml", manifest_text(part, blobs).encode())
+        ran = subprocess.run([program, "measure", "part.toml"], cwd=here.path, capture_output=True, text=True, check=False)
+        for each, line in zip(part, ran.stdout.splitlines()[1:-1], strict=True):
+            value = line.split(" ", 1)[1]
+            if found.setdefault(measured_of(each, blobs), value) != value:
+                wrong.append(f"{each}: {value}")
+    return wrong[:8] + differs("launches that are the same", len(found) < len(some), True)
+
+
+# ---- the value, words and faults
+
+
+def forms(program: str) -> list[str]:
+    """The forms of a value, each of the launch as it is."""
+    here = folder()
+    plain, stub = (bytes.fromhex(measured(program, here, base_table("plain"))[name]) for name in ("plain", "stub"))
+    wrong = []
+    bare = [base64.urlsafe_b64encode(each).decode().rstrip("=") for each in (plain, stub)]
+    for name, texts in (("plain", (plain.hex(), plain.hex().upper(), "0x" + plain.hex(), (plain + bytes(32)).hex(), bare[0],
+                                   base64.b64encode(plain).decode(), base64.b64encode(plain + bytes(32)).decode())),
+                        ("stub", (stub.hex(), base64.b64encode(stub).decode(), bare[1]))):
+        for text in texts:
+            wrong += differs(text, here.run("--", "m.toml", name, text, start=START, RIM=program),
+                             (0, f'launch "{name}" has the value as it is\n', ""))
+    return wrong
+
+
+def not_found(program: str) -> list[str]:
+    here = folder()
+    status, out, said = here.run("--limit", "300", "m.toml", "plain", NEVER, start=START, RIM=program)
+    wrong = differs("status, standard error", (status, said), (1, ""))
+    for part in ('launch "plain" does not have the value, and none of 300 launches near it has\n', "one change: ",
+                 "two likely changes: ", ", not all", "of them are refused", ", ".join(axis.name for axis in AXES)):
+        wrong += differs(f"{part!r} in {out!r}", part in out, True)
+    status, out, said = here.run("--limit=1", "m.toml", "plain", "5a" * 64, start=START, RIM=program)
+    wrong += differs("another algorithm", (status, "nor with algo sha512, which the value's length is of" in out, said), (1, True, ""))
+    return wrong
+
+
+MORE = {"key.toml": MANIFEST.replace("s2sz = 40", "s2sz = 40\nss2z = 40"), "range.toml": MANIFEST.replace("s2sz = 40", "s2sz = 99"),
+        "toml.toml": "rim_manifest = ", "new.toml": OLD.replace("name = \"old\", ", "name = \"old\",\n"),
+        "file.toml": MANIFEST.replace('path = "stub"', 'path = "none"'), "none.toml": "rim_manifest = 2\n"}
+WORDS = [
+    ([], 2, "usage: rim-match"),
+    (["m.toml", "plain"], 2, "2 operands, expected MANIFEST LAUNCH VALUE"),
+    (["m.toml", "plain", NEVER, "x"], 2, "4 operands, expected"),
+    (["m.toml", "plain", NEVER[:-2]], 2, "VALUE: \"5a5a5a"),
+    (["m.toml", "plain", "zz"], 2, 'VALUE: "zz" has 1 byte, expected 32 or 64 bytes'),
+    (["m.toml", "plain", "?" * 300], 2, 'VALUE: "????'),
+    (["m.toml", "plain", ""], 2, "VALUE: \"\" has 0 bytes"),
+    (["m.toml", "plain", "5a" * 48], 2, "VALUE: it has 48 bytes, as SHA-384 has"),
+    (["--limit", "0", "m.toml", "plain", NEVER], 2, '--limit: "0", expected a whole number from 1'),
+    (["--limit"], 2, "--limit: nothing comes after it, expected a number"),
+    (["--nearest"], 2, "--nearest: nothing comes after it, expected a file"),
+    (["--nearest", "trace"], 2, "--nearest: 0 operands, expected MANIFEST"),
+    (["--far", "m.toml", "plain", NEVER], 2, '"--far" is no option'),
+    (["gone.toml", "plain", NEVER], 3, '"gone.toml": No such file or directory'),
+    (["m.toml", "plane", NEVER], 3, 'rim: no-such-launch: "plane", expected one of "m.toml": "plain", "stub"'),
+    (["none.toml", "plain", NEVER], 3, 'rim: no-such-launch: "plain", expected one of "none.toml": it has none'),
+    (["key.toml", "plain", NEVER], 3, "rim: unknown-key; `rim check key.toml` says where"),
+    (["range.toml", "plain", NEVER], 3, "rim: range; `rim check range.toml` says where"),
+    (["toml.toml", "plain", NEVER], 3, "rim: syntax; `rim check toml.toml` says where"),
+    (["new.toml", "old", NEVER], 3, '"new.toml": Python\'s tomllib does not read it'),
+    (["file.toml", "plain", NEVER], 3, "rim: file-unreadable; `rim check file.toml` says where"),
+    (["--nearest", "gone", "m.toml"], 3, '"gone": No such file or directory'),
+    (["--nearest", "m.toml", "m.toml"], 3, '"m.toml": its first line is "rim_manifest = 2", expected lines as `rim trace` prints them'),
+    (["--nearest", "trace", "m.toml", "plane"], 3, 'rim: no-such-launch: "plane"'),
+    (["--nearest", "trace", "key.toml"], 3, "rim: unknown-key; `rim check key.toml` says where"),
+    (["--nearest", "trace", "none.toml"], 3, '"none.toml": it has no launch'),
+]
+
+
+def words(program: str) -> list[str]:
+    here = Folder(FILES | {"m.toml": MANIFEST.encode(), "trace": f"{NEVER} realm_create 1\n".encode()}
+                  | {name: data.encode() for name, data in MORE.items()})
+    wrong = []
+    for given, expected, text in WORDS:
+        status, out, said = here.run(*given, start=START, RIM=program)
+        if (status, out, text in said) != (expected, "", True):
+            wrong.append(f"{given[:2]}: {status} {out!r} {said!r}, expected {expected} {text!r}")
+        if given and (not said.startswith("rim-match: ") or said.count("\n") != 1):
+            wrong.append(f"{given[:2]}: {said!r} is not one line")
+    for given, text in ((["--help"], "usage: rim-match [--limit N] MANIFEST LAUNCH VALUE"), (["-V"], "rim-match 0."),
+                        (["--axes"], "block_level  ")):
+        status, out, said = here.run(*given, start=START, RIM=program)
+        wrong += differs(given[0], (status, text in out, said), (0, True, ""))
+    for rim, text in (("/none/rim", 'no program "/none/rim" is found, expected it in the PATH or its path in the variable RIM'),
+                      ("/bin/false", '"/bin/false" --version: status 1')):
+        status, _, said = here.run("m.toml", "plain", NEVER, start=START, RIM=rim)
+        wrong += differs(rim, (status, said), (3, f"rim-match: {text}\n"))
+    return wrong
+
+
+def refused(program: str) -> list[str]:
+    """A launch that is refused is no fault: one near it may have the value."""
+    here, table = folder(), base_table("plain")
+    value = measured(program, here, table)["plain"]
+    here.put("m.toml", MANIFEST.replace("at = 0x43000000", "at = 0x40202000", 1).encode())
+    status, out, said = here.run("--limit", "50", "m.toml", "plain", value, start=START, RIM=program)
+    wrong = differs("overlap", (status, said), (1, 'rim-match: launch "plain" is refused: overlap; launches near it are tried\n'))
+    here.put("m.toml", MANIFEST.replace("at = 0x40200000", "at = 0x43e00000", 1).replace("at = 0x43000000", "at = 0x43f00000").encode())
+    launch_of(table, "plain")["item"][2]["at"] = 0x43F00000
+    launch_of(table, "plain")["item"][0]["at"] = 0x43C00000
+    value = measured(program, here, table)["plain"]
+    status, out, said = here.run("m.toml", "plain", value, start=START, RIM=program)
+    has = 'item "kernel": at = 0x43c00000' in out, " is refused: " in said
+    wrong += differs("a base that is moved back", (status, *has), (0, True, True))
+    here.put("old.toml", OLD.replace("rec = [{}, {}]", "rec = [{}, { runnable = false }]").encode())
+    table = base_table("old") | {"rim_manifest": 2}
+    launch_of(table, "old").update(rec=[{}, OFF], rec_rule="all")
+    value = measured(program, here, table)["old"]
+    status, out, _ = here.run("old.toml", "old", value, start=START, RIM=program)
+    return wrong + differs("a rule that version 1 has not", (status, 'rec_rule = "all"' in out, "rim_manifest = 2" in out), (0, True, True))
+
+
+# ---- traces
+
+
+def trace_of(program: str, here: Folder, path: str, name: str) -> str:
+    return subprocess.run([program, "trace", path, name], cwd=here.path, capture_output=True, text=True, check=True).stdout
+
+
+def traces(program: str) -> list[str]:
+    here = folder()
+    plain, stub = (trace_of(program, here, "m.toml", name) for name in ("plain", "stub"))
+    table = base_table("plain")
+    launch_of(table, "plain")["rec"] = [{"pc": 0}, OFF]
+    here.put("changed.toml", whole(table).encode())
+    changed = trace_of(program, here, "changed.toml", "plain")
+    count = len(plain.splitlines())
+    wrong = []
+    for name, data, given, status, parts in (
+            ("the same", stub, ["m.toml"], 0, [f'launch "stub": all {len(stub.splitlines())} lines are those of there\n']),
+            ("a REC", changed, ["m.toml"], 1, [
+                f'launch "plain": the first {count - 1} of its {count} lines are those of there, which has {count}\n',
+                f"line {count} differs in pc\n", f"plain: {plain.splitlines()[-1]}\n", f"there: {changed.splitlines()[-1]}\n"]),
+            ("one launch", stub, ["m.toml", "plain"], 1, ['launch "plain": the first 0 of its ',
+                                                          "line 1 differs in rtt_num_start, s2sz, algo, flags, "]),
+            ("a beginning", "".join(plain.splitlines(True)[:3]), ["m.toml"], 1, ["the first 3 of its ", "line 4: there has none\n",
+                                                                                "plain: " + plain.splitlines()[3]]),
+            ("more", plain + plain, ["m.toml"], 1, [f"line {count + 1}: the launch has none\n"]),
+            ("another command", plain.splitlines()[0] + "\n" + plain.splitlines()[-1], ["m.toml"], 1, ["line 2 differs in the command\n"])):
+        here.put("there", data.encode())
+        ran, out, said = here.run("--nearest", "there", *given, start=START, RIM=program)
+        wrong += differs(name, (ran, said), (status, ""))
+        wrong += [f"{name}: {part!r} is not in {out!r}" for part in parts if part not in out]
+    two = copy.deepcopy(base_table("plain"))
+    two["launch"].append(copy.deepcopy(launch_of(two, "plain")) | {"name": "twin"})
+    two["launch"].append(copy.deepcopy(launch_of(two, "plain")) | {"name": "bad"})
+    of_name(two["launch"][-1], "initrd")["at"] = 0x50000000
+    here.put("two.toml", whole(two).encode())
+    here.put("there", plain.encode())
+    ran = here.run("--nearest", "there", "two.toml", start=START, RIM=program)
+    wrong += differs("two of them", ran[:2], (0, f'launch "plain": all {count} lines are those of there\n'
+                                                 "1 other launch shares that beginning too\n"))
+    ran = here.run("--nearest", "there", "two.toml", "bad", start=START, RIM=program)
+    return wrong + differs("one that is refused", ran, (1, "bad refused outside-ram\n", ""))
+
+
+# ---- how it is started
+
+
+def terminal(program: str) -> list[str]:
+    """Standard error is a terminal: it shows how far the search is, and the line is gone at the end."""
+    here = folder()
+    ours, theirs = os.openpty()
+    ran = subprocess.run([START, "--limit", "400", "m.toml", "plain", NEVER], cwd=here.path, stdout=subprocess.PIPE, stderr=theirs,
+                         check=False, env=os.environ | {"RIM": program})
+    os.close(theirs)
+    shown = os.read(ours, 1 << 16).decode()
+    os.close(ours)
+    has = re.search(r"\d launches tried, ", shown) is not None
+    return differs("what is shown", (ran.returncode, has, shown.endswith("\r\x1b[K")), (1, True, True))
+
+
+def installed(program: str) -> list[str]:
+    """It finds its modules beside itself, or in ../share/rim, and `rim` of the PATH or beside itself."""
+    here = folder()
+    value = measured(program, here, base_table("plain"))["plain"]
+    os.makedirs(os.path.join(here.path, "usr/bin"))
+    shutil.copy(START, os.path.join(here.path, "usr/bin/rim-match"))
+    for name in ("vmm", "matcher"):
+        shutil.copytree(os.path.join(TOP, name), os.path.join(here.path, "usr/share/rim", name),
+                        ignore=shutil.ignore_patterns("__pycache__"))
+    os.symlink(program, os.path.join(here.path, "usr/bin/rim"))
+    os.symlink(START, os.path.join(here.path, "link"))
+    start, as_it_is = os.path.join(here.path, "usr/bin/rim-match"), (0, 'launch "plain" has the value as it is\n', "")
+    wrong = differs("beside it", here.run("m.toml", "plain", value, start=start, RIM=""), as_it_is)
+    wrong += differs("a link", here.run("m.toml", "plain", value, start="./link", RIM=program), as_it_is)
+    kept = [path for path, _, _ in os.walk(os.path.join(here.path, "usr")) if path.endswith("__pycache__")]
+    wrong += differs("what is compiled", kept, [])
+    os.makedirs(os.path.join(here.path, "temporary"))
+    here.run("--limit", "30", "m.toml", "plain", NEVER, start=START, RIM=program, TMPDIR=os.path.join(here.path, "temporary"))
+    wrong += differs("the temporary folder", os.listdir(os.path.join(here.path, "temporary")), [])
+    os.remove(os.path.join(here.path, "usr/share/rim/matcher/main.py"))
+    status, _, said = here.run("--help", start=start)
+    return wrong + differs("no modules", (status, "no folder matcher" in said), (1, True))
+
+
+def documents(_program: str) -> list[str]:
+    """The man page has each option, and the axes in their order."""
+    with open(os.path.join(TOP, "docs", "rim-match.1"), encoding="utf-8") as file:
+        page = file.read().replace("\\-", "-")
+    options = ("--limit", "--nearest", "--axes", "--help", "--version")
+    wrong = [f"docs/rim-match.1: {name} is not named" for name in options if name not in page]
+    named = [name for name in re.findall(r"^\.B ([a-z0-9_]+)$", page, re.M) if name in {axis.name for axis in AXES}]
+    wrong += differs("the axes of docs/rim-match.1", named, [axis.name for axis in AXES])
+    return wrong + differs("the limit", f"{main.LIMIT:,} by default" in page, True)
+
+
+def all_tries(program: str):
+    for number, (axis, name, changed) in enumerate(SINGLES):
+        yield f"{axis} of {name}, row {number}", lambda name=name, changed=changed: change(program, name, changed, 1)
+    for text, name, changed, count in SEVERAL:
+        yield text, lambda name=name, changed=changed, count=count: change(program, name, changed, count)
+    for axis in AXES:
+        for name in ("plain", "stub", "old"):
+            yield f"lines of {axis.name} of {name}", lambda axis=axis, name=name: lines_of(program, axis, name)
+    for name in ("plain", "stub", "old"):
+        yield f"what is measured of {name}", lambda name=name: same_measured(program, name)
+    for look in (forms, not_found, words, refused, traces, terminal, installed, documents):
+        yield look.__name__, lambda look=look: look(program)
+
+
+def run_all() -> int:
+    program = os.path.abspath(sys.argv[1] if len(sys.argv) > 1 else os.path.join(TOP, "crates", "rim", "out", "rim"))
+    if not os.path.exists(program):
+        raise SystemExit(f"{program} is not built")
+    with concurrent.futures.ThreadPoolExecutor(len(os.sched_getaffinity(0))) as pool:
+        waiting = [(name, pool.submit(tried, look)) for name, look in all_tries(program)]
+        outcomes = [(name, done.result()) for name, done in waiting]
+    for name, wrong in outcomes:
+        if wrong:
+            print(f"WRONG: {name}", *wrong, sep="\n  ")
+    failed = sum(bool(wrong) for _, wrong in outcomes)
+    print(f"{len(outcomes) - failed} passed, {failed} failed")
+    return int(failed > 0)
+
+
+if __name__ == "__main__":
+    sys.exit(run_all())
