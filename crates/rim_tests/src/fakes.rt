@@ -225,9 +225,9 @@ impl Write for FailingWriter {
     }
 }
 
-/// A writer that takes all, and fails when it is flushed.
+/// A writer that takes all, and fails with this kind of error when it is flushed.
 #[derive(Drop)]
-pub struct FailingFlush;
+pub struct FailingFlush(pub ErrorKind);
 
 impl Write for FailingFlush {
     fn write(&mut self, buf: &[u8]) -> io::Result<usize> {
@@ -235,6 +235,6 @@ impl Write for FailingFlush {
     }
 
     fn flush(&mut self) -> io::Result<()> {
-        Err(io::Error::from(ErrorKind::BrokenPipe))
+        Err(io::Error::from(self.0))
     }
 }

@@ -127,7 +127,16 @@ fn failing_output(rt: HostRuntime) {
 
 #[test]
 fn failing_flush(rt: HostRuntime) {
-    check_output(&rt, &MEASURE, &mut FailingFlush);
+    check_output(&rt, &MEASURE, &mut FailingFlush(ErrorKind::WriteZero));
+}
+
+/// A reader that closed its end, as `head` does, has what it asked for: nothing is said.
+#[test]
+fn output_that_nobody_reads(rt: HostRuntime) {
+    let mut err = Vec::new(rt.alloc());
+    let out = &mut FailingFlush(ErrorKind::BrokenPipe);
+    check_status(&rt, &MEASURE, out, &mut err);
+    assert_eq!(rt; err.len(), 0);
 }
 
 #[test]
