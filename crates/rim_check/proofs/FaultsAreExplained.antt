@@ -7,7 +7,7 @@ use Rattle.rim_manifest.specs.Faults.{lower}
 use Rattle.rim_manifest.specs.Found.{AreFound}
 use Rattle.rim_manifest.specs.Manifest.{Answer, answer_of, document_of, manifest_of, read_of}
 use Rattle.rim_check.specs.Explained.{Explains, IsCheckOf, fault_said}
-use Rattle.rim_check.specs.Lines.{SayInTurn}
+use Rattle.rim_line.specs.Lines.{SayInTurn}
 use Rattle.rim_check.specs.declared.manifest.ManifestCheck.{ManifestCheck}
 
 -- a text that is no document is explained by one line

@@ -5,7 +5,7 @@ use Rattle.std.proofs.lemmas.List.{take_all}
 use Rattle.rim_manifest.specs.declared.finding.Finding.{Finding}
 use Rattle.rim_manifest.specs.inside.Findings.{faults_in}
 use Rattle.rim_check.specs.Explained.{fault_said}
-use Rattle.rim_check.specs.Lines.{AddsLine, Saying, SayInTurn}
+use Rattle.rim_line.specs.Lines.{AddsLine, Saying, SayInTurn}
 
 -- what is said of what was found
 abbrev pub findings_said : List Finding → List Saying

@@ -15,7 +15,7 @@ use Rattle.rim_accepted.specs.declared.audit_fault.AuditFault.{AuditFault}
 use Rattle.rim_accepted.specs.declared.reason.LaunchReason.{LaunchReason}
 use Rattle.rim_report.specs.Pages.{keys_at}
 use Rattle.rim_check.specs.Explained.{refusal_said}
-use Rattle.rim_check.specs.Lines.{AddsLine}
+use Rattle.rim_line.specs.Lines.{AddsLine}
 use Rattle.rim_check.specs.declared.found.Found.{Found}
 use Rattle.rim_check.specs.inside.Found.{AddsFound, AddsNumber, AreWarned, numbers_of}
 use Rattle.rim_check.specs.inside.Refused.{AddsSaid}

@@ -17,7 +17,7 @@ use Rattle.page_jobs.specs.Key.{rising_keys}
 use Rattle.page_jobs.specs.declared.page.PageKey.{PageKey}
 use Rattle.rim_report.specs.Pages.{launch_keys, page_keys}
 use Rattle.rim_check.specs.Explained.{AreSaidOf, IsLaunchCheck, IsSaidOf, fault_of, pages_said}
-use Rattle.rim_check.specs.Lines.{AddsAll, Saying, SayInTurn}
+use Rattle.rim_line.specs.Lines.{AddsAll, Saying, SayInTurn}
 use Rattle.rim_check.specs.Warned.{ShowsWarnings}
 use Rattle.rim_check.specs.declared.found.Found.{Found}
 use Rattle.rim_check.specs.declared.found.LaunchCheck.{LaunchCheck}

@@ -14,8 +14,8 @@ use Rattle.rim_accepted.specs.declared.reason.LaunchReason.{LaunchReason}
 use Rattle.rim_accepted.proofs.RefusedLaunches.{same_refusal}
 use Rattle.rim_check.specs.Details.{reason_detail}
 use Rattle.rim_check.specs.Explained.{launch_front, refusal_said}
-use Rattle.rim_check.specs.Lines.{AddsLine, IsKnown, Saying, SayInTurn}
-use Rattle.rim_check.specs.Readables.{item_name}
+use Rattle.rim_line.specs.Lines.{AddsLine, IsKnown, Saying, SayInTurn}
+use Rattle.rim_line.specs.Readables.{item_name}
 use Rattle.rim_check.specs.inside.Refused.{AddsSaid}
 
 -- a line that is made of these parts is the line of a launch's refusal

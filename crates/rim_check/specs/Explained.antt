@@ -14,8 +14,8 @@ use Rattle.rim_report.specs.Pages.{page_keys}
 use Rattle.rim_report.specs.declared.fault.StartFault.TheVariants as start
 use Rattle.rim_report.specs.declared.pages.TheConstants.{DISTINCT_LIMIT}
 use Rattle.rim_check.specs.Details.{reason_detail}
-use Rattle.rim_check.specs.Lines.{Saying, SayInTurn}
-use Rattle.rim_check.specs.Readables.{item_name, item_names_in}
+use Rattle.rim_line.specs.Lines.{Saying, SayInTurn}
+use Rattle.rim_line.specs.Readables.{item_name, item_names_in}
 use Rattle.rim_check.specs.Warned.{ShowsWarnings}
 use Rattle.rim_check.specs.declared.found.LaunchCheck.{LaunchCheck}
 use Rattle.rim_check.specs.declared.found.ReleaseFault.{ReleaseFault}

@@ -1,5 +1,3 @@
-pub mod Lines
-pub mod Readables
 pub mod Details
 pub mod Warned
 pub mod Explained

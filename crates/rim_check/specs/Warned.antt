@@ -3,7 +3,7 @@ use Rattle.std.specs.Prelude.{◌≡◌, ℕ, List, [], ◌∷◌, ◌++◌, Som
 use Rattle.std.specs.List.{AllByRecursion, slice_get}
 use Rattle.rim_manifest.specs.Launches.{NamedData}
 use Rattle.rim_accepted.specs.Accepted.{accepted_of}
-use Rattle.rim_check.specs.Lines.{Saying, SayInTurn}
+use Rattle.rim_line.specs.Lines.{Saying, SayInTurn}
 
 -- a line that is about a launch of this name
 abbrev pub warning_said : List ℕ → Saying

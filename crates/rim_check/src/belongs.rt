@@ -1,6 +1,6 @@
 //! The tables of a manifest that a key belongs to.
 use crate::hint::Header;
-use crate::line::Line;
+use rim_line::Line;
 use rim_manifest::{
     DTB_RULES, Document, FILE_RULES, Form, ITEM_RULES, Place, REC_RULES, Rule, TOP_RULES,
 };

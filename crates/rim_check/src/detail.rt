@@ -2,16 +2,16 @@
 ghost use Rattle.std.specs.Prelude.{◌≡◌, ◌+◌, ◌++◌, IfOk, codes, false, string_bytes};
 ghost use Rattle.std.specs.Fmt.{digits};
 ghost use Rattle.rim_check.specs.Details.{hexadecimal, item_detail, layout_detail, list_detail, pair_text, plan_detail, pool_text, range_text, reason_detail, step_detail, step_text};
-ghost use Rattle.rim_check.specs.inside.Names.{names_of};
+ghost use Rattle.rim_line.specs.Names.{names_of};
 ghost use Rattle.ipa_layout.specs.declared.reason.ItemReason.TheVariants as ItemReason;
 
-use crate::names::ItemNames;
 use arm64_image::ImageFault;
 use fdt_tree::SIZE_LIMIT;
 use ipa_layout::{Extent, IpaRange, ItemExtent, ItemReason, LayoutReason, PAGE_LIMIT};
 use rim_accepted::LaunchReason;
 use rim_desc::{GRANULE_SIZE, REC_LIMIT};
 use rim_launch::{Config, Step};
+use rim_line::ItemNames;
 use rmi_list::{ListReason, StepReason};
 use rmm_model::protected_end;
 use rtt_plan::{ENTRY_LIMIT, PlanFault};

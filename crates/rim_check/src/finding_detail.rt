@@ -1,13 +1,13 @@
 //! What is given and what is expected, where a manifest has a fault.
 use crate::expected::Expected;
 use crate::hint::{element_hint, value_hint};
-use crate::line::{Line, Quoted};
 use crate::nearest::Nearest;
 use crate::other_keys::write_other_keys;
 use crate::place::text_at;
 use crate::shown::{Shown, bad_element};
 use crate::steps::{write_step, write_steps};
 use rim_launch::Role;
+use rim_line::{Line, Quoted};
 use rim_manifest::{
     Document, Finding, Form, ManifestFault, Subject, asks_for, cell, entries, name, role,
 };

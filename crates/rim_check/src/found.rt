@@ -1,11 +1,11 @@
 //! What a check of the launches of a release has found.
 ghost use Rattle.std.specs.Prelude.{◌≡◌, IfOk, OnOk, Some, codes};
 ghost use Rattle.rim_check.specs.Explained.{fault_of, pages_detail, pages_said};
-ghost use Rattle.rim_check.specs.Lines.{AddsAll, IsKnown};
+ghost use Rattle.rim_line.specs.Lines.{AddsAll, IsKnown};
 
-use crate::line::{Line, push_line};
 use crate::warnings::Warnings;
 use refusal::NoMemory;
+use rim_line::{Line, push_line};
 use rim_manifest::NamedLaunch;
 use rim_report::{DISTINCT_LIMIT, MeasuredPages, StartFault};
 use std::alloc::{AllocError, Global};
@@ -43,7 +43,7 @@ impl Found {
     ghost use Rattle.std.specs.Prelude.{◌≡◌, [], IfOk, List, false, length, ℕ};
     ghost use Rattle.page_jobs.specs.Key.{rising_keys};
     ghost use Rattle.rim_check.specs.Explained.{fault_of, pages_said};
-    ghost use Rattle.rim_check.specs.Lines.{AddsAll};
+    ghost use Rattle.rim_line.specs.Lines.{AddsAll};
     ghost use Rattle.rim_check.specs.Warned.{ShowsWarnings};
     ghost use Rattle.rim_check.specs.inside.Found.{AreWarned, numbers_of};
 

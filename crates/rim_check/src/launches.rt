@@ -4,21 +4,19 @@ ghost use Rattle.rim_launch.specs.LaunchData.{has_files};
 ghost use Rattle.ipa_layout.specs.Files.{bytes_of_files};
 ghost use Rattle.rim_check.specs.Details.{reason_detail};
 ghost use Rattle.rim_check.specs.Explained.{IsLaunchCheck, launch_front, refusal_said};
-ghost use Rattle.rim_check.specs.Lines.{AddsLine, IsKnown};
-ghost use Rattle.rim_check.specs.inside.Names.{names_of};
+ghost use Rattle.rim_line.specs.Lines.{AddsLine, IsKnown};
+ghost use Rattle.rim_line.specs.Names.{names_of};
 ghost use Rattle.rim_check.specs.inside.Found.{AddsFound, AddsNumber, numbers_of};
 ghost use Rattle.rim_report.specs.Pages.{keys_at};
 
 use crate::detail::reason_detail;
 use crate::found::{Found, LaunchCheck};
-use crate::line::{Line, push_line};
-use crate::names::ItemNames;
-use crate::readable::Readable;
-use crate::unusual::find_unusual;
 use refusal::NoMemory;
 use rim_accepted::{AcceptedLaunch, Files, LaunchReason, accept_with_reason};
 use rim_launch::Config;
+use rim_line::{ItemNames, Line, Readable, push_line};
 use rim_manifest::NamedLaunch;
+use rim_unusual::find_unusual;
 use std::alloc::{AllocError, Global};
 
 /// A line for each launch that is refused, in the manifest's order: its name, the word of its refusal as the report has

@@ -3,14 +3,13 @@ ghost use Rattle.std.specs.Prelude.{[], ◌∷◌, IfOk, OnOk, map};
 ghost use Rattle.rim_manifest.specs.Manifest.{manifest_of};
 ghost use Rattle.rim_manifest.specs.inside.Findings.{faults_in};
 ghost use Rattle.rim_check.specs.Explained.{HasNames, IsCheckOf, fault_said};
-ghost use Rattle.rim_check.specs.Lines.{AddsLine, SayInTurn};
+ghost use Rattle.rim_line.specs.Lines.{AddsLine, SayInTurn};
 
 use crate::finding_detail::write_detail;
-use crate::line::{Line, push_line};
 use crate::place::write_place;
-use crate::readable::Readable;
 use crate::syntax::{write_message, write_position};
 use refusal::NoMemory;
+use rim_line::{Line, Readable, push_line};
 use rim_manifest::{Checked, Document, Finding, ManifestFault};
 use std::alloc::Global;
 use toml::de::Error;

@@ -2,9 +2,9 @@
 use crate::alike::is_alike;
 use crate::belongs::{form_in, is_anywhere, write_owners};
 use crate::hint::Header;
-use crate::line::{Line, Quoted};
 use crate::nearest::Nearest;
 use crate::place::text_at;
+use rim_line::{Line, Quoted};
 use rim_manifest::{
     DTB_RULES, Document, FILE_RULES, Form, ITEM_RULES, Place, REC_RULES, Rule, TOP_RULES,
     UNKNOWN_RULES,

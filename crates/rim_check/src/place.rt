@@ -1,5 +1,5 @@
 //! The place of a fault: its table by name, and its key.
-use crate::line::{Line, Quoted};
+use rim_line::{Line, Quoted};
 use rim_manifest::{Document, Finding, Place, Subject, cell};
 use std::fmt;
 use std::fmt::Write;

@@ -1,6 +1,6 @@
 //! A value of a manifest, as a fault shows it.
-use crate::line::Quoted;
 use crate::number::{Number, NumberPair};
+use rim_line::Quoted;
 use rim_manifest::{Form, ManifestFault, is_word};
 use std::fmt;
 use toml::Value;

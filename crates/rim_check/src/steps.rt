@@ -1,8 +1,8 @@
 //! Steps of a launch that are at fault.
 use crate::alike::is_alike;
-use crate::line::{Line, Quoted};
 use crate::nearest::Nearest;
 use crate::part::{ITEM, Part, Parts, RAM, REC};
+use rim_line::{Line, Quoted};
 use rim_manifest::{entries, name};
 use std::alloc::{AllocError, Global};
 use std::fmt;

@@ -1,7 +1,7 @@
 //! Where a text is no TOML document, and why.
 use crate::hint::Header;
-use crate::line::{Line, Quoted};
 use crate::number::is_too_large;
+use rim_line::{Line, Quoted};
 use std::fmt;
 use std::fmt::Write;
 use toml::de::Error;

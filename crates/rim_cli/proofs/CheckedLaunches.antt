@@ -2,7 +2,7 @@
 use Rattle.std.proofs.Common.{◌≡◌, ◌∙◌, ◌++◌, ℕ, Bool, List, [], ap, inr}
 use Rattle.std.specs.Prelude.{Result, Ok, Err, IfOk, Option, if◌then◌else◌}
 use Rattle.rim_check.specs.Explained.{IsLaunchCheck}
-use Rattle.rim_check.specs.Readables.{ReadableData}
+use Rattle.rim_line.specs.Readables.{ReadableData}
 use Rattle.rim_check.specs.declared.found.LaunchCheck.{LaunchCheck}
 use Rattle.rim_check.specs.declared.found.ReleaseFault.{ReleaseFault}
 use Rattle.rim_cli.specs.Done.{IsReleaseCheck, check_status}

@@ -23,8 +23,8 @@ use Rattle.rim_check.specs.Explained.{Explains, ShowsFaults, fault_in}
 use Rattle.rim_check.specs.Warned.{ShowsWarnings}
 use Rattle.rim_check.specs.declared.found.ReleaseFault.{ReleaseFault}
 use Rattle.rim_check.specs.declared.found.ReleaseFault.TheVariants as release
-use Rattle.rim_check.specs.Lines.{Saying, SayInTurn}
-use Rattle.rim_check.specs.Readables.{ReadableData, item_names_in}
+use Rattle.rim_line.specs.Lines.{Saying, SayInTurn}
+use Rattle.rim_line.specs.Readables.{ReadableData, item_names_in}
 use Rattle.rim_cli.specs.declared.words.Format.{Format}
 use Rattle.rim_cli.specs.declared.words.Format.TheVariants as format
 use Rattle.rim_cli.specs.declared.words.Request.{Request}

@@ -4,9 +4,9 @@ ghost use Rattle.rim_cli.specs.Done.{IsCheck, IsReleaseCheck, check_status};
 ghost use Rattle.rim_cli.specs.Files.{IfFile, IsFileFault};
 ghost use Rattle.rim_cli.specs.Status.{word_of};
 ghost use Rattle.rim_cli.specs.inside.Found.{AreFound};
-ghost use Rattle.rim_check.specs.Lines.{AddsLine, file_said};
+ghost use Rattle.rim_line.specs.Lines.{AddsLine, file_said};
 ghost use Rattle.rim_manifest.specs.Manifest.{manifest_of};
-ghost use Rattle.rim_check.specs.Readables.{item_names_in};
+ghost use Rattle.rim_line.specs.Readables.{item_names_in};
 
 use crate::answer::Answer;
 use crate::fault::Fault;

@@ -2,7 +2,7 @@
 use Rattle.std.specs.Prelude.{List, ℕ}
 use Rattle.rim_manifest.specs.Launches.{NamedData}
 use Rattle.rim_check.specs.Explained.{IsSaidOf}
-use Rattle.rim_check.specs.Lines.{AddsAll, Saying}
+use Rattle.rim_line.specs.Lines.{AddsAll, Saying}
 
 -- a text has the lines that it had, and what is said of a launch
 pub record AddsSaid (names : List (List (List ℕ))) (files : List (List ℕ)) (l : NamedData) (old new : List ℕ) : Type 0 where

@@ -1,6 +1,6 @@
 -- What the loop over the files of a checked release has found. This project's choice.
 use Rattle.std.specs.Prelude.{◌≡◌, ℕ, List, []}
-use Rattle.rim_check.specs.Lines.{Saying, SayInTurn}
+use Rattle.rim_line.specs.Lines.{Saying, SayInTurn}
 use Rattle.rim_cli.specs.Files.{AreRead, Known}
 use Rattle.rim_cli.specs.Unread.{AreUnread}
 

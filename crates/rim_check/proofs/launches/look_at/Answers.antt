@@ -2,7 +2,7 @@ use Rattle.std.proofs.Common.{refl}
 use Rattle.std.proofs.lemmas.Result.{on_ok_weaker}
 use Rattle.ipa_layout.specs.Files.{bytes_of_files}
 use Rattle.rim_check.specs.Explained.{refusal_said}
-use Rattle.rim_check.specs.Lines.{AddsLine}
+use Rattle.rim_line.specs.Lines.{AddsLine}
 use Rattle.rim_check.proofs.FoundOfLaunches.{accepted-all, refused-found}
 use Rattle.rim_check.proofs.launches.look_at.Goals as goal
 

@@ -7,8 +7,8 @@ use Rattle.rim_manifest.specs.declared.finding.Finding.{Finding}
 use Rattle.rim_manifest.specs.Found.{AreFound, IsChecked}
 use Rattle.rim_manifest.specs.inside.Findings.{faults_in}
 use Rattle.rim_check.specs.Explained.{fault_said}
-use Rattle.rim_check.specs.Lines.{SayInTurn}
-use Rattle.rim_check.specs.Readables.{ReadableData}
+use Rattle.rim_line.specs.Lines.{SayInTurn}
+use Rattle.rim_line.specs.Readables.{ReadableData}
 use Rattle.rim_check.proofs.FaultsAreExplained.{explains-found, explains-syntax, of-document, of-none}
 use Rattle.rim_check.proofs.manifest.check_manifest.Goals as goal
 

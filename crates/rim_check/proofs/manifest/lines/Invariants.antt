@@ -1,5 +1,5 @@
 use Rattle.std.proofs.Common.{take}
-use Rattle.rim_check.specs.Lines.{SayInTurn}
+use Rattle.rim_line.specs.Lines.{SayInTurn}
 use Rattle.rim_check.proofs.FindingLines.{findings_said}
 use Rattle.rim_check.proofs.manifest.lines.Given as goal
 

@@ -1,5 +1,5 @@
 use Rattle.std.proofs.Common.{ℕ, List, [], ◌∷◌, None, subst}
-use Rattle.rim_check.specs.Lines.{SayInTurn}
+use Rattle.rim_line.specs.Lines.{SayInTurn}
 use Rattle.rim_check.proofs.manifest.syntax_line.Goals as goal
 
 pub returns : goal.returns

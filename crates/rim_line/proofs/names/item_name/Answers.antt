@@ -3,8 +3,8 @@ use Rattle.std.specs.Prelude.{option_map}
 use Rattle.std.specs.List.{slice_get}
 use Rattle.std.proofs.lemmas.Option.{slice_get-map, slice_get_past, slice_get_read}
 use Rattle.toml.specs.View.{table_view, view}
-use Rattle.rim_check.proofs.NamesOfItems.{item-named}
-use Rattle.rim_check.proofs.names.item_name.Goals as goal
+use Rattle.rim_line.proofs.NamesOfItems.{item-named}
+use Rattle.rim_line.proofs.names.item_name.Goals as goal
 
 pub returns-in-Some-get : goal.returns-in-Some-get
 returns-in-Some-get c =

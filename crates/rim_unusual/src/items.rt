@@ -1,11 +1,10 @@
 //! Items that are rarely meant: those that are missing, those whose bytes are of another kind, and a file that two have.
-use crate::line::Quoted;
-use crate::names::ItemNames;
+use crate::initrd::{Front, is_initrd};
 use crate::unusual::Unusual;
-use crate::unusual::initrd::{Front, is_initrd};
 use refusal::NoMemory;
 use rim_accepted::AcceptedLaunch;
 use rim_launch::{Item, Role};
+use rim_line::{ItemNames, Quoted};
 use std::fmt;
 
 /// How a flattened devicetree begins.

@@ -1,7 +1,7 @@
 use Rattle.std.proofs.Common.{rules, subst, sym}
-use Rattle.rim_check.specs.Lines.{IsKnown}
-use Rattle.rim_check.proofs.AddedLines.{adds-line}
-use Rattle.rim_check.proofs.line.push_line.Goals as goal
+use Rattle.rim_line.specs.Lines.{IsKnown}
+use Rattle.rim_line.proofs.AddedLines.{adds-line}
+use Rattle.rim_line.proofs.line.push_line.Goals as goal
 
 pub returns : goal.returns
 returns c front detail begins ends =

@@ -9,7 +9,7 @@ use Rattle.rim_manifest.specs.Manifest.{launches_at}
 use Rattle.rim_manifest.specs.Names.{name_of}
 use Rattle.rim_manifest.specs.Places.{table_of}
 use Rattle.rim_manifest.specs.Values.{array_at}
-use Rattle.rim_check.specs.Readables.{item_name, item_names}
+use Rattle.rim_line.specs.Readables.{item_name, item_names}
 
 -- the names of the items of a launch
 abbrev own_names : Data → List (List ℕ)

@@ -11,7 +11,7 @@ pub struct Readable {
 
 impl Model for Readable {
     ghost use Rattle.toml.specs.View.{table_view};
-    ghost use Rattle.rim_check.specs.Readables.{ReadableData, item_names};
+    ghost use Rattle.rim_line.specs.Readables.{ReadableData, item_names};
 
     ghost Value = { ReadableData };
 
@@ -22,10 +22,10 @@ impl Model for Readable {
 impl Readable {
     ghost use Rattle.std.specs.Prelude.{◌≡◌};
     ghost use Rattle.toml.specs.View.{table_view};
-    ghost use Rattle.rim_check.specs.Readables.{item_names};
+    ghost use Rattle.rim_line.specs.Readables.{item_names};
 
     /// These two.
-    pub(crate) fn new(document: Document, release: Release) -> Readable
+    pub fn new(document: Document, release: Release) -> Readable
         ensures { result
             ≡ record { names = item_names (table_view document.table); release = release } }
     {
@@ -40,7 +40,7 @@ impl Readable {
     }
 
     /// The document that it is.
-    pub(crate) fn document(&self) -> &Document
+    pub fn document(&self) -> &Document
         ensures { item_names (table_view result.now.table) ≡ self.now.names }
     {
         &self.document

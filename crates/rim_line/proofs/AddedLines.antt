@@ -1,7 +1,7 @@
 -- A line that is added to a text.
 use Rattle.std.proofs.Common.{◌≡◌, ◌∙◌, ℕ, List, [], ◌∷◌, ◌++◌, Option, ap, refl, sym, subst, append_assoc, true}
 use Rattle.std.specs.List.{list_all}
-use Rattle.rim_check.specs.Lines.{AddsLine, IsKnown, Saying, Says, SayInTurn, is_inside}
+use Rattle.rim_line.specs.Lines.{AddsLine, IsKnown, Saying, Says, SayInTurn, is_inside}
 
 -- a line alone says what it says
 alone : (s : Saying) (line : List ℕ) → Says s line → SayInTurn (s ∷ []) (line ++ 10 ∷ [])

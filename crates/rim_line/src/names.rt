@@ -1,6 +1,6 @@
 //! The names of a launch's items.
 ghost use Rattle.std.specs.Prelude.{◌≡◌};
-ghost use Rattle.rim_check.specs.Readables.{item_name, item_names};
+ghost use Rattle.rim_line.specs.Readables.{item_name, item_names};
 ghost use Rattle.toml.specs.View.{table_view};
 
 use crate::readable::Readable;
@@ -15,10 +15,10 @@ pub struct ItemNames<'a> {
 
 impl<'a> ItemNames<'a> {
     ghost use Rattle.std.specs.Prelude.{◌≡◌};
-    ghost use Rattle.rim_check.specs.inside.Names.{names_of};
+    ghost use Rattle.rim_line.specs.Names.{names_of};
 
     /// The name of an item, by its number; no text where there is none.
-    pub(crate) fn name(&self, item: usize) -> &'a str
+    pub fn name(&self, item: usize) -> &'a str
         ensures { result.now ≡ names_of self.now item }
     {
         item_name(self.readable.document(), self.launch, item)

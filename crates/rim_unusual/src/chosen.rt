@@ -1,5 +1,5 @@
 //! What a devicetree says in `/chosen`: the place of the initrd, and seeds.
-use crate::unusual::cells::Cells;
+use crate::cells::Cells;
 use fdt_tree::Tree;
 use std::fmt;
 

@@ -1,5 +1,5 @@
 //! The processors that a devicetree has.
-use crate::unusual::cells::value_in;
+use crate::cells::value_in;
 use fdt_tree::{Node, Tree};
 
 /// How many processors a devicetree has: the children of `/cpus` that are processors by their name or their type.

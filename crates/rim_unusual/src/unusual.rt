@@ -1,23 +1,12 @@
 //! What is rarely meant in a launch that is accepted.
-mod cells;
-mod chosen;
-mod devicetree;
-mod initrd;
-mod items;
-mod memory;
-mod processors;
-mod ram;
-mod ranges;
-mod recs;
-
-use crate::names::ItemNames;
-use crate::unusual::devicetree::{UnusualTree, find_in_tree};
-use crate::unusual::items::{UnusualItem, find_in_items};
-use crate::unusual::ram::{UnusualRam, find_in_ram};
-use crate::unusual::recs::{UnusualRec, find_in_recs};
+use crate::devicetree::{UnusualTree, find_in_tree};
+use crate::items::{UnusualItem, find_in_items};
+use crate::ram::{UnusualRam, find_in_ram};
+use crate::recs::{UnusualRec, find_in_recs};
 use refusal::NoMemory;
 use rim_accepted::AcceptedLaunch;
 use rim_launch::Launch;
+use rim_line::ItemNames;
 use std::alloc::Global;
 use std::fmt;
 
@@ -48,7 +37,7 @@ impl fmt::Display for Unusual<'_> {
 
 /// What is rarely meant in a launch that is accepted: of its RECs, its items, its RAM and its devicetree, in this order. A
 /// launch with none of them has that alone.
-pub(crate) fn find_unusual<'a>(
+pub fn find_unusual<'a>(
     alloc: Global,
     names: ItemNames<'a>,
     accepted: &'a AcceptedLaunch<'_>,

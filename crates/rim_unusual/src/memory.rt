@@ -1,8 +1,8 @@
 //! The memory that a devicetree has, beside the RAM of its launch.
 ghost use Rattle.std.specs.Prelude.{◌≤◌};
 
-use crate::unusual::cells::{Cells, root_cells, value_in};
-use crate::unusual::ranges::{Difference, compare};
+use crate::cells::{Cells, root_cells, value_in};
+use crate::ranges::{Difference, compare};
 use fdt_tree::{Node, Tree};
 use ipa_layout::IpaRange;
 use refusal::NoMemory;

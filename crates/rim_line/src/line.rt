@@ -1,7 +1,7 @@
 //! Lines of text.
 ghost use Rattle.std.specs.Prelude.{◌≡◌, ◌<◌, Option, List, ℕ, OnOk, true};
 ghost use Rattle.std.specs.List.{list_all};
-ghost use Rattle.rim_check.specs.Lines.{AddsLine, IsKnown, file_said, is_inside, is_plain};
+ghost use Rattle.rim_line.specs.Lines.{AddsLine, IsKnown, file_said, is_inside, is_plain};
 
 use refusal::NoMemory;
 use std::alloc::{AllocError, Global};
@@ -25,7 +25,7 @@ pub struct Line {
 impl Line {
     ghost use Rattle.std.specs.Prelude.{◌≡◌, ◌++◌, [], OnOk, true};
     ghost use Rattle.std.specs.List.{list_all};
-    ghost use Rattle.rim_check.specs.Lines.{is_inside, is_plain};
+    ghost use Rattle.rim_line.specs.Lines.{is_inside, is_plain};
 
     /// A line with no bytes. It takes no memory.
     pub fn new(alloc: Global) -> Line
@@ -225,7 +225,7 @@ fn write_escaped<W: fmt::Write>(f: &mut fmt::Formatter<W>, text: &str) -> fmt::R
 }
 
 /// The first bytes of a text, and `..` where it has more.
-pub(crate) fn shown(text: &str) -> (&str, &'static str) {
+pub fn shown(text: &str) -> (&str, &'static str) {
     if text.len() <= MOST_SHOWN {
         return (text, "");
     }

@@ -1,16 +1,15 @@
 //! A devicetree that does not go with its launch.
-use crate::line::Quoted;
-use crate::names::ItemNames;
+use crate::chosen::{InitrdPlace, SEEDS, Seed};
+use crate::items::placed_bytes;
+use crate::memory::memory_difference;
+use crate::processors::processors;
+use crate::ranges::Difference;
 use crate::unusual::Unusual;
-use crate::unusual::chosen::{InitrdPlace, SEEDS, Seed};
-use crate::unusual::items::placed_bytes;
-use crate::unusual::memory::memory_difference;
-use crate::unusual::processors::processors;
-use crate::unusual::ranges::Difference;
 use fdt_tree::{FdtFault, Tree};
 use refusal::NoMemory;
 use rim_accepted::AcceptedLaunch;
 use rim_launch::{Launch, Role};
+use rim_line::{ItemNames, Quoted};
 use rim_show::devicetree_kind;
 use std::alloc::Global;
 use std::fmt;

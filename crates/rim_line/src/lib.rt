@@ -1,0 +1,10 @@
+//! Lines of text that show what a manifest has: its texts, so that none ends its line, and the names of its items.
+#![tactic(auto)]
+
+mod line;
+mod names;
+mod readable;
+
+pub use line::{Line, Quoted, push_file, push_line, shown};
+pub use names::ItemNames;
+pub use readable::Readable;

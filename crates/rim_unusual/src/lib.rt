@@ -1,0 +1,16 @@
+//! What is rarely meant in a launch that is accepted. That what it says of the launch is true is tested alone: no clause says it.
+#![tactic(auto)]
+
+mod cells;
+mod chosen;
+mod devicetree;
+mod initrd;
+mod items;
+mod memory;
+mod processors;
+mod ram;
+mod ranges;
+mod recs;
+mod unusual;
+
+pub use unusual::{Unusual, find_unusual};
