@@ -5,7 +5,7 @@ use fdt_tree::{Node, Tree};
 
 /// How many cells a number has.
 #[derive(Clone, Copy)]
-pub(crate) enum Cells {
+pub enum Cells {
     One,
     Two,
 }

@@ -5,7 +5,7 @@ use std::fmt;
 
 /// What a property says that is to be an address.
 #[derive(Clone, Copy, PartialEq, Eq)]
-pub(crate) enum Address {
+pub enum Address {
     /// There is no such property.
     None,
     At(u64),
@@ -25,14 +25,14 @@ impl fmt::Display for Address {
 
 /// Where an initrd begins and ends, as `/chosen` says it.
 #[derive(Clone, Copy, PartialEq, Eq)]
-pub(crate) struct InitrdPlace {
+pub struct InitrdPlace {
     pub start: Address,
     pub end: Address,
 }
 
 impl InitrdPlace {
     /// That of no initrd.
-    pub(crate) const NONE: InitrdPlace = InitrdPlace {
+    pub const NONE: InitrdPlace = InitrdPlace {
         start: Address::None,
         end: Address::None,
     };
@@ -67,7 +67,7 @@ fn address_at(tree: &Tree, name: &[u8]) -> Address {
 
 /// A property whose value is another one at each start.
 #[derive(Clone, Copy)]
-pub(crate) struct Seed {
+pub struct Seed {
     path: &'static str,
     name: &'static str,
 }
@@ -80,7 +80,7 @@ impl fmt::Display for Seed {
 }
 
 /// Where Linux takes seeds from, and where they are by mistake.
-pub(crate) const SEEDS: [Seed; 4] = [
+pub const SEEDS: [Seed; 4] = [
     Seed {
         path: "/chosen",
         name: "rng-seed",

@@ -22,14 +22,14 @@ const QEMU_SIZE: usize = 1_048_576;
 
 /// What is rarely meant of a launch's devicetree, with the name of its item.
 #[derive(Clone, Copy)]
-pub(crate) struct UnusualTree<'a> {
+pub struct UnusualTree<'a> {
     item: &'a str,
     what: TreeFault,
 }
 
 /// What is rarely meant of a devicetree.
 #[derive(Clone, Copy)]
-enum TreeFault {
+pub enum TreeFault {
     /// It cannot be read.
     Unreadable(FdtFault),
     /// Its memory nodes have other addresses than the launch has RAM.

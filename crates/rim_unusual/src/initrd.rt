@@ -40,7 +40,7 @@ pub(crate) fn is_initrd(bytes: &[u8]) -> bool {
 
 /// Bytes of which the first ones are shown, each as two hexadecimal digits, with spaces between them.
 #[derive(Clone, Copy)]
-pub(crate) struct Front<'a>(pub &'a [u8]);
+pub struct Front<'a>(pub &'a [u8]);
 
 impl fmt::Display for Front<'_> {
     fn fmt<W: fmt::Write>(&self, f: &mut fmt::Formatter<W>) -> fmt::Result {

@@ -12,7 +12,7 @@ const DEVICETREE_MAGIC: [u8; 4] = [0xd0, 0x0d, 0xfe, 0xed];
 
 /// What is rarely meant of a launch's items.
 #[derive(Clone, Copy)]
-pub(crate) enum UnusualItem<'a> {
+pub enum UnusualItem<'a> {
     /// None is a kernel.
     NoKernel,
     /// None is a devicetree.

@@ -75,7 +75,7 @@ fn push_node(
 
 /// How many cells an entry of `reg` has for an address and for a size.
 #[derive(Clone, Copy)]
-struct RegForm {
+pub struct RegForm {
     address: Cells,
     size: Cells,
 }

@@ -14,7 +14,7 @@ const LEAST_SIZE: u64 = 2 * GIB;
 
 /// What is rarely meant of a region of RAM.
 #[derive(Clone, Copy)]
-pub(crate) enum UnusualRam {
+pub enum UnusualRam {
     /// Its size is not a whole number of MiB.
     Uneven { number: usize, region: Region },
     /// The end of the first one is as a size would be, and from its base on that size ends at `expected`.

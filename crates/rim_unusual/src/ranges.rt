@@ -7,7 +7,7 @@ use std::fmt;
 /// Where two sets of addresses differ first: the range of the one and of the other. Where one of them has no more, its range
 /// is `None`.
 #[derive(Clone, Copy)]
-pub(crate) struct Difference {
+pub struct Difference {
     found: Option<IpaRange>,
     expected: Option<IpaRange>,
 }
@@ -22,7 +22,7 @@ impl fmt::Display for Difference {
 
 /// A range as it is shown, or `none`.
 #[derive(Clone, Copy)]
-struct RangeText(Option<IpaRange>);
+pub struct RangeText(Option<IpaRange>);
 
 impl fmt::Display for RangeText {
     fn fmt<W: fmt::Write>(&self, f: &mut fmt::Formatter<W>) -> fmt::Result {

@@ -6,7 +6,7 @@ use std::fmt;
 
 /// What is rarely meant of a launch's RECs.
 #[derive(Clone, Copy)]
-pub(crate) enum UnusualRec {
+pub enum UnusualRec {
     /// There is none.
     None,
     /// The REC of this number is not REC 0, is runnable and enters at address 0, as `others` after it do.
