@@ -1,16 +1,20 @@
 -- Faults that are found one after another, and what is kept of them in the end.
-use Rattle.std.proofs.Common.{◌≡◌, ℕ, ◌+◌, ◌<◌, List, [], ◌∷◌, ◌++◌, length, get_or, drop, map, Bool, ◌||◌, Option, None, refl, ap, append_assoc, append-nil}
-use Rattle.std.proofs.Common.{sym, ◌∙◌}
+use Rattle.std.proofs.Common.{◌≡◌, ℕ, ◌+◌, ◌<◌, ◌≤◌, List, [], ◌∷◌, ◌++◌, length, get_or, drop, map, Bool, true, false, ◌||◌, Option, Some, None, refl, ap, append_assoc}
+use Rattle.std.proofs.Common.{append-nil, arith, length-append, subst, sym, ◌∙◌}
 use Rattle.std.specs.List.{flat_map, list_any}
-use Rattle.std.proofs.lemmas.List.{drop_more}
-use Rattle.std.specs.Global.{Global}
-use Rattle.std.specs.declared.vec.Vec.{Vec}
+use Rattle.std.proofs.lemmas.List.{drop_more, map-append}
+use Rattle.std.specs.Prelude.{nat_lt}
+use Rattle.std.proofs.lemmas.Bool.{le-leb, ltb-false, or_parts}
 use Rattle.rim_manifest.specs.declared.fault.ManifestFault.{ManifestFault}
+use Rattle.rim_manifest.specs.declared.fault_list.FaultList.{FaultList}
 use Rattle.rim_manifest.specs.declared.finding.Finding.{Finding}
 use Rattle.rim_manifest.specs.declared.finding.Findings.{Findings}
 use Rattle.rim_manifest.specs.declared.finding.Findings.TheVariants as findings
-use Rattle.rim_manifest.specs.Faults.{lower, lowest, noted}
-use Rattle.rim_manifest.specs.inside.Findings.{Kept, Lowest, All, faults_in, kept, with_fault, with_faults}
+use Rattle.rim_manifest.specs.Faults.{is_lower, lower, lowest, noted, rank_of}
+use Rattle.rim_manifest.specs.Found.{AreListed}
+use Rattle.rim_manifest.specs.inside.Findings.{kept, list_kept}
+use Rattle.rim_manifest.specs.inside.Kept.{Kept, Lowest, Listed, faults_in, is_listed, with_fault, with_faults}
+use Rattle.rim_manifest.specs.declared.fault_list.TheConstants.{FINDING_LIMIT}
 
 pub with_append : (k : Kept) (fs gs : List ManifestFault) → with_faults k (fs ++ gs) ≡ with_faults (with_faults k fs) gs
 with_append k [] gs = refl
@@ -29,10 +33,6 @@ noted_step f xs i d o p h e =
 
 -- ---- what is kept in the end
 
-all_kept : (fs gs : List ManifestFault) → with_faults (All fs) gs ≡ All (fs ++ gs)
-all_kept fs [] = ap All (sym (append-nil fs))
-all_kept fs (g ∷ gs) = all_kept (fs ++ g ∷ []) gs ∙ ap All (append_assoc fs (g ∷ []) gs)
-
 lowest_kept : (o : Option ManifestFault) (fs : List ManifestFault) → with_faults (Lowest o) fs ≡ Lowest (noted o fs)
 lowest_kept o [] = refl
 lowest_kept o (f ∷ fs) = lowest_kept (lower o f) fs
@@ -41,17 +41,96 @@ pub lowest_is : (found : Findings) (fs : List ManifestFault) (least : Option Man
     → kept found ≡ with_faults (Lowest None) fs → least ≡ lowest fs
 lowest_is found fs least is ends = let e : Lowest least ≡ Lowest (lowest fs) = sym (ap kept is) ∙ ends ∙ lowest_kept None fs in cc
 
-pub not_all : (found : Findings) (fs : List ManifestFault) (all : Vec Finding Global) → found ≡ findings.All all
+pub not_listed : (found : Findings) (fs : List ManifestFault) (list : FaultList) → found ≡ findings.Listed list
     → kept found ≡ with_faults (Lowest None) fs → ⊥
-not_all found fs all is ends = let e : All (faults_in all.items) ≡ Lowest (lowest fs) = sym (ap kept is) ∙ ends ∙ lowest_kept None fs in cc
+not_listed found fs list is ends = let e : list_kept list ≡ Lowest (lowest fs) = sym (ap kept is) ∙ ends ∙ lowest_kept None fs in cc
 
-pub all_are : (found : Findings) (fs : List ManifestFault) (all : Vec Finding Global) → found ≡ findings.All all
-    → kept found ≡ with_faults (All []) fs → faults_in all.items ≡ fs
-all_are found fs all is ends = let e : All (faults_in all.items) ≡ All fs = sym (ap kept is) ∙ ends ∙ all_kept [] fs in cc
+-- ---- a list of faults
+
+noted_last : (o : Option ManifestFault) (fs : List ManifestFault) (f : ManifestFault) → noted o (fs ++ f ∷ []) ≡ lower (noted o fs) f
+noted_last o [] f = refl
+noted_last o (g ∷ fs) f = noted_last (lower o g) fs f
+
+-- the lowest of a list that has one more
+pub lowest_last : (found : List Finding) (f : Finding) → lowest (faults_in (found ++ f ∷ [])) ≡ lower (lowest (faults_in found)) f.fault
+lowest_last found f = ap lowest (map-append (λ (x : Finding). x.fault) found (f ∷ [])) ∙ noted_last None (faults_in found) f.fault
+
+-- one that does not come before what was found leaves the lowest as it is
+not_lower : (o : Option ManifestFault) (f : ManifestFault) → is_lower f o ≡ false → lower o f ≡ o
+unfolding lower
+not_lower None f other = cc
+not_lower (Some g) f other =
+    let order : rank_of g ≤ rank_of f = ltb-false (rank_of f) (rank_of g) other in
+    rw (le-leb (rank_of g) (rank_of f) order) refl
+
+-- the list after one more fault
+one_listed : (fs listed : List ManifestFault) (more : ℕ) (f : ManifestFault) → AreListed fs listed more → AreListed (fs ++ f ∷ []) (listed ++ f ∷ []) more
+one_listed fs listed more f are = record {
+  lowest = noted_last None listed f ∙ ap (λ o. lower o f) are.lowest ∙ sym (noted_last None fs f);
+  count =
+      let a : length listed + more ≡ length fs = are.count in
+      let b : length (listed ++ f ∷ []) ≡ length listed + 1 = length-append listed (f ∷ []) in
+      let c : length (fs ++ f ∷ []) ≡ length fs + 1 = length-append fs (f ∷ []) in
+      omega arith;
+  all = λ few. ap (λ (gs : List ManifestFault). gs ++ f ∷ [])
+      (are.all (let c : length (fs ++ f ∷ []) ≡ length fs + 1 = length-append fs (f ∷ []) in let few : length (fs ++ f ∷ []) ≤ FINDING_LIMIT = few in omega arith));
+}
+
+-- the list has no room, and none in it comes behind the fault
+one_more : (fs listed : List ManifestFault) (more : ℕ) (f : ManifestFault) → is_listed listed f ≡ false → AreListed fs listed more
+    → AreListed (fs ++ f ∷ []) listed (more + 1)
+one_more fs listed more f other are =
+    let parts = or_parts (nat_lt (length listed) FINDING_LIMIT) (is_lower f (lowest listed)) other in
+    let full : FINDING_LIMIT ≤ length listed = ltb-false (length listed) FINDING_LIMIT parts.0 in
+    let a : length listed + more ≡ length fs = are.count in
+    let c : length (fs ++ f ∷ []) ≡ length fs + 1 = length-append fs (f ∷ []) in
+    record {
+      lowest = sym (not_lower (lowest listed) f parts.1) ∙ ap (λ o. lower o f) are.lowest ∙ sym (noted_last None fs f);
+      count = omega arith;
+      all = λ few. let few : length (fs ++ f ∷ []) ≤ FINDING_LIMIT = few in absurd (omega arith);
+    }
+
+record Ends (k : Kept) (fs : List ManifestFault) : Type 0 where
+  listed : List ManifestFault
+  more : ℕ
+  is : k ≡ Listed listed more
+  are : AreListed fs listed more
+
+-- by whether one more is listed
+by_test : (fs listed : List ManifestFault) (more : ℕ) (g : ManifestFault) (gs : List ManifestFault) (b : Bool) → is_listed listed g ≡ b
+    → AreListed fs listed more
+    → ((to : List ManifestFault) (n : ℕ) → AreListed (fs ++ g ∷ []) to n → Ends (with_faults (Listed to n) gs) ((fs ++ g ∷ []) ++ gs))
+    → Ends (with_faults (Listed listed more) (g ∷ gs)) (fs ++ g ∷ gs)
+by_test fs listed more g gs true test are others =
+    rw test (subst (Ends _) (append_assoc fs (g ∷ []) gs) (others (listed ++ g ∷ []) more (one_listed fs listed more g are)))
+by_test fs listed more g gs false test are others =
+    rw test (subst (Ends _) (append_assoc fs (g ∷ []) gs) (others listed (more + 1) (one_more fs listed more g test are)))
+
+-- all of them, one after another
+list_kept_of : (fs listed : List ManifestFault) (more : ℕ) (gs : List ManifestFault) → AreListed fs listed more
+    → Ends (with_faults (Listed listed more) gs) (fs ++ gs)
+list_kept_of fs listed more [] are =
+    record { listed = listed; more = more; is = refl; are = subst (λ (x : List ManifestFault). AreListed x listed more) (sym (append-nil fs)) are }
+list_kept_of fs listed more (g ∷ gs) are =
+    by_test fs listed more g gs (is_listed listed g) refl are (λ to n next. list_kept_of (fs ++ g ∷ []) to n gs next)
+
+none_listed : AreListed [] [] 0
+none_listed = record { lowest = refl; count = refl; all = λ few. refl }
+
+pub list_is : (found : Findings) (fs : List ManifestFault) (list : FaultList) → found ≡ findings.Listed list
+    → kept found ≡ with_faults (Listed [] 0) fs → AreListed fs (faults_in list.findings.items) list.more
+list_is found fs list is ends =
+    let all = list_kept_of [] [] 0 fs none_listed in
+    let e : Listed (faults_in list.findings.items) list.more ≡ Listed all.listed all.more = sym (ap kept is) ∙ ends ∙ all.is in
+    let same : faults_in list.findings.items ≡ all.listed = cc in
+    let count : list.more ≡ all.more = cc in
+    subst (λ (x : List ManifestFault). AreListed fs x list.more) (sym same) (subst (AreListed fs all.listed) (sym count) all.are)
 
 pub not_lowest : (found : Findings) (fs : List ManifestFault) (least : Option ManifestFault) → found ≡ findings.Lowest least
-    → kept found ≡ with_faults (All []) fs → ⊥
-not_lowest found fs least is ends = let e : Lowest least ≡ All fs = sym (ap kept is) ∙ ends ∙ all_kept [] fs in cc
+    → kept found ≡ with_faults (Listed [] 0) fs → ⊥
+not_lowest found fs least is ends =
+    let all = list_kept_of [] [] 0 fs none_listed in
+    let e : Lowest least ≡ Listed all.listed all.more = sym (ap kept is) ∙ ends ∙ all.is in cc
 
 pub list_any_map : {X Y : Type 0} (p : Y → Bool) (f : X → Y) (xs : List X) → list_any p (map f xs) ≡ list_any (λ x. p (f x)) xs
 list_any_map p f [] = refl

@@ -1,5 +1,5 @@
 -- The faults of a manifest in their order, and the lowest of those that hold. This project's choice.
-use Rattle.std.specs.Prelude.{ℕ, ◌≤◌, Bool, List, [], ◌∷◌, Option, Some, None, All, Contains, nat_le, codes, if◌then◌else◌}
+use Rattle.std.specs.Prelude.{ℕ, ◌≤◌, Bool, true, List, [], ◌∷◌, Option, Some, None, All, Contains, nat_le, nat_lt, codes, if◌then◌else◌}
 use Rattle.rim_manifest.specs.declared.fault.ManifestFault.{ManifestFault}
 use Rattle.rim_manifest.specs.declared.fault.ManifestFault.TheVariants.{Syntax, Version, WrongKind, UnknownKey, MissingKey, Limit, Range, TwoNames, NoSuchFile, BadStep, NoMemory}
 
@@ -35,6 +35,11 @@ kind_of NoMemory = codes "no-memory"
 unfoldable pub lower : Option ManifestFault → ManifestFault → Option ManifestFault
 lower None f = Some f
 lower (Some g) f = if nat_le (rank_of g) (rank_of f) then Some g else Some f
+
+-- whether a fault comes before what was found so far
+abbrev pub is_lower : ManifestFault → Option ManifestFault → Bool
+is_lower f None = true
+is_lower f (Some g) = nat_lt (rank_of f) (rank_of g)
 
 -- the lowest of what was found so far and some more faults
 abbrev pub noted : Option ManifestFault → List ManifestFault → Option ManifestFault

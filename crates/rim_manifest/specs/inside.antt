@@ -1,2 +1,3 @@
 pub mod NumberRanges
+pub mod Kept
 pub mod Findings

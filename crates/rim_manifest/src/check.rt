@@ -6,7 +6,8 @@ ghost use Rattle.toml.specs.View.{table_view, view};
 ghost use Rattle.rim_manifest.specs.Checks.{has_unknown_key, is_known, rule_faults, ruled_faults, table_faults, value_faults};
 ghost use Rattle.rim_manifest.specs.Forms.{has_kind};
 ghost use Rattle.rim_manifest.specs.Rules.{rule_of};
-ghost use Rattle.rim_manifest.specs.inside.Findings.{kept, with_faults};
+ghost use Rattle.rim_manifest.specs.inside.Findings.{kept};
+ghost use Rattle.rim_manifest.specs.inside.Kept.{with_faults};
 
 use crate::fault::ManifestFault;
 use crate::finding::{Array, Finding, Findings, Place, Subject, note, note_if};

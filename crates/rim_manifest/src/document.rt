@@ -4,15 +4,16 @@ ghost use Rattle.std.specs.List.{slice_get};
 ghost use Rattle.toml.specs.Errors.{IsMemory, IsWithin};
 ghost use Rattle.toml.specs.View.{table_view, view};
 ghost use Rattle.rim_manifest.specs.Faults.{lowest};
-ghost use Rattle.rim_manifest.specs.Found.{IsChecked};
+ghost use Rattle.rim_manifest.specs.Found.{AreListed, IsChecked};
 ghost use Rattle.rim_manifest.specs.Manifest.{document_of, manifest_faults};
 ghost use Rattle.rim_manifest.specs.Places.{table_at, table_of};
 ghost use Rattle.rim_manifest.specs.Rules.{rule_of};
 ghost use Rattle.rim_manifest.specs.Versions.{launch_rules_in, version_at};
-ghost use Rattle.rim_manifest.specs.inside.Findings.{faults_in};
+ghost use Rattle.rim_manifest.specs.inside.Kept.{faults_in};
 
 use crate::fault::ManifestFault;
-use crate::finding::{Finding, Findings, Place, Subject, lowest};
+use crate::fault_list::FaultList;
+use crate::finding::{Finding, Findings, Place, Subject};
 use crate::form::Rule;
 use crate::manifest::{Release, entries, find_faults, read_release};
 use crate::naming::find_names;
@@ -35,7 +36,7 @@ pub enum Checked {
     /// A manifest, and the release that it describes.
     Accepted(Release),
     /// A manifest with faults, each with its place.
-    Refused(Vec<Finding>),
+    Refused(FaultList),
 }
 
 impl Document {
@@ -56,8 +57,8 @@ impl Document {
     pub fn check(&self, alloc: Global) -> Result<Checked, NoMemory>
         ensures { IfOk result (IsChecked (table_view self.now.table)) }
     {
-        let found = all_faults(alloc, &self.table)?;
-        if lowest(&found).is_some() {
+        let found = table_faults(alloc, &self.table)?;
+        if found.lowest().is_some() {
             return Ok(Checked::Refused(found));
         }
         match read_release(alloc, &self.table) {
@@ -109,14 +110,14 @@ fn as_table(value: &Value) -> Option<&Table>
 }
 
 /// The faults of the tables, each by itself.
-fn all_faults(alloc: Global, table: &Table) -> Result<Vec<Finding>, NoMemory>
-    ensures { IfOk result
-        (λ found. faults_in found.items ≡ manifest_faults (table_view table.now)) }
+fn table_faults(alloc: Global, table: &Table) -> Result<FaultList, NoMemory>
+    ensures { IfOk result (λ found. AreListed (manifest_faults (table_view table.now))
+        (faults_in found.findings.items) found.more) }
 {
-    let mut found = Findings::All(Vec::new(alloc));
+    let mut found = Findings::Listed(FaultList::new(alloc));
     find_faults(table, &mut found)?;
     match found {
-        Findings::All(all) => Ok(all),
+        Findings::Listed(list) => Ok(list),
         Findings::Lowest(_) => unreachable!(),
     }
 }
@@ -126,30 +127,32 @@ fn faults_of_names(
     alloc: Global,
     table: &Table,
     fault: ManifestFault,
-) -> Result<Vec<Finding>, NoMemory>
-    ensures least { IfOk result (λ found. lowest (faults_in found.items) ≡ Some fault) }
+) -> Result<FaultList, NoMemory>
+    ensures least { IfOk result
+        (λ found. lowest (faults_in found.findings.items) ≡ Some fault) }
     ensures own { IfOk result (λ _. fault ≢ ManifestFault.NoMemory) }
 {
     if fault == ManifestFault::NoMemory {
         return Err(NoMemory);
     }
-    let mut found = Findings::All(Vec::new(alloc));
+    let mut found = Findings::Listed(FaultList::new(alloc));
     find_names(table, &mut found)?;
     match found {
-        Findings::All(all) if lowest(&all) == Some(fault) => Ok(all),
+        Findings::Listed(list) if list.lowest() == Some(fault) => Ok(list),
         _ => one_fault(alloc, fault),
     }
 }
 
 /// This fault, of which no place is known.
 #[tactic(auto, unfolding(crate::specs::Faults::lower))]
-fn one_fault(alloc: Global, fault: ManifestFault) -> Result<Vec<Finding>, NoMemory>
-    ensures { IfOk result (λ found. lowest (faults_in found.items) ≡ Some fault) }
+fn one_fault(alloc: Global, fault: ManifestFault) -> Result<FaultList, NoMemory>
+    ensures { IfOk result (λ found. lowest (faults_in found.findings.items) ≡ Some fault) }
 {
-    let whole = Finding {
+    let mut list = FaultList::new(alloc);
+    list.add(Finding {
         place: Place::Top,
         subject: Subject::Whole,
         fault,
-    };
-    Ok(vec![in alloc; whole]?)
+    })?;
+    Ok(list)
 }

@@ -1,7 +1,7 @@
 //! Why a manifest is refused.
 ghost use Rattle.std.specs.Prelude.{◌≡◌};
 ghost use Rattle.rim_manifest.specs.declared.fault.ManifestFault.TheVariants as fault;
-ghost use Rattle.rim_manifest.specs.Faults.{kind_of, lower};
+ghost use Rattle.rim_manifest.specs.Faults.{is_lower, kind_of, lower};
 
 use refusal::NoMemory;
 use std::alloc::AllocError;
@@ -88,5 +88,15 @@ pub fn lower(found: &mut Option<ManifestFault>, fault: ManifestFault)
     match found {
         Some(least) if *least as u8 <= fault as u8 => {}
         _ => *found = Some(fault),
+    }
+}
+
+/// Whether a fault comes before what was found so far.
+pub fn is_lower(fault: ManifestFault, found: Option<ManifestFault>) -> bool
+    ensures { result ≡ is_lower fault found }
+{
+    match found {
+        Some(least) => (fault as u8) < least as u8,
+        None => true,
     }
 }

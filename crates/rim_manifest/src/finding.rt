@@ -2,9 +2,11 @@
 ghost use Rattle.std.specs.Prelude.{◌≡◌, OnOk};
 ghost use Rattle.rim_manifest.specs.Faults.{fault_if, lowest};
 ghost use Rattle.rim_manifest.specs.Places.{place_at};
-ghost use Rattle.rim_manifest.specs.inside.Findings.{faults_in, kept, with_fault, with_faults};
+ghost use Rattle.rim_manifest.specs.inside.Findings.{kept};
+ghost use Rattle.rim_manifest.specs.inside.Kept.{faults_in, with_fault, with_faults};
 
 use crate::fault::{ManifestFault, lower};
+use crate::fault_list::FaultList;
 use crate::form::Form;
 use refusal::NoMemory;
 
@@ -72,11 +74,11 @@ pub struct Finding {
     pub fault: ManifestFault,
 }
 
-/// What is kept of the faults that are found: the lowest, which takes no memory, or all of them.
+/// What is kept of the faults that are found: the lowest, which takes no memory, or a list of them.
 #[derive(Drop)]
 pub enum Findings {
     Lowest(Option<ManifestFault>),
-    All(Vec<Finding>),
+    Listed(FaultList),
 }
 
 /// Adds a fault to those that were found.
@@ -85,7 +87,7 @@ pub fn note(found: &mut Findings, finding: Finding) -> Result<(), NoMemory>
 {
     match found {
         Findings::Lowest(least) => lower(least, finding.fault),
-        Findings::All(all) => all.push(finding)?,
+        Findings::Listed(list) => list.add(finding)?,
     }
     Ok(())
 }
@@ -99,15 +101,4 @@ pub fn note_if(found: &mut Findings, holds: bool, finding: Finding) -> Result<()
         note(found, finding)?;
     }
     Ok(())
-}
-
-/// The lowest fault of those that were found.
-pub fn lowest(found: &[Finding]) -> Option<ManifestFault>
-    ensures { result ≡ lowest (faults_in found.now) }
-{
-    let mut least = None;
-    for finding in found {
-        lower(&mut least, finding.fault);
-    }
-    least
 }

@@ -5,6 +5,7 @@
 mod check;
 mod document;
 mod fault;
+mod fault_list;
 mod file;
 mod finding;
 mod form;
@@ -24,7 +25,8 @@ mod word;
 
 pub use check::cell;
 pub use document::{Checked, Document};
-pub use fault::ManifestFault;
+pub use fault::{ManifestFault, is_lower};
+pub use fault_list::{FINDING_LIMIT, FaultList};
 pub use finding::{Finding, Place, Subject};
 pub use form::{Form, Rule};
 pub use launch::NamedLaunch;

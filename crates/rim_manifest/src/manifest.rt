@@ -10,7 +10,8 @@ ghost use Rattle.rim_manifest.specs.Forms.{items_in};
 ghost use Rattle.rim_manifest.specs.Manifest.{all_made, item_faults, launch_faults, manifest_faults, manifest_of, name_in, named_of};
 ghost use Rattle.rim_manifest.specs.StepTexts.{is_miscounted};
 ghost use Rattle.rim_manifest.specs.Names.{lacks_file, repeats, share_names};
-ghost use Rattle.rim_manifest.specs.inside.Findings.{kept, with_faults};
+ghost use Rattle.rim_manifest.specs.inside.Findings.{kept};
+ghost use Rattle.rim_manifest.specs.inside.Kept.{with_faults};
 
 use crate::check::{at_key, cell, check_ruled, check_table, check_tables};
 use crate::fault::ManifestFault;
@@ -115,7 +116,7 @@ fn lowest_fault(table: &Table) -> Result<Option<ManifestFault>, NoMemory>
     find_faults(table, &mut found)?;
     match found {
         Findings::Lowest(least) => Ok(least),
-        Findings::All(_) => unreachable!(),
+        Findings::Listed(_) => unreachable!(),
     }
 }
 

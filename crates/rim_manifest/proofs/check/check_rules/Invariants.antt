@@ -3,7 +3,8 @@ use Rattle.std.specs.List.{flat_map}
 use Rattle.toml.specs.View.{table_view}
 use Rattle.rim_manifest.specs.Checks.{rule_faults}
 use Rattle.rim_manifest.specs.Rules.{rule_of}
-use Rattle.rim_manifest.specs.inside.Findings.{kept, with_faults}
+use Rattle.rim_manifest.specs.inside.Findings.{kept}
+use Rattle.rim_manifest.specs.inside.Kept.{with_faults}
 use Rattle.rim_manifest.proofs.check.check_rules.Given as goal
 
 abbrev pub invariant-loop-rule : goal.invariant-loop-rule

@@ -6,7 +6,8 @@ use Rattle.rim_manifest.specs.declared.fault.ManifestFault.TheVariants.{UnknownK
 use Rattle.rim_manifest.specs.Checks.{has_unknown_key, rule_faults}
 use Rattle.rim_manifest.specs.Faults.{fault_if}
 use Rattle.rim_manifest.specs.Rules.{rule_of}
-use Rattle.rim_manifest.specs.inside.Findings.{kept, with_faults}
+use Rattle.rim_manifest.specs.inside.Findings.{kept}
+use Rattle.rim_manifest.specs.inside.Kept.{with_faults}
 use Rattle.rim_manifest.proofs.FaultsInTurn.{flat_map_map, noted_two}
 use Rattle.rim_manifest.proofs.check.check_table.Goals as goal
 

@@ -6,7 +6,8 @@ use Rattle.rim_launch.specs.declared.item.Role.TheVariants.{Kernel, Initrd, Dtb,
 use Rattle.rim_manifest.specs.Checks.{ruled_faults}
 use Rattle.rim_manifest.specs.Manifest.{rules_of}
 use Rattle.rim_manifest.specs.Rules.{item_rules}
-use Rattle.rim_manifest.specs.inside.Findings.{kept, with_faults}
+use Rattle.rim_manifest.specs.inside.Findings.{kept}
+use Rattle.rim_manifest.specs.inside.Kept.{with_faults}
 use Rattle.rim_manifest.proofs.manifest.check_item.Goals as goal
 
 other_rules : (r : Role) → (r ≡ Dtb → ⊥) → (r ≡ Unknown → ⊥) → rules_of r ≡ item_rules

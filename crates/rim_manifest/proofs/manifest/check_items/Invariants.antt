@@ -2,7 +2,8 @@ use Rattle.std.proofs.Common.{◌≡◌, drop}
 use Rattle.std.specs.List.{flat_map}
 use Rattle.toml.specs.View.{view}
 use Rattle.rim_manifest.specs.Manifest.{item_faults}
-use Rattle.rim_manifest.specs.inside.Findings.{kept, with_faults}
+use Rattle.rim_manifest.specs.inside.Findings.{kept}
+use Rattle.rim_manifest.specs.inside.Kept.{with_faults}
 use Rattle.rim_manifest.proofs.manifest.check_items.Given as goal
 
 abbrev pub invariant-loop-number : goal.invariant-loop-number

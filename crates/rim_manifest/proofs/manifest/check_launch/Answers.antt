@@ -15,7 +15,8 @@ use Rattle.rim_manifest.specs.Rules.{Rule, rec_rules}
 use Rattle.rim_manifest.specs.Versions.{lacks_rule, launch_rules_in}
 use Rattle.rim_manifest.specs.declared.version.FormatVersion.{FormatVersion}
 use Rattle.rim_manifest.specs.Values.{array_at}
-use Rattle.rim_manifest.specs.inside.Findings.{Kept, kept, with_faults}
+use Rattle.rim_manifest.specs.inside.Findings.{kept}
+use Rattle.rim_manifest.specs.inside.Kept.{Kept, with_faults}
 use Rattle.rim_manifest.proofs.FaultsInTurn.{flat_map_map, noted_two}
 use Rattle.rim_manifest.proofs.manifest.check_launch.Goals as goal
 

@@ -12,7 +12,8 @@ use Rattle.rim_manifest.specs.Manifest.{files_at, launch_faults, launches_at, ma
 use Rattle.rim_manifest.specs.Versions.{has_version, version_at}
 use Rattle.rim_manifest.specs.declared.version.FormatVersion.{FormatVersion}
 use Rattle.rim_manifest.specs.Rules.{file_rules, top_rules}
-use Rattle.rim_manifest.specs.inside.Findings.{Kept, kept, with_faults}
+use Rattle.rim_manifest.specs.inside.Findings.{kept}
+use Rattle.rim_manifest.specs.inside.Kept.{Kept, with_faults}
 use Rattle.rim_manifest.proofs.FaultsInTurn.{flat_map_map, noted_two}
 use Rattle.rim_manifest.proofs.manifest.find_faults.Goals as goal
 
