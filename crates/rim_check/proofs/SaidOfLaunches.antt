@@ -19,20 +19,20 @@ use Rattle.rim_line.specs.Readables.{item_name}
 use Rattle.rim_check.specs.inside.Refused.{AddsSaid}
 
 -- a line that is made of these parts is the line of a launch's refusal
-pub says-refusal : (names : List (List (List ℕ))) (l : NamedData) (why : LaunchReason) (name kind before after old new : List ℕ) (fault : AuditFault)
+pub says-refusal : (names : List (List (List ℕ))) (l : NamedData) (why : LaunchReason) (hint name kind before after old new : List ℕ) (fault : AuditFault)
     (number : ℕ) (config : Config)
     → name ≡ l.name → number ≡ l.launch.number → config ≡ l.launch.config → fault ≡ audit_fault_of why → kind ≡ audit_kind_of fault
-    → IsKnown (Some (launch_front name)) before → IsKnown (Some (codes ": " ++ reason_detail (item_name names number) config why)) after
+    → IsKnown (Some (launch_front name)) before → IsKnown (Some ((codes ": " ++ reason_detail (item_name names number) config why) ++ hint)) after
     → ((front detail : Option (List ℕ)) → IsKnown front before → IsKnown detail after
     → AddsLine (record { front = front; word = kind; detail = detail }) old new)
-    → AddsLine (refusal_said names l why) old new
-says-refusal names l why name kind before after old new fault number config named numbered configured faulty word begins ends adds =
+    → AddsLine (refusal_said names l why hint) old new
+says-refusal names l why hint name kind before after old new fault number config named numbered configured faulty word begins ends adds =
     subst (λ (x : Saying). AddsLine x old new) same (adds s.front s.detail begins ends)
   where
     s : Saying
-    s = record { front = Some (launch_front name); word = kind; detail = Some (codes ": " ++ reason_detail (item_name names number) config why) }
+    s = record { front = Some (launch_front name); word = kind; detail = Some ((codes ": " ++ reason_detail (item_name names number) config why) ++ hint) }
 
-    same : s ≡ refusal_said names l why
+    same : s ≡ refusal_said names l why hint
     same = rw (named, numbered, configured, word, faulty) refl
 
 not-refused : (r : Result (List ℕ) AuditFault) → is_err r ≡ false → IsOk r
@@ -48,9 +48,10 @@ says-nothing names files l p text accepted = record {
   adds = λ (said : List Saying) (says : SayInTurn said text). subst (λ (ss : List Saying). SayInTurn ss text) (sym (append-nil said)) says;
 }
 
-pub says-why : (names : List (List (List ℕ))) (files : List (List ℕ)) (l : NamedData) (why : LaunchReason) (old new : List ℕ) → IsRefusedFor l.launch files why
-    → AddsLine (refusal_said names l why) old new → AddsSaid names files l old new
-says-why names files l why old new refused adds = record { own = refusal_said names l why ∷ []; are = inr (why, refused, refl); adds = adds }
+pub says-why : (names : List (List (List ℕ))) (files : List (List ℕ)) (l : NamedData) (why : LaunchReason) (hint old new : List ℕ)
+    → IsRefusedFor l.launch files why → AddsLine (refusal_said names l why hint) old new → AddsSaid names files l old new
+says-why names files l why hint old new refused adds =
+    record { own = refusal_said names l why hint ∷ []; are = inr (why, hint, refused, refl); adds = adds }
 
 pub is-refused : (l : LaunchData) (files : List (List ℕ)) (why : LaunchReason) → IsRefusedFor l files why → is_err (accepted_of l files) ≡ true
 is-refused l files why found = sym (same_refusal l files) ∙ ap (λ (r : Result (List ℕ) AuditFault). is_err r) found.refused

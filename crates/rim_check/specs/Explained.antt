@@ -52,18 +52,18 @@ HasNames bytes (Readable readable) = readable.names ≡ item_names_in bytes
 abbrev pub launch_front : List ℕ → List ℕ
 launch_front name = codes "launch \"" ++ (name ++ codes "\": ")
 
--- what is said of a launch that is refused for this reason: its name, the word of its refusal, and the reason's detail
-abbrev pub refusal_said : List (List (List ℕ)) → NamedData → LaunchReason → Saying
-refusal_said names l why = record {
+-- what is said of a launch that is refused for this reason: its name, the word of its refusal, the reason's detail, and a hint
+abbrev pub refusal_said : List (List (List ℕ)) → NamedData → LaunchReason → List ℕ → Saying
+refusal_said names l why hint = record {
   front = Some (launch_front l.name);
   word = audit_kind_of (audit_fault_of why);
-  detail = Some (codes ": " ++ reason_detail (item_name names l.launch.number) l.launch.config why);
+  detail = Some ((codes ": " ++ reason_detail (item_name names l.launch.number) l.launch.config why) ++ hint);
 }
 
--- what is said of a launch: nothing where it is accepted, else its refusal
+-- what is said of a launch: nothing where it is accepted, else its refusal, with a hint of which nothing is known
 abbrev pub IsSaidOf : List (List (List ℕ)) → List (List ℕ) → NamedData → List Saying → Type 0
 IsSaidOf names files l said = (IsOk (rim_for l.launch files) × (said ≡ []))
-    ⊎ ((why : LaunchReason) × IsRefusedFor l.launch files why × (said ≡ refusal_said names l why ∷ []))
+    ⊎ ((why : LaunchReason) × (hint : List ℕ) × IsRefusedFor l.launch files why × (said ≡ refusal_said names l why hint ∷ []))
 
 -- what is said of the launches of a manifest, in their order
 abbrev pub AreSaidOf : List (List (List ℕ)) → List (List ℕ) → List NamedData → List Saying → Type 0

@@ -11,6 +11,7 @@ ghost use Rattle.rim_report.specs.Pages.{keys_at};
 
 use crate::detail::reason_detail;
 use crate::found::{Found, LaunchCheck};
+use crate::mending::mending;
 use refusal::NoMemory;
 use rim_accepted::{AcceptedLaunch, Files, LaunchReason, accept_with_reason};
 use rim_launch::Config;
@@ -63,7 +64,9 @@ fn look_at(
         Ok(accepted) => add_accepted(alloc, found, readable, launch, &accepted),
         Err(reason) => {
             found.has_refused = true;
-            push_refused(&mut found.refusals, readable, launch, &reason)
+            let mending = mending(alloc, launch.launch(), files, &reason)?;
+            let hint = format!(in alloc; "{mending}")?;
+            push_refused(&mut found.refusals, readable, launch, &reason, hint.as_str())
         }
     }
 }
@@ -93,14 +96,16 @@ fn add_accepted(
     found.warnings.add_all(number, &unusual)
 }
 
-/// Adds the line of a launch that is refused.
+/// Adds the line of a launch that is refused, with what helps to mend it.
 fn push_refused(
     text: &mut Vec<u8>,
     readable: &Readable,
     launch: &NamedLaunch,
     reason: &LaunchReason,
+    hint: &str,
 ) -> Result<(), NoMemory>
-    ensures { OnOk result (AddsLine (refusal_said readable.now.names launch.now reason.now)
+    ensures { OnOk result
+        (AddsLine (refusal_said readable.now.names launch.now reason.now hint.now)
         text.old.items text.new.items) }
 {
     let alloc = *text.allocator();
@@ -110,7 +115,7 @@ fn push_refused(
         launch: launch.launch().number(),
     };
     let config = launch.launch().config();
-    let after = detail(alloc, names, &config, reason)?;
+    let after = detail(alloc, names, &config, reason, hint)?;
     push_line(text, &before, reason.fault().kind(), &after)
 }
 
@@ -125,18 +130,20 @@ fn launch_front(alloc: Global, name: &str) -> Result<Line, AllocError>
     Ok(line)
 }
 
-/// What is at fault, with a colon before it.
+/// What is at fault, with a colon before it, and what helps to mend it.
 fn detail(
     alloc: Global,
     names: ItemNames,
     config: &Config,
     reason: &LaunchReason,
+    hint: &str,
 ) -> Result<Line, AllocError>
-    ensures { IfOk result (λ line.
-        IsKnown (Some (codes ": " ++ reason_detail (names_of names.entry) config.now reason.now))
+    ensures { IfOk result (λ line. IsKnown (Some
+        ((codes ": " ++ reason_detail (names_of names.entry) config.now reason.now) ++ hint.now))
         line.text.items) }
 {
-    let text = reason_detail(alloc, names, config, reason)?;
+    let reason = reason_detail(alloc, names, config, reason)?;
+    let text = format!(in alloc; "{reason}{hint}")?;
     let mut line = Line::new(alloc);
     line.push_text(text.as_str())?;
     Ok(line)

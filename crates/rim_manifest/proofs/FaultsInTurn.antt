@@ -4,7 +4,7 @@ use Rattle.std.proofs.Common.{append-nil, arith, length-append, subst, sym, ◌�
 use Rattle.std.specs.List.{flat_map, list_any}
 use Rattle.std.proofs.lemmas.List.{drop_more, map-append}
 use Rattle.std.specs.Prelude.{nat_lt}
-use Rattle.std.proofs.lemmas.Bool.{le-leb, ltb-false, or_parts}
+use Rattle.std.proofs.lemmas.Bool.{le-leb, lt-leb, ltb-false, ltb-true, or_parts}
 use Rattle.rim_manifest.specs.declared.fault.ManifestFault.{ManifestFault}
 use Rattle.rim_manifest.specs.declared.fault_list.FaultList.{FaultList}
 use Rattle.rim_manifest.specs.declared.finding.Finding.{Finding}
@@ -55,8 +55,16 @@ noted_last o (g ∷ fs) f = noted_last (lower o g) fs f
 pub lowest_last : (found : List Finding) (f : Finding) → lowest (faults_in (found ++ f ∷ [])) ≡ lower (lowest (faults_in found)) f.fault
 lowest_last found f = ap lowest (map-append (λ (x : Finding). x.fault) found (f ∷ [])) ∙ noted_last None (faults_in found) f.fault
 
+-- one that comes before what was found is the lowest
+pub is_lowest : (o : Option ManifestFault) (f : ManifestFault) → is_lower f o ≡ true → lower o f ≡ Some f
+unfolding lower
+is_lowest None f first = refl
+is_lowest (Some g) f first =
+    let order : rank_of f < rank_of g = ltb-true (rank_of f) (rank_of g) first in
+    rw (lt-leb (rank_of f) (rank_of g) order) refl
+
 -- one that does not come before what was found leaves the lowest as it is
-not_lower : (o : Option ManifestFault) (f : ManifestFault) → is_lower f o ≡ false → lower o f ≡ o
+pub not_lower : (o : Option ManifestFault) (f : ManifestFault) → is_lower f o ≡ false → lower o f ≡ o
 unfolding lower
 not_lower None f other = cc
 not_lower (Some g) f other =

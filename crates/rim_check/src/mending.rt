@@ -1,0 +1,194 @@
+//! What helps to mend a launch that is refused, beside the reason. That it is true of the launch is tested alone.
+ghost use Rattle.std.specs.Prelude.{◌≡◌, length, true};
+ghost use Rattle.rim_launch.specs.LaunchData.{has_files};
+
+use crate::granules::granules_needed;
+use crate::kernel_front::{KernelFront, front_of};
+use fdt_tree::FdtFault;
+use ipa_layout::{ItemReason, LayoutReason};
+use refusal::NoMemory;
+use rim_accepted::LaunchReason;
+use rim_launch::{Launch, Region};
+use rmi_list::{ListReason, StepReason};
+use rmm_model::{LEAST_WIDTH, MOST_WIDTH, is_width, protected_end};
+use rtt_plan::PlanFault;
+use std::alloc::Global;
+use std::fmt;
+
+/// How many regions of RAM are shown.
+const MOST_REGIONS: usize = 3;
+
+/// What helps to mend a launch. Printed, it follows the reason; nothing is printed where nothing is known.
+#[derive(Clone, Copy)]
+pub(crate) enum Mending<'a> {
+    Nothing,
+    /// What the file of its kernel is.
+    Kernel(KernelFront),
+    /// What is wrong with its devicetree.
+    Devicetree(FdtFault),
+    /// Which RAM there is.
+    Ram(&'a [Region]),
+    /// The width of an IPA that is given, and the least one that holds all RAM, if one does.
+    Width { given: u8, least: Option<u8> },
+    /// How many granules of the pool it takes in all.
+    Granules(u64),
+}
+
+impl fmt::Display for Mending<'_> {
+    fn fmt<W: fmt::Write>(&self, f: &mut fmt::Formatter<W>) -> fmt::Result {
+        match *self {
+            Mending::Nothing => Ok(()),
+            Mending::Kernel(front) => write!(f, "; {front}"),
+            Mending::Devicetree(fault) => {
+                let why = devicetree_text(fault);
+                write!(f, ": {why}")
+            }
+            Mending::Ram(regions) => write_ram(f, regions),
+            Mending::Width {
+                given,
+                least: Some(least),
+            } => write!(
+                f,
+                "; s2sz is {given}, and {least} is the least that holds the RAM"
+            ),
+            Mending::Width { given, least: None } => write!(
+                f,
+                "; s2sz is {given}, and none holds the RAM: the most is {MOST_WIDTH}"
+            ),
+            Mending::Granules(count) => write!(f, "; the launch takes {count} in all"),
+        }
+    }
+}
+
+/// Why a devicetree cannot be edited (Devicetree Specification, "Flattened Devicetree (DTB) Format").
+fn devicetree_text(fault: FdtFault) -> &'static str {
+    match fault {
+        FdtFault::Short => "it has fewer than the 40 bytes of a header",
+        FdtFault::BadMagic => "it does not begin with the bytes d0 0d fe ed",
+        FdtFault::BadVersion => "its version is not 17, or not compatible with 17",
+        FdtFault::BadBlock => "a block that its header names is not aligned or not within the file",
+        FdtFault::BadReserve => "its memory reservations have no end",
+        FdtFault::BadToken => "a token of its structure is cut off, unknown or out of place",
+        FdtFault::BadName => "a name in it is empty or has a character that no name may have",
+        FdtFault::BadString => "the name of a property is not within its strings",
+        FdtFault::LateProperty => "a property comes after a child of its node",
+        FdtFault::TooDeep => "a node is deeper than 64",
+        FdtFault::BadCells => {
+            "#address-cells or #size-cells of its root is not 1 or 2, or an address does not fit"
+        }
+        FdtFault::TooLarge => "it has, or would have, more than 2097152 bytes",
+        FdtFault::NoMemory => "it takes more memory than there is",
+    }
+}
+
+/// Writes which RAM there is: some regions, and how many others.
+fn write_ram<W: fmt::Write>(f: &mut fmt::Formatter<W>, regions: &[Region]) -> fmt::Result {
+    if regions.is_empty() {
+        return f.write_str("; the launch has no ram");
+    }
+    f.write_str("; ram is ")?;
+    for (number, region) in regions.iter().take(MOST_REGIONS).enumerate() {
+        let comma = if number == 0 { "" } else { ", " };
+        let Region { base, end } = *region;
+        write!(f, "{comma}{base:#x} to {end:#x}")?;
+    }
+    match regions.len().saturating_sub(MOST_REGIONS) {
+        0 => Ok(()),
+        1 => f.write_str(" and 1 other region"),
+        others => write!(f, " and {others} other regions"),
+    }
+}
+
+/// What helps to mend a launch that is refused for a reason.
+pub(crate) fn mending<'a>(
+    alloc: Global,
+    launch: &'a Launch,
+    files: &'a [Vec<u8>],
+    reason: &LaunchReason,
+) -> Result<Mending<'a>, NoMemory>
+    requires { has_files launch.now (length files.now) ≡ true }
+{
+    match reason {
+        LaunchReason::Layout(LayoutReason::Item { item, reason }) => {
+            Ok(item_mending(launch, files, *item, reason))
+        }
+        LaunchReason::Layout(_) => Ok(Mending::Nothing),
+        LaunchReason::List(ListReason::Step { reason, .. }) => {
+            step_mending(alloc, launch, files, reason)
+        }
+        LaunchReason::List(ListReason::Opening) => pool_mending(alloc, launch, files),
+        LaunchReason::List(ListReason::TooManyRecs { .. }) => Ok(Mending::Nothing),
+    }
+}
+
+/// What helps to mend an item.
+fn item_mending<'a>(
+    launch: &'a Launch,
+    files: &'a [Vec<u8>],
+    item: usize,
+    reason: &ItemReason,
+) -> Mending<'a> {
+    match reason {
+        ItemReason::Kernel { .. } => match front_of(file_of(launch, files, item)) {
+            Some(front) => Mending::Kernel(front),
+            None => Mending::Nothing,
+        },
+        ItemReason::Edits(fault) => Mending::Devicetree(*fault),
+        ItemReason::OutsideRam { .. } => Mending::Ram(launch.ram()),
+        _ => Mending::Nothing,
+    }
+}
+
+/// The bytes of the file of an item; none where it has no file.
+fn file_of<'a>(launch: &Launch, files: &'a [Vec<u8>], item: usize) -> &'a [u8] {
+    let number = launch.items().get(item).and_then(|item| item.kind.file());
+    match number.and_then(|number| files.get(number)) {
+        Some(bytes) => bytes.as_slice(),
+        None => &[],
+    }
+}
+
+/// What helps to mend a step.
+fn step_mending<'a>(
+    alloc: Global,
+    launch: &'a Launch,
+    files: &'a [Vec<u8>],
+    reason: &StepReason,
+) -> Result<Mending<'a>, NoMemory>
+    requires { has_files launch.now (length files.now) ≡ true }
+{
+    match reason {
+        StepReason::Plan {
+            fault: PlanFault::OutsideProtected,
+            ..
+        } => Ok(Mending::Width {
+            given: launch.config().s2sz,
+            least: least_width(launch.ram()),
+        }),
+        StepReason::PoolEnd => pool_mending(alloc, launch, files),
+        _ => Ok(Mending::Nothing),
+    }
+}
+
+/// The least width of an IPA whose protected half holds these regions.
+fn least_width(regions: &[Region]) -> Option<u8> {
+    let mut top = 0;
+    for region in regions {
+        top = region.end.max(top);
+    }
+    (LEAST_WIDTH..=MOST_WIDTH).find(|width| is_width(*width) && top <= protected_end(*width))
+}
+
+/// How many granules a launch takes whose pool has too few.
+fn pool_mending<'a>(
+    alloc: Global,
+    launch: &Launch,
+    files: &[Vec<u8>],
+) -> Result<Mending<'a>, NoMemory>
+    requires { has_files launch.now (length files.now) ≡ true }
+{
+    match granules_needed(alloc, launch, files)? {
+        Some(count) => Ok(Mending::Granules(count)),
+        None => Ok(Mending::Nothing),
+    }
+}
