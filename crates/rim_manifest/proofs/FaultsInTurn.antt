@@ -61,7 +61,7 @@ unfolding lower
 is_lowest None f first = refl
 is_lowest (Some g) f first =
     let order : rank_of f < rank_of g = ltb-true (rank_of f) (rank_of g) first in
-    rw (lt-leb (rank_of f) (rank_of g) order) refl
+    rw (lt-leb (rank_of g) (rank_of f) order) refl
 
 -- one that does not come before what was found leaves the lowest as it is
 pub not_lower : (o : Option ManifestFault) (f : ManifestFault) → is_lower f o ≡ false → lower o f ≡ o
