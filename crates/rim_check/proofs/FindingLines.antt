@@ -3,7 +3,7 @@ use Rattle.std.proofs.Common.{◌≡◌, ◌∙◌, ◌+◌, ◌<◌, ◌≤◌,
 use Rattle.std.proofs.Math.Seq.{take-suc}
 use Rattle.std.proofs.lemmas.List.{take_all}
 use Rattle.rim_manifest.specs.declared.finding.Finding.{Finding}
-use Rattle.rim_manifest.specs.inside.Findings.{faults_in}
+use Rattle.rim_manifest.specs.inside.Kept.{faults_in}
 use Rattle.rim_check.specs.Explained.{fault_said}
 use Rattle.rim_line.specs.Lines.{AddsLine, Saying, SayInTurn}
 

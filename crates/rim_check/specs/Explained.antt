@@ -1,5 +1,5 @@
 -- What is said of a manifest's faults and of the launches that are refused. This project's choice.
-use Rattle.std.specs.Prelude.{◌≡◌, ◌⊎◌, ℕ, Bool, List, [], ◌∷◌, ◌++◌, length, map, Option, Some, None, IsOk, Ok, Err, codes, decimal, nat_lt, if◌then◌else◌}
+use Rattle.std.specs.Prelude.{◌≡◌, ◌⊎◌, ℕ, Bool, List, [], ◌∷◌, ◌++◌, ◌==◌, length, map, Option, Some, None, IsOk, Ok, Err, codes, decimal, nat_lt, if◌then◌else◌}
 use Rattle.rim_manifest.specs.declared.fault.ManifestFault.{ManifestFault}
 use Rattle.rim_manifest.specs.Faults.{kind_of, lowest}
 use Rattle.rim_manifest.specs.Launches.{NamedData}
@@ -29,11 +29,21 @@ use Rattle.rim_check.specs.declared.manifest.ManifestCheck.TheVariants.{Faulty, 
 abbrev pub fault_said : ManifestFault → Saying
 fault_said fault = record { front = None; word = kind_of fault; detail = None }
 
--- the text has a line for each of some faults, and the lowest of them is the one that the manifest is refused with
+-- that there are more faults than have a line
+abbrev pub others_said : ℕ → List Saying
+others_said more = if nat_lt 0 more then record {
+  front = Some [];
+  word = decimal more;
+  detail = Some (if more == 1 then codes " more fault" else codes " more faults");
+} ∷ [] else []
+
+-- the text has a line for each of some faults, and then how many more there are; the lowest of those with a line is the one that
+-- the manifest is refused with
 pub record Explains (fault : ManifestFault) (text : List ℕ) : Type 0 where
   pub faults : List ManifestFault
   pub lowest : lowest faults ≡ Some fault
-  pub lines : SayInTurn (map fault_said faults) text
+  pub more : ℕ
+  pub lines : SayInTurn (map fault_said faults ++ others_said more) text
 
 -- a manifest is explained as faulty exactly where it is refused
 abbrev pub IsCheckOf : Answer → ManifestCheck → Type 0

@@ -66,7 +66,13 @@ fn look_at(
             found.has_refused = true;
             let mending = mending(alloc, launch.launch(), files, &reason)?;
             let hint = format!(in alloc; "{mending}")?;
-            push_refused(&mut found.refusals, readable, launch, &reason, hint.as_str())
+            push_refused(
+                &mut found.refusals,
+                readable,
+                launch,
+                &reason,
+                hint.as_str(),
+            )
         }
     }
 }

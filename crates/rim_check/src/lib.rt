@@ -5,6 +5,7 @@
 mod alike;
 mod belongs;
 mod detail;
+mod excerpt;
 mod expected;
 mod finding_detail;
 mod found;

@@ -1,16 +1,18 @@
 //! The faults of a manifest.
 ghost use Rattle.std.specs.Prelude.{[], ◌∷◌, IfOk, OnOk, map};
 ghost use Rattle.rim_manifest.specs.Manifest.{manifest_of};
-ghost use Rattle.rim_manifest.specs.inside.Findings.{faults_in};
+ghost use Rattle.rim_manifest.specs.inside.Kept.{faults_in};
 ghost use Rattle.rim_check.specs.Explained.{HasNames, IsCheckOf, fault_said};
 ghost use Rattle.rim_line.specs.Lines.{AddsLine, SayInTurn};
 
+use crate::excerpt::excerpt;
 use crate::finding_detail::write_detail;
 use crate::place::write_place;
 use crate::syntax::{write_message, write_position};
+use itoa::Buffer;
 use refusal::NoMemory;
 use rim_line::{Line, Readable, push_line};
-use rim_manifest::{Checked, Document, Finding, ManifestFault};
+use rim_manifest::{Checked, Document, FaultList, Finding, ManifestFault};
 use std::alloc::Global;
 use toml::de::Error;
 
@@ -42,7 +44,7 @@ pub fn check_manifest(alloc: Global, text: &[u8]) -> Result<ManifestCheck, NoMem
         Checked::Accepted(release) => {
             Ok(ManifestCheck::Readable(Readable::new(document, release)))
         }
-        Checked::Refused(found) => Ok(ManifestCheck::Faulty(lines(alloc, &document, &found)?)),
+        Checked::Refused(list) => Ok(ManifestCheck::Faulty(lines(alloc, &document, &list)?)),
     }
 }
 
@@ -60,8 +62,22 @@ fn syntax_line(alloc: Global, text: &[u8], error: &Error) -> Result<Vec<u8>, NoM
     Ok(lines)
 }
 
+/// A line for each fault of which an excerpt is given, and one that says how many others there are.
+fn lines(alloc: Global, document: &Document, list: &FaultList) -> Result<Vec<u8>, NoMemory>
+    ensures { IfOk result (λ lines. (fault : ManifestFault)
+        → lowest (faults_in list.now.findings.items) ≡ Some fault
+        → Explains fault lines.items) }
+{
+    let excerpt = excerpt(alloc, document, list)?;
+    let mut lines = finding_lines(alloc, document, &excerpt.findings)?;
+    if excerpt.more > 0 {
+        push_others(&mut lines, excerpt.more)?;
+    }
+    Ok(lines)
+}
+
 /// A line for each fault.
-fn lines(alloc: Global, document: &Document, found: &[Finding]) -> Result<Vec<u8>, NoMemory>
+fn finding_lines(alloc: Global, document: &Document, found: &[Finding]) -> Result<Vec<u8>, NoMemory>
     ensures { IfOk result (λ lines. SayInTurn (map fault_said (faults_in found.now)) lines.items) }
 {
     let mut lines = Vec::new(alloc);
@@ -69,6 +85,21 @@ fn lines(alloc: Global, document: &Document, found: &[Finding]) -> Result<Vec<u8
         add_line(&mut lines, document, finding)?;
     }
     Ok(lines)
+}
+
+/// Adds a line that says how many faults have none.
+fn push_others(lines: &mut Vec<u8>, more: u64) -> Result<(), NoMemory>
+    requires { 0 < more }
+    ensures { OnOk result (AddsAll (others_said more) lines.old.items lines.new.items) }
+{
+    let alloc = *lines.allocator();
+    let mut after = Line::new(alloc);
+    after.push_text(if more == 1 {
+        " more fault"
+    } else {
+        " more faults"
+    })?;
+    push_line(lines, &Line::new(alloc), Buffer::new().format(more), &after)
 }
 
 /// Adds the line of a fault.

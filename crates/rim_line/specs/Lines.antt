@@ -20,9 +20,9 @@ pub record Saying : Type 0 where
   pub word : List ℕ
   pub detail : Option (List ℕ)
 
--- what is said of a file that cannot be read: its path and why
-abbrev pub file_said : List ℕ → List ℕ → Saying
-file_said path word = record { front = Some (path ++ codes ": "); word = word; detail = Some [] }
+-- what is said of a file that cannot be read: its path, why, and a hint
+abbrev pub file_said : List ℕ → List ℕ → List ℕ → Saying
+file_said path word hint = record { front = Some (path ++ codes ": "); word = word; detail = Some hint }
 
 -- a text is what is known of it, if all bytes of that are shown as they are
 abbrev pub IsKnown : Option (List ℕ) → List ℕ → Type 0

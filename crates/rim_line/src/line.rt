@@ -254,13 +254,16 @@ pub fn push_line(
     Ok(())
 }
 
-/// Adds the line of a file that cannot be read: its path and why.
-pub fn push_file(text: &mut Vec<u8>, path: &str, kind: &str) -> Result<(), NoMemory>
-    ensures { OnOk result (AddsLine (file_said path.now kind.now) text.old.items text.new.items) }
+/// Adds the line of a file that cannot be read: its path, the word of why, and what else is known of that.
+pub fn push_file(text: &mut Vec<u8>, path: &str, kind: &str, hint: &str) -> Result<(), NoMemory>
+    ensures { OnOk result
+        (AddsLine (file_said path.now kind.now hint.now) text.old.items text.new.items) }
 {
     let alloc = *text.allocator();
     let mut before = Line::new(alloc);
     before.push_path(path)?;
     before.push_text(": ")?;
-    push_line(text, &before, kind, &Line::new(alloc))
+    let mut after = Line::new(alloc);
+    after.push_text(hint)?;
+    push_line(text, &before, kind, &after)
 }

@@ -1,15 +1,12 @@
-use Rattle.std.proofs.Common.{◌∙◌, ◌≡◌, List, Ok, Err, ap, map, subst, sym, true}
+use Rattle.std.proofs.Common.{◌∙◌, ◌≡◌, Ok, Err, ap, subst, sym, true}
 use Rattle.std.proofs.lemmas.Bool.{false≢true}
 use Rattle.toml.specs.Errors.{IsMemory}
 use Rattle.toml.specs.View.{table_view}
 use Rattle.rim_manifest.specs.declared.document.Checked.TheVariants.{Accepted}
-use Rattle.rim_manifest.specs.declared.finding.Finding.{Finding}
 use Rattle.rim_manifest.specs.Found.{AreFound, IsChecked}
-use Rattle.rim_manifest.specs.inside.Findings.{faults_in}
-use Rattle.rim_check.specs.Explained.{fault_said}
-use Rattle.rim_line.specs.Lines.{SayInTurn}
+use Rattle.rim_manifest.specs.inside.Kept.{faults_in}
 use Rattle.rim_line.specs.Readables.{ReadableData}
-use Rattle.rim_check.proofs.FaultsAreExplained.{explains-found, explains-syntax, of-document, of-none}
+use Rattle.rim_check.proofs.FaultsAreExplained.{explains-syntax, of-document, of-none}
 use Rattle.rim_check.proofs.manifest.check_manifest.Goals as goal
 
 pub returns-in-Err-clause-check : goal.returns-in-Err-clause-check
@@ -26,6 +23,6 @@ returns-in-Accepted-clause-check c =
 pub returns-in_ok-lines-in-Refused-clause-check : goal.returns-in_ok-lines-in-Refused-clause-check
 returns-in_ok-lines-in-Refused-clause-check c =
     let ms = table_view c.in-Ok.document.table in
-    let found : AreFound ms (faults_in c.in-Refused.found.items) = subst (IsChecked ms) c.in-Refused.is c.in_ok-release.ensures in
-    let lines = subst (λ (fs : List Finding). SayInTurn (map fault_said (faults_in fs)) c.in_ok-lines-in-Refused.field-0.items) c.deref.ensures.value c.in_ok-lines-in-Refused.ensures in
-    of-document _ ms (Err found.fault) _ c.in-Ok.ensures.document found.refused (explains-found ms _ _ found lines)
+    let list = c.in-Refused.list in
+    let found : AreFound ms (faults_in list.findings.items) list.more = subst (IsChecked ms) c.in-Refused.is c.in_ok-release.ensures in
+    of-document _ ms (Err found.fault) _ c.in-Ok.ensures.document found.refused (c.in_ok-lines-in-Refused.ensures found.fault found.lowest)

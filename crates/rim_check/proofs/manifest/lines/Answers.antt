@@ -1,8 +1,10 @@
-use Rattle.rim_check.proofs.FindingLines.{all-said, said-at}
+use Rattle.std.proofs.Common.{ap, subst}
+use Rattle.rim_check.proofs.FaultsAreExplained.{explains-all, explains-more}
 use Rattle.rim_check.proofs.manifest.lines.Goals as goal
-
-pub loop-finding-preserved : goal.loop-finding-preserved
-loop-finding-preserved c = said-at _ _ _ _ _ c.loop-finding-test.true c.in_ok-add_line.ensures c.loop-finding.invariant
+use Rattle.rim_check.proofs.manifest.lines.Goals.{else-excerpt-gt0, then-excerpt-gt0+in_ok-push_others}
 
 pub returns : goal.returns
-returns c = all-said _ _ _ c.loop-finding-test.false c.loop-finding.invariant
+returns c = λ fault. elim c.if-excerpt-gt0.branch [
+  | then-excerpt-gt0+in_ok-push_others w ↦ rw w.lines-is (explains-more fault _ _ _ _ _ c.in_ok-excerpt.ensures c.in_ok-lines.ensures w.in_ok-push_others.ensures)
+  | else-excerpt-gt0 w ↦ rw w.lines-is (explains-all fault _ _ _ c.in_ok-excerpt.ensures c.in_ok-lines.ensures)
+]

@@ -12,7 +12,10 @@ returns c =
     λ plain. adds-both c.new-before.result.text.items c.push_path.new.self.text.items before path (codes ": ")
     c.in_ok-push_path.ensures c.in_ok-push_text.ensures plain
     ∙ ap (λ (old : List ℕ). old ++ (path ++ codes ": ")) c.new-before.ensures in
+    let detail : IsKnown (Some c.args.hint.now) c.push_text-2.new.self.text.items =
+    λ plain. c.in_ok-push_text-2.ensures plain ∙ ap (λ (old : List ℕ). old ++ c.args.hint.now) c.new-after.ensures in
     on_ok_weaker _
-    (λ (adds : (known detail : Option (List ℕ)) → IsKnown known before → IsKnown detail c.new.result.text.items → AddsLine (record { front = known; word = c.args.kind.now; detail = detail }) c.args.text.now.items c.push_line.new.text.items).
-    adds (Some (path ++ codes ": ")) (Some []) front (λ plain. c.new.ensures))
+    (λ (adds : (known detail : Option (List ℕ)) → IsKnown known before → IsKnown detail c.push_text-2.new.self.text.items
+    → AddsLine (record { front = known; word = c.args.kind.now; detail = detail }) c.args.text.now.items c.push_line.new.text.items).
+    adds (Some (path ++ codes ": ")) (Some c.args.hint.now) front detail)
     c.push_line.ensures

@@ -1,0 +1,120 @@
+//! Which faults of a manifest have a line.
+ghost use Rattle.std.specs.Prelude.{◌≡◌, IfOk};
+ghost use Rattle.rim_manifest.specs.Faults.{lowest};
+ghost use Rattle.rim_manifest.specs.inside.Kept.{faults_in};
+
+use refusal::NoMemory;
+use rim_manifest::{
+    Document, FaultList, Finding, Form, ManifestFault, Place, Rule, Subject, TOP_RULES, is_lower,
+};
+use std::alloc::Global;
+
+/// The key of the format's number.
+const VERSION_KEY: &str = "rim_manifest";
+
+/// Faults that have a line, and how many others there are.
+#[derive(Drop)]
+pub(crate) struct Excerpt {
+    pub findings: Vec<Finding>,
+    pub more: u64,
+    least: Option<ManifestFault>,
+    ghost own: { lowest (faults_in findings.items) ≡ least },
+}
+
+impl Excerpt {
+    ghost use Rattle.std.specs.Prelude.{◌≡◌, OnOk};
+    ghost use Rattle.rim_manifest.specs.Faults.{lower};
+
+    /// Adds a fault: a line, or one more of the others.
+    fn add(&mut self, document: &Document, finding: &Finding) -> Result<(), NoMemory>
+        ensures { OnOk result (self.new.least ≡ lower self.old.least finding.now.fault) }
+    {
+        if is_lower(finding.fault, self.least) {
+            self.findings.push(*finding)?;
+            self.least = Some(finding.fault);
+            return Ok(());
+        }
+        match standing(document, finding) {
+            Standing::Own => self.findings.push(*finding)?,
+            Standing::Repeated => {}
+            Standing::PastLimit => self.more = self.more.saturating_add(1),
+        }
+        Ok(())
+    }
+}
+
+/// The faults that have a line: those that are listed, but for a second one of the same cause, and for those of the members of an
+/// array that are past its limit, which are counted with the others. One that is lower than all before it has a line always.
+pub(crate) fn excerpt(
+    alloc: Global,
+    document: &Document,
+    list: &FaultList,
+) -> Result<Excerpt, NoMemory>
+    ensures { IfOk result (λ e. lowest (faults_in e.findings.items)
+        ≡ lowest (faults_in list.now.findings.items)) }
+{
+    let mut excerpt = Excerpt {
+        findings: Vec::new(alloc),
+        more: list.more(),
+        least: None,
+    };
+    let listed = list.findings();
+    for finding in listed {
+        excerpt.add(document, finding)?;
+    }
+    Ok(excerpt)
+}
+
+/// Whether a fault has a line.
+#[derive(Clone, Copy)]
+enum Standing {
+    Own,
+    /// An earlier line says its cause.
+    Repeated,
+    /// It is one of a member of an array that is past the array's limit.
+    PastLimit,
+}
+
+/// Whether a fault that is not the lowest so far has a line.
+fn standing(document: &Document, finding: &Finding) -> Standing {
+    if is_repeated(finding) {
+        Standing::Repeated
+    } else if is_past_limit(document, finding.place) {
+        Standing::PastLimit
+    } else {
+        Standing::Own
+    }
+}
+
+/// Whether a fault is the second one of the format's number: that it is not 1 or 2 is said of it always, where it is not given or
+/// no number too.
+fn is_repeated(finding: &Finding) -> bool {
+    match finding.subject {
+        Subject::Key { key, .. } => key == VERSION_KEY && finding.fault != ManifestFault::Version,
+        _ => false,
+    }
+}
+
+/// Whether a table is past the limit of the array that it is in, or in such a table.
+fn is_past_limit(document: &Document, place: Place) -> bool {
+    let rules = document.launch_rules();
+    match place {
+        Place::Top => false,
+        Place::File { file } => is_past(&TOP_RULES, "file", file),
+        Place::Launch { launch } => is_past(&TOP_RULES, "launch", launch),
+        Place::Item { launch, item } => {
+            is_past(&TOP_RULES, "launch", launch) || is_past(rules, "item", item)
+        }
+        Place::Rec { launch, rec } => {
+            is_past(&TOP_RULES, "launch", launch) || is_past(rules, "rec", rec)
+        }
+    }
+}
+
+/// Whether a number is past the limit of the array at a key.
+fn is_past(rules: &[Rule], key: &str, number: usize) -> bool {
+    match rules.iter().find(|rule| rule.0 == key) {
+        Some((_, Form::Tables { most }, _)) => *most <= number,
+        _ => false,
+    }
+}
