@@ -7,20 +7,32 @@ use crate::progress::Progress;
 use rim_cli::{Opener, asks_for_bytes, report_terminal, report_unreadable, run};
 use std::fs::File;
 use std::io;
-use std::io::IsTerminal;
+use std::io::{ErrorKind, IsTerminal};
 use std::process::ExitCode;
 
 /// Opens the files of the system.
 #[derive(Drop)]
 struct FileOpener<'a> {
     rt: &'a HostRuntime,
+    /// Why the last file could not be opened.
+    failure: Option<ErrorKind>,
 }
 
 impl Opener for FileOpener<'_> {
     type Reader = File;
 
     fn open(&mut self, path: &str) -> Option<File> {
-        File::open(self.rt, path).ok()
+        match File::open(self.rt, path) {
+            Ok(file) => Some(file),
+            Err(error) => {
+                self.failure = Some(error.kind());
+                None
+            }
+        }
+    }
+
+    fn failure(&self) -> Option<ErrorKind> {
+        self.failure
     }
 }
 
@@ -31,7 +43,10 @@ fn main(rt: HostRuntime) -> ExitCode {
             rt.alloc(),
             &mut Progress::new(&rt, rt.stderr().is_terminal()),
             words.as_slice(),
-            &mut FileOpener { rt: &rt },
+            &mut FileOpener {
+                rt: &rt,
+                failure: None,
+            },
             &mut io::writer(&rt),
             &mut rt.stderr(),
         ),

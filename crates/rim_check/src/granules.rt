@@ -4,7 +4,7 @@ ghost use Rattle.rim_launch.specs.LaunchData.{has_files};
 
 use ipa_layout::{Placed, place};
 use refusal::NoMemory;
-use rim_desc::PAGE_SIZE;
+use rim_desc::GRANULE_SIZE;
 use rim_launch::{Launch, Region, Step};
 use rmm_model::start_count;
 use rtt_plan::{Act, PlanFault, Tables};
@@ -49,7 +49,7 @@ fn granules_of(
         },
         Step::Item(number) => match placed.items().get(*number) {
             Some(item) if item.pages > 0 => {
-                let base = item.address - item.address % PAGE_SIZE;
+                let base = item.address - item.address % GRANULE_SIZE;
                 Ok(granules_in(&tables.data_pages(base, item.pages)?))
             }
             _ => Ok(0),

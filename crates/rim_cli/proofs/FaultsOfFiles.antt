@@ -14,18 +14,19 @@ use Rattle.rim_cli.proofs.ReadFileByFile.{of_bytes, read_next}
 use Rattle.rim_cli.specs.declared.file.TheConstants.{FILE_LIMIT}
 
 -- a fault of a file that is no want of memory is why the file cannot be read
-pub unread_said : (known : Known) (path : List ℕ) (fault : Fault) → IsFileFault known fault → (fault ≡ NoMemory → ⊥) → IsUnread known path (file_said path (word_of fault))
-unread_said known path FileUnreadable is other = inl refl
-unread_said known path FileTooLarge is other = inr (refl, is)
-unread_said known path NoMemory is other = absurd (other refl)
-unread_said known path (Manifest fault) is other = absurd is
-unread_said known path NoSuchLaunch is other = absurd is
-unread_said known path (Start fault) is other = absurd is
-unread_said known path (Refused fault) is other = absurd is
-unread_said known path NoDevicetree is other = absurd is
-unread_said known path (Show fault) is other = absurd is
-unread_said known path OutputIsTerminal is other = absurd is
-unread_said known path OutputFailed is other = absurd is
+pub unread_said : (known : Known) (path hint : List ℕ) (fault : Fault) → IsFileFault known fault → (fault ≡ NoMemory → ⊥)
+    → IsUnread known path (file_said path (word_of fault) hint)
+unread_said known path hint FileUnreadable is other = (hint, inl refl)
+unread_said known path hint FileTooLarge is other = (hint, inr (refl, is))
+unread_said known path hint NoMemory is other = absurd (other refl)
+unread_said known path hint (Manifest fault) is other = absurd is
+unread_said known path hint NoSuchLaunch is other = absurd is
+unread_said known path hint (Start fault) is other = absurd is
+unread_said known path hint (Refused fault) is other = absurd is
+unread_said known path hint NoDevicetree is other = absurd is
+unread_said known path hint (Show fault) is other = absurd is
+unread_said known path hint OutputIsTerminal is other = absurd is
+unread_said known path hint OutputFailed is other = absurd is
 
 -- the file at the next path is read, and nothing is said of it
 kept_after : (held : List ℕ → Known) (paths : List (List ℕ)) (i : ℕ) (said : List Saying) (path file : List ℕ)

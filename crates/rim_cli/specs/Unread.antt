@@ -6,9 +6,11 @@ use Rattle.rim_cli.specs.Files.{IfFile, IsFileFault, Known}
 use Rattle.rim_cli.specs.Status.{word_of}
 use Rattle.rim_cli.specs.declared.file.TheConstants.{FILE_LIMIT}
 
--- what is said of the file at a path, of which this is known: its path and the word of why it cannot be read
+-- what is said of the file at a path, of which this is known: its path and the word of why it cannot be read, with a hint of which
+-- nothing is known
 abbrev pub IsUnread : Known → List ℕ → Saying → Type 0
-IsUnread known path s = (s ≡ file_said path (word_of FileUnreadable)) ⊎ ((s ≡ file_said path (word_of FileTooLarge)) × IsFileFault known FileTooLarge)
+IsUnread known path s = (hint : List ℕ) × ((s ≡ file_said path (word_of FileUnreadable) hint)
+    ⊎ ((s ≡ file_said path (word_of FileTooLarge) hint) × IsFileFault known FileTooLarge))
 
 -- the first saying is why the file at a path cannot be read, and the others follow
 pub record IsUnreadFirst (known : Known) (path : List ℕ) (Follows : List Saying → Type 0) (said : List Saying) : Type 0 where

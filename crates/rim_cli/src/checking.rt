@@ -2,20 +2,20 @@
 ghost use Rattle.std.specs.Prelude.{◌≡◌, ◌≢◌, ◌⊎◌, ◌≤◌, [], ◌++◌, IfErr, IfOk, OnOk, if◌then◌else◌, map};
 ghost use Rattle.rim_cli.specs.Done.{IsCheck, IsReleaseCheck, check_status};
 ghost use Rattle.rim_cli.specs.Files.{IfFile, IsFileFault};
-ghost use Rattle.rim_cli.specs.Status.{word_of};
-ghost use Rattle.rim_cli.specs.inside.Found.{AreFound};
-ghost use Rattle.rim_line.specs.Lines.{AddsLine, file_said};
+ghost use Rattle.rim_cli.specs.inside.Found.{AreFound, HasLine};
 ghost use Rattle.rim_manifest.specs.Manifest.{manifest_of};
 ghost use Rattle.rim_line.specs.Readables.{item_names_in};
 
 use crate::answer::Answer;
 use crate::fault::Fault;
-use crate::file::{Opener, read_file};
+use crate::file::{FILE_LIMIT, Opener, Unread, read_file, read_or_why};
+use refusal::NoMemory;
 use rim_check::{
     LaunchCheck, ManifestCheck, Readable, ReleaseFault, check_launches, check_manifest, push_file,
 };
 use rim_release::{Files, Release};
-use std::alloc::Global;
+use std::alloc::{AllocError, Global};
+use std::io::ErrorKind;
 
 /// What is wrong with the manifest at a path; or else with the files and the launches of its release.
 pub fn check<O: Opener>(
@@ -113,23 +113,57 @@ fn find_files<O: Opener>(
     let mut unread = Vec::new(alloc);
     for i in 0..release.file_count() {
         let path = release.path(i);
-        match read_file(alloc, opener, path) {
+        match read_or_why(alloc, opener, path) {
             Ok(bytes) => files.push(bytes).map_err(|_| Fault::NoMemory)?,
-            Err(fault) => push_unread(&mut unread, path, fault)?,
+            Err(why) => push_unread(&mut unread, path, why)?,
         }
     }
     Ok(FoundFiles { files, unread })
 }
 
 /// Adds the line of a file that cannot be read, but passes want of memory on.
-fn push_unread(text: &mut Vec<u8>, path: &str, fault: Fault) -> Result<(), Fault>
-    ensures line { OnOk result
-        (AddsLine (file_said path.now (word_of fault)) text.old.items text.new.items) }
-    ensures own { OnOk result (fault ≢ Fault.NoMemory) }
+fn push_unread(text: &mut Vec<u8>, path: &str, why: Unread) -> Result<(), Fault>
+    ensures line { OnOk result (HasLine path.now why.fault text.old.items text.new.items) }
+    ensures own { OnOk result (why.fault ≢ Fault.NoMemory) }
     ensures full { IfErr result (λ e. e ≡ Fault.NoMemory) }
 {
-    match fault {
+    match why.fault {
         Fault::NoMemory => Err(Fault::NoMemory),
-        _ => push_file(text, path, fault.kind()).map_err(|_| Fault::NoMemory),
+        fault => push_line(text, path, fault, why.failure).map_err(|_| Fault::NoMemory),
+    }
+}
+
+/// Adds that line, with what the system says.
+fn push_line(
+    text: &mut Vec<u8>,
+    path: &str,
+    fault: Fault,
+    failure: Option<ErrorKind>,
+) -> Result<(), NoMemory>
+    ensures { OnOk result (HasLine path.now fault text.old.items text.new.items) }
+{
+    let alloc = *text.allocator();
+    let hint = failure_text(alloc, path, fault, failure)?;
+    push_file(text, path, fault.kind(), hint.as_str())
+}
+
+/// What is known of a file that cannot be read, after a colon.
+fn failure_text(
+    alloc: Global,
+    path: &str,
+    fault: Fault,
+    failure: Option<ErrorKind>,
+) -> Result<String, AllocError> {
+    match (fault, failure) {
+        (Fault::FileTooLarge, _) => format!(in alloc; ": it has more than {FILE_LIMIT} bytes"),
+        (_, Some(ErrorKind::NotFound)) if path.starts_with('/') => {
+            format!(in alloc; ": there is no such file")
+        }
+        (_, Some(ErrorKind::NotFound)) => {
+            format!(in alloc; ": there is no such file in the folder where rim runs")
+        }
+        (_, Some(ErrorKind::IsADirectory)) => format!(in alloc; ": it is a directory"),
+        (_, Some(failure)) => format!(in alloc; ": {failure}"),
+        (_, None) => format!(in alloc; ""),
     }
 }

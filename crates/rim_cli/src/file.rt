@@ -24,6 +24,32 @@ pub trait Opener {
         ensures bytes { IfSome result (λ reader. IfFile (held self.old path.now)
             (λ bytes. Self.Reader.remaining reader ≡ Some bytes)) }
         ensures stays { held self.new ≡ held self.old };
+
+    /// Why the last file could not be opened, where that is known. No clause speaks of it.
+    fn failure(&self) -> Option<ErrorKind> {
+        None
+    }
+}
+
+/// Why a file is not read: the fault, and what the system says of it, where that is known.
+#[derive(Clone, Copy, Debug)]
+pub struct Unread {
+    pub fault: Fault,
+    pub failure: Option<ErrorKind>,
+}
+
+impl Unread {
+    ghost use Rattle.std.specs.Prelude.{◌≡◌};
+
+    /// A fault of which nothing else is known.
+    fn of(fault: Fault) -> Unread
+        ensures { result.fault ≡ fault }
+    {
+        Unread {
+            fault,
+            failure: None,
+        }
+    }
 }
 
 /// The bytes of each file of a release, in its order.
@@ -53,14 +79,31 @@ pub fn read_file<O: Opener>(alloc: Global, opener: &mut O, path: &str) -> Result
     ensures fault { IfErr result (IsFileFault (O.held opener.old path.now)) }
     ensures stays { O.held opener.new ≡ O.held opener.old }
 {
-    let reader = opener.open(path).ok_or(Fault::FileUnreadable)?;
-    read_whole(alloc, reader)
+    match read_or_why(alloc, opener, path) {
+        Ok(bytes) => Ok(bytes),
+        Err(unread) => Err(unread.fault),
+    }
+}
+
+/// The same, with what the system says where the file cannot be read.
+pub fn read_or_why<O: Opener>(alloc: Global, opener: &mut O, path: &str) -> Result<Vec<u8>, Unread>
+    ensures read { IfOk result (λ bytes. IsRead (O.held opener.old path.now) bytes.items) }
+    ensures fault { IfErr result (λ u. IsFileFault (O.held opener.old path.now) u.fault) }
+    ensures stays { O.held opener.new ≡ O.held opener.old }
+{
+    match opener.open(path) {
+        Some(reader) => read_whole(alloc, reader),
+        None => Err(Unread {
+            fault: Fault::FileUnreadable,
+            failure: opener.failure(),
+        }),
+    }
 }
 
 /// All bytes of a reader, of which one more than the limit is read at the most.
-fn read_whole<R: Read + Drop>(alloc: Global, reader: R) -> Result<Vec<u8>, Fault>
+fn read_whole<R: Read + Drop>(alloc: Global, reader: R) -> Result<Vec<u8>, Unread>
     ensures limit { IfOk result (λ bytes. length bytes.items ≤ FILE_LIMIT) }
-    ensures fault { IfErr result (IsFileFault (option_map Some (R.remaining reader))) }
+    ensures fault { IfErr result (λ u. IsFileFault (option_map Some (R.remaining reader)) u.fault) }
     ensures whole { IfOk result
         (λ bytes. IfSome (R.remaining reader) (λ held. bytes.items ≡ held)) }
 {
@@ -71,8 +114,11 @@ fn read_whole<R: Read + Drop>(alloc: Global, reader: R) -> Result<Vec<u8>, Fault
     let count = bytes.as_slice().len() as u64;
     match read {
         Ok(_) if count <= FILE_LIMIT => Ok(bytes),
-        Ok(_) => Err(Fault::FileTooLarge),
-        Err(error) if error.kind() == ErrorKind::OutOfMemory => Err(Fault::NoMemory),
-        Err(_) => Err(Fault::FileUnreadable),
+        Ok(_) => Err(Unread::of(Fault::FileTooLarge)),
+        Err(error) if error.kind() == ErrorKind::OutOfMemory => Err(Unread::of(Fault::NoMemory)),
+        Err(error) => Err(Unread {
+            fault: Fault::FileUnreadable,
+            failure: Some(error.kind()),
+        }),
     }
 }

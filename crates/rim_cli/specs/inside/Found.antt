@@ -1,8 +1,10 @@
 -- What the loop over the files of a checked release has found. This project's choice.
 use Rattle.std.specs.Prelude.{◌≡◌, ℕ, List, []}
-use Rattle.rim_line.specs.Lines.{Saying, SayInTurn}
+use Rattle.rim_line.specs.Lines.{AddsLine, Saying, SayInTurn, file_said}
 use Rattle.rim_cli.specs.Files.{AreRead, Known}
+use Rattle.rim_cli.specs.Status.{word_of}
 use Rattle.rim_cli.specs.Unread.{AreUnread}
+use Rattle.rim_cli.specs.declared.fault.Fault.{Fault}
 
 -- a line for each file at these paths that cannot be read; and where there is none, the bytes of each file
 pub record AreFound (held : List ℕ → Known) (paths files : List (List ℕ)) (text : List ℕ) : Type 0 where
@@ -10,3 +12,8 @@ pub record AreFound (held : List ℕ → Known) (paths files : List (List ℕ)) 
   pub unread : AreUnread held paths said
   pub lines : SayInTurn said text
   pub read : said ≡ [] → AreRead held paths files
+
+-- a text has the line of a file that cannot be read, with some hint
+pub record HasLine (path : List ℕ) (fault : Fault) (old new : List ℕ) : Type 0 where
+  pub hint : List ℕ
+  pub adds : AddsLine (file_said path (word_of fault) hint) old new
