@@ -42,10 +42,10 @@ def output(program, folder, *words):
 # ---- releases of the tests
 
 
-def releases():
+def releases(program):
     """The files of each release of the tests that is measured or audited: those that make up one release come once."""
     found = {}
-    for each in run.all_runs():
+    for each in run.all_runs(program):
         is_measured = each["words"][:1] in (["measure"], ["audit"]) and each.get("status", 0) in (0, 1)
         # what comes through a pipe can be read once
         if is_measured and "manifest.toml" in each["files"] and "stdin" not in each:
@@ -169,7 +169,7 @@ def main():
     if not os.path.exists(program):
         raise SystemExit(f"{program} is not built")
     with concurrent.futures.ProcessPoolExecutor(len(os.sched_getaffinity(0))) as pool:
-        waiting = [pool.submit(by_listings, program, each) for each in releases()]
+        waiting = [pool.submit(by_listings, program, each) for each in releases(program)]
         waiting += [pool.submit(by_itself, program, seed) for seed in SEEDS]
         outcomes = [each.result() for each in waiting]
     for name, wrong in outcomes:

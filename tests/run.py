@@ -8,7 +8,7 @@ Each run has a fresh folder with its files, in which the program is started. The
 repository. The last line is `N passed, M failed`.
 
 tools/reference.py computes anew what is expected of the launches that are accepted: each line of a report or an audit, and
-`pages N`; a listing; a devicetree.
+`pages N`; a listing; a devicetree. Of a report as JSON Python's hashlib computes what is expected of the files too.
 
 A folder in cases/ is one run. Its file `words` has the words of the command line after the program, one a line. Its files
 `status` (a number; absent: 0), `stdout` and `stderr` (absent: empty) are what is expected. All else in it are files of the run.
@@ -26,7 +26,8 @@ have the key itself:
   stderr_has                      a text that is somewhere on standard error too
   reference       why tools/reference.py is not asked
 
-Any other key of the top or of a row is a value: `{KEY}` in a text is replaced by it. These are at the top alone:
+Any other key of the top or of a row is a value: `{KEY}` in a text is replaced by it. `{program}` is the name and version of the
+program, as it prints them; a row of command-lines.toml says which they are. These are at the top alone:
 
   run             an array of tables of the keys above. A row has a run for each table; but for one with a key `of = "KEY"`
                   only where the row has the key KEY
@@ -45,6 +46,7 @@ A row may have a count as a text has it, and is then this many rows.
 """
 import argparse
 import concurrent.futures
+import hashlib
 import json
 import os
 import re
@@ -122,9 +124,10 @@ def runs_of_row(top, row):
         raise SystemExit(f"no run uses {', '.join(unused) or 'anything'} of the row {row}")
 
 
-def runs_of_rows(name):
+def runs_of_rows(name, said):
+    """The runs of a file of rows, for a program that says this name and version."""
     with open(os.path.join(TESTS, "rows", name), "rb") as file:
-        top = tomllib.load(file)
+        top = {"program": said} | tomllib.load(file)
     for many in top.pop("row"):
         for row in times(many):
             for run in runs_of_row(top, row):
@@ -169,11 +172,12 @@ def run_of_case(name):
     return {"name": name, "words": [os.fsdecode(word) for word in words], "status": int(files.pop("status", 0)), "files": files} | expected
 
 
-def all_runs():
+def all_runs(program):
+    said = subprocess.run([program, "--version"], capture_output=True, text=True, check=True).stdout.rstrip("\n")
     for name in sorted(os.listdir(os.path.join(TESTS, "cases"))):
         yield run_of_case(name)
     for name in sorted(os.listdir(os.path.join(TESTS, "rows"))):
-        yield from runs_of_rows(name)
+        yield from runs_of_rows(name, said)
 
 
 # ---- what tools/reference.py makes of a manifest
@@ -203,6 +207,11 @@ class Reference:
     def listing(self, name):
         return "".join(line + "\n" for line in self.measure(name)[1]).encode()
 
+    def described(self):
+        """The files as a report has them."""
+        contents = [(entry["path"], self.files[entry["name"]]) for entry in self.manifest.get("file", [])]
+        return [{"bytes": len(data), "path": path, "sha256": hashlib.sha256(data).hexdigest()} for path, data in contents]
+
     def launches(self, names):
         """The lines of these launches in a report, and how many pages they have."""
         lines = [[name, self.launch(name)["algo"], self.measure(name)[0]] for name in names]
@@ -227,6 +236,8 @@ def second_opinion(known, words, text):
     lines, pages = accepted(words, text)
     found, count = known.launches([line[0] for line in lines])
     pairs = [*zip(lines, found), *([(["pages", pages], ["pages", count])] if pages is not None else [])]
+    if text.startswith(b"{"):
+        pairs.append((json.loads(text)["files"], known.described()))
     return [f"expected {a}, but tools/reference.py makes {b}" for a, b in pairs if a != b]
 
 
@@ -317,7 +328,7 @@ def main():
     if not os.path.exists(program):
         raise SystemExit(f"{given.program} is not built")
     groups = {}
-    for run in all_runs():
+    for run in all_runs(program):
         if given.only in run["name"]:
             groups.setdefault(repr(sorted(run["files"].items())), []).append(run)
     outcomes = []

@@ -1,5 +1,5 @@
 -- What a run of the program has written when it is done, and why it is refused. This project's choice.
-use Rattle.std.specs.Prelude.{◌≡◌, ◌≢◌, ◌⊎◌, ℕ, Bool, List, [], ◌++◌, Option, Some, None, IsOkAnd, Result, Ok, Err, is_err, is_some, true, option_and_then, position, slice_get, if◌then◌else◌}
+use Rattle.std.specs.Prelude.{◌≡◌, ◌≢◌, ◌⊎◌, ℕ, Bool, List, [], ◌++◌, Option, Some, None, IsOkAnd, Result, Ok, Err, codes, is_err, is_some, true, option_and_then, position, slice_get, if◌then◌else◌}
 use Rattle.std.specs.Io.KnownBytes.{Appends}
 use Rattle.clap.specs.Words.{Text, subcommand_of}
 use Rattle.rim_manifest.specs.Manifest.{Answer, manifest_of, name_in}
@@ -25,6 +25,7 @@ use Rattle.rim_check.specs.declared.found.ReleaseFault.{ReleaseFault}
 use Rattle.rim_check.specs.declared.found.ReleaseFault.TheVariants as release
 use Rattle.rim_line.specs.Lines.{Saying, SayInTurn}
 use Rattle.rim_line.specs.Readables.{ReadableData, item_names_in}
+use Rattle.rim_cli.specs.declared.definition.TheConstants.{VERSION}
 use Rattle.rim_cli.specs.declared.words.Format.{Format}
 use Rattle.rim_cli.specs.declared.words.Format.TheVariants as format
 use Rattle.rim_cli.specs.declared.words.Request.{Request}
@@ -51,19 +52,23 @@ path_of (Fdt file) = file.now
 
 -- ---- what is answered
 
--- the report of a release with these files, in a format
-abbrev pub report_in : Format → List (List ℕ) → List NamedData → List ℕ
-report_in format.Text files ls = report_of files ls
-report_in format.Json files ls = json_of files ls
+-- what a report calls the program: its name and its version, as `rim --version` prints them
+abbrev pub program : List ℕ
+program = codes "rim " ++ VERSION.now
 
-abbrev pub IsReportOf : Format → List (List ℕ) → List NamedData → List ℕ → Type 0
-IsReportOf format files ls shown = unless_too_many files ls (report_in format files ls) ≡ Ok shown
+-- the report of a release with these files, in a format
+abbrev pub report_in : Format → List (List ℕ) → ReleaseData → List ℕ
+report_in format.Text files r = report_of files r.launches
+report_in format.Json files r = json_of program files r
+
+abbrev pub IsReportOf : Format → List (List ℕ) → ReleaseData → List ℕ → Type 0
+IsReportOf format files r shown = unless_too_many files r.launches (report_in format files r) ≡ Ok shown
 
 -- the report of a release, where the files that it names are read, and the status that it ends with: 1 where some launch in it is refused
 pub record IsReport (format : Format) (held : List ℕ → Known) (r : ReleaseData) (shown : List ℕ) (answer : ℕ) : Type 0 where
   pub files : List (List ℕ)
   pub read : AreRead held r.paths files
-  pub text : IsReportOf format files r.launches shown
+  pub text : IsReportOf format files r shown
   pub status : answer ≡ (if has_refused files r.launches then 1 else 0)
 
 -- the audit of a release, in the same way

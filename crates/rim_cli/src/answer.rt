@@ -10,6 +10,7 @@ ghost use Rattle.rim_cli.specs.Done.{IsAnswer, IsAudit, IsDevicetree, IsListing,
 ghost use Rattle.rim_cli.specs.Files.{AreRead, IfFile};
 
 use crate::checking::check;
+use crate::definition::VERSION;
 use crate::fault::Fault;
 use crate::file::{Opener, read_file, read_files};
 use crate::freed::keep_freed_memory;
@@ -101,7 +102,7 @@ fn report<R: Threads + Wait + Sync, G: Gate + Sync>(
     requires files { vec_len files.now ≡ length release.now.paths }
     requires crew { is_crew workers ≡ true }
     ensures text { IfOk result (λ r. IsReportOf format (map (λ file. file.items) files.now.items)
-        release.now.launches r.text.items) }
+        release.now r.text.items) }
     ensures fault { IfErr result (λ e. (e ≡ StartFault.NoMemory)
         ⊎ (measured_of (map (λ file. file.items) files.now.items) release.now.launches
         ≡ Err e)) }
@@ -117,7 +118,10 @@ fn report<R: Threads + Wait + Sync, G: Gate + Sync>(
     } = measure_release(rt, alloc, gate, release, files, workers as usize)?;
     let text = match format {
         Format::Text => report,
-        Format::Json => json_report(alloc, release.all_launches(), &launches, pages)?,
+        Format::Json => {
+            let program = format!(in alloc; "rim {VERSION}")?;
+            json_report(alloc, &program, release, files, &launches, pages)?
+        }
     };
     Ok(Report { text, has_refused })
 }

@@ -6,8 +6,9 @@ use Rattle.hex.specs.Hex.{encode_lower}
 use Rattle.serde_json.specs.Data.{Data, array, member, Members, no_members, number, object, string, unsigned}
 use Rattle.serde_json.specs.View.{items_of}
 use Rattle.serde_json.specs.Written.{compact_text}
+use Rattle.sha2.specs.Sha256.{sha256}
 use Rattle.rim_desc.specs.declared.measurement.Algo.{Algo}
-use Rattle.rim_manifest.specs.Launches.{NamedData}
+use Rattle.rim_manifest.specs.Launches.{NamedData, ReleaseData}
 use Rattle.rim_accepted.specs.AuditFaults.{audit_kind_of}
 use Rattle.rim_report.specs.Pages.{page_keys}
 use Rattle.rmi_line.specs.Ends.{digest_bytes}
@@ -33,15 +34,31 @@ launches_json [] outcomes = []
 launches_json (l ∷ ls) [] = []
 launches_json (l ∷ ls) (outcome ∷ outcomes) = launch_json l outcome ∷ launches_json ls outcomes
 
--- a report of these launches, for a release with this many different measured pages
-unfoldable pub report_data : List Data → ℕ → Data
-report_data launches count =
-    object (member (codes "launches") (array (items_of launches)) (member (codes "pages") (number (unsigned count)) (member (codes "version") (number (unsigned 2)) no_members)))
+-- a file of a release by its path, as the manifest writes it: how many bytes it has, and their SHA-256 digest, with two lower case hexadecimal digits for each byte
+unfoldable pub file_json : List ℕ → List ℕ → Data
+file_json path bytes =
+    object (member (codes "bytes") (number (unsigned (length bytes)))
+    (member (codes "path") (string path) (member (codes "sha256") (string (encode_lower (sha256 bytes))) no_members)))
+
+-- each file by its path. A path without a file is left out; a release that is measured has a file at each
+abbrev pub files_json : List (List ℕ) → List (List ℕ) → List Data
+files_json [] files = []
+files_json (path ∷ paths) [] = []
+files_json (path ∷ paths) (bytes ∷ files) = file_json path bytes ∷ files_json paths files
+
+-- a report by this program of these files and launches, for a release with this many different measured pages
+unfoldable pub report_data : List ℕ → List Data → List Data → ℕ → Data
+report_data program files launches count =
+    object (member (codes "files") (array (items_of files))
+    (member (codes "launches") (array (items_of launches))
+    (member (codes "pages") (number (unsigned count))
+    (member (codes "program") (string program) (member (codes "version") (number (unsigned 3)) no_members)))))
 
 -- its text: no spaces, and a line feed at its end
-abbrev pub json_with : List Data → ℕ → List ℕ
-json_with launches count = compact_text (report_data launches count) ++ codes "\n"
+abbrev pub json_with : List ℕ → List Data → List Data → ℕ → List ℕ
+json_with program files launches count = compact_text (report_data program files launches count) ++ codes "\n"
 
 -- the whole report
-abbrev pub json_of : List (List ℕ) → List NamedData → List ℕ
-json_of files ls = json_with (launches_json ls (outcomes_for files ls)) (length (page_keys files ls))
+abbrev pub json_of : List ℕ → List (List ℕ) → ReleaseData → List ℕ
+json_of program files r =
+    json_with program (files_json r.paths files) (launches_json r.launches (outcomes_for files r.launches)) (length (page_keys files r.launches))

@@ -162,19 +162,22 @@ fn as_json<R: Threads + Wait + Sync + Print + AllocGlobal>(
     let Ok(outcome) = measure_release(rt, rt.alloc(), gate, release, files, 1) else {
         return Err(Fault::Input);
     };
-    json_made(rt, release, &outcome, is_tried)
+    json_made(rt, release, files, &outcome, is_tried)
 }
 
 fn json_made<R: Print + AllocGlobal>(
     rt: &R,
     release: &Release,
+    files: &Files,
     outcome: &Outcome,
     is_tried: bool,
-) -> Result<Seen, Fault> {
+) -> Result<Seen, Fault>
+    requires { vec_len files.now ≡ length release.now.paths }
+{
     let alloc = rt.alloc();
     begin(rt, is_tried)?;
     let launches = outcome.launches.as_slice();
-    let answer = json_report(alloc, release.all_launches(), launches, outcome.pages);
+    let answer = json_report(alloc, "rim", release, files, launches, outcome.pages);
     end(rt, is_tried)?;
     Ok(seen!(alloc, answer, text_digest, NoMemory))
 }
