@@ -1,6 +1,7 @@
 """What `rim-match` is made of: it looks for a launch that has a given measurement, near one that has not.
 
 faults      what stops it: wrong words, a fault
+ending      how it ends then
 value       the measurement that is looked for, in the forms of tokens
 launch      a launch: its table, what of it is measured, its text
 files       the files of a manifest: their lengths, the headers of kernels

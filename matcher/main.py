@@ -1,13 +1,11 @@
 """The order of the work: words, the launch as it is, the search, what is printed."""
-import os
-import signal
 import sys
 import tempfile
 import tomllib
 from collections.abc import Callable
 from dataclasses import dataclass, replace
 
-from . import files, lines, nearest, program, value
+from . import ending, files, lines, nearest, program, value
 from .axes import AXES
 from .faults import Fault, WrongWords, shown
 from .launch import Launch, launch_of
@@ -228,28 +226,6 @@ def run(all_words: list[str], folder: str) -> int:
         return (match if said.trace is None else near)(Rim(path, made), said)
 
 
-def stopped(*_):
-    raise KeyboardInterrupt
-
-
 def main(all_words: list[str], folder: str) -> int:
-    """The status of a run of the script in this folder; what stops it is a line on standard error."""
-    if hasattr(sys.stdout, "reconfigure"):
-        # a path need not be UTF-8
-        sys.stdout.reconfigure(errors="backslashreplace")
-    signal.signal(signal.SIGTERM, stopped)
-    try:
-        status = run(all_words, folder)
-        sys.stdout.flush()
-        return status
-    except (WrongWords, Fault) as why:
-        print(f"rim-match: {why}", file=sys.stderr)
-        return why.status
-    except BrokenPipeError:
-        os.dup2(os.open(os.devnull, os.O_WRONLY), sys.stdout.fileno())
-        return 3
-    except OSError as why:
-        print(f"rim-match: {why.filename or 'output'}: {why.strerror}", file=sys.stderr)
-        return 3
-    except KeyboardInterrupt:
-        return 130
+    """The status of a run of the script in this folder."""
+    return ending.status_of("rim-match", lambda: run(all_words, folder))

@@ -38,9 +38,10 @@ class Ran:
 
 
 class Rim:
-    """The program, and a folder for the manifests that it is given. It runs where the user is, so that paths are read as from there."""
+    """The program, and a folder for the manifests that are written for it. It runs where the user is, so that paths are read as from
+    there."""
 
-    def __init__(self, path: str, folder: str):
+    def __init__(self, path: str, folder: str = ""):
         self.path, self.folder, self.runs = path, folder, 0
 
     def run(self, *words: str) -> Ran:
