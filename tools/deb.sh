@@ -39,11 +39,11 @@ put_programs() {
     put 755 tools/package/rim bin/rim
     put 755 dist/rim-x86_64-v2 libexec/rim/x86-64-v2/rim
     put 755 dist/rim-x86_64-v3 libexec/rim/x86-64-v3/rim
-    for script in rim-manifest rim-match; do
+    for script in rim-manifest rim-match rim-compare; do
         [ ! -f "$script" ] || put 755 "$script" "bin/$script"
     done
     if [ -f rim-manifest ]; then
-        find vmm matcher -type f | while read -r path; do
+        find vmm matcher comparer -type f | while read -r path; do
             mode=644
             [ ! -x "$path" ] || mode=755
             put "$mode" "$path" "share/rim/$path"

@@ -1,0 +1,97 @@
+"""The order of the work: words, the kept report, the other one, what is printed."""
+import sys
+
+from matcher import ending, program
+from matcher.faults import Fault, WrongWords, shown
+from matcher.program import Rim
+
+from . import differ, report
+from .report import Report
+
+VERSION = "0.2.0"
+
+ABOUT = """rim-compare: what differs between a kept report and what a manifest gives now
+
+usage: rim-compare REPORT MANIFEST
+       rim-compare REPORT REPORT
+       rim-compare --help | --version
+
+REPORT is what `rim measure --json` has written. It is compared with another one, or with the report of MANIFEST, which `rim` makes
+now. A line is printed for each launch that has another value, is refused or accepted now, is new or gone, and then for each file that
+has other contents, is new or gone. Reports of versions 1 and 2 have no files, so that values alone are compared. Another version of
+`rim` is said and is no difference. The program is the one that the variable RIM names, or `rim` beside this one, or of the PATH.
+
+  -h, --help        print help
+  -V, --version     print the version
+
+Status: 0 nothing differs; 1 something differs; 2 wrong words; 3 a fault.
+"""
+HELP_HINT = "expected REPORT and MANIFEST, or two reports; see rim-compare --help"
+ALONE = {"-h": ABOUT, "--help": ABOUT, "-V": f"rim-compare {VERSION}\n", "--version": f"rim-compare {VERSION}\n"}
+
+
+def parsed(words: list[str]) -> tuple[list[str], list[str]]:
+    """The operands and the options. What comes after `--` is no option."""
+    end = words.index("--") if "--" in words else len(words)
+    options = [word for word in words[:end] if word.startswith("-") and word != "-"]
+    return [word for word in words[:end] if word not in options] + words[end + 1:], options
+
+
+def bytes_at(path: str) -> bytes:
+    try:
+        with open(path, "rb") as file:
+            return file.read()
+    except OSError as why:
+        raise Fault(f"{shown(path)}: {why.strerror}") from None
+
+
+def measured(path: str, folder: str) -> Report:
+    """The report of the manifest at a path, which the program makes now."""
+    rim = Rim(program.found(folder))
+    program.check(rim.path)
+    ran = rim.run("measure", "--json", "--", path)
+    if ran.status not in (0, 1):
+        raise Fault(f"{ran.said}; `rim check {path}` says where" if ran.status == 3 else ran.said)
+    return report.read(ran.out.encode(), shown(rim.path))
+
+
+def other(path: str, folder: str) -> Report:
+    """The report at a path, where an object of JSON is there, or that of the manifest there: no TOML begins so."""
+    data = bytes_at(path)
+    return report.read(data, shown(path)) if data.lstrip().startswith(b"{") else measured(path, folder)
+
+
+def notes(was: Report, now: Report) -> list[str]:
+    """What is said and is no difference."""
+    if was.program is None or now.program is None:
+        versions = f"the kept report has version {was.version}, the other one version {now.version}"
+        return [f"{versions}: values alone are compared, since versions 1 and 2 have no files"]
+    return [f"the program is {shown(now.program)}, was {shown(was.program)}"] * (was.program != now.program)
+
+
+def run(words: list[str], folder: str) -> int:
+    if not words:
+        print(ABOUT, end="", file=sys.stderr)
+        return 2
+    operands, options = parsed(words)
+    for option in options:
+        if option not in ALONE:
+            raise WrongWords(f"{shown(option)} is no option; see rim-compare --help")
+    if options:
+        print(ALONE[options[0]], end="")
+        return 0
+    if len(operands) != 2:
+        raise WrongWords(f"{len(operands)} operand{'s' * (len(operands) != 1)}, {HELP_HINT}")
+    kept, path = operands
+    was = report.read(bytes_at(kept), shown(kept))
+    now = other(path, folder)
+    for note in notes(was, now):
+        print(f"rim-compare: {note}", file=sys.stderr)
+    found = differ.lines(was, now)
+    print("\n".join(found), end="\n" * bool(found))
+    return int(bool(found))
+
+
+def main(words: list[str], folder: str) -> int:
+    """The status of a run of the script in this folder."""
+    return ending.status_of("rim-compare", lambda: run(words, folder))

@@ -1,0 +1,110 @@
+"""A report as `rim measure --json` writes it, of each version that it has had."""
+import json
+import re
+from dataclasses import dataclass
+
+from matcher.faults import Fault, shown
+
+# How many digits a measurement of each algorithm has.
+DIGITS = {"sha256": 64, "sha512": 128}
+VERSIONS = (1, 2, 3)
+# The first version that has files and the program.
+WITH_FILES = 3
+
+
+@dataclass(frozen=True)
+class Value:
+    """What came of a launch: an algorithm with the digits of the measurement, or why it is refused."""
+
+    algorithm: str
+    digits: str = ""
+    refused: str = ""
+
+    def __str__(self) -> str:
+        return f"refused {self.refused}" if self.refused else f"{self.algorithm} {self.digits}"
+
+
+@dataclass(frozen=True)
+class Content:
+    """The bytes of a file: how many, and their SHA-256 digest."""
+
+    length: int
+    digest: str
+
+    def __str__(self) -> str:
+        return f"{self.length} byte{'s' * (self.length != 1)}, sha256 {self.digest}"
+
+
+@dataclass(frozen=True)
+class Report:
+    """A report: what came of each launch by its name, each file by its path, both in the manifest's order, and the program that made it.
+    `files` and `program` are None in a version that has none."""
+
+    version: int
+    launches: dict[str, Value]
+    files: dict[str, Content] | None
+    program: str | None
+
+
+class Malformed(Exception):
+    """A report does not have the form of its version."""
+
+
+def member(table, name: str, kind: type):
+    """A member of an object, of this kind. JSON's `true` is no number."""
+    if not isinstance(table, dict) or type(table.get(name)) is not kind:
+        raise Malformed(f"{name} is missing, or is no {({str: 'text', int: 'whole number', list: 'array'})[kind]}")
+    return table[name]
+
+
+def text(table, name: str, pattern: str) -> str:
+    said = member(table, name, str)
+    if not re.fullmatch(pattern, said):
+        raise Malformed(f"{name} is {shown(said)}")
+    return said
+
+
+def value_of(launch) -> Value:
+    algorithm = text(launch, "algorithm", "|".join(DIGITS))
+    if "refused" in launch:
+        return Value(algorithm, refused=text(launch, "refused", "[a-z0-9-]+"))
+    return Value(algorithm, digits=text(launch, "rim", f"[0-9a-f]{{{DIGITS[algorithm]}}}"))
+
+
+def launches_of(table) -> dict[str, Value]:
+    found: dict[str, Value] = {}
+    for launch in member(table, "launches", list):
+        name = member(launch, "name", str)
+        if name in found:
+            raise Malformed(f"two launches have the name {shown(name)}")
+        found[name] = value_of(launch)
+    return found
+
+
+def files_of(table) -> dict[str, Content]:
+    """The files. A manifest may name one path twice; its contents are one, unless the file was changed while it was read."""
+    found: dict[str, Content] = {}
+    for file in member(table, "files", list):
+        path, content = member(file, "path", str), Content(member(file, "bytes", int), text(file, "sha256", "[0-9a-f]{64}"))
+        if found.setdefault(path, content) != content:
+            raise Malformed(f"the file {shown(path)} is there twice, with other contents")
+    return found
+
+
+def report_of(table) -> Report:
+    version = member(table, "version", int)
+    if version not in VERSIONS:
+        raise Malformed(f"version is {version}, expected one of {', '.join(map(str, VERSIONS))}")
+    if version < WITH_FILES:
+        return Report(version, launches_of(table), None, None)
+    return Report(version, launches_of(table), files_of(table), member(table, "program", str))
+
+
+def read(data: bytes, name: str) -> Report:
+    """The report in some bytes, which came from what is named."""
+    try:
+        return report_of(json.loads(data))
+    except (ValueError, RecursionError) as why:
+        raise Fault(f"{name}: it is no JSON ({why}), expected a report of rim measure --json") from None
+    except Malformed as why:
+        raise Fault(f"{name}: {why}, expected a report of rim measure --json") from None

@@ -1,0 +1,366 @@
+#!/usr/bin/env python3
+"""Gives rim-compare a kept report and a manifest that was changed since, and looks at what it says.
+
+    tests/comparing.py [PROGRAM]          by default the program that `rt ci` has built
+
+- Changes: PROGRAM makes the report of a manifest, the manifest or a file is changed here, and rim-compare has to print the lines that are
+  written here. Values in them are those of `rim measure`, digests of files those of Python's hashlib.
+- Two reports, reports of versions 1 and 2, another program, reports that are none, wrong words and faults, an installed rim-compare, its
+  man page.
+
+The files are made here, and PROGRAM measures. The last line is 'N passed, M failed'.
+"""
+import concurrent.futures
+import copy
+import hashlib
+import json
+import os
+import re
+import shutil
+import subprocess
+import sys
+
+from hypervisors import TOP, Folder, differs, tried
+
+START = os.path.join(TOP, "rim-compare")
+ODD = 'a "b"\n'
+FILES = {"one": b"*", "two": bytes(range(250)) * 40, ODD: b"a name that has to be quoted"}
+ITEM = "item = [{ name = 'i', kind = 'raw', file = '%s', at = 0x40000000%s }]"
+OVERLAP = "item = [{ name = 'i', kind = 'raw', file = 'two', at = 0x40000000 }, { name = 'j', kind = 'raw', file = 'one', at = 0x40001000 }]"
+RAM = "ram = [[0x40000000, 0x40010000]]"
+
+
+def launch(name: str, *lines: str, algo="sha256") -> str:
+    return "\n".join(["[[launch]]", f'name = "{name}"', f'algo = "{algo}"', "s2sz = 33", *lines]) + "\n"
+
+
+LAUNCHES = [launch("a", RAM, ITEM % ("one", "")), launch("b", RAM, ITEM % ("two", ", measured = false"), algo="sha512"),
+            launch("c", ITEM % ("two", "")), launch("d")]
+PATHS = {"one": "one", "two": "two", "odd": r'a \"b\"\n'}
+
+
+def manifest(launches: list[str], paths: dict[str, str]) -> bytes:
+    files = ", ".join(f'{{ name = "{name}", path = "{path}" }}' for name, path in paths.items())
+    return "\n".join(["rim_manifest = 1", f"file = [{files}]", *launches]).encode()
+
+
+def folder(more: dict[str, bytes] | None = None) -> Folder:
+    return Folder(FILES | {"m.toml": manifest(LAUNCHES, PATHS)} | (more or {}))
+
+
+def made(program: str, here: Folder, *words: str) -> str:
+    """What PROGRAM prints of a manifest in a folder."""
+    ran = subprocess.run([program, "measure", *words], cwd=here.path, capture_output=True, text=True, check=False)
+    if ran.returncode > 1:
+        raise ValueError(ran.stderr.strip())
+    return ran.stdout
+
+
+def keep(program: str, here: Folder):
+    here.put("kept.json", made(program, here, "--json", "m.toml").encode())
+
+
+def values(program: str, here: Folder) -> dict[str, str]:
+    """What came of each launch, as the lines of a report have it: `ALGORITHM DIGITS`, or `refused KIND`."""
+    return dict(line.split(" ", 1) for line in made(program, here, "m.toml").splitlines()[1:-1])
+
+
+def content(data: bytes) -> str:
+    return f"{len(data)} byte{'s' * (len(data) != 1)}, sha256 {hashlib.sha256(data).hexdigest()}"
+
+
+# ---- changes: what they are, the new launches, paths and files, and the lines, in which {A} is what launch a had, and {a} what it has
+
+
+def replaced(name: str, old: str, new: str) -> list[str]:
+    return [each.replace(old, new) if f'name = "{name}"' in each else each for each in LAUNCHES]
+
+
+OTHER, MORE, LONGER = b"+", b"more", FILES[ODD] + b"\0"
+CHANGES = [
+    ("nothing", LAUNCHES, PATHS, {}, []),
+    ("the order", LAUNCHES[::-1], dict(reversed(PATHS.items())), {}, []),
+    ("a key", replaced("d", "s2sz = 33", "s2sz = 33\nnum_bps = 5"), PATHS, {}, ['launch "d" has another value: {d}, was {D}']),
+    ("an algorithm", replaced("b", "sha512", "sha256"), PATHS, {}, ['launch "b" has another value: {b}, was {B}']),
+    ("a refusal", replaced("a", "0x40010000", "0x40010001"), PATHS, {},
+     ['launch "a" is refused now: plan-unaligned, was {A}']),
+    ("an acceptance", replaced("c", "item", RAM + "\nitem"), PATHS, {}, ['launch "c" is accepted now: {c}, was refused outside-ram']),
+    ("another refusal", [LAUNCHES[0], LAUNCHES[1], launch("c", RAM, OVERLAP), LAUNCHES[3]], PATHS, {},
+     ['launch "c" is refused for another reason: overlap, was outside-ram']),
+    ("a name", replaced("b", '"b"', '"new"'), PATHS, {}, ['launch "b" is gone: it was {B}', 'launch "new" is new: {new}']),
+    ("a launch more", [LAUNCHES[0], launch("bad", ITEM % ("one", "")), *LAUNCHES[1:]], PATHS, {}, ['launch "bad" is new: refused outside-ram']),
+    ("a launch that was refused is gone", [LAUNCHES[0], LAUNCHES[1], LAUNCHES[3]], PATHS, {},
+     ['launch "c" is gone: it was refused outside-ram']),
+    ("a file that is measured", LAUNCHES, PATHS, {"one": OTHER},
+     ['launch "a" has another value: {a}, was {A}', f'file "one" has other contents: {content(OTHER)}, was {content(FILES["one"])}']),
+    ("a file that is not measured", LAUNCHES, PATHS, {"two": FILES["two"][:-1]},
+     [f'file "two" has other contents: {content(FILES["two"][:-1])}, was {content(FILES["two"])}']),
+    ("a file that has one byte more", LAUNCHES, PATHS, {ODD: LONGER},
+     [r'file "a \"b\"\n" has other contents: ' + f"{content(LONGER)}, was {content(FILES[ODD])}"]),
+    ("another path", LAUNCHES, PATHS | {"one": "./one"}, {},
+     [f'file "one" is gone: it was {content(FILES["one"])}', f'file "./one" is new: {content(FILES["one"])}']),
+    ("a file more", LAUNCHES, PATHS | {"more": "more"}, {"more": MORE}, [f'file "more" is new: {content(MORE)}']),
+    ("a path twice", LAUNCHES, PATHS | {"twin": "two"}, {}, []),
+    ("all at once", [*LAUNCHES[2:], launch("e"), launch("f", algo="sha512")], {"two": "two", "one": "more"}, {"more": MORE},
+     ['launch "a" is gone: it was {A}', 'launch "b" is gone: it was {B}', 'launch "e" is new: {e}', 'launch "f" is new: {f}',
+      f'file "one" is gone: it was {content(FILES["one"])}',
+      r'file "a \"b\"\n" is gone: it was ' + content(FILES[ODD]), f'file "more" is new: {content(MORE)}']),
+]
+
+
+def change(program: str, launches: list[str], paths: dict[str, str], files: dict[str, bytes], lines: list[str]) -> list[str]:
+    here = folder()
+    keep(program, here)
+    was = values(program, here)
+    for name, data in files.items():
+        here.put(name, data)
+    here.put("m.toml", manifest(launches, paths))
+    now = values(program, here)
+    known = {name.upper(): value for name, value in was.items()} | now
+    expected = [re.sub(r"\{(\w+)\}", lambda name: known[name[1]], line) for line in lines]
+    wrong = differs("a manifest", here.run("kept.json", "m.toml", start=START, RIM=program),
+                    (int(bool(lines)), "".join(line + "\n" for line in expected), ""))
+    # two reports give the same lines
+    here.put("now.json", made(program, here, "--json", "m.toml").encode())
+    return wrong + differs("a report", here.run("--", "kept.json", "now.json", start=START, RIM="/none/rim"),
+                           (int(bool(lines)), "".join(line + "\n" for line in expected), ""))
+
+
+# ---- reports
+
+
+def report(program: str, here: Folder) -> dict:
+    keep(program, here)
+    return json.loads(here.read("kept.json"))
+
+
+def of_version(table: dict, version: int) -> dict:
+    """The report as earlier versions had it."""
+    old = {key: copy.deepcopy(table[key]) for key in ("launches", "pages")} | {"version": version}
+    for each in old["launches"]:
+        if version == 1:
+            each.pop("rim_base64", None)
+    return old
+
+
+def versions(program: str) -> list[str]:
+    """Reports without files: values alone are compared, and that is said."""
+    here = folder()
+    now, wrong = report(program, here), []
+    for version in (1, 2):
+        said = "rim-compare: the kept report has version %d, the other one version %d: values alone are compared, since versions 1 and 2 " \
+               "have no files\n"
+        old = of_version(now, version)
+        here.put("old.json", json.dumps(old, indent=2).encode())
+        wrong += differs(f"version {version}, the same", here.run("old.json", "m.toml", start=START, RIM=program), (0, "", said % (version, 3)))
+        wrong += differs(f"version {version} now", here.run("kept.json", "old.json", start=START), (0, "", said % (3, version)))
+        old["launches"][3]["rim"] = "5a" * 32
+        here.put("old.json", json.dumps(old).encode())
+        line = f'launch "d" has another value: sha256 {now["launches"][3]["rim"]}, was sha256 {"5a" * 32}\n'
+        wrong += differs(f"version {version}, a value", here.run("old.json", "m.toml", start=START, RIM=program), (1, line, said % (version, 3)))
+        here.put("older.json", json.dumps(of_version(now, 1)).encode())
+        wrong += differs(f"versions {version} and 1", here.run("old.json", "older.json", start=START), (1, line, said % (version, 1)))
+    return wrong
+
+
+def programs(program: str) -> list[str]:
+    """Another program is said, and is no difference."""
+    here = folder()
+    now = report(program, here)
+    here.put("kept.json", json.dumps(now | {"program": "rim 0.1.0 (2026-01-02)"}).encode())
+    wrong = differs("another program", here.run("kept.json", "m.toml", start=START, RIM=program),
+                    (0, "", f'rim-compare: the program is "{now["program"]}", was "rim 0.1.0 (2026-01-02)"\n'))
+    said = subprocess.run([program, "--version"], capture_output=True, text=True, check=True).stdout.rstrip("\n")
+    return wrong + differs("what it says of itself", now["program"], said)
+
+
+def put_in(*path, value):
+    """A change of a report: another value at a place in it."""
+    def change_it(table: dict):
+        for key in path[:-1]:
+            table = table[key]
+        table[path[-1]] = value
+    return change_it
+
+
+def taken_out(*path):
+    def change_it(table: dict):
+        for key in path[:-1]:
+            table = table[key]
+        del table[path[-1]]
+    return change_it
+
+
+MALFORMED = [
+    ("no version", taken_out("version"), "version is missing, or is no whole number"),
+    ("version true", put_in("version", value=True), "version is missing, or is no whole number"),
+    ("version 4", put_in("version", value=4), "version is 4, expected one of 1, 2, 3"),
+    ("version 0", put_in("version", value=0), "version is 0, expected"),
+    ("no launches", taken_out("launches"), "launches is missing, or is no array"),
+    ("launches of numbers", put_in("launches", 0, value=3), "name is missing, or is no text"),
+    ("no name", taken_out("launches", 0, "name"), "name is missing, or is no text"),
+    ("a name twice", put_in("launches", 1, "name", value="a"), 'two launches have the name "a"'),
+    ("no algorithm", taken_out("launches", 0, "algorithm"), "algorithm is missing, or is no text"),
+    ("another algorithm", put_in("launches", 0, "algorithm", value="sha384"), 'algorithm is "sha384"'),
+    ("the other algorithm", put_in("launches", 0, "algorithm", value="sha512"), "rim is "),
+    ("no value", taken_out("launches", 0, "rim"), "rim is missing, or is no text"),
+    ("upper case digits", lambda table: put_in("launches", 0, "rim", value=table["launches"][0]["rim"].upper())(table), "rim is "),
+    ("a digit more", lambda table: put_in("launches", 0, "rim", value=table["launches"][0]["rim"] + "0")(table), "rim is "),
+    ("a refusal that is no word", put_in("launches", 2, "refused", value=""), 'refused is ""'),
+    ("no files", taken_out("files"), "files is missing, or is no array"),
+    ("no path", taken_out("files", 0, "path"), "path is missing, or is no text"),
+    ("no size", put_in("files", 0, "bytes", value="1"), "bytes is missing, or is no whole number"),
+    ("no digest", put_in("files", 0, "sha256", value="00"), 'sha256 is "00"'),
+    ("a path with two contents", put_in("files", 1, "path", value="one"), 'the file "one" is there twice, with other contents'),
+    ("no program", taken_out("program"), "program is missing, or is no text"),
+]
+
+
+def malformed(program: str) -> list[str]:
+    here = folder()
+    now, wrong = report(program, here), []
+    for name, change_it, text in MALFORMED:
+        table = copy.deepcopy(now)
+        change_it(table)
+        here.put("bad.json", json.dumps(table).encode())
+        for given in (("bad.json", "m.toml"), ("kept.json", "bad.json")):
+            status, out, said = here.run(*given, start=START, RIM=program)
+            if (status, out, said.startswith(f'rim-compare: "bad.json": {text}'), said.count("\n")) != (3, "", True, 1):
+                wrong.append(f"{name}, {given}: {status} {out!r} {said!r}")
+    return wrong
+
+
+# ---- words and faults
+
+BAD = {"key.toml": manifest(LAUNCHES, PATHS).replace(b"s2sz", b"ss2z", 1), "toml.toml": b"rim_manifest = ", "gone-file.toml":
+       manifest(LAUNCHES, PATHS | {"one": "none"}), "array.json": b"[]", "cut.json": b'{"files":[', "deep.json": b'{"a":' + b"[" * 100_000,
+       "bytes.json": b"{\xff\xfe}", "empty": b""}
+WORDS = [
+    ([], 2, "usage: rim-compare REPORT MANIFEST"),
+    (["kept.json"], 2, "1 operand, expected REPORT and MANIFEST, or two reports"),
+    (["kept.json", "m.toml", "m.toml"], 2, "3 operands, expected"),
+    (["--all", "kept.json", "m.toml"], 2, '"--all" is no option'),
+    (["--help", "--all"], 2, '"--all" is no option'),
+    (["gone.json", "m.toml"], 3, '"gone.json": No such file or directory'),
+    (["kept.json", "gone.toml"], 3, '"gone.toml": No such file or directory'),
+    (["kept.json", "."], 3, '".": Is a directory'),
+    (["m.toml", "kept.json"], 3, '"m.toml": it is no JSON'),
+    (["array.json", "m.toml"], 3, '"array.json": version is missing'),
+    (["cut.json", "m.toml"], 3, '"cut.json": it is no JSON'),
+    (["deep.json", "m.toml"], 3, '"deep.json": it is no JSON'),
+    (["bytes.json", "m.toml"], 3, '"bytes.json": it is no JSON'),
+    (["kept.json", "bytes.json"], 3, '"bytes.json": it is no JSON'),
+    (["kept.json", "key.toml"], 3, "rim: unknown-key; `rim check key.toml` says where"),
+    (["kept.json", "toml.toml"], 3, "rim: syntax; `rim check toml.toml` says where"),
+    (["kept.json", "gone-file.toml"], 3, "rim: file-unreadable; `rim check gone-file.toml` says where"),
+    (["kept.json", "empty"], 3, "rim: version; `rim check empty` says where"),
+]
+
+
+def words(program: str) -> list[str]:
+    here = folder(BAD)
+    keep(program, here)
+    wrong = []
+    for given, expected, text in WORDS:
+        status, out, said = here.run(*given, start=START, RIM=program)
+        if (status, out, text in said) != (expected, "", True):
+            wrong.append(f"{given[:2]}: {status} {out!r} {said!r}, expected {expected} {text!r}")
+        if given and (not said.startswith("rim-compare: ") or said.count("\n") != 1):
+            wrong.append(f"{given[:2]}: {said!r} is not one line")
+    for given, text in ((["--help"], "usage: rim-compare REPORT MANIFEST"), (["-V"], "rim-compare 0."), (["a", "b", "c", "-h"], "Status: 0")):
+        status, out, said = here.run(*given, start=START)
+        wrong += differs(given[0], (status, text in out, said), (0, True, ""))
+    for rim, text in (("/none/rim", 'no program "/none/rim" is found, expected it in the PATH or its path in the variable RIM'),
+                      ("/bin/false", '"/bin/false" --version: status 1'),
+                      ("/bin/true", '"/bin/true": it is no JSON (Expecting value: line 1 column 1 (char 0)), '
+                                    "expected a report of rim measure --json")):
+        wrong += differs(rim, here.run("kept.json", "m.toml", start=START, RIM=rim), (3, "", f"rim-compare: {text}\n"))
+    here.put("--", manifest(LAUNCHES, PATHS))
+    wrong += differs("a manifest of a name like an option", here.run("--", "kept.json", "--", start=START, RIM=program), (0, "", ""))
+    return wrong
+
+
+def faults(program: str) -> list[str]:
+    """A `rim` that has no memory, and one that is killed, are faults that are passed on."""
+    here = folder()
+    keep(program, here)
+    wrong = []
+    for body, said in (("echo 'rim: no-memory' >&2; exit 4", "rim: no-memory"), ("kill -9 $$", "rim: status -9")):
+        here.put("fake", f"#!/bin/sh\n[ \"$1\" = --version ] && exit 0\n{body}\n".encode(), is_program=True)
+        wrong += differs(body, here.run("kept.json", "m.toml", start=START, RIM="./fake"), (3, "", f"rim-compare: {said}\n"))
+    return wrong
+
+
+# ---- how it is started
+
+
+def installed(program: str) -> list[str]:
+    """It finds its modules beside itself, or in ../share/rim, and `rim` of the PATH or beside itself."""
+    here = folder()
+    keep(program, here)
+    os.makedirs(os.path.join(here.path, "usr/bin"))
+    start = shutil.copy(START, os.path.join(here.path, "usr/bin/rim-compare"))
+    for name in ("vmm", "matcher", "comparer"):
+        shutil.copytree(os.path.join(TOP, name), os.path.join(here.path, "usr/share/rim", name), ignore=shutil.ignore_patterns("__pycache__"))
+    os.symlink(program, os.path.join(here.path, "usr/bin/rim"))
+    os.symlink(START, os.path.join(here.path, "link"))
+    wrong = differs("beside it", here.run("kept.json", "m.toml", start=start, RIM=""), (0, "", ""))
+    wrong += differs("a link", here.run("kept.json", "m.toml", start="./link", RIM=program), (0, "", ""))
+    kept = [path for path, _, _ in os.walk(os.path.join(here.path, "usr")) if path.endswith("__pycache__")]
+    wrong += differs("what is compiled", kept, [])
+    os.remove(os.path.join(here.path, "usr/share/rim/comparer/main.py"))
+    status, _, said = here.run("--help", start=start)
+    return wrong + differs("no modules", (status, "no folder comparer" in said), (1, True))
+
+
+def outputs(program: str) -> list[str]:
+    """An output that is full is a fault, and so is one that nobody reads."""
+    here = folder()
+    keep(program, here)
+    here.put("none.toml", b"rim_manifest = 1")
+    wrong = []
+    for output, said in (("/dev/full", "rim-compare: output: No space left on device\n"), ("closed", "")):
+        ends = os.pipe() if output == "closed" else (None, os.open(output, os.O_WRONLY))
+        if ends[0] is not None:
+            os.close(ends[0])
+        ran = subprocess.run([START, "kept.json", "none.toml"], cwd=here.path, stdout=ends[1], stderr=subprocess.PIPE, text=True, check=False,
+                             env=os.environ | {"RIM": program})
+        os.close(ends[1])
+        wrong += differs(output, (ran.returncode, ran.stderr), (3, said))
+    return wrong
+
+
+def documents(_program: str) -> list[str]:
+    """The man page has each option and each kind of line."""
+    with open(os.path.join(TOP, "docs", "rim-compare.1"), encoding="utf-8") as file:
+        page = re.sub(r"\s+", " ", file.read().replace("\\-", "-"))
+    with open(os.path.join(TOP, "comparer", "differ.py"), encoding="utf-8") as file:
+        kinds = re.findall(r'f"((?:is|has) [^:{"]+):', file.read())
+    wrong = differs("kinds of lines", len(kinds), 7)
+    return wrong + [f"docs/rim-compare.1: {name!r} is not there" for name in ("--help", "--version", *kinds) if name not in page]
+
+
+def all_tries(program: str):
+    for name, launches, paths, changed, lines in CHANGES:
+        yield name, lambda launches=launches, paths=paths, changed=changed, lines=lines: change(program, launches, paths, changed, lines)
+    for look in (versions, programs, malformed, words, faults, installed, outputs, documents):
+        yield look.__name__, lambda look=look: look(program)
+
+
+def run_all() -> int:
+    program = os.path.abspath(sys.argv[1] if len(sys.argv) > 1 else os.path.join(TOP, "crates", "rim", "out", "rim"))
+    if not os.path.exists(program):
+        raise SystemExit(f"{program} is not built")
+    with concurrent.futures.ThreadPoolExecutor(len(os.sched_getaffinity(0))) as pool:
+        waiting = [(name, pool.submit(tried, look)) for name, look in all_tries(program)]
+        outcomes = [(name, done.result()) for name, done in waiting]
+    for name, wrong in outcomes:
+        if wrong:
+            print(f"WRONG: {name}", *wrong, sep="\n  ")
+    failed = sum(bool(wrong) for _, wrong in outcomes)
+    print(f"{len(outcomes) - failed} passed, {failed} failed")
+    return int(failed > 0)
+
+
+if __name__ == "__main__":
+    sys.exit(run_all())
