@@ -4,7 +4,7 @@
 mod progress;
 
 use crate::progress::Progress;
-use rim_cli::{Opener, asks_for_bytes, report_terminal, report_unreadable, run};
+use rim_cli::{Opener, advise, asks_for_bytes, report_terminal, report_unreadable, run};
 use std::fs::File;
 use std::io;
 use std::io::{ErrorKind, IsTerminal};
@@ -38,22 +38,34 @@ impl Opener for FileOpener<'_> {
 
 fn main(rt: HostRuntime) -> ExitCode {
     let status = match words(&rt) {
-        Ok(Some(words)) => run(
-            &rt,
-            rt.alloc(),
-            &mut Progress::new(&rt, rt.stderr().is_terminal()),
-            words.as_slice(),
-            &mut FileOpener {
-                rt: &rt,
-                failure: None,
-            },
-            &mut io::writer(&rt),
-            &mut rt.stderr(),
-        ),
+        Ok(Some(words)) => run_words(&rt, words.as_slice()),
         Ok(None) => report_terminal(&mut rt.stderr()),
         Err(error) => report_unreadable(&error, &mut rt.stderr()),
     };
     ExitCode::from(status)
+}
+
+/// The exit status of a run that ends with a fault of the manifest, a file or the output.
+const FAULT: u8 = 3;
+
+/// Runs the program on the words of a command line, and answers the exit status. A fault is followed by what helps, where a
+/// person reads it.
+fn run_words(rt: &HostRuntime, words: &[String]) -> u8 {
+    let is_terminal = rt.stderr().is_terminal();
+    let mut opener = FileOpener { rt, failure: None };
+    let status = run(
+        rt,
+        rt.alloc(),
+        &mut Progress::new(rt, is_terminal),
+        words,
+        &mut opener,
+        &mut io::writer(rt),
+        &mut rt.stderr(),
+    );
+    if status == FAULT && is_terminal {
+        advise(rt.alloc(), words, &mut opener, &mut rt.stderr());
+    }
+    status
 }
 
 /// The words of the command line, of which the first is the program's name; or `None` where they ask for bytes that are no

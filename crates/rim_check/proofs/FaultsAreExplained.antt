@@ -31,7 +31,8 @@ explains-all fault listed shown text same says least = record {
 }
 
 -- a check of what a document reads as is one of the manifest
-pub of-document : (bytes : List ℕ) (ms : Members) (a : Answer) (m : ManifestCheck) → document_of bytes ≡ Some ms → read_of ms ≡ a → IsCheckOf a m → IsCheckOf (manifest_of bytes) m
+pub of-document : (bytes : List ℕ) (ms : Members) (a : Answer) (m : ManifestCheck) → document_of bytes ≡ Some ms → read_of ms ≡ a → IsCheckOf a m
+    → IsCheckOf (manifest_of bytes) m
 of-document bytes ms a m document read is = subst (λ (x : Answer). IsCheckOf x m) (sym (ap answer_of document ∙ read)) is
 
 pub of-none : (bytes : List ℕ) (m : ManifestCheck) → document_of bytes ≡ None → IsCheckOf (Err Syntax) m → IsCheckOf (manifest_of bytes) m

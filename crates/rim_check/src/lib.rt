@@ -28,5 +28,6 @@ mod warnings;
 pub use found::{LaunchCheck, ReleaseFault};
 pub use launches::check_launches;
 pub use manifest::{ManifestCheck, check_manifest};
+pub use nearest::Nearest;
 pub use rim_accepted::LaunchReason;
 pub use rim_line::{Readable, push_file};

@@ -21,7 +21,7 @@ pub struct Nearest<'a, 'k> {
 
 impl<'a, 'k> Nearest<'a, 'k> {
     /// No known word yet.
-    pub(crate) fn new(word: &'a str) -> Nearest<'a, 'k> {
+    pub fn new(word: &'a str) -> Nearest<'a, 'k> {
         Nearest {
             word,
             found: None,
@@ -30,13 +30,13 @@ impl<'a, 'k> Nearest<'a, 'k> {
     }
 
     /// Takes a known word as the one that is meant.
-    pub(crate) fn take(&mut self, known: &'k str) {
+    pub fn take(&mut self, known: &'k str) {
         self.distance = 0;
         self.found = Some(known);
     }
 
     /// Adds a known word. One that differs by case, `-` and `_` alone is as near as can be.
-    pub(crate) fn add(&mut self, alloc: Global, known: &'k str) -> Result<(), AllocError> {
+    pub fn add(&mut self, alloc: Global, known: &'k str) -> Result<(), AllocError> {
         if self.word.len() > LONGEST || known.len() > LONGEST {
             return Ok(());
         }

@@ -148,7 +148,7 @@ fn push_line(
 }
 
 /// What is known of a file that cannot be read, after a colon.
-fn failure_text(
+pub fn failure_text(
     alloc: Global,
     path: &str,
     fault: Fault,

@@ -1,6 +1,7 @@
 //! The command line of `rim`, and a run of the program over any files and streams.
 #![tactic(auto)]
 
+mod advice;
 mod answer;
 mod checking;
 mod definition;
@@ -14,6 +15,7 @@ mod program;
 mod replaying;
 mod words;
 
+pub use advice::advise;
 pub use file::Opener;
 pub use in_memory::measure_in_memory;
 pub use laws::{answers_are_printed, examples_are_read, the_smallest_manifest_is_read};

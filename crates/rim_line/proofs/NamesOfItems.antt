@@ -20,7 +20,8 @@ abbrev name_at : Option Data → ℕ → List ℕ
 name_at launch item = unwrap_or (option_and_then (λ own. slice_get own item) (option_map own_names launch)) []
 
 pub name-at : (ms : Members) (launch item : ℕ) → item_name (item_names ms) launch item ≡ name_at (slice_get (launches_at ms) launch) item
-name-at ms launch item = ap (λ (o : Option (List (List ℕ))). unwrap_or (option_and_then (λ own. slice_get own item) o) []) (slice_get-map own_names (launches_at ms) launch)
+name-at ms launch item = ap (λ (o : Option (List (List ℕ))). unwrap_or (option_and_then (λ own. slice_get own item) o) []) (slice_get-map own_names
+    (launches_at ms) launch)
 
 by-table : (o : Option Data) (own : Members) (item : ℕ) → table_of o ≡ Some own
     → name_at o item ≡ unwrap_or (option_map name_of (slice_get (items_in (get_member (codes "item") own)) item)) []
@@ -40,4 +41,5 @@ by-table (Some (table ms)) own item e =
 pub item-named : (ms own : Members) (launch item : ℕ) (found : Option Data) → table_of (slice_get (launches_at ms) launch) ≡ Some own
     → slice_get (items_in (get_member (codes "item") own)) item ≡ found → unwrap_or (option_map name_of found) [] ≡ item_name (item_names ms) launch item
 item-named ms own launch item found there at =
-    sym (name-at ms launch item ∙ by-table (slice_get (launches_at ms) launch) own item there ∙ ap (λ (o : Option Data). unwrap_or (option_map name_of o) []) at)
+    sym (name-at ms launch item ∙ by-table (slice_get (launches_at ms) launch) own item there
+    ∙ ap (λ (o : Option Data). unwrap_or (option_map name_of o) []) at)

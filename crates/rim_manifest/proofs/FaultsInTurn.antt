@@ -1,5 +1,6 @@
 -- Faults that are found one after another, and what is kept of them in the end.
-use Rattle.std.proofs.Common.{◌≡◌, ℕ, ◌+◌, ◌<◌, ◌≤◌, List, [], ◌∷◌, ◌++◌, length, get_or, drop, map, Bool, true, false, ◌||◌, Option, Some, None, refl, ap, append_assoc}
+use Rattle.std.proofs.Common.{◌≡◌, ℕ, ◌+◌, ◌<◌, ◌≤◌, List, [], ◌∷◌, ◌++◌, length, get_or}
+use Rattle.std.proofs.Common.{drop, map, Bool, true, false, ◌||◌, Option, Some, None, refl, ap, append_assoc}
 use Rattle.std.proofs.Common.{append-nil, arith, length-append, subst, sym, ◌∙◌}
 use Rattle.std.specs.List.{flat_map, list_any}
 use Rattle.std.proofs.lemmas.List.{drop_more, map-append}
@@ -80,8 +81,10 @@ one_listed fs listed more f are = record {
       let b : length (listed ++ f ∷ []) ≡ length listed + 1 = length-append listed (f ∷ []) in
       let c : length (fs ++ f ∷ []) ≡ length fs + 1 = length-append fs (f ∷ []) in
       omega arith;
-  all = λ few. ap (λ (gs : List ManifestFault). gs ++ f ∷ [])
-      (are.all (let c : length (fs ++ f ∷ []) ≡ length fs + 1 = length-append fs (f ∷ []) in let few : length (fs ++ f ∷ []) ≤ FINDING_LIMIT = few in omega arith));
+  all = λ few.
+      let count : length (fs ++ f ∷ []) ≡ length fs + 1 = length-append fs (f ∷ []) in
+      let most : length (fs ++ f ∷ []) ≤ FINDING_LIMIT = few in
+      ap (λ (gs : List ManifestFault). gs ++ f ∷ []) (are.all (omega arith));
 }
 
 -- the list has no room, and none in it comes behind the fault

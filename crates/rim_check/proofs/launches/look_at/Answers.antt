@@ -18,5 +18,6 @@ returns-in-Err c =
     let refused = rw (c.in-Err.is, c.launch.ensures) at c.in_ok-accepted.ensures.reason in
     on_ok_weaker _ (λ (adds : AddsLine
     (refusal_said c.args.readable.now.names c.args.launch.now c.in-Err.reason _) c.args.found.now.refusals.items c.push_refused.new.text.items).
-    refused-found c.args.readable.now.names (bytes_of_files c.args.files.now) c.args.launch.now c.in-Err.reason _ c.args.found.now _ refused adds refl refl refl)
+    refused-found c.args.readable.now.names (bytes_of_files c.args.files.now) c.args.launch.now c.in-Err.reason _ c.args.found.now _ refused adds refl refl
+    refl)
     c.push_refused.ensures

@@ -5,8 +5,10 @@ use Rattle.rim_cli.proofs.checking.push_line.Goals as goal
 
 pub returns : goal.returns
 returns c =
-    on_ok_weaker _ (λ (adds : AddsLine (file_said c.args.path.now c.kind.result.now c.as_str.result.now) c.args.text.now.items c.push_file.new.text.items). record {
+    on_ok_weaker _ (λ (adds : AddsLine (file_said c.args.path.now c.kind.result.now c.as_str.result.now) c.args.text.now.items c.push_file.new.text.items).
+    record {
       hint = c.as_str.result.now;
-      adds = subst (λ (word : List ℕ). AddsLine (file_said c.args.path.now word c.as_str.result.now) c.args.text.now.items c.push_file.new.text.items) c.kind.ensures adds;
+      adds = subst (λ (word : List ℕ). AddsLine (file_said c.args.path.now word c.as_str.result.now) c.args.text.now.items c.push_file.new.text.items)
+          c.kind.ensures adds;
     })
     c.push_file.ensures

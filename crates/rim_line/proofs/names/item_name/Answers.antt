@@ -11,8 +11,10 @@ returns-in-Some-get c =
     let values = c.entries.result.now in
     let found : slice_get values c.args.item ≡ Some c.in-Some-get.value.now =
     slice_get_read values (length values) c.args.item c.in-Some-get.value.now refl c.in-Some-get.ensures.lookup.3.0 c.in-Some-get.ensures.lookup.1 in
-    let at : slice_get (map view values) c.args.item ≡ Some (view c.in-Some-get.value.now) = slice_get-map view values c.args.item ∙ ap (option_map view) found in
-    c.name.ensures ∙ item-named (table_view c.args.document.now.table) _ c.args.launch c.args.item (Some (view c.in-Some-get.value.now)) (sym c.in-Some.ensures) (rw c.entries.ensures at at)
+    let at : slice_get (map view values) c.args.item ≡ Some (view c.in-Some-get.value.now) = slice_get-map view values c.args.item
+    ∙ ap (option_map view) found in
+    c.name.ensures ∙ item-named (table_view c.args.document.now.table) _ c.args.launch c.args.item (Some (view c.in-Some-get.value.now)) (sym
+    c.in-Some.ensures) (rw c.entries.ensures at at)
 
 pub returns-in-None : goal.returns-in-None
 returns-in-None c =

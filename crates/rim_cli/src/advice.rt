@@ -1,0 +1,122 @@
+//! What is said after a fault to a person at a terminal: which file it is about, or how to see where the fault is. That it is true is
+//! tested alone.
+use crate::checking::{check, failure_text};
+use crate::file::{Opener, Unread, read_or_why};
+use crate::words::{Request, command};
+use refusal::NoMemory;
+use rim_check::Nearest;
+use rim_line::{Line, Quoted};
+use rim_release::{Release, read_manifest};
+use std::alloc::Global;
+use std::convert::AsStr;
+use std::fmt::Write as _;
+use std::io::Write;
+
+/// Writes what helps after a run of these words that ended with status 3. The files are read again, and nothing is written where none
+/// of them is at fault.
+pub fn advise<S: AsStr, O: Opener, E: Write>(
+    alloc: Global,
+    words: &[S],
+    opener: &mut O,
+    err: &mut E,
+) {
+    let Ok(request) = command(alloc, words) else {
+        return;
+    };
+    let Ok(advice) = advice(alloc, opener, &request) else {
+        return;
+    };
+    if !advice.as_slice().is_empty() {
+        let _ = err.write_all(b"  ");
+        let _ = err.write_all(advice.as_slice());
+        let _ = err.write_all(b"\n");
+    }
+}
+
+/// The line that helps, without what is in front of it; none is empty.
+fn advice<O: Opener>(
+    alloc: Global,
+    opener: &mut O,
+    request: &Request<'_>,
+) -> Result<Line, NoMemory> {
+    match *request {
+        Request::Replay { file } | Request::Image { file } | Request::Fdt { file } => {
+            match read_or_why(alloc, opener, file) {
+                Ok(_) => Ok(Line::new(alloc)),
+                Err(why) => file_advice(alloc, file, why),
+            }
+        }
+        Request::Check { manifest, .. } => match read_or_why(alloc, opener, manifest) {
+            Ok(_) => Ok(Line::new(alloc)),
+            Err(why) => file_advice(alloc, manifest, why),
+        },
+        Request::Measure { manifest, .. } | Request::Audit { manifest } => {
+            manifest_advice(alloc, opener, manifest, None)
+        }
+        Request::List { manifest, launch }
+        | Request::Trace { manifest, launch }
+        | Request::Dtb { manifest, launch } => {
+            manifest_advice(alloc, opener, manifest, Some(launch))
+        }
+    }
+}
+
+/// What helps where a manifest, a file of it or the name of a launch is at fault.
+fn manifest_advice<O: Opener>(
+    alloc: Global,
+    opener: &mut O,
+    manifest: &str,
+    launch: Option<&str>,
+) -> Result<Line, NoMemory> {
+    let bytes = match read_or_why(alloc, opener, manifest) {
+        Ok(bytes) => bytes,
+        Err(why) => return file_advice(alloc, manifest, why),
+    };
+    if let (Ok(release), Some(launch)) = (read_manifest(alloc, bytes.as_slice()), launch) {
+        if release.launch_named(launch).is_none() {
+            return launch_advice(alloc, manifest, launch, &release);
+        }
+    }
+    match check(alloc, opener, manifest, true) {
+        Ok(answer) if answer.status != 0 => check_advice(alloc, manifest),
+        _ => Ok(Line::new(alloc)),
+    }
+}
+
+/// Why a file cannot be read.
+fn file_advice(alloc: Global, path: &str, why: Unread) -> Result<Line, NoMemory> {
+    let text = failure_text(alloc, path, why.fault, why.failure)?;
+    let mut line = Line::new(alloc);
+    if !text.is_empty() {
+        line.push_path(path)?;
+        line.push_text(text.as_str())?;
+    }
+    Ok(line)
+}
+
+/// That a manifest has no launch of a name, and the nearest name.
+fn launch_advice(
+    alloc: Global,
+    manifest: &str,
+    launch: &str,
+    release: &Release,
+) -> Result<Line, NoMemory> {
+    let mut nearest = Nearest::new(launch);
+    for other in release.all_launches() {
+        nearest.add(alloc, other.name())?;
+    }
+    let mut line = Line::new(alloc);
+    line.push_path(manifest)?;
+    let quoted = Quoted(launch);
+    write!(line, " has no launch {quoted}{nearest}").map_err(|_| NoMemory)?;
+    Ok(line)
+}
+
+/// Which command says where a manifest is at fault.
+fn check_advice(alloc: Global, manifest: &str) -> Result<Line, NoMemory> {
+    let mut line = Line::new(alloc);
+    line.push_text("`rim check ")?;
+    line.push_path(manifest)?;
+    line.push_text("` says where")?;
+    Ok(line)
+}
