@@ -36,36 +36,34 @@ impl Opener for FileOpener<'_> {
     }
 }
 
-fn main(rt: HostRuntime) -> ExitCode {
-    let status = match words(&rt) {
-        Ok(Some(words)) => run_words(&rt, words.as_slice()),
-        Ok(None) => report_terminal(&mut rt.stderr()),
-        Err(error) => report_unreadable(&error, &mut rt.stderr()),
-    };
-    ExitCode::from(status)
-}
-
 /// The exit status of a run that ends with a fault of the manifest, a file or the output.
 const FAULT: u8 = 3;
 
-/// Runs the program on the words of a command line, and answers the exit status. A fault is followed by what helps, where a
-/// person reads it.
-fn run_words(rt: &HostRuntime, words: &[String]) -> u8 {
+fn main(rt: HostRuntime) -> ExitCode {
+    let words = match words(&rt) {
+        Ok(Some(words)) => words,
+        Ok(None) => return ExitCode::from(report_terminal(&mut rt.stderr())),
+        Err(error) => return ExitCode::from(report_unreadable(&error, &mut rt.stderr())),
+    };
     let is_terminal = rt.stderr().is_terminal();
-    let mut opener = FileOpener { rt, failure: None };
+    let mut opener = FileOpener {
+        rt: &rt,
+        failure: None,
+    };
     let status = run(
-        rt,
+        &rt,
         rt.alloc(),
-        &mut Progress::new(rt, is_terminal),
-        words,
+        &mut Progress::new(&rt, is_terminal),
+        words.as_slice(),
         &mut opener,
-        &mut io::writer(rt),
+        &mut io::writer(&rt),
         &mut rt.stderr(),
     );
+    // A person at a terminal is told where to look.
     if status == FAULT && is_terminal {
-        advise(rt.alloc(), words, &mut opener, &mut rt.stderr());
+        advise(rt.alloc(), words.as_slice(), &mut opener, &mut rt.stderr());
     }
-    status
+    ExitCode::from(status)
 }
 
 /// The words of the command line, of which the first is the program's name; or `None` where they ask for bytes that are no

@@ -86,10 +86,11 @@ impl Line {
         if !self.is_due(now) {
             return Ok(());
         }
+        let up = self.up();
         self.last = Some(now);
         self.is_shown = true;
         eprint!(rt;
-            "\rrim: {} of {} pages, {} of {} launches",
+            "{up}rim: {} of {} pages, {} of {} launches\x1b[K\n",
             self.pages, self.all_pages, self.launches, self.all_launches
         )
     }
@@ -101,12 +102,19 @@ impl Line {
         }
     }
 
-    /// Removes the line, if one was shown: back to its beginning, and all from there on is erased.
+    /// What leads back to the line that is shown. The cursor stands on the one under it, so that a run which is broken off, as by
+    /// Ctrl-C, leaves it at the beginning of a line.
+    fn up(&self) -> &'static str {
+        if self.is_shown { "\x1b[A" } else { "" }
+    }
+
+    /// Removes the line, if one was shown: back to it, and all from there on is erased.
     fn remove(&mut self, rt: &impl Eprint) -> io::Result<()> {
         if !self.is_shown {
             return Ok(());
         }
+        let up = self.up();
         self.is_shown = false;
-        eprint!(rt; "\r\x1b[K")
+        eprint!(rt; "{up}\x1b[K")
     }
 }

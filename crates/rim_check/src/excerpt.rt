@@ -3,13 +3,17 @@ ghost use Rattle.std.specs.Prelude.{◌≡◌, IfOk};
 ghost use Rattle.rim_manifest.specs.Faults.{lowest};
 ghost use Rattle.rim_manifest.specs.inside.Kept.{faults_in};
 
+use crate::finding_detail::lacks_initrd;
+use crate::other_keys::is_meant;
 use refusal::NoMemory;
 use rim_manifest::{
-    Document, FaultList, Finding, Form, ManifestFault, Place, Rule, Subject, TOP_RULES, is_lower,
+    Document, FaultList, Finding, Form, ManifestFault, Place, Rule, Subject, TOP_RULES, cell,
+    is_lower,
 };
-use std::alloc::Global;
+use std::alloc::{AllocError, Global};
+use toml::Table;
 
-/// The key of the format's number.
+/// The key of the format's number. That it is not 1 or 2 is said also where it is not given or is no number.
 const VERSION_KEY: &str = "rim_manifest";
 
 /// Faults that have a line, and how many others there are.
@@ -34,7 +38,7 @@ impl Excerpt {
             self.least = Some(finding.fault);
             return Ok(());
         }
-        match standing(document, finding) {
+        match standing(*self.findings.allocator(), document, finding)? {
             Standing::Own => self.findings.push(*finding)?,
             Standing::Repeated => {}
             Standing::PastLimit => self.more = self.more.saturating_add(1),
@@ -76,22 +80,53 @@ enum Standing {
 }
 
 /// Whether a fault that is not the lowest so far has a line.
-fn standing(document: &Document, finding: &Finding) -> Standing {
-    if is_repeated(finding) {
+fn standing(alloc: Global, document: &Document, finding: &Finding) -> Result<Standing, AllocError> {
+    if is_past_limit(document, finding.place) {
+        return Ok(Standing::PastLimit);
+    }
+    let is_repeated = match document.table(finding.place) {
+        Some(table) => is_repeated(alloc, document, table, finding)?,
+        None => false,
+    };
+    Ok(if is_repeated {
         Standing::Repeated
-    } else if is_past_limit(document, finding.place) {
-        Standing::PastLimit
     } else {
         Standing::Own
+    })
+}
+
+/// Whether an earlier line says the cause of a fault.
+fn is_repeated(
+    alloc: Global,
+    document: &Document,
+    table: &Table,
+    finding: &Finding,
+) -> Result<bool, AllocError> {
+    match (finding.subject, finding.fault) {
+        (Subject::Key { key, .. }, fault) if key == VERSION_KEY => {
+            Ok(fault != ManifestFault::Version)
+        }
+        (Subject::Key { key, .. }, ManifestFault::MissingKey) => {
+            is_meant(alloc, document, finding.place, table, key)
+        }
+        (Subject::Asked, _) => is_ram_at_fault(alloc, document, table, finding),
+        _ => Ok(false),
     }
 }
 
-/// Whether a fault is the second one of the format's number: that it is not 1 or 2 is said of it always, where it is not given or
-/// no number too.
-fn is_repeated(finding: &Finding) -> bool {
-    match finding.subject {
-        Subject::Key { key, .. } => key == VERSION_KEY && finding.fault != ManifestFault::Version,
-        _ => false,
+/// Whether a devicetree asks for RAM alone, which is given, but under another key or not as an array.
+fn is_ram_at_fault(
+    alloc: Global,
+    document: &Document,
+    launch: &Table,
+    finding: &Finding,
+) -> Result<bool, AllocError> {
+    if lacks_initrd(launch) {
+        return Ok(false);
+    }
+    match cell(launch, "ram") {
+        Some(ram) => Ok(!ram.is_array()),
+        None => is_meant(alloc, document, finding.place, launch, "ram"),
     }
 }
 

@@ -6,7 +6,7 @@ use crate::other_keys::write_other_keys;
 use crate::place::text_at;
 use crate::shown::{Shown, bad_element};
 use crate::steps::{write_step, write_steps};
-use rim_launch::Role;
+use rim_launch::{ITEM_LIMIT, Role};
 use rim_line::{Line, Quoted};
 use rim_manifest::{
     Document, Finding, Form, ManifestFault, Subject, asks_for, cell, entries, name, role,
@@ -108,20 +108,44 @@ fn has_path(file: &Value, path: &str) -> bool {
 /// What a launch's devicetree asks for and the launch has not.
 fn write_asked(line: &mut Line, launch: &Table) -> fmt::Result {
     let parts = entries(launch, "item");
-    let has_initrd = parts.iter().any(|part| role(part) == Role::Initrd);
-    let lacks_initrd = asks_for(parts, "initrd") && !has_initrd;
     let lacks_ram = asks_for(parts, "memory") && entries(launch, "ram").is_empty();
-    match (lacks_initrd, lacks_ram) {
-        (true, true) => write!(
-            line,
-            ": its devicetree asks for initrd and for memory, \
-             and it has no item of kind \"initrd\" and no ram"
-        ),
-        (true, false) => write!(
-            line,
-            ": its devicetree asks for initrd, and it has no item of kind \"initrd\""
-        ),
+    match (lacks_initrd(launch), lacks_ram) {
+        (true, true) => {
+            write!(
+                line,
+                ": its devicetree asks for initrd and for memory, \
+                 and it has no item of kind \"initrd\" and no ram"
+            )?;
+            write_twice(line, parts)
+        }
+        (true, false) => {
+            write!(
+                line,
+                ": its devicetree asks for initrd, and it has no item of kind \"initrd\""
+            )?;
+            write_twice(line, parts)
+        }
         (false, true) => write!(line, ": its devicetree asks for memory, and it has no ram"),
         (false, false) => Ok(()),
     }
+}
+
+/// Whether a launch's devicetree asks for an initrd, and the launch has none.
+pub(crate) fn lacks_initrd(launch: &Table) -> bool {
+    let parts = entries(launch, "item");
+    let has_initrd = parts.iter().any(|part| role(part) == Role::Initrd);
+    asks_for(parts, "initrd") && !has_initrd
+}
+
+/// Adds the first item that has the kind of an earlier one, where a kind may be there once: it may be meant as the initrd.
+fn write_twice(line: &mut Line, parts: &[Value]) -> fmt::Result {
+    for (number, part) in parts.iter().enumerate().take(ITEM_LIMIT) {
+        let kind = role(part);
+        let is_single = !matches!(kind, Role::Raw | Role::Unknown);
+        if is_single && parts.iter().take(number).any(|other| role(other) == kind) {
+            let quoted = Quoted(name(part));
+            return write!(line, " (item {quoted} is a second one of its kind)");
+        }
+    }
+    Ok(())
 }

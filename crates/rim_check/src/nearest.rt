@@ -29,6 +29,11 @@ impl<'a, 'k> Nearest<'a, 'k> {
         }
     }
 
+    /// The nearest one so far, if one is near.
+    pub fn found(&self) -> Option<&'k str> {
+        self.found
+    }
+
     /// Takes a known word as the one that is meant.
     pub fn take(&mut self, known: &'k str) {
         self.distance = 0;

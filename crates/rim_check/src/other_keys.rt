@@ -9,7 +9,7 @@ use rim_manifest::{
     DTB_RULES, Document, FILE_RULES, Form, ITEM_RULES, Place, REC_RULES, Rule, TOP_RULES,
     UNKNOWN_RULES,
 };
-use std::alloc::Global;
+use std::alloc::{AllocError, Global};
 use std::fmt;
 use std::fmt::Write;
 use toml::Table;
@@ -155,9 +155,63 @@ fn alias_in(rules: &[Rule], word: &str) -> Option<OtherKey> {
 
 /// Adds the key of these rules that is nearest to another one.
 fn write_nearest(alloc: Global, line: &mut Line, rules: &[Rule], key: &str) -> fmt::Result {
+    let nearest = nearest_in(alloc, rules, key)?;
+    write!(line, "{nearest}")
+}
+
+/// The key of these rules that is nearest to another one.
+fn nearest_in<'a>(
+    alloc: Global,
+    rules: &[Rule],
+    key: &'a str,
+) -> Result<Nearest<'a, 'static>, AllocError> {
     let mut nearest = Nearest::new(key);
     for rule in rules {
         nearest.add(alloc, rule.0)?;
     }
-    write!(line, "{nearest}")
+    Ok(nearest)
+}
+
+/// Whether a key of a table that no rule has is shown as one that is meant to be this key.
+pub(crate) fn is_meant(
+    alloc: Global,
+    document: &Document,
+    place: Place,
+    table: &Table,
+    key: &str,
+) -> Result<bool, AllocError> {
+    let rules = rules_of(document, place, table);
+    let mut listed = 0;
+    for other in table.keys() {
+        if form_in(rules, other.as_str()).is_some() {
+            continue;
+        }
+        if listed == MOST_KEYS {
+            return Ok(false);
+        }
+        listed += 1;
+        if means(alloc, document, place, rules, other.as_str(), key)? {
+            return Ok(true);
+        }
+    }
+    Ok(false)
+}
+
+/// Whether a word in place of a key is another word for it, or nearest to it.
+fn means(
+    alloc: Global,
+    document: &Document,
+    place: Place,
+    rules: &[Rule],
+    word: &str,
+    key: &str,
+) -> Result<bool, AllocError> {
+    match other_key(document, place, rules, word) {
+        OtherKey::Alias { key: meant, .. } => Ok(meant == key),
+        OtherKey::Slip => {
+            let nearest = nearest_in(alloc, rules, word)?;
+            Ok(nearest.found() == Some(key))
+        }
+        OtherKey::Kind | OtherKey::Later | OtherKey::Elsewhere => Ok(false),
+    }
 }
