@@ -14,7 +14,7 @@ use Rattle.rim_report.specs.Pages.{page_keys}
 use Rattle.rim_report.specs.declared.fault.StartFault.TheVariants as start
 use Rattle.rim_report.specs.declared.pages.TheConstants.{DISTINCT_LIMIT}
 use Rattle.rim_check.specs.Details.{reason_detail}
-use Rattle.rim_line.specs.Lines.{Saying, SayInTurn}
+use Rattle.rim_line.specs.Lines.{AddsLine, Saying, SayInTurn}
 use Rattle.rim_line.specs.Readables.{item_name, item_names_in}
 use Rattle.rim_check.specs.Warned.{ShowsWarnings}
 use Rattle.rim_check.specs.declared.found.LaunchCheck.{LaunchCheck}
@@ -69,6 +69,11 @@ refusal_said names l why hint = record {
   word = audit_kind_of (audit_fault_of why);
   detail = Some ((codes ": " ++ reason_detail (item_name names l.launch.number) l.launch.config why) ++ hint);
 }
+
+-- a text has that line more, with a hint of which nothing is known
+pub record AddsRefusal (names : List (List (List ℕ))) (l : NamedData) (why : LaunchReason) (old new : List ℕ) : Type 0 where
+  pub hint : List ℕ
+  pub adds : AddsLine (refusal_said names l why hint) old new
 
 -- what is said of a launch: nothing where it is accepted, else its refusal, with a hint of which nothing is known
 abbrev pub IsSaidOf : List (List (List ℕ)) → List (List ℕ) → NamedData → List Saying → Type 0

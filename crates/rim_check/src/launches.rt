@@ -1,9 +1,9 @@
 //! The launches of a release that are refused.
-ghost use Rattle.std.specs.Prelude.{◌≡◌, ◌++◌, IfOk, Ok, OnOk, Some, codes, length, true, vec_len};
+ghost use Rattle.std.specs.Prelude.{◌≡◌, [], ◌++◌, IfOk, Ok, OnOk, Some, codes, length, true, vec_len};
 ghost use Rattle.rim_launch.specs.LaunchData.{has_files};
 ghost use Rattle.ipa_layout.specs.Files.{bytes_of_files};
 ghost use Rattle.rim_check.specs.Details.{reason_detail};
-ghost use Rattle.rim_check.specs.Explained.{IsLaunchCheck, launch_front, refusal_said};
+ghost use Rattle.rim_check.specs.Explained.{AddsRefusal, IsLaunchCheck, launch_front, refusal_said};
 ghost use Rattle.rim_line.specs.Lines.{AddsLine, IsKnown};
 ghost use Rattle.rim_line.specs.Names.{names_of};
 ghost use Rattle.rim_check.specs.inside.Found.{AddsFound, AddsNumber, numbers_of};
@@ -102,7 +102,42 @@ fn add_accepted(
     found.warnings.add_all(number, &unusual)
 }
 
+/// The line of a launch that is refused for this reason, as `check_launches` has it.
+pub fn refusal_line(
+    alloc: Global,
+    readable: &Readable,
+    launch: &NamedLaunch,
+    files: &[Vec<u8>],
+    reason: &LaunchReason,
+) -> Result<Vec<u8>, NoMemory>
+    requires { has_files launch.now.launch (length files.now) ≡ true }
+    ensures { IfOk result
+        (λ line. AddsRefusal readable.now.names launch.now reason.now [] line.items) }
+{
+    let mut line = Vec::new(alloc);
+    push_refusal(&mut line, readable, launch, files, reason)?;
+    Ok(line)
+}
+
 /// Adds the line of a launch that is refused, with what helps to mend it.
+fn push_refusal(
+    text: &mut Vec<u8>,
+    readable: &Readable,
+    launch: &NamedLaunch,
+    files: &[Vec<u8>],
+    reason: &LaunchReason,
+) -> Result<(), NoMemory>
+    requires { has_files launch.now.launch (length files.now) ≡ true }
+    ensures { OnOk result (AddsRefusal readable.now.names launch.now reason.now
+        text.old.items text.new.items) }
+{
+    let alloc = *text.allocator();
+    let mending = mending(alloc, launch.launch(), files, reason)?;
+    let hint = format!(in alloc; "{mending}")?;
+    push_refused(text, readable, launch, reason, hint.as_str())
+}
+
+/// Adds that line with this hint.
 fn push_refused(
     text: &mut Vec<u8>,
     readable: &Readable,

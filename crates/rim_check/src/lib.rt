@@ -26,7 +26,7 @@ mod syntax;
 mod warnings;
 
 pub use found::{LaunchCheck, ReleaseFault};
-pub use launches::check_launches;
+pub use launches::{check_launches, refusal_line};
 pub use manifest::{ManifestCheck, check_manifest};
 pub use nearest::Nearest;
 pub use rim_accepted::LaunchReason;

@@ -1,8 +1,7 @@
 use Rattle.std.proofs.Common.{refl}
 use Rattle.std.proofs.lemmas.Result.{on_ok_weaker}
 use Rattle.ipa_layout.specs.Files.{bytes_of_files}
-use Rattle.rim_check.specs.Explained.{refusal_said}
-use Rattle.rim_line.specs.Lines.{AddsLine}
+use Rattle.rim_check.specs.Explained.{AddsRefusal}
 use Rattle.rim_check.proofs.FoundOfLaunches.{accepted-all, refused-found}
 use Rattle.rim_check.proofs.launches.look_at.Goals as goal
 
@@ -15,9 +14,9 @@ returns-in-Ok c =
 
 pub returns-in-Err : goal.returns-in-Err
 returns-in-Err c =
+    let names = c.args.readable.now.names in
     let refused = rw (c.in-Err.is, c.launch.ensures) at c.in_ok-accepted.ensures.reason in
-    on_ok_weaker _ (λ (adds : AddsLine
-    (refusal_said c.args.readable.now.names c.args.launch.now c.in-Err.reason _) c.args.found.now.refusals.items c.push_refused.new.text.items).
-    refused-found c.args.readable.now.names (bytes_of_files c.args.files.now) c.args.launch.now c.in-Err.reason _ c.args.found.now _ refused adds refl refl
-    refl)
-    c.push_refused.ensures
+    on_ok_weaker _
+    (λ (line : AddsRefusal names c.args.launch.now c.in-Err.reason c.args.found.now.refusals.items c.push_refusal.new.text.items).
+    refused-found names (bytes_of_files c.args.files.now) c.args.launch.now c.in-Err.reason line.hint c.args.found.now _ refused line.adds refl refl refl)
+    c.push_refusal.ensures
