@@ -38,7 +38,7 @@ impl Excerpt {
             self.least = Some(finding.fault);
             return Ok(());
         }
-        match standing(*self.findings.allocator(), document, finding)? {
+        match standing_of(*self.findings.allocator(), document, finding)? {
             Standing::Own => self.findings.push(*finding)?,
             Standing::Repeated => {}
             Standing::PastLimit => self.more = self.more.saturating_add(1),
@@ -49,7 +49,7 @@ impl Excerpt {
 
 /// The faults that have a line: those that are listed, but for a second one of the same cause, and for those of the members of an
 /// array that are past its limit, which are counted with the others. One that is lower than all before it has a line always.
-pub(crate) fn excerpt(
+pub(crate) fn take_excerpt(
     alloc: Global,
     document: &Document,
     list: &FaultList,
@@ -80,7 +80,7 @@ enum Standing {
 }
 
 /// Whether a fault that is not the lowest so far has a line.
-fn standing(alloc: Global, document: &Document, finding: &Finding) -> Result<Standing, AllocError> {
+fn standing_of(alloc: Global, document: &Document, finding: &Finding) -> Result<Standing, AllocError> {
     if is_past_limit(document, finding.place) {
         return Ok(Standing::PastLimit);
     }

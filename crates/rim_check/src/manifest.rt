@@ -1,11 +1,12 @@
 //! The faults of a manifest.
-ghost use Rattle.std.specs.Prelude.{[], ◌∷◌, IfOk, OnOk, map};
+ghost use Rattle.std.specs.Prelude.{◌≡◌, ◌<◌, [], ◌∷◌, IfOk, OnOk, Some, map};
+ghost use Rattle.rim_manifest.specs.Faults.{lowest};
 ghost use Rattle.rim_manifest.specs.Manifest.{manifest_of};
 ghost use Rattle.rim_manifest.specs.inside.Kept.{faults_in};
-ghost use Rattle.rim_check.specs.Explained.{HasNames, IsCheckOf, fault_said};
-ghost use Rattle.rim_line.specs.Lines.{AddsLine, SayInTurn};
+ghost use Rattle.rim_check.specs.Explained.{Explains, HasNames, IsCheckOf, fault_said, others_said};
+ghost use Rattle.rim_line.specs.Lines.{AddsAll, AddsLine, SayInTurn};
 
-use crate::excerpt::excerpt;
+use crate::excerpt::take_excerpt;
 use crate::finding_detail::write_detail;
 use crate::place::write_place;
 use crate::syntax::{write_message, write_position};
@@ -68,7 +69,7 @@ fn lines(alloc: Global, document: &Document, list: &FaultList) -> Result<Vec<u8>
         → lowest (faults_in list.now.findings.items) ≡ Some fault
         → Explains fault lines.items) }
 {
-    let excerpt = excerpt(alloc, document, list)?;
+    let excerpt = take_excerpt(alloc, document, list)?;
     let mut lines = finding_lines(alloc, document, &excerpt.findings)?;
     if excerpt.more > 0 {
         push_others(&mut lines, excerpt.more)?;

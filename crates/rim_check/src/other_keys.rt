@@ -186,7 +186,7 @@ pub(crate) fn is_meant(
         if form_in(rules, other.as_str()).is_some() {
             continue;
         }
-        if listed == MOST_KEYS {
+        if listed >= MOST_KEYS {
             return Ok(false);
         }
         listed += 1;

@@ -1,11 +1,19 @@
-use Rattle.std.proofs.Common.{ap, subst}
+use Rattle.std.proofs.Common.{List, map, subst}
+use Rattle.rim_manifest.specs.declared.finding.Finding.{Finding}
+use Rattle.rim_manifest.specs.inside.Kept.{faults_in}
+use Rattle.rim_check.specs.Explained.{fault_said}
+use Rattle.rim_line.specs.Lines.{SayInTurn}
 use Rattle.rim_check.proofs.FaultsAreExplained.{explains-all, explains-more}
 use Rattle.rim_check.proofs.manifest.lines.Goals as goal
 use Rattle.rim_check.proofs.manifest.lines.Goals.{else-excerpt-gt0, then-excerpt-gt0+in_ok-push_others}
 
 pub returns : goal.returns
-returns c = λ fault. elim c.if-excerpt-gt0.branch [
-  | then-excerpt-gt0+in_ok-push_others w ↦ rw w.lines-is (explains-more fault _ _ _ _ _ c.in_ok-excerpt.ensures c.in_ok-lines.ensures
-      w.in_ok-push_others.ensures)
-  | else-excerpt-gt0 w ↦ rw w.lines-is (explains-all fault _ _ _ c.in_ok-excerpt.ensures c.in_ok-lines.ensures)
-]
+returns c = λ fault.
+    let shown = c.in_ok-excerpt.excerpt.findings.items in
+    let says =
+    subst (λ (fs : List Finding). SayInTurn (map fault_said (faults_in fs)) c.in_ok-lines.lines.items) c.deref.ensures.value c.in_ok-lines.ensures in
+    elim c.if-excerpt-gt0.branch [
+      | then-excerpt-gt0+in_ok-push_others w ↦
+          rw w.lines-is (explains-more fault _ (faults_in shown) _ _ _ c.in_ok-excerpt.ensures says w.in_ok-push_others.ensures)
+      | else-excerpt-gt0 w ↦ rw w.lines-is (explains-all fault _ (faults_in shown) _ c.in_ok-excerpt.ensures says)
+    ]

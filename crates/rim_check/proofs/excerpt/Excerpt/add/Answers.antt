@@ -5,11 +5,17 @@ use Rattle.rim_check.proofs.excerpt.Excerpt.add.Goals as goal
 pub returns-then-is_lower : goal.returns-then-is_lower
 returns-then-is_lower c = search (rules, is_lowest)
 
-pub returns : goal.returns
-returns c = search (rules, not_lower)
+pub returns-in_ok-push-in-Own : goal.returns-in_ok-push-in-Own
+returns-in_ok-push-in-Own c = search (rules, not_lower)
+
+pub returns-in-Repeated : goal.returns-in-Repeated
+returns-in-Repeated c = search (rules, not_lower)
+
+pub returns-in-PastLimit : goal.returns-in-PastLimit
+returns-in-PastLimit c = search (rules, not_lower)
 
 pub invariant_of-self-then-is_lower : goal.invariant_of-self-then-is_lower
 invariant_of-self-then-is_lower c = record { own = search (rules, lowest_last, is_lowest) }
 
-pub invariant_of-self : goal.invariant_of-self
-invariant_of-self c = record { own = search (rules, lowest_last, not_lower) }
+pub invariant_of-self-in_ok-push-in-Own : goal.invariant_of-self-in_ok-push-in-Own
+invariant_of-self-in_ok-push-in-Own c = record { own = search (rules, lowest_last, not_lower) }
