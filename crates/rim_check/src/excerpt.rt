@@ -80,7 +80,11 @@ enum Standing {
 }
 
 /// Whether a fault that is not the lowest so far has a line.
-fn standing_of(alloc: Global, document: &Document, finding: &Finding) -> Result<Standing, AllocError> {
+fn standing_of(
+    alloc: Global,
+    document: &Document,
+    finding: &Finding,
+) -> Result<Standing, AllocError> {
     if is_past_limit(document, finding.place) {
         return Ok(Standing::PastLimit);
     }

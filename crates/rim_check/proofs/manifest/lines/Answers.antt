@@ -1,4 +1,5 @@
-use Rattle.std.proofs.Common.{List, map, subst}
+use Rattle.std.proofs.Common.{ℕ, List, map, subst}
+use Rattle.rim_manifest.specs.declared.fault.ManifestFault.{ManifestFault}
 use Rattle.rim_manifest.specs.declared.finding.Finding.{Finding}
 use Rattle.rim_manifest.specs.inside.Kept.{faults_in}
 use Rattle.rim_check.specs.Explained.{fault_said}
@@ -9,11 +10,14 @@ use Rattle.rim_check.proofs.manifest.lines.Goals.{else-excerpt-gt0, then-excerpt
 
 pub returns : goal.returns
 returns c = λ fault.
-    let shown = c.in_ok-excerpt.excerpt.findings.items in
-    let says =
-    subst (λ (fs : List Finding). SayInTurn (map fault_said (faults_in fs)) c.in_ok-lines.lines.items) c.deref.ensures.value c.in_ok-lines.ensures in
+    let listed : List ManifestFault = faults_in c.args.list.now.findings.items in
+    let shown : List ManifestFault = faults_in c.in_ok-excerpt.excerpt.findings.items in
+    let more : ℕ = c.in_ok-excerpt.excerpt.more in
+    let text : List ℕ = c.in_ok-lines.lines.items in
+    let says : SayInTurn (map fault_said shown) text =
+    subst (λ (fs : List Finding). SayInTurn (map fault_said (faults_in fs)) text) c.deref.ensures.value c.in_ok-lines.ensures in
     elim c.if-excerpt-gt0.branch [
       | then-excerpt-gt0+in_ok-push_others w ↦
-          rw w.lines-is (explains-more fault _ (faults_in shown) _ _ _ c.in_ok-excerpt.ensures says w.in_ok-push_others.ensures)
-      | else-excerpt-gt0 w ↦ rw w.lines-is (explains-all fault _ (faults_in shown) _ c.in_ok-excerpt.ensures says)
+          rw w.lines-is (explains-more fault listed shown more text _ c.in_ok-excerpt.ensures says w.in_ok-push_others.ensures)
+      | else-excerpt-gt0 w ↦ rw w.lines-is (explains-all fault listed shown text c.in_ok-excerpt.ensures says)
     ]

@@ -17,5 +17,5 @@ returns-in-PastLimit c = search (rules, not_lower)
 pub invariant_of-self-then-is_lower : goal.invariant_of-self-then-is_lower
 invariant_of-self-then-is_lower c = record { own = search (rules, lowest_last, is_lowest) }
 
-pub invariant_of-self-in_ok-push-in-Own : goal.invariant_of-self-in_ok-push-in-Own
-invariant_of-self-in_ok-push-in-Own c = record { own = search (rules, lowest_last, not_lower) }
+pub invariant_of-self-in-Own : goal.invariant_of-self-in-Own
+invariant_of-self-in-Own c = record { own = search (rules, lowest_last, not_lower) }
