@@ -47,7 +47,7 @@ name = "-dash"
 [[launch]]
 name = "$(touch made)"
 """
-COMMANDS = ["measure", "list", "trace", "audit", "check", "dtb", "replay", "image", "fdt"]
+COMMANDS = ["measure", "list", "trace", "map", "audit", "check", "dtb", "replay", "image", "fdt"]
 LAUNCHES = ["one-vcpu", "two_vcpus.b", "one-b"]
 PATHS = object()  # paths are offered, by whatever way the shell has
 ROWS = [

@@ -67,6 +67,7 @@ RIM = Program(
         )),
         Command("list", "Print the commands that build the realm of a launch", (MANIFEST, LAUNCH)),
         Command("trace", "Print the measurement of a launch step by step", (MANIFEST, LAUNCH)),
+        Command("map", "Print where the items of a launch are", (MANIFEST, LAUNCH), (Option(("--json",), "The map as one JSON object"),)),
         Command("audit", "Print each measurement as a monitor holds it", (MANIFEST,)),
         Command("check", "Print what is wrong with a manifest", (MANIFEST,), (Option(("--quiet",), "Print no warnings"),)),
         Command("dtb", "Write the devicetree of a launch", (MANIFEST, LAUNCH)),

@@ -17,7 +17,7 @@ use Rattle.clap.specs.declared.parser.matches.SubCommand.{SubCommand}
 use Rattle.clap.specs.declared.parser.matches.ArgMatches.TheViews.{out-SubCommand}
 use Rattle.clap.proofs.ValueTestLemmas.{accepts-Accepts}
 use Rattle.clap.specs.declared.builder.value_parser.ValueParser.TheVariants as parser
-use Rattle.rim_cli.specs.Command.{check, IsEntered, IsMeasure, IsOfLaunch, IsOne, measure, operand_rule, rim, with_launch, with_operand, workers_rule}
+use Rattle.rim_cli.specs.Command.{check, launch_map, IsEntered, IsMeasure, IsOfLaunch, IsOne, measure, operand_rule, rim, with_launch, with_operand, workers_rule}
 use Rattle.rim_cli.proofs.MatchesPassParsers.{none_of, settled_fits, walk_fits}
 use Rattle.rim_cli.proofs.ValuesOfArguments.{IsSound, fits, first_given, first_passes, keeps, keeps_default}
 
@@ -192,6 +192,35 @@ check_entered words passes = (refl, first_given check_shape.rules manifest_built
     given : is_given (codes "manifest") rows ≡ true
     given = go (is_given (codes "manifest") rows) (checks_pass check_shape words sound passes)
 
+-- `map`, as it is built below `rim`
+abbrev map_shape : Shape
+map_shape = built_leaf (inherited (with_leaf_noted (marked_built rim.top)) launch_map.top)
+
+map_entered : (words : List Text) → level_fault map_shape [] nothing_held words false [] ≡ []
+    → IsOfLaunch (codes "map") (codes "map") (rows_after map_shape.rules [] words)
+map_entered words passes =
+    (refl, first_given map_shape.rules manifest_built refl rows all given.0, first_given map_shape.rules launch_built refl rows all given.1)
+  where
+    sound : Each (IsSound map_shape.rules) map_shape.rules
+    sound = (
+      inl (record { set = inl refl; some = inl refl; own = refl }),
+      (inl (record { set = inl refl; some = inl refl; own = refl }), (inl (record { set = inr refl; some = inr (omega arith); own = refl }), (inr (refl, refl), tt))),
+    )
+
+    rows : List Row
+    rows = rows_after map_shape.rules [] words
+
+    all : list_all (fits map_shape.rules) rows ≡ true
+    all = rows_fit map_shape words sound passes
+
+    go : (manifest launch : Bool) → check_kinds false false (not manifest || (not launch || false)) ≡ [] → (manifest ≡ true) × (launch ≡ true)
+    go true true e = (refl, refl)
+    go true false e = cc
+    go false launch e = cc
+
+    given : (is_given (codes "manifest") rows ≡ true) × (is_given (codes "launch") rows ≡ true)
+    given = go (is_given (codes "manifest") rows) (is_given (codes "launch") rows) (checks_pass map_shape words sound passes)
+
 -- the matches of each subcommand hold what they are to
 abbrev IsGood : Shape → Type 0
 IsGood s = (words : List Text) → level_fault s [] nothing_held words false [] ≡ [] → IsEntered s.name (rows_after s.rules [] words)
@@ -225,16 +254,19 @@ stopped_good (Some q) p is passes = found_good q.0 q.1 (built rim).subs p each i
         (
           (λ words fits. inr (inr (inl (launch_entered (codes "trace") words fits)))),
           (
-            (λ words fits. inr (inr (inr (inl (one_entered (codes "audit") (codes "manifest") words fits))))),
+            (λ words fits. inr (inr (inr (inl (map_entered words fits))))),
             (
-              (λ words fits. inr (inr (inr (inr (inl (check_entered words fits)))))),
+              (λ words fits. inr (inr (inr (inr (inl (one_entered (codes "audit") (codes "manifest") words fits)))))),
               (
-                (λ words fits. inr (inr (inr (inr (inr (inl (launch_entered (codes "dtb") words fits))))))),
+                (λ words fits. inr (inr (inr (inr (inr (inl (check_entered words fits))))))),
                 (
-                  (λ words fits. inr (inr (inr (inr (inr (inr (inl (one_entered (codes "replay") (codes "file") words fits)))))))),
+                  (λ words fits. inr (inr (inr (inr (inr (inr (inl (launch_entered (codes "dtb") words fits)))))))),
                   (
-                    (λ words fits. inr (inr (inr (inr (inr (inr (inr (inl (one_entered (codes "image") (codes "file") words fits))))))))),
-                    ((λ words fits. inr (inr (inr (inr (inr (inr (inr (inr (one_entered (codes "fdt") (codes "file") words fits))))))))), tt),
+                    (λ words fits. inr (inr (inr (inr (inr (inr (inr (inl (one_entered (codes "replay") (codes "file") words fits))))))))),
+                    (
+                      (λ words fits. inr (inr (inr (inr (inr (inr (inr (inr (inl (one_entered (codes "image") (codes "file") words fits)))))))))),
+                      ((λ words fits. inr (inr (inr (inr (inr (inr (inr (inr (inr (one_entered (codes "fdt") (codes "file") words fits)))))))))), tt),
+                    ),
                   ),
                 ),
               ),

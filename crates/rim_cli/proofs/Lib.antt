@@ -19,3 +19,5 @@ pub mod RunInMemory
 pub mod FaultsOfFiles
 -- and of launches, where all files are read
 pub mod CheckedLaunches
+-- the map of a launch is that of the launch of its name, and its status says whether it is refused
+pub mod MapsOfLaunches

@@ -6,7 +6,7 @@ use Rattle.std.proofs.lemmas.Slice.Eq.{bytes_eq-Decides}
 use Rattle.clap.specs.Words.{Row, Text}
 use Rattle.rim_cli.specs.Command.{ReadsRequest, ReadsRow, is_for_bytes}
 use Rattle.rim_cli.specs.declared.words.Request.{Request}
-use Rattle.rim_cli.specs.declared.words.Request.TheVariants.{Measure, List as Lists, Trace, Audit, Check, Dtb, Replay, Image, Fdt}
+use Rattle.rim_cli.specs.declared.words.Request.TheVariants.{Measure, List as Lists, Trace, Map, Audit, Check, Dtb, Replay, Image, Fdt}
 
 -- words that differ are not the same
 pub apart : (verb name : List ℕ) → bytes_eq verb name ≡ false → verb ≡ name → ⊥
@@ -17,6 +17,7 @@ dtb_for_bytes : (name : Text) (rows : List Row) (request : Request) → name ≡
 dtb_for_bytes name rows (Measure path workers format) dtb reads = absurd (apart (codes "dtb") (codes "measure") refl (sym dtb ∙ reads.0))
 dtb_for_bytes name rows (Lists path launch) dtb reads = absurd (apart (codes "dtb") (codes "list") refl (sym dtb ∙ reads.0))
 dtb_for_bytes name rows (Trace path launch) dtb reads = absurd (apart (codes "dtb") (codes "trace") refl (sym dtb ∙ reads.0))
+dtb_for_bytes name rows (Map path launch format) dtb reads = absurd (apart (codes "dtb") (codes "map") refl (sym dtb ∙ reads.0))
 dtb_for_bytes name rows (Audit path) dtb reads = absurd (apart (codes "dtb") (codes "audit") refl (sym dtb ∙ reads.0))
 dtb_for_bytes name rows (Check path quiet) dtb reads = absurd (apart (codes "dtb") (codes "check") refl (sym dtb ∙ reads.0))
 dtb_for_bytes name rows (Dtb path launch) dtb reads = refl
@@ -31,6 +32,7 @@ each_for_bytes None one other reads bytes read = absurd read
 each_for_bytes (Some p) (Measure path workers format) other reads bytes read = absurd (cc)
 each_for_bytes (Some p) (Lists path launch) other reads bytes read = absurd (cc)
 each_for_bytes (Some p) (Trace path launch) other reads bytes read = absurd (cc)
+each_for_bytes (Some p) (Map path launch format) other reads bytes read = absurd (cc)
 each_for_bytes (Some p) (Audit path) other reads bytes read = absurd (cc)
 each_for_bytes (Some p) (Check path quiet) other reads bytes read = absurd (cc)
 each_for_bytes (Some p) (Dtb path launch) other reads bytes read = dtb_for_bytes p.0 p.1 other reads.0 read

@@ -18,7 +18,7 @@ use Rattle.rim_cli.specs.Files.{AreRead, IfFile, Known}
 use Rattle.rim_cli.specs.declared.words.Format.{Format}
 use Rattle.rim_cli.specs.declared.words.Format.TheVariants as format
 use Rattle.rim_cli.specs.declared.words.Request.{Request}
-use Rattle.rim_cli.specs.declared.words.Request.TheVariants.{Measure, List as Lists, Trace, Audit, Check, Dtb, Replay, Image, Fdt}
+use Rattle.rim_cli.specs.declared.words.Request.TheVariants.{Measure, List as Lists, Trace, Map, Audit, Check, Dtb, Replay, Image, Fdt}
 use Rattle.rim_cli.proofs.RequestsOfSubcommands.{apart}
 
 -- what is known where there is one manifest
@@ -35,6 +35,7 @@ unfolding clap_on_literals
 asked_path (Measure path workers format) asked = sym (same_Some _ _ asked.1)
 asked_path (Lists path launch) asked = absurd (apart (codes "measure") (codes "list") refl asked.0)
 asked_path (Trace path launch) asked = absurd (apart (codes "measure") (codes "trace") refl asked.0)
+asked_path (Map path launch format) asked = absurd (apart (codes "measure") (codes "map") refl asked.0)
 asked_path (Audit path) asked = absurd (apart (codes "measure") (codes "audit") refl asked.0)
 asked_path (Check path quiet) asked = absurd (apart (codes "measure") (codes "check") refl asked.0)
 asked_path (Dtb path launch) asked = absurd (apart (codes "measure") (codes "dtb") refl asked.0)
@@ -50,6 +51,7 @@ asked_report held (Measure path workers format) bytes text status asked answer =
     subst (λ (f : Format). IsOkAnd (manifest_of bytes) (λ r. IsReport f held r text status)) asked.3 answer
 asked_report held (Lists path launch) bytes text status asked answer = absurd (apart (codes "measure") (codes "list") refl asked.0)
 asked_report held (Trace path launch) bytes text status asked answer = absurd (apart (codes "measure") (codes "trace") refl asked.0)
+asked_report held (Map path launch format) bytes text status asked answer = absurd (apart (codes "measure") (codes "map") refl asked.0)
 asked_report held (Audit path) bytes text status asked answer = absurd (apart (codes "measure") (codes "audit") refl asked.0)
 asked_report held (Check path quiet) bytes text status asked answer = absurd (apart (codes "measure") (codes "check") refl asked.0)
 asked_report held (Dtb path launch) bytes text status asked answer = absurd (apart (codes "measure") (codes "dtb") refl asked.0)

@@ -17,7 +17,7 @@ use Rattle.rim_cli.specs.declared.words.CommandFault.TheVariants.{Usage, NoMemor
 use Rattle.rim_cli.specs.declared.words.Format.{Format}
 use Rattle.rim_cli.specs.declared.words.Format.TheVariants as format
 use Rattle.rim_cli.specs.declared.words.Request.{Request}
-use Rattle.rim_cli.specs.declared.words.Request.TheVariants.{Measure, List as Lists, Trace, Audit, Check, Dtb, Replay, Image, Fdt}
+use Rattle.rim_cli.specs.declared.words.Request.TheVariants.{Measure, List as Lists, Trace, Map, Audit, Check, Dtb, Replay, Image, Fdt}
 use Rattle.job_board.specs.declared.machine.TheConstants.{WORKER_LIMIT}
 
 -- an operand that has to be given, with a name that usage texts show
@@ -70,14 +70,18 @@ list = with_launch (codes "list")
 abbrev pub trace : App
 trace = with_launch (codes "trace")
 
+-- `map MANIFEST LAUNCH [--json]`
+abbrev pub launch_map : App
+launch_map = with_rule (with_launch (codes "map")) (flag_rule (codes "json"))
+
 abbrev pub dtb : App
 dtb = with_launch (codes "dtb")
 
 -- the program: one of its subcommands has to be given, and it has a version
 abbrev pub rim : App
 rim = on_top (λ s. record s { has_version = true; subcommand_required = true; disable_help_subcommand = true })
-    (with_subcommand (with_subcommand (with_subcommand (with_subcommand (with_subcommand (with_subcommand (with_subcommand (with_subcommand (with_subcommand (new_app (codes "rim"))
-    measure.top) list.top) trace.top) audit.top) check.top) dtb.top) replay.top) image.top) fdt.top)
+    (with_subcommand (with_subcommand (with_subcommand (with_subcommand (with_subcommand (with_subcommand (with_subcommand (with_subcommand (with_subcommand (with_subcommand
+    (new_app (codes "rim")) measure.top) list.top) trace.top) launch_map.top) audit.top) check.top) dtb.top) replay.top) image.top) fdt.top)
 
 -- the number of workers, 4 where none is given: in words that `clap` takes it is from 1 to 64
 abbrev pub CountsWorkers : Option Text → ℕ → Type 0
@@ -107,6 +111,9 @@ ReadsRow name rows (Lists manifest launch) = (name ≡ codes "list")
     × (first_of (codes "manifest") rows ≡ Some manifest.now) × (first_of (codes "launch") rows ≡ Some launch.now)
 ReadsRow name rows (Trace manifest launch) = (name ≡ codes "trace")
     × (first_of (codes "manifest") rows ≡ Some manifest.now) × (first_of (codes "launch") rows ≡ Some launch.now)
+ReadsRow name rows (Map manifest launch format) = (name ≡ codes "map")
+    × (first_of (codes "manifest") rows ≡ Some manifest.now) × (first_of (codes "launch") rows ≡ Some launch.now)
+    × (format ≡ format_of (first_of (codes "json") rows))
 ReadsRow name rows (Audit manifest) = (name ≡ codes "audit") × (first_of (codes "manifest") rows ≡ Some manifest.now)
 ReadsRow name rows (Check manifest quiet) = (name ≡ codes "check") × (first_of (codes "manifest") rows ≡ Some manifest.now)
     × (quiet ≡ is_set (first_of (codes "quiet") rows))
@@ -151,8 +158,9 @@ IsOne verb id name rows = (name ≡ verb) × HasOperand id rows
 -- and of those of some subcommand: a further one is a further case
 abbrev pub IsEntered : Text → List Row → Type 0
 IsEntered name rows = IsMeasure name rows ⊎ (IsOfLaunch (codes "list") name rows ⊎ (IsOfLaunch (codes "trace") name rows
+    ⊎ (IsOfLaunch (codes "map") name rows
     ⊎ (IsOne (codes "audit") (codes "manifest") name rows ⊎ (IsOne (codes "check") (codes "manifest") name rows ⊎ (IsOfLaunch (codes "dtb") name rows
-    ⊎ (IsOne (codes "replay") (codes "file") name rows ⊎ (IsOne (codes "image") (codes "file") name rows ⊎ IsOne (codes "fdt") (codes "file") name rows)))))))
+    ⊎ (IsOne (codes "replay") (codes "file") name rows ⊎ (IsOne (codes "image") (codes "file") name rows ⊎ IsOne (codes "fdt") (codes "file") name rows))))))))
 
 -- help and the version are asked for; each other kind of error is a mistake in the words
 abbrev pub is_asked : ErrorKind → Bool

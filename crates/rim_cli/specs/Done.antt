@@ -29,12 +29,13 @@ use Rattle.rim_cli.specs.declared.definition.TheConstants.{VERSION}
 use Rattle.rim_cli.specs.declared.words.Format.{Format}
 use Rattle.rim_cli.specs.declared.words.Format.TheVariants as format
 use Rattle.rim_cli.specs.declared.words.Request.{Request}
-use Rattle.rim_cli.specs.declared.words.Request.TheVariants.{Measure, List as Lists, Trace, Audit, Check, Dtb, Replay, Image, Fdt}
+use Rattle.rim_cli.specs.declared.words.Request.TheVariants.{Measure, List as Lists, Trace, Map, Audit, Check, Dtb, Replay, Image, Fdt}
 use Rattle.rim_cli.specs.declared.fault.Fault.{Fault}
 use Rattle.rim_cli.specs.declared.fault.Fault.TheVariants.{Manifest, NoSuchLaunch, Start, Refused, NoDevicetree, Show}
 use Rattle.rim_cli.specs.Command.{ReadsRequest, rim}
 use Rattle.rim_cli.specs.Files.{AreRead, IfFile, IsFileFault, IsFirstFault, Known}
 use Rattle.rim_cli.specs.Unread.{AreUnread}
+use Rattle.rim_cli.specs.Mapped.{IsMapOf}
 use Rattle.rim_cli.specs.Replayed.{IsReplayed}
 use Rattle.rim_cli.specs.Status.{status_of}
 
@@ -43,6 +44,7 @@ abbrev pub path_of : Request → List ℕ
 path_of (Measure path workers format) = path.now
 path_of (Lists path launch) = path.now
 path_of (Trace path launch) = path.now
+path_of (Map path launch format) = path.now
 path_of (Audit path) = path.now
 path_of (Check path quiet) = path.now
 path_of (Dtb path launch) = path.now
@@ -139,6 +141,11 @@ IsListing held r name text status = IsTextOf (λ l. listing_of l.launch) held r 
 abbrev pub IsTrace : (List ℕ → Known) → ReleaseData → List ℕ → List ℕ → ℕ → Type 0
 IsTrace held r name text status = IsTextOf (λ l. trace_of l.launch) held r name text status
 
+-- the map of the launch of a name, where the items of the manifest have these names
+abbrev pub IsMapped : (List ℕ → Known) → Format → List (List (List ℕ)) → ReleaseData → List ℕ → List ℕ → ℕ → Type 0
+IsMapped held format names r name text status =
+    OfLaunch held r name (λ l files. IsMapOf format (record { names = names; release = r }) l files text status)
+
 -- the devicetree of the launch of a name, as it is placed
 abbrev pub IsDevicetree : (List ℕ → Known) → ReleaseData → List ℕ → List ℕ → ℕ → Type 0
 IsDevicetree held r name bytes status = OfLaunch held r name (λ l files. (devicetree_of l.launch files ≡ Ok (Some bytes)) × (status ≡ 0))
@@ -148,6 +155,8 @@ abbrev pub IsAnswer : (List ℕ → Known) → Request → List ℕ → List ℕ
 IsAnswer held (Measure path workers format) bytes text status = IsOkAnd (manifest_of bytes) (λ r. IsReport format held r text status)
 IsAnswer held (Lists path launch) bytes text status = IsOkAnd (manifest_of bytes) (λ r. IsListing held r launch.now text status)
 IsAnswer held (Trace path launch) bytes text status = IsOkAnd (manifest_of bytes) (λ r. IsTrace held r launch.now text status)
+IsAnswer held (Map path launch format) bytes text status =
+    IsOkAnd (manifest_of bytes) (λ r. IsMapped held format (item_names_in bytes) r launch.now text status)
 IsAnswer held (Audit path) bytes text status = IsOkAnd (manifest_of bytes) (λ r. IsAudit held r text status)
 IsAnswer held (Check path quiet) bytes text status = IsCheck held quiet (item_names_in bytes) (manifest_of bytes) text status
 IsAnswer held (Dtb path launch) bytes text status = IsOkAnd (manifest_of bytes) (λ r. IsDevicetree held r launch.now text status)
@@ -211,6 +220,7 @@ abbrev pub Refuses : (List ℕ → Known) → Request → Fault → Type 0
 Refuses held (Measure path workers format) fault = RefusesManifest (RefusesReport held) (held path.now) fault
 Refuses held (Lists path launch) fault = RefusesManifest (RefusesListing held launch.now) (held path.now) fault
 Refuses held (Trace path launch) fault = RefusesManifest (RefusesListing held launch.now) (held path.now) fault
+Refuses held (Map path launch format) fault = RefusesManifest (RefusesListing held launch.now) (held path.now) fault
 Refuses held (Audit path) fault = RefusesManifest (RefusesAudit held) (held path.now) fault
 Refuses held (Check path quiet) fault = IsFileFault (held path.now) fault
 Refuses held (Dtb path launch) fault = RefusesManifest (RefusesDtb held launch.now) (held path.now) fault

@@ -21,6 +21,9 @@ with_json = codes "rim" ∷ codes "measure" ∷ codes "manifest.toml" ∷ codes 
 abbrev pub a_trace : List Text
 a_trace = codes "rim" ∷ codes "trace" ∷ codes "manifest.toml" ∷ codes "small" ∷ []
 
+abbrev pub a_map : List Text
+a_map = codes "rim" ∷ codes "map" ∷ codes "manifest.toml" ∷ codes "small" ∷ codes "--json" ∷ []
+
 abbrev pub a_replay : List Text
 a_replay = codes "rim" ∷ codes "replay" ∷ codes "listing" ∷ []
 
@@ -61,7 +64,7 @@ abbrev pub TakesNot : List Text → Type 0
 TakesNot words = takes rim words ≡ false
 
 abbrev pub TakesExamples : Type 0
-TakesExamples = Takes plain × Takes with_seven × Takes with_json × Takes a_listing × Takes a_trace × Takes an_audit × Takes a_check × Takes a_placed_devicetree
+TakesExamples = Takes plain × Takes with_seven × Takes with_json × Takes a_listing × Takes a_trace × Takes a_map × Takes an_audit × Takes a_check × Takes a_placed_devicetree
     × Takes a_replay × Takes an_image × Takes a_devicetree × TakesNot too_many × TakesNot json_with_value × TakesNot too_few
     × TakesNot (codes "rim" ∷ codes "help" ∷ []) × TakesNot (codes "rim" ∷ [])
 
@@ -82,6 +85,7 @@ ReadsExamples = (read_in plain ≡ Some (Some (codes "manifest.toml"), None))
     × (read_in with_seven ≡ Some (Some (codes "manifest.toml"), Some (codes "7")))
     × (launch_in a_listing ≡ Some (Some (codes "manifest.toml"), Some (codes "small")))
     × (launch_in a_trace ≡ Some (Some (codes "manifest.toml"), Some (codes "small")))
+    × (launch_in a_map ≡ Some (Some (codes "manifest.toml"), Some (codes "small"))) × (format_in a_map ≡ Some format.Json)
     × (launch_in a_placed_devicetree ≡ Some (Some (codes "manifest.toml"), Some (codes "small")))
     × (format_in plain ≡ Some format.Text) × (format_in with_json ≡ Some format.Json)
     × ((n : ℕ) → CountsWorkers None n → n ≡ 4) × ((n : ℕ) → CountsWorkers (Some (codes "7")) n → n ≡ 7)

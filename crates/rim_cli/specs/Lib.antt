@@ -2,6 +2,7 @@ pub mod Command
 pub mod Done
 pub mod Examples
 pub mod Files
+pub mod Mapped
 pub mod Replayed
 pub mod Status
 pub mod Unread

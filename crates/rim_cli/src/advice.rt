@@ -55,6 +55,11 @@ fn advice<O: Opener>(
         }
         Request::List { manifest, launch }
         | Request::Trace { manifest, launch }
+        | Request::Map {
+            manifest,
+            launch,
+            ..
+        }
         | Request::Dtb { manifest, launch } => {
             manifest_advice(alloc, opener, manifest, Some(launch))
         }

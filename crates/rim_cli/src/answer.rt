@@ -14,6 +14,7 @@ use crate::definition::VERSION;
 use crate::fault::Fault;
 use crate::file::{Opener, read_file, read_files};
 use crate::freed::keep_freed_memory;
+use crate::mapping::map;
 use crate::replaying::replay;
 use crate::words::{Format, Request};
 use rim_release::{
@@ -56,6 +57,11 @@ pub fn answer_to<R: Threads + Wait + Sync, G: Gate + Sync, O: Opener>(
         } => measure(rt, alloc, gate, opener, manifest, workers, format),
         Request::List { manifest, launch } => list(alloc, opener, manifest, launch),
         Request::Trace { manifest, launch } => trace(alloc, opener, manifest, launch),
+        Request::Map {
+            manifest,
+            launch,
+            format,
+        } => map(alloc, opener, manifest, launch, format),
         Request::Audit { manifest } => audit(alloc, opener, manifest),
         Request::Check { manifest, quiet } => check(alloc, opener, manifest, quiet),
         Request::Dtb { manifest, launch } => dtb(alloc, opener, manifest, launch),

@@ -2,7 +2,7 @@
 ghost use Rattle.std.specs.Prelude.{◌≡◌, IfOk, codes, true, false};
 ghost use Rattle.clap.specs.Words.{app_of, rule_of, with_subcommand};
 ghost use Rattle.clap.specs.declared.builder.command.Command.TheViews.{out-Command};
-ghost use Rattle.rim_cli.specs.Command.{audit, check, dtb, fdt, flag_rule, image, list, measure, operand_rule, replay, rim, trace, with_launch, with_operand, workers_rule};
+ghost use Rattle.rim_cli.specs.Command.{audit, check, dtb, fdt, flag_rule, image, launch_map, list, measure, operand_rule, replay, rim, trace, with_launch, with_operand, workers_rule};
 
 use clap::{Arg, ArgAction, Command};
 use job_board::WORKER_LIMIT;
@@ -41,6 +41,10 @@ each launch, as the report has it.
 measurement after it, and the command without the granules that the host chooses. Two
 traces can be compared by `diff`: the first line that differs is the first step at which
 two measurements part.
+
+`rim map MANIFEST LAUNCH` prints where the RAM and the items of a launch are, how many
+granules of the pool its commands take and become what, how many extensions its
+measurement is made of, and its warnings. With `--json` it is one JSON object.
 
 `rim check MANIFEST` prints a line for each fault of a manifest, with its place. Where
 there is none, it prints `PATH: file-unreadable` or `PATH: file-too-large` for each file
@@ -92,8 +96,8 @@ fn with_release_commands<'a>(alloc: Global, command: Command<'a>) -> Result<Comm
     requires { (out-Command command).has_globals ≡ false }
     ensures shape { IfOk result (λ c. app_of c
         ≡ with_subcommand (with_subcommand (with_subcommand
-        (with_subcommand (with_subcommand (app_of command.entry) measure.top) list.top)
-        trace.top) audit.top) check.top) }
+        (with_subcommand (with_subcommand (with_subcommand (app_of command.entry) measure.top)
+        list.top) trace.top) launch_map.top) audit.top) check.top) }
     ensures globals { IfOk result (λ c. (out-Command c).has_globals ≡ false) }
 {
     let command = with_report_commands(alloc, command)?;
@@ -105,14 +109,15 @@ fn with_release_commands<'a>(alloc: Global, command: Command<'a>) -> Result<Comm
 fn with_report_commands<'a>(alloc: Global, command: Command<'a>) -> Result<Command<'a>, AllocError>
     requires { (out-Command command).has_globals ≡ false }
     ensures shape { IfOk result (λ c. app_of c
-        ≡ with_subcommand
+        ≡ with_subcommand (with_subcommand
         (with_subcommand (with_subcommand (app_of command.entry) measure.top) list.top)
-        trace.top) }
+        trace.top) launch_map.top) }
     ensures globals { IfOk result (λ c. (out-Command c).has_globals ≡ false) }
 {
     let command = with_subcommand(command, measure_command(alloc)?)?;
     let command = with_subcommand(command, list_command(alloc)?)?;
-    with_subcommand(command, trace_command(alloc)?)
+    let command = with_subcommand(command, trace_command(alloc)?)?;
+    with_subcommand(command, map_command(alloc)?)
 }
 
 /// A command with the subcommands about one file that is no manifest.
@@ -194,6 +199,18 @@ fn trace_command<'a>(alloc: Global) -> Result<Command<'a>, AllocError>
 {
     let trace = launch_command(alloc, "trace")?;
     Ok(trace.about("Prints the measurement of a launch step by step"))
+}
+
+fn map_command<'a>(alloc: Global) -> Result<Command<'a>, AllocError>
+    ensures shape { IfOk result (λ c. app_of c ≡ launch_map) }
+    ensures globals { IfOk result (λ c. (out-Command c).has_globals ≡ false) }
+{
+    let map = launch_command(alloc, "map")?.arg(flag_arg(
+        alloc,
+        "json",
+        "The map as one JSON object, and not as lines",
+    ))?;
+    Ok(map.about("Prints where the items of a launch are, and what its measurement is made of"))
 }
 
 fn dtb_command<'a>(alloc: Global) -> Result<Command<'a>, AllocError>

@@ -10,6 +10,7 @@ mod file;
 mod freed;
 mod in_memory;
 mod laws;
+mod mapping;
 mod patient;
 mod program;
 mod replaying;

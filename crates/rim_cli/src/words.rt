@@ -32,6 +32,12 @@ pub enum Request<'a> {
         manifest: &'a str,
         launch: &'a str,
     },
+    /// The map of a launch of a manifest, at a path, by the launch's name.
+    Map {
+        manifest: &'a str,
+        launch: &'a str,
+        format: Format,
+    },
     /// The audit of the launches of a manifest, at a path.
     Audit {
         manifest: &'a str,
@@ -127,6 +133,11 @@ fn request_of<'a>(name: &str, given: &ArgMatches<'a>) -> Request<'a>
         "trace" => Request::Trace {
             manifest: operand(given, "manifest"),
             launch: operand(given, "launch"),
+        },
+        "map" => Request::Map {
+            manifest: operand(given, "manifest"),
+            launch: operand(given, "launch"),
+            format: report_format(given),
         },
         "audit" => Request::Audit {
             manifest: operand(given, "manifest"),

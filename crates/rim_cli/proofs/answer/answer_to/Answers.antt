@@ -18,6 +18,12 @@ returns-in-Trace-clause-answered g c = rw c.in-Trace.is c.trace.ensures.answered
 pub returns-in-Trace-clause-refused : goal.returns-in-Trace-clause-refused
 returns-in-Trace-clause-refused g c = rw c.in-Trace.is c.trace.ensures.refused
 
+pub returns-in-Map-clause-answered : goal.returns-in-Map-clause-answered
+returns-in-Map-clause-answered g c = rw c.in-Map.is c.map.ensures.answered
+
+pub returns-in-Map-clause-refused : goal.returns-in-Map-clause-refused
+returns-in-Map-clause-refused g c = rw c.in-Map.is c.map.ensures.refused
+
 pub returns-in-Audit-clause-answered : goal.returns-in-Audit-clause-answered
 returns-in-Audit-clause-answered g c = rw c.in-Audit.is c.audit.ensures.answered
 

@@ -1,0 +1,126 @@
+-- The JSON of a map is made part by part, and has no float.
+use Rattle.std.proofs.Common.{◌≡◌, ◌∙◌, ◌⊎◌, inl, inr, ℕ, false, List, [], ◌∷◌, ◌++◌, codes, length, map, refl, ap, sym, subst, arith}
+use Rattle.std.specs.Prelude.{Option, Some, None}
+use Rattle.std.proofs.lemmas.List.{append-nil, map-append}
+use Rattle.serde_json.specs.Data.{Data, string}
+use Rattle.serde_json.specs.View.{items_of}
+use Rattle.serde_json.specs.Written.{compact_text, has_float, items_have_float}
+use Rattle.rim_desc.specs.declared.rule.RecRule.{RecRule}
+use Rattle.rim_launch.specs.LaunchData.{LaunchData}
+use Rattle.rim_launch.specs.declared.item.Item.{Item}
+use Rattle.rim_launch.specs.declared.item.Region.{Region}
+use Rattle.ipa_layout.specs.Layout.{PlacedData}
+use Rattle.rmi_list.specs.Measured.{measured, page_contents}
+use Rattle.rim_line.specs.Readables.{item_name}
+use Rattle.rim_line.specs.declared.names.ItemNames.{ItemNames}
+use Rattle.rim_map.specs.Extensions.{extensions_of}
+use Rattle.rim_map.specs.Granules.{HasGranules}
+use Rattle.rim_map.specs.Rows.{rows_of}
+use Rattle.rim_map.specs.inside.Spaces.{AreTexts, IsSpace, IsText}
+use Rattle.rim_map.specs.MapJson.{IsMap, SpaceView, extensions_json, granules_json, item_json, items_json, launch_json}
+use Rattle.rim_map.specs.MapJson.{map_data, path_json, place_json, region_json, regions_json, rule_json, space_of, stretch_json}
+use Rattle.rim_map.specs.Stretches.{AreRising, gaps_of, row_pages}
+use Rattle.rim_map.specs.declared.extensions.Extensions.{Extensions}
+use Rattle.rim_map.specs.declared.granules.Granules.{Granules}
+use Rattle.rim_map.specs.declared.rows.Row.{Row}
+use Rattle.rim_map.specs.declared.stretches.Stretch.{Stretch}
+
+-- after the last item all were made
+pub items-over : (name : ℕ → List ℕ) (paths : List (List ℕ)) (items : List Item) (rows : List Row) (now all : List Data)
+    → (length items ≡ 0) ⊎ (length rows ≡ 0) → now ++ items_json name paths items rows ≡ all → now ≡ all
+items-over name paths [] rows now all over so_far = sym (append-nil now) ∙ so_far
+items-over name paths (item ∷ items) [] now all over so_far = sym (append-nil now) ∙ so_far
+items-over name paths (item ∷ items) (row ∷ rows) now all (inl none) so_far = absurd (omega (arith, none))
+items-over name paths (item ∷ items) (row ∷ rows) now all (inr none) so_far = absurd (omega (arith, none))
+
+-- ---- no part has a float
+
+stretches-float : (ss : List Stretch) → items_have_float (items_of (map stretch_json ss)) ≡ false
+unfolding stretch_json
+stretches-float [] = refl
+stretches-float (s ∷ ss) = stretches-float ss
+
+regions-float : (taken : List Stretch) (ram : List Region) → items_have_float (items_of (regions_json taken ram)) ≡ false
+unfolding region_json
+regions-float taken [] = refl
+regions-float taken (r ∷ ram) = rw (stretches-float (gaps_of r.base r.end taken)) (regions-float taken ram)
+
+path-float : (o : Option (List ℕ)) → has_float (path_json o) ≡ false
+path-float None = refl
+path-float (Some path) = refl
+
+rule-float : (o : Option RecRule) → has_float (rule_json o) ≡ false
+rule-float None = refl
+rule-float (Some rule) = refl
+
+items-float : (name : ℕ → List ℕ) (paths : List (List ℕ)) (items : List Item) (rows : List Row)
+    → items_have_float (items_of (items_json name paths items rows)) ≡ false
+unfolding item_json place_json
+items-float name paths [] rows = refl
+items-float name paths (item ∷ items) [] = refl
+items-float name paths (item ∷ items) (row ∷ rows) = rw (path-float _) (items-float name paths items rows)
+
+texts-float : (texts : List (List ℕ)) → items_have_float (items_of (map string texts)) ≡ false
+texts-float [] = refl
+texts-float (text ∷ texts) = texts-float texts
+
+-- and no map
+pub no-float : (own : List ℕ) (l : LaunchData) (name : ℕ → List ℕ) (paths : List (List ℕ)) (rows : List Row) (taken between : List Stretch)
+    (granules : Granules) (extensions : Extensions) (texts : List (List ℕ))
+    → has_float (map_data own l (space_of name paths l rows taken between) granules extensions (map string texts)) ≡ false
+unfolding map_data granules_json extensions_json launch_json
+no-float own l name paths rows taken between granules extensions texts =
+    rw (stretches-float between, items-float name paths l.items rows, rule-float l.config.rec_rule, regions-float taken l.ram, texts-float texts) refl
+
+-- ---- the whole text
+
+-- one text more
+pub texts-more : (ds : List Data) (d : Data) → AreTexts ds → IsText d → AreTexts (ds ++ d ∷ [])
+texts-more ds d all one = record {
+  texts = all.texts ++ one.text ∷ [];
+  are = ap (λ (xs : List Data). xs ++ d ∷ []) all.are ∙ ap (λ (x : Data). map string all.texts ++ x ∷ []) one.is
+      ∙ sym (map-append string all.texts (one.text ∷ []));
+}
+
+-- the text of a value that was made of a launch's parts is the launch's map
+pub shown-map : (own : List ℕ) (l : LaunchData) (files : List (List ℕ)) (p : PlacedData) (n : ItemNames) (rows : List Row) (space : SpaceView)
+    (granules : Granules) (extensions : Extensions) (warnings : List Data) (value : Data) (text : List ℕ)
+    → n.launch ≡ l.number → rows ≡ rows_of l files p → IsSpace n l rows space → HasGranules l p granules
+    → extensions ≡ extensions_of (measured l p (page_contents l files p)) → AreTexts warnings
+    → value ≡ map_data own l space granules extensions warnings → (has_float value ≡ false → text ≡ compact_text value ++ codes "\n")
+    → IsMap n.readable.now own l files p text
+shown-map own l files p n rows space granules extensions warnings value text number placed is_space has counted all made shown =
+    record {
+      taken = is_space.taken;
+      between = is_space.between;
+      granules = granules;
+      warnings = all.texts;
+      rising = subst (λ (rs : List Row). AreRising (map row_pages rs) is_space.taken) placed is_space.rising;
+      around = is_space.around;
+      counted = has;
+      shown = shown (ap has_float whole ∙ no-float own l name n.readable.now.release.paths (rows_of l files p) is_space.taken is_space.between granules
+          parts all.texts)
+          ∙ ap (λ (v : Data). compact_text v ++ codes "\n") whole;
+    }
+  where
+    name : ℕ → List ℕ
+    name = item_name n.readable.now.names l.number
+
+    parts : Extensions
+    parts = extensions_of (measured l p (page_contents l files p))
+
+    same : space ≡ space_of name n.readable.now.release.paths l (rows_of l files p) is_space.taken is_space.between
+    same =
+        is_space.is
+        ∙ ap (λ (k : ℕ). space_of (item_name n.readable.now.names k) n.readable.now.release.paths l rows is_space.taken is_space.between) number
+        ∙ ap (λ (rs : List Row). space_of name n.readable.now.release.paths l rs is_space.taken is_space.between) placed
+
+    whole : value ≡ map_data own l (space_of name n.readable.now.release.paths l (rows_of l files p) is_space.taken is_space.between) granules parts (map
+        string all.texts)
+    whole =
+        made
+        ∙ ap (λ (s : SpaceView). map_data own l s granules extensions warnings) same
+        ∙ ap (λ (e : Extensions). map_data own l (space_of name n.readable.now.release.paths l (rows_of l files p) is_space.taken is_space.between) granules
+        e warnings) counted
+        ∙ ap (λ (ds : List Data). map_data own l (space_of name n.readable.now.release.paths l (rows_of l files p) is_space.taken is_space.between) granules
+        parts ds) all.are

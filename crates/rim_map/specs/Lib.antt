@@ -1,0 +1,6 @@
+pub mod Granules
+pub mod Extensions
+pub mod Rows
+pub mod Stretches
+pub mod MapJson
+pub mod inside

@@ -1,0 +1,3 @@
+-- What the loops of this crate keep.
+pub mod Links
+pub mod Spaces

@@ -1,0 +1,33 @@
+-- An address space and texts as JSON values. This project's choice.
+use Rattle.std.specs.Prelude.{◌≡◌, ℕ, List, map}
+use Rattle.serde_json.specs.Data.{Data, string}
+use Rattle.serde_json.specs.View.{view}
+use Rattle.rim_launch.specs.LaunchData.{LaunchData}
+use Rattle.rim_line.specs.Names.{names_of}
+use Rattle.rim_line.specs.declared.names.ItemNames.{ItemNames}
+use Rattle.rim_map.specs.MapJson.{SpaceView, space_of}
+use Rattle.rim_map.specs.Stretches.{AreRising, IsBetween, row_pages}
+use Rattle.rim_map.specs.declared.json.Space.{Space}
+use Rattle.rim_map.specs.declared.rows.Row.{Row}
+use Rattle.rim_map.specs.declared.stretches.Stretch.{Stretch}
+
+abbrev pub seen_space : Space → SpaceView
+seen_space s = record { gaps = map view s.gaps.items; items = map view s.items.items; regions = map view s.regions.items }
+
+-- a space is that of a launch whose items have these names and places
+pub record IsSpace (n : ItemNames) (l : LaunchData) (rows : List Row) (space : SpaceView) : Type 0 where
+  pub taken : List Stretch
+  pub between : List Stretch
+  pub rising : AreRising (map row_pages rows) taken
+  pub around : IsBetween l.ram between
+  pub is : space ≡ space_of (names_of n) n.readable.now.release.paths l rows taken between
+
+-- a value is some text
+pub record IsText (d : Data) : Type 0 where
+  pub text : List ℕ
+  pub is : d ≡ string text
+
+-- values are some texts
+pub record AreTexts (ds : List Data) : Type 0 where
+  pub texts : List (List ℕ)
+  pub are : ds ≡ map string texts

@@ -1,0 +1,140 @@
+//! The map of a launch as JSON.
+ghost use Rattle.std.specs.Prelude.{◌≡◌, ◌++◌, IfOk, codes, false, map};
+ghost use Rattle.serde_json.specs.View.{view};
+ghost use Rattle.serde_json.specs.Written.{compact_text, has_float};
+ghost use Rattle.ipa_layout.specs.Files.{bytes_of_files};
+ghost use Rattle.rim_map.specs.MapJson.{IsMap, map_data};
+ghost use Rattle.rim_map.specs.inside.Spaces.{AreTexts, IsSpace, IsText, seen_space};
+
+use crate::extensions::{Extensions, count_extensions};
+use crate::granules::{Granules, count_granules};
+use crate::json_parts::{
+    extensions_value, granules_value, item_values, launch_value, region_values, stretch_values,
+};
+use crate::rows::{Row, item_rows};
+use crate::stretches::{between, taken};
+use crate::warnings::warnings;
+use refusal::NoMemory;
+use rim_accepted::AcceptedLaunch;
+use rim_launch::Launch;
+use rim_line::{ItemNames, Line, Readable};
+use serde_json::{Value, json};
+use std::alloc::{AllocError, Global};
+
+/// The map of a launch that is accepted, by its name: one JSON object without spaces, and a line feed. Its members are `extensions`,
+/// `gaps` (the addresses between regions of RAM), `granules`, `items` in the manifest's order, `launch` (what it is), `regions` in the
+/// manifest's order, each with the `gaps` between its items, `version`, which is 1, and `warnings`. Addresses and sizes are numbers, in
+/// bytes.
+pub fn map_json(
+    alloc: Global,
+    readable: &Readable,
+    name: &str,
+    accepted: &AcceptedLaunch<'_>,
+) -> Result<Vec<u8>, NoMemory>
+    ensures { IfOk result (λ text. IsMap readable.now name.now accepted.now.launch.now
+        (bytes_of_files accepted.now.files.now) accepted.now.placed text.items) }
+{
+    let launch = accepted.launch;
+    let names = ItemNames {
+        readable,
+        launch: launch.number(),
+    };
+    let rows = item_rows(alloc, launch, accepted.files, &accepted.placed)?;
+    let space = placed_space(alloc, names, launch, &rows)?;
+    let granules = count_granules(alloc, accepted)?;
+    let extensions = count_extensions(alloc, accepted)?;
+    let lines = warnings(alloc, names, name, accepted)?;
+    let warnings = line_values(alloc, &lines)?;
+    let value = map_value(alloc, name, launch, space, &granules, &extensions, warnings)?;
+    text(alloc, &value)
+}
+
+/// A JSON value as a line.
+pub(crate) fn text(alloc: Global, value: &Value) -> Result<Vec<u8>, NoMemory>
+    ensures { IfOk result (λ text. has_float (view value.now) ≡ false
+        → text.items ≡ compact_text (view value.now) ++ codes "\n") }
+{
+    let mut text = value.to_string(alloc)?.into_bytes();
+    text.push(b'\n')?;
+    Ok(text)
+}
+
+/// The address space of a launch as JSON values.
+#[derive(Drop)]
+pub(crate) struct Space {
+    pub gaps: Vec<Value>,
+    pub items: Vec<Value>,
+    pub regions: Vec<Value>,
+}
+
+/// The address space of a launch whose items have these places.
+pub(crate) fn placed_space(
+    alloc: Global,
+    names: ItemNames<'_>,
+    launch: &Launch,
+    rows: &[Row],
+) -> Result<Space, NoMemory>
+    ensures { IfOk result
+        (λ space. IsSpace names.entry launch.now rows.now (seen_space space)) }
+{
+    let taken = taken(alloc, rows)?;
+    let gaps = between(alloc, launch.ram())?;
+    Ok(Space {
+        gaps: stretch_values(alloc, &gaps)?,
+        items: item_values(alloc, names, launch.items(), rows)?,
+        regions: region_values(alloc, launch.ram(), &taken)?,
+    })
+}
+
+/// The map as a JSON value.
+#[tactic(auto, unfolding(crate::specs::MapJson::map_data))]
+fn map_value(
+    alloc: Global,
+    name: &str,
+    launch: &Launch,
+    space: Space,
+    granules: &Granules,
+    extensions: &Extensions,
+    warnings: Vec<Value>,
+) -> Result<Value, AllocError>
+    ensures { IfOk result (λ v. view v ≡ map_data name.now launch.now (seen_space space)
+        granules.now extensions.now (map view warnings.items)) }
+{
+    let extensions = extensions_value(alloc, extensions)?;
+    let granules = granules_value(alloc, &launch.config(), granules)?;
+    let launch = launch_value(alloc, name, launch)?;
+    let Space {
+        gaps,
+        items,
+        regions,
+    } = space;
+    json!(in alloc; {
+        "extensions": extensions,
+        "gaps": gaps,
+        "granules": granules,
+        "items": items,
+        "launch": launch,
+        "regions": regions,
+        "version": 1u64,
+        "warnings": warnings,
+    })
+}
+
+/// Lines as texts.
+fn line_values(alloc: Global, lines: &[Line]) -> Result<Vec<Value>, AllocError>
+    ensures { IfOk result (λ values. AreTexts (map view values.items)) }
+{
+    let mut values = Vec::with_capacity(alloc, lines.len())?;
+    for line in lines {
+        values.push(text_value(alloc, line.as_slice())?)?;
+    }
+    Ok(values)
+}
+
+/// A text of UTF-8; other bytes are shown as the replacement character.
+pub(crate) fn text_value(alloc: Global, bytes: &[u8]) -> Result<Value, AllocError>
+    ensures { IfOk result (λ v. IsText (view v)) }
+{
+    let text = String::from_utf8_lossy(alloc, bytes)?;
+    json!(in alloc; text.as_str())
+}

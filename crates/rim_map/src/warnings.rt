@@ -1,0 +1,43 @@
+//! The warnings of a launch, as `rim check` says them.
+use crate::columns::push_line;
+use refusal::NoMemory;
+use rim_accepted::AcceptedLaunch;
+use rim_line::{ItemNames, Line};
+use rim_unusual::{Unusual, find_unusual};
+use std::alloc::Global;
+use std::fmt::Write;
+
+/// Adds the line of each warning of a launch, which has this name and is accepted.
+pub(crate) fn push_warnings(
+    alloc: Global,
+    text: &mut Vec<u8>,
+    names: ItemNames<'_>,
+    name: &str,
+    accepted: &AcceptedLaunch<'_>,
+) -> Result<(), NoMemory> {
+    for line in &warnings(alloc, names, name, accepted)? {
+        push_line(text, line)?;
+    }
+    Ok(())
+}
+
+/// The line of each warning of a launch.
+pub(crate) fn warnings(
+    alloc: Global,
+    names: ItemNames<'_>,
+    name: &str,
+    accepted: &AcceptedLaunch<'_>,
+) -> Result<Vec<Line>, NoMemory> {
+    let mut lines = Vec::new(alloc);
+    for one in &find_unusual(alloc, names, accepted)? {
+        lines.push(warning(alloc, name, one)?)?;
+    }
+    Ok(lines)
+}
+
+/// The line of a warning.
+fn warning(alloc: Global, name: &str, unusual: &Unusual<'_>) -> Result<Line, NoMemory> {
+    let mut line = Line::new(alloc);
+    write!(line, "warning: launch \"{name}\": {unusual}").map_err(|_| NoMemory)?;
+    Ok(line)
+}
