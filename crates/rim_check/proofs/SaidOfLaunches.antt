@@ -32,8 +32,16 @@ says-refusal names l why hint name kind before after old new fault number config
     s : Saying
     s = record { front = Some (launch_front name); word = kind; detail = Some ((codes ": " ++ reason_detail (item_name names number) config why) ++ hint) }
 
+    told : List ℕ → Saying
+    told detail = record { front = Some (launch_front l.name); word = audit_kind_of (audit_fault_of why); detail = Some detail }
+
+    detail_of : ℕ → Config → List ℕ
+    detail_of n c = (codes ": " ++ reason_detail (item_name names n) c why) ++ hint
+
     same : s ≡ refusal_said names l why hint
-    same = rw (named, numbered, configured, word, faulty) refl
+    same =
+        rw (named, word, faulty)
+        (ap (λ (n : ℕ). told (detail_of n config)) numbered ∙ ap (λ (c : Config). told (detail_of l.launch.number c)) configured)
 
 not-refused : (r : Result (List ℕ) AuditFault) → is_err r ≡ false → IsOk r
 not-refused (Ok rim) off = refl

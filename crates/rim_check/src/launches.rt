@@ -11,7 +11,7 @@ ghost use Rattle.rim_report.specs.Pages.{keys_at};
 
 use crate::detail::reason_detail;
 use crate::found::{Found, LaunchCheck};
-use crate::mending::mending;
+use crate::mending::mending_of;
 use refusal::NoMemory;
 use rim_accepted::{AcceptedLaunch, Files, LaunchReason, accept_with_reason};
 use rim_launch::Config;
@@ -64,7 +64,7 @@ fn look_at(
         Ok(accepted) => add_accepted(alloc, found, readable, launch, &accepted),
         Err(reason) => {
             found.has_refused = true;
-            let mending = mending(alloc, launch.launch(), files, &reason)?;
+            let mending = mending_of(alloc, launch.launch(), files, &reason)?;
             let hint = format!(in alloc; "{mending}")?;
             push_refused(
                 &mut found.refusals,
@@ -132,7 +132,7 @@ fn push_refusal(
         text.old.items text.new.items) }
 {
     let alloc = *text.allocator();
-    let mending = mending(alloc, launch.launch(), files, reason)?;
+    let mending = mending_of(alloc, launch.launch(), files, reason)?;
     let hint = format!(in alloc; "{mending}")?;
     push_refused(text, readable, launch, reason, hint.as_str())
 }

@@ -100,7 +100,7 @@ fn write_ram<W: fmt::Write>(f: &mut fmt::Formatter<W>, regions: &[Region]) -> fm
 }
 
 /// What helps to mend a launch that is refused for a reason.
-pub(crate) fn mending<'a>(
+pub(crate) fn mending_of<'a>(
     alloc: Global,
     launch: &'a Launch,
     files: &'a [Vec<u8>],
