@@ -1,0 +1,201 @@
+#!/usr/bin/env python3
+"""Gives `rim check` manifests with more faults than anybody reads, and looks at what a person at a terminal is told.
+
+    tests/checking.py [PROGRAM]          by default the program that `rt ci` has built
+
+- Lists of faults: at most 200 lines and how many more there are, none of what is past a limit, one line for one cause.
+- Large manifests: a check takes at most twice the time and the memory of `rim measure`, which looks for the lowest fault alone.
+- Terminals: after a fault, the file that it is about, the nearest name of a launch, or the command that says where. Nothing where standard
+  error is no terminal. The line of progress leaves the cursor on a line of its own, and is removed.
+
+The files are made here. The last line is 'N passed, M failed'.
+"""
+import concurrent.futures
+import os
+import pty
+import resource
+import subprocess
+import sys
+
+from hypervisors import TOP, Folder, differs, tried
+
+SMALL = "[[launch]]\nname = '%s'\nalgo = 'sha256'\ns2sz = 33\n"
+NONE = "launch %d: name: missing-key: not given, expected a name of 1 to 64 letters, digits, '.', '_' and '-'"
+FAULTS = ("name", "algo", "s2sz")
+
+
+def manifest(*lines: str) -> bytes:
+    return "\n".join(["rim_manifest = 1", *lines]).encode()
+
+
+def checked(program: str, text: bytes, *words: str) -> list[str]:
+    """The lines that a check of a manifest prints."""
+    here = Folder({"m.toml": text})
+    ran = subprocess.run([program, "check", *words, "m.toml"], cwd=here.path, capture_output=True, text=True, check=False)
+    if ran.returncode != 3 or ran.stderr:
+        raise ValueError(f"status {ran.returncode}: {ran.stderr}")
+    return ran.stdout.splitlines()
+
+
+def many(program: str) -> list[str]:
+    """Each launch has three faults: 200 lines, and then the number of the others."""
+    lines = checked(program, manifest("[[launch]]\n" * 70))
+    kinds = [line.split(": ")[1] for line in lines[:-1]]
+    wrong = differs("number of lines", len(lines), 201) + differs("the first", lines[0], NONE % 0)
+    wrong += differs("their keys", kinds, [FAULTS[i % 3] for i in range(200)])
+    return wrong + differs("the last", lines[-1], "10 more faults")
+
+
+def all_of_them(program: str) -> list[str]:
+    """200 faults have a line each, and none is left out."""
+    lines = checked(program, manifest("[[launch]]\n" * 66, "[[launch]]\nname = 'x'"))
+    return differs("number of lines", len(lines), 200) + differs("the last", lines[-1].split(": ")[:2], ['launch "x"', "s2sz"])
+
+
+def lower(program: str) -> list[str]:
+    """A fault past the 200th has a line where it is lower than all before it: an unknown key is lower than a missing one."""
+    lines = checked(program, manifest("[[launch]]\n" * 80, "[[launch]]\nnmae = 'x'"))
+    wrong = differs("number of lines", len(lines), 202)
+    wrong += differs("the one before the last", lines[-2], 'launch 80: unknown-key: "nmae" (nearest: name)')
+    return wrong + differs("the last", lines[-1], "43 more faults")
+
+
+def past_limit(program: str) -> list[str]:
+    """Files past the 64th have no line."""
+    lines = checked(program, manifest("[[file]]\n" * 66))
+    wrong = differs("number of lines", len(lines), 130) + differs("the first", lines[0].split(": ")[:3], ["manifest", "file", "limit"])
+    wrong += differs("the last fault", lines[-2].split(": ")[:2], ["file 63", "path"])
+    return wrong + differs("the last", lines[-1], "4 more faults")
+
+
+def one_more(program: str) -> list[str]:
+    return differs("the last", checked(program, manifest("[[launch]]\n" * 67))[-1], "1 more fault")
+
+
+def taken(program: str, command: str, folder: Folder) -> tuple[float, int]:
+    """Processor time in seconds and the most memory in KiB that a run takes."""
+    script = "import resource, subprocess, sys\nsubprocess.run(sys.argv[1:], stdout=subprocess.DEVNULL, stderr=subprocess.DEVNULL)\n" \
+             "used = resource.getrusage(resource.RUSAGE_CHILDREN)\nprint(used.ru_utime + used.ru_stime, used.ru_maxrss)"
+    words = [sys.executable, "-c", script, program, command, "m.toml"]
+    time, memory = subprocess.run(words, cwd=folder.path, capture_output=True, text=True, check=True).stdout.split()
+    return float(time), int(memory)
+
+
+def large(program: str, text: bytes) -> list[str]:
+    folder = Folder({"m.toml": text})
+    time, memory = taken(program, "measure", folder)
+    own_time, own_memory = taken(program, "check", folder)
+    wrong = [] if own_time <= 2 * time + 0.05 else [f"check takes {own_time:.2f} s, and measure {time:.2f}"]
+    return wrong + ([] if own_memory <= 2 * memory else [f"check takes {own_memory} KiB, and measure {memory}"])
+
+
+LARGE = [
+    ("3,000,000 empty items", lambda: manifest(SMALL % "a" + "item = [" + "{}," * 3_000_000 + "]")),
+    ("1,100,000 unknown keys", lambda: manifest("\n".join(f"k{i} = 1" for i in range(1_100_000)))),
+    ("300,000 launches", lambda: manifest("[[launch]]\n" * 300_000)),
+]
+
+
+def at_terminal(program: str, folder: Folder, *words: str, stop=False) -> tuple[int, str]:
+    """The status of a run whose standard error is a terminal, and what it shows there."""
+    own, other = pty.openpty()
+    ran = subprocess.Popen([program, *words], cwd=folder.path, stdout=subprocess.DEVNULL, stderr=other)
+    os.close(other)
+    shown = b""
+    while True:
+        try:
+            more = os.read(own, 65536)
+        except OSError:
+            break
+        if not more:
+            break
+        shown += more
+        if stop and b"pages" in shown:
+            ran.terminate()
+            stop = False
+    os.close(own)
+    return ran.wait(), shown.decode().replace("\r\n", "\n")
+
+
+FILE = "[[file]]\nname = 'f'\npath = '%s'\n"
+ADVICE = [
+    ("a manifest that is not there", ["measure", "gone.toml"], b"",
+     "rim: file-unreadable\n  gone.toml: there is no such file in the folder where rim runs\n"),
+    ("a folder in its place", ["audit", "/"], b"", "rim: file-unreadable\n  /: it is a directory\n"),
+    ("a fault of a manifest", ["measure", "m.toml"], b"rim_manifest = 3\n", "rim: version\n  `rim check m.toml` says where\n"),
+    ("no TOML document", ["list", "m.toml", "a"], b"x", "rim: syntax\n  `rim check m.toml` says where\n"),
+    ("a file that is not there", ["trace", "m.toml", "a"], manifest(FILE % "gone", SMALL % "a"),
+     "rim: file-unreadable\n  `rim check m.toml` says where\n"),
+    ("no launch of the name", ["list", "m.toml", "smal"], manifest(SMALL % "small"),
+     'rim: no-such-launch\n  m.toml has no launch "smal" (nearest: small)\n'),
+    ("no launch, and no name near it", ["map", "m.toml", "x"], manifest(SMALL % "small"),
+     'rim: no-such-launch\n  m.toml has no launch "x"\n'),
+    ("a launch that is refused has no devicetree", ["dtb", "m.toml", "a"], manifest(SMALL % "a" + "ram = [[1, 2]]\n"),
+     "rim: plan-unaligned\n  `rim check m.toml` says where\n"),
+    ("a launch without a devicetree", ["dtb", "m.toml", "a"], manifest(SMALL % "a"), "rim: no-devicetree\n"),
+    ("a listing that is not there", ["replay", "gone"], b"",
+     "rim: file-unreadable\n  gone: there is no such file in the folder where rim runs\n"),
+    ("a path with an escape", ["image", "a\x1b[1m"], b"",
+     "rim: file-unreadable\n  a\\x1b[1m: there is no such file in the folder where rim runs\n"),
+    ("a devicetree that is none", ["fdt", "m.toml"], b"x", "rim: dtb-short\n"),
+]
+
+
+def advice(program: str, words: list[str], text: bytes, shown: str) -> list[str]:
+    return differs("what is shown", at_terminal(program, Folder({"m.toml": text}), *words), (3, shown))
+
+
+def no_terminal(program: str) -> list[str]:
+    ran = subprocess.run([program, "measure", "gone.toml"], capture_output=True, text=True, check=False)
+    return differs("what is written", (ran.returncode, ran.stderr), (3, "rim: file-unreadable\n"))
+
+
+def long_run() -> Folder:
+    """A release that is measured for some seconds."""
+    item = "item = [{name = 'f', kind = 'raw', file = 'f', at = 0x40000000, size = 0x10000000}]\n"
+    launches = [SMALL % "a" + "ram = [[0x40000000, 0x50000000]]\n" + item]
+    return Folder({"f": b"1234567" * 38_000_000, "m.toml": manifest(FILE % "f", *launches)})
+
+
+def progress(program: str) -> list[str]:
+    """Each line ends, so that the cursor stands under it; the last one is removed."""
+    status, shown = at_terminal(program, long_run(), "measure", "m.toml", "--workers", "1")
+    lines = shown.split("\n")
+    wrong = differs("the status", status, 0)
+    wrong += [] if len(lines) > 1 and all(line.endswith("launches\x1b[K") for line in lines[:-1]) else [f"lines: {lines!r}"]
+    return wrong + differs("the end", lines[-1], "\x1b[A\x1b[K")
+
+
+def broken_off(program: str) -> list[str]:
+    """A run that is ended by a signal leaves the cursor at the beginning of a line."""
+    status, shown = at_terminal(program, long_run(), "measure", "m.toml", "--workers", "1", stop=True)
+    return differs("the status", status, -15) + differs("the end", shown[-1:], "\n")
+
+
+def all_tries(program: str):
+    for look in (many, all_of_them, lower, past_limit, one_more, no_terminal, progress, broken_off):
+        yield look.__name__, lambda look=look: look(program)
+    for name, text in LARGE:
+        yield name, lambda text=text: large(program, text())
+    for name, words, text, shown in ADVICE:
+        yield name, lambda words=words, text=text, shown=shown: advice(program, words, text, shown)
+
+
+def run_all() -> int:
+    program = os.path.abspath(sys.argv[1] if len(sys.argv) > 1 else os.path.join(TOP, "crates", "rim", "out", "rim"))
+    if not os.path.exists(program):
+        raise SystemExit(f"{program} is not built")
+    resource.setrlimit(resource.RLIMIT_CORE, (0, 0))
+    with concurrent.futures.ThreadPoolExecutor(2) as pool:
+        waiting = [(name, pool.submit(tried, look)) for name, look in all_tries(program)]
+        outcomes = [(name, done.result()) for name, done in waiting]
+    for name, wrong in outcomes:
+        if wrong:
+            print(f"WRONG: {name}", *wrong, sep="\n  ")
+    failed = sum(bool(wrong) for _, wrong in outcomes)
+    print(f"{len(outcomes) - failed} passed, {failed} failed")
+    return int(failed > 0)
+
+
+if __name__ == "__main__":
+    sys.exit(run_all())
