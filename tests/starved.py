@@ -66,6 +66,11 @@ item = [{ name = "x", kind = "raw", file = "f", at = 0x40000000, measured = fals
     "alike": release(600 * 4096, launch("a", more=ALIKE), launch("b", more=ALIKE + "\nrec = [{}]"), launch("c", more=ALIKE + "\nrec = [{}, {}]")),
     "all kinds": release(5000, launch("a", more=ALL_KINDS)),
 }
+# Releases whose first launch is refused.
+REFUSED = {
+    "a list that is refused": release(4096, launch("a", more="pool_count = 9\n" + RAM + ITEM)),
+    "a launch that is not laid out": release(4096, launch("a", more=TWO)),
+}
 FAULTY = "rim_manifest = 1\nfile = [{ name = 3 }]\n[[launch]]\nname = \"a b\"\nalgo = \"sha384\"\ns2sz = 49\n"
 # A root without anything in it, and one with a node `chosen` whose one property `bootargs` is `quiet` and a zero byte.
 EMPTY = bytes.fromhex("d00dfeed 00000048 00000038 00000048 00000028 00000011 00000010 00000000 00000000 00000010" + "00000000" * 4 + "00000001 00000000 00000002 00000009")
@@ -92,6 +97,7 @@ BYTES = {
     **{call: ["both algorithms", "all kinds"] for call in ("Table::reserve", "DigestRow::reserve", "BoardState::new")},
     **{call: list(RELEASES) for call in ("measure_alone", "measure_release", "measure_release/no-waiting", "audit_report")},
     **{call: ["both algorithms", "a page twice", "all kinds"] for call in ("json_report", "check_launches")},
+    **{call: ["both algorithms", "all kinds", "a list that is refused", "a launch that is not laid out"] for call in ("map_text", "map_json")},
     "placed_devicetree": ["all kinds"],
 }
 WORKERS = ["measure_release", "measure_release/no-waiting"]
@@ -100,7 +106,7 @@ MANIFESTS = ["read_manifest", "check_manifest"]
 
 def inputs(program, folder):
     """What the calls are given, by its name."""
-    given = {name: text.encode() for name, text in {**RELEASES, **WORDS, "a faulty manifest": FAULTY}.items()}
+    given = {name: text.encode() for name, text in {**RELEASES, **REFUSED, **WORDS, "a faulty manifest": FAULTY}.items()}
     given |= {"an empty root": EMPTY, "a node": CHOSEN, "an Image": IMAGE}
     given["all kinds"] += b"\0" + CHOSEN
     for name, first in ("two GiB of RAM", "wide"), ("all kinds", "a"):

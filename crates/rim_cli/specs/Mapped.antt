@@ -2,20 +2,14 @@
 use Rattle.std.specs.Prelude.{◌≡◌, ℕ, List, ⊤, Result, Ok, Err}
 use Rattle.ipa_layout.specs.Files.{bytes_of_files}
 use Rattle.ipa_layout.specs.Layout.{PlacedData}
-use Rattle.rim_manifest.specs.Launches.{NamedData, ReleaseData}
-use Rattle.rim_manifest.specs.Manifest.{manifest_of}
-use Rattle.rim_line.specs.Readables.{ReadableData, item_names_in}
+use Rattle.rim_manifest.specs.Launches.{NamedData}
+use Rattle.rim_line.specs.Readables.{ReadableData}
 use Rattle.rim_accepted.specs.Accepted.{accepted_of}
 use Rattle.rim_accepted.specs.declared.accepted.AcceptedLaunch.{AcceptedLaunch}
 use Rattle.rim_accepted.specs.declared.audit_fault.AuditFault.{AuditFault}
 use Rattle.rim_map.specs.MapJson.{IsMap}
 use Rattle.rim_cli.specs.declared.words.Format.{Format}
 use Rattle.rim_cli.specs.declared.words.Format.TheVariants as format
-
--- a manifest has these names of items and describes this release
-pub record ReadsManifest (bytes : List ℕ) (m : ReadableData) : Type 0 where
-  pub release : manifest_of bytes ≡ Ok m.release
-  pub names : item_names_in bytes ≡ m.names
 
 -- as JSON the map of a launch that is accepted shows it; what its lines show is tested alone
 abbrev pub Shows : Format → ReadableData → List ℕ → AcceptedLaunch → List ℕ → Type 0

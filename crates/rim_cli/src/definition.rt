@@ -100,13 +100,13 @@ fn with_release_commands<'a>(alloc: Global, command: Command<'a>) -> Result<Comm
         list.top) trace.top) launch_map.top) audit.top) check.top) }
     ensures globals { IfOk result (λ c. (out-Command c).has_globals ≡ false) }
 {
-    let command = with_report_commands(alloc, command)?;
+    let command = with_launch_commands(alloc, command)?;
     let command = with_subcommand(command, audit_command(alloc)?)?;
     with_subcommand(command, check_command(alloc)?)
 }
 
-/// A command with the subcommands that print what becomes of launches.
-fn with_report_commands<'a>(alloc: Global, command: Command<'a>) -> Result<Command<'a>, AllocError>
+/// A command with the subcommands that print what becomes of launches, and where they are.
+fn with_launch_commands<'a>(alloc: Global, command: Command<'a>) -> Result<Command<'a>, AllocError>
     requires { (out-Command command).has_globals ≡ false }
     ensures shape { IfOk result (λ c. app_of c
         ≡ with_subcommand (with_subcommand
@@ -114,10 +114,22 @@ fn with_report_commands<'a>(alloc: Global, command: Command<'a>) -> Result<Comma
         trace.top) launch_map.top) }
     ensures globals { IfOk result (λ c. (out-Command c).has_globals ≡ false) }
 {
+    let command = with_report_commands(alloc, command)?;
+    with_subcommand(command, map_command(alloc)?)
+}
+
+/// A command with the subcommands that print what becomes of launches.
+fn with_report_commands<'a>(alloc: Global, command: Command<'a>) -> Result<Command<'a>, AllocError>
+    requires { (out-Command command).has_globals ≡ false }
+    ensures shape { IfOk result (λ c. app_of c
+        ≡ with_subcommand
+        (with_subcommand (with_subcommand (app_of command.entry) measure.top) list.top)
+        trace.top) }
+    ensures globals { IfOk result (λ c. (out-Command c).has_globals ≡ false) }
+{
     let command = with_subcommand(command, measure_command(alloc)?)?;
     let command = with_subcommand(command, list_command(alloc)?)?;
-    let command = with_subcommand(command, trace_command(alloc)?)?;
-    with_subcommand(command, map_command(alloc)?)
+    with_subcommand(command, trace_command(alloc)?)
 }
 
 /// A command with the subcommands about one file that is no manifest.

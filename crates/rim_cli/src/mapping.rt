@@ -1,8 +1,8 @@
 //! The map of a manifest's launch.
-ghost use Rattle.std.specs.Prelude.{◌≡◌, ◌<◌, ◌≤◌, IfErr, IfOk, IfSome, IsOkAnd, Some, length, map, position, slice_get, true, vec_len};
+ghost use Rattle.std.specs.Prelude.{◌≡◌, ◌<◌, ◌≤◌, IfErr, IfOk, IfSome, IsOkAnd, Ok, Some, length, map, position, slice_get, true, vec_len};
 ghost use Rattle.rim_cli.specs.Done.{IsManifestFault, IsMapped, RefusesListing, RefusesManifest};
 ghost use Rattle.rim_cli.specs.Files.{AreRead, IfFile};
-ghost use Rattle.rim_cli.specs.Mapped.{IsMapOf, ReadsManifest, Shows};
+ghost use Rattle.rim_cli.specs.Mapped.{IsMapOf, Shows};
 ghost use Rattle.rim_launch.specs.LaunchData.{has_files};
 ghost use Rattle.ipa_layout.specs.Files.{bytes_of_files};
 ghost use Rattle.rim_line.specs.Readables.{item_names_in};
@@ -60,8 +60,10 @@ fn find_launch<O: Opener>(
     path: &str,
     launch: &str,
 ) -> Result<ReadableLaunch, Fault>
-    ensures manifest { IfOk result (λ f. IfFile (O.held opener.old path.now)
-        (λ bytes. ReadsManifest bytes f.readable)) }
+    ensures release { IfOk result (λ f. IfFile (O.held opener.old path.now)
+        (λ bytes. manifest_of bytes ≡ Ok f.readable.release)) }
+    ensures names { IfOk result (λ f. IfFile (O.held opener.old path.now)
+        (λ bytes. item_names_in bytes ≡ f.readable.names)) }
     ensures number { IfOk result
         (λ f. position (name_in launch.now) f.readable.release.launches ≡ Some f.number) }
     ensures files { IfOk result (λ f. AreRead (O.held opener.old) f.readable.release.paths
@@ -73,18 +75,22 @@ fn find_launch<O: Opener>(
     let Some(number) = readable.release().launch_named(launch) else {
         return Err(Fault::NoSuchLaunch);
     };
-    let files = read_files(alloc, opener, readable.release())?;
-    Ok(ReadableLaunch {
-        readable,
-        number,
-        files,
-    })
+    match read_files(alloc, opener, readable.release()) {
+        Ok(files) => Ok(ReadableLaunch {
+            readable,
+            number,
+            files,
+        }),
+        Err(fault) => Err(fault),
+    }
 }
 
 /// The manifest at a path, with the release that it describes.
 fn read_readable<O: Opener>(alloc: Global, opener: &mut O, path: &str) -> Result<Readable, Fault>
-    ensures read { IfOk result
-        (λ r. IfFile (O.held opener.old path.now) (λ bytes. ReadsManifest bytes r)) }
+    ensures release { IfOk result
+        (λ r. IfFile (O.held opener.old path.now) (λ bytes. manifest_of bytes ≡ Ok r.release)) }
+    ensures names { IfOk result
+        (λ r. IfFile (O.held opener.old path.now) (λ bytes. item_names_in bytes ≡ r.names)) }
     ensures fault { IfErr result (IsManifestFault (O.held opener.old path.now)) }
     ensures stays { O.held opener.new ≡ O.held opener.old }
 {

@@ -60,10 +60,12 @@ pub enum ReleaseCall {
     Trace,
     Devicetree,
     CheckLaunches,
+    /// The map of a launch, accepted or refused, as lines or as JSON.
+    Map { is_json: bool },
 }
 
 impl Call {
-    pub const ALL: [Call; 33] = [
+    pub const ALL: [Call; 35] = [
         Call::Tree(TreeCall::Read),
         Call::Tree(TreeCall::Set),
         Call::Tree(TreeCall::SetMemory),
@@ -97,6 +99,8 @@ impl Call {
         Call::Release(ReleaseCall::Trace),
         Call::Release(ReleaseCall::Devicetree),
         Call::Release(ReleaseCall::CheckLaunches),
+        Call::Release(ReleaseCall::Map { is_json: false }),
+        Call::Release(ReleaseCall::Map { is_json: true }),
     ];
 
     /// The call of this name.
@@ -176,6 +180,8 @@ impl ReleaseCall {
             ReleaseCall::Trace => "trace",
             ReleaseCall::Devicetree => "placed_devicetree",
             ReleaseCall::CheckLaunches => "check_launches",
+            ReleaseCall::Map { is_json: false } => "map_text",
+            ReleaseCall::Map { is_json: true } => "map_json",
         }
     }
 }

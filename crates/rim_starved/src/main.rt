@@ -8,6 +8,7 @@ mod calls;
 mod inputs;
 mod layers;
 mod machine;
+mod maps;
 mod releases;
 mod texts;
 mod trees;

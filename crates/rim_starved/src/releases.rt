@@ -3,6 +3,7 @@ ghost use Rattle.std.specs.Prelude.{◌≡◌, ◌<◌, length, vec_len};
 
 use crate::calls::ReleaseCall;
 use crate::inputs::{files_of, split};
+use crate::maps;
 use crate::trial::{Fault, Seen, begin, digest, end, seen};
 use refusal::NoMemory;
 use rim_check::{LaunchCheck, ManifestCheck, Readable, check_launches, check_manifest};
@@ -33,6 +34,7 @@ pub fn seen<R: Threads + Wait + Sync + Print + AllocGlobal>(
         ),
         ReleaseCall::JsonReport => as_json(rt, &release, &files, is_tried),
         ReleaseCall::CheckLaunches => checked(rt, text, &files, is_tried),
+        ReleaseCall::Map { is_json } => maps::seen(rt, text, &files, is_json, is_tried),
         ReleaseCall::MeasureAlone => alone(rt, &release, &files, is_tried),
         ReleaseCall::AuditReport => all_audited(rt, &release, &files, is_tried),
         _ => first_launch(rt, call, &release, &files, is_tried),

@@ -14,6 +14,6 @@ returns-in-Ok-clause-answered g c =
     let text = c.in-Ok.answer.text.items in
     let status = c.in-Ok.answer.status in
     of_readable (held c.args.path.now) found.readable (λ names r. IsMapped held c.args.format names r c.args.launch.now text status)
-    c.in_ok-found.ensures.manifest
+    c.in_ok-found.ensures.release c.in_ok-found.ensures.names
     (found_launch held c.args.launch.now found.readable.release found.number files (λ l fs. IsMapOf c.args.format found.readable l fs text status)
     c.in_ok-found.ensures.number found.there c.in_ok-found.ensures.files c.in-Ok.ensures.map)
