@@ -64,15 +64,7 @@ fn look_at(
         Ok(accepted) => add_accepted(alloc, found, readable, launch, &accepted),
         Err(reason) => {
             found.has_refused = true;
-            let mending = mending_of(alloc, launch.launch(), files, &reason)?;
-            let hint = format!(in alloc; "{mending}")?;
-            push_refused(
-                &mut found.refusals,
-                readable,
-                launch,
-                &reason,
-                hint.as_str(),
-            )
+            push_refusal(&mut found.refusals, readable, launch, files, &reason)
         }
     }
 }
