@@ -1,5 +1,5 @@
 #!/usr/bin/env python3
-"""Gives `rim check` manifests with more faults than anybody reads, and looks at what a person at a terminal is told.
+"""Gives `rim check` manifests with more faults than anybody reads, and looks at what a terminal shows.
 
     tests/checking.py [PROGRAM]          by default the program that `rt ci` has built
 
@@ -158,7 +158,7 @@ def long_run() -> Folder:
 
 
 def progress(program: str) -> list[str]:
-    """Each line ends, so that the cursor stands under it; the last one is removed."""
+    """Each line ends, so that the cursor is under it; the last one is removed."""
     status, shown = at_terminal(program, long_run(), "measure", "m.toml", "--workers", "1")
     lines = shown.split("\n")
     wrong = differs("the status", status, 0)
