@@ -94,6 +94,7 @@ pub(crate) fn lent_task<'a, L: Run>(
     requires plans { plans.now ≡ L.plans }
     requires most { (l : ℕ) (p : PlanView) → slice_get plans.now l ≡ Some p
         → length (keys_of p.links) ≤ room }
+    ensures number { IfOk result (λ task. task.number ≡ number) }
     ensures alone { IfOk result (λ task. task.plan.params.algo ≡ algo.Sha256) }
 {
     let mut row = row;

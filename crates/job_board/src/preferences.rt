@@ -65,7 +65,9 @@ impl Preferences {
         core: &Core,
         prefixes: &SharedPrefixes,
         worker: usize,
-    ) -> Option<usize> {
+    ) -> Option<usize>
+        ensures { IfSome result (IsOpen core.now) }
+    {
         if !self.lending.is_enough(self.chain_order.offered()) {
             return None;
         }

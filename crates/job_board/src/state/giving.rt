@@ -9,7 +9,7 @@ ghost use Rattle.job_board.specs.declared.job.JobState.{JobState};
 ghost use Rattle.job_board.specs.declared.work.Work.{Work};
 ghost use Rattle.job_board.specs.Board.{Adds, IsBoard, IsOfRun, SameRest};
 ghost use Rattle.job_board.specs.Gives.{Gives};
-ghost use Rattle.job_board.specs.Jobs.{NoneFree, SomeHeld, held_count, is_out, is_over, is_ready, state_of};
+ghost use Rattle.job_board.specs.Jobs.{IsOpen, NoneFree, SomeHeld, held_count, is_out, is_over, is_ready, state_of};
 
 use super::BoardState;
 use crate::job::{Event, JobId};
@@ -172,6 +172,7 @@ impl<'a, L: Run> BoardState<'a, L> {
     /// workers, or the row has no room for the next.
     pub fn lend(&mut self, worker: usize, row: DigestRow) -> Result<LaunchTask<'a, L>, DigestRow>
         ensures same { self.new ≡ self.old }
+        ensures open { IfOk result (λ task. IsOpen self.old.core task.number) }
         ensures alone { IfOk result (λ task. task.plan.params.algo ≡ algo.Sha256) }
     {
         let BoardState {
