@@ -59,7 +59,7 @@ fn main(rt: HostRuntime) -> ExitCode {
         &mut io::writer(&rt),
         &mut rt.stderr(),
     );
-    // A person at a terminal is told where to look.
+    // At a terminal one more line says where to look.
     if status == FAULT && is_terminal {
         advise(rt.alloc(), words.as_slice(), &mut opener, &mut rt.stderr());
     }

@@ -89,6 +89,17 @@ impl Line {
         let up = self.up();
         self.last = Some(now);
         self.is_shown = true;
+        self.write(rt, up)
+    }
+
+    /// Writes the counts, after what leads back to the line that they replace. An audit counts no pages.
+    fn write(&self, rt: &impl Eprint, up: &str) -> io::Result<()> {
+        if self.all_pages == 0 {
+            return eprint!(rt;
+                "{up}rim: {} of {} launches\x1b[K\n",
+                self.launches, self.all_launches
+            );
+        }
         eprint!(rt;
             "{up}rim: {} of {} pages, {} of {} launches\x1b[K\n",
             self.pages, self.all_pages, self.launches, self.all_launches
@@ -102,7 +113,7 @@ impl Line {
         }
     }
 
-    /// What leads back to the line that is shown. The cursor stands on the one under it, so that a run which is broken off, as by
+    /// What leads back to the line that is shown. The cursor is on the one under it, so that a run which is broken off, as by
     /// Ctrl-C, leaves it at the beginning of a line.
     fn up(&self) -> &'static str {
         if self.is_shown { "\x1b[A" } else { "" }

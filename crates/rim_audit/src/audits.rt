@@ -14,6 +14,8 @@ use crate::commands::LaunchCommands;
 use crate::copies::{MonitorCopy, begin};
 use crate::kept::Kept;
 use crate::laying_out::lay_out;
+use job_board::JobId;
+use job_workers::{FreeGate, Gate};
 use refusal::NoMemory;
 use rim_accepted::{AuditFault, Files, Report, has_refused, push_lines};
 use rim_desc::Measurement;
@@ -58,7 +60,24 @@ pub fn audit_launches(alloc: Global, release: &Release, files: &Files) -> Result
     ensures refused { IfOk result
         (λ r. r.has_refused ≡ has_refused (bytes_of_files files.now.items) release.now.launches) }
 {
-    let outcomes = outcomes(alloc, release, files)?;
+    audit_with_gate(alloc, &FreeGate, release, files)
+}
+
+/// The same, where a gate is called around the audit of each launch, as by worker 0, and no page is counted. No clause speaks of
+/// the gate, so what the audit says does not depend on it.
+pub fn audit_with_gate<G: Gate>(
+    alloc: Global,
+    gate: &G,
+    release: &Release,
+    files: &Files,
+) -> Result<Report, NoMemory>
+    requires { vec_len files.now ≡ length release.now.paths }
+    ensures text { IfOk result
+        (λ r. r.text.items ≡ audit_text_of (bytes_of_files files.now.items) release.now.launches) }
+    ensures refused { IfOk result
+        (λ r. r.has_refused ≡ has_refused (bytes_of_files files.now.items) release.now.launches) }
+{
+    let outcomes = outcomes(alloc, gate, release, files)?;
     let mut text = Vec::new(alloc);
     text.extend_from_slice(b"rim-audit 1\n")?;
     push_lines(&mut text, release.all_launches(), &outcomes)?;
@@ -70,8 +89,9 @@ pub fn audit_launches(alloc: Global, release: &Release, files: &Files) -> Result
 
 /// What came of each launch. What launches share is done once where there is room and memory for it: pages of files are hashed, and
 /// first commands are given to a monitor.
-fn outcomes(
+fn outcomes<G: Gate>(
     alloc: Global,
+    gate: &G,
     release: &Release,
     files: &[Vec<u8>],
 ) -> Result<Vec<Result<Measurement, AuditFault>>, NoMemory>
@@ -81,9 +101,13 @@ fn outcomes(
 {
     let mut kept = Kept::new(alloc, files);
     let mut found = Vec::with_capacity(alloc, release.launches())?;
+    gate.begin(0, release.launches());
     for (number, launch) in release.all_launches().iter().enumerate() {
+        let job = JobId::Launch(number);
+        gate.before(0, job);
         kept.close_at_last(number.saturating_add(1) >= release.launches());
         found.push(outcome(alloc, launch.launch(), files, &mut kept)?)?;
+        gate.after(0, job);
     }
     Ok(found)
 }

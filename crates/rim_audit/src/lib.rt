@@ -12,7 +12,7 @@ mod laying_out;
 mod listings;
 mod trace;
 
-pub use audits::{audit, audit_launches, audit_report};
+pub use audits::{audit, audit_launches, audit_report, audit_with_gate};
 pub use laws::a_trace_shows_what_a_monitor_holds;
 pub use listings::{listing, listing_or_refusal};
 pub use trace::trace_or_refusal;

@@ -8,8 +8,8 @@ pub use rim_accepted::{
     placed_devicetree,
 };
 pub use rim_audit::{
-    a_trace_shows_what_a_monitor_holds, audit, audit_launches, audit_report, listing,
-    listing_or_refusal, trace_or_refusal,
+    a_trace_shows_what_a_monitor_holds, audit, audit_launches, audit_report, audit_with_gate,
+    listing, listing_or_refusal, trace_or_refusal,
 };
 pub use rim_launch::{Config, Launch};
 pub use rim_manifest::{ManifestFault, NamedLaunch, Release, read_manifest};

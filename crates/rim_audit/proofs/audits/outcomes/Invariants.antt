@@ -7,6 +7,6 @@ use Rattle.rim_audit.proofs.audits.outcomes.Given as goal
 
 -- what came of the launches before this one, and what is kept is of these files
 abbrev pub invariant-loop-number : goal.invariant-loop-number
-invariant-loop-number l =
+invariant-loop-number g l =
     (map seen l.found.items ≡ map (λ launch. rim_for launch.launch (bytes_of_files l.files)) (take l.number l.launch-items))
     × AreKept (bytes_of_files l.files) l.kept

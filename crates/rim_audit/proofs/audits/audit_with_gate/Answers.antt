@@ -8,10 +8,10 @@ use Rattle.std.specs.Prelude.{is_err}
 use Rattle.std.specs.List.{list_any}
 use Rattle.rim_accepted.proofs.LinesOfLaunches.{own-lines}
 use Rattle.rim_accepted.proofs.RefusedLaunches.{any-refused}
-use Rattle.rim_audit.proofs.audits.audit_launches.Goals as goal
+use Rattle.rim_audit.proofs.audits.audit_with_gate.Goals as goal
 
 pub returns-clause-text : goal.returns-clause-text
-returns-clause-text c =
+returns-clause-text g c =
     let files : List (List ℕ) = bytes_of_files c.args.files.now.items in
     let launches : List NamedData = c.args.release.now.launches in
     let came = ap (map seen) c.deref-2.ensures.value ∙ c.in_ok-outcomes.ensures
@@ -24,7 +24,7 @@ returns-clause-text c =
     ∙ ap (λ (text : List ℕ). codes "rim-audit 1\n" ++ text) lines
 
 pub returns-clause-refused : goal.returns-clause-refused
-returns-clause-refused c =
+returns-clause-refused g c =
     let files : List (List ℕ) = bytes_of_files c.args.files.now.items in
     let launches : List NamedData = c.args.release.now.launches in
     let came = c.in_ok-outcomes.ensures
