@@ -35,6 +35,10 @@ def manifests():
     yield "headers of empty tables", head + "[[x]]\n" * (size // 6)
     yield "headers of empty launches", head + "[[launch]]\n" * (size // 11)
     yield "empty tables in an array", head + "x = [" + "{}," * (size // 3) + "]\n"
+    yield "tables of one key in an array", head + "x = [" + "{z=1}," * (size // 6) + "]\n"
+    yield "headers of tables of one key", head + "[[x]]\nz=1\n" * (size // 10)
+    yield "dotted keys in an array", head + "x = [" + "{a.b.c.d=1}," * (size // 12) + "]\n"
+    yield "tables of tables of tables in an array", head + "x = [" + "{a={b={c=1}}}," * (size // 14) + "]\n"
     yield "empty arrays in an array", head + "x = [" + "[]," * (size // 3) + "]\n"
     yield "numbers in an array", head + "x = [" + "0," * (size // 2) + "]\n"
     yield "keys", head + "".join(f"k{n} = 0\n" for n in range(size // 12))
