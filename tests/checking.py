@@ -5,14 +5,16 @@
 
 - Lists of faults: at most 200 lines and how many more there are, none of what is past a limit, one line for one cause.
 - Large manifests: a check takes at most twice the time and the memory of `rim measure`, which looks for the lowest fault alone.
-- Terminals: after a fault, the file that it is about, the nearest name of a launch, or the command that says where. Nothing where standard
-  error is no terminal. The line of progress leaves the cursor on a line of its own, and is removed.
+- Terminals: after a fault, the file that it is about, the nearest name of a launch, or the command that says where; after those that a check
+  prints, the line with the first. Nothing where standard error is no terminal. The line of progress, of measurements and of audits, leaves
+  the cursor on a line of its own, and is removed.
 
 The files are made here. The last line is 'N passed, M failed'.
 """
 import concurrent.futures
 import os
 import pty
+import re
 import resource
 import subprocess
 import sys
@@ -20,7 +22,7 @@ import sys
 from hypervisors import TOP, Folder, differs, tried
 
 SMALL = "[[launch]]\nname = '%s'\nalgo = 'sha256'\ns2sz = 33\n"
-NONE = "launch %d: name: missing-key: not given, expected a name of 1 to 64 letters, digits, '.', '_' and '-'"
+NONE = "m.toml:2:1: launch 0: name: missing-key: not given, expected a name of 1 to 64 letters, digits, '.', '_' and '-'"
 FAULTS = ("name", "algo", "s2sz")
 
 
@@ -40,31 +42,33 @@ def checked(program: str, text: bytes, *words: str) -> list[str]:
 def many(program: str) -> list[str]:
     """Each launch has three faults: 200 lines, and then the number of the others."""
     lines = checked(program, manifest("[[launch]]\n" * 70))
-    kinds = [line.split(": ")[1] for line in lines[:-1]]
-    wrong = differs("number of lines", len(lines), 201) + differs("the first", lines[0], NONE % 0)
+    kinds = [line.split(": ")[2] for line in lines[:-1]]
+    places = [line.split(": ")[0] for line in lines[:-1]]
+    wrong = differs("number of lines", len(lines), 201) + differs("the first", lines[0], NONE)
     wrong += differs("their keys", kinds, [FAULTS[i % 3] for i in range(200)])
+    wrong += differs("their places", places, [f"m.toml:{2 + i // 3}:1" for i in range(200)])
     return wrong + differs("the last", lines[-1], "10 more faults")
 
 
 def all_of_them(program: str) -> list[str]:
     """200 faults have a line each, and none is left out."""
     lines = checked(program, manifest("[[launch]]\n" * 66, "[[launch]]\nname = 'x'"))
-    return differs("number of lines", len(lines), 200) + differs("the last", lines[-1].split(": ")[:2], ['launch "x"', "s2sz"])
+    return differs("number of lines", len(lines), 200) + differs("the last", lines[-1].split(": ")[:3], ["m.toml:69:1", 'launch "x"', "s2sz"])
 
 
 def lower(program: str) -> list[str]:
     """A fault past the 200th has a line where it is lower than all before it: an unknown key is lower than a missing one."""
     lines = checked(program, manifest("[[launch]]\n" * 80, "[[launch]]\nnmae = 'x'"))
     wrong = differs("number of lines", len(lines), 202)
-    wrong += differs("the one before the last", lines[-2], 'launch 80: unknown-key: "nmae" (nearest: name)')
+    wrong += differs("the one before the last", lines[-2], 'm.toml:84:1: launch 80: unknown-key: "nmae" (nearest: name)')
     return wrong + differs("the last", lines[-1], "43 more faults")
 
 
 def past_limit(program: str) -> list[str]:
     """Files past the 64th have no line."""
     lines = checked(program, manifest("[[file]]\n" * 66))
-    wrong = differs("number of lines", len(lines), 130) + differs("the first", lines[0].split(": ")[:3], ["manifest", "file", "limit"])
-    wrong += differs("the last fault", lines[-2].split(": ")[:2], ["file 63", "path"])
+    wrong = differs("number of lines", len(lines), 130) + differs("the first", lines[0].split(": ")[:4], ["m.toml:2:1", "manifest", "file", "limit"])
+    wrong += differs("the last fault", lines[-2].split(": ")[:3], ["m.toml:65:1", "file 63", "path"])
     return wrong + differs("the last", lines[-1], "4 more faults")
 
 
@@ -138,6 +142,13 @@ ADVICE = [
     ("a path with an escape", ["image", "a\x1b[1m"], b"",
      "rim: file-unreadable\n  a\\x1b[1m: there is no such file in the folder where rim runs\n"),
     ("a devicetree that is none", ["fdt", "m.toml"], b"x", "rim: dtb-short\n"),
+    ("a check of a manifest with a fault", ["check", "m.toml"], manifest(SMALL % "a" + "  s3sz = 3 # \x1b[1m\n").replace(b"\x1b", b"\t"),
+     "  6 |   s3sz = 3 # \\x09[1m\n        ^\n"),
+    ("a check of a long line", ["check", "m.toml"], b"x = '" + b"a" * 100 + b"'\nrim_manifest = 1\ny = ['" + b"b" * 100 + b"', a]\n",
+     f"  3 | {'b' * 57}', a]\n{' ' * 66}^\n"),
+    ("a check of no TOML document", ["check", "m.toml"], "\ufeffé = é\n".encode(), "  1 | é = é\n      ^\n"),
+    ("a check of a manifest that is not there", ["check", "gone.toml"], b"",
+     "rim: file-unreadable\n  gone.toml: there is no such file in the folder where rim runs\n"),
 ]
 
 
@@ -166,6 +177,29 @@ def progress(program: str) -> list[str]:
     return wrong + differs("the end", lines[-1], "\x1b[A\x1b[K")
 
 
+def long_audit(launches: int) -> Folder:
+    """A release whose audit takes a second or more. A launch shares no page with another: each has the file at another byte of a page."""
+    item = "ram = [[0x40000000, 0x50000000]]\nitem = [{name = 'f', kind = 'raw', file = 'f', at = %d}]\n"
+    tables = [SMALL % f"a{i}" + item % (0x40000000 + i) for i in range(launches)]
+    return Folder({"f": b"1234567" * 4_700_000, "m.toml": manifest(FILE % "f", *tables)})
+
+
+def progress_of_audit(program: str) -> list[str]:
+    """The launches of an audit are counted at a terminal, and no pages; the line is removed. By a pipe nothing is shown."""
+    folder = long_audit(24)
+    status, shown = at_terminal(program, folder, "audit", "m.toml")
+    lines = shown.split("\n")
+    found = [re.fullmatch(r"(\x1b\[A)?rim: (\d+) of 24 launches\x1b\[K", line) for line in lines[:-1]]
+    wrong = differs("the status", status, 0) + differs("the end", lines[-1], "\x1b[A\x1b[K")
+    if not found or not all(found):
+        return wrong + [f"lines: {lines!r}"]
+    done = [int(line[2]) for line in found]
+    wrong += [] if done == sorted(set(done)) and done[-1] < 24 else [f"launches: {done}"]
+    wrong += differs("lines that replace one", [line[1] for line in found], [None] + ["\x1b[A"] * (len(found) - 1))
+    ran = subprocess.run([program, "audit", "m.toml"], cwd=folder.path, capture_output=True, text=True, check=False)
+    return wrong + differs("what is written by a pipe", (ran.returncode, ran.stderr), (0, ""))
+
+
 def broken_off(program: str) -> list[str]:
     """A run that is ended by a signal leaves the cursor at the beginning of a line."""
     status, shown = at_terminal(program, long_run(), "measure", "m.toml", "--workers", "1", stop=True)
@@ -173,7 +207,7 @@ def broken_off(program: str) -> list[str]:
 
 
 def all_tries(program: str):
-    for look in (many, all_of_them, lower, past_limit, one_more, no_terminal, progress, broken_off):
+    for look in (many, all_of_them, lower, past_limit, one_more, no_terminal, progress, progress_of_audit, broken_off):
         yield look.__name__, lambda look=look: look(program)
     for name, text in LARGE:
         yield name, lambda text=text: large(program, text())

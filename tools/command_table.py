@@ -69,7 +69,10 @@ RIM = Program(
         Command("trace", "Print the measurement of a launch step by step", (MANIFEST, LAUNCH)),
         Command("map", "Print where the items of a launch are", (MANIFEST, LAUNCH), (Option(("--json",), "The map as one JSON object"),)),
         Command("audit", "Print each measurement as a monitor holds it", (MANIFEST,)),
-        Command("check", "Print what is wrong with a manifest", (MANIFEST,), (Option(("--quiet",), "Print no warnings"),)),
+        Command("check", "Print what is wrong with a manifest", (MANIFEST,), (
+            Option(("--quiet",), "Print no warnings"),
+            Option(("--json",), "What is found as one JSON object"),
+        )),
         Command("dtb", "Write the devicetree of a launch", (MANIFEST, LAUNCH)),
         Command("replay", "Say whether a listing is what it says", (FILE,)),
         Command("image", "Print the header of an arm64 kernel Image", (FILE,)),

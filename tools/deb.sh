@@ -58,7 +58,7 @@ put_documents() {
         put_packed "$page" "share/man/man1/${page##*/}"
     done
     put 644 README.md share/doc/rim/README.md
-    for page in DEFINITIONS.md FORMATS.md PROMISES.md VERIFIER.md VMM.md map.schema.json report.schema.json; do
+    for page in DEFINITIONS.md FORMATS.md PROMISES.md VERIFIER.md VMM.md check.schema.json map.schema.json report.schema.json; do
         [ ! -f "docs/$page" ] || put 644 "docs/$page" "share/doc/rim/docs/$page"
     done
     find examples -type f ! -path 'examples/debian/*' | while read -r path; do

@@ -8,12 +8,14 @@ ghost use Rattle.rim_line.specs.Lines.{AddsAll, AddsLine, SayInTurn};
 
 use crate::excerpt::take_excerpt;
 use crate::finding_detail::write_detail;
-use crate::place::write_place;
-use crate::syntax::{write_message, write_position};
+use crate::place::{write_place, write_spot};
+use crate::spots::{Manifest, finding_spots};
+use crate::syntax::{error_spot, write_message};
 use itoa::Buffer;
 use refusal::NoMemory;
 use rim_line::{Line, Readable, push_line};
 use rim_manifest::{Checked, Document, FaultList, Finding, ManifestFault};
+use rim_spot::Spot;
 use std::alloc::Global;
 use toml::de::Error;
 
@@ -26,9 +28,10 @@ pub enum ManifestCheck {
     Readable(Readable),
 }
 
-/// Checks a manifest: a line for each of its faults, which is proved of the lowest alone, or the release that it describes.
-/// A line has the place of the fault, its word, what is given and what is expected.
-pub fn check_manifest(alloc: Global, text: &[u8]) -> Result<ManifestCheck, NoMemory>
+/// Checks the manifest at a path: a line for each of its faults, which is proved of the lowest alone, or the release that it
+/// describes. A line has the path, the line and the column of the fault in the text, its table and its key, its word, what is given and
+/// what is expected.
+pub fn check_manifest(alloc: Global, path: &str, text: &[u8]) -> Result<ManifestCheck, NoMemory>
     ensures check { IfOk result (IsCheckOf (manifest_of text.now)) }
     ensures names { IfOk result (HasNames text.now) }
 {
@@ -38,24 +41,31 @@ pub fn check_manifest(alloc: Global, text: &[u8]) -> Result<ManifestCheck, NoMem
             if error.is_memory() {
                 return Err(NoMemory);
             }
-            return Ok(ManifestCheck::Faulty(syntax_line(alloc, text, &error)?));
+            return Ok(ManifestCheck::Faulty(syntax_line(alloc, path, text, &error)?));
         }
     };
     match document.check(alloc)? {
         Checked::Accepted(release) => {
             Ok(ManifestCheck::Readable(Readable::new(document, release)))
         }
-        Checked::Refused(list) => Ok(ManifestCheck::Faulty(lines(alloc, &document, &list)?)),
+        Checked::Refused(list) => {
+            let manifest = Manifest {
+                path,
+                text,
+                document: &document,
+            };
+            Ok(ManifestCheck::Faulty(lines(alloc, &manifest, &list)?))
+        }
     }
 }
 
 /// The line of a text that is no TOML document: where it is none, and why.
-fn syntax_line(alloc: Global, text: &[u8], error: &Error) -> Result<Vec<u8>, NoMemory>
+fn syntax_line(alloc: Global, path: &str, text: &[u8], error: &Error) -> Result<Vec<u8>, NoMemory>
     ensures { IfOk result
         (λ line. SayInTurn (map fault_said (ManifestFault.Syntax ∷ [])) line.items) }
 {
     let mut before = Line::new(alloc);
-    write_position(&mut before, text, error).map_err(|_| NoMemory)?;
+    write_spot(&mut before, path, error_spot(text, error)).map_err(|_| NoMemory)?;
     let mut after = Line::new(alloc);
     write_message(&mut after, text, error).map_err(|_| NoMemory)?;
     let mut lines = Vec::new(alloc);
@@ -64,13 +74,13 @@ fn syntax_line(alloc: Global, text: &[u8], error: &Error) -> Result<Vec<u8>, NoM
 }
 
 /// A line for each fault of which an excerpt is given, and one that says how many others there are.
-fn lines(alloc: Global, document: &Document, list: &FaultList) -> Result<Vec<u8>, NoMemory>
+fn lines(alloc: Global, manifest: &Manifest<'_>, list: &FaultList) -> Result<Vec<u8>, NoMemory>
     ensures { IfOk result (λ lines. (fault : ManifestFault)
         → lowest (faults_in list.now.findings.items) ≡ Some fault
         → Explains fault lines.items) }
 {
-    let excerpt = take_excerpt(alloc, document, list)?;
-    let mut lines = finding_lines(alloc, document, &excerpt.findings)?;
+    let excerpt = take_excerpt(alloc, manifest.document, list)?;
+    let mut lines = finding_lines(alloc, manifest, &excerpt.findings)?;
     if excerpt.more > 0 {
         push_others(&mut lines, excerpt.more)?;
     }
@@ -78,12 +88,19 @@ fn lines(alloc: Global, document: &Document, list: &FaultList) -> Result<Vec<u8>
 }
 
 /// A line for each fault.
-fn finding_lines(alloc: Global, document: &Document, found: &[Finding]) -> Result<Vec<u8>, NoMemory>
+fn finding_lines(
+    alloc: Global,
+    manifest: &Manifest<'_>,
+    found: &[Finding],
+) -> Result<Vec<u8>, NoMemory>
     ensures { IfOk result (λ lines. SayInTurn (map fault_said (faults_in found.now)) lines.items) }
 {
+    let spots = finding_spots(alloc, manifest, found)?;
     let mut lines = Vec::new(alloc);
+    let mut spots = spots.iter();
     for finding in found {
-        add_line(&mut lines, document, finding)?;
+        let spot = spots.next().copied().flatten();
+        add_line(&mut lines, manifest, finding, spot)?;
     }
     Ok(lines)
 }
@@ -104,14 +121,20 @@ fn push_others(lines: &mut Vec<u8>, more: u64) -> Result<(), NoMemory>
 }
 
 /// Adds the line of a fault.
-fn add_line(lines: &mut Vec<u8>, document: &Document, finding: &Finding) -> Result<(), NoMemory>
+fn add_line(
+    lines: &mut Vec<u8>,
+    manifest: &Manifest<'_>,
+    finding: &Finding,
+    spot: Option<Spot>,
+) -> Result<(), NoMemory>
     ensures { OnOk result
         (AddsLine (fault_said finding.now.fault) lines.old.items lines.new.items) }
 {
     let alloc = *lines.allocator();
     let mut before = Line::new(alloc);
-    write_place(&mut before, document, finding).map_err(|_| NoMemory)?;
+    write_spot(&mut before, manifest.path, spot).map_err(|_| NoMemory)?;
+    write_place(&mut before, manifest.document, finding).map_err(|_| NoMemory)?;
     let mut after = Line::new(alloc);
-    write_detail(alloc, &mut after, document, finding).map_err(|_| NoMemory)?;
+    write_detail(alloc, &mut after, manifest.document, finding).map_err(|_| NoMemory)?;
     push_line(lines, &before, finding.fault.kind(), &after)
 }

@@ -57,7 +57,7 @@ enum OtherKey {
 }
 
 /// The keys that a table may have.
-fn rules_of(document: &Document, place: Place, table: &Table) -> &'static [Rule] {
+pub(crate) fn rules_of(document: &Document, place: Place, table: &Table) -> &'static [Rule] {
     match place {
         Place::Top => &TOP_RULES,
         Place::File { .. } => &FILE_RULES,

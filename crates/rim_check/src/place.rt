@@ -1,6 +1,7 @@
-//! The place of a fault: its table by name, and its key.
+//! The place of a fault: where it is in the text of the manifest; its table by name, and its key.
 use rim_line::{Line, Quoted};
 use rim_manifest::{Document, Finding, Place, Subject, cell};
+use rim_spot::Spot;
 use std::fmt;
 use std::fmt::Write;
 use toml::{Table, Value};
@@ -16,6 +17,21 @@ pub(crate) fn text_at<'a>(table: &'a Table, key: &str) -> Option<&'a str> {
 /// The name of the table at a place, if it has one.
 pub(crate) fn name_at(document: &Document, place: Place) -> Option<&str> {
     text_at(document.table(place)?, "name")
+}
+
+/// Adds the path of a manifest, and the line and the column of a fault where they are known, each with a colon after it: the form that
+/// compilers have, which editors follow.
+pub(crate) fn write_spot(line: &mut Line, path: &str, spot: Option<Spot>) -> fmt::Result {
+    line.push_path(path)?;
+    match spot {
+        Some(
+            Spot {
+                line: number,
+                column,
+            },
+        ) => write!(line, ":{number}:{column}: "),
+        None => write!(line, ": "),
+    }
 }
 
 /// Adds the place of a fault, and a colon.

@@ -2,34 +2,15 @@
 use crate::hint::Header;
 use crate::number::is_too_large;
 use rim_line::{Line, Quoted};
+use rim_spot::{Spot, spot_at};
 use std::fmt;
 use std::fmt::Write;
 use toml::de::Error;
 
-/// The bytes that some editors put before a text. They are no character of it.
-const BYTE_ORDER_MARK: &[u8] = b"\xef\xbb\xbf";
-
-/// Adds the line and the column at which an error is, both from 1. A column counts characters.
-pub(crate) fn write_position(line: &mut Line, text: &[u8], error: &Error) -> fmt::Result {
-    let Some(span) = error.span() else {
-        return Ok(());
-    };
-    let front = text.get(..span.start).unwrap_or(text);
-    let front = front.strip_prefix(BYTE_ORDER_MARK).unwrap_or(front);
-    let number = 1 + front.iter().filter(|byte| **byte == b'\n').count();
-    let column = 1
-        + front
-            .iter()
-            .rev()
-            .take_while(|byte| **byte != b'\n')
-            .filter(|byte| is_first(**byte))
-            .count();
-    write!(line, "line {number}, column {column}: ")
-}
-
-/// Whether a byte is the first of a character, in UTF-8.
-fn is_first(byte: u8) -> bool {
-    byte & 0xc0 != 0x80
+/// Where an error is in a text, if that is known.
+pub(crate) fn error_spot(text: &[u8], error: &Error) -> Option<Spot> {
+    let span = error.span()?;
+    Some(spot_at(text, span.start))
 }
 
 /// Adds why a text is no document, after a colon.

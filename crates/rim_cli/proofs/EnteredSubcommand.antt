@@ -71,6 +71,17 @@ module _ (s : Shape) (words : List Text) (sound : Each (IsSound s.rules) s.rules
   unfolding end
   checks_pass = (none_of (defaults_fault (settled s.rules end).rows s.rules) _ (none_of (settle_fault s.rules s.args_override_self end) _ after_walk).1).1
 
+-- an operand that has to be given is given, where no check fails
+one_given : (b : Bool) → check_kinds false false (not b || false) ≡ [] → b ≡ true
+one_given true e = refl
+one_given false e = cc
+
+-- and two are
+both_given : (b c : Bool) → check_kinds false false (not b || (not c || false)) ≡ [] → (b ≡ true) × (c ≡ true)
+both_given true true e = (refl, refl)
+both_given true false e = cc
+both_given false c e = cc
+
 -- `measure` as it is built below `rim`
 abbrev measure_shape : Shape
 measure_shape = built_leaf (inherited (with_leaf_noted (marked_built rim.top)) measure.top)
@@ -97,12 +108,8 @@ measure_entered words passes = (refl, first_given measure_shape.rules manifest_b
     all : list_all (fits measure_shape.rules) rows ≡ true
     all = rows_fit measure_shape words sound passes
 
-    go : (b : Bool) → check_kinds false false (not b || false) ≡ [] → b ≡ true
-    go true e = refl
-    go false e = cc
-
     given : is_given (codes "manifest") rows ≡ true
-    given = go (is_given (codes "manifest") rows) (checks_pass measure_shape words sound passes)
+    given = one_given (is_given (codes "manifest") rows) (checks_pass measure_shape words sound passes)
 
     workers : (o : Option Text) → first_of (codes "workers") rows ≡ o → IfSome o (λ text. IsSignedIn (pos 1) (pos 64) text)
     workers None is = tt
@@ -130,13 +137,8 @@ launch_entered verb words passes =
     all : list_all (fits (launch_shape verb).rules) rows ≡ true
     all = rows_fit (launch_shape verb) words sound passes
 
-    go : (manifest launch : Bool) → check_kinds false false (not manifest || (not launch || false)) ≡ [] → (manifest ≡ true) × (launch ≡ true)
-    go true true e = (refl, refl)
-    go true false e = cc
-    go false launch e = cc
-
     given : (is_given (codes "manifest") rows ≡ true) × (is_given (codes "launch") rows ≡ true)
-    given = go (is_given (codes "manifest") rows) (is_given (codes "launch") rows) (checks_pass (launch_shape verb) words sound passes)
+    given = both_given (is_given (codes "manifest") rows) (is_given (codes "launch") rows) (checks_pass (launch_shape verb) words sound passes)
 
 -- a subcommand with one operand, as it is built below `rim`
 abbrev one_shape : Text → Text → Shape
@@ -161,12 +163,8 @@ one_entered verb id words passes = (refl, first_given (one_shape verb id).rules 
     all : list_all (fits (one_shape verb id).rules) rows ≡ true
     all = rows_fit (one_shape verb id) words sound passes
 
-    go : (b : Bool) → check_kinds false false (not b || false) ≡ [] → b ≡ true
-    go true e = refl
-    go false e = cc
-
     given : is_given id rows ≡ true
-    given = go (is_given id rows) (checks_pass (one_shape verb id) words sound passes)
+    given = one_given (is_given id rows) (checks_pass (one_shape verb id) words sound passes)
 
 -- `check`, as it is built below `rim`
 abbrev check_shape : Shape
@@ -177,7 +175,10 @@ check_entered : (words : List Text) → level_fault check_shape [] nothing_held 
 check_entered words passes = (refl, first_given check_shape.rules manifest_built refl rows all given)
   where
     sound : Each (IsSound check_shape.rules) check_shape.rules
-    sound = (inl (record { set = inl refl; some = inl refl; own = refl }), (inl (record { set = inr refl; some = inr (omega arith); own = refl }), (inr (refl, refl), tt)))
+    sound = (
+      inl (record { set = inl refl; some = inl refl; own = refl }),
+      (inl (record { set = inr refl; some = inr (omega arith); own = refl }), (inl (record { set = inr refl; some = inr (omega arith); own = refl }), (inr (refl, refl), tt))),
+    )
 
     rows : List Row
     rows = rows_after check_shape.rules [] words
@@ -185,12 +186,8 @@ check_entered words passes = (refl, first_given check_shape.rules manifest_built
     all : list_all (fits check_shape.rules) rows ≡ true
     all = rows_fit check_shape words sound passes
 
-    go : (b : Bool) → check_kinds false false (not b || false) ≡ [] → b ≡ true
-    go true e = refl
-    go false e = cc
-
     given : is_given (codes "manifest") rows ≡ true
-    given = go (is_given (codes "manifest") rows) (checks_pass check_shape words sound passes)
+    given = one_given (is_given (codes "manifest") rows) (checks_pass check_shape words sound passes)
 
 -- `map`, as it is built below `rim`
 abbrev map_shape : Shape
@@ -213,13 +210,8 @@ map_entered words passes =
     all : list_all (fits map_shape.rules) rows ≡ true
     all = rows_fit map_shape words sound passes
 
-    go : (manifest launch : Bool) → check_kinds false false (not manifest || (not launch || false)) ≡ [] → (manifest ≡ true) × (launch ≡ true)
-    go true true e = (refl, refl)
-    go true false e = cc
-    go false launch e = cc
-
     given : (is_given (codes "manifest") rows ≡ true) × (is_given (codes "launch") rows ≡ true)
-    given = go (is_given (codes "manifest") rows) (is_given (codes "launch") rows) (checks_pass map_shape words sound passes)
+    given = both_given (is_given (codes "manifest") rows) (is_given (codes "launch") rows) (checks_pass map_shape words sound passes)
 
 -- the matches of each subcommand hold what they are to
 abbrev IsGood : Shape → Type 0

@@ -1,5 +1,6 @@
 -- The map of a launch that was found is that of the launch that the manifest describes, and its status says whether it is refused.
-use Rattle.std.proofs.Common.{◌≡◌, ◌∙◌, ℕ, ◌<◌, Bool, true, false, inl, inr, arith, length, slice_get, List, [], ◌∷◌, Option, Some, None, option_map, refl, ap, sym, subst}
+use Rattle.std.proofs.Common.{◌≡◌, ◌∙◌, ℕ, ◌<◌, Bool, true, false, inl, inr, arith, length, slice_get, List, [], ◌∷◌}
+use Rattle.std.proofs.Common.{Option, Some, None, option_map, refl, ap, sym, subst}
 use Rattle.std.specs.Prelude.{is_some, option_and_then, position, IsOkAnd, Result, Ok, Err, is_err, unwrap_or}
 use Rattle.std.proofs.lemmas.List.Quantifiers.{position-Some}
 use Rattle.std.proofs.lemmas.Option.{slice_get_cases}
@@ -11,8 +12,8 @@ use Rattle.rim_manifest.specs.Manifest.{document_of, manifest_of, name_in}
 use Rattle.toml.specs.Data.{Members}
 use Rattle.rim_manifest.specs.declared.fault.ManifestFault.{ManifestFault}
 use Rattle.rim_line.specs.Readables.{ReadableData, item_names, item_names_in}
-use Rattle.rim_accepted.specs.Accepted.{accepted_of, rim_for}
-use Rattle.rim_accepted.specs.Reasons.{IsRefusedFor, audit_fault_of}
+use Rattle.rim_accepted.specs.Accepted.{accepted_of}
+use Rattle.rim_accepted.specs.Reasons.{IsRefusedFor}
 use Rattle.rim_accepted.specs.declared.accepted.AcceptedLaunch.{AcceptedLaunch}
 use Rattle.rim_accepted.specs.declared.audit_fault.AuditFault.{AuditFault}
 use Rattle.rim_accepted.specs.declared.reason.LaunchReason.{LaunchReason}

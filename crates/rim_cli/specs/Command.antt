@@ -47,9 +47,9 @@ with_operand name id = with_rule (new_app name) (operand_rule id)
 abbrev pub audit : App
 audit = with_operand (codes "audit") (codes "manifest")
 
--- `check MANIFEST [--quiet]`
+-- `check MANIFEST [--quiet] [--json]`
 abbrev pub check : App
-check = with_rule (with_operand (codes "check") (codes "manifest")) (flag_rule (codes "quiet"))
+check = with_rule (with_rule (with_operand (codes "check") (codes "manifest")) (flag_rule (codes "quiet"))) (flag_rule (codes "json"))
 
 abbrev pub replay : App
 replay = with_operand (codes "replay") (codes "file")
@@ -98,7 +98,7 @@ abbrev pub is_set : Option Text → Bool
 is_set None = false
 is_set (Some text) = bytes_eq text (codes "true")
 
--- the format of a report, by the flag `--json`
+-- the format that is asked for, by the flag `--json`
 abbrev pub format_of : Option Text → Format
 format_of flag = if is_set flag then format.Json else format.Text
 
@@ -115,8 +115,8 @@ ReadsRow name rows (Map manifest launch format) = (name ≡ codes "map")
     × (first_of (codes "manifest") rows ≡ Some manifest.now) × (first_of (codes "launch") rows ≡ Some launch.now)
     × (format ≡ format_of (first_of (codes "json") rows))
 ReadsRow name rows (Audit manifest) = (name ≡ codes "audit") × (first_of (codes "manifest") rows ≡ Some manifest.now)
-ReadsRow name rows (Check manifest quiet) = (name ≡ codes "check") × (first_of (codes "manifest") rows ≡ Some manifest.now)
-    × (quiet ≡ is_set (first_of (codes "quiet") rows))
+ReadsRow name rows (Check manifest quiet format) = (name ≡ codes "check") × (first_of (codes "manifest") rows ≡ Some manifest.now)
+    × (quiet ≡ is_set (first_of (codes "quiet") rows)) × (format ≡ format_of (first_of (codes "json") rows))
 ReadsRow name rows (Dtb manifest launch) = (name ≡ codes "dtb")
     × (first_of (codes "manifest") rows ≡ Some manifest.now) × (first_of (codes "launch") rows ≡ Some launch.now)
 ReadsRow name rows (Replay file) = (name ≡ codes "replay") × (first_of (codes "file") rows ≡ Some file.now)

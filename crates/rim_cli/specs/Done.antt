@@ -46,7 +46,7 @@ path_of (Lists path launch) = path.now
 path_of (Trace path launch) = path.now
 path_of (Map path launch format) = path.now
 path_of (Audit path) = path.now
-path_of (Check path quiet) = path.now
+path_of (Check path quiet format) = path.now
 path_of (Dtb path launch) = path.now
 path_of (Replay file) = file.now
 path_of (Image file) = file.now
@@ -115,6 +115,12 @@ abbrev pub IsCheck : (List ℕ → Known) → Bool → List (List (List ℕ)) �
 IsCheck held quiet names (Err fault) text status = Explains fault text × (status ≡ 3)
 IsCheck held quiet names (Ok r) text status = IsReleaseCheck held quiet (record { names = names; release = r }) text status
 
+-- What a check prints in a format, and its status: as JSON the status is that of the lines that it prints otherwise; what it shows of
+-- them is tested alone.
+abbrev pub IsCheckIn : Format → (List ℕ → Known) → Bool → List (List (List ℕ)) → Answer → List ℕ → ℕ → Type 0
+IsCheckIn format.Text held quiet names answer text status = IsCheck held quiet names answer text status
+IsCheckIn format.Json held quiet names answer shown status = (text : List ℕ) × IsCheck held quiet names answer text status
+
 -- what is shown of a launch with what came of it, and its status
 abbrev pub IsShown : NamedData → Result (List ℕ) AuditFault → List ℕ → ℕ → Type 0
 IsShown l outcome text status = (text ≡ text_or_line l outcome) × (status ≡ (if is_err outcome then 1 else 0))
@@ -158,7 +164,7 @@ IsAnswer held (Trace path launch) bytes text status = IsOkAnd (manifest_of bytes
 IsAnswer held (Map path launch format) bytes text status =
     IsOkAnd (manifest_of bytes) (λ r. IsMapped held format (item_names_in bytes) r launch.now text status)
 IsAnswer held (Audit path) bytes text status = IsOkAnd (manifest_of bytes) (λ r. IsAudit held r text status)
-IsAnswer held (Check path quiet) bytes text status = IsCheck held quiet (item_names_in bytes) (manifest_of bytes) text status
+IsAnswer held (Check path quiet format) bytes text status = IsCheckIn format held quiet (item_names_in bytes) (manifest_of bytes) text status
 IsAnswer held (Dtb path launch) bytes text status = IsOkAnd (manifest_of bytes) (λ r. IsDevicetree held r launch.now text status)
 IsAnswer held (Replay file) bytes text status = IsReplayed bytes text status
 IsAnswer held (Image file) bytes text status = (image_answer_of bytes ≡ Ok text) × (status ≡ 0)
@@ -222,7 +228,7 @@ Refuses held (Lists path launch) fault = RefusesManifest (RefusesListing held la
 Refuses held (Trace path launch) fault = RefusesManifest (RefusesListing held launch.now) (held path.now) fault
 Refuses held (Map path launch format) fault = RefusesManifest (RefusesListing held launch.now) (held path.now) fault
 Refuses held (Audit path) fault = RefusesManifest (RefusesAudit held) (held path.now) fault
-Refuses held (Check path quiet) fault = IsFileFault (held path.now) fault
+Refuses held (Check path quiet format) fault = IsFileFault (held path.now) fault
 Refuses held (Dtb path launch) fault = RefusesManifest (RefusesDtb held launch.now) (held path.now) fault
 Refuses held (Replay file) fault = IsFileFault (held file.now) fault
 Refuses held (Image file) fault = RefusesImage (held file.now) fault

@@ -1,10 +1,10 @@
-//! What is said after a fault to a person at a terminal: which file it is about, or how to see where the fault is. That it is true is
-//! tested alone.
+//! What is said after a fault to a person at a terminal: which file it is about, or where the fault is, or how to see that. That it is
+//! true is tested alone.
 use crate::checking::{check, failure_text};
 use crate::file::{Opener, Unread, read_or_why};
-use crate::words::{Request, command};
+use crate::words::{Format, Request, command};
 use refusal::NoMemory;
-use rim_check::Nearest;
+use rim_check::{MarkedLine, Nearest, mark_first};
 use rim_line::{Line, Quoted};
 use rim_release::{Release, read_manifest};
 use std::alloc::Global;
@@ -26,29 +26,64 @@ pub fn advise<S: AsStr, O: Opener, E: Write>(
     let Ok(advice) = advice(alloc, opener, &request) else {
         return;
     };
-    if !advice.as_slice().is_empty() {
-        let _ = err.write_all(b"  ");
-        let _ = err.write_all(advice.as_slice());
-        let _ = err.write_all(b"\n");
+    for line in [&advice.text, &advice.mark] {
+        if !line.as_slice().is_empty() {
+            let _ = err.write_all(b"  ");
+            let _ = err.write_all(line.as_slice());
+            let _ = err.write_all(b"\n");
+        }
     }
 }
 
-/// The line that helps, without what is in front of it; none is empty.
+/// The line that helps, without what is in front of it, and one under it that has a mark; either may be empty, and then is not written.
 fn advice<O: Opener>(
+    alloc: Global,
+    opener: &mut O,
+    request: &Request<'_>,
+) -> Result<MarkedLine, NoMemory> {
+    match *request {
+        Request::Check { manifest, .. } => check_advice(alloc, opener, manifest),
+        _ => Ok(MarkedLine {
+            text: advice_line(alloc, opener, request)?,
+            mark: Line::new(alloc),
+        }),
+    }
+}
+
+/// The line of a manifest that has its first fault, or why it cannot be read.
+fn check_advice<O: Opener>(
+    alloc: Global,
+    opener: &mut O,
+    manifest: &str,
+) -> Result<MarkedLine, NoMemory> {
+    let mut marked = None;
+    let mut text = Line::new(alloc);
+    match read_or_why(alloc, opener, manifest) {
+        Ok(bytes) => marked = mark_first(alloc, bytes.as_slice())?,
+        Err(why) => text = file_advice(alloc, manifest, why)?,
+    }
+    match marked {
+        Some(marked) => Ok(marked),
+        None => Ok(MarkedLine {
+            text,
+            mark: Line::new(alloc),
+        }),
+    }
+}
+
+/// The line that helps where what is asked for is no check.
+fn advice_line<O: Opener>(
     alloc: Global,
     opener: &mut O,
     request: &Request<'_>,
 ) -> Result<Line, NoMemory> {
     match *request {
-        Request::Replay { file } | Request::Image { file } | Request::Fdt { file } => {
-            match read_or_why(alloc, opener, file) {
-                Ok(_) => Ok(Line::new(alloc)),
-                Err(why) => file_advice(alloc, file, why),
-            }
-        }
-        Request::Check { manifest, .. } => match read_or_why(alloc, opener, manifest) {
+        Request::Replay { file }
+        | Request::Image { file }
+        | Request::Fdt { file }
+        | Request::Check { manifest: file, .. } => match read_or_why(alloc, opener, file) {
             Ok(_) => Ok(Line::new(alloc)),
-            Err(why) => file_advice(alloc, manifest, why),
+            Err(why) => file_advice(alloc, file, why),
         },
         Request::Measure { manifest, .. } | Request::Audit { manifest } => {
             manifest_advice(alloc, opener, manifest, None)
@@ -82,8 +117,8 @@ fn manifest_advice<O: Opener>(
             return launch_advice(alloc, manifest, launch, &release);
         }
     }
-    match check(alloc, opener, manifest, true) {
-        Ok(answer) if answer.status != 0 => check_advice(alloc, manifest),
+    match check(alloc, opener, manifest, true, Format::Text) {
+        Ok(answer) if answer.status != 0 => check_line(alloc, manifest),
         _ => Ok(Line::new(alloc)),
     }
 }
@@ -118,7 +153,7 @@ fn launch_advice(
 }
 
 /// Which command says where a manifest is at fault.
-fn check_advice(alloc: Global, manifest: &str) -> Result<Line, NoMemory> {
+fn check_line(alloc: Global, manifest: &str) -> Result<Line, NoMemory> {
     let mut line = Line::new(alloc);
     line.push_text("`rim check ")?;
     line.push_path(manifest)?;

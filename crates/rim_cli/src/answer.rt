@@ -18,7 +18,7 @@ use crate::mapping::map;
 use crate::replaying::replay;
 use crate::words::{Format, Request};
 use rim_release::{
-    Files, Gate, Outcome, Release, Report, StartFault, audit_launches, json_report,
+    Files, Gate, Outcome, Release, Report, StartFault, audit_with_gate, json_report,
     listing_or_refusal, measure_release, placed_devicetree, read_manifest, show_fdt, show_image,
     trace_or_refusal,
 };
@@ -35,7 +35,7 @@ pub struct Answer {
     pub status: u8,
 }
 
-/// The answer to a request, or the first fault. The gate is that of the workers, if there are any.
+/// The answer to a request, or the first fault. The gate is called by workers, and by an audit.
 pub fn answer_to<R: Threads + Wait + Sync, G: Gate + Sync, O: Opener>(
     rt: &R,
     alloc: Global,
@@ -62,8 +62,12 @@ pub fn answer_to<R: Threads + Wait + Sync, G: Gate + Sync, O: Opener>(
             launch,
             format,
         } => map(alloc, opener, manifest, launch, format),
-        Request::Audit { manifest } => audit(alloc, opener, manifest),
-        Request::Check { manifest, quiet } => check(alloc, opener, manifest, quiet),
+        Request::Audit { manifest } => audit(alloc, gate, opener, manifest),
+        Request::Check {
+            manifest,
+            quiet,
+            format,
+        } => check(alloc, opener, manifest, quiet, format),
         Request::Dtb { manifest, launch } => dtb(alloc, opener, manifest, launch),
         Request::Replay { file } => replay(alloc, opener, file),
         Request::Image { file } => image(alloc, opener, file),
@@ -225,7 +229,12 @@ fn read_launch<O: Opener>(
 }
 
 /// The audit of a manifest's launches.
-fn audit<O: Opener>(alloc: Global, opener: &mut O, path: &str) -> Result<Answer, Fault>
+fn audit<G: Gate, O: Opener>(
+    alloc: Global,
+    gate: &G,
+    opener: &mut O,
+    path: &str,
+) -> Result<Answer, Fault>
     ensures answered { IfOk result (λ a. IfFile (O.held opener.old path.now) (λ bytes. IsOkAnd
         (manifest_of bytes) (λ r. IsAudit (O.held opener.old) r a.text.items a.status))) }
     ensures refused { IfErr result
@@ -235,7 +244,7 @@ fn audit<O: Opener>(alloc: Global, opener: &mut O, path: &str) -> Result<Answer,
     let release = read_release(alloc, opener, path)?;
     let files = read_files(alloc, opener, &release)?;
     keep_freed_memory(alloc);
-    let report = audit_launches(alloc, &release, &files).map_err(|_| Fault::NoMemory)?;
+    let report = audit_with_gate(alloc, gate, &release, &files).map_err(|_| Fault::NoMemory)?;
     Ok(answer_of(report))
 }
 

@@ -1,6 +1,6 @@
 //! What is wrong with a manifest, with its files and with its launches.
 ghost use Rattle.std.specs.Prelude.{◌≡◌, ◌≢◌, ◌⊎◌, ◌≤◌, [], ◌++◌, IfErr, IfOk, OnOk, if◌then◌else◌, map};
-ghost use Rattle.rim_cli.specs.Done.{IsCheck, IsReleaseCheck, check_status};
+ghost use Rattle.rim_cli.specs.Done.{IsCheck, IsCheckIn, IsReleaseCheck, check_status};
 ghost use Rattle.rim_cli.specs.Files.{IfFile, IsFileFault};
 ghost use Rattle.rim_cli.specs.inside.Found.{AreFound, HasLine};
 ghost use Rattle.rim_manifest.specs.Manifest.{manifest_of};
@@ -9,9 +9,11 @@ ghost use Rattle.rim_line.specs.Readables.{item_names_in};
 use crate::answer::Answer;
 use crate::fault::Fault;
 use crate::file::{FILE_LIMIT, Opener, Unread, read_file, read_or_why};
+use crate::words::Format;
 use refusal::NoMemory;
 use rim_check::{
-    LaunchCheck, ManifestCheck, Readable, ReleaseFault, check_launches, check_manifest, push_file,
+    LaunchCheck, ManifestCheck, Readable, ReleaseFault, check_json, check_launches, check_manifest,
+    push_file,
 };
 use rim_release::{Files, Release};
 use std::alloc::{AllocError, Global};
@@ -19,6 +21,41 @@ use std::io::ErrorKind;
 
 /// What is wrong with the manifest at a path; or else with the files and the launches of its release.
 pub fn check<O: Opener>(
+    alloc: Global,
+    opener: &mut O,
+    path: &str,
+    quiet: bool,
+    format: Format,
+) -> Result<Answer, Fault>
+    ensures answered { IfOk result (λ a. IfFile (O.held opener.old path.now)
+        (λ bytes. IsCheckIn format (O.held opener.old) quiet (item_names_in bytes)
+        (manifest_of bytes) a.text.items a.status)) }
+    ensures refused { IfErr result (IsFileFault (O.held opener.old path.now)) }
+    ensures status { IfOk result (λ a. (a.status ≤ 1) ⊎ (a.status ≡ 3)) }
+{
+    let lines = check_lines(alloc, opener, path, quiet)?;
+    match format {
+        Format::Text => Ok(lines),
+        Format::Json => answer_json(alloc, &lines),
+    }
+}
+
+/// An answer in lines as JSON, with the same status.
+fn answer_json(alloc: Global, lines: &Answer) -> Result<Answer, Fault>
+    ensures status { IfOk result (λ a. a.status ≡ lines.now.status) }
+    ensures refused { IfErr result (λ e. e ≡ Fault.NoMemory) }
+{
+    match check_json(alloc, &lines.text, lines.status) {
+        Ok(text) => Ok(Answer {
+            text,
+            status: lines.status,
+        }),
+        Err(_) => Err(Fault::NoMemory),
+    }
+}
+
+/// The same in lines.
+fn check_lines<O: Opener>(
     alloc: Global,
     opener: &mut O,
     path: &str,
@@ -31,7 +68,7 @@ pub fn check<O: Opener>(
     ensures status { IfOk result (λ a. (a.status ≤ 1) ⊎ (a.status ≡ 3)) }
 {
     let bytes = read_file(alloc, opener, path)?;
-    match check_manifest(alloc, bytes.as_slice()) {
+    match check_manifest(alloc, path, bytes.as_slice()) {
         Ok(ManifestCheck::Faulty(text)) => Ok(Answer { text, status: 3 }),
         Ok(ManifestCheck::Readable(readable)) => check_release(alloc, opener, &readable, quiet),
         Err(_) => Err(Fault::NoMemory),

@@ -46,12 +46,13 @@ two measurements part.
 granules of the pool its commands take and become what, how many extensions its
 measurement is made of, and its warnings. With `--json` it is one JSON object.
 
-`rim check MANIFEST` prints a line for each fault of a manifest, with its place. Where
-there is none, it prints `PATH: file-unreadable` or `PATH: file-too-large` for each file
-that cannot be read; where all are read, a line for each launch that is refused, with
-what is at fault, and one where the release has too many pages. Lines that begin with
-`warning:` say what is rarely meant in launches that are accepted; they change no exit
-status, and `--quiet` leaves them out. Else it prints nothing where nothing is wrong.
+`rim check MANIFEST` prints a line for each fault of a manifest, with its place:
+`MANIFEST:LINE:COLUMN: PLACE: FAULT`. Where there is none, it prints
+`PATH: file-unreadable` or `PATH: file-too-large` for each file that cannot be read; where
+all are read, a line for each launch that is refused, with what is at fault, and one where
+the release has too many pages. Lines that begin with `warning:` say what is rarely meant
+in launches that are accepted; they change no exit status, and `--quiet` leaves them out.
+Else it prints nothing where nothing is wrong. With `--json` it prints one JSON object.
 
 `rim dtb MANIFEST LAUNCH` writes the devicetree of a launch as it is placed: the bytes
 that are measured, to be given to a hypervisor. They are not written to a terminal.
@@ -262,7 +263,12 @@ fn check_command<'a>(alloc: Global) -> Result<Command<'a>, AllocError>
 {
     let check = Command::new(alloc, "check")
         .arg(operand_arg(alloc, "manifest", "MANIFEST", MANIFEST))?
-        .arg(flag_arg(alloc, "quiet", "No warnings: only what is wrong is printed"))?;
+        .arg(flag_arg(alloc, "quiet", "No warnings: only what is wrong is printed"))?
+        .arg(flag_arg(
+            alloc,
+            "json",
+            "What is found as one JSON object, and not as lines",
+        ))?;
     Ok(check.about(
         "Prints what is wrong with a manifest and which launches are refused, each with its place",
     ))

@@ -22,15 +22,15 @@ use std::thread::Threads;
 
 /// Runs the program on the words of a command line, of which the first is the program's name.
 ///
-/// `gate` is called around the jobs of `rim measure`. Files are opened by `opener`, output goes to `out`, usage texts and
-/// the one line of a fault go to `err`. The answer is the exit status: 0 done, 1 some launch is refused or a listing is not
-/// what it says, 2 usage, 3 a fault of the manifest, a file or the output, 4 want of memory. Output is made whole before any
-/// of it is written.
+/// `gate` is called around the jobs of `rim measure` and the launches of `rim audit`. Files are opened by `opener`, output goes
+/// to `out`, usage texts and the one line of a fault go to `err`. The answer is the exit status: 0 done, 1 some launch is
+/// refused or a listing is not what it says, 2 usage, 3 a fault of the manifest, a file or the output, 4 want of memory. Output
+/// is made whole before any of it is written.
 ///
 /// Where the words are taken, 0 and 1 say that the text that they ask for was added to `out`: 1 exactly where that
 /// text says that a launch is refused, or `no` of a listing that was replayed. 3 says that the request is refused with a
 /// fault that holds, and `out` is as it was; or that the text was made and could not be written; or that it was added to
-/// `out`, and is that of a check which found the manifest or a file of it at fault. 2 is not answered. After 2 and 4 `out`
+/// `out`, and is that of a check which found the manifest or a file of it at fault, or too many pages. 2 is not answered. After 2 and 4 `out`
 /// is as it was. No clause says what is on `err`, since writing there may fail and changes no status.
 pub fn run<R: Threads + Wait + Sync, G: Gate + Sync, S: AsStr, O: Opener, W: Write, E: Write>(
     rt: &R,

@@ -46,6 +46,7 @@ pub enum Request<'a> {
     Check {
         manifest: &'a str,
         quiet: bool,
+        format: Format,
     },
     /// The devicetree of a launch of a manifest, at a path, by the launch's name: bytes, and no text.
     Dtb {
@@ -66,10 +67,10 @@ pub enum Request<'a> {
     },
 }
 
-/// The format of a report.
+/// The format of a report, of a map or of what a check finds.
 #[derive(Clone, Copy, Debug, PartialEq, Eq)]
 pub enum Format {
-    /// Lines, each of a launch.
+    /// Lines.
     Text,
     /// One JSON object.
     Json,
@@ -145,6 +146,7 @@ fn request_of<'a>(name: &str, given: &ArgMatches<'a>) -> Request<'a>
         "check" => Request::Check {
             manifest: operand(given, "manifest"),
             quiet: flag(given, "quiet"),
+            format: report_format(given),
         },
         "dtb" => Request::Dtb {
             manifest: operand(given, "manifest"),
@@ -202,7 +204,7 @@ fn workers(given: &ArgMatches) -> u8
     }
 }
 
-/// The format of a report: JSON where the flag `--json` is given, and else text.
+/// The format that is asked for: JSON where the flag `--json` is given, and else text.
 fn report_format(given: &ArgMatches) -> Format
     ensures { result ≡ format_of (first_of (codes "json") (rows_of (found_of given.now))) }
 {

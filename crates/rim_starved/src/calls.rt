@@ -32,6 +32,8 @@ pub enum TextCall {
     PrintLines,
     ReadManifest,
     CheckManifest,
+    MarkFirst,
+    CheckJson,
 }
 
 #[derive(Clone, Copy)]
@@ -65,7 +67,7 @@ pub enum ReleaseCall {
 }
 
 impl Call {
-    pub const ALL: [Call; 35] = [
+    pub const ALL: [Call; 37] = [
         Call::Tree(TreeCall::Read),
         Call::Tree(TreeCall::Set),
         Call::Tree(TreeCall::SetMemory),
@@ -79,6 +81,8 @@ impl Call {
         Call::Text(TextCall::PrintLines),
         Call::Text(TextCall::ReadManifest),
         Call::Text(TextCall::CheckManifest),
+        Call::Text(TextCall::MarkFirst),
+        Call::Text(TextCall::CheckJson),
         Call::Layer(LayerCall::Place),
         Call::Layer(LayerCall::List),
         Call::Layer(LayerCall::CheckList),
@@ -146,6 +150,8 @@ impl TextCall {
             TextCall::PrintLines => "print_line",
             TextCall::ReadManifest => "read_manifest",
             TextCall::CheckManifest => "check_manifest",
+            TextCall::MarkFirst => "mark_first",
+            TextCall::CheckJson => "check_json",
         }
     }
 }

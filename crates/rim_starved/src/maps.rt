@@ -2,14 +2,13 @@
 ghost use Rattle.std.specs.Prelude.{◌≡◌, length, true};
 ghost use Rattle.rim_launch.specs.LaunchData.{has_files};
 
-use crate::trial::{Fault, Seen, begin, digest, end, seen};
+use crate::trial::{Fault, Seen, begin, end, seen, text_digest};
 use refusal::NoMemory;
 use rim_accepted::{AcceptedLaunch, LaunchReason, accept_with_reason};
 use rim_check::{ManifestCheck, check_manifest};
 use rim_line::Readable;
 use rim_manifest::NamedLaunch;
 use rim_map::{RefusedLaunch, map_json, map_text, refused_json, refused_text};
-use std::alloc::{AllocError, Global};
 
 /// What is answered of the first launch of a manifest.
 pub fn seen<R: Print + AllocGlobal>(
@@ -19,7 +18,8 @@ pub fn seen<R: Print + AllocGlobal>(
     is_json: bool,
     is_tried: bool,
 ) -> Result<Seen, Fault> {
-    let Ok(ManifestCheck::Readable(readable)) = check_manifest(rt.alloc(), text) else {
+    let Ok(ManifestCheck::Readable(readable)) = check_manifest(rt.alloc(), "manifest.toml", text)
+    else {
         return Err(Fault::Input);
     };
     let Some(launch) = readable.release().all_launches().first() else {
@@ -81,8 +81,4 @@ fn refused<R: Print + AllocGlobal>(
     };
     end(rt, is_tried)?;
     Ok(seen!(alloc, answer, text_digest, NoMemory))
-}
-
-fn text_digest(_alloc: Global, text: &Vec<u8>) -> Result<u64, AllocError> {
-    Ok(digest(text.as_slice()))
 }

@@ -4,7 +4,7 @@ ghost use Rattle.std.specs.Prelude.{◌≡◌, ◌<◌, length, vec_len};
 use crate::calls::ReleaseCall;
 use crate::inputs::{files_of, split};
 use crate::maps;
-use crate::trial::{Fault, Seen, begin, digest, end, seen};
+use crate::trial::{Fault, Seen, begin, digest, end, seen, text_digest};
 use refusal::NoMemory;
 use rim_check::{LaunchCheck, ManifestCheck, Readable, check_launches, check_manifest};
 use rim_desc::Measurement;
@@ -190,7 +190,8 @@ fn checked<R: Print + AllocGlobal>(
     files: &Files,
     is_tried: bool,
 ) -> Result<Seen, Fault> {
-    let Ok(ManifestCheck::Readable(readable)) = check_manifest(rt.alloc(), text) else {
+    let Ok(ManifestCheck::Readable(readable)) = check_manifest(rt.alloc(), "manifest.toml", text)
+    else {
         return Err(Fault::Input);
     };
     if files.len() != readable.release().file_count() {
@@ -301,10 +302,6 @@ fn outcome_digest(outcome: &Result<Outcome, StartFault>) -> Result<Seen, Fault> 
         Err(StartFault::NoMemory) => Ok(None),
         Err(_) => Err(Fault::Input),
     }
-}
-
-fn text_digest(_alloc: Global, text: &Vec<u8>) -> Result<u64, AllocError> {
-    Ok(digest(text.as_slice()))
 }
 
 fn report_digest(_alloc: Global, report: &Report) -> Result<u64, AllocError> {

@@ -1,10 +1,10 @@
-//! Calls on texts: the words of a command line, one a line; a listing; a manifest.
+//! Calls on texts: the words of a command line, one a line; a listing; a manifest; lines.
 
 use crate::calls::TextCall;
 use crate::machine::{applied, cloned, printed};
-use crate::trial::{Fault, Seen, begin, digest, end, seen};
+use crate::trial::{Fault, Seen, begin, digest, end, seen, text_digest};
 use refusal::NoMemory;
-use rim_check::{ManifestCheck, check_manifest};
+use rim_check::{ManifestCheck, MarkedLine, check_json, check_manifest, mark_first};
 use rim_cli::{CommandFault, Request, command};
 use rim_release::{ManifestFault, Release, ReplayFault, read_manifest, replay};
 use std::alloc::{AllocError, Global};
@@ -24,6 +24,8 @@ pub fn seen<R: Print + AllocGlobal>(
         TextCall::PrintLines => printed(rt, text, is_tried),
         TextCall::ReadManifest => manifest_read(rt, text, is_tried),
         TextCall::CheckManifest => manifest_checked(rt, text, is_tried),
+        TextCall::MarkFirst => fault_marked(rt, text, is_tried),
+        TextCall::CheckJson => written_as_json(rt, text, is_tried),
     }
 }
 
@@ -54,12 +56,37 @@ fn manifest_checked<R: Print + AllocGlobal>(
 ) -> Result<Seen, Fault> {
     let alloc = rt.alloc();
     begin(rt, is_tried)?;
-    let answer = check_manifest(alloc, text);
+    let answer = check_manifest(alloc, "manifest.toml", text);
     end(rt, is_tried)?;
     Ok(seen!(alloc, answer, check_digest, NoMemory))
 }
 
-/// The words that stand in the lines of a text.
+fn fault_marked<R: Print + AllocGlobal>(
+    rt: &R,
+    text: &[u8],
+    is_tried: bool,
+) -> Result<Seen, Fault> {
+    let alloc = rt.alloc();
+    begin(rt, is_tried)?;
+    let answer = mark_first(alloc, text);
+    end(rt, is_tried)?;
+    Ok(seen!(alloc, answer, mark_digest, NoMemory))
+}
+
+/// The lines of a text as those of a check.
+fn written_as_json<R: Print + AllocGlobal>(
+    rt: &R,
+    text: &[u8],
+    is_tried: bool,
+) -> Result<Seen, Fault> {
+    let alloc = rt.alloc();
+    begin(rt, is_tried)?;
+    let answer = check_json(alloc, text, 3);
+    end(rt, is_tried)?;
+    Ok(seen!(alloc, answer, text_digest, NoMemory))
+}
+
+/// The words that are in the lines of a text.
 fn commanded<R: Print + AllocGlobal>(rt: &R, text: &[u8], is_tried: bool) -> Result<Seen, Fault> {
     let Ok(text) = str::from_utf8(text) else {
         return Err(Fault::Input);
@@ -112,5 +139,12 @@ fn check_digest(alloc: Global, check: &ManifestCheck) -> Result<u64, AllocError>
     match check {
         ManifestCheck::Faulty(lines) => Ok(digest(lines.as_slice())),
         ManifestCheck::Readable(readable) => release_digest(alloc, readable.release()),
+    }
+}
+
+fn mark_digest(_alloc: Global, marked: &Option<MarkedLine>) -> Result<u64, AllocError> {
+    match marked {
+        Some(marked) => Ok(digest(marked.text.as_slice()) ^ digest(marked.mark.as_slice())),
+        None => Ok(0),
     }
 }

@@ -1,10 +1,10 @@
 //! Calls on a flattened devicetree, and on an Image.
 
 use crate::calls::TreeCall;
-use crate::trial::{Fault, Seen, begin, digest, end, seen};
+use crate::trial::{Fault, Seen, begin, digest, end, seen, text_digest};
 use fdt_tree::{FdtFault, Tree, read};
 use rim_release::{ShowFault, show_fdt, show_image};
-use std::alloc::{AllocError, Global};
+use std::alloc::Global;
 
 /// What a call on these bytes answers.
 pub fn seen<R: Print + AllocGlobal>(
@@ -119,8 +119,4 @@ fn tree_digest(alloc: Global, tree: &Tree) -> Result<u64, Fault> {
         Ok(bytes) => Ok(digest(bytes.as_slice())),
         Err(_) => Err(Fault::Input),
     }
-}
-
-fn text_digest(_alloc: Global, text: &Vec<u8>) -> Result<u64, AllocError> {
-    Ok(digest(text.as_slice()))
 }

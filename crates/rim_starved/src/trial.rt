@@ -1,7 +1,7 @@
 //! A call, made with ample memory, made where memory may be refused, and made again with ample memory.
 
 use refusal::NoMemory;
-use std::alloc::{AllocError, AllocFailed};
+use std::alloc::{AllocError, AllocFailed, Global};
 use std::io;
 
 /// Why a trial says nothing.
@@ -79,6 +79,11 @@ pub fn digest(bytes: &[u8]) -> u64 {
         value = (value ^ u64::from(*byte)).wrapping_mul(0x100_0000_01b3);
     }
     value
+}
+
+/// The digest of a text that a call answers.
+pub fn text_digest(_alloc: Global, text: &Vec<u8>) -> Result<u64, AllocError> {
+    Ok(digest(text.as_slice()))
 }
 
 /// What a call answered. `$shown` makes a digest of what it gives, and `$no_memory` is its want of memory.

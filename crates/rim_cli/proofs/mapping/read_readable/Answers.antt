@@ -1,7 +1,6 @@
 use Rattle.std.proofs.Common.{◌≡◌, ◌∙◌, ap, sym}
 use Rattle.std.specs.Prelude.{Ok}
 use Rattle.rim_line.specs.Readables.{ReadableData, item_names_in}
-use Rattle.rim_manifest.specs.Launches.{ReleaseData}
 use Rattle.rim_manifest.specs.Manifest.{manifest_of}
 use Rattle.rim_cli.proofs.MapsOfLaunches.{names-in}
 use Rattle.rim_cli.proofs.ReadFileByFile.{of_bytes}
