@@ -1,15 +1,10 @@
 //! Measuring on the way of commands.
 ghost use Rattle.std.specs.Prelude.{◌≡◌, option_map};
 ghost use Rattle.rim_desc.specs.Page.{zeros};
-ghost use Rattle.rim_desc.specs.Measurement.{measurement_of};
 ghost use Rattle.rim_desc.specs.Part.{Data, Rec, extended};
-ghost use Rattle.rim_desc.specs.Rec.{rec_page_of};
 ghost use Rattle.rmm_model.specs.State.{algo_of, measured_so_far};
 
-use rim_desc::{
-    Algo, Measurement, RealmParams, RecParams, data_descriptor, extend, hash, rec_descriptor,
-    rec_page,
-};
+use rim_desc::{Algo, Measurement, RealmParams, data_descriptor, extend, rec_descriptor};
 
 /// The hash algorithm of a realm with these parameters.
 pub fn algo_of(params: Option<RealmParams>) -> Algo
@@ -50,10 +45,9 @@ pub fn extended_by_data(
     extend(algo, &data_descriptor(&rim, ipa, content.as_ref()))
 }
 
-/// A measurement extended by a REC.
-pub fn extended_by_rec(algo: Algo, rim: Measurement, params: &RecParams) -> Measurement
-    ensures { result.bytes
-        ≡ extended algo rim.bytes (Rec (measurement_of algo (rec_page_of params.now))) }
+/// A measurement extended by a REC whose page has this measurement.
+pub fn extended_by_rec(algo: Algo, rim: Measurement, content: Measurement) -> Measurement
+    ensures { result.bytes ≡ extended algo rim.bytes (Rec content.bytes) }
 {
-    extend(algo, &rec_descriptor(&rim, &hash(algo, &rec_page(params))))
+    extend(algo, &rec_descriptor(&rim, &content))
 }

@@ -20,6 +20,7 @@ use crate::parameters::{
     all_aligned, has, is_bad_content, is_bad_realm, is_bad_rec, is_cut, is_runnable, rec_index,
     repeats, start_tables,
 };
+use crate::rec_content::{HashedRec, hashed_rec};
 use crate::space::IpaSpace;
 use refusal::NoMemory;
 use rim_desc::{
@@ -40,6 +41,8 @@ pub struct Monitor {
     owners: Owners,
     space: IpaSpace,
     num_recs: u64,
+    /// The page of a REC that was hashed last, so that it is hashed once for RECs with the same contents.
+    hashed_rec: Option<HashedRec>,
     rim: Option<Measurement>,
     alloc: Global,
 }
@@ -69,6 +72,7 @@ impl Monitor {
             owners: Owners::new(alloc),
             space: IpaSpace::new(alloc, 0, 0),
             num_recs: 0,
+            hashed_rec: None,
             rim: None,
             alloc,
         }
@@ -88,6 +92,7 @@ impl Monitor {
             owners,
             space,
             num_recs: self.num_recs,
+            hashed_rec: self.hashed_rec,
             rim: self.rim,
             alloc: self.alloc,
         })
@@ -336,8 +341,11 @@ impl Monitor {
         self.owners.give_all(aux, Kind::RecAux);
         self.num_recs += 1;
         if extends(self.rule, is_runnable(params.flags())) {
+            let algo = algo_of(self.params);
+            let hashed = hashed_rec(self.hashed_rec, algo, params);
             let rim = measured_so_far(self.rim);
-            self.rim = Some(extended_by_rec(algo_of(self.params), rim, params));
+            self.rim = Some(extended_by_rec(algo, rim, hashed.content()));
+            self.hashed_rec = Some(hashed);
         }
         Ok(())
     }
@@ -358,7 +366,8 @@ impl Monitor {
     /// it was. RealmCreate, RecCreate and Activate take no memory and are never refused so.
     ///
     /// Delegate, RttCreate, DataCreate and DataCreateUnknown take the logarithm of the number of granules, tables, ranges
-    /// and pages; InitRipas besides a hash for each entry, RealmCreate and DataCreate one, RecCreate two.
+    /// and pages; InitRipas besides a hash for each entry, RealmCreate and DataCreate one, RecCreate two, or
+    /// one where the REC before it has the same contents.
     pub fn apply(&mut self, command: &Command) -> Result<(), Refused>
         ensures exact { Applies Refused.NoMemory self.old self.new result
             (step self.old command.now) }
