@@ -56,14 +56,26 @@ pub(crate) fn is_anywhere(document: &Document, key: &str) -> bool {
         .any(|owner| form_of(document, *owner, key).is_some())
 }
 
-/// Adds the tables that a key belongs to, where it is in a table that it does not belong to.
+/// Adds the tables that a key belongs to, where a table that it does not belong to has it or another word for it.
 pub(crate) fn write_owners(
     line: &mut Line,
     document: &Document,
     place: Place,
+    word: &str,
     key: &str,
 ) -> fmt::Result {
-    let mut link = " (belongs to ";
+    if word == key {
+        write!(line, " (")?;
+    } else {
+        write!(line, " ({key} ")?;
+    }
+    write_tables(line, document, place, key)?;
+    write!(line, ")")
+}
+
+/// Adds that a key belongs to these tables.
+fn write_tables(line: &mut Line, document: &Document, place: Place, key: &str) -> fmt::Result {
+    let mut link = "belongs to ";
     for owner in OWNERS {
         if let Some(form) = form_of(document, owner, key) {
             write!(line, "{link}")?;
@@ -71,7 +83,7 @@ pub(crate) fn write_owners(
             link = "; or to ";
         }
     }
-    write!(line, ")")
+    Ok(())
 }
 
 /// Adds a table that a key belongs to, and where the key is written then.

@@ -11,6 +11,31 @@ const ALGORITHMS: [&str; 2] = ["sha256", "sha512"];
 /// The words of an item's kind.
 const KINDS: [&str; 5] = ["kernel", "initrd", "dtb", "raw", "unknown"];
 
+/// Other words for kinds, and the kinds.
+const KIND_ALIASES: [(&str, &str); 8] = [
+    ("image", "kernel"),
+    ("linux", "kernel"),
+    ("ramdisk", "initrd"),
+    ("initramfs", "initrd"),
+    ("fdt", "dtb"),
+    ("devicetree", "dtb"),
+    ("device tree", "dtb"),
+    ("binary", "raw"),
+];
+
+/// Units of sizes, as other programs take them, and how many bytes each is.
+const UNITS: [(&str, i64); 9] = [
+    ("K", 1 << 10),
+    ("KB", 1 << 10),
+    ("KiB", 1 << 10),
+    ("M", 1 << 20),
+    ("MB", 1 << 20),
+    ("MiB", 1 << 20),
+    ("G", 1 << 30),
+    ("GB", 1 << 30),
+    ("GiB", 1 << 30),
+];
+
 /// The words of a rule for RECs.
 const REC_RULES: [&str; 2] = ["all", "runnable"];
 
@@ -23,6 +48,8 @@ pub(crate) enum Hint<'a> {
     Quotes,
     /// The word that is meant.
     Word(&'static str),
+    /// It is so many bytes, written with a unit.
+    Bytes(i64),
     /// It lacks the `0x` before its digits.
     WordDigits(&'a str),
     /// A character that may not be in it.
@@ -45,6 +72,7 @@ impl fmt::Display for Hint<'_> {
             Hint::Nothing => Ok(()),
             Hint::Quotes => f.write_str(", written without quotes"),
             Hint::Word(word) => write!(f, " (write \"{word}\")"),
+            Hint::Bytes(count) => write!(f, " (write {count:#x})"),
             Hint::WordDigits(digits) => write!(f, " (in hexadecimal digits: \"0x{digits}\")"),
             Hint::Character(c) => write!(f, " ('{c}' is not allowed)"),
             Hint::Characters(count) => write!(f, " (it has {count} characters)"),
@@ -116,10 +144,11 @@ pub(crate) fn element_hint<'a>(
 fn text_hint(form: Form, text: &str) -> Hint<'_> {
     match form {
         Form::Version | Form::Number { .. } | Form::PoolBase if is_number(text) => Hint::Quotes,
+        Form::Number { .. } => bytes_hint(text),
         Form::Truth if text == "true" || text == "false" => Hint::Quotes,
         Form::Word | Form::Words { .. } if are_word_digits(text) => Hint::WordDigits(text),
         Form::Algorithm => word_hint(&ALGORITHMS, text),
-        Form::ItemKind => word_hint(&KINDS, text),
+        Form::ItemKind => kind_hint(text),
         Form::RecRule => word_hint(&REC_RULES, text),
         Form::Name => name_hint(text),
         Form::Digits { .. } => digits_hint(text),
@@ -132,6 +161,45 @@ fn word_hint<'a>(words: &[&'static str], text: &str) -> Hint<'a> {
     match words.iter().find(|word| is_alike(**word, text)) {
         Some(word) => Hint::Word(*word),
         None => Hint::Nothing,
+    }
+}
+
+/// The kind that a text is but for its spelling, or is another word for.
+fn kind_hint<'a>(text: &str) -> Hint<'a> {
+    for (alias, kind) in KIND_ALIASES {
+        if is_alike(alias, text) {
+            return Hint::Word(kind);
+        }
+    }
+    word_hint(&KINDS, text)
+}
+
+/// The number of bytes that a text writes with a unit, as `1MiB` and `512M`.
+fn bytes_hint<'a>(text: &str) -> Hint<'a> {
+    let unit = text.trim_start_matches(|c: char| c.is_ascii_digit());
+    let Some(digits) = text.strip_suffix(unit) else {
+        return Hint::Nothing;
+    };
+    let Ok(count) = digits.parse::<i64>() else {
+        return Hint::Nothing;
+    };
+    let Some(size) = size_of_unit(unit.trim_start()) else {
+        return Hint::Nothing;
+    };
+    match count.checked_mul(size) {
+        Some(bytes) => Hint::Bytes(bytes),
+        None => Hint::Nothing,
+    }
+}
+
+/// How many bytes a unit is, as `K`, `MB` and `GiB`.
+fn size_of_unit(unit: &str) -> Option<i64> {
+    let letters = UNITS
+        .iter()
+        .find(|(unit_word, _)| is_alike(unit_word, unit));
+    match letters {
+        Some((_, size)) => Some(*size),
+        None => None,
     }
 }
 

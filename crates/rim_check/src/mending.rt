@@ -5,9 +5,10 @@ ghost use Rattle.rim_launch.specs.LaunchData.{has_files};
 use crate::granules::granules_needed;
 use crate::kernel_front::{KernelFront, front_of};
 use fdt_tree::FdtFault;
-use ipa_layout::{ItemReason, LayoutReason};
+use ipa_layout::{Extent, IpaRange, ItemReason, LayoutReason};
 use refusal::NoMemory;
 use rim_accepted::LaunchReason;
+use rim_desc::GRANULE_SIZE;
 use rim_launch::{Launch, Region};
 use rmi_list::{ListReason, StepReason};
 use rmm_model::{LEAST_WIDTH, MOST_WIDTH, is_width, protected_end};
@@ -32,6 +33,12 @@ pub(crate) enum Mending<'a> {
     Width { given: u8, least: Option<u8> },
     /// How many granules of the pool it takes in all.
     Granules(u64),
+    /// Two items share no byte, but this page, after which the next one begins here.
+    SharedPage { page: u64, next: u64 },
+    /// The number of the REC that comes next.
+    NextRec(usize),
+    /// The number of the region that comes later and has the item.
+    LaterRam(usize),
 }
 
 impl fmt::Display for Mending<'_> {
@@ -56,6 +63,14 @@ impl fmt::Display for Mending<'_> {
                 "; s2sz is {given}, and none holds the RAM: the most is {MOST_WIDTH}"
             ),
             Mending::Granules(count) => write!(f, "; the launch takes {count} in all"),
+            Mending::SharedPage { page, next } => write!(
+                f,
+                "; both have bytes in the page {page:#x}, and the next one begins at {next:#x}"
+            ),
+            Mending::NextRec(number) => write!(f, "; \"rec {number}\" comes next"),
+            Mending::LaterRam(number) => {
+                write!(f, "; the step \"ram {number}\" has it, and comes later")
+            }
         }
     }
 }
@@ -112,6 +127,9 @@ pub(crate) fn mending_of<'a>(
         LaunchReason::Layout(LayoutReason::Item { item, reason }) => {
             Ok(item_mending(launch, files, *item, reason))
         }
+        LaunchReason::Layout(LayoutReason::Overlap { first, second }) => {
+            Ok(page_mending(first.extent, second.extent))
+        }
         LaunchReason::Layout(_) => Ok(Mending::Nothing),
         LaunchReason::List(ListReason::Step { reason, .. }) => {
             step_mending(alloc, launch, files, reason)
@@ -136,6 +154,23 @@ fn item_mending<'a>(
         ItemReason::Edits(fault) => Mending::Devicetree(*fault),
         ItemReason::OutsideRam { .. } => Mending::Ram(launch.ram()),
         _ => Mending::Nothing,
+    }
+}
+
+/// What helps where two items overlap: the page that they share, if they have no byte in common.
+fn page_mending<'a>(one: Extent, other: Extent) -> Mending<'a> {
+    let (low, high) = if one.address <= other.address {
+        (one, other)
+    } else {
+        (other, one)
+    };
+    if low.len > high.address - low.address {
+        return Mending::Nothing;
+    }
+    let page = high.address - high.address % GRANULE_SIZE;
+    match page.checked_add(GRANULE_SIZE) {
+        Some(next) => Mending::SharedPage { page, next },
+        None => Mending::Nothing,
     }
 }
 
@@ -165,8 +200,24 @@ fn step_mending<'a>(
             given: launch.config().s2sz,
             least: least_width(launch.ram()),
         }),
+        StepReason::Plan {
+            fault: PlanFault::NotRam,
+            range,
+        } => Ok(ram_mending(launch.ram(), *range)),
+        StepReason::RecOrder { listed } => Ok(Mending::NextRec(*listed)),
         StepReason::PoolEnd => pool_mending(alloc, launch, files),
         _ => Ok(Mending::Nothing),
+    }
+}
+
+/// What helps where an item is not in RAM yet: the region that has it.
+fn ram_mending<'a>(regions: &[Region], range: IpaRange) -> Mending<'a> {
+    let own = regions.iter().position(|region| {
+        u128::from(region.base) <= range.base && range.end <= u128::from(region.end)
+    });
+    match own {
+        Some(number) => Mending::LaterRam(number),
+        None => Mending::Nothing,
     }
 }
 

@@ -4,7 +4,7 @@ use std::alloc::{AllocError, Global};
 use std::fmt;
 use strsim::levenshtein;
 
-/// How many letters a word may differ by from the nearest one, and one more.
+/// How many letters a word may differ by from the nearest one, and one more. It differs in fewer letters than either has.
 const FAR: usize = 3;
 
 /// The longest word that is compared, in bytes.
@@ -49,7 +49,7 @@ impl<'a, 'k> Nearest<'a, 'k> {
             self.take(known);
         }
         let distance = levenshtein(alloc, self.word, known)?;
-        if distance < self.distance {
+        if distance < self.distance && distance < self.word.len() && distance < known.len() {
             self.distance = distance;
             self.found = Some(known);
         }

@@ -18,7 +18,7 @@ use toml::Table;
 const MOST_KEYS: usize = 8;
 
 /// Words of other programs, and the keys that say the same.
-const ALIASES: [(&str, &str); 20] = [
+const ALIASES: [(&str, &str); 23] = [
     ("append", "bootargs"),
     ("args", "bootargs"),
     ("cmdline", "bootargs"),
@@ -34,6 +34,9 @@ const ALIASES: [(&str, &str); 20] = [
     ("address", "at"),
     ("base", "at"),
     ("load", "at"),
+    ("bytes", "size"),
+    ("length", "size"),
+    ("len", "size"),
     ("type", "kind"),
     ("memory", "ram"),
     ("cpu", "rec"),
@@ -52,6 +55,8 @@ enum OtherKey {
     Later,
     /// A key of other tables.
     Elsewhere,
+    /// Another word for a key of other tables.
+    AliasElsewhere(&'static str),
     /// Perhaps a key of the table with a slip.
     Slip,
 }
@@ -122,7 +127,8 @@ fn write_other_key(
         OtherKey::Alias { key, .. } => write!(line, " (write {key})"),
         OtherKey::Kind => write!(line, " (write an item with kind = \"{key}\")"),
         OtherKey::Later => write!(line, " (belongs to version 2: write rim_manifest = 2)"),
-        OtherKey::Elsewhere => write_owners(line, document, place, key),
+        OtherKey::Elsewhere => write_owners(line, document, place, key, key),
+        OtherKey::AliasElsewhere(meant) => write_owners(line, document, place, key, meant),
         OtherKey::Slip => write_nearest(alloc, line, rules, key),
     }
 }
@@ -137,8 +143,21 @@ fn other_key(document: &Document, place: Place, rules: &[Rule], key: &str) -> Ot
         "kernel" | "initrd" | "dtb" if is_of_launch => OtherKey::Kind,
         "rec_rule" if is_of_launch => OtherKey::Later,
         _ if is_anywhere(document, key) => OtherKey::Elsewhere,
-        _ => OtherKey::Slip,
+        _ => match alias_anywhere(document, key) {
+            Some(key) => OtherKey::AliasElsewhere(key),
+            None => OtherKey::Slip,
+        },
     }
+}
+
+/// The key of some table that another word says.
+fn alias_anywhere(document: &Document, word: &str) -> Option<&'static str> {
+    for (alias, key) in ALIASES {
+        if is_alike(alias, word) && is_anywhere(document, key) {
+            return Some(key);
+        }
+    }
+    None
 }
 
 /// The key of these rules that another word says.
@@ -212,6 +231,8 @@ fn means(
             let nearest = nearest_in(alloc, rules, word)?;
             Ok(nearest.found() == Some(key))
         }
-        OtherKey::Kind | OtherKey::Later | OtherKey::Elsewhere => Ok(false),
+        OtherKey::Kind | OtherKey::Later | OtherKey::Elsewhere | OtherKey::AliasElsewhere(_) => Ok(
+            false,
+        ),
     }
 }

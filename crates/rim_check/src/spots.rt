@@ -1,11 +1,14 @@
 //! Where the faults of a manifest are in its text.
+use crate::finding_detail::lacks_initrd;
 use crate::other_keys::rules_of;
 use crate::shown::bad_element;
 use refusal::NoMemory;
-use rim_manifest::{Document, Finding, Form, ManifestFault, Subject, cell};
+use rim_manifest::{
+    Document, Finding, Form, ManifestFault, Place, Subject, asks_for, cell, entries,
+};
 use rim_spot::{Sought, Spot, find_spots};
 use std::alloc::Global;
-use toml::Table;
+use toml::{Table, Value};
 
 /// The key of a launch's steps.
 const STEPS: &str = "steps";
@@ -26,26 +29,52 @@ pub(crate) fn finding_spots(
 ) -> Result<Vec<Option<Spot>>, NoMemory> {
     let mut sought = Vec::with_capacity(alloc, found.len())?;
     for finding in found {
-        sought.push((finding.place, sought_of(manifest.document, finding)))?;
+        sought.push(sought_of(manifest.document, finding))?;
     }
     find_spots(alloc, manifest.text, &sought)
 }
 
-/// What is to be looked for where a fault is.
-fn sought_of(document: &Document, finding: &Finding) -> Sought {
-    let Some(table) = document.table(finding.place) else {
-        return Sought::Table;
+/// In which table a fault is, and what is to be looked for there.
+fn sought_of(document: &Document, finding: &Finding) -> (Place, Sought) {
+    let place = finding.place;
+    let Some(table) = document.table(place) else {
+        return (place, Sought::Table);
     };
     match finding.subject {
-        Subject::Key { key, form } => value_at(table, key, form, finding.fault),
-        Subject::OtherKeys => Sought::OtherKey(rules_of(document, finding.place, table)),
-        Subject::Step { step } => Sought::Member {
-            key: STEPS,
-            number: step,
-        },
-        Subject::Steps => Sought::Key(STEPS),
-        Subject::Asked | Subject::Whole => Sought::Table,
+        Subject::Key { key, form } => (place, value_at(table, key, form, finding.fault)),
+        Subject::OtherKeys => (place, Sought::OtherKey(rules_of(document, place, table))),
+        Subject::Step { step } => (
+            place,
+            Sought::Member {
+                key: STEPS,
+                number: step,
+            },
+        ),
+        Subject::Steps => (place, Sought::Key(STEPS)),
+        Subject::Asked => asked(place, table),
+        Subject::Whole => (place, Sought::Table),
     }
+}
+
+/// The key by which a devicetree asks for what its launch has not.
+fn asked(place: Place, launch: &Table) -> (Place, Sought) {
+    let key = if lacks_initrd(launch) {
+        "initrd"
+    } else {
+        "memory"
+    };
+    let items = entries(launch, "item");
+    let item = (0..items.len()).find(|item| is_asking(items, *item, key));
+    match (place, item) {
+        (Place::Launch { launch }, Some(item)) => (Place::Item { launch, item }, Sought::Key(key)),
+        _ => (place, Sought::Table),
+    }
+}
+
+/// Whether the item of this number asks for what a key of a devicetree is about.
+fn is_asking(items: &[Value], item: usize, key: &str) -> bool {
+    let from = items.get(item..).unwrap_or(&[]);
+    asks_for(from.get(..1).unwrap_or(&[]), key)
 }
 
 /// The value at a key that has a fault, or the member of it that has.
