@@ -144,7 +144,7 @@ pub(crate) fn element_hint<'a>(
 fn text_hint(form: Form, text: &str) -> Hint<'_> {
     match form {
         Form::Version | Form::Number { .. } | Form::PoolBase if is_number(text) => Hint::Quotes,
-        Form::Number { .. } => bytes_hint(text),
+        Form::Number { high: i64::MAX, .. } => bytes_hint(text),
         Form::Truth if text == "true" || text == "false" => Hint::Quotes,
         Form::Word | Form::Words { .. } if are_word_digits(text) => Hint::WordDigits(text),
         Form::Algorithm => word_hint(&ALGORITHMS, text),

@@ -35,6 +35,8 @@ pub(crate) enum Mending<'a> {
     Granules(u64),
     /// Two items share no byte, but this page, after which the next one begins here.
     SharedPage { page: u64, next: u64 },
+    /// What a region begins and ends at a multiple of.
+    WholePages,
     /// The number of the REC that comes next.
     NextRec(usize),
     /// The number of the region that comes later and has the item.
@@ -66,6 +68,10 @@ impl fmt::Display for Mending<'_> {
             Mending::SharedPage { page, next } => write!(
                 f,
                 "; both have bytes in the page {page:#x}, and the next one begins at {next:#x}"
+            ),
+            Mending::WholePages => write!(
+                f,
+                "; a region is from a multiple of {GRANULE_SIZE:#x} to another"
             ),
             Mending::NextRec(number) => write!(f, "; \"rec {number}\" comes next"),
             Mending::LaterRam(number) => {
@@ -204,6 +210,10 @@ fn step_mending<'a>(
             fault: PlanFault::NotRam,
             range,
         } => Ok(ram_mending(launch.ram(), *range)),
+        StepReason::Plan {
+            fault: PlanFault::Unaligned,
+            ..
+        } => Ok(Mending::WholePages),
         StepReason::RecOrder { listed } => Ok(Mending::NextRec(*listed)),
         StepReason::PoolEnd => pool_mending(alloc, launch, files),
         _ => Ok(Mending::Nothing),
