@@ -249,8 +249,12 @@ def split(launch: Launch, places: set[int]) -> list[list[tuple[int, int]]]:
     return groups
 
 
+# Sizes of RAM that people give to a machine, in MiB.
+USUAL_SIZES = (256, 512, *(1024 * gib for gib in (1, 2, 3, 4, 6, 8, 12, 16)), 128, 64)
+
+
 def ends(base: int, end: int) -> dict[int, None]:
-    """Other ends of a region, each once: of the usual sizes, and where a size was taken for an end or an end for a size."""
+    """Other ends of a region, each once: of sizes near its own, and where a size was taken for an end or an end for a size."""
     size = end - base
     above = 1 << (size - 1).bit_length()
     below = 1 << (size.bit_length() - 1)
@@ -272,6 +276,9 @@ def rams(launch: Launch, files: Files) -> Changes:
     yield "RAM split at each item", parts
     last = [f"rec {number}" for number in range(len(launch.rec))]
     yield "RAM split at each item, each part before it", replace(parts, steps=tuple(regions_before(parts, files, list(parts.item)) + last))
+    for number, (base, _) in enumerate(launch.ram):
+        for new in (base + size * MIB for size in USUAL_SIZES):
+            yield f"region {number} ends at {new:#x}", with_ram(launch, [*kept[:number], [(base, new)], *kept[number + 1:]])
 
 
 @dataclass(frozen=True)

@@ -219,6 +219,7 @@ SINGLES = [
     ("counts", "plain", both(put("num_bps", 6), put("num_wps", 4))),
     ("counts", "plain", both(put("num_bps", 4), put("num_wps", 2), put("pmu_num_ctrs", 5))),
     ("ram", "plain", put("ram", [[0x40000000, 0x48000000]])),
+    ("ram", "plain", put("ram", [[0x40000000, 0xc0000000]])),
     ("ram", "old", put("ram", [[0x40000000, 0x80800000]])),
     ("ram", "stub", both(put("ram", [[0x40000000, 0x40800000], [0x40800000, 0x42000000], [0x48000000, 0x48800000]]))),
     ("ram", "old", put("ram", [[0x40000000, 0x40001000], [0x40001000, 0x40800000]])),
