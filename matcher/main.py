@@ -199,11 +199,8 @@ def near(rim: Rim, said: Words) -> int:
     if not found:
         print("\n".join(refused))
         return 1
-    best = max(found, key=lambda each: each.shared)
-    others = sum(each.shared == best.shared for each in found) - 1
-    print("\n".join(nearest.said_of(best, said.trace, there)))
-    if others:
-        print(f"{others} other launch{'es' * (others > 1)} share{'s' * (others == 1)} that beginning too")
+    best = nearest.nearest_of(found)
+    print("\n".join([*nearest.said_of(best, said.trace, there), *nearest.about_others(best, found)]))
     return int(best.trace != there)
 
 

@@ -1,5 +1,6 @@
 """Which launch of a manifest shares the longest beginning with the trace of a machine, and where it parts from it."""
 import itertools
+from collections import Counter
 from dataclasses import dataclass
 
 from .faults import Fault, shown
@@ -16,11 +17,12 @@ WORDS = {
 
 @dataclass(frozen=True)
 class Near:
-    """A launch with its trace, and how many first lines of it are those of the machine's."""
+    """A launch with its trace; how many first lines of it are those of the machine's, and how many of its steps the machine has too."""
 
     name: str
     trace: list[str]
     shared: int
+    steps: int
 
 
 def lines_of(path: str) -> list[str]:
@@ -42,6 +44,11 @@ def shared(one: list[str], other: list[str]) -> int:
     return sum(1 for _ in itertools.takewhile(lambda pair: pair[0] == pair[1], zip(one, other)))
 
 
+def steps_of(trace: list[str]) -> Counter[str]:
+    """The lines without the RIM: it is another one in all lines after the first difference."""
+    return Counter(line.partition(" ")[2] for line in trace)
+
+
 def differing(one: str, other: str) -> list[str]:
     """The names of the words in which two lines of one command differ."""
     (rim, command, *words), (other_rim, other_command, *others) = one.split(" "), other.split(" ")
@@ -53,12 +60,12 @@ def differing(one: str, other: str) -> list[str]:
 
 def of_launches(rim: Rim, manifest: str, names: list[str], there: list[str]) -> tuple[list[Near], list[str]]:
     """Each launch that `rim` takes, and of the others what it says."""
-    found, refused = [], []
+    found, refused, steps = [], [], steps_of(there)
     for name in names:
         ran = rim.run("trace", "--", manifest, name)
         if ran.status == 0:
             here = ran.out.splitlines()
-            found.append(Near(name, here, shared(here, there)))
+            found.append(Near(name, here, shared(here, there), (steps_of(here) & steps).total()))
         elif ran.status == 1:
             refused.append(ran.out.strip())
         else:
@@ -77,3 +84,19 @@ def said_of(near: Near, path: str, there: list[str]) -> list[str]:
             f"{where}: {trace[count]}" for where, trace in ((near.name, here), (path, there)) if count < len(trace)]
     names = ", ".join(differing(here[count], there[count]))
     return [*lines, f"line {count + 1} differs in {names}", f"{near.name}: {here[count]}", f"{path}: {there[count]}"]
+
+
+def nearest_of(found: list[Near]) -> Near:
+    """The launch with the longest beginning, and of several the one with most of the machine's steps: where a parameter of the realm
+    differs, no launch shares a line."""
+    return max(found, key=lambda each: (each.shared, each.steps))
+
+
+def about_others(best: Near, found: list[Near]) -> list[str]:
+    """What is said of the launches with the same beginning."""
+    others = [each for each in found if each is not best and each.shared == best.shared]
+    if not others:
+        return []
+    several = len(others) > 1
+    fewer = ", and fewer of the other steps" * all(each.steps < best.steps for each in others)
+    return [f"{len(others)} other launch{'es' * several} share{'s' * (not several)} that beginning too{fewer}"]

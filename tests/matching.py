@@ -437,6 +437,10 @@ def traces(program: str) -> list[str]:
     launch_of(table, "plain")["rec"] = [{"pc": 0}, OFF]
     here.put("changed.toml", whole(table).encode())
     changed = trace_of(program, here, "changed.toml", "plain")
+    table = base_table("plain")
+    launch_of(table, "stub")["num_bps"] = 7
+    here.put("changed.toml", whole(table).encode())
+    parameters = trace_of(program, here, "changed.toml", "stub")
     count = len(plain.splitlines())
     wrong = []
     for name, data, given, status, parts in (
@@ -444,6 +448,9 @@ def traces(program: str) -> list[str]:
             ("a REC", changed, ["m.toml"], 1, [
                 f'launch "plain": the first {count - 1} of its {count} lines are those of there, which has {count}\n',
                 f"line {count} differs in pc\n", f"plain: {plain.splitlines()[-1]}\n", f"there: {changed.splitlines()[-1]}\n"]),
+            ("a parameter", parameters, ["m.toml"], 1, [
+                'launch "stub": the first 0 of its ', "line 1 differs in num_bps\n",
+                "\n1 other launch shares that beginning too, and fewer of the other steps\n"]),
             ("one launch", stub, ["m.toml", "plain"], 1, ['launch "plain": the first 0 of its ',
                                                           "line 1 differs in rtt_num_start, s2sz, algo, flags, "]),
             ("a beginning", "".join(plain.splitlines(True)[:3]), ["m.toml"], 1, ["the first 3 of its ", "line 4: there has none\n",
