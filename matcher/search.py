@@ -12,8 +12,9 @@ from .program import Outcome, Rim, outcome
 from .value import Value
 
 MOST_LAUNCHES = 1024
-# A launch of more steps is tried at the end of its round, and the launches of a run have about this many at most.
-COSTLY_STEPS, MOST_STEPS = 1 << 17, 1 << 23
+# A launch of more steps than this, and than twice those of the one that is changed, is tried at the end of its round: RAM in blocks of
+# 4 KiB takes as long as hundreds of other changes. The launches of a run have about MOST_STEPS.
+COSTLY_STEPS, MOST_STEPS = 1 << 12, 1 << 23
 # How many axes are changed at once, and how many of the changes need not be likely ones; what is said of a round.
 ROUNDS = ((1, 1, "one change"), (2, 0, "two likely changes"), (2, 2, "two changes"), (3, 0, "three likely changes"),
           (3, 1, "three changes, two of them likely"), (3, 3, "three changes"))
