@@ -525,6 +525,20 @@ def documents(_program: str) -> list[str]:
     return wrong + differs("the limit", f"{main.LIMIT:,} by default" in page, True)
 
 
+def example(program: str) -> list[str]:
+    """docs/VERIFIER.md has what is printed of a change of an example."""
+    here = Folder({})
+    os.symlink(os.path.join(TOP, "examples"), os.path.join(here.path, "examples"))
+    with open(os.path.join(TOP, "examples", "vm", "manifest.toml"), "rb") as file:
+        table = tomllib.load(file)
+    launch_of(table, "one-vcpu").update(num_bps=5, rec=[{}, OFF], rec_rule="all")
+    value = measured(program, here, table)["one-vcpu"]
+    status, out, said = here.run("examples/vm/manifest.toml", "one-vcpu", value, start=START, RIM=program)
+    with open(os.path.join(TOP, "docs", "VERIFIER.md"), encoding="utf-8") as file:
+        page = file.read()
+    return differs("status, standard error, in the page", (status, said, out in page), (0, "", True)) + [out] * (out not in page)
+
+
 def all_tries(program: str):
     for number, (axis, name, changed) in enumerate(SINGLES):
         yield f"{axis} of {name}, row {number}", lambda name=name, changed=changed: change(program, name, changed, 1)
@@ -535,7 +549,7 @@ def all_tries(program: str):
             yield f"lines of {axis.name} of {name}", lambda axis=axis, name=name: lines_of(program, axis, name)
     for name in ("plain", "stub", "old"):
         yield f"what is measured of {name}", lambda name=name: same_measured(program, name)
-    for look in (forms, not_found, words, refused, traces, terminal, installed, documents):
+    for look in (forms, not_found, words, refused, traces, terminal, installed, documents, example):
         yield look.__name__, lambda look=look: look(program)
 
 
