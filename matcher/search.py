@@ -2,6 +2,7 @@
 import itertools
 import sys
 import time
+from collections import deque
 from collections.abc import Iterator
 from concurrent.futures import Future, ThreadPoolExecutor
 from dataclasses import dataclass, field
@@ -18,6 +19,7 @@ COSTLY_STEPS, MOST_STEPS = 1 << 12, 1 << 23
 # How many axes are changed at once, and how many of the changes need not be likely ones; what is said of a round.
 ROUNDS = ((1, 1, "one change"), (2, 0, "two likely changes"), (2, 2, "two changes"), (3, 0, "three likely changes"),
           (3, 1, "three changes, two of them likely"), (3, 3, "three changes"))
+LAST_ROUND = "three changes, of many steps"
 
 
 @dataclass(frozen=True)
@@ -61,6 +63,7 @@ class Search:
     axes: tuple[Axis, ...] = AXES
     rounds: list[Round] = field(default_factory=list)
     seen: set[int] = field(default_factory=set)
+    late: deque[Candidate] = field(default_factory=deque)
     shown_at: float = 0.0
 
     @property
@@ -79,7 +82,8 @@ class Search:
         return True
 
     def launches(self, base: Launch, count: int, others: int) -> Iterator[Candidate]:
-        """The launches of a round. Those of very many steps, which take long to measure, come last, unless all are such."""
+        """The launches of a round. Those of very many steps come last, unless all are such. Where three things are changed that are not all
+        likely, they are left for the last round: a few of the launches, they would take most of the time."""
         costly, late = max(COSTLY_STEPS, 2 * steps_of(base, self.files)), []
         for each in combined((), base, self.files, self.axes, count, others):
             if self.is_new(each.launch):
@@ -87,11 +91,25 @@ class Search:
                     late.append(each)
                 else:
                     yield each
-        yield from late
+        if count == 3 and others:
+            self.late += late
+        else:
+            yield from late
 
-    def batches(self, base: Launch, count: int, others: int, limit: int) -> Iterator[list[Candidate]]:
+    def left(self) -> Iterator[Candidate]:
+        """The launches that were left for the last round."""
+        while self.late:
+            yield self.late.popleft()
+
+    def rounds_of(self, base: Launch) -> Iterator[tuple[str, Iterator[Candidate]]]:
+        """What is said of each round, and its launches."""
+        for count, others, about in ROUNDS:
+            yield about, self.launches(base, count, others)
+        yield LAST_ROUND, self.left()
+
+    def batches(self, launches: Iterator[Candidate], limit: int) -> Iterator[list[Candidate]]:
         batch, steps = [], 0
-        for each in itertools.islice(self.launches(base, count, others), limit):
+        for each in itertools.islice(launches, limit):
             batch.append(each)
             steps += steps_of(each.launch, self.files)
             if len(batch) == MOST_LAUNCHES or steps > MOST_STEPS:
@@ -117,16 +135,16 @@ class Search:
         self.progress()
         return next((each for each in batch if each.launch is came.hit), None)
 
-    def round(self, base: Launch, count: int, others: int, pool: ThreadPoolExecutor) -> Candidate | None:
+    def round(self, launches: Iterator[Candidate], pool: ThreadPoolExecutor) -> Candidate | None:
         """One round. While a batch is measured, the next one is made."""
         limit = self.limit - self.tried
         waiting, made = None, 0
-        for batch in self.batches(base, count, others, limit):
+        for batch in self.batches(launches, limit):
             made += len(batch)
             if waiting and (hit := self.taken(waiting)):
                 return hit
             waiting = batch, pool.submit(outcome, self.rim, [each.launch for each in batch], self.files, self.value)
-        self.rounds[-1].is_whole = made < limit
+        self.rounds[-1].is_whole = made < limit and not self.late
         return self.taken(waiting) if waiting else None
 
     def found(self, base: Launch) -> Candidate | None:
@@ -140,12 +158,12 @@ class Search:
                 if self.rounds[0].refused:
                     # another launch of which the same is measured may be one that is not refused
                     self.seen.clear()
-            for count, others, about in ROUNDS:
+            for about, launches in self.rounds_of(base):
                 if hit or self.tried >= self.limit:
                     break
                 self.rounds.append(Round(about))
                 start = time.monotonic()
-                hit = self.round(base, count, others, pool)
+                hit = self.round(launches, pool)
                 self.rounds[-1].seconds = time.monotonic() - start
         finally:
             pool.shutdown(cancel_futures=True)

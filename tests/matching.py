@@ -317,6 +317,22 @@ def same_measured(program: str, name: str) -> list[str]:
     return wrong[:8] + differs("launches that are the same", len(found) < len(some), True)
 
 
+def many_steps(_program: str) -> list[str]:
+    """Launches of many steps come at the end of a round, or in the last one: their places among all, and what is left."""
+    here, table = folder(), base_table("plain")
+    blobs = {each["name"]: files.Blob(each["path"], *measures(here, each["path"])) for each in table["file"]}
+    launch = main.launch_named(table, "plain")
+    axes = tuple(axis for axis in AXES if axis.name in ("block_level", "num_bps", "num_wps"))
+    some = search.Search(None, blobs, None, 10_000, axes)
+    wrong = []
+    for count, others, is_left in ((1, 1, False), (2, 2, False), (3, 3, True)):
+        here = [each.launch.block_level == 3 for each in some.launches(launch, count, others)]
+        left = [each.launch.block_level == 3 for each in some.left()]
+        late = left if is_left else here[len(here) - sum(here):]
+        wrong += differs(f"{count}: late ones", (len(late) > 0, all(late), is_left and any(here)), (True, True, False))
+    return wrong
+
+
 # ---- the value, words and faults
 
 
@@ -549,7 +565,7 @@ def all_tries(program: str):
             yield f"lines of {axis.name} of {name}", lambda axis=axis, name=name: lines_of(program, axis, name)
     for name in ("plain", "stub", "old"):
         yield f"what is measured of {name}", lambda name=name: same_measured(program, name)
-    for look in (forms, not_found, words, refused, traces, terminal, installed, documents, example):
+    for look in (many_steps, forms, not_found, words, refused, traces, terminal, installed, documents, example):
         yield look.__name__, lambda look=look: look(program)
 
 
