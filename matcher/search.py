@@ -16,10 +16,12 @@ MOST_LAUNCHES = 1024
 # A launch of more steps than this, and than twice those of the one that is changed, is tried at the end of its round: RAM in blocks of
 # 4 KiB takes as long as hundreds of other changes. The launches of a run have about MOST_STEPS.
 COSTLY_STEPS, MOST_STEPS = 1 << 12, 1 << 23
+# A launch of more steps than this is left for the last round where more than one thing is changed: gigabytes of RAM in blocks of 4 KiB.
+VAST_STEPS = 1 << 20
 # How many axes are changed at once, and how many of the changes need not be likely ones; what is said of a round.
 ROUNDS = ((1, 1, "one change"), (2, 0, "two likely changes"), (2, 2, "two changes"), (3, 0, "three likely changes"),
           (3, 1, "three changes, two of them likely"), (3, 3, "three changes"))
-LAST_ROUND = "three changes, of many steps"
+LAST_ROUND = "changes of many steps"
 
 
 @dataclass(frozen=True)
@@ -82,19 +84,20 @@ class Search:
         return True
 
     def launches(self, base: Launch, count: int, others: int) -> Iterator[Candidate]:
-        """The launches of a round. Those of very many steps come last, unless all are such. Where three things are changed that are not all
-        likely, they are left for the last round: a few of the launches, they would take most of the time."""
+        """The launches of a round. Those of many steps come last, unless all are such. They are left for the last round where three things
+        are changed that are not all likely, and those of most steps where two are: a few of the launches would take most of the time."""
         costly, late = max(COSTLY_STEPS, 2 * steps_of(base, self.files)), []
+        left = {2: max(costly, VAST_STEPS), 3: costly}.get(count if others else 1)
         for each in combined((), base, self.files, self.axes, count, others):
             if self.is_new(each.launch):
-                if steps_of(each.launch, self.files) > costly:
+                steps = steps_of(each.launch, self.files)
+                if left is not None and steps > left:
+                    self.late.append(each)
+                elif steps > costly:
                     late.append(each)
                 else:
                     yield each
-        if count == 3 and others:
-            self.late += late
-        else:
-            yield from late
+        yield from late
 
     def left(self) -> Iterator[Candidate]:
         """The launches that were left for the last round."""
