@@ -48,7 +48,7 @@ pub(crate) enum Hint<'a> {
     Quotes,
     /// The word that is meant.
     Word(&'static str),
-    /// It is so many bytes, written with a unit.
+    /// It is a number of bytes that was written with a unit.
     Bytes(i64),
     /// It lacks the `0x` before its digits.
     WordDigits(&'a str),
