@@ -80,6 +80,12 @@ def change(path, old, new):
         file.write(text.replace(old, new))
 
 
+def has_avx2():
+    """Whether programs for x86-64-v3 run here."""
+    with open("/proc/cpuinfo") as file:
+        return " avx2 " in file.read()
+
+
 def least(program, words, runs):
     """The least time of some runs with these words in seconds, and the most memory of one in MB."""
     times, sizes = [], []

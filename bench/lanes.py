@@ -12,6 +12,7 @@ import os
 import sys
 import tempfile
 
+from crates import has_avx2
 from releases import kernel, shared
 from workers import measuring, run
 
@@ -23,9 +24,7 @@ PLAIN = [
 
 
 def prepare():
-    with open("/proc/cpuinfo") as file:
-        is_new = " avx2 " in file.read()
-    ways = [("sha2 alone", PLAIN, []), ("lanes", [], [])] + ([("lanes, AVX2", [], ["--cpu=x86-64-v3"])] if is_new else [])
+    ways = [("sha2 alone", PLAIN, []), ("lanes", [], [])] + ([("lanes, AVX2", [], ["--cpu=x86-64-v3"])] if has_avx2() else [])
     return [(way, measuring(changes, flags)) for way, changes, flags in ways]
 
 
