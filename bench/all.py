@@ -22,14 +22,15 @@ import prefixes
 import hashes
 import lanes
 import launches
+import peers
 import releases
 import sizes
 import trees
 import workers
 
 # What proves most comes first, so that a program that cannot be built is reported early.
-BUILDING = [prefixes, lanes, workers, board, hashes, chain, crates, trees, releases]
-TIMING = [hashes, chain, board, crates, trees, workers, lanes, prefixes, releases, launches, sizes]
+BUILDING = [prefixes, lanes, workers, board, hashes, peers, chain, crates, trees, releases]
+TIMING = [hashes, peers, chain, board, crates, trees, workers, lanes, prefixes, releases, launches, sizes]
 
 
 def processor():

@@ -25,8 +25,8 @@ def least_times(program, runs):
     return [min(kind) for kind in zip(*times)]
 
 
-def prepare():
-    return built("hashes", "page_jobs rim_sha rim_desc sha2", ["1"])
+def prepare(flags=()):
+    return built("hashes", "page_jobs rim_sha rim_desc sha2", ["1"], flags=flags)
 
 
 def main():
