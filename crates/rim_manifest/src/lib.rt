@@ -27,7 +27,7 @@ pub use check::cell;
 pub use document::{Checked, Document};
 pub use fault::{ManifestFault, is_lower};
 pub use fault_list::{FINDING_LIMIT, FaultList};
-pub use finding::{Finding, Place, Subject};
+pub use finding::{Array, Finding, Place, Subject};
 pub use form::{Form, Rule};
 pub use launch::NamedLaunch;
 pub use laws::{the_lowest_fault_is_answered, what_is_given_is_read};

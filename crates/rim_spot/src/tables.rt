@@ -1,32 +1,5 @@
 //! The arrays of tables of a manifest, and how many tables of each have begun by their headers.
-use rim_manifest::Place;
-
-/// An array of tables of a manifest.
-#[derive(Clone, Copy)]
-pub(crate) enum Array {
-    Files,
-    Launches,
-    Items { launch: usize },
-    Recs { launch: usize },
-}
-
-impl Array {
-    /// The table of this number in the array.
-    pub(crate) fn at(self, number: usize) -> Place {
-        match self {
-            Array::Files => Place::File { file: number },
-            Array::Launches => Place::Launch { launch: number },
-            Array::Items { launch } => Place::Item {
-                launch,
-                item: number,
-            },
-            Array::Recs { launch } => Place::Rec {
-                launch,
-                rec: number,
-            },
-        }
-    }
-}
+use rim_manifest::{Array, Place};
 
 /// How many tables of each array have begun: of the last launch, where they are in one.
 #[derive(Clone, Copy)]

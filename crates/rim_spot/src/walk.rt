@@ -1,9 +1,9 @@
 //! A walk through the text of a document, from one key or value to the next.
 use crate::searches::{Begun, Searches, Sought};
 use crate::spot::{Spot, without_mark};
-use crate::tables::{Array, Tables, array_at, list_key};
+use crate::tables::{Tables, array_at, list_key};
 use refusal::NoMemory;
-use rim_manifest::Place;
+use rim_manifest::{Array, Place};
 use std::alloc::Global;
 use toml_parser::text::{skip_blank, skip_ws};
 use toml_parser::{Key, ParseError, dotted_key, quoted, starts_string, unquoted};
