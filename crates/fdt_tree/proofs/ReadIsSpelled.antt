@@ -30,7 +30,7 @@ spelled_reads bytes t s =
 same_parts : (p q : Parts) → (let x : Result Parts FdtFault = Ok p in x) ≡ Ok q → p ≡ q
 same_parts p q h = cc
 
--- what is read behind the header, the reservations and the tokens
+-- the parts that are read, from the header, the reservations and the tokens
 abbrev pub behind_tokens : Header → List Reservation → List Token → Result Parts FdtFault
 behind_tokens h rs ts = Ok (record { reservations = rs; boot_cpu = h.boot_cpuid_phys; tokens = ts })
 

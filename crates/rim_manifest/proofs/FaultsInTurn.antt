@@ -87,7 +87,7 @@ one_listed fs listed more f are = record {
       ap (λ (gs : List ManifestFault). gs ++ f ∷ []) (are.all (omega arith));
 }
 
--- the list has no room, and none in it comes behind the fault
+-- the list has no room, and the fault is not lower than the lowest in it
 one_more : (fs listed : List ManifestFault) (more : ℕ) (f : ManifestFault) → is_listed listed f ≡ false → AreListed fs listed more
     → AreListed (fs ++ f ∷ []) listed (more + 1)
 one_more fs listed more f other are =

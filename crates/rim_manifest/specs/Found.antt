@@ -9,7 +9,8 @@ use Rattle.rim_manifest.specs.Manifest.{manifest_faults, read_of}
 use Rattle.rim_manifest.specs.inside.Kept.{faults_in}
 use Rattle.rim_manifest.specs.declared.fault_list.TheConstants.{FINDING_LIMIT}
 
--- of some faults these are listed, with so many beside them: all where they are as few as a list may have, and the lowest always
+-- of some faults these are listed, and this is the number of the others: all are listed where they are as few as a list may have, and
+-- the lowest always
 pub record AreListed (faults listed : List ManifestFault) (more : ℕ) : Type 0 where
   pub lowest : lowest listed ≡ lowest faults
   pub count : length listed + more ≡ length faults

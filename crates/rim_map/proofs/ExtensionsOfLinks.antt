@@ -29,7 +29,7 @@ use Rattle.rim_map.specs.declared.extensions.Extensions.{Extensions}
 
 -- ---- parts that are all alike
 
--- as many of each kind as one part is, so many times
+-- the extensions of this many parts, where each part has these
 abbrev times : ℕ → Extensions → Extensions
 times n e = record {
   pages = n * e.pages;

@@ -1,4 +1,4 @@
--- The JSON of a report is made file by file and launch by launch, and has no float.
+-- The JSON of a report is made of one file and one launch after another, and has no float.
 use Rattle.std.proofs.Common.{◌≡◌, ◌∙◌, ◌⊎◌, ◌+◌, ◌<◌, ◌≤◌, inl, inr, ℕ, zero, suc, false, List, [], ◌∷◌, ◌++◌, Vec, Global, length, map}
 use Rattle.std.proofs.Common.{get_or, take, refl, sym, ap, ap₂, arith}
 use Rattle.std.specs.Prelude.{Result, Ok, Err, Some}
