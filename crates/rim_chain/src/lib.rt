@@ -10,7 +10,6 @@ mod link;
 mod plan;
 mod prefix;
 mod reading;
-mod rec_content;
 mod shared_prefixes;
 mod siblings;
 mod starting;

@@ -1,10 +1,11 @@
 //! The plan of a launch that has its place.
-ghost use Rattle.std.specs.Prelude.{◌≡◌, ◌++◌, ◌^◌, ◌<◌, ◌≤◌, length, map, Some, Ok, IfOk, IsOk, OnErr, OnOk};
+ghost use Rattle.std.specs.Prelude.{◌≡◌, [], ◌++◌, ◌^◌, ◌<◌, ◌≤◌, length, map, Some, Ok, IfOk, IsOk, OnErr, OnOk};
 ghost use Rattle.std.specs.List.{All, flat_map, slice_get};
 ghost use Rattle.rtt_plan.specs.Places.{IsRegion};
 ghost use Rattle.rtt_plan.specs.Runs.{runs_of};
 ghost use Rattle.rmi_list.specs.Listed.{listed};
 ghost use Rattle.rmi_list.specs.Measured as measured;
+ghost use Rattle.rmi_list.specs.RecParams.{rec_params};
 ghost use Rattle.rim_chain.specs.Keys.{key_at};
 ghost use Rattle.rim_chain.specs.Links.{keys_of};
 ghost use Rattle.rim_chain.specs.Reading.{IsReadOf};
@@ -12,10 +13,9 @@ ghost use Rattle.rim_chain.specs.inside.Steps.{IsReadable, item_links, rec_links
 
 use crate::link::Link;
 use crate::plan::{LaunchPlan, page_count};
-use crate::rec_content::{HashedRec, rec_content};
 use ipa_layout::{Placed, PlacedItem, PlacedRec};
 use page_jobs::PageKey;
-use rim_desc::{Algo, NoMemory, RecRule, Source, extends};
+use rim_desc::{Algo, HashedRec, NoMemory, RecParams, RecRule, Source, extends, rec_content};
 use rim_launch::{Config, Launch, Region, Step, realm_params};
 use rmi_list::Plan;
 use rmm_model::{size_of_level, start_level};
@@ -219,9 +219,17 @@ fn push_rec(
     if !extends(rule, rec.runnable) {
         return Ok(());
     }
-    let content = rec_content(algo, rec, last);
+    let content = rec_content(algo, &measured_params(rec), last);
     links.push(Link::Rec { content })?;
     Ok(())
+}
+
+/// The parameters of a REC that are measured. Its MPIDR and its auxiliary granules are not, so it has none here.
+fn measured_params(rec: &PlacedRec) -> RecParams
+    ensures { result ≡ rec_params 0 rec.now [] }
+{
+    let flags = if rec.runnable { 1 } else { 0 };
+    RecParams::new(flags, 0, rec.pc, rec.x, &[])
 }
 
 /// How many measured pages some links have.

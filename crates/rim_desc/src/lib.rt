@@ -4,6 +4,7 @@
 
 mod command;
 mod descriptor;
+mod hashed_rec;
 mod laws;
 mod measurement;
 mod number;
@@ -15,6 +16,7 @@ mod source;
 
 pub use command::Command;
 pub use descriptor::{DESCRIPTOR_SIZE, data_descriptor, rec_descriptor, ripas_descriptor};
+pub use hashed_rec::{HashedRec, rec_content};
 pub use laws::{extended_piece_by_piece, page_bytes_at, sources_are_ordered, zero_elsewhere};
 pub use measurement::{Algo, Measurement, extend, extend_four, hash};
 pub use number::push_digits;

@@ -6,7 +6,6 @@ mod measuring;
 mod monitor;
 mod owners;
 mod parameters;
-mod rec_content;
 mod space;
 
 pub use monitor::Monitor;

@@ -20,12 +20,11 @@ use crate::parameters::{
     all_aligned, has, is_bad_content, is_bad_realm, is_bad_rec, is_cut, is_runnable, rec_index,
     repeats, start_tables,
 };
-use crate::rec_content::{HashedRec, hashed_rec};
 use crate::space::IpaSpace;
 use refusal::NoMemory;
 use rim_desc::{
-    Algo, Command, GRANULE_SIZE, Measurement, RealmParams, RecParams, RecRule, extends, hash,
-    realm_page,
+    Algo, Command, GRANULE_SIZE, HashedRec, Measurement, RealmParams, RecParams, RecRule, extends,
+    hash, realm_page, rec_content,
 };
 use rmm_model::{Kind, Phase, Refused, extended_by_stretches, protected_end, size_of_level};
 use std::alloc::Global;
@@ -342,10 +341,9 @@ impl Monitor {
         self.num_recs += 1;
         if extends(self.rule, is_runnable(params.flags())) {
             let algo = algo_of(self.params);
-            let hashed = hashed_rec(self.hashed_rec, algo, params);
+            let content = rec_content(algo, params, &mut self.hashed_rec);
             let rim = measured_so_far(self.rim);
-            self.rim = Some(extended_by_rec(algo, rim, hashed.content()));
-            self.hashed_rec = Some(hashed);
+            self.rim = Some(extended_by_rec(algo, rim, content));
         }
         Ok(())
     }
