@@ -32,14 +32,6 @@ unfolding granules
 length-granules zero x = refl
 length-granules (suc n) x = let i : length (granules n (x + 4096)) ≡ n = length-granules n (x + 4096) in omega arith
 
-pub granules-last : (n x : ℕ) → granules (n + 1) x ≡ granules n x ++ (x + 4096 * n) ∷ []
-unfolding granules
-granules-last zero x = (let e : x + 4096 * 0 ≡ x = omega arith in rw e refl)
-granules-last (suc n) x =
-    let e : suc n + 1 ≡ suc (n + 1) = omega arith in
-    let f : x + 4096 * suc n ≡ (x + 4096) + 4096 * n = omega arith in
-    rw (e, f) (ap (λ gs. x ∷ gs) (granules-last n (x + 4096)))
-
 -- one after all of them is none of them
 pub granules-past : (k x y : ℕ) → x + 4096 * k ≤ y → has (granules k x) y ≡ false
 unfolding granules

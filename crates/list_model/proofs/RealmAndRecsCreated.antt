@@ -17,14 +17,14 @@ use Rattle.rmm_model.specs.Effects.{changed, measured, parts, rec_parts}
 use Rattle.rmm_model.specs.Run.{accepted, run, shown}
 use Rattle.rmm_model.specs.declared.outcome.Kind.{Kind}
 use Rattle.rmm_model.specs.declared.outcome.Kind.TheVariants as kind
-use Rattle.rmm_model.proofs.GranulesInARow.{repeats-granules}
+use Rattle.rmm_model.proofs.GranulesInARow.{granules-last, repeats-granules}
 use Rattle.rmm_model.proofs.KindsAfterGifts.{kind_of-other}
 use Rattle.rmm_model.proofs.ListAfterList.{accepted-append, run-append, shown-append}
 use Rattle.rmm_model.proofs.SameSpaces.{same-refl}
 use Rattle.rmm_model.proofs.CommandsTaken.{realm_create-taken, rec_create-taken}
 use Rattle.list_model.specs.Entries.{Contents, Whole, commands_of, granule, realm_entries, rec_entries}
 use Rattle.list_model.specs.Leading.{Build, Built, IsBuilt, Leads, IsNextRec, opened, with_rec}
-use Rattle.list_model.proofs.GranulesDelegated.{IsDelegated, all-append, all-given, are-delegated, delegate-commands, delegations, free-given, granules-last, granules-multiple, granules-past, length-granules}
+use Rattle.list_model.proofs.GranulesDelegated.{IsDelegated, all-append, all-given, are-delegated, delegate-commands, delegations, free-given, granules-multiple, granules-past, length-granules}
 use Rattle.list_model.proofs.CommandsLeadOn.{measured-built, leads-cons, leads-none}
 
 -- after granules were delegated, the rest of the commands leads on

@@ -14,6 +14,7 @@ use Rattle.rmm_model.proofs.AnswersOfChecks.{holds, none-holds, off-at}
 use Rattle.rmm_model.specs.Blocks.{granules}
 use Rattle.rtt_plan.specs.Planned.{after_data, after_region, data_checks, region_checks}
 use Rattle.rtt_plan.proofs.AcceptedCalls.{data-accepted, region-accepted}
+use Rattle.rtt_plan.proofs.PlansStayFormed.{start-highest}
 use Rattle.rtt_plan.proofs.RunsCoverRegion.{region-runs}
 use Rattle.list_model.specs.Entries.{Entry, delegated, granule, item_entries, rec_entries, region_entries}
 use Rattle.list_model.proofs.GranulesDelegated.{length-granules}
@@ -61,11 +62,8 @@ idle : (c : Config) (w next : Progress) → IsBounded c w → w ≡ next → Are
 idle c w next is_bounded same = subst (λ (v : Progress). AreRead c w [] v) same (record { fit = All-nil IsFitting; few = omega arith; bounded = is_bounded })
 
 pub least-low : (c : Config) → c.block_level ≤ 3 → least_level c ≤ 3
-least-low c low = by_start (start_level c.s2sz) (start-low c.s2sz)
+least-low c low = by_start (start_level c.s2sz) (start-highest c.s2sz)
   where
-    start-low : (s2sz : ℕ) → start_level s2sz ≤ 2
-    start-low s2sz = grind (arith, nat_tests)
-
     by_start : (s : ℕ) → s ≤ 2 → max c.block_level s ≤ 3
     by_start s le = omega arith
 

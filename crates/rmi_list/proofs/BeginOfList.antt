@@ -4,9 +4,9 @@ use Rattle.std.proofs.lemmas.List.{map-append}
 use Rattle.rim_desc.specs.declared.command.Command.TheVariants.{Delegate, RealmCreate}
 use Rattle.rmm_model.specs.Blocks.{granules}
 use Rattle.rmm_model.specs.Start.{start_count}
+use Rattle.rmm_model.proofs.GranulesInARow.{granules-last}
 use Rattle.list_model.specs.Entries.{Entry, Whole, delegate_all, delegated, granule}
 use Rattle.list_model.proofs.GranulesOfEntries.{count-all}
-use Rattle.list_model.proofs.GranulesDelegated.{granules-last}
 use Rattle.rim_launch.specs.Realm.{realm_params}
 use Rattle.rim_launch.specs.declared.config.Config.{Config}
 use Rattle.rmi_list.specs.declared.draft.Draft.{Draft}

@@ -1,5 +1,5 @@
 -- A list grows entry by entry, or is refused for the entries that are left.
-use Rattle.std.proofs.Common.{inl, inr, ◌≡◌, ℕ, zero, suc, ◌+◌, ◌-◌, ◌<◌, ◌≤◌, ◌∙◌, sym, refl, ap, subst, arith, List, [], ◌∷◌, ◌++◌, ◌⊎◌, append_assoc, length}
+use Rattle.std.proofs.Common.{inl, inr, ◌≡◌, ℕ, zero, suc, ◌+◌, ◌-◌, ◌<◌, ◌∙◌, sym, refl, ap, subst, arith, List, [], ◌∷◌, ◌++◌, ◌⊎◌, append_assoc, length}
 use Rattle.std.specs.Prelude.{slice_index_or}
 use Rattle.std.proofs.lemmas.List.{append-nil}
 use Rattle.std.proofs.Math.ListN.{drop}
@@ -107,12 +107,6 @@ next-delegation pool taken count i lt =
     let e : count - i ≡ suc (count - (i + 1)) = omega arith in
     let f : granule pool (taken + 1) ≡ granule pool taken + 4096 = omega arith in
     rw (e, f) refl
-
-pub no-granules : (count i x : ℕ) → count ≤ i → granules (count - i) x ≡ []
-unfolding granules
-no-granules count i x le = let e : count - i ≡ 0 = omega arith in rw e refl
-
--- ---- pages of an item
 
 -- ---- acts
 

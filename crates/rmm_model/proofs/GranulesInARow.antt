@@ -1,10 +1,23 @@
 -- Granules side by side: none comes twice, and each is named by its number.
-use Rattle.std.proofs.Common.{inl, inr, ◌≡◌, ℕ, zero, suc, ◌+◌, ◌*◌, ◌≤◌, ◌∙◌, refl, ap, arith, true, false, eqb, ◌∷◌, map}
+use Rattle.std.proofs.Common.{inl, inr, ◌≡◌, ℕ, zero, suc, ◌+◌, ◌*◌, ◌≤◌, ◌∙◌, refl, ap, arith, true, false, eqb, [], ◌∷◌, ◌++◌, map}
 use Rattle.std.specs.List.{range_with_len}
 use Rattle.std.proofs.lemmas.Bool.{cases_Bool, eqb-true}
 use Rattle.rmm_model.specs.Blocks.{granules}
 use Rattle.rmm_model.specs.Space.{has}
 use Rattle.rmm_model.specs.Owners.{repeats}
+
+pub granules-none : (n x : ℕ) → n ≤ 0 → granules n x ≡ []
+unfolding granules
+granules-none n x few = let e : n ≡ 0 = omega arith in rw e refl
+
+-- one granule more, at the end
+pub granules-last : (n x : ℕ) → granules (n + 1) x ≡ granules n x ++ (x + 4096 * n) ∷ []
+unfolding granules
+granules-last zero x = (let e : x + 4096 * 0 ≡ x = omega arith in rw e refl)
+granules-last (suc n) x =
+    let e : suc n + 1 ≡ suc (n + 1) = omega arith in
+    let f : x + 4096 * suc n ≡ (x + 4096) + 4096 * n = omega arith in
+    rw (e, f) (ap (λ gs. x ∷ gs) (granules-last n (x + 4096)))
 
 pub granules-from : (n x y : ℕ) → has (granules n x) y ≡ true → x ≤ y
 unfolding granules

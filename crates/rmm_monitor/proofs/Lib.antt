@@ -9,7 +9,7 @@ pub mod DeeperByLevel
 pub mod FirstPasses
 -- A granule that is taken may be given back.
 pub mod GivenBack
--- Lists of granules, one by one: the start tables, and whether one is named twice
+-- Lists of granules, one by one: whether one is named twice
 pub mod ListsOfGranules
 -- INIT_RIPAS measures stretches in turn, and stops at the end of its range
 pub mod StretchesBecomeRam

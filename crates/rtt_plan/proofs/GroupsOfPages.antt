@@ -185,7 +185,3 @@ first-group start ts count x g low at some to =
     last : (pages_in_table x < count) ⊎ (count ≤ pages_in_table x) → (count - g ≡ 0) ⊎ (suc (g - 1) ≡ pages_in_table x)
     last (inl less) = inr (let many : 0 < pages_in_table x = some-pages x at in omega arith)
     last (inr more) = inl (omega arith)
-
-pub no-pages : (n x : ℕ) → n ≤ 0 → granules n x ≡ []
-unfolding granules
-no-pages n x h = let e : n ≡ 0 = omega arith in rw e refl

@@ -69,7 +69,7 @@ pages-used start (x ∷ xs) ts ram used all =
 
 -- ---- plans
 
-start-highest : (s2sz : ℕ) → start_level s2sz ≤ 2
+pub start-highest : (s2sz : ℕ) → start_level s2sz ≤ 2
 start-highest s2sz = grind (arith, nat_tests)
 
 pub planned-nothing : (s2sz block_level : ℕ) → block_level ≤ 3 → IsPlanned (nothing_planned s2sz block_level)

@@ -1,8 +1,8 @@
 use Rattle.std.proofs.Common.{◌≡◌, ◌+◌, ◌*◌, ◌∙◌, ◌∷◌, [], ◌++◌, refl, sym, ap, arith}
 use Rattle.std.proofs.lemmas.List.{length-set, take_more_set}
 use Rattle.rmm_model.specs.Blocks.{granules}
+use Rattle.rmm_model.proofs.GranulesInARow.{granules-last}
 use Rattle.list_model.specs.Entries.{granule}
-use Rattle.list_model.proofs.GranulesDelegated.{granules-last}
 use Rattle.rmi_list.proofs.plan.granules_at.Goals as goal
 
 pub loop-index-init : goal.loop-index-init

@@ -1,5 +1,6 @@
 use Rattle.std.proofs.Common.{◌∙◌, ap, arith}
-use Rattle.rtt_plan.proofs.GroupsOfPages.{IsFirstGroup, first-group, no-pages}
+use Rattle.rmm_model.proofs.GranulesInARow.{granules-none}
+use Rattle.rtt_plan.proofs.GroupsOfPages.{IsFirstGroup, first-group}
 use Rattle.rtt_plan.proofs.ActsStepByStep.{planning-group, planning-pages_end}
 use Rattle.rtt_plan.specs.inside.Undone.{undone}
 use Rattle.rtt_plan.proofs.TablesTakenBack.{undone-pages}
@@ -28,11 +29,11 @@ loop-left-preserved c =
 
 pub returns-clause-acts : goal.returns-clause-acts
 returns-clause-acts c =
-    (planning-pages_end _ _ _ _ _ _ _ (no-pages c.loop-left.left c.loop-left.page c.loop-left-test.false) c.loop-left.invariant.planning).0
+    (planning-pages_end _ _ _ _ _ _ _ (granules-none c.loop-left.left c.loop-left.page c.loop-left-test.false) c.loop-left.invariant.planning).0
 
 pub returns-clause-tables : goal.returns-clause-tables
 returns-clause-tables c =
-    (planning-pages_end _ _ _ _ _ _ _ (no-pages c.loop-left.left c.loop-left.page c.loop-left-test.false) c.loop-left.invariant.planning).1
+    (planning-pages_end _ _ _ _ _ _ _ (granules-none c.loop-left.left c.loop-left.page c.loop-left-test.false) c.loop-left.invariant.planning).1
 
 pub returns-clause-undone : goal.returns-clause-undone
 returns-clause-undone c = c.loop-left.invariant.undone_so_far

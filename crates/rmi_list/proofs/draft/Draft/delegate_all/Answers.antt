@@ -1,7 +1,8 @@
 use Rattle.std.proofs.Common.{◌≡◌, ◌-◌, ◌+◌, ap, arith}
 use Rattle.std.proofs.lemmas.Result.{err_from_is_err_and}
+use Rattle.rmm_model.proofs.GranulesInARow.{granules-none}
 use Rattle.list_model.specs.Entries.{delegate_all}
-use Rattle.rmi_list.proofs.EntryByEntry.{delegation, delegations_left, going-ends, going-on, going-refused, going-starts, next-delegation, no-granules}
+use Rattle.rmi_list.proofs.EntryByEntry.{delegation, delegations_left, going-ends, going-on, going-refused, going-starts, next-delegation}
 use Rattle.rmi_list.proofs.draft.Draft.delegate_all.Goals as goal
 
 pub loop-init : goal.loop-init
@@ -19,4 +20,4 @@ loop-preserved c =
     c.loop.invariant (next-delegation _ _ c.args.count c.loop.counter c.loop-test.true) c.in_ok-delegate.ensures.lists
 
 pub returns : goal.returns
-returns c = going-ends _ _ _ _ c.loop.invariant (ap delegate_all (no-granules c.args.count c.loop.counter _ (omega arith)))
+returns c = going-ends _ _ _ _ c.loop.invariant (ap delegate_all (granules-none (c.args.count - c.loop.counter) _ (omega arith)))
