@@ -17,15 +17,17 @@ from releases import kernel, shared
 from workers import measuring, run
 
 PLAIN = [
-    ("rim_sha/src/lib.rt", "if has_zero_tail(descriptor) {", "if descriptor.is_empty() && has_zero_tail(descriptor) {"),
-    ("page_jobs/src/hashed.rt", "if fills_lane(&a.page) && ", "if a.page.bytes.is_empty() && fills_lane(&a.page) && "),
-    ("rim_chain/src/starting.rt", "if groups == 0 {", "if groups < usize::MAX {"),
+    ("rim_sha/src/lib.rt", "    if has_zero_tail(descriptor) {\n        sha256_headed", "    if descriptor.is_empty() && has_zero_tail(descriptor) {\n        sha256_headed"),
+    ("page_jobs/src/side_by_side.rt", "if count < 2 {", "if count < usize::MAX {"),
+    ("rim_chain/src/starting.rt", "if most < FEWEST || left < FEWEST {", "if most < usize::MAX || left < FEWEST {"),
 ]
 
 
 def prepare():
-    ways = [("sha2 alone", PLAIN, []), ("lanes", [], [])] + ([("lanes, AVX2", [], ["--cpu=x86-64-v3"])] if has_avx2() else [])
-    return [(way, measuring(changes, flags)) for way, changes, flags in ways]
+    ways = [("sha2 alone", PLAIN, [], []), ("lanes", [], [], [])]
+    if has_avx2():
+        ways.append(("lanes, AVX2", [], ["--cpu=x86-64-v3"], ["8"]))
+    return [(way, measuring(changes, flags), words) for way, changes, flags, words in ways]
 
 
 def main():
@@ -36,11 +38,12 @@ def main():
         for what, made in [("a launch of 32 MiB", kernel), ("200 launches", shared)]:
             with open(path, "w") as file:
                 file.write("rim_manifest = 1\n" + made(folder)[0])
-            found = {(way, who): [run([program, who, path]) for _ in range(runs)] for who in ["alone", "1", "2"] for way, program in programs}
+            found = {(way, who): [run([program, who, path, *words]) for _ in range(runs)]
+                     for who in ["alone", "1", "2"] for way, program, words in programs}
             if len({each[3] for times in found.values() for each in times}) != 1:
                 raise SystemExit(f"{what}: the reports differ")
             for who, at, kind in [("alone", 1, "processor time on one thread"), ("1", 1, "processor time by one worker"), ("2", 0, "wall time by two workers")]:
-                least = {way: min(each[at] for each in found[way, who]) for way, _ in programs}
+                least = {way: min(each[at] for each in found[way, who]) for way, _, _ in programs}
                 print(f"{what}: {kind} " + ", ".join(f"{way} {time:.3f} s ({time / least['sha2 alone']:.3f})" for way, time in least.items()))
 
 

@@ -4,10 +4,10 @@
 usage: bench/peers.py [RUNS]
 
 Ours is the program of bench/hashes.py, built for any processor and for x86-64-v3. It hashes alone, which is one after another, or in
-fours. OpenSSL hashes alone, and the multi-buffer library 64 side by side: bench/peers/ has the programs in C. All are run in turn, and
-the least time of some runs is printed, in nanoseconds: of a page, and of a descriptor with the digest of the one before it in its
-chain. It stops where a digest of a library is not that of hashlib. A library that is not here is left out, and so is what needs AVX2
-where the processor has none. Ours has no times by SHA-512 here: bench/chain.py has those of an extension.
+fours or eights. OpenSSL hashes alone, and the multi-buffer library 64 side by side: bench/peers/ has the programs in C. All are run in
+turn, and the least time of some runs is printed, in nanoseconds: of a page, and of a descriptor with the digest of the one before it in
+its chain. It stops where a digest of a library is not that of hashlib. A library that is not here is left out, and so is what needs AVX2
+where the processor has none.
 """
 import hashlib
 import os
@@ -15,7 +15,7 @@ import subprocess
 import sys
 
 import hashes
-from crates import has_avx2, kept, top
+from crates import kept, top
 
 SOURCES = os.path.join(top, "bench", "peers")
 SLICES = 100
@@ -90,20 +90,16 @@ def times_of_library(program, pages, wanted):
 
 
 def times_of_ours(program):
-    """The least times of a page and of a descriptor in one run: alone, and in fours."""
-    _, descriptor, descriptors, _, page, pages = hashes.least_times(program, 1)
-    alone = {("pages", "sha256"): page / hashes.PAGES, ("chains", "sha256"): descriptor / hashes.DESCRIPTORS}
-    fours = {("pages", "sha256"): pages / hashes.PAGES, ("chains", "sha256"): descriptors / hashes.DESCRIPTORS}
-    return alone, fours
+    """The least times of a page and of a descriptor in one run, by how many go side by side."""
+    columns = {}
+    for (what, algo, how), time in hashes.least_times(program, 1).items():
+        columns.setdefault(how, {})["chains" if what == "descriptors" else what, algo] = time
+    return columns
 
 
 def prepare():
     """Our programs by the processor that each is built for, and those of the libraries."""
-    ours = {"v2": hashes.prepare()}
-    if has_avx2():
-        ours["v3"] = hashes.prepare(["--cpu=x86-64-v3"])
-    else:
-        print("x86-64-v3 is left out: this processor has no AVX2")
+    ours = hashes.prepare_all()
     os.makedirs(kept, exist_ok=True)
     lacks = {library: lack(library) for library in LIBRARIES}
     for library, what in lacks.items():
@@ -125,9 +121,8 @@ def main():
     least, versions = {}, {}
     for _ in range(runs):
         for cpu, program in ours.items():
-            alone, fours = times_of_ours(program)
-            keep_least(least, f"ours alone, {cpu}", alone)
-            keep_least(least, f"ours in fours, {cpu}", fours)
+            for how, times in times_of_ours(program).items():
+                keep_least(least, f"ours {how}, {cpu}", times)
         for library, program in libraries.items():
             versions[library], times = times_of_library(program, pages, wanted[library])
             keep_least(least, LIBRARIES[library][0], times)

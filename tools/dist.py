@@ -21,9 +21,9 @@ import sys
 import tempfile
 
 TOP = pathlib.Path(__file__).resolve().parent.parent
-BUILT = TOP / "crates/rim/out/rim"
-# The programs, and the words with which the kit builds each.
-PROGRAMS = {"dist/rim-x86_64-v2": [], "dist/rim-x86_64-v3": ["--cpu=x86-64-v3"]}
+# The programs, the crate of each, and the words with which the kit builds it. The second is for processors with AVX2, and hashes
+# in as many lanes as these have.
+PROGRAMS = {"dist/rim-x86_64-v2": ("rim", []), "dist/rim-x86_64-v3": ("rim_wide", ["--cpu=x86-64-v3"])}
 PARTS = ("src", "specs", "proofs")
 SUM_LINE = re.compile(r"([0-9a-f]{64})  (.+)")
 
@@ -33,10 +33,10 @@ def sum_of(path):
 
 
 def crates_of_program():
-    """`rim` and the crates that it needs, as crates.txt has them."""
+    """The crates of the programs and those that they need, as crates.txt has them."""
     lines = (line.split("#")[0] for line in (TOP / "crates.txt").read_text().splitlines())
     needs = {left.split()[0]: right.split() for left, colon, right in (line.partition(":") for line in lines) if colon}
-    found, left = set(), ["rim"]
+    found, left = set(), [crate for crate, _ in PROGRAMS.values()]
     while left:
         name = left.pop()
         if name in needs and name not in found:
@@ -95,13 +95,14 @@ def other_sources(sums):
     return sorted(path for path in here.keys() | then.keys() if here.get(path) != then.get(path))
 
 
-def build(words):
-    """Proves the program, builds it for a processor, and answers its bytes as they are in dist/."""
+def build(crate, words):
+    """Proves a program, builds it for a processor, and answers its bytes as they are in dist/."""
     command = ["rt", "run", *words, "--", "--help"]
-    run = subprocess.run(command, cwd=TOP / "crates/rim", stdout=subprocess.DEVNULL, stderr=subprocess.PIPE, text=True)
+    folder = TOP / "crates" / crate
+    run = subprocess.run(command, cwd=folder, stdout=subprocess.DEVNULL, stderr=subprocess.PIPE, text=True)
     if run.returncode:
         sys.exit(f"dist.py: building failed: {run.stderr[-2000:]}")
-    return stripped(BUILT)
+    return stripped(folder / "out" / crate)
 
 
 def other_day():
@@ -120,8 +121,8 @@ def write():
     if other_day():
         return other_day()
     (TOP / "dist").mkdir(exist_ok=True)
-    for path, words in PROGRAMS.items():
-        (TOP / path).write_bytes(build(words))
+    for path, (crate, words) in PROGRAMS.items():
+        (TOP / path).write_bytes(build(crate, words))
         (TOP / path).chmod(0o755)
     head = ["# What the programs of dist/ are built of: see tools/dist.py, which writes this.", f"kit {kit()}", f"folders {' '.join(folders())}"]
     sums = [f"{sum_of(TOP / path)}  {path}" for path in [*sources(), *PROGRAMS]]
@@ -136,7 +137,7 @@ def check():
     if others:
         return [f"dist/ is not of these sources: {len(others)} differ, {others[0]} first"]
     faults = faults_of_programs(sums)
-    faults += [f"{path} differs from what is built here by {kit()} (dist/SOURCE: {by})" for path, words in PROGRAMS.items() if build(words) != (TOP / path).read_bytes()]
+    faults += [f"{path} differs from what is built here by {kit()} (dist/SOURCE: {by})" for path, (crate, words) in PROGRAMS.items() if build(crate, words) != (TOP / path).read_bytes()]
     return faults
 
 

@@ -8,3 +8,4 @@ pub mod Lines
 pub mod Grouping
 pub mod OwnStretches
 pub mod Waiting
+pub mod Beside

@@ -6,6 +6,7 @@ ghost use Rattle.std.specs.Prelude.{◌<◌, IfSome};
 
 use refusal::NoMemory;
 use rim_chain::{LaunchPlan, SharedPrefix, SharedPrefixes};
+use rim_desc::Algo;
 use std::alloc::Global;
 use std::cmp::Reverse;
 use std::collections::BinaryHeap;
@@ -128,14 +129,28 @@ impl ChainOrder {
         Some(candidate.number.0)
     }
 
-    /// Takes the launch that is to be chained next, where it goes on from no other and no other goes on from it.
-    pub(crate) fn next_alone(&mut self, prefixes: &SharedPrefixes) -> Option<usize> {
+    /// Takes the launch that is to be chained next, where it is by an algorithm, goes on from no other and no other goes on from
+    /// it.
+    pub(crate) fn next_alone(
+        &mut self,
+        plans: &[LaunchPlan],
+        prefixes: &SharedPrefixes,
+        algo: Algo,
+    ) -> Option<usize> {
         let number = self.next()?;
-        if prefixes.is_alone(number) {
+        if is_by(plans, number, algo) && prefixes.is_alone(number) {
             return Some(number);
         }
         self.offer(number);
         None
+    }
+}
+
+/// Whether a launch is by an algorithm.
+fn is_by(plans: &[LaunchPlan], number: usize, algo: Algo) -> bool {
+    match plans.get(number) {
+        Some(plan) => plan.algo() == algo,
+        None => false,
     }
 }
 

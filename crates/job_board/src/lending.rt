@@ -1,6 +1,6 @@
 //! Launches that are lent to workers, to be chained beside one that was taken.
-ghost use Rattle.std.specs.Prelude.{◌≡◌, ◌≤◌, ℕ, length, IfOk, IfSome, Some, slice_get};
-ghost use Rattle.rim_desc.specs.declared.measurement.Algo.TheVariants as algo;
+ghost use Rattle.std.specs.Prelude.{◌≡◌, ◌<◌, ◌≤◌, ℕ, length, IfOk, IfSome, Some, slice_get};
+ghost use Rattle.rim_desc.specs.declared.side_by_side.TheConstants.{MOST_LANES};
 ghost use Rattle.rim_chain.specs.Links.{PlanView, keys_of};
 ghost use Rattle.job_board.specs.Jobs.{IsOpen};
 
@@ -8,34 +8,41 @@ use crate::machine::Core;
 use crate::rows::plan_at;
 use crate::run::Run;
 use crate::task::LaunchTask;
-use page_jobs::{DigestRow, LANES, Table};
+use page_jobs::{DigestRow, Table};
 use refusal::NoMemory;
 use rim_chain::{LaunchJob, LaunchPlan};
+use rim_desc::{Algo, Lanes, MOST_LANES};
 use std::alloc::Global;
+
+/// The fewest launches that are quick side by side.
+const FEWEST: usize = 4;
 
 /// Of each worker the launches that it was lent, which are best given to it; and rows for lent launches. What is said
 /// here is preferred, and no more: the board gives a launch that was lent to another worker where no other is left.
 #[derive(Drop)]
 pub(crate) struct Lending {
-    lent: Vec<[Option<usize>; LANES - 1]>,
+    lent: Vec<[Option<usize>; MOST_LANES - 1]>,
     rows: Vec<DigestRow>,
-    /// Whether launches are lent at all.
-    is_used: bool,
+    lanes: Lanes,
+    /// How many launches a worker has rows for; none where no launches are lent.
+    others: usize,
 }
 
 impl Lending {
-    /// No launch was lent to any of this many workers. These are the rows for lent launches; without rows none is lent.
+    /// No launch was lent to any of this many workers. These are the rows for lent launches, `others` for each worker.
     pub(crate) fn new(
         alloc: Global,
         workers: usize,
+        lanes: Lanes,
+        others: usize,
         rows: Vec<DigestRow>,
     ) -> Result<Lending, NoMemory> {
-        let lent = vec![in alloc; [None; LANES - 1]; workers]?;
-        let is_used = !rows.is_empty();
+        let lent = vec![in alloc; [None; MOST_LANES - 1]; workers]?;
         Ok(Lending {
             lent,
             rows,
-            is_used,
+            lanes,
+            others,
         })
     }
 
@@ -44,14 +51,17 @@ impl Lending {
         self.rows.pop()
     }
 
-    /// Whether each worker is left some of this many launches that may be chained, where this one is lent three.
-    pub(crate) fn is_enough(&self, offered: usize) -> bool {
-        offered / LANES >= self.lent.len()
+    /// How many launches a worker is best lent beside one by an algorithm, where this many may be chained.
+    pub(crate) fn count(&self, algo: Algo, offered: usize) -> usize
+        ensures { result < MOST_LANES }
+    {
+        others_for(self.lanes.count(algo), offered, self.lent.len()).min(self.others)
     }
 
-    /// Whether none of this many launches that may be chained is to be given before there are enough to be lent.
+    /// Whether none of this many launches that may be chained is to be given before each worker has a whole group.
     pub(crate) fn holds_back(&self, offered: usize) -> bool {
-        self.is_used && !self.is_enough(offered)
+        let groups = offered.checked_div(self.others.saturating_add(1));
+        self.others > 0 && groups.unwrap_or(0) < self.lent.len()
     }
 
     /// Notes that a worker was lent a launch.
@@ -82,6 +92,43 @@ impl Lending {
     }
 }
 
+/// For how many launches beside one each worker needs rows, in a run of these.
+pub(crate) fn most_others(plans: &[LaunchPlan], workers: usize, lanes: Lanes) -> usize
+    ensures { result < MOST_LANES }
+{
+    others_for(widest(plans, lanes), plans.len(), workers)
+}
+
+/// How many of some launches are chained side by side at most.
+fn widest(plans: &[LaunchPlan], lanes: Lanes) -> usize
+    ensures { result ≤ MOST_LANES }
+{
+    let mut widest = 0;
+    for plan in plans {
+        widest = lanes.count(plan.algo()).max(widest);
+    }
+    widest
+}
+
+/// How many launches a worker is best lent beside one, where `most` at most are chained side by side: as many as fill a group,
+/// where each worker is left a group of as many; else three, where each is left a group of four; else none.
+fn others_for(most: usize, offered: usize, workers: usize) -> usize
+    requires { most ≤ MOST_LANES }
+    ensures { result < MOST_LANES }
+{
+    if most < FEWEST {
+        return 0;
+    }
+    if offered / most >= workers {
+        return most - 1;
+    }
+    if offered / FEWEST >= workers {
+        FEWEST - 1
+    } else {
+        0
+    }
+}
+
 /// The job of a launch whose pages all have digests, in a row that has room for any launch; or the row, for others.
 pub(crate) fn lent_task<'a, L: Run>(
     table: &Table<'a>,
@@ -94,8 +141,7 @@ pub(crate) fn lent_task<'a, L: Run>(
     requires plans { plans.now ≡ L.plans }
     requires most { (l : ℕ) (p : PlanView) → slice_get plans.now l ≡ Some p
         → length (keys_of p.links) ≤ room }
-    ensures number { IfOk result (λ task. task.number ≡ number) }
-    ensures alone { IfOk result (λ task. task.plan.params.algo ≡ algo.Sha256) }
+    ensures { IfOk result (λ task. task.number ≡ number) }
 {
     let mut row = row;
     row.truncate(0);
@@ -109,8 +155,5 @@ pub(crate) fn lent_task<'a, L: Run>(
     // Each filled slot of a table has the digest of its own page.
     let _pages = table.pages();
     let job = LaunchJob::new(number, plan, row);
-    if !job.can_run_with_others() {
-        return Err(job.into_row());
-    }
     Ok(LaunchTask::new(job))
 }

@@ -1,5 +1,6 @@
 //! Which job each worker is best given next. No value depends on it, and what a board promises holds of any choice.
-ghost use Rattle.std.specs.Prelude.{◌≡◌, true, IfNone, IfSome, Some, slice_get};
+ghost use Rattle.std.specs.Prelude.{◌≡◌, ◌<◌, true, IfNone, IfSome, Some, slice_get};
+ghost use Rattle.rim_desc.specs.declared.side_by_side.TheConstants.{MOST_LANES};
 ghost use Rattle.job_board.specs.declared.job.JobState.{JobState};
 ghost use Rattle.job_board.specs.Jobs.{IsOpen, NoneFree};
 ghost use Rattle.job_board.specs.inside.Waiting.{AllWait, HasEarlier};
@@ -12,6 +13,7 @@ use crate::side_by_side::SideBySide;
 use page_jobs::DigestRow;
 use refusal::NoMemory;
 use rim_chain::{LaunchPlan, SharedPrefixes};
+use rim_desc::{Algo, Lanes};
 use std::alloc::Global;
 
 /// In a run of more launches none waits for another. A worker that finds nothing else to do looks at each launch under the
@@ -29,18 +31,18 @@ pub(crate) struct Preferences {
 }
 
 impl Preferences {
-    /// Those of a run of this many workers, of which nothing is given. These are the rows for lent launches; without rows none
-    /// is lent. No later call takes memory.
+    /// Those of a run of this many workers, of which nothing is given; launches are lent as `lending` says. No later call takes
+    /// memory.
     pub(crate) fn new(
         alloc: Global,
         workers: usize,
         plans: &[LaunchPlan],
         prefixes: &SharedPrefixes,
-        rows: Vec<DigestRow>,
+        lanes: Lanes,
+        lending: Lending,
     ) -> Result<Preferences, NoMemory> {
         let chain_order = ChainOrder::new(alloc, plans, prefixes)?;
-        let side_by_side = SideBySide::new(alloc, workers)?;
-        let lending = Lending::new(alloc, workers, rows)?;
+        let side_by_side = SideBySide::new(alloc, workers, lanes)?;
         Ok(Preferences {
             chain_order,
             noted: 0,
@@ -59,19 +61,25 @@ impl Preferences {
         self.lending.row()
     }
 
-    /// The launch that is to be lent to a worker next, if more are left for the other workers. That it was lent is noted.
+    /// How many launches a worker is best lent beside one by an algorithm.
+    pub(crate) fn lend_count(&self, algo: Algo) -> usize
+        ensures { result < MOST_LANES }
+    {
+        self.lending.count(algo, self.chain_order.offered())
+    }
+
+    /// The launch by an algorithm that is to be lent to a worker next. That it was lent is noted.
     pub(crate) fn next_to_lend(
         &mut self,
         core: &Core,
+        plans: &[LaunchPlan],
         prefixes: &SharedPrefixes,
         worker: usize,
+        algo: Algo,
     ) -> Option<usize>
         ensures { IfSome result (IsOpen core.now) }
     {
-        if !self.lending.is_enough(self.chain_order.offered()) {
-            return None;
-        }
-        let number = self.chain_order.next_alone(prefixes)?;
+        let number = self.chain_order.next_alone(plans, prefixes, algo)?;
         if !core.is_open(number) {
             return None;
         }

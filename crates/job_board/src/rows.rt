@@ -7,12 +7,14 @@ ghost use Rattle.std.specs.Prelude.{◌≡◌, ◌<◌, ◌≤◌, ℕ, [], leng
 ghost use Rattle.rim_chain.specs.Links.{PlanView, keys_of};
 ghost use Rattle.rim_chain.specs.Rows.{HaveFirstPages, IsRowOf, has_all};
 ghost use Rattle.job_board.specs.Tasks.{IsOwnRow, IsRoomy};
+ghost use Rattle.rim_desc.specs.declared.side_by_side.TheConstants.{MOST_LANES};
 ghost use Rattle.job_board.specs.declared.machine.TheConstants.{WORKER_LIMIT};
 
 use crate::run::Run;
-use page_jobs::{DigestRow, LANES, Table};
+use page_jobs::{DigestRow, Table};
 use refusal::NoMemory;
 use rim_chain::LaunchPlan;
+use rim_desc::MOST_LANES;
 use std::alloc::Global;
 use std::marker::{Model, PhantomData};
 
@@ -113,20 +115,17 @@ pub(crate) fn worker_rows<'a, L: Run>(
     Ok(rows)
 }
 
-/// Empty rows for the launches that workers are lent, three for each worker; none for few launches, of which none is lent.
+/// Empty rows for the launches that workers are lent, this many for each worker.
 pub(crate) fn lent_rows(
     alloc: Global,
     room: usize,
-    launches: usize,
+    others: usize,
     workers: usize,
 ) -> Result<Vec<DigestRow>, NoMemory>
-    requires { workers ≤ WORKER_LIMIT }
+    requires workers { workers ≤ WORKER_LIMIT }
+    requires others { others < MOST_LANES }
 {
-    let count = if launches < LANES * workers {
-        0
-    } else {
-        (LANES - 1) * workers
-    };
+    let count = others * workers;
     let mut rows = Vec::with_capacity(alloc, count)?;
     for _i in 0..count {
         rows.push(DigestRow::reserve(alloc, room)?)?;

@@ -15,6 +15,7 @@ mod giving;
 
 use crate::closing::{add_up, copy_values, write_counts};
 use crate::job::{Event, JobId};
+use crate::lending::{Lending, most_others};
 use crate::machine::Core;
 use crate::own_needs::own_needs;
 use crate::preferences::Preferences;
@@ -25,7 +26,7 @@ use crate::task::{ChainedLaunch, HashedPage};
 use page_jobs::{Page, Table};
 use refusal::NoMemory;
 use rim_chain::{LaunchPlan, SharedPrefixes, most_pages};
-use rim_desc::Measurement;
+use rim_desc::{Lanes, Measurement};
 use std::alloc::Global;
 use std::marker::Model;
 use std::sync::ledger::{Blank, Book};
@@ -114,6 +115,34 @@ impl<'a, L: Run> BoardState<'a, L> {
             × (r.0.book ≡ 0)) }
         ensures shares { IfOk result (λ r. r.1.items ≡ replicate workers 0) }
     {
+        BoardState::with_lanes(alloc, blank, workers, table, plans, Lanes::Four)
+    }
+
+    /// The same, where the jobs of a worker are done side by side as is best with vectors of this width.
+    pub fn with_lanes(
+        alloc: Global,
+        blank: Blank,
+        workers: usize,
+        table: Table<'a>,
+        plans: &'a [LaunchPlan],
+        lanes: Lanes,
+    ) -> Result<(BoardState<'a, L>, Vec<Share<L>>), NoMemory>
+        requires name { blank.name ≡ L.name }
+        requires parts { (blank.parts ≡ L.parts) × (blank.parts ≡ workers) }
+        requires pages { table.pages ≡ L.pages }
+        requires plans { plans.now ≡ L.plans }
+        requires workers { (1 ≤ workers) × (workers ≤ WORKER_LIMIT) }
+        requires empty { table.digests ≡ replicate (length table.pages) None }
+        requires keys { All (λ p. All (Contains (page_keys table.pages)) (keys_of p.links))
+            plans.now }
+        ensures core { IfOk result
+            (λ r. r.0.core ≡ opening workers (length table.entry.pages) r.0.core.needs) }
+        ensures needs { IfOk result (λ r. NeedsOwn table.entry plans.now r.0.core.needs) }
+        ensures rest { IfOk result (λ r. (r.0.history ≡ []) × (r.0.table ≡ table.entry)
+            × (r.0.plans ≡ plans.now) × (r.0.results ≡ replicate (length plans.now) None)
+            × (r.0.book ≡ 0)) }
+        ensures shares { IfOk result (λ r. r.1.items ≡ replicate workers 0) }
+    {
         let (book, part) = blank.open::<L>();
         let shares = cut(alloc, part, workers)?;
         let pages = table.pages().len();
@@ -124,8 +153,10 @@ impl<'a, L: Run> BoardState<'a, L> {
         let rows = worker_rows(alloc, room, workers)?;
         let results = vec![in alloc; None; plans.len()]?;
         let prefixes = SharedPrefixes::new(alloc, plans)?;
-        let lent_rows = lent_rows(alloc, room, plans.len(), workers)?;
-        let preferences = Preferences::new(alloc, workers, plans, &prefixes, lent_rows)?;
+        let others = most_others(plans, workers, lanes);
+        let lent_rows = lent_rows(alloc, room, others, workers)?;
+        let lending = Lending::new(alloc, workers, lanes, others, lent_rows)?;
+        let preferences = Preferences::new(alloc, workers, plans, &prefixes, lanes, lending)?;
         Ok((
             BoardState {
                 core,

@@ -1,15 +1,17 @@
 //! The jobs that a board gives, and what comes of them. Their types say that they are of its own run: so nothing is compared
 //! when they are put.
-ghost use Rattle.std.specs.Prelude.{◌≡◌, ◌<◌, ◌↔◌, length, map, slice_get, true, IfSome, IsSome, Some};
-ghost use Rattle.rim_desc.specs.declared.measurement.Algo.TheVariants as algo;
-ghost use Rattle.page_jobs.specs.Page.{page_view};
+ghost use Rattle.std.specs.Prelude.{◌≡◌, ◌<◌, ◌≤◌, ◌+◌, ◌↔◌, [], length, map, slice_get, slice_index_or, option_map, IfSome, IsSome, Some};
+ghost use Rattle.rim_desc.specs.declared.side_by_side.TheConstants.{MOST_LANES};
+ghost use Rattle.page_jobs.specs.Page.{digest_of, page_view};
+ghost use Rattle.rim_chain.specs.Chains.{chains_to};
 ghost use Rattle.rim_chain.specs.Links.{chain_of};
 ghost use Rattle.job_board.specs.Tasks.{IsOwnLaunch};
+ghost use Rattle.job_board.specs.inside.Beside.{AreOwnRims, IsOwnRim};
 
 use crate::run::Run;
-use page_jobs::{DigestRow, Hashed, Page, PageJob, run_four};
-use rim_chain::{LaunchJob, LaunchRim};
-use rim_desc::Measurement;
+use page_jobs::{DigestRow, Hashed, Page, PageJob};
+use rim_chain::{LaunchChain, LaunchJob, LaunchRim, no_chains, side_by_side};
+use rim_desc::{Algo, MOST_LANES, Measurement};
 use std::marker::{Model, PhantomData};
 
 /// A page of a run that is to be hashed.
@@ -134,7 +136,8 @@ impl<'a, L: Run> PageTask<'a, L> {
 
     /// The number of the page among those of the run.
     pub fn number(&self) -> usize
-        ensures { result ≡ self.now.number }
+        ensures number { result ≡ self.now.number }
+        ensures own { slice_get L.pages self.now.number ≡ Some self.now.page }
     {
         self.number
     }
@@ -151,45 +154,17 @@ impl<'a, L: Run> PageTask<'a, L> {
         }
     }
 
-    /// Hashes the page and three others, side by side where they are whole.
-    pub fn run_with(
-        self,
-        b: PageTask<'a, L>,
-        c: PageTask<'a, L>,
-        d: PageTask<'a, L>,
-    ) -> (
-        HashedPage<'a, L>,
-        HashedPage<'a, L>,
-        HashedPage<'a, L>,
-        HashedPage<'a, L>,
-    )
-        ensures number { result.0.number ≡ self.entry.number }
-        ensures page { result.0.page ≡ self.entry.page }
+    /// The page with its digest, which is known.
+    pub fn known(self, digest: Measurement) -> HashedPage<'a, L>
+        requires { digest.bytes ≡ digest_of self.page }
+        ensures number { result.number ≡ self.entry.number }
+        ensures page { result.page ≡ self.entry.page }
     {
-        let numbers = (self.number, b.number, c.number, d.number);
-        let (first, second, third, fourth) = run_four(self.job, b.job, c.job, d.job);
-        (
-            HashedPage {
-                number: numbers.0,
-                hashed: first,
-                run: PhantomData,
-            },
-            HashedPage {
-                number: numbers.1,
-                hashed: second,
-                run: PhantomData,
-            },
-            HashedPage {
-                number: numbers.2,
-                hashed: third,
-                run: PhantomData,
-            },
-            HashedPage {
-                number: numbers.3,
-                hashed: fourth,
-                run: PhantomData,
-            },
-        )
+        HashedPage {
+            number: self.number,
+            hashed: self.job.known(digest),
+            run: PhantomData,
+        }
     }
 }
 
@@ -241,50 +216,49 @@ impl<'a, L: Run> LaunchTask<'a, L> {
 }
 
 impl<'a, L: Run> LaunchTask<'a, L> {
-    /// Whether the launch can be chained side by side with others.
-    pub fn can_run_with_others(&self) -> bool
-        ensures { result ≡ true → self.now.plan.params.algo ≡ algo.Sha256 }
-    {
+    /// The algorithm that the launch is measured by.
+    pub fn algo(&self) -> Algo {
+        self.job.algo()
+    }
+
+    /// Whether the launch may be chained side by side with others.
+    pub fn can_run_with_others(&self) -> bool {
         self.job.can_run_with_others()
     }
 
-    /// Chains the launch and three others side by side, which takes less than half the time.
+    /// Chains the launch, and others side by side with it. The measurements of the others are written, each in the place of its
+    /// own launch. It takes no memory. This is quick where they are four by one algorithm, or eight by SHA-256.
     pub fn run_with(
         self,
-        b: LaunchTask<'a, L>,
-        c: LaunchTask<'a, L>,
-        d: LaunchTask<'a, L>,
-    ) -> (
-        ChainedLaunch<'a, L>,
-        ChainedLaunch<'a, L>,
-        ChainedLaunch<'a, L>,
-        ChainedLaunch<'a, L>,
-    )
-        requires first { self.plan.params.algo ≡ algo.Sha256 }
-        requires second { b.plan.params.algo ≡ algo.Sha256 }
-        requires third { c.plan.params.algo ≡ algo.Sha256 }
-        requires fourth { d.plan.params.algo ≡ algo.Sha256 }
-        ensures { result.0.job ≡ self.entry }
+        others: &[Option<LaunchTask<'a, L>>],
+        values: &mut [Option<OwnValue<L>>],
+    ) -> ChainedLaunch<'a, L>
+        requires few { length others.now < MOST_LANES }
+        requires room { length values.old ≡ length others.now }
+        ensures job { result.job ≡ self.entry }
+        ensures values { values.new ≡ map (option_map (λ t. t.number)) others.now }
     {
-        let (first, second, third, fourth) = self.job.run_with(b.job, c.job, d.job);
-        (
-            ChainedLaunch {
-                rim: first,
-                run: PhantomData,
-            },
-            ChainedLaunch {
-                rim: second,
-                run: PhantomData,
-            },
-            ChainedLaunch {
-                rim: third,
-                run: PhantomData,
-            },
-            ChainedLaunch {
-                rim: fourth,
-                run: PhantomData,
-            },
-        )
+        let count = others.len();
+        let mut rims = [Measurement { bytes: [0; 64] }; MOST_LANES];
+        let rims = &mut rims[..=count];
+        chain_beside(&self, &*others, rims);
+        put_values(others, rims, values);
+        ChainedLaunch {
+            rim: self.job.known(rims[count]),
+            run: PhantomData,
+        }
+    }
+
+    /// Its measurement, which was found.
+    fn own_value(&self, value: Measurement) -> OwnValue<L>
+        requires { value.bytes ≡ chain_of self.now.plan self.now.row.digests }
+        ensures { result ≡ self.now.number }
+    {
+        OwnValue {
+            number: self.job.number(),
+            value,
+            run: PhantomData,
+        }
     }
 
     /// The launch with its measurement, which was found before.
@@ -301,6 +275,62 @@ impl<'a, L: Run> LaunchTask<'a, L> {
     /// The row, to be filled for another launch.
     pub fn into_row(self) -> DigestRow {
         self.job.into_row()
+    }
+}
+
+/// Writes what launches are measured to, which are chained side by side: each in its own place, and that of the first one after
+/// those of all others. Where there is none in a place, nothing is said of the measurement.
+fn chain_beside<'b, 'a, L: Run>(
+    first: &'b LaunchTask<'a, L>,
+    others: &'b [Option<LaunchTask<'a, L>>],
+    rims: &mut [Measurement],
+)
+    requires few { length others.now < MOST_LANES }
+    requires room { length rims.old ≡ length others.now + 1 }
+    ensures size { length rims.new ≡ length rims.old }
+    ensures others { AreOwnRims others.now (map (λ m. m.bytes) rims.new) }
+    ensures first { IsOwnRim first.now
+        (slice_index_or (map (λ m. m.bytes) rims.new) (length others.now) []) }
+{
+    let mut chains = no_chains();
+    let chains = &mut chains[..=others.len()];
+    begin_each(others, chains);
+    chains[others.len()] = first.job.chain();
+    side_by_side(chains, rims);
+}
+
+/// Writes the chains of launches, each in its own place.
+fn begin_each<'b, 'a, L: Run>(
+    tasks: &'b [Option<LaunchTask<'a, L>>],
+    chains: &mut [LaunchChain<'b>],
+)
+    requires { length tasks.now ≤ length chains.old }
+    ensures size { length chains.new ≡ length chains.old }
+    ensures own { AreOwnRims tasks.now (map chains_to chains.new) }
+{
+    for i in 0..tasks.len() {
+        if let Some(task) = &tasks[i] {
+            chains[i] = task.job.chain();
+        }
+    }
+}
+
+/// Writes the measurements of launches, each in its own place.
+fn put_values<'a, L: Run>(
+    tasks: &[Option<LaunchTask<'a, L>>],
+    rims: &[Measurement],
+    values: &mut [Option<OwnValue<L>>],
+)
+    requires own { AreOwnRims tasks.now (map (λ m. m.bytes) rims.now) }
+    requires rims { length tasks.now ≤ length rims.now }
+    requires room { length values.old ≡ length tasks.now }
+    ensures { values.new ≡ map (option_map (λ t. t.number)) tasks.now }
+{
+    for i in 0..tasks.len() {
+        values[i] = match &tasks[i] {
+            Some(task) => Some(task.own_value(rims[i])),
+            None => None,
+        };
     }
 }
 

@@ -6,8 +6,8 @@
 //! A worker that leaves launches for later holds no job, and another worker holds one: so the state's `take_or_wait` says. That
 //! one puts its job or retires, and either ends the wait. A job that was taken before the run in the name of worker 0, or
 //! of a worker that could not be started, is waited for as long as nobody puts it.
-ghost use Rattle.std.specs.Prelude.{◌≡◌, ◌≢◌, ◌≤◌, ◌+◌, IfErr, IfOk, OnOk, map};
-ghost use Rattle.rim_desc.specs.declared.measurement.Algo.TheVariants as algo;
+ghost use Rattle.std.specs.Prelude.{◌≡◌, ◌≢◌, ◌<◌, ◌≤◌, ◌+◌, IfErr, OnOk, map};
+ghost use Rattle.rim_desc.specs.declared.side_by_side.TheConstants.{MOST_LANES};
 ghost use Rattle.job_board.specs.declared.job.Event.{Event};
 ghost use Rattle.job_board.specs.declared.job.JobId.{JobId};
 ghost use Rattle.job_board.specs.declared.work.Work.{Work};
@@ -18,6 +18,7 @@ ghost use Rattle.page_jobs.specs.Page.{page_view};
 
 use job_board::{BoardState, ChainedLaunch, HashedPage, LaunchTask, Run, Share, Work};
 use page_jobs::{DigestRow, Page};
+use rim_desc::Algo;
 use std::sync::{Condvar, Mutex, MutexGuard, Wait};
 
 /// A board's state under its lock, and where workers sleep until it changes. What a call says of the state is of the one
@@ -133,16 +134,23 @@ impl<'a, L: Run> Board<'a, L> {
         self.state.lock(rt).lend_row()
     }
 
-    /// Lends a worker a launch that is ready, to be chained beside one that it has taken; or hands the row back.
+    /// How many launches a worker is best lent beside one by an algorithm.
+    pub(crate) fn lend_count(&self, rt: &impl Wait, algo: Algo) -> usize
+        ensures { result < MOST_LANES }
+    {
+        self.state.lock(rt).lend_count(algo)
+    }
+
+    /// Lends a worker a launch that is ready, to be chained beside one by the same algorithm that it has taken; or hands the row
+    /// back.
     pub(crate) fn lend(
         &self,
         rt: &impl Wait,
         worker: usize,
+        algo: Algo,
         row: DigestRow,
-    ) -> Result<LaunchTask<'a, L>, DigestRow>
-        ensures { IfOk result (λ task. task.plan.params.algo ≡ algo.Sha256) }
-    {
-        self.state.lock(rt).lend(worker, row)
+    ) -> Result<LaunchTask<'a, L>, DigestRow> {
+        self.state.lock(rt).lend(worker, algo, row)
     }
 
     /// Retires a worker. What it holds is then free.

@@ -1,36 +1,34 @@
 //! Launches that a worker chains before they are given to it.
-ghost use Rattle.std.specs.Prelude.{◌≡◌, IfOk, IfSome};
-ghost use Rattle.rim_desc.specs.declared.measurement.Algo.TheVariants as algo;
+ghost use Rattle.std.specs.Prelude.{◌≡◌, ◌<◌, ◌≤◌, IfSome};
+ghost use Rattle.rim_desc.specs.declared.side_by_side.TheConstants.{MOST_LANES};
+ghost use Rattle.job_workers.specs.declared.chained_beside.TheConstants.{MOST_OTHERS};
 
 use crate::board::Board;
 use job_board::{ChainedLaunch, LaunchTask, OwnValue, Run};
 use page_jobs::DigestRow;
+use rim_desc::MOST_LANES;
 use std::sync::Wait;
 
-/// Rows for three launches.
-type Rows = (DigestRow, DigestRow, DigestRow);
+/// The most launches that are chained beside one.
+const MOST_OTHERS: usize = MOST_LANES - 1;
 
 /// Rows for launches that are chained beside another, and the measurements of those that were chained so last.
 ///
-/// A worker that is given a launch chains three others with it side by side, where the board lends it three, since the board
-/// prefers to give it these next. Their measurements are put when their own jobs are given. Where another worker is given
+/// A worker that is given a launch chains others with it side by side, where the board lends it as many as go best, since the
+/// board prefers to give it these next. Their measurements are put when their own jobs are given. Where another worker is given
 /// such a job, it chains the launch anew.
 #[derive(Drop)]
 pub(crate) struct ChainedBeside<L: Run> {
-    rows: Option<Rows>,
-    second: Option<OwnValue<L>>,
-    third: Option<OwnValue<L>>,
-    fourth: Option<OwnValue<L>>,
+    rows: [Option<DigestRow>; MOST_OTHERS],
+    values: [Option<OwnValue<L>>; MOST_OTHERS],
 }
 
 impl<L: Run> ChainedBeside<L> {
-    /// No launch was chained beside another. It has rows where the board has them for it.
-    pub(crate) fn new(rt: &impl Wait, board: &Board<'_, L>) -> ChainedBeside<L> {
+    /// No launch was chained beside another. It has no rows.
+    pub(crate) fn new() -> ChainedBeside<L> {
         ChainedBeside {
-            rows: three_rows(rt, board),
-            second: None,
-            third: None,
-            fourth: None,
+            rows: [None, None, None, None, None, None, None],
+            values: [None, None, None, None, None, None, None],
         }
     }
 
@@ -44,111 +42,96 @@ impl<L: Run> ChainedBeside<L> {
     ) -> ChainedLaunch<'a, L>
         ensures { result.job ≡ task.entry }
     {
-        if let Some(value) = self.take(task.number()) {
+        if let Some(value) = taken(&mut self.values, task.number()) {
             return task.known(value);
         }
         if !task.can_run_with_others() {
             return task.run();
         }
-        let Some((b, c, d)) = self.lent(rt, board, worker) else {
-            return task.run();
-        };
-        let (own, b, c, d) = task.run_with(b, c, d);
-        self.keep(b, c, d);
-        own
+        self.run_with_lent(rt, board, worker, task)
     }
 
-    /// The measurement of a launch that was chained beside another.
-    fn take(&mut self, number: usize) -> Option<OwnValue<L>>
-        ensures { IfSome result (λ value. value ≡ number) }
-    {
-        if let Some(value) = taken(&mut self.second, number) {
-            return Some(value);
-        }
-        if let Some(value) = taken(&mut self.third, number) {
-            return Some(value);
-        }
-        taken(&mut self.fourth, number)
-    }
-
-    /// Three launches that the board lends, in the rows for them.
-    fn lent<'a>(
+    /// Chains a launch, and others with it that the board lends.
+    fn run_with_lent<'a>(
         &mut self,
         rt: &impl Wait,
         board: &Board<'a, L>,
         worker: usize,
-    ) -> Option<(LaunchTask<'a, L>, LaunchTask<'a, L>, LaunchTask<'a, L>)>
-        ensures first { IfSome result (λ tasks. tasks.0.plan.params.algo ≡ algo.Sha256) }
-        ensures second { IfSome result (λ tasks. tasks.1.plan.params.algo ≡ algo.Sha256) }
-        ensures third { IfSome result (λ tasks. tasks.2.plan.params.algo ≡ algo.Sha256) }
+        task: LaunchTask<'a, L>,
+    ) -> ChainedLaunch<'a, L>
+        ensures { result.job ≡ task.entry }
     {
-        let rows = self.rows.take()?;
-        match lend_three(rt, board, worker, rows) {
-            Ok(tasks) => Some(tasks),
-            Err(rows) => {
-                self.rows = Some(rows);
-                None
+        let mut others = [None, None, None, None, None, None, None];
+        let count = self.lend(rt, board, worker, &task, &mut others);
+        let chained = task.run_with(&others[..count], &mut self.values[..count]);
+        self.keep_rows(&mut others);
+        chained
+    }
+
+    /// Puts launches that the board lends in these places, from the first on, in the rows for them. Answers how many of them
+    /// are best chained beside the launch.
+    fn lend<'a>(
+        &mut self,
+        rt: &impl Wait,
+        board: &Board<'a, L>,
+        worker: usize,
+        task: &LaunchTask<'a, L>,
+        others: &mut [Option<LaunchTask<'a, L>>; MOST_OTHERS],
+    ) -> usize
+        ensures { result < MOST_LANES }
+    {
+        let count = board.lend_count(rt, task.algo());
+        for i in 0..count {
+            let Some(row) = self.row(rt, board, i) else {
+                return whole_group(i);
+            };
+            match board.lend(rt, worker, task.algo(), row) {
+                Ok(other) => others[i] = Some(other),
+                Err(row) => {
+                    self.rows[i] = Some(row);
+                    return whole_group(i);
+                }
             }
+        }
+        count
+    }
+
+    /// A row for the launch in a place, which the board lends where none is kept.
+    fn row(&mut self, rt: &impl Wait, board: &Board<'_, L>, place: usize) -> Option<DigestRow>
+        requires { place < MOST_OTHERS }
+    {
+        match self.rows[place].take() {
+            Some(row) => Some(row),
+            None => board.lend_row(rt),
         }
     }
 
-    /// Keeps the measurements of launches that were chained beside another, and their rows for others.
-    fn keep<'a>(
-        &mut self,
-        b: ChainedLaunch<'a, L>,
-        c: ChainedLaunch<'a, L>,
-        d: ChainedLaunch<'a, L>,
-    ) {
-        let (second, first_row) = b.into_parts();
-        let (third, second_row) = c.into_parts();
-        let (fourth, third_row) = d.into_parts();
-        self.second = Some(second);
-        self.third = Some(third);
-        self.fourth = Some(fourth);
-        self.rows = Some((first_row, second_row, third_row));
+    /// Keeps the rows of launches that were lent, for others.
+    fn keep_rows<'a>(&mut self, others: &mut [Option<LaunchTask<'a, L>>; MOST_OTHERS]) {
+        for i in 0..MOST_OTHERS {
+            if let Some(other) = others[i].take() {
+                self.rows[i] = Some(other.into_row());
+            }
+        }
     }
 }
 
-/// Three rows of the board, where it has them.
-fn three_rows<L: Run>(rt: &impl Wait, board: &Board<'_, L>) -> Option<Rows> {
-    let a = board.lend_row(rt)?;
-    let b = board.lend_row(rt)?;
-    let c = board.lend_row(rt)?;
-    Some((a, b, c))
-}
-
-/// Lends three launches in these rows, or hands the rows back.
-fn lend_three<'a, L: Run>(
-    rt: &impl Wait,
-    board: &Board<'a, L>,
-    worker: usize,
-    rows: Rows,
-) -> Result<(LaunchTask<'a, L>, LaunchTask<'a, L>, LaunchTask<'a, L>), Rows>
-    ensures first { IfOk result (λ tasks. tasks.0.plan.params.algo ≡ algo.Sha256) }
-    ensures second { IfOk result (λ tasks. tasks.1.plan.params.algo ≡ algo.Sha256) }
-    ensures third { IfOk result (λ tasks. tasks.2.plan.params.algo ≡ algo.Sha256) }
+/// How many of fewer launches than were wanted are chained beside one: three, or none.
+fn whole_group(lent: usize) -> usize
+    ensures { result ≤ lent }
 {
-    let (a, b, c) = rows;
-    let first = match board.lend(rt, worker, a) {
-        Ok(task) => task,
-        Err(a) => return Err((a, b, c)),
-    };
-    let second = match board.lend(rt, worker, b) {
-        Ok(task) => task,
-        Err(b) => return Err((first.into_row(), b, c)),
-    };
-    match board.lend(rt, worker, c) {
-        Ok(third) => Ok((first, second, third)),
-        Err(c) => Err((first.into_row(), second.into_row(), c)),
-    }
+    if lent < 3 { 0 } else { 3 }
 }
 
-/// Takes the measurement of the launch of this number from a place.
-fn taken<L: Run>(place: &mut Option<OwnValue<L>>, number: usize) -> Option<OwnValue<L>>
+/// Takes the measurement of the launch of this number, if it is in one of these places.
+fn taken<L: Run>(places: &mut [Option<OwnValue<L>>], number: usize) -> Option<OwnValue<L>>
     ensures { IfSome result (λ value. value ≡ number) }
 {
-    match place {
-        Some(value) if value.number() == number => place.take(),
-        _ => None,
+    for i in 0..places.len() {
+        match &places[i] {
+            Some(value) if value.number() == number => return places[i].take(),
+            _ => {}
+        }
     }
+    None
 }

@@ -1,5 +1,6 @@
 //! What is called around each job.
 use job_board::JobId;
+use rim_desc::Lanes;
 
 /// Is called by a worker that holds no lock: before a job is run, and after it was put.
 pub trait Gate {
@@ -9,6 +10,11 @@ pub trait Gate {
     fn before(&self, worker: usize, job: JobId);
 
     fn after(&self, worker: usize, job: JobId);
+
+    /// How wide the vectors are that the program was built for.
+    fn lanes(&self) -> Lanes {
+        Lanes::Four
+    }
 
     /// Whether a worker may sleep while launches are ready, where another worker is at work on what they begin with. A gate that
     /// holds up a job until another one is done answers no, as this does: the other may be a launch that is left for later.

@@ -4,7 +4,6 @@
 mod board;
 mod chained_beside;
 mod gate;
-mod hashed_ahead;
 mod worker;
 mod workers;
 

@@ -1,24 +1,37 @@
 //! What a worker does.
+ghost use Rattle.std.specs.Prelude.{◌≡◌, map};
+ghost use Rattle.page_jobs.specs.Page.{page_view};
+
 use crate::board::Board;
 use crate::chained_beside::ChainedBeside;
 use crate::gate::Gate;
-use crate::hashed_ahead::HashedAhead;
-use job_board::{JobId, Run, Share, Work};
+use job_board::{HashedPage, JobId, PageTask, Run, Share, Work};
+use page_jobs::HashedAhead;
+use rim_desc::Lanes;
 use std::sync::Wait;
 
 /// The pages and launches that a worker has done before they are given to it.
 #[derive(Drop)]
 pub(crate) struct Early<'a, L: Run> {
-    pages: HashedAhead<'a, L>,
+    pages: HashedAhead<'a>,
     launches: ChainedBeside<L>,
+    ghost own: { map page_view pages.pages.now ≡ L.pages },
 }
 
 impl<'a, L: Run> Early<'a, L> {
-    pub(crate) fn new(rt: &impl Wait, board: &Board<'a, L>) -> Early<'a, L> {
+    pub(crate) fn new(rt: &impl Wait, board: &Board<'a, L>, lanes: Lanes) -> Early<'a, L> {
         Early {
-            pages: HashedAhead::new(board.pages(rt)),
-            launches: ChainedBeside::new(rt, board),
+            pages: HashedAhead::new(board.pages(rt), lanes),
+            launches: ChainedBeside::new(),
         }
+    }
+
+    /// Hashes a page that was given, unless that was done ahead.
+    fn hash(&mut self, task: PageTask<'a, L>) -> HashedPage<'a, L>
+        ensures { result.number ≡ task.entry.number }
+    {
+        let digest = self.pages.digest(task.number());
+        task.known(digest)
     }
 }
 
@@ -33,7 +46,7 @@ pub(crate) fn work<'a, L: Run, G: Gate, R: Wait>(
     share: &mut Share<L>,
 ) {
     share.note_start();
-    let mut early = Early::new(rt, board);
+    let mut early = Early::new(rt, board, gate.lanes());
     for _ in rt.forever() {
         let given = if gate.lets_launches_wait() {
             board.take_or_wait(rt, worker)
@@ -61,7 +74,7 @@ pub(crate) fn run_job<'a, L: Run, G: Gate, R: Wait>(
         Work::Page(task) => {
             let job = JobId::Page(task.number());
             gate.before(worker, job);
-            let page = early.pages.run(task);
+            let page = early.hash(task);
             let _ = board.put_page(rt, worker, page, share);
             gate.after(worker, job);
             true

@@ -154,7 +154,7 @@ fn finish<'a, L: Run, G: Gate, R: Wait>(
     ensures values { AreValuesOf L.pages L.plans values.new }
 {
     let mut shares = shares;
-    let mut early = Early::new(rt, board);
+    let mut early = Early::new(rt, board, gate.lanes());
     for _ in rt.forever() {
         let mut state = board.lock(rt);
         let given = state.take(0);

@@ -130,7 +130,8 @@ fn run_by<'a, L: Run + Send + Sync, G: Gate + Sync, R: Threads + Wait + Sync>(
 {
     let mut counts = vec![in alloc; 0; workers]?;
     let mut values = vec![in alloc; Measurement { bytes: [0; 64] }; plans.len()]?;
-    let (state, shares) = BoardState::<L>::new(alloc, blank, workers, table, plans)?;
+    let lanes = gate.lanes();
+    let (state, shares) = BoardState::<L>::with_lanes(alloc, blank, workers, table, plans, lanes)?;
     let board = Board::new(state);
     run_workers_on(rt, gate, &board, shares, &mut counts, &mut values, STACK);
     Ok(values)

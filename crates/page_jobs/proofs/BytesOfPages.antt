@@ -1,5 +1,6 @@
 -- A page's bytes are the bytes of the item that fall in it, over zeros.
-use Rattle.std.proofs.Common.{◌≡◌, ℕ, ◌+◌, ◌-◌, ◌*◌, ◌<◌, ◌≤◌, ◌&&◌, ◌⊎◌, cond, false, zero, suc, List, [], ◌++◌, length, take, drop, get_or, refl, ap, sym, ◌∙◌, arith, inl, inr, length-drop, nat_lt, lt-ltb, min, append-nil}
+use Rattle.std.proofs.Common.{◌≡◌, ℕ, ◌+◌, ◌-◌, ◌*◌, ◌<◌, ◌≤◌, ◌&&◌, ◌⊎◌, cond, false, zero, suc, List, [], ◌++◌, length, take, drop, get_or, refl, ap, sym}
+use Rattle.std.proofs.Common.{◌∙◌, arith, inl, inr, length-drop, nat_lt, lt-ltb, min, append-nil}
 use Rattle.std.specs.Prelude.{nat_le}
 use Rattle.std.proofs.lemmas.Bool.Decides.{nat_tests}
 use Rattle.std.proofs.lemmas.List.{ext_get_or, get_or-drop, get_or-take, get_or_past, length-take, length-take-le, nil_from_length, take-append-drop}
@@ -12,7 +13,8 @@ use Rattle.rim_desc.proofs.PageBytesByPlace.{length-page_bytes, page_bytes-at}
 use Rattle.page_jobs.specs.Lent.{front_of, lent_of}
 
 -- a byte of the part
-within : (page part : List ℕ) (at k : ℕ) → at + length part ≤ length page → at ≤ k → k < at + length part → get_or (with_part page at part) k 0 ≡ get_or part (k - at) 0
+within : (page part : List ℕ) (at k : ℕ) → at + length part ≤ length page → at ≤ k → k < at + length part
+    → get_or (with_part page at part) k 0 ≡ get_or part (k - at) 0
 unfolding with_part
 within page part at k fits low high =
     let front : length (take at page) ≡ at = length-take-le at page (omega arith) in
@@ -84,7 +86,8 @@ contents-page_bytes lead zero item low =
     there j = omega arith
 contents-page_bytes lead (suc k) item low =
     ap (λ f. with_part (zeros 4096) f (take (4096 - f) (drop (4096 * suc k - lead) item))) none
-    ∙ ext_get_or 0 (with_part (zeros 4096) 0 (take (4096 - 0) (drop (4096 * suc k - lead) item))) (page_bytes lead item (suc k)) (length-contents 0 (4096 * suc k - lead) item (omega arith) ∙ sym (length-page_bytes lead (suc k) item))
+    ∙ ext_get_or 0 (with_part (zeros 4096) 0 (take (4096 - 0) (drop (4096 * suc k - lead) item))) (page_bytes lead item (suc k))
+    (length-contents 0 (4096 * suc k - lead) item (omega arith) ∙ sym (length-page_bytes lead (suc k) item))
     (λ j inside.
     let size = length-contents 0 (4096 * suc k - lead) item (omega arith) in
     let least : j < 4096 = omega arith in

@@ -1,5 +1,5 @@
 -- The digests of a page of zeros, which the checker computes.
-use Rattle.std.proofs.Common.{◌≡◌, refl, replicate, List, ℕ, [], ◌∷◌}
+use Rattle.std.proofs.Common.{◌≡◌, refl, replicate, [], ◌∷◌}
 use Rattle.sha2.specs.Sha256 as narrow
 use Rattle.sha2.specs.Sha512 as wide
 

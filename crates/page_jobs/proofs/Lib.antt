@@ -16,3 +16,5 @@ pub mod SlotOfNextPage
 pub mod OneMoreDigest
 -- Ranges of pages: in the order of the items' ends, the pages that are fresh in each are all pages, each once
 pub mod FreshPagesOfItems
+-- Digests of messages that are hashed side by side are those of the pages in their places.
+pub mod PagesSideBySide

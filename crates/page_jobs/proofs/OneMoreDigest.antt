@@ -12,7 +12,8 @@ use Rattle.page_jobs.specs.declared.page.PageKey.{PageKey}
 use Rattle.page_jobs.proofs.SearchByKey.{slot-key}
 
 -- a slot of its own page's digest leaves a table one
-pub filled_table : (t : TableView) (j : ℕ) (p : PageView) (m : Measurement) → IsTable t → slice_get t.pages j ≡ Some p → m.bytes ≡ digest_of p → IsTable (with_digest t j m)
+pub filled_table : (t : TableView) (j : ℕ) (p : PageView) (m : Measurement) → IsTable t → slice_get t.pages j ≡ Some p → m.bytes ≡ digest_of p
+    → IsTable (with_digest t j m)
 filled_table t j p m table page own = record {
   rising = table.rising;
   size = length-set t.digests j (Some m) ∙ table.size;
@@ -25,7 +26,8 @@ filled_table t j p m table page own = record {
     within : j < length t.digests
     within = omega (arith, slice_get_within t.pages j p page, table.size)
 
-    here_own : (i : ℕ) (q : PageView) (n : Measurement) → i ≡ j → slice_get t.pages i ≡ Some q → slice_get (set t.digests j (Some m)) i ≡ Some (Some n) → n.bytes ≡ digest_of q
+    here_own : (i : ℕ) (q : PageView) (n : Measurement) → i ≡ j → slice_get t.pages i ≡ Some q → slice_get (set t.digests j (Some m)) i ≡ Some (Some n)
+        → n.bytes ≡ digest_of q
     here_own i q n here at slot =
         let same : Some m ≡ Some n =
         sym (get_or-set_same t.digests j (Some m) (Some m) within) ∙ ap (λ k. get_or (set t.digests j (Some m)) k (Some m)) (sym here)

@@ -72,7 +72,8 @@ module _ {X : Type 0} (view : X → PageView) (xs : List X) (rising : IsRising (
     -- the keys are in order for a search
     searchable : IsNonDecreasingBy (λ y. ordering_index (key_cmp (view y).key key)) xs
     searchable = searchable_from_sorted key_total (λ y. (view y).key) xs key
-        (λ k d low high. let after : k < k + 1 = omega arith in not_less (view (get_or xs k d)).key (view (get_or xs (k + 1) d)).key (below k (k + 1) d after high))
+        (λ k d low high. let after : k < k + 1 =
+        omega arith in not_less (view (get_or xs k d)).key (view (get_or xs (k + 1) d)).key (below k (k + 1) d after high))
       where
         not_less : (a b : PageKey) → key_cmp a b ≡ Less → is_lt (key_cmp b a) ≡ false
         not_less a b less = ap is_lt (key_total.antisymm b a ∙ ap ordering_reverse less)

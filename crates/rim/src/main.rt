@@ -1,77 +1,9 @@
-//! The program `rim`.
+//! The program `rim`, for every processor that it runs on.
 #![tactic(auto)]
 
-mod progress;
-
-use crate::progress::Progress;
-use rim_cli::{Opener, advise, asks_for_bytes, report_terminal, report_unreadable, run};
-use std::fs::File;
-use std::io;
-use std::io::{ErrorKind, IsTerminal};
+use rim_main::{Lanes, run_program};
 use std::process::ExitCode;
 
-/// Opens the files of the system.
-#[derive(Drop)]
-struct FileOpener<'a> {
-    rt: &'a HostRuntime,
-    /// Why the last file could not be opened.
-    failure: Option<ErrorKind>,
-}
-
-impl Opener for FileOpener<'_> {
-    type Reader = File;
-
-    fn open(&mut self, path: &str) -> Option<File> {
-        match File::open(self.rt, path) {
-            Ok(file) => Some(file),
-            Err(error) => {
-                self.failure = Some(error.kind());
-                None
-            }
-        }
-    }
-
-    fn failure(&self) -> Option<ErrorKind> {
-        self.failure
-    }
-}
-
-/// The exit status of a run that ends with a fault of the manifest, a file or the output.
-const FAULT: u8 = 3;
-
 fn main(rt: HostRuntime) -> ExitCode {
-    let words = match words(&rt) {
-        Ok(Some(words)) => words,
-        Ok(None) => return ExitCode::from(report_terminal(&mut rt.stderr())),
-        Err(error) => return ExitCode::from(report_unreadable(&error, &mut rt.stderr())),
-    };
-    let is_terminal = rt.stderr().is_terminal();
-    let mut opener = FileOpener {
-        rt: &rt,
-        failure: None,
-    };
-    let status = run(
-        &rt,
-        rt.alloc(),
-        &mut Progress::new(&rt, is_terminal),
-        words.as_slice(),
-        &mut opener,
-        &mut io::writer(&rt),
-        &mut rt.stderr(),
-    );
-    // At a terminal one more line says where to look.
-    if status == FAULT && is_terminal {
-        advise(rt.alloc(), words.as_slice(), &mut opener, &mut rt.stderr());
-    }
-    ExitCode::from(status)
-}
-
-/// The words of the command line, of which the first is the program's name; or `None` where they ask for bytes that are no
-/// text, and these would be written to a terminal.
-fn words(rt: &HostRuntime) -> io::Result<Option<Vec<String>>> {
-    let words: Vec<String> = std::env::args(rt)?.collect(rt.alloc())?;
-    if rt.stdout().is_terminal() && asks_for_bytes(rt.alloc(), words.as_slice())? {
-        return Ok(None);
-    }
-    Ok(Some(words))
+    run_program(&rt, &rt, Lanes::Four)
 }

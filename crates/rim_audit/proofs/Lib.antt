@@ -1,6 +1,8 @@
 -- To prove: the audits, listings and traces are the definitions'.
 -- Each page that a list creates is in its launch's item
 pub mod ListedPages
+-- pages that are hashed side by side have their own digests
+pub mod GroupsOfPages
 -- a monitor takes each command in its turn, so only want of memory stops it
 pub mod MonitorFollows
 -- so the replay of a listing says yes

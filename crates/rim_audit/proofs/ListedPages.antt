@@ -219,20 +219,23 @@ pub item-there : (items seen : List PlacedItem) (number : ℕ) (item d : PlacedI
     → slice_index_or seen number d ≡ item
 item-there items seen number item d same at = get_or_from_slice_get seen number item d (ap (λ (xs : List PlacedItem). slice_get xs number) same ∙ at)
 
--- an item of which four pages or more are left has the third page after this one
-pub third-after : (p : PlacedData) (items : List PlacedItem) (number k : ℕ) (d : PlacedItem) → items ≡ p.items → HasPage p number k
-    → 4 ≤ (slice_index_or items number d).pages - k → HasPage p number (k + 3)
-third-after p items number k d same has left =
+-- an item has the pages after one of its pages, as many as are left
+pub has-after : (p : PlacedData) (items : List PlacedItem) (number page k : ℕ) (d : PlacedItem) → items ≡ p.items → HasPage p number page
+    → k ≤ (slice_index_or items number d).pages - page - 1 → HasPage p number (page + k)
+has-after p items number page k d same has left =
     let is : slice_index_or items number d ≡ has.item = item-there p.items items number has.item d same has.at in
     let pages : (slice_index_or items number d).pages ≡ has.item.pages = ap (λ (i : PlacedItem). i.pages) is in
-    record { item = has.item; at = has.at; low = omega (arith, left, pages); source = has.source; from = has.from }
+    record { item = has.item; at = has.at; low = omega (arith, left, pages, has.low); source = has.source; from = has.from }
 
 -- a placed launch has few pages
-pub page-low : (l : LaunchData) (files : List (List ℕ)) (p : PlacedData) (number k : ℕ) → IsPlaced l files p → HasPage p number k → k < 4503599627370496
-page-low l files p number k is_placed has =
+pub page-few : (l : LaunchData) (files : List (List ℕ)) (p : PlacedData) (number k : ℕ) → IsPlaced l files p → HasPage p number k → k < 1048576
+page-few l files p number k is_placed has =
     let most : has.item.pages ≤ page_total p = item-pages p.items number has.item has.at in
     let few : page_total p ≤ 1048576 = few-pages l files p is_placed in
     omega (arith, has.low, most, few)
+
+pub page-low : (l : LaunchData) (files : List (List ℕ)) (p : PlacedData) (number k : ℕ) → IsPlaced l files p → HasPage p number k → k < 4503599627370496
+page-low l files p number k is_placed has = omega (arith, page-few l files p number k is_placed has)
 
 -- what is hashed is the item's page
 pub content-is : (l : LaunchData) (files : List (List ℕ)) (p : PlacedData) (number k : ℕ) (item : PlacedItem) (source : Source) (seen : PageView)

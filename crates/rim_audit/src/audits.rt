@@ -18,7 +18,7 @@ use job_board::JobId;
 use job_workers::{FreeGate, Gate};
 use refusal::NoMemory;
 use rim_accepted::{AuditFault, Files, Report, has_refused, push_lines};
-use rim_desc::Measurement;
+use rim_desc::{Lanes, Measurement};
 use rim_launch::Launch;
 use rim_manifest::Release;
 use std::alloc::Global;
@@ -38,7 +38,8 @@ pub fn audit(
         (λ m. m.bytes) result (rim_for l.launch (bytes_of_files files.now.items))) }
 {
     let mut kept = Kept::nothing(alloc, files);
-    audit_launch(alloc, release.all_launches()[i].launch(), files, &mut kept)
+    let launch = release.all_launches()[i].launch();
+    audit_launch(alloc, launch, files, &mut kept, Lanes::Four)
 }
 
 /// The audit of all launches: a line `rim-audit 1`; and a line `NAME ALGO HEX` for each launch in the manifest's order, or
@@ -106,7 +107,7 @@ fn outcomes<G: Gate>(
         let job = JobId::Launch(number);
         gate.before(0, job);
         kept.close_at_last(number.saturating_add(1) >= release.launches());
-        found.push(outcome(alloc, launch.launch(), files, &mut kept)?)?;
+        found.push(outcome(alloc, launch.launch(), files, &mut kept, gate.lanes())?)?;
         gate.after(0, job);
     }
     Ok(found)
@@ -119,6 +120,7 @@ fn outcome<'a>(
     launch: &'a Launch,
     files: &'a [Vec<u8>],
     kept: &mut Kept<'a>,
+    lanes: Lanes,
 ) -> Result<Result<Measurement, AuditFault>, NoMemory>
     requires there { has_files launch.now (length files.now) ≡ true }
     requires kept { AreKept (bytes_of_files files.now) kept.old }
@@ -126,11 +128,11 @@ fn outcome<'a>(
         (λ outcome. seen outcome ≡ rim_for launch.now (bytes_of_files files.now)) }
     ensures kept { AreKept (bytes_of_files files.now) kept.new }
 {
-    match audit_launch(alloc, launch, files, kept) {
+    match audit_launch(alloc, launch, files, kept, lanes) {
         Ok(rim) => Ok(Ok(rim)),
         Err(AuditFault::NoMemory) => {
             kept.free(files);
-            outcome_again(alloc, launch, files, kept)
+            outcome_again(alloc, launch, files, kept, lanes)
         }
         Err(fault) => Ok(Err(fault)),
     }
@@ -142,6 +144,7 @@ fn outcome_again<'a>(
     launch: &'a Launch,
     files: &'a [Vec<u8>],
     kept: &mut Kept<'a>,
+    lanes: Lanes,
 ) -> Result<Result<Measurement, AuditFault>, NoMemory>
     requires there { has_files launch.now (length files.now) ≡ true }
     requires kept { AreKept (bytes_of_files files.now) kept.old }
@@ -149,7 +152,7 @@ fn outcome_again<'a>(
         (λ outcome. seen outcome ≡ rim_for launch.now (bytes_of_files files.now)) }
     ensures kept { AreKept (bytes_of_files files.now) kept.new }
 {
-    match audit_launch(alloc, launch, files, kept) {
+    match audit_launch(alloc, launch, files, kept, lanes) {
         Ok(rim) => Ok(Ok(rim)),
         Err(fault) => Ok(Err(fault.own_fault()?)),
     }
@@ -163,6 +166,7 @@ fn audit_launch<'a>(
     launch: &'a Launch,
     files: &'a [Vec<u8>],
     kept: &mut Kept<'a>,
+    lanes: Lanes,
 ) -> Result<Measurement, AuditFault>
     requires there { has_files launch.now (length files.now) ≡ true }
     requires kept { AreKept (bytes_of_files files.now) kept.old }
@@ -170,7 +174,7 @@ fn audit_launch<'a>(
         (rim_for launch.now (bytes_of_files files.now)) }
     ensures kept { AreKept (bytes_of_files files.now) kept.new }
 {
-    let commands = lay_out(alloc, launch, files)?;
+    let commands = lay_out(alloc, launch, files, lanes)?;
     let (rim, copies) = followed(alloc, &commands, kept)?;
     kept.keep(commands, copies);
     Ok(rim)

@@ -3,6 +3,7 @@ ghost use Rattle.std.specs.Prelude.{◌≡◌, None};
 ghost use Rattle.ipa_layout.specs.Files.{bytes_of_files};
 
 use crate::known_pages::{FileKey, KnownPages};
+use page_jobs::GroupDigests;
 use rim_desc::Measurement;
 use std::alloc::Global;
 
@@ -17,14 +18,13 @@ pub struct Beside<'a> {
     group: Option<Group>,
 }
 
-/// The three pages of an item after its page `first`, which were hashed side by side with that one.
+/// Neighbouring pages of an item, which were hashed side by side.
 #[derive(Clone, Copy)]
 pub struct Group {
     pub item: usize,
+    /// The number of the first of them among the item's pages.
     pub first: u64,
-    pub second: Measurement,
-    pub third: Measurement,
-    pub fourth: Measurement,
+    pub digests: GroupDigests,
 }
 
 impl<'a> Beside<'a> {
@@ -71,12 +71,7 @@ impl<'a> Beside<'a> {
         if group.item != item {
             return None;
         }
-        match page.checked_sub(group.first) {
-            Some(1) => Some(group.second),
-            Some(2) => Some(group.third),
-            Some(3) => Some(group.fourth),
-            _ => None,
-        }
+        group.digests.get(page.checked_sub(group.first)? as usize)
     }
 
     /// The digest of a page of an item that has its bytes from a file, where it is known.

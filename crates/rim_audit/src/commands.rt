@@ -5,10 +5,10 @@ ghost use Rattle.rmi_list.specs.Listed.{listed};
 use crate::beside::{Beside, Group};
 use crate::known_pages::FileKey;
 use ipa_layout::PlacedItem;
-use page_jobs::{Blob, LANES, PageJob, run_four};
+use page_jobs::{Blob, Page, hash_group};
 use refusal::NoMemory;
 use rim_accepted::AcceptedLaunch;
-use rim_desc::{Command, Measurement, Source};
+use rim_desc::{Command, Lanes, MOST_LANES, Measurement, Source};
 use rmi_list::Plan;
 use rmm_monitor::{Monitor, Refused};
 use std::alloc::Global;
@@ -18,6 +18,8 @@ use std::alloc::Global;
 pub struct LaunchCommands<'a> {
     pub accepted: AcceptedLaunch<'a>,
     pub plan: Plan,
+    /// How many of its pages are hashed side by side.
+    pub lanes: Lanes,
     pub ghost is_listed: { listed accepted.launch.now accepted.placed ≡ Ok plan },
 }
 
@@ -25,7 +27,7 @@ pub struct LaunchCommands<'a> {
 const NO_CONTENT: Measurement = Measurement { bytes: [0; 64] };
 
 impl<'a> LaunchCommands<'a> {
-    ghost use Rattle.std.specs.Prelude.{◌≡◌, ℕ, ◌+◌, ◌<◌, ◌^◌, length, Some, IfOk, IfSome, OnOk};
+    ghost use Rattle.std.specs.Prelude.{◌≡◌, ℕ, ◌+◌, ◌<◌, ◌≤◌, ◌^◌, length, Some, IfOk, IfSome, OnOk};
     ghost use Rattle.std.specs.List.{slice_get};
     ghost use Rattle.ipa_layout.specs.Files.{bytes_of_files};
     ghost use Rattle.page_jobs.specs.Page.{page_view};
@@ -120,15 +122,9 @@ impl<'a> LaunchCommands<'a> {
         if let Some(digest) = self.in_file(beside, item, page) {
             return digest;
         }
-        if self.accepted.placed.items()[item].pages - page < LANES as u64 {
-            let digest = self.job(item, page).run().digest;
-            self.keep(beside, item, page, digest);
-            return digest;
-        }
-        let (digest, group) = self.hash_group(item, page);
-        self.keep(beside, item, page, digest);
+        let group = self.hash_group(item, page);
         self.keep_group(beside, &group);
-        digest
+        group.digests.all[0]
     }
 
     /// The measurement of a page of an item, where it is a page of a file and is known.
@@ -152,16 +148,17 @@ impl<'a> LaunchCommands<'a> {
         }
     }
 
-    /// Keeps the measurements of pages that were hashed beside another.
+    /// Keeps the measurements of pages that were hashed side by side.
     fn keep_group(&self, beside: &mut Beside, group: &Group)
         requires group { IsGroup self.now group.now }
-        requires low { group.now.first < 2 ^ 52 }
+        requires low { group.now.first + group.now.digests.count ≤ 2 ^ 52 }
         requires own { IsOwn self.now beside.old }
         ensures own { IsOwn self.now beside.new }
     {
-        self.keep(beside, group.item, group.first + 1, group.second);
-        self.keep(beside, group.item, group.first + 2, group.third);
-        self.keep(beside, group.item, group.first + 3, group.fourth);
+        for k in 0..group.digests.count {
+            let page = group.first + k as u64;
+            self.keep(beside, group.item, page, group.digests.all[k]);
+        }
         beside.set_group(*group);
     }
 
@@ -181,35 +178,54 @@ impl<'a> LaunchCommands<'a> {
         }
     }
 
-    /// Hashes a page and the three after it in its item, side by side where they are whole.
-    fn hash_group(&self, item: usize, page: u64) -> (Measurement, Group)
-        requires { HasPage self.now.accepted.placed item (page + 3) }
-        ensures content { result.0 ≡ content_in self.now item page }
-        ensures group { IsGroup self.now result.1 }
-        ensures low { result.1.first < 2 ^ 52 }
+    /// Hashes a page, and with it as many that follow in its item as go side by side.
+    fn hash_group(&self, item: usize, page: u64) -> Group
+        requires { HasPage self.now.accepted.placed item page }
+        ensures item { result.item ≡ item }
+        ensures first { result.first ≡ page }
+        ensures some { 0 < result.digests.count }
+        ensures group { IsGroup self.now result }
+        ensures low { result.first + result.digests.count ≤ 2 ^ 52 }
     {
-        let (a, b, c, d) = run_four(
-            self.job(item, page),
-            self.job(item, page + 1),
-            self.job(item, page + 2),
-            self.job(item, page + 3),
-        );
-        (
-            a.digest,
-            Group {
-                item,
-                first: page,
-                second: b.digest,
-                third: c.digest,
-                fourth: d.digest,
-            },
-        )
+        let after = self.pages_after(item, page);
+        let pages = [
+            self.page_after(item, page, after, 0),
+            self.page_after(item, page, after, 1),
+            self.page_after(item, page, after, 2),
+            self.page_after(item, page, after, 3),
+            self.page_after(item, page, after, 4),
+            self.page_after(item, page, after, 5),
+            self.page_after(item, page, after, 6),
+            self.page_after(item, page, after, 7),
+        ];
+        let (pages, _) = pages.split_at(after.min(MOST_LANES as u64 - 1) as usize + 1);
+        Group {
+            item,
+            first: page,
+            digests: hash_group(pages, self.lanes),
+        }
     }
 
-    /// The work of hashing a page of an item. No byte of the item is copied but those of its first and its last page.
-    fn job(&self, item: usize, page: u64) -> PageJob<'_>
+    /// How many pages an item has after one of its pages.
+    fn pages_after(&self, item: usize, page: u64) -> u64
         requires { HasPage self.now.accepted.placed item page }
-        ensures { DigestIsContent self.now item page (page_view result.page) }
+        ensures { (k : ℕ) → k ≤ result → HasPage self.now.accepted.placed item (page + k) }
+    {
+        self.accepted.placed.items()[item].pages - page - 1
+    }
+
+    /// The page that is `k` after one in its item, or the last one, which is `after` after it.
+    fn page_after(&self, item: usize, page: u64, after: u64, k: u64) -> Page<'_>
+        requires { (k : ℕ) → k ≤ after → HasPage self.now.accepted.placed item (page + k) }
+        ensures { k ≤ after → DigestIsContent self.now item (page + k) (page_view result) }
+    {
+        self.page(item, page + after.min(k))
+    }
+
+    /// A page of an item. No byte of the item is copied.
+    fn page(&self, item: usize, page: u64) -> Page<'_>
+        requires { HasPage self.now.accepted.placed item page }
+        ensures { DigestIsContent self.now item page (page_view result) }
     {
         let item = self.accepted.placed.items()[item];
         let Some(source) = item.source else {
@@ -217,8 +233,7 @@ impl<'a> LaunchCommands<'a> {
         };
         let bytes = self.accepted.placed.bytes(self.accepted.files, source);
         let algo = self.accepted.launch.config().algo;
-        let page = Blob::new(source, item.lead, bytes).page(algo, page);
-        PageJob::new(page)
+        Blob::new(source, item.lead, bytes).page(algo, page)
     }
 }
 

@@ -125,7 +125,7 @@ impl<'a> Kept<'a> {
         let Ok(items) = Vec::from_slice(self.alloc, commands.accepted.placed.items()) else {
             return;
         };
-        let LaunchCommands { accepted, plan } = commands;
+        let LaunchCommands { accepted, plan, .. } = commands;
         let launch = accepted.launch;
         let _ = self.launches.push(LaunchCopies {
             launch,

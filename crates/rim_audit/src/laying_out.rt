@@ -9,16 +9,19 @@ ghost use Rattle.rim_audit.specs.inside.Commands.{commands_in};
 use crate::commands::LaunchCommands;
 use ipa_layout::place;
 use rim_accepted::{AcceptedLaunch, AuditFault};
+use rim_desc::Lanes;
 use rim_launch::Launch;
 use rmi_list::list;
 use std::alloc::Global;
 
-/// The commands of a launch, which is placed and listed here; or why it is refused.
+/// The commands of a launch, which is placed and listed here; or why it is refused. Their pages are
+/// hashed in as many lanes.
 #[tactic(auto, unfolding(rim_accepted::specs::Accepted::commands_for))]
 pub fn lay_out<'a>(
     alloc: Global,
     launch: &'a Launch,
     files: &'a [Vec<u8>],
+    lanes: Lanes,
 ) -> Result<LaunchCommands<'a>, AuditFault>
     requires { has_files launch.now (length files.now) ≡ true }
     ensures commands { Answers AuditFault.NoMemory commands_in result
@@ -33,5 +36,9 @@ pub fn lay_out<'a>(
         files,
         placed,
     };
-    Ok(LaunchCommands { accepted, plan })
+    Ok(LaunchCommands {
+        accepted,
+        plan,
+        lanes,
+    })
 }

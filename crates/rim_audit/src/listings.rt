@@ -19,7 +19,7 @@ use crate::laying_out::lay_out;
 use itoa::Buffer;
 use refusal::NoMemory;
 use rim_accepted::{AuditFault, Files, Report, push_line, push_rim, refused_report};
-use rim_desc::{Algo, Command, Measurement, RecRule};
+use rim_desc::{Algo, Command, Lanes, Measurement, RecRule};
 use rim_launch::Launch;
 use rim_manifest::{NamedLaunch, Release};
 use rmi_line::print_line;
@@ -40,12 +40,15 @@ pub fn listing(
         (λ text. text.items) result (listing_of l.launch (bytes_of_files files.now.items))) }
     ensures confirmed { IfOk result (λ text. ReplayAnswer text.items (Ok tt)) }
 {
-    list_launch(alloc, release.all_launches()[i].launch(), files)
+    let launch = release.all_launches()[i].launch();
+    list_launch(alloc, launch, files, Lanes::Four)
 }
 
-/// The listing of the launch of this number; or, where the launch is refused, its line of a report: `NAME refused KIND`.
+/// The listing of the launch of this number; or, where the launch is refused, its line of a report: `NAME refused KIND`. Pages
+/// are hashed in as many lanes.
 pub fn listing_or_refusal(
     alloc: Global,
+    lanes: Lanes,
     release: &Release,
     files: &Files,
     i: usize,
@@ -59,7 +62,7 @@ pub fn listing_or_refusal(
     ensures confirmed { IfOk result
         (λ r. r.has_refused ≡ false → ReplayAnswer r.text.items (Ok tt)) }
 {
-    list_or_refuse(alloc, &release.all_launches()[i], files)
+    list_or_refuse(alloc, &release.all_launches()[i], files, lanes)
 }
 
 /// The listing of a launch, or its line of a report where it is refused.
@@ -67,6 +70,7 @@ fn list_or_refuse(
     alloc: Global,
     launch: &NamedLaunch,
     files: &[Vec<u8>],
+    lanes: Lanes,
 ) -> Result<Report, NoMemory>
     requires { has_files launch.now.launch (length files.now) ≡ true }
     ensures text { IfOk result
@@ -76,7 +80,7 @@ fn list_or_refuse(
     ensures confirmed { IfOk result
         (λ r. r.has_refused ≡ false → ReplayAnswer r.text.items (Ok tt)) }
 {
-    match list_launch(alloc, launch.launch(), files) {
+    match list_launch(alloc, launch.launch(), files, lanes) {
         Ok(text) => Ok(Report {
             text,
             has_refused: false,
@@ -87,13 +91,18 @@ fn list_or_refuse(
 
 /// The listing of a launch, or why it is refused.
 #[tactic(auto, unfolding(crate::specs::Listing::listing_of))]
-fn list_launch(alloc: Global, launch: &Launch, files: &[Vec<u8>]) -> Result<Vec<u8>, AuditFault>
+fn list_launch(
+    alloc: Global,
+    launch: &Launch,
+    files: &[Vec<u8>],
+    lanes: Lanes,
+) -> Result<Vec<u8>, AuditFault>
     requires { has_files launch.now (length files.now) ≡ true }
     ensures text { Answers AuditFault.NoMemory (λ text. text.items) result
         (listing_of launch.now (bytes_of_files files.now)) }
     ensures confirmed { IfOk result (λ text. ReplayAnswer text.items (Ok tt)) }
 {
-    let commands = lay_out(alloc, launch, files)?;
+    let commands = lay_out(alloc, launch, files, lanes)?;
     let text = print(alloc, &commands)?;
     Ok(text)
 }

@@ -13,7 +13,7 @@ use crate::known_pages::KnownPages;
 use crate::laying_out::lay_out;
 use refusal::NoMemory;
 use rim_accepted::{AuditFault, Files, Report, push_digest, refused_report};
-use rim_desc::{Algo, Command, Measurement, extends};
+use rim_desc::{Algo, Command, Lanes, Measurement, extends};
 use rim_launch::Launch;
 use rim_manifest::{NamedLaunch, Release};
 use rmi_line::print_traced;
@@ -23,8 +23,10 @@ use std::alloc::Global;
 /// The trace of the launch of this number: a line for each command that creates or extends the Realm Initial Measurement, with
 /// the measurement that a monitor holds after it (64 or 128 hexadecimal digits), a space, and the command's words but for the
 /// granules that the host chooses. Or, where the launch is refused, its line of a report: `NAME refused KIND`.
+/// Pages are hashed in as many lanes.
 pub fn trace_or_refusal(
     alloc: Global,
+    lanes: Lanes,
     release: &Release,
     files: &Files,
     i: usize,
@@ -36,7 +38,7 @@ pub fn trace_or_refusal(
     ensures refused { IfSome (slice_get release.now.launches i) (λ l. IfOk result
         (λ r. r.has_refused ≡ is_err (trace_of l.launch (bytes_of_files files.now.items)))) }
 {
-    trace_or_refuse(alloc, &release.all_launches()[i], files)
+    trace_or_refuse(alloc, &release.all_launches()[i], files, lanes)
 }
 
 /// The trace of a launch, or its line of a report where it is refused.
@@ -44,6 +46,7 @@ fn trace_or_refuse(
     alloc: Global,
     launch: &NamedLaunch,
     files: &[Vec<u8>],
+    lanes: Lanes,
 ) -> Result<Report, NoMemory>
     requires { has_files launch.now.launch (length files.now) ≡ true }
     ensures text { IfOk result
@@ -51,7 +54,7 @@ fn trace_or_refuse(
     ensures refused { IfOk result
         (λ r. r.has_refused ≡ is_err (trace_of launch.now.launch (bytes_of_files files.now))) }
 {
-    match trace_launch(alloc, launch.launch(), files) {
+    match trace_launch(alloc, launch.launch(), files, lanes) {
         Ok(text) => Ok(Report {
             text,
             has_refused: false,
@@ -62,12 +65,17 @@ fn trace_or_refuse(
 
 /// The trace of a launch, or why it is refused.
 #[tactic(auto, unfolding(crate::specs::Trace::trace_of))]
-fn trace_launch(alloc: Global, launch: &Launch, files: &[Vec<u8>]) -> Result<Vec<u8>, AuditFault>
+fn trace_launch(
+    alloc: Global,
+    launch: &Launch,
+    files: &[Vec<u8>],
+    lanes: Lanes,
+) -> Result<Vec<u8>, AuditFault>
     requires { has_files launch.now (length files.now) ≡ true }
     ensures { Answers AuditFault.NoMemory (λ text. text.items) result
         (trace_of launch.now (bytes_of_files files.now)) }
 {
-    let commands = lay_out(alloc, launch, files)?;
+    let commands = lay_out(alloc, launch, files, lanes)?;
     let text = trace(alloc, &commands)?;
     Ok(text)
 }

@@ -1,7 +1,8 @@
-//! `rim_bench JOB SIZE SEED`: one of the jobs that users of rim wait for, on files and a manifest that it makes itself.
+//! `rim_bench JOB SIZE SEED [LANES]`: one of the jobs that users of rim wait for, on files and a manifest that it makes itself.
 //!
 //! JOB is a name of `Job`, or `all`. SIZE is `full` or `small`. SEED is a number below 2^32, and each gives other files of the
-//! same sizes. Standard input is a devicetree that launches edit, or empty. It prints a line for each job: its name, how many
+//! same sizes. LANES is 4, as where it is not given, or 8: as wide are the vectors of the processor that the program was built
+//! for. Standard input is a devicetree that launches edit, or empty. It prints a line for each job: its name, how many
 //! bytes its results have, and their digest.
 #![tactic(auto)]
 
@@ -13,6 +14,7 @@ mod run;
 
 use crate::job::{Job, Size};
 use crate::run::{Fault, run};
+use rim_release::Lanes;
 use std::io;
 use std::io::Read;
 use std::process::ExitCode;
@@ -35,6 +37,7 @@ struct Asked {
     job: Option<Job>,
     size: Size,
     seed: u32,
+    lanes: Lanes,
     devicetree: Vec<u8>,
 }
 
@@ -46,10 +49,11 @@ fn make_asked(rt: &HostRuntime) -> io::Result<Option<Asked>> {
     };
     let job = Job::named(name.as_str());
     let size = Size::named(size.as_str());
-    let (true, Some(size), Ok(seed)) = (
+    let (true, Some(size), Ok(seed), Some(lanes)) = (
         job.is_some() || name.as_str() == "all",
         size,
         seed.as_str().parse::<u32>(),
+        lanes_named(words.get(4).map(|word| word.as_str())),
     ) else {
         return Ok(None);
     };
@@ -59,8 +63,17 @@ fn make_asked(rt: &HostRuntime) -> io::Result<Option<Asked>> {
         job,
         size,
         seed,
+        lanes,
         devicetree,
     }))
+}
+
+fn lanes_named(word: Option<&str>) -> Option<Lanes> {
+    match word {
+        None | Some("4") => Some(Lanes::Four),
+        Some("8") => Some(Lanes::Eight),
+        Some(_) => None,
+    }
 }
 
 /// Does the jobs that are asked for.
@@ -76,6 +89,7 @@ fn done<R: Threads + Wait + Sync + Print + AllocGlobal>(
                 job,
                 asked.size,
                 asked.seed,
+                asked.lanes,
                 asked.devicetree.as_slice(),
             )?;
             let name = job.name();

@@ -6,8 +6,8 @@ use crate::digest::Digest;
 use crate::job::{Job, Shape, Size};
 use crate::manifest::manifest;
 use rim_release::{
-    Files, FreeGate, Release, audit_launches, listing, measure_release, read_manifest, replay,
-    report_alone,
+    Files, Gate, JobId, Lanes, Release, audit_with_gate, listing_or_refusal, measure_release,
+    read_manifest, replay, report_alone,
 };
 use std::alloc::{AllocError, Global};
 use std::sync::Wait;
@@ -28,6 +28,26 @@ impl From<AllocError> for Fault {
     }
 }
 
+/// A gate that does nothing but say how many lanes there are.
+#[derive(Drop)]
+struct LanesGate {
+    lanes: Lanes,
+}
+
+impl Gate for LanesGate {
+    fn before(&self, _worker: usize, _job: JobId) {}
+
+    fn after(&self, _worker: usize, _job: JobId) {}
+
+    fn lets_launches_wait(&self) -> bool {
+        true
+    }
+
+    fn lanes(&self) -> Lanes {
+        self.lanes
+    }
+}
+
 /// How many workers measure, which is the program's default.
 const WORKERS: usize = 4;
 
@@ -38,6 +58,7 @@ pub fn run<R: Threads + Wait + Sync>(
     job: Job,
     size: Size,
     seed: u32,
+    lanes: Lanes,
     devicetree: &[u8],
 ) -> Result<Digest, Fault> {
     let shape = job.shape(size);
@@ -47,13 +68,14 @@ pub fn run<R: Threads + Wait + Sync>(
     if files.len() != release.file_count() {
         return Err(Fault::Refused);
     }
+    let mut gate = LanesGate { lanes };
     let mut found = Digest::EMPTY;
     match job {
-        Job::Audit => audited(alloc, &release, &files, &mut found)?,
-        Job::List => listed(alloc, &release, &files, &mut found)?,
-        Job::Guest => alone(alloc, &release, &files, &mut found)?,
+        Job::Audit => audited(alloc, &gate, &release, &files, &mut found)?,
+        Job::List => listed(alloc, lanes, &release, &files, &mut found)?,
+        Job::Guest => alone(alloc, lanes, &release, &files, &mut found)?,
         Job::Release | Job::Recs | Job::Alike => {
-            measured(rt, alloc, &release, &files, &mut found)?
+            measured(rt, alloc, &mut gate, &release, &files, &mut found)?
         }
     }
     Ok(found)
@@ -76,22 +98,36 @@ fn files(alloc: Global, shape: &Shape, seed: u32, devicetree: &[u8]) -> Result<F
 }
 
 /// The audit of all launches.
-fn audited(alloc: Global, release: &Release, files: &Files, found: &mut Digest) -> Result<(), Fault>
+fn audited(
+    alloc: Global,
+    gate: &LanesGate,
+    release: &Release,
+    files: &Files,
+    found: &mut Digest,
+) -> Result<(), Fault>
     requires { vec_len files.now ≡ length release.now.paths }
 {
-    let report = audit_launches(alloc, release, files).map_err(|_| Fault::NoMemory)?;
+    let report = audit_with_gate(alloc, gate, release, files).map_err(|_| Fault::NoMemory)?;
     found.add(report.text.as_slice());
     Ok(())
 }
 
 /// The listing of each launch, and whether its replay confirms it.
-fn listed(alloc: Global, release: &Release, files: &Files, found: &mut Digest) -> Result<(), Fault>
+fn listed(
+    alloc: Global,
+    lanes: Lanes,
+    release: &Release,
+    files: &Files,
+    found: &mut Digest,
+) -> Result<(), Fault>
     requires { vec_len files.now ≡ length release.now.paths }
 {
     for i in 0..release.launches() {
-        let text = listing(alloc, release, files, i).map_err(|_| Fault::Refused)?;
-        found.add(text.as_slice());
-        if replay(alloc, text.as_slice()).is_err() {
+        let shown = listing_or_refusal(alloc, lanes, release, files, i).map_err(
+            |_| Fault::NoMemory,
+        )?;
+        found.add(shown.text.as_slice());
+        if replay(alloc, shown.text.as_slice()).is_err() {
             return Err(Fault::Refused);
         }
     }
@@ -99,10 +135,16 @@ fn listed(alloc: Global, release: &Release, files: &Files, found: &mut Digest) -
 }
 
 /// The report, made on this thread.
-fn alone(alloc: Global, release: &Release, files: &Files, found: &mut Digest) -> Result<(), Fault>
+fn alone(
+    alloc: Global,
+    lanes: Lanes,
+    release: &Release,
+    files: &Files,
+    found: &mut Digest,
+) -> Result<(), Fault>
     requires { vec_len files.now ≡ length release.now.paths }
 {
-    let report = report_alone(alloc, release, files).map_err(|_| Fault::Refused)?;
+    let report = report_alone(alloc, lanes, release, files).map_err(|_| Fault::Refused)?;
     found.add(report.text.as_slice());
     Ok(())
 }
@@ -111,13 +153,14 @@ fn alone(alloc: Global, release: &Release, files: &Files, found: &mut Digest) ->
 fn measured<R: Threads + Wait + Sync>(
     rt: &R,
     alloc: Global,
+    gate: &mut LanesGate,
     release: &Release,
     files: &Files,
     found: &mut Digest,
 ) -> Result<(), Fault>
     requires { vec_len files.now ≡ length release.now.paths }
 {
-    let outcome = measure_release(rt, alloc, &mut FreeGate, release, files, WORKERS).map_err(
+    let outcome = measure_release(rt, alloc, gate, release, files, WORKERS).map_err(
         |_| Fault::Refused,
     )?;
     found.add(outcome.report.as_slice());

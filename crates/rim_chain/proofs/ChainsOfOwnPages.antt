@@ -1,5 +1,5 @@
 -- A launch's plan, with the digests of the launch's own pages, chains to what a monitor holds.
-use Rattle.std.proofs.Common.{◌≡◌, ℕ, ◌%◌, ◌<◌, ◌∙◌, sym, refl, ap, arith, List, [], ◌∷◌, length, map, get_or}
+use Rattle.std.proofs.Common.{◌≡◌, ℕ, ◌∙◌, sym, refl, ap, List, [], ◌∷◌, map}
 use Rattle.std.specs.Prelude.{Some, Ok}
 use Rattle.std.specs.List.{All, slice_get}
 use Rattle.std.proofs.lemmas.List.Elements.{All-head, All-tail}
@@ -13,7 +13,6 @@ use Rattle.rmm_model.specs.State.{empty_state}
 use Rattle.list_model.specs.Entries.{Entry, commands_of}
 use Rattle.rim_launch.specs.LaunchData.{LaunchData}
 use Rattle.ipa_layout.specs.Layout.{IsPlaced, PlacedData, bytes_of_source}
-use Rattle.ipa_layout.specs.declared.placed.PlacedItem.{PlacedItem}
 use Rattle.ipa_layout.proofs.PlacedLaunchLaws.{lead-low}
 use Rattle.page_jobs.specs.Page.{page_named}
 use Rattle.page_jobs.specs.Table.{IsTable, TableView, digest_at, digest_in, slot_of}

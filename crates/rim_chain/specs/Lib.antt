@@ -6,5 +6,6 @@ pub mod SharedPrefixes
 pub mod Keys
 pub mod Reading
 pub mod Jobs
+pub mod Chains
 pub mod OwnDigests
 pub mod inside

@@ -1,15 +1,14 @@
 //! The work of chaining a launch, and what it gives.
-ghost use Rattle.std.specs.Prelude.{◌≡◌, true, IfSome};
-ghost use Rattle.rim_desc.specs.declared.measurement.Algo.TheVariants as algo;
+ghost use Rattle.std.specs.Prelude.{◌≡◌, IfSome};
 ghost use Rattle.rim_chain.specs.Prefixes.{AreCheckpoints, IsPrefix};
 ghost use Rattle.rim_chain.specs.Links.{chain_of};
 ghost use Rattle.rim_chain.specs.Rows.{IsFilled};
-ghost use Rattle.rim_chain.specs.inside.UnderWay.{chains_to};
+ghost use Rattle.rim_chain.specs.Chains.{chains_to};
 
 use crate::chaining::chain_from;
 use crate::plan::LaunchPlan;
 use crate::prefix::{Checkpoint, Prefix};
-use crate::under_way::{Chain, side_by_side};
+use crate::under_way::LaunchChain;
 use page_jobs::DigestRow;
 use rim_desc::{Algo, Measurement};
 use std::marker::Model;
@@ -105,6 +104,13 @@ impl<'a> LaunchJob<'a> {
         self.number
     }
 
+    /// The algorithm that the launch is measured by.
+    pub fn algo(&self) -> Algo
+        ensures { result ≡ self.now.plan.params.algo }
+    {
+        self.plan.algo()
+    }
+
     /// Chains the launch. It takes no memory.
     pub fn run(self) -> LaunchRim<'a>
         ensures job { result.job ≡ self.entry }
@@ -129,59 +135,16 @@ impl<'a> LaunchJob<'a> {
 }
 
 impl<'a> LaunchJob<'a> {
-    /// Whether the launch can be chained side by side with others: it is by SHA-256, goes on from no prefix and keeps no values.
-    pub fn can_run_with_others(&self) -> bool
-        ensures { result ≡ true → self.now.plan.params.algo ≡ algo.Sha256 }
-    {
-        self.plan.params().algo == Algo::Sha256
-            && self.shared_prefix.is_none()
-            && has_no_checkpoints(&self.checkpoints)
+    /// Whether the launch may be chained side by side with others: it goes on from no prefix and keeps no values.
+    pub fn can_run_with_others(&self) -> bool {
+        self.shared_prefix.is_none() && has_no_checkpoints(&self.checkpoints)
     }
 
-    /// Chains four launches side by side, which takes less than half the time. Prefixes are not gone on from, and no values are
-    /// kept at checkpoints.
-    pub fn run_with(
-        self,
-        b: LaunchJob<'a>,
-        c: LaunchJob<'a>,
-        d: LaunchJob<'a>,
-    ) -> (LaunchRim<'a>, LaunchRim<'a>, LaunchRim<'a>, LaunchRim<'a>)
-        requires first { self.plan.params.algo ≡ algo.Sha256 }
-        requires second { b.plan.params.algo ≡ algo.Sha256 }
-        requires third { c.plan.params.algo ≡ algo.Sha256 }
-        requires fourth { d.plan.params.algo ≡ algo.Sha256 }
-        ensures first { result.0.job ≡ self.entry }
-        ensures second { result.1.job ≡ b.entry }
-        ensures third { result.2.job ≡ c.entry }
-        ensures fourth { result.3.job ≡ d.entry }
+    /// The chain of the launch, of which nothing is done. A prefix is not gone on from, and no values are kept at checkpoints.
+    pub fn chain(&self) -> LaunchChain<'_>
+        ensures { chains_to result ≡ chain_of self.now.plan self.now.row.digests }
     {
-        let parts = (self.parts().min(b.parts())).min(c.parts().min(d.parts()));
-        let (first, second, third, fourth) = side_by_side(
-            self.chain(),
-            b.chain(),
-            c.chain(),
-            d.chain(),
-            parts,
-        );
-        (
-            self.known(first),
-            b.known(second),
-            c.known(third),
-            d.known(fourth),
-        )
-    }
-
-    /// The chain of the launch, of which nothing is done.
-    fn chain(&self) -> Chain<'_>
-        ensures algo { result.algo ≡ self.now.plan.params.algo }
-        ensures value { chains_to result ≡ chain_of self.now.plan self.now.row.digests }
-    {
-        Chain::new(self.plan, &self.row, self.plan.links().len())
-    }
-
-    /// How many parts it has after the realm. It is a measure of the work alone.
-    fn parts(&self) -> u64 {
-        self.plan.parts_after(0)
+        LaunchChain::new(self.plan, &self.row, self.plan.links().len())
     }
 
     /// The launch with its measurement, which is known.

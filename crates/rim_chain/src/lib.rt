@@ -28,3 +28,4 @@ pub use prefix::{Checkpoint, Prefix, SharedPrefix};
 pub use reading::page_key;
 pub use shared_prefixes::SharedPrefixes;
 pub use starting::first_prefixes;
+pub use under_way::{LaunchChain, no_chains, side_by_side};

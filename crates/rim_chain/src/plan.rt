@@ -9,7 +9,7 @@ ghost use Rattle.rim_chain.specs.Fitting.{AreFitting, BeginsItem, IsFitting};
 
 use crate::link::Link;
 use page_jobs::PageKey;
-use rim_desc::{GRANULE_SIZE, RealmParams};
+use rim_desc::{Algo, GRANULE_SIZE, RealmParams};
 use std::cmp::Ordering;
 use std::marker::Model;
 
@@ -82,6 +82,13 @@ impl LaunchPlan {
         ensures { result ≡ self.now.params }
     {
         self.params
+    }
+
+    /// The algorithm that its realm is measured by.
+    pub fn algo(&self) -> Algo
+        ensures { result ≡ self.now.params.algo }
+    {
+        self.params.algo
     }
 
     /// What follows the realm. The pages of a link are the first ones of their item.

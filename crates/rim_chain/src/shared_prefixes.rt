@@ -47,15 +47,18 @@ impl SharedPrefixes {
         })
     }
 
-    /// The launches by SHA-256 that go on from no other, the longest first.
+    /// The launches by an algorithm that go on from no other, the longest first.
     pub(crate) fn starts(
         &self,
         alloc: Global,
         plans: &[LaunchPlan],
+        algo: Algo,
     ) -> Result<Vec<Start>, NoMemory> {
         let mut starts = Vec::with_capacity(alloc, plans.len())?;
         for number in 0..plans.len() {
-            if let Some(start) = self.start(number, &plans[number]) {
+            if plans[number].algo() == algo
+                && let Some(start) = self.start(number, &plans[number])
+            {
                 starts.push(start)?;
             }
         }
@@ -63,9 +66,9 @@ impl SharedPrefixes {
         Ok(starts)
     }
 
-    /// A launch by SHA-256 that goes on from no other, up to where another first parts from it, or all of it.
+    /// A launch that goes on from no other, up to where another first parts from it, or all of it.
     fn start(&self, number: usize, plan: &LaunchPlan) -> Option<Start> {
-        let (Some(None), Algo::Sha256) = (self.shared.get(number), plan.params().algo) else {
+        let Some(None) = self.shared.get(number) else {
             return None;
         };
         let checkpoints = checkpoints_at(self.checkpoints.as_slice(), number)?;

@@ -1,16 +1,22 @@
 //! The prefixes of launches that go on from no other, chained side by side.
-ghost use Rattle.std.specs.Prelude.{◌≡◌, replicate, slice_set, None, Some, IfOk, IfSome};
-ghost use Rattle.rim_chain.specs.SharedPrefixes.{HaveOwnPrefixes, IsOwnPrefix};
-ghost use Rattle.rim_chain.specs.inside.Starts.{IsStart};
+ghost use Rattle.std.specs.Prelude.{◌≡◌, ◌≤◌, length, replicate, slice_set, true, None, Some, IfOk, IfSome};
+ghost use Rattle.rim_desc.specs.declared.measurement.Measurement.{Measurement};
+ghost use Rattle.rim_desc.specs.declared.side_by_side.TheConstants.{MOST_LANES};
+ghost use Rattle.rim_chain.specs.Chains.{ChainView, chains_to};
+ghost use Rattle.rim_chain.specs.SharedPrefixes.{HaveOwnPrefixes};
+ghost use Rattle.rim_chain.specs.inside.Starts.{AreChainsOf, IsChainOf, IsStart};
 
 use crate::plan::LaunchPlan;
 use crate::prefix::Prefix;
 use crate::shared_prefixes::SharedPrefixes;
-use crate::under_way::{Chain, side_by_side};
-use page_jobs::{DigestRow, LANES, Table};
+use crate::under_way::{LaunchChain, no_chains, side_by_side};
+use page_jobs::{DigestRow, Table};
 use refusal::NoMemory;
-use rim_desc::{Algo, Measurement};
+use rim_desc::{Algo, Lanes, MOST_LANES, Measurement};
 use std::alloc::Global;
+
+/// The fewest launches that are chained side by side.
+const FEWEST: usize = 4;
 
 /// A launch that goes on from no other, and its prefix up to where another first parts from it, or all of it.
 #[derive(Clone, Copy, Debug, PartialEq, Eq)]
@@ -21,36 +27,23 @@ pub(crate) struct Start {
     pub parts: u64,
 }
 
-/// Rows for the digests of four launches.
-#[derive(Drop)]
-struct Rows {
-    first: DigestRow,
-    second: DigestRow,
-    third: DigestRow,
-    fourth: DigestRow,
-}
-
-/// For each launch a prefix with its value, or none: the prefix of launches by SHA-256 that go on from no other, in groups
-/// of four, the longest first. The last one to three, and launches of which the table has not all digests, have none.
+/// For each launch a prefix with its value, or none: the prefix of launches that go on from no other, in groups by one
+/// algorithm, the longest first. The last one to three, and launches of which the table has not all digests, have none. So have
+/// those by SHA-512 where the vectors have room for four words alone.
 pub fn first_prefixes(
     alloc: Global,
     table: &Table,
     plans: &[LaunchPlan],
     shared: &SharedPrefixes,
+    lanes: Lanes,
 ) -> Result<Vec<Option<Prefix>>, NoMemory>
     ensures { IfOk result (λ prefixes. HaveOwnPrefixes table.now plans.now prefixes.items) }
 {
     let mut prefixes = no_prefixes(alloc, plans.len())?;
-    let starts = shared.starts(alloc, plans)?;
-    let groups = starts.len() / LANES;
-    if groups == 0 {
-        return Ok(prefixes);
-    }
-    let mut rows = reserve_rows(alloc, room_for(plans, starts.as_slice()))?;
-    for group in 0..groups {
-        let at = LANES * group;
-        let four = [starts[at], starts[at + 1], starts[at + 2], starts[at + 3]];
-        put_four(table, plans, four, &mut rows, &mut prefixes);
+    for algo in [Algo::Sha256, Algo::Sha512] {
+        let starts = shared.starts(alloc, plans, algo)?;
+        let most = lanes.count(algo);
+        add_prefixes(alloc, table, plans, starts.as_slice(), most, &mut prefixes)?;
     }
     Ok(prefixes)
 }
@@ -62,6 +55,44 @@ fn no_prefixes(alloc: Global, launches: usize) -> Result<Vec<Option<Prefix>>, No
     Ok(vec![in alloc; None; launches]?)
 }
 
+/// Adds the prefixes of these launches to the others, in groups of this many at most.
+fn add_prefixes(
+    alloc: Global,
+    table: &Table,
+    plans: &[LaunchPlan],
+    starts: &[Start],
+    most: usize,
+    prefixes: &mut Vec<Option<Prefix>>,
+) -> Result<(), NoMemory>
+    requires { most ≤ MOST_LANES }
+    ensures { HaveOwnPrefixes table.now plans.now prefixes.old.items
+        → HaveOwnPrefixes table.now plans.now prefixes.new.items }
+{
+    let width = group_size(starts.len(), most);
+    if width == 0 {
+        return Ok(());
+    }
+    let mut rows = reserve_rows(alloc, room_for(plans, starts), width)?;
+    let mut left = starts;
+    'groups: for _ in 0..starts.len() {
+        let (group, others) = left.split_at(group_size(left.len(), most));
+        put_group(table, plans, group, rows.as_mut_slice(), prefixes);
+        left = others;
+    }
+    Ok(())
+}
+
+/// How many of the launches that are left are chained side by side, where no more than `most` can be: none where less than four.
+fn group_size(left: usize, most: usize) -> usize
+    ensures left { result ≤ left }
+    ensures most { result ≤ most }
+{
+    if most < FEWEST || left < FEWEST {
+        return 0;
+    }
+    if left < most { FEWEST } else { most }
+}
+
 /// The most measured pages of these launches. It is a measure of the work alone.
 fn room_for(plans: &[LaunchPlan], starts: &[Start]) -> usize {
     let mut most = 0;
@@ -71,35 +102,38 @@ fn room_for(plans: &[LaunchPlan], starts: &[Start]) -> usize {
     most
 }
 
-/// Four rows with room for this many digests each.
-fn reserve_rows(alloc: Global, pages: usize) -> Result<Rows, NoMemory> {
-    Ok(Rows {
-        first: DigestRow::reserve(alloc, pages)?,
-        second: DigestRow::reserve(alloc, pages)?,
-        third: DigestRow::reserve(alloc, pages)?,
-        fourth: DigestRow::reserve(alloc, pages)?,
-    })
+/// This many rows with room for as many digests each as a launch has pages.
+fn reserve_rows(alloc: Global, pages: usize, count: usize) -> Result<Vec<DigestRow>, NoMemory> {
+    let mut rows = Vec::with_capacity(alloc, count)?;
+    for _ in 0..count {
+        rows.push(DigestRow::reserve(alloc, pages)?)?;
+    }
+    Ok(rows)
 }
 
-/// Puts the prefixes of four launches among the others, where all their digests are in the table.
-fn put_four(
+/// Puts the prefixes of some launches among the others, where all their digests are in the table.
+fn put_group(
     table: &Table,
     plans: &[LaunchPlan],
-    starts: [Start; LANES],
-    rows: &mut Rows,
+    starts: &[Start],
+    rows: &mut [DigestRow],
     prefixes: &mut Vec<Option<Prefix>>,
 )
+    requires { length starts.now ≤ MOST_LANES }
     ensures { HaveOwnPrefixes table.now plans.now prefixes.old.items
         → HaveOwnPrefixes table.now plans.now prefixes.new.items }
 {
-    let [a, b, c, d] = starts;
-    let Some((p, q, r, s)) = chain_four(table, plans, a, b, c, d, rows) else {
+    let mut chains = no_chains();
+    let chains = &mut chains[..starts.len()];
+    if !begin_each(table, plans, starts, rows, chains) {
         return;
-    };
-    put(prefixes, a, p);
-    put(prefixes, b, q);
-    put(prefixes, c, r);
-    put(prefixes, d, s);
+    }
+    let mut values = [Measurement { bytes: [0; 64] }; MOST_LANES];
+    let values = &mut values[..starts.len()];
+    side_by_side(chains, values);
+    for i in 0..starts.len() {
+        put(prefixes, starts[i], values[i]);
+    }
 }
 
 /// Puts the prefix of a launch among the others.
@@ -114,39 +148,46 @@ fn put(prefixes: &mut Vec<Option<Prefix>>, start: Start, value: Measurement)
     }
 }
 
-/// What the prefixes of four launches chain to, where all their digests are in the table.
-fn chain_four(
+/// Writes the chains of the prefixes of some launches, whose digests are put in rows. False where there is no row for one, or
+/// not all its digests are in the table.
+fn begin_each<'r>(
     table: &Table,
-    plans: &[LaunchPlan],
-    a: Start,
-    b: Start,
-    c: Start,
-    d: Start,
-    rows: &mut Rows,
-) -> Option<(Measurement, Measurement, Measurement, Measurement)>
-    ensures first { IfSome result
-        (λ r. IsOwnPrefix table.now plans.now a.number (record { links = a.links; value = r.0 })) }
-    ensures second { IfSome result
-        (λ r. IsOwnPrefix table.now plans.now b.number (record { links = b.links; value = r.1 })) }
-    ensures third { IfSome result
-        (λ r. IsOwnPrefix table.now plans.now c.number (record { links = c.links; value = r.2 })) }
-    ensures fourth { IfSome result
-        (λ r. IsOwnPrefix table.now plans.now d.number (record { links = d.links; value = r.3 })) }
+    plans: &'r [LaunchPlan],
+    starts: &[Start],
+    rows: &'r mut [DigestRow],
+    chains: &mut [LaunchChain<'r>],
+) -> bool
+    requires { length chains.old ≡ length starts.now }
+    ensures size { length chains.new ≡ length chains.old }
+    ensures chains { result ≡ true → AreChainsOf table.now plans.now starts.now chains.new }
 {
-    let first = filled(table, plans, a, &mut rows.first)?;
-    let second = filled(table, plans, b, &mut rows.second)?;
-    let third = filled(table, plans, c, &mut rows.third)?;
-    let fourth = filled(table, plans, d, &mut rows.fourth)?;
-    Some(side_by_side(
-        Chain::new(first, &rows.first, a.links),
-        Chain::new(second, &rows.second, b.links),
-        Chain::new(third, &rows.third, c.links),
-        Chain::new(fourth, &rows.fourth, d.links),
-        d.parts,
-    ))
+    let mut rows = rows.iter_mut();
+    for i in 0..starts.len() {
+        let Some(row) = rows.next() else {
+            return false;
+        };
+        let Some(chain) = begun(table, plans, starts[i], row) else {
+            return false;
+        };
+        chains[i] = chain;
+    }
+    true
 }
 
-/// The plan of a launch by SHA-256, and its digests in a row, where the table has them all and the row has room for them.
+/// The chain of the prefix of a launch, whose digests are put in a row.
+fn begun<'r>(
+    table: &Table,
+    plans: &'r [LaunchPlan],
+    start: Start,
+    row: &'r mut DigestRow,
+) -> Option<LaunchChain<'r>>
+    ensures { IfSome result (λ chain. IsChainOf table.now plans.now start chain) }
+{
+    let plan = filled(table, plans, start, row)?;
+    Some(LaunchChain::new(plan, row, start.links))
+}
+
+/// The plan of a launch, and its digests in a row, where the table has them all and the row has room for them.
 fn filled<'a>(
     table: &Table,
     plans: &'a [LaunchPlan],
@@ -156,9 +197,9 @@ fn filled<'a>(
     ensures { IfSome result (λ plan. IsStart table.now plans.now start plan.now row.new.digests) }
 {
     let plan = plans.get(start.number)?;
-    let is_chained = plan.params().algo == Algo::Sha256 && start.links <= plan.links().len();
     row.truncate(0);
-    if !is_chained || row.room() < plan.pages() || !plan.fill_row(table, row) {
+    let is_long = start.links <= plan.links().len();
+    if !is_long || row.room() < plan.pages() || !plan.fill_row(table, row) {
         return None;
     }
     Some(plan)

@@ -1,21 +1,23 @@
-//! Chains that are under way, part by part, and four of them side by side.
-ghost use Rattle.std.specs.Prelude.{◌≡◌, ◌≤◌, length};
+//! Chains that are under way, part by part, and some of them side by side.
+ghost use Rattle.std.specs.Prelude.{◌≡◌, ◌≤◌, length, map, true, false, IfSome};
 ghost use Rattle.std.specs.List.{All};
+ghost use Rattle.rim_desc.specs.Measurement.{measurement_of};
 ghost use Rattle.rim_desc.specs.Part.{extended_by};
-ghost use Rattle.rim_desc.specs.declared.measurement.Algo.TheVariants as algo;
+ghost use Rattle.rim_desc.specs.declared.side_by_side.TheConstants.{MOST_LANES};
 ghost use Rattle.rim_chain.specs.Fitting.{IsFitting};
 ghost use Rattle.rim_chain.specs.Prefixes.{prefix_value};
 ghost use Rattle.rim_chain.specs.Links.{keys_of, parts_with};
 ghost use Rattle.rim_chain.specs.Rows.{IsFilled};
-ghost use Rattle.rim_chain.specs.inside.UnderWay.{IsNext, chains_to, goes_on_to};
+ghost use Rattle.rim_chain.specs.Chains.{chains_to};
+ghost use Rattle.rim_chain.specs.inside.UnderWay.{AreSet, HaveGoneOn, HaveTaken, set_to};
 
 use crate::chaining::{extended_by_link, realm_value};
 use crate::link::Link;
 use crate::plan::{LaunchPlan, page_count, part_count};
 use page_jobs::DigestRow;
 use rim_desc::{
-    Algo, DESCRIPTOR_SIZE, GRANULE_SIZE, Measurement, data_descriptor, extend, extend_four,
-    rec_descriptor, ripas_descriptor,
+    Algo, DESCRIPTOR_SIZE, GRANULE_SIZE, MOST_LANES, Measurement, data_descriptor, extend,
+    extend_each, rec_descriptor, ripas_descriptor,
 };
 use std::marker::Model;
 
@@ -24,7 +26,7 @@ const NONE_LEFT: Link = Link::Unmeasured { ipa: 0, count: 0 };
 
 /// A measurement, and the parts that it is still to be extended by.
 #[derive(Drop)]
-pub(crate) struct Chain<'a> {
+pub struct LaunchChain<'a> {
     algo: Algo,
     value: Measurement,
     /// What is left of a link.
@@ -33,12 +35,15 @@ pub(crate) struct Chain<'a> {
     links: &'a [Link],
     /// The digests of the pages of them all.
     digests: &'a [Measurement],
+    /// How many parts are left. It is a measure of the work alone.
+    parts: u64,
 }
 
-impl<'a> Model for Chain<'a> {
+impl<'a> Model for LaunchChain<'a> {
     ghost use Rattle.std.specs.Prelude.{◌∷◌};
     ghost use Rattle.rim_chain.specs.Links.{parts_with};
-    ghost use Rattle.rim_chain.specs.inside.UnderWay.{AreLeft, ChainView};
+    ghost use Rattle.rim_chain.specs.Chains.{ChainView};
+    ghost use Rattle.rim_chain.specs.inside.UnderWay.{AreLeft};
 
     ghost Value = { ChainView };
 
@@ -51,30 +56,70 @@ impl<'a> Model for Chain<'a> {
     ghost invariant = { λ c. AreLeft (c.rest ∷ c.links.now) c.digests.now };
 }
 
-impl<'a> Chain<'a> {
+/// Chains without parts.
+pub fn no_chains<'a>() -> [LaunchChain<'a>; MOST_LANES] {
+    [
+        LaunchChain::none(),
+        LaunchChain::none(),
+        LaunchChain::none(),
+        LaunchChain::none(),
+        LaunchChain::none(),
+        LaunchChain::none(),
+        LaunchChain::none(),
+        LaunchChain::none(),
+    ]
+}
+
+impl<'a> LaunchChain<'a> {
+    /// A chain without parts.
+    fn none() -> LaunchChain<'a> {
+        LaunchChain {
+            algo: Algo::Sha256,
+            value: Measurement { bytes: [0; 64] },
+            rest: NONE_LEFT,
+            links: &[],
+            digests: &[],
+            parts: 0,
+        }
+    }
+
     /// The chain of a plan's realm and first links, where the plan's pages have the digests of a row.
-    pub(crate) fn new(plan: &'a LaunchPlan, row: &'a DigestRow, links: usize) -> Chain<'a>
+    pub(crate) fn new(plan: &'a LaunchPlan, row: &'a DigestRow, links: usize) -> LaunchChain<'a>
         requires filled { IsFilled plan.now row.now.digests }
         requires links { links ≤ length plan.now.links }
-        ensures algo { result.algo ≡ plan.entry.now.params.algo }
-        ensures value { chains_to result ≡ prefix_value links plan.entry.now row.entry.now.digests }
+        ensures { chains_to result ≡ prefix_value links plan.entry.now row.entry.now.digests }
     {
+        let parts = plan.parts_before(links);
         let pages = plan.pages_before(links);
         let (links, _) = plan.links().split_at(links);
         let (digests, _) = row.digests().split_at(pages);
-        Chain {
+        LaunchChain {
             algo: plan.params().algo,
             value: realm_value(plan),
             rest: NONE_LEFT,
             links,
             digests,
+            parts,
         }
     }
 
-    /// The descriptor of the next part, which is taken from those that are left; or none where no part is left.
-    fn next(&mut self) -> Option<[u8; DESCRIPTOR_SIZE]>
+    fn algo(&self) -> Algo
+        ensures { result ≡ self.now.algo }
+    {
+        self.algo
+    }
+
+    fn parts(&self) -> u64 {
+        self.parts
+    }
+
+    /// Takes the next part from those that are left, and writes its descriptor. False where no part is left.
+    fn next(&mut self, descriptor: &mut [u8; DESCRIPTOR_SIZE]) -> bool
         ensures algo { self.new.algo ≡ self.old.algo }
-        ensures value { goes_on_to self.new result ≡ chains_to self.old }
+        ensures taken { result ≡ true
+            → chains_to (set_to self.new (measurement_of self.new.algo descriptor.new))
+            ≡ chains_to self.old }
+        ensures none { result ≡ false → chains_to self.new ≡ chains_to self.old }
     {
         self.take_link();
         match self.rest {
@@ -86,30 +131,36 @@ impl<'a> Chain<'a> {
                     size,
                     count,
                 };
-                Some(ripas_descriptor(&self.value, base, top))
+                *descriptor = ripas_descriptor(&self.value, base, top);
+                true
             }
             Link::Pages { ipa, key, count } if count > 0 => {
-                let (digest, digests) = self.digests.split_first()?;
+                let Some((digest, digests)) = self.digests.split_first() else {
+                    return false;
+                };
                 self.rest = Link::Pages {
                     ipa: ipa + GRANULE_SIZE,
                     key,
                     count: count - 1,
                 };
                 self.digests = digests;
-                Some(data_descriptor(&self.value, ipa, Some(digest)))
+                *descriptor = data_descriptor(&self.value, ipa, Some(digest));
+                true
             }
             Link::Unmeasured { ipa, count } if count > 0 => {
                 self.rest = Link::Unmeasured {
                     ipa: ipa + GRANULE_SIZE,
                     count: count - 1,
                 };
-                Some(data_descriptor(&self.value, ipa, None))
+                *descriptor = data_descriptor(&self.value, ipa, None);
+                true
             }
             Link::Rec { content } => {
                 self.rest = NONE_LEFT;
-                Some(rec_descriptor(&self.value, &content))
+                *descriptor = rec_descriptor(&self.value, &content);
+                true
             }
-            _ => None,
+            _ => false,
         }
     }
 
@@ -127,38 +178,21 @@ impl<'a> Chain<'a> {
     }
 
     /// Puts the measurement in the place of the one before it.
-    fn set(&mut self, value: Measurement)
-        ensures { self.new ≡ record self.old { value = value.bytes } }
+    fn set(&mut self, value: &Measurement)
+        ensures { self.new ≡ set_to self.old value.now.bytes }
     {
-        self.value = value;
-    }
-
-    /// Extends the measurement by a descriptor, if there is one.
-    fn go_on(&mut self, next: Option<[u8; DESCRIPTOR_SIZE]>)
-        ensures algo { self.new.algo ≡ self.old.algo }
-        ensures value { chains_to self.new ≡ goes_on_to self.old next }
-    {
-        if let Some(descriptor) = next {
-            self.value = extend(self.algo, &descriptor);
-        }
+        self.value = *value;
     }
 
     /// The measurement after all the parts that are left.
-    fn finished(self) -> Measurement
-        ensures { result.bytes ≡ chains_to self.entry }
+    fn finished(&self) -> Measurement
+        ensures { result.bytes ≡ chains_to self.now }
     {
-        let Chain {
-            algo,
-            value,
-            rest,
-            links,
-            digests,
-        } = self;
-        let (own, others) = digests.split_at(page_count(&rest) as usize);
+        let (own, others) = self.digests.split_at(page_count(&self.rest) as usize);
         extended_by_links(
-            algo,
-            extended_by_link(algo, value, &rest, own),
-            links,
+            self.algo,
+            extended_by_link(self.algo, self.value, &self.rest, own),
+            self.links,
             others,
         )
     }
@@ -185,59 +219,130 @@ fn extended_by_links(
     rim
 }
 
-/// What four chains by SHA-256 come to. The next parts of all four are hashed side by side, `parts` times at most and no
-/// longer than each has one, so `parts` should be the number of parts of the shortest.
-pub(crate) fn side_by_side(
-    a: Chain,
-    b: Chain,
-    c: Chain,
-    d: Chain,
-    parts: u64,
-) -> (Measurement, Measurement, Measurement, Measurement)
-    requires first { a.algo ≡ algo.Sha256 }
-    requires second { b.algo ≡ algo.Sha256 }
-    requires third { c.algo ≡ algo.Sha256 }
-    requires fourth { d.algo ≡ algo.Sha256 }
-    ensures first { result.0.bytes ≡ chains_to a.entry }
-    ensures second { result.1.bytes ≡ chains_to b.entry }
-    ensures third { result.2.bytes ≡ chains_to c.entry }
-    ensures fourth { result.3.bytes ≡ chains_to d.entry }
+/// Writes what chains come to. Where all have one algorithm their next parts are hashed side by side, as long as each has one;
+/// what is then left of each, one after another. Four are quick, and eight by SHA-256.
+pub fn side_by_side(chains: &mut [LaunchChain], values: &mut [Measurement])
+    requires few { length chains.old ≤ MOST_LANES }
+    requires values { length values.old ≡ length chains.old }
+    ensures { map (λ m. m.bytes) values.new ≡ map chains_to chains.old }
 {
-    let (mut a, mut b, mut c, mut d) = (a, b, c, d);
-    for _ in 0..parts {
-        if !extend_each(&mut a, &mut b, &mut c, &mut d) {
+    if let Some(algo) = common_algo(chains) {
+        go_on_together(algo, chains, values);
+    }
+    finish_each(chains, values);
+}
+
+/// The algorithm of chains that have one in common.
+fn common_algo(chains: &[LaunchChain]) -> Option<Algo>
+    ensures { IfSome result (λ algo. All (λ c. c.algo ≡ algo) chains.now) }
+{
+    let algo = chains.first()?.algo();
+    for i in 0..chains.len() {
+        if chains[i].algo() != algo {
+            return None;
+        }
+    }
+    Some(algo)
+}
+
+/// How many parts each of some chains has at least. It is a measure of the work alone.
+fn fewest_parts(chains: &[LaunchChain]) -> u64 {
+    let mut parts = u64::MAX;
+    for i in 0..chains.len() {
+        parts = parts.min(chains[i].parts());
+    }
+    parts
+}
+
+/// Extends the measurements of chains by one algorithm by their next parts, as long as each has one. The values are written over.
+fn go_on_together(algo: Algo, chains: &mut [LaunchChain], values: &mut [Measurement])
+    requires few { length chains.old ≤ MOST_LANES }
+    requires values { length values.old ≡ length chains.old }
+    requires algo { All (λ c. c.algo ≡ algo) chains.old }
+    ensures chains { HaveGoneOn chains.old chains.new }
+    ensures values { length values.new ≡ length values.old }
+{
+    let mut descriptors = [[0; DESCRIPTOR_SIZE]; MOST_LANES];
+    let descriptors = &mut descriptors[..chains.len()];
+    'parts: for _ in 0..fewest_parts(chains) {
+        if !extend_next(algo, chains, descriptors, values) {
             break;
         }
     }
-    (a.finished(), b.finished(), c.finished(), d.finished())
 }
 
-/// Extends four measurements by the next part of each. Answers whether each had one.
-fn extend_each(a: &mut Chain, b: &mut Chain, c: &mut Chain, d: &mut Chain) -> bool
-    requires first { a.old.algo ≡ algo.Sha256 }
-    requires second { b.old.algo ≡ algo.Sha256 }
-    requires third { c.old.algo ≡ algo.Sha256 }
-    requires fourth { d.old.algo ≡ algo.Sha256 }
-    ensures first { IsNext a.old a.new }
-    ensures second { IsNext b.old b.new }
-    ensures third { IsNext c.old c.new }
-    ensures fourth { IsNext d.old d.new }
+/// Extends each measurement by the next part of its chain. Answers whether each had one.
+fn extend_next(
+    algo: Algo,
+    chains: &mut [LaunchChain],
+    descriptors: &mut [[u8; DESCRIPTOR_SIZE]],
+    values: &mut [Measurement],
+) -> bool
+    requires descriptors { length descriptors.old ≡ length chains.old }
+    requires values { length values.old ≡ length chains.old }
+    requires algo { All (λ c. c.algo ≡ algo) chains.old }
+    ensures chains { HaveGoneOn chains.old chains.new }
+    ensures values { length values.new ≡ length values.old }
+    ensures descriptors { length descriptors.new ≡ length descriptors.old }
 {
-    match (a.next(), b.next(), c.next(), d.next()) {
-        (Some(p), Some(q), Some(r), Some(s)) => {
-            let (p, q, r, s) = extend_four(&p, &q, &r, &s);
-            a.set(p);
-            b.set(q);
-            c.set(r);
-            d.set(s);
-            true
+    let taken = take_next(chains, descriptors);
+    if taken < chains.len() {
+        extend_first(algo, chains, descriptors, taken);
+        return false;
+    }
+    extend_each(algo, descriptors, values);
+    set_each(chains, values);
+    true
+}
+
+/// Takes the next part of each chain and writes its descriptor, up to the first one that has none left. Answers how many were
+/// taken.
+fn take_next(chains: &mut [LaunchChain], descriptors: &mut [[u8; DESCRIPTOR_SIZE]]) -> usize
+    requires { length descriptors.old ≡ length chains.old }
+    ensures within { result ≤ length chains.old }
+    ensures taken { HaveTaken result chains.old chains.new descriptors.new }
+    ensures descriptors { length descriptors.new ≡ length descriptors.old }
+{
+    'each: for i in 0..chains.len() {
+        if !chains[i].next(&mut descriptors[i]) {
+            return i;
         }
-        (p, q, r, s) => {
-            a.go_on(p);
-            b.go_on(q);
-            c.go_on(r);
-            d.go_on(s);
-            false
-        }
+    }
+    chains.len()
+}
+
+/// Puts the measurements of chains in the places of those before them.
+fn set_each(chains: &mut [LaunchChain], values: &[Measurement])
+    requires { length values.now ≡ length chains.old }
+    ensures { AreSet (length chains.old) chains.old chains.new (map (λ m. m.bytes) values.now) }
+{
+    'each: for i in 0..chains.len() {
+        chains[i].set(&values[i]);
+    }
+}
+
+/// Extends the measurements of the first chains, of which the next part was taken, by its descriptor.
+fn extend_first(
+    algo: Algo,
+    chains: &mut [LaunchChain],
+    descriptors: &[[u8; DESCRIPTOR_SIZE]],
+    taken: usize,
+)
+    requires taken { taken ≤ length chains.old }
+    requires descriptors { length descriptors.now ≡ length chains.old }
+    ensures { AreSet taken chains.old chains.new (map (measurement_of algo) descriptors.now) }
+{
+    'each: for i in 0..taken {
+        chains[i].set(&extend(algo, &descriptors[i]));
+    }
+}
+
+/// Writes what chains come to, one after another.
+fn finish_each(chains: &[LaunchChain], values: &mut [Measurement])
+    requires { length values.old ≡ length chains.now }
+    ensures { map (λ m. m.bytes) values.new ≡ map chains_to chains.now }
+{
+    'each: for i in 0..chains.len() {
+        values[i] = chains[i].finished();
     }
 }

@@ -18,7 +18,7 @@ use crate::mapping::map;
 use crate::replaying::replay;
 use crate::words::{Format, Request};
 use rim_release::{
-    Files, Gate, Outcome, Release, Report, StartFault, audit_with_gate, json_report,
+    Files, Gate, Lanes, Outcome, Release, Report, StartFault, audit_with_gate, json_report,
     listing_or_refusal, measure_release, placed_devicetree, read_manifest, show_fdt, show_image,
     trace_or_refusal,
 };
@@ -55,8 +55,10 @@ pub fn answer_to<R: Threads + Wait + Sync, G: Gate + Sync, O: Opener>(
             workers,
             format,
         } => measure(rt, alloc, gate, opener, manifest, workers, format),
-        Request::List { manifest, launch } => list(alloc, opener, manifest, launch),
-        Request::Trace { manifest, launch } => trace(alloc, opener, manifest, launch),
+        Request::List { manifest, launch } => list(alloc, gate.lanes(), opener, manifest, launch),
+        Request::Trace { manifest, launch } => {
+            trace(alloc, gate.lanes(), opener, manifest, launch)
+        }
         Request::Map {
             manifest,
             launch,
@@ -137,7 +139,13 @@ fn report<R: Threads + Wait + Sync, G: Gate + Sync>(
 }
 
 /// The listing of a manifest's launch, or its line where it is refused.
-fn list<O: Opener>(alloc: Global, opener: &mut O, path: &str, launch: &str) -> Result<Answer, Fault>
+fn list<O: Opener>(
+    alloc: Global,
+    lanes: Lanes,
+    opener: &mut O,
+    path: &str,
+    launch: &str,
+) -> Result<Answer, Fault>
     ensures answered { IfOk result (λ a. IfFile (O.held opener.old path.now) (λ bytes. IsOkAnd
         (manifest_of bytes)
         (λ r. IsListing (O.held opener.old) r launch.now a.text.items a.status))) }
@@ -146,7 +154,7 @@ fn list<O: Opener>(alloc: Global, opener: &mut O, path: &str, launch: &str) -> R
     ensures status { IfOk result (λ a. a.status ≤ 1) }
 {
     let found = read_launch(alloc, opener, path, launch)?;
-    match listing_or_refusal(alloc, &found.release, &found.files, found.number) {
+    match listing_or_refusal(alloc, lanes, &found.release, &found.files, found.number) {
         Ok(report) => Ok(answer_of(report)),
         Err(_) => Err(Fault::NoMemory),
     }
@@ -155,6 +163,7 @@ fn list<O: Opener>(alloc: Global, opener: &mut O, path: &str, launch: &str) -> R
 /// The trace of a manifest's launch, or its line where it is refused.
 fn trace<O: Opener>(
     alloc: Global,
+    lanes: Lanes,
     opener: &mut O,
     path: &str,
     launch: &str,
@@ -167,7 +176,7 @@ fn trace<O: Opener>(
     ensures status { IfOk result (λ a. a.status ≤ 1) }
 {
     let found = read_launch(alloc, opener, path, launch)?;
-    match trace_or_refusal(alloc, &found.release, &found.files, found.number) {
+    match trace_or_refusal(alloc, lanes, &found.release, &found.files, found.number) {
         Ok(report) => Ok(answer_of(report)),
         Err(_) => Err(Fault::NoMemory),
     }

@@ -2,10 +2,9 @@
 ghost use Rattle.std.specs.Prelude.{◌≡◌, ◌++◌};
 ghost use Rattle.rim_desc.specs.Measurement.{algo_word, measurement_of};
 ghost use Rattle.rim_desc.specs.Page.{zeros};
-ghost use Rattle.rim_desc.specs.declared.measurement.Algo.TheVariants as algo;
 
 use crate::descriptor::DESCRIPTOR_SIZE;
-use rim_sha::{sha256_descriptor, sha256_descriptors, sha512_descriptor};
+use rim_sha::{sha256_descriptor, sha512_descriptor};
 use sha2::{Digest, Sha256, Sha512};
 
 /// The hash algorithm of a realm (DEN0137, RmiHashAlgorithm).
@@ -69,25 +68,4 @@ pub fn extend(algo: Algo, descriptor: &[u8; DESCRIPTOR_SIZE]) -> Measurement
             bytes: sha512_descriptor(descriptor),
         },
     }
-}
-
-/// Four Realm Initial Measurements by SHA-256, each extended by a descriptor, which holds the present one.
-pub fn extend_four(
-    a: &[u8; DESCRIPTOR_SIZE],
-    b: &[u8; DESCRIPTOR_SIZE],
-    c: &[u8; DESCRIPTOR_SIZE],
-    d: &[u8; DESCRIPTOR_SIZE],
-) -> (Measurement, Measurement, Measurement, Measurement)
-    ensures first { result.0.bytes ≡ measurement_of algo.Sha256 a.now }
-    ensures second { result.1.bytes ≡ measurement_of algo.Sha256 b.now }
-    ensures third { result.2.bytes ≡ measurement_of algo.Sha256 c.now }
-    ensures fourth { result.3.bytes ≡ measurement_of algo.Sha256 d.now }
-{
-    let [a, b, c, d] = sha256_descriptors(a, b, c, d);
-    (
-        Measurement::of_sha256(a),
-        Measurement::of_sha256(b),
-        Measurement::of_sha256(c),
-        Measurement::of_sha256(d),
-    )
 }

@@ -11,6 +11,7 @@ pub use rim_audit::{
     a_trace_shows_what_a_monitor_holds, audit, audit_launches, audit_report, audit_with_gate,
     listing, listing_or_refusal, trace_or_refusal,
 };
+pub use rim_desc::Lanes;
 pub use rim_launch::{Config, Launch};
 pub use rim_manifest::{ManifestFault, NamedLaunch, Release, read_manifest};
 pub use rim_replay::{ReplayFault, refused_kind, replay};

@@ -9,12 +9,14 @@ ghost use Rattle.rim_chain.specs.SharedPrefixes.{AreShared, IsOwnPrefix, IsValue
 use page_jobs::{DigestRow, Table};
 use refusal::NoMemory;
 use rim_chain::{LaunchPlan, Prefix, SharedPrefixes, chain_from, first_prefixes, most_pages};
-use rim_desc::Measurement;
+use rim_desc::{Lanes, Measurement};
 use std::alloc::Global;
 
 /// The Realm Initial Measurements of launches by their plans, where a table has the digests of all their pages.
+/// First prefixes go side by side in as many lanes.
 pub fn chains(
     alloc: Global,
+    lanes: Lanes,
     table: &Table,
     plans: &[LaunchPlan],
 ) -> Result<Vec<Measurement>, NoMemory>
@@ -24,7 +26,7 @@ pub fn chains(
 {
     let mut row = DigestRow::reserve(alloc, most_pages(plans))?;
     let mut prefixes = SharedPrefixes::new(alloc, plans)?;
-    let firsts = first_prefixes(alloc, table, plans, &prefixes)?;
+    let firsts = first_prefixes(alloc, table, plans, &prefixes, lanes)?;
     let mut rims = Vec::with_capacity(alloc, plans.len())?;
     for number in 0..plans.len() {
         let plan = &plans[number];

@@ -13,6 +13,7 @@ use crate::pages::pages;
 use crate::plans::accepted_plans;
 use crate::report::report;
 use rim_accepted::{Files, Report, accept_all, has_refused};
+use rim_desc::Lanes;
 use rim_manifest::Release;
 use std::alloc::Global;
 
@@ -24,12 +25,17 @@ pub fn measure_alone(alloc: Global, release: &Release, files: &Files) -> Result<
     ensures { Answers StartFault.NoMemory (λ text. text.items) result
         (measured_of (bytes_of_files files.now.items) release.now.launches) }
 {
-    let report = report_alone(alloc, release, files)?;
+    let report = report_alone(alloc, Lanes::Four, release, files)?;
     Ok(report.text)
 }
 
-/// The same report, and whether some launch in it is refused.
-pub fn report_alone(alloc: Global, release: &Release, files: &Files) -> Result<Report, StartFault>
+/// The same report, and whether some launch in it is refused. Pages and launches go side by side in as many lanes.
+pub fn report_alone(
+    alloc: Global,
+    lanes: Lanes,
+    release: &Release,
+    files: &Files,
+) -> Result<Report, StartFault>
     requires { vec_len files.now ≡ length release.now.paths }
     ensures text { Answers StartFault.NoMemory (λ r. r.text.items) result
         (measured_of (bytes_of_files files.now.items) release.now.launches) }
@@ -39,8 +45,8 @@ pub fn report_alone(alloc: Global, release: &Release, files: &Files) -> Result<R
     let accepted = accept_all(alloc, release, files)?;
     let plans = accepted_plans(alloc, &accepted)?;
     let pages = pages(alloc, &accepted)?;
-    let table = hashed(alloc, &pages)?;
-    let rims = chains(alloc, &table, &plans)?;
+    let table = hashed(alloc, lanes, &pages)?;
+    let rims = chains(alloc, lanes, &table, &plans)?;
     let mut outcomes = unknown_outcomes(alloc, accepted.outcomes())?;
     set_rims(&mut outcomes, &rims);
     let text = report(alloc, accepted.launches(), &outcomes, pages.len())?;

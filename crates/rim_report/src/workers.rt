@@ -140,7 +140,8 @@ fn run<'a, L: Run + Send + Sync, G: Gate + Sync, R: Threads + Wait + Sync>(
 {
     let mut counts = vec![in alloc; 0; workers]?;
     let table = Table::reserve(alloc, pages)?;
-    let (state, shares) = BoardState::<L>::new(alloc, blank, workers, table, plans)?;
+    let lanes = gate.lanes();
+    let (state, shares) = BoardState::<L>::with_lanes(alloc, blank, workers, table, plans, lanes)?;
     let board = Board::new(state);
     gate.begin(pages.len(), plans.len());
     let tally = run_workers(

@@ -2,9 +2,9 @@ pub mod Rotations
 pub mod ChMaj
 pub mod KnownBlocks
 pub mod Messages
-pub mod Vectors
-pub mod FourMessages
+pub mod LaneByLane
 pub mod Pairs
 pub mod WideSchedule
 pub mod WideMessages
+pub mod WideKnownBlocks
 pub mod TwoBlocks

@@ -1,6 +1,6 @@
 -- Messages of whole blocks, and those whose last two blocks are zero.
 use Rattle.std.proofs.Common.{◌≡◌, ℕ, ◌+◌, ◌*◌, ◌/◌, ◌%◌, ◌≤◌, List, ◌++◌, length, take, drop, replicate, refl, sym, ap, ◌∙◌, arith, length-append, length-drop}
-use Rattle.std.proofs.lemmas.List.{drop-append-le, drop-drop, drop_all, take-append-le, take_all}
+use Rattle.std.proofs.lemmas.List.{drop-append-le, drop-drop, drop-take, drop_all, length-take-le, take-append-le, take-take, take_all}
 use Rattle.sha2.specs.Sha256.{compress, final_hash, hash_after, padding}
 use Rattle.sha2.proofs.Absorbing256.{hash_after-append, hash_after_next}
 
@@ -56,9 +56,22 @@ module _ (ini m : List ℕ) (long : length m ≡ 128) where
       let second : take 64 (drop 64 whole) ≡ drop 64 m = head_block 64 (omega arith) ∙ take_all 64 (drop 64 m) (omega (arith, length-drop 64 m)) in
       let third : take 64 (drop 128 whole) ≡ replicate 64 0 = ap (take 64) tail_from in
       let fourth : take 64 (drop 192 whole) ≡ replicate 64 0 = ap (take 64) (sym (drop-drop 64 128 whole) ∙ ap (drop 64) tail_from) in
-      let h1 : compress ini (take 64 m) ≡ hash_after ini whole 1 = ap (λ (h : List ℕ). compress h (take 64 m)) (sym hash_none) ∙ block 0 (take 64 m) (head_block 0 (omega arith)) in
+      let h1 : compress ini (take 64 m) ≡ hash_after ini whole 1 = ap (λ (h : List ℕ). compress h (take 64 m)) (sym hash_none)
+      ∙ block 0 (take 64 m) (head_block 0 (omega arith)) in
       let count : 4 ≡ length whole / 64 = omega arith in
       let last : compress (hash_after ini whole 4) (padding 256) ≡ final_hash ini whole =
       ap (λ (n : ℕ). compress (hash_after ini whole n) (padding 256)) count
       ∙ ap (λ (n : ℕ). compress (hash_after ini whole (length whole / 64)) (padding n)) (sym size) ∙ hash_padded ini whole (omega arith) in
       rw (h1, block 1 (drop 64 m) second, block 2 (replicate 64 0) third, block 3 (replicate 64 0) fourth) last
+
+-- the hash value of a descriptor whose last 128 bytes are zero
+pub hash_of_headed : (ini d : List ℕ) → d ≡ take 128 d ++ replicate 128 0
+    → compress (compress (compress (compress (compress ini (take 64 d)) (take 64 (drop 64 d))) (replicate 64 0)) (replicate 64 0)) (padding 256) ≡
+    final_hash ini d
+hash_of_headed ini d e =
+    let head : List ℕ = take 128 d in
+    let size : length d ≡ length head + 128 = ap length e ∙ length-append head (replicate 128 0) in
+    let long : length head ≡ 128 = length-take-le 128 d (omega arith) in
+    let first : take 64 head ≡ take 64 d = take-take 64 128 d (omega arith) in
+    let second : drop 64 head ≡ take 64 (drop 64 d) = drop-take 64 64 d in
+    rw (← first, ← second) (hash_headed ini head long) ∙ ap (final_hash ini) (sym e)

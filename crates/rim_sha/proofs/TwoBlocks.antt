@@ -99,5 +99,6 @@ window_start b w k lt win =
     rw (m, d) at (win.1 k lt)
 
 -- the same place, spelled another way
-pub IsScheduledTo_at : (l r : ℕ) (b : List ℕ) (w : List (List ℕ)) (sums : List ℕ) (n k : ℕ) → n ≡ k → IsScheduledTo l r b w sums n → IsScheduledTo l r b w sums k
+pub IsScheduledTo_at : (l r : ℕ) (b : List ℕ) (w : List (List ℕ)) (sums : List ℕ) (n k : ℕ) → n ≡ k → IsScheduledTo l r b w sums n
+    → IsScheduledTo l r b w sums k
 IsScheduledTo_at l r b w sums n k e held = rw (← e) held

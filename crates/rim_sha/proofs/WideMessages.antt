@@ -1,6 +1,6 @@
 -- Messages of whole blocks of SHA-512, and those of two.
-use Rattle.std.proofs.Common.{◌≡◌, ℕ, ◌+◌, ◌*◌, ◌/◌, ◌%◌, List, ◌++◌, length, take, drop, refl, sym, ap, ◌∙◌, arith, length-append}
-use Rattle.std.proofs.lemmas.List.{drop-append-le, drop_all, take-append-le, take_all}
+use Rattle.std.proofs.Common.{◌≡◌, ℕ, ◌+◌, ◌*◌, ◌/◌, ◌%◌, List, ◌++◌, length, take, drop, replicate, refl, sym, ap, ◌∙◌, arith, length-append, length-drop}
+use Rattle.std.proofs.lemmas.List.{drop-append-le, drop_all, length-take-le, take-append-le, take-append-drop, take_all}
 use Rattle.sha2.specs.Sha512.{compress, final_hash, hash_after, padding}
 use Rattle.sha2.proofs.Absorbing512.{hash_after-append, hash_after_next}
 
@@ -51,3 +51,20 @@ module _ (ini m n : List ℕ) (long : length m ≡ 128) (long-n : length n ≡ 1
       ap (λ (n : ℕ). compress (hash_after ini whole n) (padding 256)) count
       ∙ ap (λ (n : ℕ). compress (hash_after ini whole (length whole / 128)) (padding n)) (sym size) ∙ hash_padded ini whole (omega arith) in
       rw (h1, block 1 n second) last
+
+-- a message of two blocks, by its blocks
+pub hash_of_blocks : (ini d : List ℕ) → length d ≡ 256
+    → compress (compress (compress ini (take 128 d)) (take 128 (drop 128 d))) (padding 256) ≡ final_hash ini d
+hash_of_blocks ini d long =
+    let second : take 128 (drop 128 d) ≡ drop 128 d = take_all 128 (drop 128 d) (omega (arith, length-drop 128 d)) in
+    rw second (hash_of_two ini (take 128 d) (drop 128 d) (length-take-le 128 d (omega arith)) (omega (arith, length-drop 128 d)))
+    ∙ ap (final_hash ini) (take-append-drop 128 d)
+
+-- a message whose last 128 bytes are zero
+pub hash_of_headed : (ini d : List ℕ) → d ≡ take 128 d ++ replicate 128 0
+    → compress (compress (compress ini (take 128 d)) (replicate 128 0)) (padding 256) ≡ final_hash ini d
+hash_of_headed ini d e =
+    let head : List ℕ = take 128 d in
+    let size : length d ≡ length head + 128 = ap length e ∙ length-append head (replicate 128 0) in
+    let long : length head ≡ 128 = length-take-le 128 d (omega arith) in
+    hash_of_two ini head (replicate 128 0) long refl ∙ ap (final_hash ini) (sym e)

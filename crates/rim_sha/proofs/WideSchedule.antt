@@ -68,7 +68,8 @@ sums_all sums b held =
     same_number_lists sums _ (held.0 ∙ sym long) (λ k lt.
     held.1 k (omega (arith, held.0)) ∙ sym (get_or-zip2 add64 round_constants (schedule b 64) k 0 0 0 (omega (arith, held.0)) (omega (arith, held.0))))
 
-pub sum_at : (sums b : List ℕ) (t : ℕ) → AreWideSums sums b → t < 80 → slice_index sums t ≡ add64 (slice_index round_constants t) (slice_index (schedule b 64) t)
+pub sum_at : (sums b : List ℕ) (t : ℕ) → AreWideSums sums b → t < 80
+    → slice_index sums t ≡ add64 (slice_index round_constants t) (slice_index (schedule b 64) t)
 sum_at sums b t e h =
     let long : length (schedule b 64) ≡ 80 = length-schedule b 64 in
     let all : length round_constants ≡ 80 = refl in

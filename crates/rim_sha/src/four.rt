@@ -1,5 +1,5 @@
-//! Four messages side by side, each in a lane of vectors.
+//! SHA-256 of four messages side by side, each in a lane of vectors.
 mod known_blocks;
-pub(crate) mod lanes;
+mod loading;
 pub(crate) mod messages;
 mod rounds;

@@ -1,26 +1,47 @@
 //! SHA-256 and SHA-512 of what a Realm Initial Measurement is made of, beside the kit's `sha2` and with its contract.
 //! The last of the blocks that are hashed for a descriptor is its padding, which is known beforehand. Where what it says is
 //! in its first 128 bytes, as it always is by SHA-256, and of RAM by SHA-512, zeros follow, and their blocks are known too.
-//! Four messages go side by side: each has a lane of the vectors that the rounds compute with, so four messages take less
-//! than twice the time of one.
+//! Messages go side by side: each has a lane of the vectors that the rounds compute with. As many as a vector of the processor
+//! has words take little longer than one.
 #![tactic(auto)]
 
-ghost use Rattle.std.specs.Prelude.{◌≡◌, ◌%◌, ◌++◌, [], ◌∷◌, length, take, replicate, true};
+ghost use Rattle.std.specs.Prelude.{◌≡◌, ◌%◌, ◌++◌, length, map, take, replicate, true};
+ghost use Rattle.std.specs.List.{All};
 ghost use Rattle.sha2.specs.Sha256.{sha256};
 ghost use Rattle.sha2.specs.Sha512.{sha512};
 
 mod constants;
+mod eight;
 mod four;
 mod one;
+mod vectors;
 mod wide;
+mod wide_four;
 mod words;
 
-use four::messages::{digests, final_hashes, headed_hashes};
 use one::headed::sha256_headed;
 use sha2::{Digest, Sha256};
 use wide::messages::{sha512_headed, sha512_of_two};
 
 const ZEROS: [u8; 128] = [0; 128];
+
+/// The SHA-256 digests of four messages of one size in bytes, which is a whole number of blocks of 64, side by side.
+pub fn sha256_four(messages: &[&[u8]; 4], size: usize) -> [[u8; 32]; 4]
+    requires size { All (λ m. length m.now ≡ size) messages.now }
+    requires whole { size % 64 ≡ 0 }
+    ensures { result ≡ map (λ m. sha256 m.now) messages.now }
+{
+    four::messages::digests(&four::messages::final_hashes(messages, size))
+}
+
+/// The SHA-256 digests of eight messages of one size in bytes, which is a whole number of blocks of 64, side by side.
+pub fn sha256_eight(messages: &[&[u8]; 8], size: usize) -> [[u8; 32]; 8]
+    requires size { All (λ m. length m.now ≡ size) messages.now }
+    requires whole { size % 64 ≡ 0 }
+    ensures { result ≡ map (λ m. sha256 m.now) messages.now }
+{
+    eight::messages::digests(&eight::messages::final_hashes(messages, size))
+}
 
 /// The SHA-256 digest of a descriptor (FIPS 180-4, 6.2). It is quicker where the last 128 bytes are zero, and else
 /// that of `sha2`.
@@ -34,20 +55,49 @@ pub fn sha256_descriptor(descriptor: &[u8; 256]) -> [u8; 32]
     }
 }
 
-/// The SHA-256 digests of four descriptors. They are quicker where the last 128 bytes of each are zero.
-pub fn sha256_descriptors(
-    d0: &[u8; 256],
-    d1: &[u8; 256],
-    d2: &[u8; 256],
-    d3: &[u8; 256],
-) -> [[u8; 32]; 4]
-    ensures { result ≡ sha256 d0.now ∷ sha256 d1.now ∷ sha256 d2.now ∷ sha256 d3.now ∷ [] }
+/// The SHA-256 digests of four descriptors, side by side where the last 128 bytes of each are zero.
+pub fn sha256_four_descriptors(descriptors: &[[u8; 256]; 4]) -> [[u8; 32]; 4]
+    ensures { result ≡ map sha256 descriptors.now }
 {
-    if has_zero_tail(d0) && has_zero_tail(d1) && has_zero_tail(d2) && has_zero_tail(d3) {
-        digests(headed_hashes(&d0[..128], &d1[..128], &d2[..128], &d3[..128]))
+    if have_zero_tails(descriptors) {
+        four::messages::digests(&four::messages::headed_hashes(descriptors))
     } else {
-        sha256_four(d0, d1, d2, d3)
+        one_by_one(descriptors)
     }
+}
+
+/// The SHA-256 digests of eight descriptors, side by side where the last 128 bytes of each are zero.
+pub fn sha256_eight_descriptors(descriptors: &[[u8; 256]; 8]) -> [[u8; 32]; 8]
+    ensures { result ≡ map sha256 descriptors.now }
+{
+    if have_zero_tails(descriptors) {
+        eight::messages::digests(&eight::messages::headed_hashes(descriptors))
+    } else {
+        one_by_one(descriptors)
+    }
+}
+
+/// The SHA-256 digests of descriptors, one after another.
+fn one_by_one<const N: usize>(descriptors: &[[u8; 256]; N]) -> [[u8; 32]; N]
+    ensures { result ≡ map sha256 descriptors.now }
+{
+    let mut out = [[0; 32]; N];
+    'each: for j in 0..N {
+        out[j] = sha256_descriptor(&descriptors[j]);
+    }
+    out
+}
+
+/// Whether the last 128 bytes of each descriptor are zero.
+fn have_zero_tails(descriptors: &[[u8; 256]]) -> bool
+    ensures { result ≡ true → All (λ d. d ≡ take 128 d ++ replicate 128 0) descriptors.now }
+{
+    for descriptor in descriptors {
+        if !has_zero_tail(descriptor) {
+            return false;
+        }
+    }
+    true
 }
 
 /// Whether the last 128 bytes of a descriptor are zero.
@@ -56,17 +106,6 @@ fn has_zero_tail(descriptor: &[u8; 256]) -> bool
 {
     let (_, tail) = descriptor.split_at(128);
     tail == &ZEROS[..]
-}
-
-/// The SHA-256 digests of four messages of one length, which is a whole number of blocks of 64 bytes.
-pub fn sha256_four(m0: &[u8], m1: &[u8], m2: &[u8], m3: &[u8]) -> [[u8; 32]; 4]
-    requires whole { length m0.now % 64 ≡ 0 }
-    requires second { length m1.now ≡ length m0.now }
-    requires third { length m2.now ≡ length m0.now }
-    requires fourth { length m3.now ≡ length m0.now }
-    ensures { result ≡ sha256 m0.now ∷ sha256 m1.now ∷ sha256 m2.now ∷ sha256 m3.now ∷ [] }
-{
-    digests(final_hashes(m0, m1, m2, m3))
 }
 
 /// The SHA-512 digest of a descriptor (FIPS 180-4, 6.4). It is quickest where the last 128 bytes are zero.
@@ -78,5 +117,27 @@ pub fn sha512_descriptor(descriptor: &[u8; 256]) -> [u8; 64]
         sha512_headed(head)
     } else {
         sha512_of_two(head, tail)
+    }
+}
+
+/// The SHA-512 digests of four messages of one size in bytes, which is a whole number of blocks of 128, side by side.
+pub fn sha512_four(messages: &[&[u8]; 4], size: usize) -> [[u8; 64]; 4]
+    requires size { All (λ m. length m.now ≡ size) messages.now }
+    requires whole { size % 128 ≡ 0 }
+    ensures { result ≡ map (λ m. sha512 m.now) messages.now }
+{
+    wide_four::messages::digests(&wide_four::messages::final_hashes(messages, size))
+}
+
+/// The SHA-512 digests of four descriptors, side by side. They are quickest where the last 128 bytes of each are zero.
+pub fn sha512_four_descriptors(descriptors: &[[u8; 256]; 4]) -> [[u8; 64]; 4]
+    ensures { result ≡ map sha512 descriptors.now }
+{
+    let [a, b, c, d] = descriptors;
+    let messages = [&a[..], &b[..], &c[..], &d[..]];
+    if have_zero_tails(descriptors) {
+        wide_four::messages::digests(&wide_four::messages::headed_hashes(&messages))
+    } else {
+        wide_four::messages::digests(&wide_four::messages::hashes_of_two(&messages))
     }
 }

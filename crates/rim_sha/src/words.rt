@@ -1,6 +1,7 @@
 //! Words as bytes, the high byte of each first (FIPS 180-4, 3.1).
-ghost use Rattle.std.specs.Prelude.{◌≡◌, ◌+◌, ◌≤◌, length};
+ghost use Rattle.std.specs.Prelude.{◌≡◌, ◌+◌, ◌*◌, ◌<◌, ◌≤◌, length, take, drop};
 ghost use Rattle.sha2.specs.Sha256.{digest_bytes, word_at};
+ghost use Rattle.rim_sha.specs.inside.Lanes.{message};
 
 /// The word that begins at a byte of a block.
 #[inline(always)]
@@ -9,6 +10,25 @@ pub fn word(block: &[u8], at: usize) -> u32
     ensures { result ≡ word_at block.now at }
 {
     u32::from_be_bytes([block[at], block[at + 1], block[at + 2], block[at + 3]])
+}
+
+/// Word i of the block that begins at a byte of a message.
+#[inline(always)]
+pub fn block_word(message: &[u8], at: usize, i: usize) -> u32
+    requires room { at + 64 ≤ length message.now }
+    requires word { i < 16 }
+    ensures { result ≡ word_at (take 64 (drop at message.now)) (4 * i) }
+{
+    word(&message[at..at + 64], 4 * i)
+}
+
+/// One of some messages.
+#[inline(always)]
+pub fn message<'a>(messages: &[&'a [u8]], j: usize) -> &'a [u8]
+    requires { j < length messages.now }
+    ensures { result.now ≡ message messages.now j }
+{
+    messages[j]
 }
 
 /// The bytes of a hash value.

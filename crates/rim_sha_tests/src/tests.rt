@@ -1,6 +1,7 @@
-//! Messages are pseudo-random. Digests are compared with the kit's `sha2`, and some with Python's hashlib.
+//! Messages are pseudo-random, or NIST's. Digests are compared with the kit's `sha2`, and some with Python's hashlib.
 mod descriptors;
 mod pages;
+mod vectors;
 
 /// Fills bytes with the high bytes of a linear congruential generator's states after the seed.
 fn fill(bytes: &mut [u8], seed: u32) {
@@ -13,6 +14,12 @@ fn fill(bytes: &mut [u8], seed: u32) {
 
 /// The first eight bytes of a digest, which distinguish it from any other here.
 fn front(digest: &[u8; 32]) -> u64 {
+    let [a, b, c, d, e, f, g, h, ..] = *digest;
+    u64::from_be_bytes([a, b, c, d, e, f, g, h])
+}
+
+/// The same of SHA-512.
+fn wide_front(digest: &[u8; 64]) -> u64 {
     let [a, b, c, d, e, f, g, h, ..] = *digest;
     u64::from_be_bytes([a, b, c, d, e, f, g, h])
 }

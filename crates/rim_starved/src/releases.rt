@@ -7,7 +7,7 @@ use crate::maps;
 use crate::trial::{Fault, Seen, begin, digest, end, seen, text_digest};
 use refusal::NoMemory;
 use rim_check::{LaunchCheck, ManifestCheck, Readable, check_launches, check_manifest};
-use rim_desc::Measurement;
+use rim_desc::{Lanes, Measurement};
 use rim_release::{
     AuditFault, Files, Gate, JobId, Outcome, Release, Report, StartFault, audit, audit_report,
     json_report, listing, measure_alone, measure_release, placed_devicetree, read_manifest,
@@ -131,7 +131,7 @@ fn traced<R: Print + AllocGlobal>(
 {
     let alloc = rt.alloc();
     begin(rt, is_tried)?;
-    let answer = trace_or_refusal(alloc, release, files, 0);
+    let answer = trace_or_refusal(alloc, Lanes::Four, release, files, 0);
     end(rt, is_tried)?;
     Ok(seen!(alloc, answer, report_digest, NoMemory))
 }

@@ -1,6 +1,6 @@
 //! What a board gives: jobs, and launches that are lent.
-ghost use Rattle.std.specs.Prelude.{◌≡◌, ◌≢◌, false, true, IfOk, Some, slice_get};
-ghost use Rattle.rim_desc.specs.declared.measurement.Algo.TheVariants as algo;
+ghost use Rattle.std.specs.Prelude.{◌≡◌, ◌≢◌, ◌<◌, false, true, IfOk, Some, slice_get};
+ghost use Rattle.rim_desc.specs.declared.side_by_side.TheConstants.{MOST_LANES};
 ghost use Rattle.rim_chain.specs.Links.{keys_of};
 ghost use Rattle.rim_chain.specs.Rows.{IsRowOf};
 ghost use Rattle.job_board.specs.declared.job.Event.{Event};
@@ -20,6 +20,7 @@ use crate::task::{LaunchTask, PageTask};
 use crate::work::Work;
 use page_jobs::DigestRow;
 use rim_chain::LaunchJob;
+use rim_desc::Algo;
 
 impl<'a, L: Run> BoardState<'a, L> {
     /// A free job that is ready, or why none is given. Its event is added, and the row of a launch is filled.
@@ -167,13 +168,25 @@ impl<'a, L: Run> BoardState<'a, L> {
         self.preferences.lend_row()
     }
 
-    /// Lends a worker a launch that is ready, to be chained beside one that it has taken. It is not taken by that, and is best
-    /// given to this worker later. The row is handed back where no launch is lent: where too few are left for the other
-    /// workers, or the row has no room for the next.
-    pub fn lend(&mut self, worker: usize, row: DigestRow) -> Result<LaunchTask<'a, L>, DigestRow>
+    /// How many launches a worker is best lent beside one by an algorithm, which it has taken; none where too few are left for the
+    /// other workers.
+    pub fn lend_count(&self, algo: Algo) -> usize
+        ensures { result < MOST_LANES }
+    {
+        self.preferences.lend_count(algo)
+    }
+
+    /// Lends a worker a launch that is ready, to be chained beside one by the same algorithm that it has taken. It is not taken by
+    /// that, and is best given to this worker later. The row is handed back where no launch is lent: where the next is by
+    /// another algorithm or begins as others do, or the row has no room for it.
+    pub fn lend(
+        &mut self,
+        worker: usize,
+        algo: Algo,
+        row: DigestRow,
+    ) -> Result<LaunchTask<'a, L>, DigestRow>
         ensures same { self.new ≡ self.old }
         ensures open { IfOk result (λ task. IsOpen self.old.core task.number) }
-        ensures alone { IfOk result (λ task. task.plan.params.algo ≡ algo.Sha256) }
     {
         let BoardState {
             core,
@@ -184,7 +197,7 @@ impl<'a, L: Run> BoardState<'a, L> {
             preferences,
             ..
         } = self;
-        let Some(number) = preferences.next_to_lend(core, prefixes, worker) else {
+        let Some(number) = preferences.next_to_lend(core, plans, prefixes, worker, algo) else {
             return Err(row);
         };
         lent_task(table, plans, *room, number, row)

@@ -1,11 +1,12 @@
 //! Runs in which a worker chains launches beside others.
 use super::{check, pages_of, plan_at, run_by};
+use job_board::JobId;
 use job_board_tests::has_all_keys;
-use job_workers::FreeGate;
+use job_workers::Gate;
 use page_jobs::{DigestRow, Page, PageJob, Table};
 use refusal::NoMemory;
 use rim_chain::{LaunchPlan, chain};
-use rim_desc::Measurement;
+use rim_desc::{Lanes, Measurement};
 use std::alloc::Global;
 use std::marker::Brand;
 use std::process::Abort;
@@ -17,6 +18,26 @@ const BYTES: [u8; 12_288] = [7; 12_288];
 
 /// Launches with nothing in common but pages: they measure one to three of these, each at addresses of its own.
 const LAUNCHES: u64 = 19;
+
+/// A gate of a program that was built for vectors of this width.
+#[derive(Clone, Copy, Debug)]
+struct WidthGate {
+    lanes: Lanes,
+}
+
+impl Gate for WidthGate {
+    fn before(&self, _worker: usize, _job: JobId) {}
+
+    fn after(&self, _worker: usize, _job: JobId) {}
+
+    fn lanes(&self) -> Lanes {
+        self.lanes
+    }
+
+    fn lets_launches_wait(&self) -> bool {
+        true
+    }
+}
 
 fn plans(rt: &impl Abort, alloc: Global) -> Vec<LaunchPlan> {
     let mut plans = Vec::new(alloc);
@@ -55,28 +76,31 @@ fn check_values(
     }
 }
 
-/// One worker chains four launches at a time as long as enough are left; of nineteen workers none is lent any.
+/// One worker, or each of two, chains four or eight launches at a time as long as enough are left; of nineteen workers none is
+/// lent any.
 #[test]
 fn launches_are_chained_beside_others(rt: HostRuntime) -> Result<(), Fail> {
     let alloc = rt.alloc();
     let pages = pages_of(alloc, &BYTES, 3)?;
     let plans = plans(&rt, alloc);
     let plans = plans.as_slice();
-    for workers in [1, 2, 19] {
-        let table = Table::reserve(alloc, &pages)?;
-        if !has_all_keys(&table, plans) {
-            panic!(rt; "the launches' pages exist");
+    for lanes in [Lanes::Four, Lanes::Eight] {
+        for workers in [1, 2, 19] {
+            let table = Table::reserve(alloc, &pages)?;
+            if !has_all_keys(&table, plans) {
+                panic!(rt; "the launches' pages exist");
+            }
+            let values = run_by::<Brand, WidthGate, HostRuntime>(
+                &rt,
+                alloc,
+                Blank::new(workers as u64),
+                workers,
+                table,
+                plans,
+                &mut WidthGate { lanes },
+            )?;
+            check_values(&rt, alloc, plans, &pages, values.as_slice());
         }
-        let values = run_by::<Brand, FreeGate, HostRuntime>(
-            &rt,
-            alloc,
-            Blank::new(workers as u64),
-            workers,
-            table,
-            plans,
-            &mut FreeGate,
-        )?;
-        check_values(&rt, alloc, plans, &pages, values.as_slice());
     }
     Ok(())
 }

@@ -1,7 +1,7 @@
 //! Pages and their digests. The digests were computed by Python's hashlib.
 use super::{Row, check, counted, digest_of, item, key_of, page_of, pages_of};
-use page_jobs::{Page, PageJob, PageKey, run_four};
-use rim_desc::{Algo, Measurement, Source};
+use page_jobs::{GroupDigests, HashedAhead, Page, PageKey, hash_group};
+use rim_desc::{Algo, Lanes, Source};
 use std::alloc::Global;
 use std::mem::size_of;
 use std::process::Abort;
@@ -161,80 +161,104 @@ fn digests(rt: HostRuntime) -> Result<(), Fail> {
     Ok(())
 }
 
-/// Groups of pages of an item with four pages and one byte: the algorithm and the number of each.
-type Group = [(Algo, u8); 4];
+/// Pages of an item with four pages and one byte: the algorithm and the number of each. The width that they are hashed in, and
+/// how many go side by side from the first on.
+type Group = (Lanes, usize, [(Algo, u8); 9]);
 
-const GROUPS: [Group; 5] = [
+/// The pages 0 to 3 again and again.
+fn whole(algo: Algo) -> [(Algo, u8); 9] {
     [
-        (Algo::Sha256, 3),
-        (Algo::Sha256, 0),
-        (Algo::Sha256, 2),
-        (Algo::Sha256, 1),
-    ],
+        (algo, 0),
+        (algo, 1),
+        (algo, 2),
+        (algo, 3),
+        (algo, 0),
+        (algo, 1),
+        (algo, 2),
+        (algo, 3),
+        (algo, 0),
+    ]
+}
+
+/// The same, with another page in a place.
+fn with(algo: Algo, place: usize, page: (Algo, u8)) -> [(Algo, u8); 9] {
+    let mut pages = whole(algo);
+    if let Some(slot) = pages.get_mut(place) {
+        *slot = page;
+    }
+    pages
+}
+
+fn groups() -> [Group; 12] {
+    let last = (Algo::Sha256, 4);
+    let other = (Algo::Sha512, 1);
     [
-        (Algo::Sha256, 3),
-        (Algo::Sha256, 0),
-        (Algo::Sha256, 2),
-        (Algo::Sha512, 1),
-    ],
-    [
-        (Algo::Sha256, 4),
-        (Algo::Sha256, 0),
-        (Algo::Sha256, 1),
-        (Algo::Sha256, 1),
-    ],
-    [
-        (Algo::Sha512, 0),
-        (Algo::Sha512, 1),
-        (Algo::Sha512, 2),
-        (Algo::Sha512, 3),
-    ],
-    [
-        (Algo::Sha256, 4),
-        (Algo::Sha512, 4),
-        (Algo::Sha256, 5),
-        (Algo::Sha512, 5),
-    ],
-];
+        (Lanes::Four, 4, whole(Algo::Sha256)),
+        (Lanes::Eight, 8, whole(Algo::Sha256)),
+        (Lanes::Four, 1, whole(Algo::Sha512)),
+        (Lanes::Eight, 4, whole(Algo::Sha512)),
+        (Lanes::Eight, 5, with(Algo::Sha256, 5, last)),
+        (Lanes::Eight, 7, with(Algo::Sha256, 7, other)),
+        (Lanes::Eight, 3, with(Algo::Sha256, 3, last)),
+        (Lanes::Four, 3, with(Algo::Sha256, 3, other)),
+        (Lanes::Four, 2, with(Algo::Sha256, 2, last)),
+        (Lanes::Eight, 1, with(Algo::Sha256, 1, other)),
+        (Lanes::Eight, 1, with(Algo::Sha256, 0, last)),
+        (Lanes::Eight, 2, with(Algo::Sha512, 2, (Algo::Sha256, 0))),
+    ]
+}
 
 fn page_in<'a>(bytes: &'a [u8], place: (Algo, u8)) -> Page<'a> {
     let (algo, number) = place;
     page_of(bytes, &(algo, Source::File(0), 0, u64::from(number)))
 }
 
-fn together(pages: [Page; 4]) -> [Measurement; 4] {
-    let [a, b, c, d] = pages;
-    let (first, second, third, fourth) = run_four(
-        PageJob::new(a),
-        PageJob::new(b),
-        PageJob::new(c),
-        PageJob::new(d),
-    );
-    [first.digest, second.digest, third.digest, fourth.digest]
-}
-
-fn alone(pages: [Page; 4]) -> [Measurement; 4] {
-    let [a, b, c, d] = pages;
-    [digest_of(a), digest_of(b), digest_of(c), digest_of(d)]
+/// Whether the digests are this many, and each is its page's alone.
+fn are_alone(digests: &GroupDigests, count: usize, pages: &[Page]) -> bool {
+    for (k, page) in pages.iter().take(count).enumerate() {
+        if digests.get(k) != Some(digest_of(*page)) {
+            return false;
+        }
+    }
+    digests.count == count && digests.get(count).is_none()
 }
 
 /// A group's digests are those of its pages alone.
 fn check_group(rt: &impl Abort, bytes: &[u8], group: Group) {
-    let [a, b, c, d] = group;
+    let (lanes, count, places) = group;
     let pages = [
-        page_in(bytes, a),
-        page_in(bytes, b),
-        page_in(bytes, c),
-        page_in(bytes, d),
+        page_in(bytes, places[0]),
+        page_in(bytes, places[1]),
+        page_in(bytes, places[2]),
+        page_in(bytes, places[3]),
+        page_in(bytes, places[4]),
+        page_in(bytes, places[5]),
+        page_in(bytes, places[6]),
+        page_in(bytes, places[7]),
+        page_in(bytes, places[8]),
     ];
-    assert!(rt; together(pages) == alone(pages), "{group:?}");
+    let digests = hash_group(&pages, lanes);
+    assert!(rt; are_alone(&digests, count, &pages), "{group:?}");
+    check_ahead(rt, &pages, lanes);
+}
+
+/// Whichever page is asked for, its digest is its own.
+fn check_ahead(rt: &impl Abort, pages: &[Page], lanes: Lanes) {
+    let mut ahead = HashedAhead::new(pages, lanes);
+    for number in [0, 1, 2, 3, 4, 5, 6, 7, 8, 3, 4, 8, 0, 7] {
+        if number < ahead.pages.len() {
+            let page = ahead.pages[number];
+            let digest = ahead.digest(number);
+            assert!(rt; digest == digest_of(page), "page {number} by {lanes:?}");
+        }
+    }
 }
 
 #[test]
-fn four_pages_together(rt: HostRuntime) -> Result<(), Fail> {
+fn pages_side_by_side(rt: HostRuntime) -> Result<(), Fail> {
     let bytes = counted(rt.alloc(), 16_385, 1, 0)?;
-    for group in &GROUPS {
-        check_group(&rt, &bytes, *group);
+    for group in groups() {
+        check_group(&rt, &bytes, group);
     }
     Ok(())
 }

@@ -1,6 +1,7 @@
 -- What is known of the pages of a launch before their commands come. This project's choice.
-use Rattle.std.specs.Prelude.{◌≡◌, ℕ, ◌+◌, IfSome}
+use Rattle.std.specs.Prelude.{◌≡◌, ℕ, ◌+◌, IfSome, Some, slice_get}
 use Rattle.rim_desc.specs.declared.measurement.Measurement.{Measurement}
+use Rattle.page_jobs.specs.Group.{digests_in}
 use Rattle.page_jobs.specs.Page.{PageView, digest_of}
 use Rattle.ipa_layout.specs.Files.{bytes_of_files}
 use Rattle.rmi_list.specs.Measured.{page_contents}
@@ -17,10 +18,8 @@ abbrev pub DigestIsContent : LaunchCommands → ℕ → ℕ → PageView → Typ
 DigestIsContent c item page q = (m : Measurement) → m.bytes ≡ digest_of q → m ≡ content_in c item page
 
 -- the measurements of a group are the launch's
-pub record IsGroup (c : LaunchCommands) (g : Group) : Type 0 where
-  pub second : g.second ≡ content_in c g.item (g.first + 1)
-  pub third : g.third ≡ content_in c g.item (g.first + 2)
-  pub fourth : g.fourth ≡ content_in c g.item (g.first + 3)
+abbrev pub IsGroup : LaunchCommands → Group → Type 0
+IsGroup c g = (k : ℕ) (m : Measurement) → slice_get (digests_in g.digests) k ≡ Some m → m ≡ content_in c g.item (g.first + k)
 
 -- what is known is of the launch: digests are those of its files' pages, and a group is of its own pages
 pub record IsOwn (c : LaunchCommands) (b : Beside) : Type 0 where

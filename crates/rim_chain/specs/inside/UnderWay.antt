@@ -1,32 +1,41 @@
 -- Chains that are under way. This project's choice.
-use Rattle.std.specs.Prelude.{◌≡◌, ℕ, List, [], length, Option, Some, None}
+use Rattle.std.specs.Prelude.{◌≡◌, ◌<◌, ◌≤◌, ℕ, List, [], length, slice_index_or}
 use Rattle.std.specs.List.{All}
 use Rattle.rim_desc.specs.Measurement.{measurement_of}
-use Rattle.rim_desc.specs.Part.{Part, extended_by}
-use Rattle.rim_desc.specs.declared.measurement.Algo.{Algo}
 use Rattle.rim_desc.specs.declared.measurement.Measurement.{Measurement}
+use Rattle.rim_chain.specs.Chains.{ChainView, chains_to}
 use Rattle.rim_chain.specs.Fitting.{IsFitting}
 use Rattle.rim_chain.specs.Links.{keys_of, link_parts, page_count}
 use Rattle.rim_chain.specs.declared.link.Link.{Link}
 
--- a measurement, and the parts that it is still to be extended by
-pub record ChainView : Type 0 where
-  pub algo : Algo
-  pub value : List ℕ
-  pub left : List Part
-
--- what a chain comes to
-abbrev pub chains_to : ChainView → List ℕ
-chains_to c = extended_by c.algo c.value c.left
-
--- what it comes to where a descriptor, if there is one, comes before the parts that are left
-abbrev pub goes_on_to : ChainView → Option (List ℕ) → List ℕ
-goes_on_to c None = chains_to c
-goes_on_to c (Some descriptor) = extended_by c.algo (measurement_of c.algo descriptor) c.left
+-- a chain with another measurement
+abbrev pub set_to : ChainView → List ℕ → ChainView
+set_to c value = record c { value = value }
 
 -- one chain has come further than another, by the same algorithm
 abbrev pub IsNext : ChainView → ChainView → Type 0
 IsNext before after = (after.algo ≡ before.algo) × (chains_to after ≡ chains_to before)
+
+-- the next part of a chain was taken, and has this descriptor
+abbrev pub IsTaken : ChainView → ChainView → List ℕ → Type 0
+IsTaken before after descriptor = IsNext before (set_to after (measurement_of after.algo descriptor))
+
+-- each chain has come further
+pub record HaveGoneOn (before after : List ChainView) : Type 0 where
+  pub size : length after ≡ length before
+  pub each : (k : ℕ) (d : ChainView) → k < length before → IsNext (slice_index_or before k d) (slice_index_or after k d)
+
+-- the next part of each of the first chains was taken, and the others are as far as before
+pub record HaveTaken (taken : ℕ) (before after : List ChainView) (descriptors : List (List ℕ)) : Type 0 where
+  pub size : length after ≡ length before
+  pub first : (k : ℕ) (d : ChainView) → k < taken → IsTaken (slice_index_or before k d) (slice_index_or after k d) (slice_index_or descriptors k [])
+  pub others : (k : ℕ) (d : ChainView) → taken ≤ k → k < length before → IsNext (slice_index_or before k d) (slice_index_or after k d)
+
+-- the first chains have other measurements
+pub record AreSet (count : ℕ) (before after : List ChainView) (values : List (List ℕ)) : Type 0 where
+  pub size : length after ≡ length before
+  pub first : (k : ℕ) (d : ChainView) → k < count → slice_index_or after k d ≡ set_to (slice_index_or before k d) (slice_index_or values k [])
+  pub others : (k : ℕ) (d : ChainView) → count ≤ k → slice_index_or after k d ≡ slice_index_or before k d
 
 -- links that fit, and as many digests as they have measured pages
 pub record AreLeft (links : List Link) (digests : List Measurement) : Type 0 where

@@ -2,28 +2,35 @@
 use super::{LEAD, check, filled_row, item, plan_of, put, realm};
 use page_jobs::{Blob, Table};
 use rim_chain::{LaunchPlan, Prefix, SharedPrefixes, chain, first_prefixes};
-use rim_desc::{Algo, RealmParams, Source};
+use rim_desc::{Algo, Lanes, RealmParams, Source};
 use std::alloc::Global;
 use std::process::Abort;
 
-/// The algorithm, the number of breakpoints and of blocks, and whether a prefix is found. The last two launches begin
-/// alike, so one goes on from the other. Of the five that are left by SHA-256 the shortest has none.
-type Launch = (Algo, u8, u64, bool);
+/// The algorithm, the number of breakpoints and of blocks, and whether a prefix is found where four words go side by side, and
+/// where eight do. The last two launches begin alike, so one goes on from the other. Of the nine that are left by SHA-256 the
+/// shortest has none.
+type Launch = (Algo, u8, u64, bool, bool);
 
-const LAUNCHES: [Launch; 8] = [
-    (Algo::Sha256, 1, 3, true),
-    (Algo::Sha256, 2, 0, false),
-    (Algo::Sha512, 2, 9, false),
-    (Algo::Sha256, 3, 40, true),
-    (Algo::Sha256, 4, 7, true),
-    (Algo::Sha512, 4, 7, false),
-    (Algo::Sha256, 5, 1, true),
-    (Algo::Sha256, 5, 1, false),
+const LAUNCHES: [Launch; 14] = [
+    (Algo::Sha256, 1, 3, true, true),
+    (Algo::Sha256, 2, 0, false, false),
+    (Algo::Sha512, 2, 9, false, true),
+    (Algo::Sha256, 3, 40, true, true),
+    (Algo::Sha256, 4, 7, true, true),
+    (Algo::Sha512, 4, 7, false, true),
+    (Algo::Sha512, 5, 30, false, true),
+    (Algo::Sha256, 6, 2, true, true),
+    (Algo::Sha256, 7, 9, true, true),
+    (Algo::Sha256, 8, 5, true, true),
+    (Algo::Sha512, 6, 2, false, true),
+    (Algo::Sha256, 9, 4, true, true),
+    (Algo::Sha256, 5, 1, true, true),
+    (Algo::Sha256, 5, 1, false, false),
 ];
 
 /// The plan of a launch: blocks, two measured pages, two that are not measured, and a REC.
 fn own_plan(rt: &impl Abort, alloc: Global, launch: &Launch) -> LaunchPlan {
-    let (algo, num_bps, count, _) = *launch;
+    let (algo, num_bps, count, _, _) = *launch;
     let params = RealmParams {
         num_bps,
         ..realm(algo)
@@ -44,9 +51,10 @@ fn prefixes_of(
     alloc: Global,
     table: &Table,
     plans: &[LaunchPlan],
+    lanes: Lanes,
 ) -> Vec<Option<Prefix>> {
     let shared = SharedPrefixes::new(alloc, plans).expect(rt, "memory");
-    first_prefixes(alloc, table, plans, &shared).expect(rt, "memory")
+    first_prefixes(alloc, table, plans, &shared, lanes).expect(rt, "memory")
 }
 
 /// The prefix of four links has the value of the whole chain.
@@ -70,8 +78,21 @@ fn check_prefix(
     }
 }
 
-fn check_prefixes(rt: &impl Abort, alloc: Global, table: &Table, plans: &[LaunchPlan]) {
-    let prefixes = prefixes_of(rt, alloc, table, plans);
+fn has_prefix(launch: &Launch, lanes: Lanes) -> bool {
+    match lanes {
+        Lanes::Four => launch.3,
+        Lanes::Eight => launch.4,
+    }
+}
+
+fn check_prefixes(
+    rt: &impl Abort,
+    alloc: Global,
+    table: &Table,
+    plans: &[LaunchPlan],
+    lanes: Lanes,
+) {
+    let prefixes = prefixes_of(rt, alloc, table, plans, lanes);
     check(
         rt,
         prefixes.len() == LAUNCHES.len(),
@@ -80,12 +101,13 @@ fn check_prefixes(rt: &impl Abort, alloc: Global, table: &Table, plans: &[Launch
     for number in 0..LAUNCHES.len() {
         let plan = plans.get(number).expect(rt, "a plan");
         let prefix = prefixes.get(number).expect(rt, "a prefix");
-        check_prefix(rt, alloc, table, plan, prefix, LAUNCHES[number].3);
+        let has_prefix = has_prefix(&LAUNCHES[number], lanes);
+        check_prefix(rt, alloc, table, plan, prefix, has_prefix);
     }
 }
 
 #[test]
-fn four_prefixes_are_their_own_chains(rt: HostRuntime) {
+fn prefixes_are_their_own_chains(rt: HostRuntime) {
     let bytes = item(&rt, rt.alloc());
     let blob = Blob::new(Source::File(0), LEAD, &bytes);
     let pages = [
@@ -98,5 +120,7 @@ fn four_prefixes_are_their_own_chains(rt: HostRuntime) {
     for slot in 0..pages.len() {
         put(&rt, &mut table, slot, pages[slot]);
     }
-    check_prefixes(&rt, rt.alloc(), &table, &own_plans(&rt, rt.alloc()));
+    let plans = own_plans(&rt, rt.alloc());
+    check_prefixes(&rt, rt.alloc(), &table, &plans, Lanes::Four);
+    check_prefixes(&rt, rt.alloc(), &table, &plans, Lanes::Eight);
 }

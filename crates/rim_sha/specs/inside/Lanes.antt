@@ -1,10 +1,11 @@
--- Four messages side by side. Each word of the computation is a vector, in which each message has a lane. This
--- project's choice.
+-- Messages side by side. Each word of the computation is a vector, in which each message has a lane. This project's
+-- choice.
 use Rattle.std.specs.Prelude.{◌≡◌, ℕ, ◌<◌, List, [], ◌∷◌, length, map, slice_index, slice_index_or}
+use Rattle.std.specs.Borrow.{Bor}
 
--- a vector of four lanes, of which lane j is f j
-abbrev pub IsLanes : List ℕ → (ℕ → ℕ) → Type 0
-IsLanes xs f = (length xs ≡ 4) × ((j : ℕ) → j < 4 → slice_index xs j ≡ f j)
+-- a vector of n lanes, of which lane j is f j
+abbrev pub IsLanes : ℕ → List ℕ → (ℕ → ℕ) → Type 0
+IsLanes n xs f = (length xs ≡ n) × ((j : ℕ) → j < n → slice_index xs j ≡ f j)
 
 -- lane j of vector k
 abbrev pub lane_at : List (List ℕ) → ℕ → ℕ → ℕ
@@ -21,5 +22,5 @@ abbrev pub window : ℕ → List (List ℕ) → List ℕ
 window j w = map (λ x. slice_index x j) w
 
 -- message j
-abbrev pub message : List ℕ → List ℕ → List ℕ → List ℕ → ℕ → List ℕ
-message m0 m1 m2 m3 j = slice_index_or (m0 ∷ m1 ∷ m2 ∷ m3 ∷ []) j []
+abbrev pub message : List (Bor (List ℕ)) → ℕ → List ℕ
+message messages j = slice_index_or (map (λ m. m.now) messages) j []

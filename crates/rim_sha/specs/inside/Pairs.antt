@@ -2,10 +2,6 @@
 use Rattle.std.specs.Prelude.{◌≡◌, ℕ, ◌<◌, List, [], ◌∷◌, length, slice_index}
 use Rattle.sha2.specs.Sha512.{IsWindow, add64, round_constants, schedule}
 
--- a vector of two lanes, of which lane j is f j
-abbrev pub IsPair : List ℕ → (ℕ → ℕ) → Type 0
-IsPair xs f = (length xs ≡ 2) × ((j : ℕ) → j < 2 → slice_index xs j ≡ f j)
-
 -- lanes p and q of each vector in turn
 abbrev pub flat : ℕ → ℕ → List (List ℕ) → List ℕ
 flat p q [] = []

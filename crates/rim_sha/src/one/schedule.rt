@@ -7,7 +7,7 @@ ghost use Rattle.rim_sha.specs.inside.Pairs.{flat};
 ghost use Rattle.rim_sha.specs.inside.TwoBlocks.{AreSumsBelow, IsScheduledTo};
 
 use crate::constants::ROUND_CONSTANTS;
-use crate::four::lanes::{add, next};
+use crate::vectors::{add, next};
 use crate::words::word;
 use std::simd::u32x4;
 

@@ -1,12 +1,13 @@
 //! The schedule of a block (FIPS 180-4, 6.4.2, step 1), two words at a time: each follows from words that are at least
 //! two before it.
 ghost use Rattle.std.specs.Prelude.{◌≡◌, ℕ, List, ◌+◌, ◌*◌, ◌<◌, ◌≤◌, length, slice_index, slice_set};
-ghost use Rattle.sha2.specs.Sha512.{IsWindow, add64, schedule, window_word};
+ghost use Rattle.sha2.specs.Sha512.{IsWindow, schedule, window_word};
 ghost use Rattle.rim_sha.specs.Sums.{AreWideSums};
-ghost use Rattle.rim_sha.specs.inside.Pairs.{AreSumsBelow, IsPair, IsScheduledTo, flat};
+ghost use Rattle.rim_sha.specs.inside.Pairs.{AreSumsBelow, IsScheduledTo, flat};
 
 use crate::wide::constants::ROUND_CONSTANTS;
-use crate::wide::pairs::{add, between, next, pair_at};
+use crate::wide::pairs::{between, pair_at};
+use crate::wide::vectors::{add, next};
 use std::simd::u64x2;
 
 /// Writes each word of a block's schedule with its round's constant.

@@ -1,9 +1,9 @@
-//! Digests of four messages side by side.
-ghost use Rattle.std.specs.Prelude.{◌≤◌};
+//! Digests of messages side by side, which are the first bytes of pages.
+ghost use Rattle.std.specs.Prelude.{◌≡◌, ◌%◌, ◌≤◌};
 
-use super::{fill, front};
-use rim_sha::sha256_four;
-use sha2::{Digest, Sha256};
+use super::{fill, front, wide_front};
+use rim_sha::{sha256_eight, sha256_four, sha512_four};
+use sha2::{Digest, Sha256, Sha512};
 use std::process::Abort;
 
 fn page(seed: u32) -> [u8; 4096] {
@@ -12,21 +12,80 @@ fn page(seed: u32) -> [u8; 4096] {
     bytes
 }
 
-/// The digests of the first blocks of four pages, whose seeds follow one another.
-fn digests(blocks: u8, seed: u32) -> [[u8; 32]; 4]
-    requires { blocks ≤ 64 }
-{
-    let len = 64 * usize::from(blocks);
-    sha256_four(
-        &page(seed)[..len],
-        &page(seed.wrapping_add(1))[..len],
-        &page(seed.wrapping_add(2))[..len],
-        &page(seed.wrapping_add(3))[..len],
-    )
+/// Four pages, whose seeds follow one another.
+fn four_pages(seed: u32) -> [[u8; 4096]; 4] {
+    [
+        page(seed),
+        page(seed.wrapping_add(1)),
+        page(seed.wrapping_add(2)),
+        page(seed.wrapping_add(3)),
+    ]
 }
 
-/// How many blocks, the first seed, and the first eight bytes of each digest by hashlib.
-const DIGESTS: [(u8, u32, [u64; 4]); 4] = [
+/// Eight pages, whose seeds follow one another.
+fn eight_pages(seed: u32) -> [[u8; 4096]; 8] {
+    let [a, b, c, d] = four_pages(seed);
+    let [e, f, g, h] = four_pages(seed.wrapping_add(4));
+    [a, b, c, d, e, f, g, h]
+}
+
+fn sha256_of_four(pages: &[[u8; 4096]; 4], size: usize) -> [[u8; 32]; 4]
+    requires room { size ≤ 4096 }
+    requires whole { size % 64 ≡ 0 }
+{
+    let [a, b, c, d] = pages;
+    sha256_four(&[&a[..size], &b[..size], &c[..size], &d[..size]], size)
+}
+
+fn sha256_of_eight(pages: &[[u8; 4096]; 8], size: usize) -> [[u8; 32]; 8]
+    requires room { size ≤ 4096 }
+    requires whole { size % 64 ≡ 0 }
+{
+    let [a, b, c, d, e, f, g, h] = pages;
+    let messages = [
+        &a[..size],
+        &b[..size],
+        &c[..size],
+        &d[..size],
+        &e[..size],
+        &f[..size],
+        &g[..size],
+        &h[..size],
+    ];
+    sha256_eight(&messages, size)
+}
+
+fn sha512_of_four(pages: &[[u8; 4096]; 4], size: usize) -> [[u8; 64]; 4]
+    requires room { size ≤ 4096 }
+    requires whole { size % 128 ≡ 0 }
+{
+    let [a, b, c, d] = pages;
+    sha512_four(&[&a[..size], &b[..size], &c[..size], &d[..size]], size)
+}
+
+/// The digests by `sha2`, one after another.
+fn sha256_of_each<const N: usize>(pages: &[[u8; 4096]; N], size: usize) -> [[u8; 32]; N]
+    requires { size ≤ 4096 }
+{
+    let mut out = [[0; 32]; N];
+    for j in 0..N {
+        out[j] = Sha256::digest(&pages[j][..size]);
+    }
+    out
+}
+
+fn sha512_of_each<const N: usize>(pages: &[[u8; 4096]; N], size: usize) -> [[u8; 64]; N]
+    requires { size ≤ 4096 }
+{
+    let mut out = [[0; 64]; N];
+    for j in 0..N {
+        out[j] = Sha512::digest(&pages[j][..size]);
+    }
+    out
+}
+
+/// How many blocks of 64 bytes, the first seed, and the first eight bytes of each digest by hashlib.
+const SHA256: [(u8, u32, [u64; 4]); 4] = [
     (
         0,
         0,
@@ -69,42 +128,139 @@ const DIGESTS: [(u8, u32, [u64; 4]); 4] = [
     ),
 ];
 
+/// How many blocks of 128 bytes, the first seed, and the first eight bytes of each digest by hashlib.
+const SHA512: [(u8, u32, [u64; 4]); 4] = [
+    (
+        0,
+        0,
+        [
+            0xcf83_e135_7eef_b8bd,
+            0xcf83_e135_7eef_b8bd,
+            0xcf83_e135_7eef_b8bd,
+            0xcf83_e135_7eef_b8bd,
+        ],
+    ),
+    (
+        1,
+        1,
+        [
+            0x0a7a_c4de_2533_e502,
+            0xfb3e_c783_b799_9ada,
+            0xa099_f1e8_edb1_97d1,
+            0x0f9a_58b4_cb7b_2f2f,
+        ],
+    ),
+    (
+        2,
+        2,
+        [
+            0x54a2_1926_c9ad_7e27,
+            0xac17_3ff6_7a12_5437,
+            0x4a2c_6d54_f848_8506,
+            0x5551_54ce_28e3_6fd0,
+        ],
+    ),
+    (
+        32,
+        3,
+        [
+            0x94c6_711d_149c_d498,
+            0x908c_cd82_c3ce_5426,
+            0x2c48_1f0e_9b6e_2994,
+            0x37ca_0c65_f12e_1dd8,
+        ],
+    ),
+];
+
 fn check_fronts(rt: &impl Abort, blocks: u8, seed: u32, fronts: [u64; 4]) {
-    let [a, b, c, d] = digests(blocks.min(64), seed);
+    let [a, b, c, d] = sha256_of_four(&four_pages(seed), 64 * usize::from(blocks.min(64)));
     let found = [front(&a), front(&b), front(&c), front(&d)];
+    assert!(rt; found == fronts, "{blocks} blocks");
+}
+
+fn check_wide_fronts(rt: &impl Abort, blocks: u8, seed: u32, fronts: [u64; 4]) {
+    let [a, b, c, d] = sha512_of_four(&four_pages(seed), 128 * usize::from(blocks.min(32)));
+    let found = [
+        wide_front(&a),
+        wide_front(&b),
+        wide_front(&c),
+        wide_front(&d),
+    ];
     assert!(rt; found == fronts, "{blocks} blocks");
 }
 
 #[test]
 fn digests_of_another_program(rt: HostRuntime) {
-    for (blocks, seed, fronts) in &DIGESTS {
+    for (blocks, seed, fronts) in &SHA256 {
         check_fronts(&rt, *blocks, *seed, *fronts);
+    }
+    for (blocks, seed, fronts) in &SHA512 {
+        check_wide_fronts(&rt, *blocks, *seed, *fronts);
     }
 }
 
-fn are_those_of_sha2(blocks: u8, seed: u32) -> bool
-    requires { blocks ≤ 64 }
-{
-    let len = 64 * usize::from(blocks);
-    let alone = [
-        Sha256::digest(&page(seed)[..len]),
-        Sha256::digest(&page(seed.wrapping_add(1))[..len]),
-        Sha256::digest(&page(seed.wrapping_add(2))[..len]),
-        Sha256::digest(&page(seed.wrapping_add(3))[..len]),
-    ];
-    digests(blocks, seed) == alone
+fn check_four(rt: &impl Abort, pages: &[[u8; 4096]; 4], blocks: u8) {
+    let size = 128 * usize::from(blocks.min(32));
+    assert!(rt;
+        sha256_of_four(pages, size) == sha256_of_each(pages, size),
+        "{size} bytes"
+    );
+    assert!(rt;
+        sha512_of_four(pages, size) == sha512_of_each(pages, size),
+        "{size} bytes"
+    );
+}
+
+fn check_eight(rt: &impl Abort, pages: &[[u8; 4096]; 8], blocks: u8) {
+    let size = 64 * usize::from(blocks.min(64));
+    assert!(rt;
+        sha256_of_eight(pages, size) == sha256_of_each(pages, size),
+        "{size} bytes"
+    );
 }
 
 #[test]
 fn pages(rt: HostRuntime) {
-    for seed in 0..1000u32 {
-        assert!(rt; are_those_of_sha2(64, 4 * seed), "seed {seed}");
+    for seed in 0..100u32 {
+        check_four(&rt, &four_pages(4 * seed), 32);
+        check_eight(&rt, &eight_pages(8 * seed), 64);
     }
 }
 
 #[test]
 fn fewer_blocks(rt: HostRuntime) {
+    for blocks in 0..32u8 {
+        check_four(&rt, &four_pages(7), blocks);
+    }
     for blocks in 0..64u8 {
-        assert!(rt; are_those_of_sha2(blocks, 7), "{blocks} blocks");
+        check_eight(&rt, &eight_pages(7), blocks);
+    }
+}
+
+/// Whole blocks of 64 bytes that are none of 128.
+#[test]
+fn odd_blocks(rt: HostRuntime) {
+    let pages = four_pages(9);
+    for turn in 0..32u8 {
+        let size = 128 * usize::from(turn) + 64;
+        assert!(rt;
+            sha256_of_four(&pages, size) == sha256_of_each(&pages, size),
+            "{size} bytes"
+        );
+    }
+}
+
+/// One lane has another page than the others.
+#[test]
+fn one_that_differs(rt: HostRuntime) {
+    for lane in 0..4usize {
+        let mut pages = [page(1); 4];
+        pages[lane] = page(2);
+        check_four(&rt, &pages, 32);
+    }
+    for lane in 0..8usize {
+        let mut pages = [page(1); 8];
+        pages[lane] = page(2);
+        check_eight(&rt, &pages, 64);
     }
 }

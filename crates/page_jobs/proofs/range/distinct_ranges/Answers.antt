@@ -23,4 +23,6 @@ pub returns : goal.returns
 returns c =
     ap (flat_map range_keys) (fresh-end _ _ _ _ c.loop-end.invariant c.loop-end-test.false)
     ∙ ap (λ (ends : List PageKey). flat_map range_keys (fresh_ranges None ends)) c.deref-end-items.ensures.value
-    ∙ fresh-distinct _ _ c.sort_unstable.ensures.permutation (λ k d low high. by_key (get_or c.sort_unstable.new.self.items (k + 1) d) (get_or c.sort_unstable.new.self.items k d) (c.sort_unstable.ensures.sorted k d low high))
+    ∙ fresh-distinct _ _ c.sort_unstable.ensures.permutation
+    (λ k d low high. by_key (get_or c.sort_unstable.new.self.items (k + 1) d) (get_or c.sort_unstable.new.self.items k d)
+    (c.sort_unstable.ensures.sorted k d low high))

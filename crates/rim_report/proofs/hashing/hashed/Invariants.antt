@@ -4,4 +4,4 @@ use Rattle.rim_report.specs.inside.Filled.{IsFilledTo}
 use Rattle.rim_report.proofs.hashing.hashed.Given as goal
 
 abbrev pub invariant-loop-slot : goal.invariant-loop-slot
-invariant-loop-slot l = (l.table.pages ≡ map page_view l.pages) × IsFilledTo l.table l.slot
+invariant-loop-slot l = (l.ahead.pages.now ≡ l.pages) × (l.table.pages ≡ map page_view l.pages) × IsFilledTo l.table l.slot

@@ -5,7 +5,7 @@ use Rattle.page_jobs.specs.Table.{page_keys_of}
 use Rattle.rim_chain.specs.Links.{keys_of}
 use Rattle.rim_report.proofs.workers.run.Goals as goal
 
-pub new-requires-clause-keys : goal.new-requires-clause-keys
-new-requires-clause-keys g c =
+pub with_lanes-requires-clause-keys : goal.with_lanes-requires-clause-keys
+with_lanes-requires-clause-keys g c =
     subst (λ (ps : List PageView). All (λ p. All (Contains (page_keys_of ps)) (keys_of p.links)) c.args.plans.now)
     (sym c.in_ok-table.ensures.pages) c.requires.keys

@@ -1,17 +1,12 @@
-use Rattle.std.proofs.Common.{◌∙◌, ap}
-use Rattle.page_jobs.specs.Page.{digest_of, page_view}
-use Rattle.page_jobs.specs.declared.page.Page.{Page}
-use Rattle.rim_audit.proofs.ListedPages.{third-after}
+use Rattle.std.proofs.Common.{◌≡◌, ℕ, ◌+◌, add-zero, ap, ◌∙◌, arith}
+use Rattle.rim_audit.specs.inside.Beside.{content_in}
+use Rattle.rim_audit.proofs.GroupsOfPages.{kept_digest}
 use Rattle.rim_audit.proofs.commands.LaunchCommands.content_of.Goals as goal
 
-pub keep-requires-clause-content : goal.keep-requires-clause-content
-keep-requires-clause-content c =
-    c.job.ensures c.run.result.digest (c.run.result.own ∙ ap (λ (q : Page). digest_of (page_view q)) c.run.ensures)
-
-pub returns-then-items-item-clause-content : goal.returns-then-items-item-clause-content
-returns-then-items-item-clause-content c =
-    c.job.ensures c.run.result.digest (c.run.result.own ∙ ap (λ (q : Page). digest_of (page_view q)) c.run.ensures)
-
-pub hash_group-requires : goal.hash_group-requires
-hash_group-requires c =
-    third-after c.args.self.now.accepted.placed c.items.result.now c.args.item c.args.page _ c.items.ensures c.requires.page c.if-items-item.false
+pub returns-clause-content : goal.returns-clause-content
+returns-clause-content c =
+    let group = c.hash_group-group.result in
+    let self = c.args.self.now in
+    let first : group.first + 0 ≡ c.args.page = add-zero group.first ∙ c.hash_group-group.ensures.first in
+    c.hash_group-group.ensures.group 0 _ (kept_digest group.digests.all group.digests.count 0 _ c.hash_group-group.ensures.some (omega arith))
+    ∙ (λ i. content_in self (c.hash_group-group.ensures.item i) (first i))

@@ -1,45 +1,39 @@
-use Rattle.std.proofs.Common.{◌∙◌, ◌+◌, ◌<◌, ap, arith}
+use Rattle.std.proofs.Common.{◌≡◌, ℕ, ◌+◌, ◌<◌, ◌≤◌, List, [], ◌∷◌, take, add-zero, subst, ap, sym, ◌∙◌, arith}
 use Rattle.ipa_layout.specs.Files.{bytes_of_files}
-use Rattle.page_jobs.specs.Page.{digest_of, page_view}
+use Rattle.page_jobs.specs.Page.{page_view}
 use Rattle.page_jobs.specs.declared.page.Page.{Page}
-use Rattle.rim_audit.proofs.ListedPages.{page-low}
+use Rattle.page_jobs.proofs.PagesSideBySide.{each_at}
+use Rattle.rim_audit.specs.inside.Beside.{DigestIsContent}
+use Rattle.rim_audit.proofs.GroupsOfPages.{digest_in_group}
+use Rattle.rim_audit.proofs.ListedPages.{page-few}
 use Rattle.rim_audit.proofs.commands.LaunchCommands.hash_group.Goals as goal
 
-pub overflow_add-page : goal.overflow_add-page
-overflow_add-page c =
-    let low : c.args.page + 3 < 4503599627370496
-    = page-low c.args.self.now.accepted.launch.now (bytes_of_files c.args.self.now.accepted.files.now) c.args.self.now.accepted.placed c.args.item
-    (c.args.page + 3) c.args.self.now.accepted.is_placed c.requires in
-    omega (arith, low)
-
-pub overflow_add-page-2 : goal.overflow_add-page-2
-overflow_add-page-2 c =
-    let low : c.args.page + 3 < 4503599627370496
-    = page-low c.args.self.now.accepted.launch.now (bytes_of_files c.args.self.now.accepted.files.now) c.args.self.now.accepted.placed c.args.item
-    (c.args.page + 3) c.args.self.now.accepted.is_placed c.requires in
-    omega (arith, low)
-
-pub overflow_add-page-3 : goal.overflow_add-page-3
-overflow_add-page-3 c =
-    let low : c.args.page + 3 < 4503599627370496
-    = page-low c.args.self.now.accepted.launch.now (bytes_of_files c.args.self.now.accepted.files.now) c.args.self.now.accepted.placed c.args.item
-    (c.args.page + 3) c.args.self.now.accepted.is_placed c.requires in
-    omega (arith, low)
-
-pub returns-clause-content : goal.returns-clause-content
-returns-clause-content c =
-    c.job.ensures c.run_four.result.0.digest (c.run_four.result.0.own ∙ ap (λ (q : Page). digest_of (page_view q)) c.run_four.ensures.first)
-
 pub returns-clause-group : goal.returns-clause-group
-returns-clause-group c = record {
-  second = c.job-2.ensures c.run_four.result.1.digest (c.run_four.result.1.own ∙ ap (λ (q : Page). digest_of (page_view q)) c.run_four.ensures.second);
-  third = c.job-3.ensures c.run_four.result.2.digest (c.run_four.result.2.own ∙ ap (λ (q : Page). digest_of (page_view q)) c.run_four.ensures.third);
-  fourth = c.job-4.ensures c.run_four.result.3.digest (c.run_four.result.3.own ∙ ap (λ (q : Page). digest_of (page_view q)) c.run_four.ensures.fourth);
-}
+returns-clause-group c k m there =
+    let after = c.pages_after-after.result in
+    let pages : List Page = c.page_after.result ∷ c.page_after-2.result ∷ c.page_after-3.result ∷ c.page_after-4.result
+    ∷ c.page_after-5.result ∷ c.page_after-6.result ∷ c.page_after-7.result ∷ c.page_after-8.result ∷ [] in
+    let n : ℕ = c.min.result + 1 in
+    let part : c.split_at.result.0.now ≡ take n pages = c.split_at.ensures.front in
+    let found = digest_in_group pages n _ (rw part at c.hash_group.ensures.digests) k m c.page_after.result there in
+    let own = each_at (λ (j : ℕ) (q : Page). j ≤ after → DigestIsContent c.args.self.now c.args.item (c.args.page + j) (page_view q)) pages n k _ (
+      c.page_after.ensures,
+      (
+        c.page_after-2.ensures,
+        (
+          c.page_after-3.ensures,
+          (
+            c.page_after-4.ensures,
+            (c.page_after-5.ensures, (c.page_after-6.ensures, (c.page_after-7.ensures, (c.page_after-8.ensures, tt)))),
+          ),
+        ),
+      ),
+    ) found.0 in
+    own (omega (arith, found.2)) m found.1
 
 pub returns-clause-low : goal.returns-clause-low
 returns-clause-low c =
-    let low : c.args.page + 3 < 4503599627370496
-    = page-low c.args.self.now.accepted.launch.now (bytes_of_files c.args.self.now.accepted.files.now) c.args.self.now.accepted.placed c.args.item
-    (c.args.page + 3) c.args.self.now.accepted.is_placed c.requires in
-    omega (arith, low)
+    let low : c.args.page < 1048576 =
+    page-few c.args.self.now.accepted.launch.now (bytes_of_files c.args.self.now.accepted.files.now) c.args.self.now.accepted.placed c.args.item c.args.page
+    c.args.self.now.accepted.is_placed c.requires in
+    omega (arith, low, c.hash_group.result.within)

@@ -2,7 +2,7 @@ use Rattle.std.proofs.Common.{slice_index, ap, ◌∙◌}
 use Rattle.sha2.specs.Sha256.{round, round_constants, schedule}
 use Rattle.rim_sha.proofs.KnownBlocks.{round_known, rounds_known, sum_at}
 use Rattle.rim_sha.specs.inside.Lanes.{lane}
-use Rattle.rim_sha.proofs.Vectors.{splat}
+use Rattle.rim_sha.proofs.LaneByLane.{splat}
 use Rattle.rim_sha.proofs.four.known_blocks.step.Goals as goal
 
 pub returns : goal.returns

@@ -4,4 +4,4 @@ use Rattle.rim_sha.specs.inside.Lanes.{lane, message}
 use Rattle.rim_sha.proofs.four.messages.final_hashes.Given as goal
 
 abbrev pub invariant-each : goal.invariant-each
-invariant-each l = (j : ℕ) → j < 4 → lane j l.state ≡ hash_after initial_hash_256 (message l.m0 l.m1 l.m2 l.m3 j) l.i
+invariant-each l = (j : ℕ) → j < 4 → lane j l.state ≡ hash_after initial_hash_256 (message l.messages j) l.i

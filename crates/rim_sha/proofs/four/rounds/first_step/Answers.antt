@@ -1,7 +1,7 @@
 use Rattle.std.proofs.Common.{refl, sym}
 use Rattle.rim_sha.specs.inside.Lanes.{lane, window}
 use Rattle.sha2.proofs.Schedule256.{rounds_first}
-use Rattle.rim_sha.proofs.Vectors.{window_at}
+use Rattle.rim_sha.proofs.LaneByLane.{window_at}
 use Rattle.rim_sha.proofs.four.rounds.first_step.Goals as goal
 
 pub returns : goal.returns

@@ -1,5 +1,5 @@
 use Rattle.std.proofs.Common.{◌≡◌, ◌+◌, ◌%◌, arith}
-use Rattle.rim_sha.proofs.Vectors.{window_at}
+use Rattle.rim_sha.proofs.LaneByLane.{window_at}
 use Rattle.rim_sha.proofs.four.rounds.next_word.Goals as goal
 
 pub returns-clause-value : goal.returns-clause-value

@@ -1,7 +1,7 @@
 use Rattle.std.proofs.Common.{◌≡◌, ◌+◌, ◌*◌, ◌%◌, ◌∙◌, arith, ap, refl}
 use Rattle.rim_sha.specs.inside.Lanes.{lane, window}
 use Rattle.sha2.proofs.Schedule256.{IsRoundsAt_at, rounds_window, window_word_place}
-use Rattle.rim_sha.proofs.Vectors.{window_set}
+use Rattle.rim_sha.proofs.LaneByLane.{window_set}
 use Rattle.rim_sha.proofs.four.rounds.step.Goals as goal
 
 pub returns : goal.returns

@@ -11,9 +11,11 @@ schedule-init c = (
 pub schedule-preserved : goal.schedule-preserved
 schedule-preserved c = (
   IsScheduledTo_at 0 1 c.args.a.now _ _ _ _ (omega arith)
-      (c.four_steps-in-schedule.ensures.first c.args.a.now (c.four_steps.ensures.first c.args.a.now (IsScheduledTo_at 0 1 c.args.a.now _ _ _ _ (omega arith) c.schedule.invariant.0))),
+      (c.four_steps-in-schedule.ensures.first c.args.a.now
+      (c.four_steps.ensures.first c.args.a.now (IsScheduledTo_at 0 1 c.args.a.now _ _ _ _ (omega arith) c.schedule.invariant.0))),
   IsScheduledTo_at 2 3 c.args.b.now _ _ _ _ (omega arith)
-      (c.four_steps-in-schedule.ensures.second c.args.b.now (c.four_steps.ensures.second c.args.b.now (IsScheduledTo_at 2 3 c.args.b.now _ _ _ _ (omega arith) c.schedule.invariant.1))),
+      (c.four_steps-in-schedule.ensures.second c.args.b.now
+      (c.four_steps.ensures.second c.args.b.now (IsScheduledTo_at 2 3 c.args.b.now _ _ _ _ (omega arith) c.schedule.invariant.1))),
 )
 
 pub returns : goal.returns

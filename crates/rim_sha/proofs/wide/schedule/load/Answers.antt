@@ -8,7 +8,17 @@ pub returns : goal.returns
 unfolding first_words
 returns c =
     let b = c.args.block.now in
-    let w : List (List ℕ) = c.pair_at.result ∷ c.pair_at-2.result ∷ c.pair_at-3.result ∷ c.pair_at-4.result ∷ c.pair_at-5.result ∷ c.pair_at-6.result ∷ c.pair_at-7.result ∷ c.pair_at-8.result ∷ [] in
+    let w : List (List ℕ) = c.pair_at.result ∷ c.pair_at-2.result ∷ c.pair_at-3.result ∷ c.pair_at-4.result ∷ c.pair_at-5.result ∷ c.pair_at-6.result ∷
+    c.pair_at-7.result ∷ c.pair_at-8.result ∷ [] in
     let same : flat 0 1 w ≡ first_words b 16 =
-    rw (c.pair_at.ensures, c.pair_at-2.ensures, c.pair_at-3.ensures, c.pair_at-4.ensures, c.pair_at-5.ensures, c.pair_at-6.ensures, c.pair_at-7.ensures, c.pair_at-8.ensures) refl in
+    rw (
+      c.pair_at.ensures,
+      c.pair_at-2.ensures,
+      c.pair_at-3.ensures,
+      c.pair_at-4.ensures,
+      c.pair_at-5.ensures,
+      c.pair_at-6.ensures,
+      c.pair_at-7.ensures,
+      c.pair_at-8.ensures,
+    ) refl in
     IsWindow_first b (flat 0 1 w) refl (λ k lt. ap (λ (x : List ℕ). slice_index x k) same ∙ slice_index-first_words b 16 k lt)

@@ -1,0 +1,40 @@
+use Rattle.std.proofs.Common.{◌≡◌, ◌+◌, ◌*◌, ◌≤◌, ◌∙◌, List, None, ap, arith, false, length, replicate, rules, sym, ℕ}
+use Rattle.std.specs.Prelude.{vec_capacity}
+use Rattle.std.proofs.lemmas.List.{length-map, length-replicate}
+use Rattle.std.specs.List.{slice_get}
+use Rattle.page_jobs.specs.Page.{page_view}
+use Rattle.rim_chain.specs.Links.{PlanView}
+use Rattle.job_board.specs.declared.job.JobState.TheVariants.{Free}
+use Rattle.job_board.specs.Jobs.{opening}
+use Rattle.job_board.specs.History.{most_events}
+use Rattle.job_board.specs.inside.Needs.{needs_of}
+use Rattle.job_board.proofs.NewBoards.{board_new, plan_fits, rows_new}
+use Rattle.job_board.proofs.CoreCounts.{core_fresh}
+use Rattle.job_board.proofs.state.BoardState.with_lanes.Goals as goal
+
+pub invariant_of-result : goal.invariant_of-result
+invariant_of-result g c =
+    let count = length c.args.plans.now in
+    let size = length c.args.table.pages in
+    let needs : List (List ℕ) = needs_of c.in_ok-needs.needs in
+    let own = c.in_ok-needs.ensures.own in
+    let pages : length c.pages-pages.result.now ≡ size = sym (length-map c.pages-pages.result.now page_view) ∙ ap length c.pages-pages.ensures.pages in
+    let core : c.in_ok-core.core ≡ opening c.args.workers size needs = c.in_ok-core.ensures ∙ ap (λ (n : ℕ). opening c.args.workers n needs) pages in
+    let none : c.in_ok-results.results.items ≡ replicate count None = search rules in
+    let most : most_events c.in_ok-core.core ≡
+    2 * (length (replicate size Free) + length (replicate (length needs) Free)) + 2 * length (replicate c.args.workers false) = ap most_events core in
+    let cap : 2 * (length c.pages-pages.result.now + count) + 2 * c.args.workers ≤ vec_capacity c.in_ok-history.history = search rules in
+    let fresh = core_fresh c.args.workers size needs c.requires.workers.0 c.requires.workers.1 c.in_ok-needs.ensures.needs.within in (
+      rw (core, c.in_ok-history.ensures.empty, none, c.open-book.ensures.total)
+          (board_new c.args.workers c.args.table c.args.plans.now needs fresh c.pages-pages.ensures.table c.requires.empty own),
+      omega (arith, most, cap, pages, own.size, length-replicate size Free, length-replicate (length needs) Free, length-replicate c.args.workers false),
+      rw (core, c.in_ok-rows.ensures) (rows_new c.args.workers size needs c.args.plans.now c.most_pages-room.result c.most_pages-room.ensures),
+      c.in_ok-prefixes.ensures c.args.table c.args.plans.now,
+      (c.requires.pages, c.requires.plans),
+    )
+
+pub worker_rows-requires : goal.worker_rows-requires
+worker_rows-requires g c = record {
+  most = λ l p at. plan_fits c.args.plans.now c.most_pages-room.result c.most_pages-room.ensures l p
+      (ap (λ (plans : List PlanView). slice_get plans l) c.requires.plans ∙ at);
+}

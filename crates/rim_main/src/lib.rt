@@ -1,0 +1,85 @@
+//! The program `rim`, for a processor with vectors of a width.
+#![tactic(auto)]
+
+mod progress;
+
+use crate::progress::Progress;
+pub use rim_cli::Lanes;
+use rim_cli::{Opener, advise, asks_for_bytes, report_terminal, report_unreadable, run};
+use std::fs::File;
+use std::io;
+use std::io::{Eprint, ErrorKind, IsTerminal};
+use std::process::ExitCode;
+use std::sync::Wait;
+use std::thread::Threads;
+use std::time::Clock;
+
+/// Opens the files of the system.
+#[derive(Drop)]
+struct FileOpener<'a> {
+    rt: &'a HostRuntime,
+    /// Why the last file could not be opened.
+    failure: Option<ErrorKind>,
+}
+
+impl Opener for FileOpener<'_> {
+    type Reader = File;
+
+    fn open(&mut self, path: &str) -> Option<File> {
+        match File::open(self.rt, path) {
+            Ok(file) => Some(file),
+            Err(error) => {
+                self.failure = Some(error.kind());
+                None
+            }
+        }
+    }
+
+    fn failure(&self) -> Option<ErrorKind> {
+        self.failure
+    }
+}
+
+/// The exit status of a run that ends with a fault of the manifest, a file or the output.
+const FAULT: u8 = 3;
+
+/// Runs the program by the words of its command line. A library has the right to start threads and to wait by a handle alone, so
+/// `main` lends its runtime as that too. Pages and launches are hashed side by side in as many lanes; nothing that
+/// it prints depends on that.
+pub fn run_program<R: Threads + Wait + Clock + Eprint + Sync>(
+    rt: &HostRuntime,
+    workers: &R,
+    lanes: Lanes,
+) -> ExitCode {
+    let words = match words(rt) {
+        Ok(Some(words)) => words,
+        Ok(None) => return ExitCode::from(report_terminal(&mut rt.stderr())),
+        Err(error) => return ExitCode::from(report_unreadable(&error, &mut rt.stderr())),
+    };
+    let is_terminal = rt.stderr().is_terminal();
+    let mut opener = FileOpener { rt, failure: None };
+    let status = run(
+        workers,
+        rt.alloc(),
+        &mut Progress::new(workers, is_terminal, lanes),
+        words.as_slice(),
+        &mut opener,
+        &mut io::writer(rt),
+        &mut rt.stderr(),
+    );
+    // At a terminal one more line says where to look.
+    if status == FAULT && is_terminal {
+        advise(rt.alloc(), words.as_slice(), &mut opener, &mut rt.stderr());
+    }
+    ExitCode::from(status)
+}
+
+/// The words of the command line, of which the first is the program's name; or `None` where they ask for bytes that are no
+/// text, and these would be written to a terminal.
+fn words(rt: &HostRuntime) -> io::Result<Option<Vec<String>>> {
+    let words: Vec<String> = std::env::args(rt)?.collect(rt.alloc())?;
+    if rt.stdout().is_terminal() && asks_for_bytes(rt.alloc(), words.as_slice())? {
+        return Ok(None);
+    }
+    Ok(Some(words))
+}

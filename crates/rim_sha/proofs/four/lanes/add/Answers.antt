@@ -1,6 +1,0 @@
-use Rattle.sha2.specs.Sha256.{add32}
-use Rattle.rim_sha.proofs.Vectors.{both, itself}
-use Rattle.rim_sha.proofs.four.lanes.add.Goals as goal
-
-pub returns : goal.returns
-returns c = both add32 _ _ _ _ (itself c.args.x c.fits-x.0) (itself c.args.y c.fits-y.0)

@@ -1,0 +1,75 @@
+//! The words of a block of each message (FIPS 180-4, 5.2.1), which are the first 16 of its schedule.
+ghost use Rattle.std.specs.Prelude.{ℕ, ◌+◌, ◌*◌, ◌<◌, ◌≤◌, length, slice_index_or, take, drop, []};
+ghost use Rattle.sha2.specs.Sha256.{IsWindow, schedule, word_at};
+ghost use Rattle.rim_sha.specs.inside.Lanes.{IsLanes, message, window};
+
+use crate::words::{block_word, message, word};
+use std::simd::u32x8;
+
+/// The words of the blocks that begin at a byte of the messages.
+#[inline(always)]
+pub(crate) fn load(messages: &[&[u8]; 8], at: usize) -> [u32x8; 16]
+    requires room { (j : ℕ) → j < 8 → at + 64 ≤ length (message messages.now j) }
+    ensures { (j : ℕ) → j < 8
+        → IsWindow (window j result) (schedule (take 64 (drop at (message messages.now j))) 48) 16 }
+{
+    let mut w = [u32x8::splat(0); 16];
+    'words: for i in 0..16 {
+        w[i] = words_of(messages, at, i);
+    }
+    w
+}
+
+/// Word i of each of these blocks.
+#[inline(always)]
+fn words_of(messages: &[&[u8]; 8], at: usize, i: usize) -> u32x8
+    requires room { (j : ℕ) → j < 8 → at + 64 ≤ length (message messages.now j) }
+    requires word { i < 16 }
+    ensures { IsLanes 8 result (λ j. word_at (take 64 (drop at (message messages.now j))) (4 * i)) }
+{
+    let mut words = [0; 8];
+    'lanes: for j in 0..8 {
+        words[j] = block_word(message(messages, j), at, i);
+    }
+    u32x8::from_array(words)
+}
+
+/// The words of the blocks that begin at a byte of the descriptors.
+#[inline(always)]
+pub(crate) fn load_heads(descriptors: &[[u8; 256]; 8], at: usize) -> [u32x8; 16]
+    requires { at + 64 ≤ 256 }
+    ensures { (j : ℕ) → j < 8 → IsWindow (window j result)
+        (schedule (take 64 (drop at (slice_index_or descriptors.now j []))) 48) 16 }
+{
+    let mut w = [u32x8::splat(0); 16];
+    'words: for i in 0..16 {
+        w[i] = words_of_heads(descriptors, at, i);
+    }
+    w
+}
+
+/// Word i of each of these blocks.
+#[inline(always)]
+fn words_of_heads(descriptors: &[[u8; 256]; 8], at: usize, i: usize) -> u32x8
+    requires room { at + 64 ≤ 256 }
+    requires word { i < 16 }
+    ensures { IsLanes 8 result
+        (λ j. word_at (take 64 (drop at (slice_index_or descriptors.now j []))) (4 * i)) }
+{
+    let mut words = [0; 8];
+    'lanes: for j in 0..8 {
+        words[j] = block_word(&descriptors[j], at, i);
+    }
+    u32x8::from_array(words)
+}
+
+/// The words of one block, in each lane.
+pub(crate) fn load_same(block: &[u8; 64]) -> [u32x8; 16]
+    ensures { (j : ℕ) → j < 8 → IsWindow (window j result) (schedule block.now 48) 16 }
+{
+    let mut w = [u32x8::splat(0); 16];
+    'words: for i in 0..16 {
+        w[i] = u32x8::splat(word(block, 4 * i));
+    }
+    w
+}
