@@ -15,7 +15,7 @@ pub mod HoldersByEvents
 pub mod ReadyStaysReady
 -- where some job is not done and no worker holds one, worker 0 may take one
 pub mod NeverStuck
--- where no page is free and each launch that is ready waits for an earlier one, some worker holds a job
+-- where nothing is free that is ready, some worker holds a job
 pub mod WaitsForHeld
 -- each put has its job's own value, since a row is gathered of pages that are done
 pub mod OwnValues

@@ -7,7 +7,7 @@ use Rattle.std.proofs.lemmas.Bool.{and_parts}
 use Rattle.std.proofs.lemmas.List.{take-append-drop}
 use Rattle.std.proofs.lemmas.List.Concat.{flat_map-append}
 use Rattle.std.proofs.lemmas.List.Folds.{list_all-append}
-use Rattle.std.proofs.lemmas.Option.{same_Some, slice_get_cases, slice_get_within}
+use Rattle.std.proofs.lemmas.Option.{same_Some, slice_get-map, slice_get_cases, slice_get_within}
 use Rattle.rim_desc.specs.declared.measurement.Measurement.{Measurement}
 use Rattle.page_jobs.specs.Page.{PageView, digest_of}
 use Rattle.page_jobs.specs.Table.{IsTable, TableView, digest_at, digest_in, slot_of}
@@ -16,7 +16,7 @@ use Rattle.rim_chain.specs.Jobs.{JobView}
 use Rattle.rim_chain.specs.Links.{PlanView, chain_of, keys_in, keys_of}
 use Rattle.rim_chain.specs.declared.link.Link.{Link}
 use Rattle.rim_chain.specs.Rows.{HaveFirstPages, IsRowOf, has_all}
-use Rattle.job_board.specs.Tasks.{IsOwnLaunch, IsOwnRow, IsOwnValue, digest_among}
+use Rattle.job_board.specs.Tasks.{IsOwnLaunch, IsOwnRow, IsOwnValue, digest_among, whole_table}
 use Rattle.job_board.specs.inside.Rows.{AreDigestsFor}
 
 same_bytes : (m d : Measurement) → m.bytes ≡ d.bytes → m ≡ d
@@ -70,6 +70,31 @@ module _ (t : TableView) (table : IsTable t) where
       let here : digest_among t.pages key ≡ Some d.bytes = cc in
       let rest : map (digest_among t.pages) keys ≡ map (λ (e : Measurement). Some e.bytes) digests = cc in
       rw (key_row key d here parts.0, row_of_own keys digests rest parts.1) refl
+
+-- it is the row of these pages' whole table too
+whole_key : (pages : List PageView) (key : PageKey) (d : Measurement) → digest_among pages key ≡ Some d.bytes → digest_at (whole_table pages) key ≡ Some d
+whole_key pages key d own = by (slot_of pages key) own
+  where
+    in_slot : (o : Option PageView) → option_map digest_of o ≡ Some d.bytes
+        → option_and_then (λ (slot : Option Measurement). slot) (option_map (λ p. let m : Measurement = record { bytes = digest_of p } in Some m) o) ≡ Some d
+    in_slot None none = cc
+    in_slot (Some p) at = ap (λ bytes. let m : Measurement = record { bytes = bytes } in Some m) (same_Some (digest_of p) d.bytes at)
+
+    by : (o : Option ℕ) → option_map digest_of (option_and_then (slice_get pages) o) ≡ Some d.bytes → option_and_then (digest_in (whole_table pages)) o ≡ Some d
+    by None none = cc
+    by (Some j) at =
+        ap (option_and_then (λ (slot : Option Measurement). slot)) (slice_get-map (λ p. let m : Measurement = record { bytes = digest_of p } in Some m) pages j)
+        ∙ in_slot (slice_get pages j) at
+
+pub whole_row : (pages : List PageView) (keys : List PageKey) (digests : List Measurement) → IsOwnRow pages keys digests
+    → IsRowOf (whole_table pages) keys digests
+whole_row pages [] [] own = refl
+whole_row pages [] (d ∷ digests) own = cc
+whole_row pages (key ∷ keys) [] own = cc
+whole_row pages (key ∷ keys) (d ∷ digests) own =
+    let here : digest_among pages key ≡ Some d.bytes = cc in
+    let rest : map (digest_among pages) keys ≡ map (λ (e : Measurement). Some e.bytes) digests = cc in
+    rw (whole_key pages key d here, whole_row pages keys digests rest) refl
 
 -- the first digests are those of the first keys
 own_front : (pages : List PageView) (front back : List PageKey) (digests : List Measurement) → IsOwnRow pages (front ++ back) digests

@@ -1,13 +1,12 @@
--- Where no page is free and each launch that is free and ready waits for an earlier one, some worker holds a job.
-use Rattle.std.proofs.Common.{◌≡◌, ℕ, zero, suc, ◌<◌, Bool, true, false, ◌&&◌, List, [], ◌∷◌, length, get_or, Some, refl, sym, ap, ◌∙◌, arith, inl, inr}
+-- Where no page is free, no launch that is free is ready and not all is done, some worker holds a job.
+use Rattle.std.proofs.Common.{◌≡◌, ℕ, suc, ◌<◌, Bool, true, false, ◌&&◌, List, [], ◌∷◌, length, get_or, Some, refl, sym, ap, ◌∙◌, arith}
 use Rattle.std.specs.List.{All, slice_get, list_all}
 use Rattle.std.proofs.lemmas.Bool.{true≢false}
 use Rattle.std.proofs.lemmas.Option.{slice_get-get_or}
 use Rattle.job_board.specs.declared.job.JobId.TheVariants.{Page, Launch}
 use Rattle.job_board.specs.declared.job.JobState.{JobState}
 use Rattle.job_board.specs.declared.job.JobState.TheVariants.{Free, Held, Done}
-use Rattle.job_board.specs.Jobs.{CoreState, IsCore, NoneFree, SomeHeld, is_done, is_over, is_page_done, is_ready}
-use Rattle.job_board.specs.inside.Waiting.{AllWait, IsLeft}
+use Rattle.job_board.specs.Jobs.{CoreState, IsCore, NoneFree, NoneOpen, SomeHeld, is_done, is_over, is_page_done}
 use Rattle.job_board.proofs.NeverStuck.{needs_at, some_open}
 
 -- a page that is not done is held, since none is free
@@ -28,27 +27,16 @@ held_need s (p ∷ ps) none within h =
     let rest : All (λ p. p < length s.pages) ps = λ k d lt. within (suc k) d (let lt' : suc k < suc (length ps) = omega (arith, lt) in lt') in
     held_first s p ps (is_page_done s.pages p) refl none (within 0 0 (omega arith)) h (λ e. held_need s ps none rest e)
 
--- a free launch: a page that it needs is held, or it waits for an earlier one
-held_free : (s : CoreState) (l : ℕ) (b : Bool) → is_ready s (Launch l) ≡ b → IsCore s → NoneFree s.pages → AllWait s → slice_get s.launches l ≡ Some Free
-    → ((e : ℕ) → e < l → IsLeft s e → SomeHeld s) → SomeHeld s
-held_free s l false is core none wait free earlier = held_need s (get_or s.needs l []) none (needs_at (λ p. p < length s.pages) s.needs l core.needs) is
-held_free s l true is core none wait free earlier = let e = wait l (free, is) in earlier e.0 e.1 e.2
-
--- by induction on the launch's number
-held_launch : (s : CoreState) → IsCore s → NoneFree s.pages → AllWait s → (n l : ℕ) → l < n → IsLeft s l → SomeHeld s
-held_launch s core none wait zero l lt left = absurd (omega (arith, lt))
-held_launch s core none wait (suc n) l lt (inr held) = (Launch l, held.0, held.1)
-held_launch s core none wait (suc n) l lt (inl free) =
-    held_free s l (is_ready s (Launch l)) refl core none wait free (λ e before left. held_launch s core none wait n e (omega (arith, lt, before)) left)
-
-left_at : (s : CoreState) (l : ℕ) (x : JobState) → slice_get s.launches l ≡ Some x → is_done x ≡ false → IsLeft s l
-left_at s l Free at undone = inl at
-left_at s l (Held w) at undone = inr (w, at)
-left_at s l Done at undone = absurd (true≢false undone)
+-- a launch that is not done is held, or a page that it needs
+held_launch : (s : CoreState) (l : ℕ) (x : JobState) → IsCore s → NoneFree s.pages → NoneOpen s → slice_get s.launches l ≡ Some x
+    → is_done x ≡ false → SomeHeld s
+held_launch s l Free core none closed at undone = held_need s (get_or s.needs l []) none (needs_at (λ p. p < length s.pages) s.needs l core.needs) (closed l at)
+held_launch s l (Held w) core none closed at undone = (Launch l, w, at)
+held_launch s l Done core none closed at undone = absurd (true≢false undone)
 
 -- some job is not done, and it is held, or it waits for one that is held
-pub some_held : (s : CoreState) → IsCore s → NoneFree s.pages → is_over s ≡ false → AllWait s → SomeHeld s
-some_held s core none more wait = by (list_all is_done s.pages) refl
+pub some_held : (s : CoreState) → IsCore s → NoneFree s.pages → is_over s ≡ false → NoneOpen s → SomeHeld s
+some_held s core none more closed = by (list_all is_done s.pages) refl
   where
     by : (b : Bool) → list_all is_done s.pages ≡ b → SomeHeld s
     by false pages =
@@ -57,4 +45,4 @@ some_held s core none more wait = by (list_all is_done s.pages) refl
     by true pages =
         let launches : list_all is_done s.launches ≡ false = sym (ap (λ (b : Bool). b && list_all is_done s.launches) pages) ∙ more in
         let o = some_open s.launches launches in
-        held_launch s core none wait (suc o.0) o.0 (omega arith) (left_at s o.0 o.1 o.2 o.3)
+        held_launch s o.0 o.1 core none closed o.2 o.3

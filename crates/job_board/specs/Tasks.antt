@@ -3,7 +3,7 @@ use Rattle.std.specs.Prelude.{◌≡◌, ◌≤◌, ℕ, List, length, map, Opti
 use Rattle.rim_desc.specs.declared.measurement.Measurement.{Measurement}
 use Rattle.page_jobs.specs.Page.{PageView, digest_of}
 use Rattle.page_jobs.specs.Row.{RowView}
-use Rattle.page_jobs.specs.Table.{slot_of}
+use Rattle.page_jobs.specs.Table.{TableView, slot_of}
 use Rattle.page_jobs.specs.declared.page.PageKey.{PageKey}
 use Rattle.rim_chain.specs.Jobs.{JobView}
 use Rattle.rim_chain.specs.Links.{PlanView, chain_of, keys_of}
@@ -15,6 +15,10 @@ digest_among pages key = option_map digest_of (option_and_then (slice_get pages)
 -- the digests are those of the pages that have the keys, in order
 abbrev pub IsOwnRow : List PageView → List PageKey → List Measurement → Type 0
 IsOwnRow pages keys digests = map (digest_among pages) keys ≡ map (λ d. Some d.bytes) digests
+
+-- these pages' table, with the digest of each
+abbrev pub whole_table : List PageView → TableView
+whole_table pages = record { pages = pages; digests = map (λ p. Some (record { bytes = digest_of p })) pages }
 
 -- a page that is to be hashed, and its number among those of its run
 pub record PageTaskView : Type 0 where

@@ -7,5 +7,4 @@ pub mod Reaches
 pub mod Lines
 pub mod Grouping
 pub mod OwnStretches
-pub mod Waiting
 pub mod Beside

@@ -1,9 +1,6 @@
 //! The order in which the launches of a run are to be chained. No value depends on it.
 //!
-//! A launch that goes on from an earlier one may be left until that one is done. The run may then take up to a quarter of
-//! the prefix longer than if the prefix were chained anew, but the workers have less to do.
-ghost use Rattle.std.specs.Prelude.{◌<◌, IfSome};
-
+//! A launch that goes on from an earlier one is offered when the worker that chains that one hands over the prefix that both have.
 use refusal::NoMemory;
 use rim_chain::{LaunchPlan, SharedPrefix, SharedPrefixes};
 use rim_desc::Algo;
@@ -11,10 +8,10 @@ use std::alloc::Global;
 use std::cmp::Reverse;
 use std::collections::BinaryHeap;
 
-/// A launch, and the earlier one from whose prefix it goes on.
+/// A launch, and the prefix of an earlier one that it goes on from.
 #[derive(Clone, Copy, Debug, PartialEq, Eq, PartialOrd, Ord)]
 struct Follower {
-    launch: usize,
+    from: SharedPrefix,
     number: usize,
 }
 
@@ -27,27 +24,20 @@ struct Candidate {
     first: Reverse<usize>,
     /// Of launches that go on from the same one, the one with the least number comes first.
     number: Reverse<usize>,
-    /// How many parts are chained one after another until the launch is done, where each waits that should.
-    until: u64,
-    /// Whether it should wait for the launch that it goes on from, until that one is done.
-    should_wait: bool,
 }
 
 /// Launches that go on from others are not set apart by fewer parts than this, which take about a millisecond. So those that
 /// begin with the same pages come one after another, and a worker has most digests in its row already.
 const STEP: u64 = 1_024;
 
-/// No worker waits for a prefix of fewer parts than this: to sleep and to wake takes a part of a millisecond too.
-const LEAST_WAIT: u64 = 1_024;
-
-/// Launches of which no prefix is still to be chained, the one with the longest way first. A way is a launch, one that goes
-/// on from it, one that goes on from that, and so on: no number of workers chains it in less time. So launches that others
-/// wait for are chained early, and few are chained without their prefixes.
+/// Launches of which no prefix is still to be chained, the one with the longest way first. A way is what is left of a launch, up to
+/// where another goes on from it, and then of that one, and so on: no number of workers chains it in less time. So launches that
+/// others wait for are chained early.
 #[derive(Drop)]
 pub(crate) struct ChainOrder {
     /// Each launch of the run.
     launches: Vec<Candidate>,
-    /// The launches that go on from others, by the one that each goes on from.
+    /// The launches that go on from others, by the prefix that each goes on from.
     followers: Vec<Follower>,
     /// Those that may be chained and were not taken from here.
     offered: BinaryHeap<Candidate>,
@@ -61,7 +51,7 @@ impl ChainOrder {
     ) -> Result<ChainOrder, NoMemory> {
         let followers = followers_of(alloc, plans.len(), prefixes)?;
         let launches = candidates_of(alloc, plans, prefixes)?;
-        // Each launch is offered when it is ready, and again when the launch that it goes on from is chained.
+        // Each launch is offered when it is ready, and again when the prefix that it goes on from is chained.
         let offered = BinaryHeap::with_capacity(alloc, 2 * plans.len())?;
         Ok(ChainOrder {
             launches,
@@ -90,14 +80,12 @@ impl ChainOrder {
         self.offered.len() < self.offered.capacity()
     }
 
-    /// Offers the launches that go on from one that was chained.
-    pub(crate) fn offer_followers(&mut self, launch: usize) {
-        let from = self
-            .followers
-            .partition_point(|other| other.launch < launch);
+    /// Offers the launches that go on from a prefix.
+    pub(crate) fn offer_followers(&mut self, prefix: SharedPrefix) {
+        let from = self.followers.partition_point(|other| other.from < prefix);
         for at in from..self.followers.len() {
             match self.followers.get(at).copied() {
-                Some(follower) if follower.launch == launch => self.offer(follower.number),
+                Some(follower) if follower.from == prefix => self.offer(follower.number),
                 _ => return,
             }
         }
@@ -106,21 +94,6 @@ impl ChainOrder {
     /// How many launches were offered and not taken.
     pub(crate) fn offered(&self) -> usize {
         self.offered.len()
-    }
-
-    /// The earlier launch that a launch goes on from, where it should not be chained before that one: another worker that
-    /// has that one is done in about the time in which the prefix would be chained anew; or the prefix is most of the work, and
-    /// could not be chained twice until then.
-    pub(crate) fn should_wait_for(&self, number: usize) -> Option<usize>
-        ensures { IfSome result (λ earlier. earlier < number) }
-    {
-        let candidate = self.launches.get(number)?;
-        let earlier = candidate.first.0;
-        if candidate.should_wait && earlier < number {
-            Some(earlier)
-        } else {
-            None
-        }
     }
 
     /// Takes the launch that is to be chained next.
@@ -154,7 +127,7 @@ fn is_by(plans: &[LaunchPlan], number: usize, algo: Algo) -> bool {
     }
 }
 
-/// Of this many launches those that go on from others, by the one that each goes on from.
+/// Of this many launches those that go on from others, by the prefix that each goes on from.
 fn followers_of(
     alloc: Global,
     launches: usize,
@@ -162,11 +135,8 @@ fn followers_of(
 ) -> Result<Vec<Follower>, NoMemory> {
     let mut followers = Vec::with_capacity(alloc, launches)?;
     for number in 0..launches {
-        if let Some(shared_prefix) = prefixes.shared_prefix(number) {
-            followers.push(Follower {
-                launch: shared_prefix.launch,
-                number,
-            })?;
+        if let Some(from) = prefixes.shared_prefix(number) {
+            followers.push(Follower { from, number })?;
         }
     }
     followers.sort_unstable();
@@ -183,62 +153,22 @@ fn candidates_of(
     let mut candidates = Vec::with_capacity(alloc, plans.len())?;
     for number in 0..plans.len() {
         let way = ways.get(number).copied().unwrap_or(0);
-        let candidate = match prefixes.shared_prefix(number) {
-            Some(shared_prefix) => {
-                following(&candidates, &plans[number], shared_prefix, number, way)
-            }
-            None => beginning(&plans[number], number, way),
-        };
-        candidates.push(candidate)?;
+        candidates.push(ranked(prefixes.shared_prefix(number), number, way))?;
     }
     Ok(candidates)
 }
 
-/// A launch that goes on from no other.
-fn beginning(plan: &LaunchPlan, number: usize, way: u64) -> Candidate {
+/// The place of a launch in the order, which may go on from another. Its longest way has this many parts.
+fn ranked(shared_prefix: Option<SharedPrefix>, number: usize, way: u64) -> Candidate {
+    let (first, parts) = match shared_prefix {
+        Some(shared_prefix) => (shared_prefix.launch, way - way % STEP),
+        None => (number, way),
+    };
     Candidate {
-        parts: way,
-        first: Reverse(number),
+        parts,
+        first: Reverse(first),
         number: Reverse(number),
-        until: plan.parts_after(0),
-        should_wait: false,
     }
-}
-
-/// A launch that goes on from one of those with lower numbers.
-fn following(
-    earlier: &[Candidate],
-    plan: &LaunchPlan,
-    shared_prefix: SharedPrefix,
-    number: usize,
-    way: u64,
-) -> Candidate {
-    let anew = plan.parts_before(shared_prefix.links);
-    let until = earlier
-        .get(shared_prefix.launch)
-        .map_or(u64::MAX, |candidate| candidate.until);
-    let should_wait = is_best_to_wait(anew, until, way);
-    let begin = if should_wait { until } else { anew };
-    Candidate {
-        parts: way - way % STEP,
-        first: Reverse(shared_prefix.launch),
-        number: Reverse(number),
-        until: begin.saturating_add(plan.parts_after(shared_prefix.links)),
-        should_wait,
-    }
-}
-
-/// Whether a launch should wait for another, that has its prefix and is done after `until` parts. The prefix takes `anew`
-/// parts, and the longest way that begins with the launch has `way` parts after that.
-///
-/// It should where the prefix would take about as long anew. It should too where the prefix is most of the work, since more
-/// workers would then only do the same again; but not where a worker could chain the prefix twice until then, since it would have
-/// done a launch or more meanwhile.
-fn is_best_to_wait(anew: u64, until: u64, way: u64) -> bool {
-    let quarter = anew / 4;
-    let is_about_as_long = until <= anew.saturating_add(quarter);
-    let is_most_of_the_work = way <= quarter && until / 2 <= anew;
-    anew >= LEAST_WAIT && (is_about_as_long || is_most_of_the_work)
 }
 
 /// Of each launch, how many parts its longest way has. Whoever goes on from a launch has a greater number.
@@ -247,22 +177,23 @@ fn ways_of(
     plans: &[LaunchPlan],
     prefixes: &SharedPrefixes,
 ) -> Result<Vec<u64>, NoMemory> {
+    // First of each launch that is not looked at yet, how many parts from its realm on the longest way has that leaves it.
     let mut ways = vec![in alloc; 0; plans.len()]?;
     for number in (0..plans.len()).rev() {
         let shared_prefix = prefixes.shared_prefix(number);
         let links = shared_prefix.map_or(0, |shared_prefix| shared_prefix.links);
-        let way = plans[number]
-            .parts_after(links)
-            .saturating_add(ways[number]);
-        ways[number] = way;
+        let before = plans[number].parts_before(links);
+        let whole = plans[number].parts_after(0);
+        let longest = whole.max(ways[number]);
+        ways[number] = longest.saturating_sub(before);
         if let Some(shared_prefix) = shared_prefix {
-            raise(&mut ways, shared_prefix.launch, way);
+            raise(&mut ways, shared_prefix.launch, longest);
         }
     }
     Ok(ways)
 }
 
-/// Notes a way that goes on from a launch, where it has no longer one.
+/// Notes a way that leaves a launch, where no longer one does.
 fn raise(ways: &mut [u64], launch: usize, way: u64) {
     if let Some(longest) = ways.get_mut(launch) {
         *longest = way.max(*longest);

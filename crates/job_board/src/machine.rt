@@ -1,7 +1,7 @@
 //! The core: how each job is, with marks that make it quick to find a free one.
-ghost use Rattle.std.specs.Prelude.{◌≡◌, ◌≢◌, ◌<◌, ◌≤◌, ℕ, length, map, IfNone, IfOk, IfSome, IsTrue, ◌↔◌, OnErr, Some, slice_get};
+ghost use Rattle.std.specs.Prelude.{◌≡◌, ◌≢◌, ◌<◌, ◌≤◌, ℕ, length, map, IfNone, IfOk, IfSome, IsTrue, ◌↔◌, OnErr, Some, slice_get, true};
 ghost use Rattle.refusal.specs.Answer.{Matches};
-ghost use Rattle.job_board.specs.Jobs.{IsCore, IsOpen, NeedsWithin, NoneFree, NoneOpen, held_count, is_out, is_over, is_ready, opening, state_of};
+ghost use Rattle.job_board.specs.Jobs.{IsCore, IsOpen, NeedsWithin, NoneFree, NoneOpen, SomeHeld, held_count, is_out, is_over, is_ready, opening, state_of};
 ghost use Rattle.job_board.specs.Step.{core_step};
 ghost use Rattle.job_board.specs.inside.Marks.{lowered_page};
 ghost use Rattle.job_board.specs.inside.Needs.{AreNeeds, needs_of};
@@ -170,6 +170,18 @@ impl Core {
         ensures none { IfNone result (held_count self.now worker ≡ 0) }
     {
         self.jobs.held(worker)
+    }
+
+    /// Whether some worker holds a job.
+    pub(crate) fn is_some_held(&self) -> bool
+        ensures { result ≡ true → SomeHeld self.now }
+    {
+        for worker in 0..self.workers() {
+            if self.held(worker).is_some() {
+                return true;
+            }
+        }
+        false
     }
 
     /// Whether all jobs are done.

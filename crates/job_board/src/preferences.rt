@@ -1,9 +1,8 @@
 //! Which job each worker is best given next. No value depends on it, and what a board promises holds of any choice.
-ghost use Rattle.std.specs.Prelude.{◌≡◌, ◌<◌, true, IfNone, IfSome, Some, slice_get};
+ghost use Rattle.std.specs.Prelude.{◌≡◌, ◌<◌, IfNone, IfSome, Some, slice_get};
 ghost use Rattle.rim_desc.specs.declared.side_by_side.TheConstants.{MOST_LANES};
 ghost use Rattle.job_board.specs.declared.job.JobState.{JobState};
 ghost use Rattle.job_board.specs.Jobs.{IsOpen, NoneFree};
-ghost use Rattle.job_board.specs.inside.Waiting.{AllWait, HasEarlier};
 
 use crate::chain_order::ChainOrder;
 use crate::job::{JobId, JobState};
@@ -12,13 +11,9 @@ use crate::machine::Core;
 use crate::side_by_side::SideBySide;
 use page_jobs::DigestRow;
 use refusal::NoMemory;
-use rim_chain::{LaunchPlan, SharedPrefixes};
+use rim_chain::{LaunchPlan, SharedPrefix, SharedPrefixes};
 use rim_desc::{Algo, Lanes};
 use std::alloc::Global;
-
-/// In a run of more launches none waits for another. A worker that finds nothing else to do looks at each launch under the
-/// lock, and does so again each time that it is woken. This project's choice: as many launches as a release may have.
-const LAUNCHES_LOOKED_AT: usize = 1_024;
 
 /// The order in which launches are to be chained, which page each worker is given next, and which launches it was lent.
 #[derive(Drop)]
@@ -51,9 +46,9 @@ impl Preferences {
         })
     }
 
-    /// Notes that a launch was chained: those that go on from it may be chained now.
-    pub(crate) fn note_chained(&mut self, number: usize) {
-        self.chain_order.offer_followers(number);
+    /// Notes that a prefix is chained: the launches that go on from it may be chained now.
+    pub(crate) fn note_chained(&mut self, prefix: SharedPrefix) {
+        self.chain_order.offer_followers(prefix);
     }
 
     /// A row for a launch that is lent to a worker, if one is left.
@@ -154,37 +149,6 @@ impl Preferences {
         let page = free_of(core, self.side_by_side.preferred(worker), first);
         self.side_by_side.note(worker, page);
         Some(page)
-    }
-
-    /// A free launch that is ready, of those that are chained from the start: the first that should not wait for another. In a run
-    /// of too many launches to look at each, none waits.
-    pub(crate) fn launch_to_begin(&self, core: &mut Core) -> Option<usize>
-        ensures same { core.new ≡ core.old }
-        ensures some { IfSome result (IsOpen core.old) }
-        ensures none { IfNone result (AllWait core.old) }
-    {
-        let ready = core.ready_launch()?;
-        if core.launches() > LAUNCHES_LOOKED_AT {
-            return Some(ready);
-        }
-        for number in 0..core.launches() {
-            if core.is_open(number) && !self.should_wait(core, number) {
-                return Some(number);
-            }
-        }
-        None
-    }
-
-    /// Whether a launch should wait for an earlier one, where no page is free and those of the earlier ones that are free and ready
-    /// wait too. A worker holds that one; or it holds a page of it, since it is not ready; or that one waits in its turn.
-    fn should_wait(&self, core: &Core, number: usize) -> bool
-        ensures { result ≡ true → HasEarlier core.now number }
-    {
-        let Some(earlier) = self.chain_order.should_wait_for(number) else {
-            return false;
-        };
-        let state = core.state(JobId::Launch(earlier));
-        matches!(state, Some(JobState::Free | JobState::Held(_)))
     }
 }
 

@@ -22,10 +22,10 @@ use crate::preferences::Preferences;
 use crate::rows::{WorkerRow, keep_row, lent_rows, plan_at, worker_rows};
 use crate::run::Run;
 use crate::share::{Share, cut};
-use crate::task::{ChainedLaunch, HashedPage};
+use crate::task::{ChainedLaunch, HashedPage, OwnPrefix};
 use page_jobs::{Page, Table};
 use refusal::NoMemory;
-use rim_chain::{LaunchPlan, SharedPrefixes, most_pages};
+use rim_chain::{LaunchPlan, SharedPrefix, SharedPrefixes, most_pages};
 use rim_desc::{Lanes, Measurement};
 use std::alloc::Global;
 use std::marker::Model;
@@ -55,6 +55,7 @@ impl<'a, L: Run> Model for BoardState<'a, L> {
     ghost use Rattle.std.specs.Prelude.{◌≤◌, vec_capacity};
     ghost use Rattle.job_board.specs.Board.{BoardView, IsBoard, IsOfRun};
     ghost use Rattle.job_board.specs.History.{most_events};
+    ghost use Rattle.job_board.specs.Tasks.{whole_table};
     ghost use Rattle.job_board.specs.inside.Rows.{HasRows};
     ghost use Rattle.rim_chain.specs.SharedPrefixes.{AreShared};
 
@@ -78,7 +79,7 @@ impl<'a, L: Run> Model for BoardState<'a, L> {
       book = b.book.total;
     }) × (most_events b.core ≤ vec_capacity b.history)
         × HasRows b.core b.plans.now b.rows.items b.room
-        × AreShared b.table b.plans.now b.prefixes
+        × AreShared (whole_table L.pages) L.plans b.prefixes
         × IsOfRun L.pages L.plans (record {
           core = b.core;
           history = b.history.items;
@@ -258,8 +259,6 @@ impl<'a, L: Run> BoardState<'a, L> {
             plans,
             rows,
             results,
-            prefixes,
-            preferences,
             ..
         } = self;
         // Each filled slot of a table has the digest of its own page.
@@ -275,15 +274,31 @@ impl<'a, L: Run> BoardState<'a, L> {
         let rim = launch.into_rim();
         history.push_reserved(event);
         results[number] = Some(rim.value());
-        let (row, checkpoints) = rim.into_parts();
         keep_row(
             rows,
             worker,
-            WorkerRow::of_launch(plan_at(plans, number), row),
+            WorkerRow::of_launch(plan_at(plans, number), rim.into_row()),
         );
-        prefixes.keep(number, checkpoints);
-        preferences.note_chained(number);
         Ok(())
+    }
+
+    /// Keeps a prefix of a launch that is being chained, from which others go on. It adds no event. Answers after how many links the
+    /// next ones go on from this launch, if any do.
+    pub fn keep_prefix(&mut self, prefix: OwnPrefix<L>) -> Option<usize>
+        ensures { self.new ≡ self.old }
+    {
+        let BoardState {
+            prefixes,
+            preferences,
+            ..
+        } = self;
+        let launch = prefix.number();
+        let prefix = prefix.into_prefix();
+        let links = prefix.links;
+        if prefixes.keep(launch, prefix) {
+            preferences.note_chained(SharedPrefix { launch, links });
+        }
+        prefixes.next_stop(launch, links)
     }
 
     /// Retires a worker, whose job is then free. False, and nothing is changed, for worker 0 and for workers that are

@@ -5,12 +5,13 @@ ghost use Rattle.rim_desc.specs.declared.side_by_side.TheConstants.{MOST_LANES};
 ghost use Rattle.page_jobs.specs.Page.{digest_of, page_view};
 ghost use Rattle.rim_chain.specs.Chains.{chains_to};
 ghost use Rattle.rim_chain.specs.Links.{chain_of};
-ghost use Rattle.job_board.specs.Tasks.{IsOwnLaunch};
+ghost use Rattle.rim_chain.specs.SharedPrefixes.{IsOwnPrefix};
+ghost use Rattle.job_board.specs.Tasks.{IsOwnLaunch, whole_table};
 ghost use Rattle.job_board.specs.inside.Beside.{AreOwnRims, IsOwnRim};
 
 use crate::run::Run;
 use page_jobs::{DigestRow, Hashed, Page, PageJob};
-use rim_chain::{LaunchChain, LaunchJob, LaunchRim, no_chains, side_by_side};
+use rim_chain::{LaunchChain, LaunchJob, LaunchRim, Prefix, no_chains, side_by_side};
 use rim_desc::{Algo, MOST_LANES, Measurement};
 use std::marker::{Model, PhantomData};
 
@@ -119,6 +120,41 @@ impl<L: Run> OwnValue<L> {
     }
 }
 
+/// A prefix of a launch of a run with its value, by the launch's number.
+#[derive(Drop)]
+pub struct OwnPrefix<L: Run> {
+    number: usize,
+    prefix: Prefix,
+    run: PhantomData<L>,
+}
+
+impl<L: Run> Model for OwnPrefix<L> {
+    ghost use Rattle.std.specs.Prelude.{ℕ};
+    ghost use Rattle.rim_chain.specs.SharedPrefixes.{IsOwnPrefix};
+    ghost use Rattle.job_board.specs.Tasks.{whole_table};
+
+    ghost Value = { ℕ };
+
+    ghost view = { λ o. o.number };
+
+    ghost invariant = { λ o. IsOwnPrefix (whole_table L.pages) L.plans o.number o.prefix };
+}
+
+impl<L: Run> OwnPrefix<L> {
+    /// The number of the launch among those of the run.
+    pub fn number(&self) -> usize
+        ensures { result ≡ self.now }
+    {
+        self.number
+    }
+
+    pub(crate) fn into_prefix(self) -> Prefix
+        ensures { IsOwnPrefix (whole_table L.pages) L.plans self result }
+    {
+        self.prefix
+    }
+}
+
 impl<'a, L: Run> PageTask<'a, L> {
     /// The job of the page of a number, if one of the run's pages, which are these, has it.
     pub fn new(pages: &'a [Page<'a>], number: usize) -> Option<PageTask<'a, L>>
@@ -201,6 +237,32 @@ impl<'a, L: Run> LaunchTask<'a, L> {
         ensures { result ≡ self.now.number }
     {
         self.job.number()
+    }
+
+    /// Chains the launch up to where others first go on from it, and answers the prefix there. `None` where none does, or where it
+    /// was chained so far already. It takes no memory.
+    pub fn run_to_stop(&mut self) -> Option<OwnPrefix<L>>
+        ensures same { self.new ≡ self.old }
+        ensures number { IfSome result (λ number. number ≡ self.old.number) }
+    {
+        let prefix = self.job.run_to_stop()?;
+        Some(OwnPrefix {
+            number: self.job.number(),
+            prefix,
+            run: PhantomData,
+        })
+    }
+
+    /// Notes after how many links others go on from the launch next, as `BoardState::keep_prefix` answers.
+    pub fn set_stop(&mut self, stop: Option<usize>)
+        ensures { self.new ≡ self.old }
+    {
+        self.job.set_stop(stop);
+    }
+
+    /// How many links the launch has, and so how often others can go on from it at most. No value depends on it.
+    pub fn link_count(&self) -> usize {
+        self.job.link_count()
     }
 
     /// Chains the launch. It takes no memory.

@@ -1,10 +1,10 @@
 //! The board: its state under a lock, for workers in threads of their own.
 //!
-//! A worker that finds nothing ready sleeps. Only a put and a retirement change what is ready, and each wakes all that sleep,
-//! so it misses nothing. Where none sleeps, that makes no system call.
+//! A worker that finds nothing ready sleeps. Only a put, a retirement and a prefix that is kept change what it is given, and each
+//! wakes all that sleep, so it misses nothing. Where none sleeps, that makes no system call.
 //!
 //! A worker that leaves launches for later holds no job, and another worker holds one: so the state's `take_or_wait` says. That
-//! one puts its job or retires, and either ends the wait. A job that was taken before the run in the name of worker 0, or
+//! one keeps a prefix, puts its job or retires, and each ends the wait. A job that was taken before the run in the name of worker 0, or
 //! of a worker that could not be started, is waited for as long as nobody puts it.
 ghost use Rattle.std.specs.Prelude.{◌≡◌, ◌≢◌, ◌<◌, ◌≤◌, ◌+◌, IfErr, OnOk, map};
 ghost use Rattle.rim_desc.specs.declared.side_by_side.TheConstants.{MOST_LANES};
@@ -16,7 +16,7 @@ ghost use Rattle.job_board.specs.Gives.{Gives};
 ghost use Rattle.job_workers.specs.Puts.{Puts};
 ghost use Rattle.page_jobs.specs.Page.{page_view};
 
-use job_board::{BoardState, ChainedLaunch, HashedPage, LaunchTask, Run, Share, Work};
+use job_board::{BoardState, ChainedLaunch, HashedPage, LaunchTask, OwnPrefix, Run, Share, Work};
 use page_jobs::{DigestRow, Page};
 use rim_desc::Algo;
 use std::sync::{Condvar, Mutex, MutexGuard, Wait};
@@ -55,8 +55,9 @@ impl<'a, L: Run> Board<'a, L> {
         self.given(rt, worker, false)
     }
 
-    /// The same, but the worker also sleeps where each launch that is free and ready should wait for an earlier one that is not
-    /// done. It is for workers that put each job that they take, or retire, before they come again: both wake those that sleep.
+    /// The same, but the worker also sleeps where each launch that is free and ready goes on from a prefix that is not kept yet, as
+    /// long as another worker holds a job. It is for workers that keep the prefixes that they come to, and put each job that they
+    /// take, or retire, before they come again: all these wake those that sleep.
     pub(crate) fn take_or_wait(&self, rt: &impl Wait, worker: usize) -> Work<'a, L>
         ensures found { (found : BoardView) × (left : BoardView) × IsBoard found
             × IsOfRun L.pages L.plans found × Gives found worker result left }
@@ -127,6 +128,14 @@ impl<'a, L: Run> Board<'a, L> {
             self.changed.notify_all();
         }
         answer
+    }
+
+    /// Keeps a prefix of a launch that is being chained, and wakes all that sleep, since others go on from it. Answers after how many
+    /// links the next ones do, if any.
+    pub(crate) fn keep_prefix(&self, rt: &impl Wait, prefix: OwnPrefix<L>) -> Option<usize> {
+        let stop = self.state.lock(rt).keep_prefix(prefix);
+        self.changed.notify_all();
+        stop
     }
 
     /// A row for a launch that is lent to a worker, if one is left.

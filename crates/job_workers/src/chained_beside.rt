@@ -46,7 +46,7 @@ impl<L: Run> ChainedBeside<L> {
             return task.known(value);
         }
         if !task.can_run_with_others() {
-            return task.run();
+            return run_and_keep(rt, board, task);
         }
         self.run_with_lent(rt, board, worker, task)
     }
@@ -116,7 +116,25 @@ impl<L: Run> ChainedBeside<L> {
     }
 }
 
-/// How many of fewer launches than were wanted are chained beside one: three, or none.
+/// Chains a launch, and lets the board keep each prefix that others go on from as soon as the chain comes to it.
+fn run_and_keep<'a, L: Run>(
+    rt: &impl Wait,
+    board: &Board<'a, L>,
+    task: LaunchTask<'a, L>,
+) -> ChainedLaunch<'a, L>
+    ensures { result.job ≡ task.entry }
+{
+    let mut task = task;
+    'stops: for _ in 0..task.link_count() {
+        let Some(prefix) = task.run_to_stop() else {
+            break;
+        };
+        task.set_stop(board.keep_prefix(rt, prefix));
+    }
+    task.run()
+}
+
+/// How many of fewer launches than are best lent are chained beside one: three, or none.
 fn whole_group(lent: usize) -> usize
     ensures { result ≤ lent }
 {

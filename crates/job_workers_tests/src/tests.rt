@@ -76,12 +76,13 @@ fn plan_at(rt: &impl Abort, alloc: Global, ipa: u64, file: usize, count: u64) ->
     LaunchPlan::new(REALM, links).expect(rt, "the link fits")
 }
 
-/// The plans of this many launches, all of which measure the first pages of file 0.
-fn plans_of(rt: &impl Abort, alloc: Global, launches: usize, count: u64) -> Vec<LaunchPlan> {
+/// The plans of this many launches, all of which measure the first pages of file 0, each at an address of its own.
+fn plans_of(rt: &impl Abort, alloc: Global, launches: u64, count: u64) -> Vec<LaunchPlan> {
     let mut plans = Vec::new(alloc);
-    for _launch in 0..launches {
+    for launch in 0..launches {
+        let ipa = 0x4000_0000u64.saturating_add(launch.saturating_mul(0x10_0000));
         plans
-            .push(plan_of(rt, alloc, 0, count))
+            .push(plan_at(rt, alloc, ipa, 0, count))
             .expect(rt, "memory");
     }
     plans

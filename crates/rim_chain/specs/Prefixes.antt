@@ -1,10 +1,8 @@
 -- Prefixes of plans: what launches that begin alike have in common. This project's choice.
-use Rattle.std.specs.Prelude.{◌≡◌, ℕ, ◌≤◌, List, length, take, IfSome}
-use Rattle.std.specs.List.{All}
+use Rattle.std.specs.Prelude.{◌≡◌, ℕ, ◌≤◌, List, length, take}
 use Rattle.rim_desc.specs.declared.measurement.Measurement.{Measurement}
 use Rattle.rim_chain.specs.Links.{PlanView, chain_of, keys_of}
 use Rattle.rim_chain.specs.declared.prefix.Prefix.{Prefix}
-use Rattle.rim_chain.specs.declared.prefix.Checkpoint.{Checkpoint}
 
 -- the prefix of n links: the realm of a plan, and its first n links
 abbrev pub prefix_of : ℕ → PlanView → PlanView
@@ -17,13 +15,6 @@ prefix_value n p digests = chain_of (prefix_of n p) (take (length (keys_of (take
 -- a prefix of this plan, with what it chains to where the plan's pages have these digests
 abbrev pub IsPrefix : PlanView → List Measurement → Prefix → Type 0
 IsPrefix p digests f = (f.links ≤ length p.links) × (f.value.bytes ≡ prefix_value f.links p digests)
-
--- a checkpoint that has a value is such a prefix
-abbrev pub IsCheckpoint : PlanView → List Measurement → Checkpoint → Type 0
-IsCheckpoint p digests m = IfSome m.value (λ v. IsPrefix p digests (record { links = m.links; value = v }))
-
-abbrev pub AreCheckpoints : PlanView → List Measurement → List Checkpoint → Type 0
-AreCheckpoints p digests checkpoints = All (IsCheckpoint p digests) checkpoints
 
 -- two plans have the same prefix of n links
 abbrev pub HavePrefix : ℕ → PlanView → PlanView → Type 0

@@ -19,9 +19,9 @@ pub record IsValueOfPrefix (t : TableView) (p : PlanView) (n : ℕ) (v : Measure
 abbrev pub HaveOwnValues : TableView → PlanView → List Checkpoint → Type 0
 HaveOwnValues t p checkpoints = All (λ m. IfSome m.value (IsValueOfPrefix t p m.links)) checkpoints
 
--- the checkpoints of each launch, where they are not with its job, have their own values
-abbrev pub AreShared : TableView → List PlanView → List (Option (List Checkpoint)) → Type 0
-AreShared t plans checkpoints = (l : ℕ) (p : PlanView) (own : List Checkpoint) → slice_get plans l ≡ Some p → slice_get checkpoints l ≡ Some (Some own) → HaveOwnValues t p own
+-- the checkpoints of each launch have their own values
+abbrev pub AreShared : TableView → List PlanView → List (List Checkpoint) → Type 0
+AreShared t plans checkpoints = (l : ℕ) (p : PlanView) (own : List Checkpoint) → slice_get plans l ≡ Some p → slice_get checkpoints l ≡ Some own → HaveOwnValues t p own
 
 -- a prefix is that of the launch of a number
 abbrev pub IsOwnPrefix : TableView → List PlanView → ℕ → Prefix → Type 0

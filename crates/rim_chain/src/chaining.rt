@@ -1,18 +1,22 @@
 //! Measurements extended link by link.
-ghost use Rattle.std.specs.Prelude.{◌≡◌, ◌+◌, ◌*◌, ◌^◌, ◌<◌, ◌≤◌, List, length, map, IfSome, None};
+ghost use Rattle.std.specs.Prelude.{◌≡◌, ◌+◌, ◌*◌, ◌^◌, ◌<◌, ◌≤◌, List, length, map, IfSome, None, Some};
+ghost use Rattle.std.specs.List.{slice_get};
 ghost use Rattle.rim_desc.specs.Part.{Data, extended_by};
 ghost use Rattle.rim_desc.specs.declared.measurement.Measurement.{Measurement};
 ghost use Rattle.rmm_model.specs.Blocks.{granules};
-ghost use Rattle.rim_chain.specs.Prefixes.{AreCheckpoints, IsPrefix, IsCheckpoint, prefix_value};
-ghost use Rattle.rim_chain.specs.Links.{chain_of, link_parts, page_count, pages_with};
-ghost use Rattle.rim_chain.specs.Rows.{IsFilled};
+ghost use Rattle.page_jobs.specs.Table.{TableView};
+ghost use Rattle.rim_chain.specs.Prefixes.{IsPrefix, prefix_value};
+ghost use Rattle.rim_chain.specs.Links.{PlanView, chain_of, keys_of, link_parts, page_count, pages_with};
+ghost use Rattle.rim_chain.specs.Rows.{IsFilled, IsRowOf};
+ghost use Rattle.rim_chain.specs.SharedPrefixes.{AreShared};
 ghost use Rattle.rim_chain.specs.Fitting.{IsFitting};
 ghost use Rattle.rim_chain.specs.inside.Places.{IsPlace};
 ghost use Rattle.rim_desc.specs.declared.page.TheConstants.{PAGE_SIZE};
 
 use crate::link::Link;
 use crate::plan::{LaunchPlan, page_count};
-use crate::prefix::{Checkpoint, Prefix};
+use crate::prefix::Prefix;
+use crate::shared_prefixes::SharedPrefixes;
 use page_jobs::DigestRow;
 use rim_desc::{
     Algo, GRANULE_SIZE, Measurement, data_descriptor, extend, hash, realm_page, rec_descriptor,
@@ -70,93 +74,92 @@ pub(crate) fn extended_by_link(
 }
 
 /// Where a chain is: how many links and pages of a plan it has taken, and its value there.
-#[derive(Clone, Copy)]
-struct Place {
-    links: usize,
-    pages: usize,
-    value: Measurement,
+#[derive(Clone, Copy, Debug)]
+pub(crate) struct Place {
+    pub links: usize,
+    pub pages: usize,
+    pub value: Measurement,
 }
 
-/// The Realm Initial Measurement that a plan and the digests of its pages make. It takes a hash for each part. This is the plain
-/// form of `chain_from`, which programs call.
+/// The Realm Initial Measurement that a plan and the digests of its pages make. It takes a hash for each part.
 pub fn chain(plan: &LaunchPlan, row: &DigestRow) -> Measurement
     requires { IsFilled plan.now row.now.digests }
     ensures { result.bytes ≡ chain_of plan.now row.now.digests }
 {
-    chain_with_checkpoints(plan, row, None, &mut [])
+    chain_on(plan, row, place_of(plan, row, None))
 }
 
-/// The same measurement, which goes on from a prefix whose value is known, where there is one; and checkpoints, where there
-/// are some, each with the value of the prefix up to it, where the chain comes to it.
+/// The same measurement, where its chain has come to a place.
+pub(crate) fn chain_on(plan: &LaunchPlan, row: &DigestRow, from: Place) -> Measurement
+    requires filled { IsFilled plan.now row.now.digests }
+    requires from { IsPlace plan.now row.now.digests from }
+    ensures { result.bytes ≡ chain_of plan.now row.now.digests }
+{
+    chained_to(plan, row, from, plan.links().len()).value
+}
+
+/// The same measurement of the launch of a number, which goes on from a prefix whose value is known, where there is one. The
+/// values of its prefixes that others begin with are kept among those that launches have in common.
 pub fn chain_from(
     plan: &LaunchPlan,
     row: &DigestRow,
+    number: usize,
     shared_prefix: Option<Prefix>,
-    checkpoints: Option<Vec<Checkpoint>>,
-) -> (Measurement, Option<Vec<Checkpoint>>)
-    requires filled { IsFilled plan.now row.now.digests }
-    requires shared_prefix { IfSome shared_prefix (IsPrefix plan.now row.now.digests) }
-    ensures value { result.0.bytes ≡ chain_of plan.now row.now.digests }
-    ensures checkpoints { IfSome result.1
-        (λ own. AreCheckpoints plan.now row.now.digests own.items) }
-{
-    let mut checkpoints = checkpoints;
-    let value = match &mut checkpoints {
-        Some(checkpoints) => chain_with_checkpoints(
-            plan,
-            row,
-            shared_prefix,
-            checkpoints.as_mut_slice(),
-        ),
-        None => chain_with_checkpoints(plan, row, shared_prefix, &mut []),
-    };
-    (value, checkpoints)
-}
-
-fn chain_with_checkpoints(
-    plan: &LaunchPlan,
-    row: &DigestRow,
-    shared_prefix: Option<Prefix>,
-    checkpoints: &mut [Checkpoint],
+    prefixes: &mut SharedPrefixes,
 ) -> Measurement
     requires filled { IsFilled plan.now row.now.digests }
     requires shared_prefix { IfSome shared_prefix (IsPrefix plan.now row.now.digests) }
     ensures value { result.bytes ≡ chain_of plan.now row.now.digests }
-    ensures checkpoints { AreCheckpoints plan.now row.now.digests checkpoints.new }
+    ensures prefixes { (t : TableView) (ps : List PlanView) → slice_get ps number ≡ Some plan.now
+        → IsRowOf t (keys_of plan.now.links) row.now.digests
+        → AreShared t ps prefixes.old
+        → AreShared t ps prefixes.new }
 {
-    let end = plan.links().len();
     let mut place = place_of(plan, row, shared_prefix);
-    for at in 0..checkpoints.len() {
-        let (next, checkpoint) = checkpoint_at(plan, row, place, checkpoints[at].links);
-        checkpoints[at] = checkpoint;
+    for _ in 0..plan.links().len() {
+        let Some(next) = next_place(plan, row, place, prefixes.next_stop(number, place.links))
+        else {
+            break;
+        };
         place = next;
+        prefixes.keep(number, place.prefix());
     }
-    chained_to(plan, row, place, end).value
+    chain_on(plan, row, place)
 }
 
-/// The place at a checkpoint after this many links, and the checkpoint with its value; or the same place, and the checkpoint without a
-/// value, where the chain has passed it or the plan ends before it.
-fn checkpoint_at(
+/// The place after this many links, where the plan has as many, and the chain has not passed it.
+pub(crate) fn next_place(
     plan: &LaunchPlan,
     row: &DigestRow,
     from: Place,
-    links: usize,
-) -> (Place, Checkpoint)
+    links: Option<usize>,
+) -> Option<Place>
     requires filled { IsFilled plan.now row.now.digests }
     requires from { IsPlace plan.now row.now.digests from }
-    ensures place { IsPlace plan.now row.now.digests result.0 }
-    ensures checkpoint { IsCheckpoint plan.now row.now.digests result.1 }
+    ensures place { IfSome result (IsPlace plan.now row.now.digests) }
+    ensures links { IfSome result (λ place. links ≡ Some place.links) }
 {
+    let links = links?;
     if links < from.links || plan.links().len() < links {
-        return (from, Checkpoint { links, value: None });
+        return None;
     }
-    let place = chained_to(plan, row, from, links);
-    let value = Some(place.value);
-    (place, Checkpoint { links, value })
+    Some(chained_to(plan, row, from, links))
+}
+
+impl Place {
+    /// The prefix that ends here.
+    pub(crate) fn prefix(&self) -> Prefix
+        ensures { result ≡ record { links = self.now.links; value = self.now.value } }
+    {
+        Prefix {
+            links: self.links,
+            value: self.value,
+        }
+    }
 }
 
 /// The place where a prefix ends, or the one after the realm.
-fn place_of(plan: &LaunchPlan, row: &DigestRow, shared_prefix: Option<Prefix>) -> Place
+pub(crate) fn place_of(plan: &LaunchPlan, row: &DigestRow, shared_prefix: Option<Prefix>) -> Place
     requires filled { IsFilled plan.now row.now.digests }
     requires shared_prefix { IfSome shared_prefix (IsPrefix plan.now row.now.digests) }
     ensures { IsPlace plan.now row.now.digests result }

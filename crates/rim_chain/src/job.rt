@@ -1,56 +1,57 @@
 //! The work of chaining a launch, and what it gives.
 ghost use Rattle.std.specs.Prelude.{◌≡◌, IfSome};
-ghost use Rattle.rim_chain.specs.Prefixes.{AreCheckpoints, IsPrefix};
+ghost use Rattle.rim_chain.specs.Prefixes.{IsPrefix};
 ghost use Rattle.rim_chain.specs.Links.{chain_of};
 ghost use Rattle.rim_chain.specs.Rows.{IsFilled};
 ghost use Rattle.rim_chain.specs.Chains.{chains_to};
+ghost use Rattle.rim_chain.specs.inside.Places.{IsPlace};
 
-use crate::chaining::chain_from;
+use crate::chaining::{Place, chain_on, next_place, place_of};
 use crate::plan::LaunchPlan;
-use crate::prefix::{Checkpoint, Prefix};
+use crate::prefix::Prefix;
 use crate::under_way::LaunchChain;
 use page_jobs::DigestRow;
 use rim_desc::{Algo, Measurement};
 use std::marker::Model;
 
-/// A launch that is to be chained: its number, its plan, lent, and a row with the digests of its pages. It may have a
-/// prefix of the launch to go on from, and checkpoints, whose values it keeps. They change nothing of what it gives.
+/// A launch that is to be chained: its number, its plan, lent, and a row with the digests of its pages. Some of it may be chained
+/// already, and it may have a place to stop at. They change nothing of what it gives.
 #[derive(Drop)]
 pub struct LaunchJob<'a> {
     number: usize,
     plan: &'a LaunchPlan,
     row: DigestRow,
-    shared_prefix: Option<Prefix>,
-    checkpoints: Option<Vec<Checkpoint>>,
+    /// Where its chain is; `None` where nothing is chained.
+    place: Option<Place>,
+    /// How many links are chained before the chain stops, so that the value there can be handed over.
+    stop: Option<usize>,
 }
 
 impl<'a> Model for LaunchJob<'a> {
     ghost use Rattle.std.specs.Prelude.{IfSome};
-    ghost use Rattle.rim_chain.specs.Prefixes.{IsPrefix};
     ghost use Rattle.rim_chain.specs.Jobs.{JobView};
     ghost use Rattle.rim_chain.specs.Rows.{IsFilled};
+    ghost use Rattle.rim_chain.specs.inside.Places.{IsPlace};
 
     ghost Value = { JobView };
 
     ghost view = { λ j. record { number = j.number; plan = j.plan.now; row = j.row } };
 
     ghost invariant = { λ j. IsFilled j.plan.now j.row.digests
-        × IfSome j.shared_prefix (IsPrefix j.plan.now j.row.digests) };
+        × IfSome j.place (IsPlace j.plan.now j.row.digests) };
 }
 
-/// A launch that was chained, with its measurement, and with the values at its checkpoints.
+/// A launch that was chained, with its measurement.
 #[derive(Drop)]
 pub struct LaunchRim<'a> {
     number: usize,
     plan: &'a LaunchPlan,
     row: DigestRow,
     value: Measurement,
-    checkpoints: Option<Vec<Checkpoint>>,
 }
 
 impl<'a> Model for LaunchRim<'a> {
-    ghost use Rattle.std.specs.Prelude.{◌≡◌, true, IfSome};
-    ghost use Rattle.rim_chain.specs.Prefixes.{AreCheckpoints};
+    ghost use Rattle.std.specs.Prelude.{◌≡◌};
     ghost use Rattle.rim_chain.specs.Jobs.{RimView};
     ghost use Rattle.rim_chain.specs.Links.{chain_of};
 
@@ -59,9 +60,7 @@ impl<'a> Model for LaunchRim<'a> {
     ghost view = { λ r. record
         { job = record { number = r.number; plan = r.plan.now; row = r.row }; value = r.value } };
 
-    ghost invariant = { λ r. (r.value.bytes ≡ chain_of r.plan.now r.row.digests)
-        × IfSome r.checkpoints
-        (λ checkpoints. AreCheckpoints r.plan.now r.row.digests checkpoints.items) };
+    ghost invariant = { λ r. r.value.bytes ≡ chain_of r.plan.now r.row.digests };
 }
 
 impl<'a> LaunchJob<'a> {
@@ -74,26 +73,26 @@ impl<'a> LaunchJob<'a> {
             number,
             plan,
             row,
-            shared_prefix: None,
-            checkpoints: None,
+            place: None,
+            stop: None,
         }
     }
 
-    /// The same work, which goes on from a prefix of the launch, where one is known, and keeps the values at checkpoints.
-    pub fn going_on(
-        self,
-        shared_prefix: Option<Prefix>,
-        checkpoints: Option<Vec<Checkpoint>>,
-    ) -> LaunchJob<'a>
+    /// The same work, which goes on from a prefix of the launch, where one is known, and stops first after this many links.
+    pub fn going_on(self, shared_prefix: Option<Prefix>, stop: Option<usize>) -> LaunchJob<'a>
         requires { IfSome shared_prefix (IsPrefix self.plan self.row.digests) }
         ensures { result ≡ self.entry }
     {
+        let place = match shared_prefix {
+            Some(_) => Some(place_of(self.plan, &self.row, shared_prefix)),
+            None => self.place,
+        };
         LaunchJob {
             number: self.number,
             plan: self.plan,
             row: self.row,
-            shared_prefix,
-            checkpoints,
+            place,
+            stop,
         }
     }
 
@@ -111,36 +110,62 @@ impl<'a> LaunchJob<'a> {
         self.plan.algo()
     }
 
+    /// Chains the launch up to where it is to stop, and answers the prefix there. `None` where no stop is left, or none that the
+    /// launch comes to. It takes no memory.
+    pub fn run_to_stop(&mut self) -> Option<Prefix>
+        ensures same { self.new ≡ self.old }
+        ensures prefix { IfSome result (IsPrefix self.old.plan self.old.row.digests) }
+    {
+        let stop = self.stop.take();
+        let next = next_place(self.plan, &self.row, self.here(), stop)?;
+        self.place = Some(next);
+        Some(next.prefix())
+    }
+
+    /// Lets the launch stop after this many links.
+    pub fn set_stop(&mut self, stop: Option<usize>)
+        ensures { self.new ≡ self.old }
+    {
+        self.stop = stop;
+    }
+
+    /// How many links it has, and so how often it can stop at most. No value depends on it.
+    pub fn link_count(&self) -> usize {
+        self.plan.links().len()
+    }
+
     /// Chains the launch. It takes no memory.
     pub fn run(self) -> LaunchRim<'a>
         ensures job { result.job ≡ self.entry }
         ensures value { result.value.bytes ≡ chain_of self.entry.plan self.entry.row.digests }
     {
-        let LaunchJob {
-            number,
-            plan,
-            row,
-            shared_prefix,
-            checkpoints,
-        } = self;
-        let (value, checkpoints) = chain_from(plan, &row, shared_prefix, checkpoints);
+        let value = chain_on(self.plan, &self.row, self.here());
         LaunchRim {
-            number,
-            plan,
-            row,
+            number: self.number,
+            plan: self.plan,
+            row: self.row,
             value,
-            checkpoints,
+        }
+    }
+
+    /// Where its chain is.
+    fn here(&self) -> Place
+        ensures { IsPlace self.now.plan self.now.row.digests result }
+    {
+        match self.place {
+            Some(place) => place,
+            None => place_of(self.plan, &self.row, None),
         }
     }
 }
 
 impl<'a> LaunchJob<'a> {
-    /// Whether the launch may be chained side by side with others: it goes on from no prefix and keeps no values.
+    /// Whether the launch may be chained side by side with others: nothing of it is chained, and it does not stop.
     pub fn can_run_with_others(&self) -> bool {
-        self.shared_prefix.is_none() && has_no_checkpoints(&self.checkpoints)
+        self.place.is_none() && self.stop.is_none()
     }
 
-    /// The chain of the launch, of which nothing is done. A prefix is not gone on from, and no values are kept at checkpoints.
+    /// The chain of the launch, of which nothing is done.
     pub fn chain(&self) -> LaunchChain<'_>
         ensures { chains_to result ≡ chain_of self.now.plan self.now.row.digests }
     {
@@ -157,7 +182,6 @@ impl<'a> LaunchJob<'a> {
             plan: self.plan,
             row: self.row,
             value,
-            checkpoints: None,
         }
     }
 
@@ -166,14 +190,6 @@ impl<'a> LaunchJob<'a> {
         ensures { result ≡ self.entry.row }
     {
         self.row
-    }
-}
-
-/// Whether no checkpoints were handed out, or none of them.
-fn has_no_checkpoints(checkpoints: &Option<Vec<Checkpoint>>) -> bool {
-    match checkpoints {
-        Some(checkpoints) => checkpoints.is_empty(),
-        None => true,
     }
 }
 
@@ -190,16 +206,6 @@ impl<'a> LaunchRim<'a> {
         ensures { result ≡ self.now.job.number }
     {
         self.number
-    }
-
-    /// The row, to be filled for another launch; and its checkpoints, where it has some, each with the value of the launch's
-    /// prefix up to it, where the chain came to it.
-    pub fn into_parts(self) -> (DigestRow, Option<Vec<Checkpoint>>)
-        ensures row { result.0 ≡ self.entry.job.row }
-        ensures checkpoints { IfSome result.1 (λ checkpoints. AreCheckpoints self.entry.job.plan
-            self.entry.job.row.digests checkpoints.items) }
-    {
-        (self.row, self.checkpoints)
     }
 
     /// Its Realm Initial Measurement: the chain of its plan and these digests.

@@ -1,9 +1,9 @@
 //! The prefixes that launches of a run have in common, so that each is chained once.
-ghost use Rattle.std.specs.Prelude.{◌≡◌, [], true, List, map, None, Some, IfOk, IfSome, slice_set, option_and_then, option_map};
+ghost use Rattle.std.specs.Prelude.{◌≡◌, ◌<◌, ℕ, [], true, List, length, map, Some, IfOk, IfSome, slice_set};
 ghost use Rattle.std.specs.List.{Contains, slice_get};
 ghost use Rattle.page_jobs.specs.Table.{TableView};
 ghost use Rattle.rim_chain.specs.Links.{PlanView};
-ghost use Rattle.rim_chain.specs.SharedPrefixes.{AreShared, HaveOwnValues, IsValueOfPrefix};
+ghost use Rattle.rim_chain.specs.SharedPrefixes.{AreShared, IsOwnPrefix, IsValueOfPrefix};
 ghost use Rattle.rim_chain.specs.inside.Checkpoints.{BothHavePrefix};
 
 use crate::plan::LaunchPlan;
@@ -14,24 +14,22 @@ use refusal::NoMemory;
 use rim_desc::Algo;
 use std::alloc::Global;
 use std::marker::Model;
-use std::mem::replace;
 
-/// For each launch of a run whose prefix it begins with, and its own checkpoints. A launch goes on from the prefix of an
-/// earlier one. No value depends on which: a prefix is handed out only where it is the launch's own.
+/// For each launch of a run whose prefix it begins with, and its own checkpoints, in their order. A launch goes on from the
+/// prefix of an earlier one. No value depends on which: a prefix is handed out only where it is the launch's own.
 #[derive(Drop)]
 pub struct SharedPrefixes {
     shared: Vec<Option<SharedPrefix>>,
-    checkpoints: Vec<Option<Vec<Checkpoint>>>,
+    checkpoints: Vec<Vec<Checkpoint>>,
 }
 
 impl Model for SharedPrefixes {
-    ghost use Rattle.std.specs.Prelude.{List, Option, map};
-    ghost use Rattle.std.specs.Option.{option_map};
+    ghost use Rattle.std.specs.Prelude.{List, map};
     ghost use Rattle.rim_chain.specs.declared.prefix.Checkpoint.{Checkpoint};
 
-    ghost Value = { List (Option (List Checkpoint)) };
+    ghost Value = { List (List Checkpoint) };
 
-    ghost view = { λ s. map (option_map (λ checkpoints. checkpoints.items)) s.checkpoints.items };
+    ghost view = { λ s. map (λ own. own.items) s.checkpoints.items };
 }
 
 impl SharedPrefixes {
@@ -98,29 +96,24 @@ impl SharedPrefixes {
         Some(prefix)
     }
 
-    /// Takes the checkpoints of a launch, for the job that chains it. `None` where they were taken before, or where there is
-    /// no such launch.
-    pub fn take_checkpoints(&mut self, number: usize) -> Option<Vec<Checkpoint>>
-        ensures checkpoints { self.new ≡ slice_set self.old number None }
-        ensures taken { option_map (λ own. own.items) result
-            ≡ option_and_then (λ o. o) (slice_get self.old number) }
-        ensures shared { (t : TableView) (ps : List PlanView) → AreShared t ps self.old
-            → AreShared t ps self.new }
-    {
-        replaced(&mut self.checkpoints, number, None)
-    }
-
-    /// Keeps the checkpoints of a launch that was chained, in the place of those that it had.
-    pub fn keep(&mut self, number: usize, checkpoints: Option<Vec<Checkpoint>>)
-        ensures checkpoints { self.new
-            ≡ slice_set self.old number (option_map (λ own. own.items) checkpoints) }
-        ensures shared { (t : TableView) (ps : List PlanView) (p : PlanView)
-            → slice_get ps number ≡ Some p
-            → IfSome checkpoints (λ own. HaveOwnValues t p own.items)
+    /// Keeps the value of a prefix of a launch, where another one parts from it there. Answers whether it is kept from now on.
+    pub fn keep(&mut self, number: usize, prefix: Prefix) -> bool
+        ensures { (t : TableView) (ps : List PlanView) → IsOwnPrefix t ps number prefix
             → AreShared t ps self.old
             → AreShared t ps self.new }
     {
-        let _old = replaced(&mut self.checkpoints, number, checkpoints);
+        if number >= self.checkpoints.len() {
+            return false;
+        }
+        put_value(self.checkpoints[number].as_mut_slice(), prefix)
+    }
+
+    /// After how many links, more than these, another launch first parts from a launch. No value depends on it.
+    pub fn next_stop(&self, number: usize, links: usize) -> Option<usize> {
+        let own = checkpoints_at(self.checkpoints.as_slice(), number)?;
+        let next = own.partition_point(|checkpoint| checkpoint.links <= links);
+        let checkpoint = own.get(next)?;
+        Some(checkpoint.links)
     }
 }
 
@@ -145,7 +138,7 @@ impl SharedPrefixes {
 
     /// Whether a launch goes on from no other, and no other goes on from it.
     pub fn is_alone(&self, number: usize) -> bool
-        ensures { result ≡ true → slice_get self.now number ≡ Some (Some []) }
+        ensures { result ≡ true → slice_get self.now number ≡ Some [] }
     {
         let Some(None) = self.shared.get(number) else {
             return false;
@@ -157,17 +150,25 @@ impl SharedPrefixes {
     }
 }
 
-/// The checkpoints of a launch, where they are not with its job.
-fn checkpoints_at(checkpoints: &[Option<Vec<Checkpoint>>], launch: usize) -> Option<&[Checkpoint]>
-    ensures { IfSome result (λ own. slice_get (map (option_map (λ m. m.items)) checkpoints.now)
-        launch ≡ Some (Some own.now)) }
+/// The checkpoints of a launch.
+fn checkpoints_at(checkpoints: &[Vec<Checkpoint>], launch: usize) -> Option<&[Checkpoint]>
+    ensures { IfSome result
+        (λ own. slice_get (map (λ m. m.items) checkpoints.now) launch ≡ Some own.now) }
 {
-    if launch >= checkpoints.len() {
-        return None;
-    }
-    match &checkpoints[launch] {
-        Some(own) => Some(own.as_slice()),
-        None => None,
+    let own = checkpoints.get(launch)?;
+    Some(own.as_slice())
+}
+
+/// Where a list has the checkpoint after this many links, if it has it.
+fn place_in(checkpoints: &[Checkpoint], links: usize) -> Option<usize>
+    ensures { IfSome result (λ at. at < length checkpoints.now) }
+{
+    let at = checkpoints.partition_point(|checkpoint| checkpoint.links < links);
+    let checkpoint = checkpoints.get(at)?;
+    if checkpoint.links == links {
+        Some(at)
+    } else {
+        None
     }
 }
 
@@ -176,13 +177,26 @@ fn prefix_at(checkpoints: &[Checkpoint], links: usize) -> Option<Prefix>
     ensures { IfSome result
         (λ f. Contains checkpoints.now (record { links = f.links; value = Some f.value })) }
 {
-    for checkpoint in checkpoints {
-        if checkpoint.links == links {
-            let value = checkpoint.value?;
-            return Some(Prefix { links, value });
-        }
-    }
-    None
+    let at = place_in(checkpoints, links)?;
+    let Checkpoint { links, value } = checkpoints[at];
+    let value = value?;
+    Some(Prefix { links, value })
+}
+
+/// Puts the value of a prefix at its checkpoint, if there is one. Answers whether it had none.
+fn put_value(checkpoints: &mut [Checkpoint], prefix: Prefix) -> bool
+    ensures { (at : ℕ) × (checkpoints.new ≡ slice_set checkpoints.old at
+        (record { links = prefix.links; value = Some prefix.value })) }
+{
+    let Some(at) = place_in(checkpoints, prefix.links) else {
+        return false;
+    };
+    let is_new = checkpoints[at].value.is_none();
+    checkpoints[at] = Checkpoint {
+        links: prefix.links,
+        value: Some(prefix.value),
+    };
+    is_new
 }
 
 /// Whether two launches have the same prefix of this many links.
@@ -193,19 +207,4 @@ fn is_own(plans: &[LaunchPlan], earlier: usize, own: usize, links: usize) -> boo
         (Some(earlier), Some(own)) => earlier.is_same_prefix(own, links),
         _ => false,
     }
-}
-
-/// Puts checkpoints in the place of those of a launch, which it answers.
-fn replaced(
-    checkpoints: &mut Vec<Option<Vec<Checkpoint>>>,
-    number: usize,
-    own: Option<Vec<Checkpoint>>,
-) -> Option<Vec<Checkpoint>>
-    ensures new { checkpoints.new.items ≡ slice_set checkpoints.old.items number own }
-    ensures taken { result ≡ option_and_then (λ o. o) (slice_get checkpoints.old.items number) }
-{
-    if number >= checkpoints.len() {
-        return None;
-    }
-    replace(&mut checkpoints[number], own)
 }

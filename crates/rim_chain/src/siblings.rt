@@ -1,5 +1,5 @@
 //! Which launches begin alike. Whatever is found here, each launch chains to the same value.
-ghost use Rattle.std.specs.Prelude.{IfOk, IfSome, None};
+ghost use Rattle.std.specs.Prelude.{IfOk, None};
 ghost use Rattle.std.specs.List.{All};
 ghost use Rattle.rim_chain.specs.inside.Checkpoints.{HaveNoValues};
 
@@ -113,9 +113,8 @@ fn shortened(shared: &[Option<SharedPrefix>], number: usize) -> Option<SharedPre
 pub(crate) fn checkpoints_of(
     alloc: Global,
     shared: &[Option<SharedPrefix>],
-) -> Result<Vec<Option<Vec<Checkpoint>>>, NoMemory>
-    ensures { IfOk result
-        (λ checkpoints. All (λ own. IfSome own (λ ms. HaveNoValues ms.items)) checkpoints.items) }
+) -> Result<Vec<Vec<Checkpoint>>, NoMemory>
+    ensures { IfOk result (λ checkpoints. All (λ own. HaveNoValues own.items) checkpoints.items) }
 {
     let parted = parted(alloc, shared)?;
     let mut checkpoints = Vec::with_capacity(alloc, shared.len())?;
@@ -139,13 +138,13 @@ fn parted(alloc: Global, shared: &[Option<SharedPrefix>]) -> Result<Vec<SharedPr
     Ok(parted)
 }
 
-/// The checkpoints of a launch, where it has some, by the different shared prefixes in their order.
+/// The checkpoints of a launch, by the different shared prefixes in their order.
 fn own_checkpoints(
     alloc: Global,
     parted: &[SharedPrefix],
     number: usize,
-) -> Result<Option<Vec<Checkpoint>>, NoMemory>
-    ensures { IfOk result (λ own. IfSome own (λ ms. HaveNoValues ms.items)) }
+) -> Result<Vec<Checkpoint>, NoMemory>
+    ensures { IfOk result (λ own. HaveNoValues own.items) }
 {
     let from = parted.partition_point(|shared_prefix| shared_prefix.launch < number);
     let mut checkpoints = Vec::new(alloc);
@@ -159,5 +158,5 @@ fn own_checkpoints(
             value: None,
         })?;
     }
-    Ok(Some(checkpoints))
+    Ok(checkpoints)
 }

@@ -3,7 +3,6 @@ use Rattle.std.proofs.Common.{◌≡◌, ℕ, ◌<◌, ◌∙◌, Bool, true, fa
 use Rattle.std.specs.Prelude.{Option, Some, None, Result, Ok, Err, is_some, unwrap_or, ◌==◌, if◌then◌else◌}
 use Rattle.std.specs.List.{All, AllByRecursion, Contains, filter_map, flat_map, slice_get}
 use Rattle.std.specs.Option.{option_and_then}
-use Rattle.std.specs.Result.{result_map_both}
 use Rattle.std.specs.Ordering.{is_eq}
 use Rattle.std.proofs.lemmas.Bool.{and_parts}
 use Rattle.std.proofs.lemmas.List.{length-map}
@@ -11,19 +10,16 @@ use Rattle.std.proofs.lemmas.Bool.Decides.{nat_tests}
 use Rattle.std.proofs.lemmas.List.Quantifiers.{position-Some}
 use Rattle.std.proofs.lemmas.List.Elements.{All-contains_itself, All-from_recursion, recursion_from_All}
 use Rattle.std.proofs.lemmas.Option.{slice_get-get_or, slice_get_within}
-use Rattle.refusal.specs.Answer.{◌>>=◌}
 use Rattle.rim_desc.specs.declared.measurement.Measurement.{Measurement}
 use Rattle.rim_desc.specs.declared.source.Source.{Source}
 use Rattle.rim_desc.specs.declared.source.Source.TheVariants.{File, Edited}
 use Rattle.rmm_model.specs.Run.{run}
 use Rattle.rmm_model.specs.State.{empty_state}
-use Rattle.list_model.specs.Entries.{Entry, commands_of}
+use Rattle.list_model.specs.Entries.{commands_of}
 use Rattle.rim_launch.specs.LaunchData.{LaunchData, has_files}
-use Rattle.ipa_layout.specs.declared.fault.LayoutFault.{LayoutFault}
-use Rattle.rmi_list.specs.declared.fault.ListFault.{ListFault}
 use Rattle.rim_launch.specs.declared.item.Item.{Item}
 use Rattle.ipa_layout.specs.Laws.{IsSourceOf}
-use Rattle.ipa_layout.specs.Layout.{IsPlaced, PlacedData, bytes_of_source, places}
+use Rattle.ipa_layout.specs.Layout.{IsPlaced, PlacedData, bytes_of_source}
 use Rattle.ipa_layout.specs.declared.placed.PlacedItem.{PlacedItem}
 use Rattle.ipa_layout.proofs.PlacedLaunchLaws.{as-many-items, same-number, source-is}
 use Rattle.page_jobs.specs.Key.{IsRising, key_cmp}
@@ -36,7 +32,6 @@ use Rattle.page_jobs.proofs.SearchByKey.{slot-key}
 use Rattle.page_jobs.proofs.SlotOfNextPage.{slots-there}
 use Rattle.page_jobs.proofs.RisingKeys.{Has, contains-has, has-contains, rising_keys-rise, rising_keys-same}
 use Rattle.rim_manifest.specs.Launches.{AreNumbered, NamedData, ReleaseData}
-use Rattle.rmi_list.specs.Listed.{listed}
 use Rattle.rmi_list.specs.Measured.{page_contents}
 use Rattle.rim_chain.specs.Links.{PlanView, chain_of, keys_of}
 use Rattle.rim_chain.specs.OwnDigests.{HasOwnPage, own_digest}
@@ -44,7 +39,7 @@ use Rattle.rim_chain.specs.Keys.{measured_keys}
 use Rattle.rim_chain.specs.Reading.{IsReadOf}
 use Rattle.rim_chain.specs.Rows.{IsFull, IsRowOf, has_all, value_in}
 use Rattle.rim_chain.proofs.ChainsOfOwnPages.{chain-held, row-own}
-use Rattle.rim_accepted.specs.Accepted.{accepted_of, commands_for, layout_fault, list_fault, rim_after, rim_for}
+use Rattle.rim_accepted.specs.Accepted.{accepted_of, commands_for, rim_for}
 use Rattle.rim_report.specs.Pages.{keys_at, launch_keys, page_keys, release_pages, source_bytes}
 use Rattle.rim_accepted.specs.Lines.{lines_of, outcomes_for, seen}
 use Rattle.rim_report.specs.Report.{measured_of, report_of, report_with}

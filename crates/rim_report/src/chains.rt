@@ -68,14 +68,7 @@ fn chained(
         unreachable!()
     }
     let shared_prefix = shared_prefix_of(plans, number, first, prefixes);
-    let (value, checkpoints) = chain_from(
-        plan,
-        row,
-        shared_prefix,
-        prefixes.take_checkpoints(number),
-    );
-    prefixes.keep(number, checkpoints);
-    value
+    chain_from(plan, row, number, shared_prefix, prefixes)
 }
 
 /// The prefix that a launch goes on from: its first one where that is known, else the one that it has in common with an

@@ -32,15 +32,13 @@ impl<'a, L: Run> BoardState<'a, L> {
         if !matches!(work, Work::Later) {
             return work;
         }
-        match self.core.ready_launch() {
-            Some(number) => Work::Launch(self.give_launch(worker, number)),
-            None => Work::Later,
-        }
+        self.work_left(worker)
     }
 
-    /// The same for a worker that may come again when a job is put or a worker retires. `Later` may also be answered where free
-    /// launches are ready. It says that this worker holds no job, that another one holds some job, and that nothing is changed.
-    /// Which launches are left for later is not promised; they should wait for an earlier one that begins alike and is not done.
+    /// The same for a worker that may come again when a job is put, a worker retires or a prefix is kept. `Later` may also be
+    /// answered where free launches are ready. It says that this worker holds no job, that another one holds some job, and that
+    /// nothing is changed. Which launches are left for later is not promised; they should be those that go on from a prefix which
+    /// another worker hands over when it comes to it.
     pub fn take_or_wait(&mut self, worker: usize) -> Work<'a, L>
         ensures board { IsBoard self.old × IsOfRun L.pages L.plans self.old }
         ensures gives { result ≢ Work.Later → Gives self.old worker result self.new }
@@ -53,7 +51,22 @@ impl<'a, L: Run> BoardState<'a, L> {
         if !matches!(work, Work::Later) {
             return work;
         }
-        match self.preferences.launch_to_begin(&mut self.core) {
+        if self.core.is_some_held() {
+            return Work::Later;
+        }
+        self.work_left(worker)
+    }
+
+    /// A launch that goes on from another whose prefix is not known, or why none is given.
+    fn work_left(&mut self, worker: usize) -> Work<'a, L>
+        requires known { is_out self.old.core worker ≡ false }
+        requires idle { held_count self.old.core worker ≡ 0 }
+        requires open { is_over self.old.core ≡ false }
+        requires pages { NoneFree self.old.core.pages }
+        ensures board { IsBoard self.old }
+        ensures gives { Gives self.old worker result self.new }
+    {
+        match self.core.ready_launch() {
             Some(number) => Work::Launch(self.give_launch(worker, number)),
             None => Work::Later,
         }
@@ -155,8 +168,10 @@ impl<'a, L: Run> BoardState<'a, L> {
         // Each filled slot of a table has the digest of its own page.
         let _pages = table.pages();
         let shared_prefix = prefixes.prefix(plans, number);
+        let links = shared_prefix.map_or(0, |prefix| prefix.links);
+        let stop = prefixes.next_stop(number, links);
         let job = LaunchJob::new(number, plan, row);
-        LaunchTask::new(job.going_on(shared_prefix, prefixes.take_checkpoints(number)))
+        LaunchTask::new(job.going_on(shared_prefix, stop))
     }
 }
 

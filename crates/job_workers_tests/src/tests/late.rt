@@ -26,7 +26,8 @@ const TURNS: u64 = 10_000_000;
 /// second is begun; and worker 0's launch until the other was put, and for some turns more, in which worker 1 finds nothing
 /// ready. It counts what it waited for in vain.
 ///
-/// The launches are too short to wait for another, also where the gate lets launches wait. So both are begun at a time.
+/// The launches have the pages in common and no links, so neither waits for the other where the gate lets launches wait. So both
+/// are begun at a time.
 #[derive(Drop)]
 struct Late {
     lets_wait: bool,

@@ -1,4 +1,4 @@
-//! Launches that begin alike: a worker waits for the one that another chains.
+//! Launches that begin alike: a worker waits for the prefix that another hands over.
 ghost use Rattle.std.specs.Prelude.{◌≡◌, ◌≤◌, length, map, replicate, None};
 ghost use Rattle.std.specs.List.{All, Contains};
 ghost use Rattle.page_jobs.specs.Key.{IsRising};
@@ -74,29 +74,18 @@ fn values_of(rt: &impl Abort, alloc: Global, plans: &[LaunchPlan]) -> Vec<Measur
     values
 }
 
-/// Each of many runs of four workers ends, with the values of one thread.
+/// Each of many runs of workers ends, with the values of one thread; of 64 workers too, most of which find nothing to do.
 #[test]
 fn runs_end_with_the_same_values(rt: HostRuntime) -> Result<(), Fail> {
     let alloc = rt.alloc();
     let pages = pages_of(alloc, &[], 0)?;
     let plans = plans_of(&rt, alloc, LAUNCHES);
-    let plans = plans.as_slice();
-    let alone = values_of(&rt, alloc, plans);
+    let alone = values_of(&rt, alloc, &plans);
     for _run in 0..RUNS {
-        let table = Table::reserve(alloc, &pages)?;
-        if !has_all_keys(&table, plans) {
-            panic!(rt; "no launch has pages");
+        for workers in [2, 4, 64] {
+            let values = values_by(&rt, alloc, workers, &pages, &plans)?;
+            check(&rt, values.as_slice() == alone.as_slice(), "the values");
         }
-        let values = run_by::<Brand, FreeGate, HostRuntime>(
-            &rt,
-            alloc,
-            Blank::new(4),
-            4,
-            table,
-            plans,
-            &mut FreeGate,
-        )?;
-        check(&rt, values.as_slice() == alone.as_slice(), "the values");
     }
     Ok(())
 }
@@ -114,7 +103,7 @@ fn given<'a, L: Run>(
     }
 }
 
-/// Launch 1 goes on from launch 0, and is given only when that is put, or its worker retires.
+/// Launch 1 goes on from launch 0, whose worker hands no prefix over. So it is given only when no worker holds a job.
 fn wait_for_first<'a, L: Run>(
     rt: &impl Abort,
     alloc: Global,
@@ -159,6 +148,62 @@ fn a_launch_waits_for_another(rt: HostRuntime) -> Result<(), Fail> {
         panic!(rt; "no launch has pages");
     }
     wait_for_first::<Brand>(&rt, alloc, Blank::new(3), table, plans)?;
+    Ok(())
+}
+
+/// Launch 1 is given when the prefix that it goes on from is kept, while launch 0 is still being chained. Each chains to its own
+/// value.
+fn go_on_from_first<'a, L: Run>(
+    rt: &impl Abort,
+    alloc: Global,
+    blank: Blank,
+    table: Table<'a>,
+    plans: &'a [LaunchPlan],
+) -> Result<(), NoMemory>
+    requires name { blank.name ≡ L.name }
+    requires parts { (blank.parts ≡ L.parts) × (blank.parts ≡ 3) }
+    requires pages { table.pages ≡ L.pages }
+    requires plans { plans.now ≡ L.plans }
+    requires keys { All
+        (λ p. All (Contains (page_keys_of table.pages)) (link_keys p.links))
+        plans.now }
+    requires empty { table.digests ≡ replicate (length table.pages) None }
+{
+    let own = values_of(rt, alloc, plans);
+    let (mut board, _shares) = BoardState::<L>::new(alloc, blank, 3, table, plans)?;
+    let mut first = given(rt, &mut board, 1).expect(rt, "launch 0");
+    check(rt, given(rt, &mut board, 2).is_none(), "worker 2 waits");
+    let prefix = first.run_to_stop().expect(rt, "launch 1 goes on from it");
+    check(rt, prefix.number() == 0, "the prefix is launch 0's");
+    first.set_stop(board.keep_prefix(prefix));
+    check(
+        rt,
+        first.run_to_stop().is_none(),
+        "no other goes on from it",
+    );
+    let second = given(rt, &mut board, 2).expect(rt, "launch 1");
+    check(rt, second.number() == 1, "launch 1");
+    check(
+        rt,
+        !second.can_run_with_others(),
+        "it goes on from the prefix",
+    );
+    let values = [first.run().value(), second.run().value()];
+    check(rt, values.as_slice() == own.as_slice(), "the values");
+    Ok(())
+}
+
+#[test]
+fn a_launch_goes_on_from_one_that_is_being_chained(rt: HostRuntime) -> Result<(), Fail> {
+    let alloc = rt.alloc();
+    let pages = pages_of(alloc, &[], 0)?;
+    let plans = plans_of(&rt, alloc, 2);
+    let plans = plans.as_slice();
+    let table = Table::reserve(alloc, &pages)?;
+    if !has_all_keys(&table, plans) {
+        panic!(rt; "no launch has pages");
+    }
+    go_on_from_first::<Brand>(&rt, alloc, Blank::new(3), table, plans)?;
     Ok(())
 }
 

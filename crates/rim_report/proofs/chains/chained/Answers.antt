@@ -1,23 +1,20 @@
 use Rattle.std.proofs.Common.{◌∙◌, ap, sym}
 use Rattle.rim_chain.specs.Links.{chain_of, keys_of}
-use Rattle.rim_chain.proofs.KnownPrefixes.{own-shared_prefix, own-checkpoints, row-values}
+use Rattle.rim_chain.proofs.KnownPrefixes.{own-shared_prefix, row-values}
 use Rattle.rim_report.proofs.chains.chained.Goals as goal
 
-pub chain_from-checkpoints-requires-clause-shared_prefix : goal.chain_from-checkpoints-requires-clause-shared_prefix
-chain_from-checkpoints-requires-clause-shared_prefix c =
+pub chain_from-requires-clause-shared_prefix : goal.chain_from-requires-clause-shared_prefix
+chain_from-requires-clause-shared_prefix c =
     own-shared_prefix c.args.table.now c.args.plan.now c.fill_row.new.row.digests c.shared_prefix_of-shared_prefix.result
     (c.fill_row.ensures.filled c.if-not-fill_row.false)
     (c.shared_prefix_of-shared_prefix.ensures c.args.table.now c.args.plan.now c.requires.prefixes c.requires.plan c.requires.first)
 
 pub returns-clause-value : goal.returns-clause-value
 returns-clause-value c =
-    c.chain_from-checkpoints.ensures.value
+    c.chain_from.ensures.value
     ∙ ap (chain_of c.args.plan.now)
     (sym (row-values c.args.table.now (keys_of c.args.plan.now.links) c.fill_row.new.row.digests (c.fill_row.ensures.filled c.if-not-fill_row.false)))
 
 pub returns-clause-prefixes : goal.returns-clause-prefixes
 returns-clause-prefixes c =
-    c.keep.ensures.shared c.args.table.now c.args.plans.now c.args.plan.now c.requires.plan
-    (own-checkpoints (λ v. v.items) c.args.table.now c.args.plan.now c.fill_row.new.row.digests c.chain_from-checkpoints.result.1
-    (c.fill_row.ensures.filled c.if-not-fill_row.false) c.chain_from-checkpoints.ensures.checkpoints)
-    (c.take_checkpoints.ensures.shared c.args.table.now c.args.plans.now c.requires.prefixes)
+    c.chain_from.ensures.prefixes c.args.table.now c.args.plans.now c.requires.plan (c.fill_row.ensures.filled c.if-not-fill_row.false) c.requires.prefixes

@@ -1,6 +1,6 @@
 use Rattle.std.specs.Prelude.{is_err}
 use Rattle.std.specs.List.{list_any}
-use Rattle.std.proofs.Common.{◌≡◌, ◌∙◌, ℕ, List, ap, ap₂, length, map, subst, sym, true, Ok, Result}
+use Rattle.std.proofs.Common.{◌≡◌, ◌∙◌, ℕ, List, ap, ap₂, length, map, subst, sym, true, Ok}
 use Rattle.std.specs.List.{All}
 use Rattle.std.proofs.lemmas.List.{length-map}
 use Rattle.ipa_layout.specs.Files.{bytes_of_files}
@@ -11,11 +11,9 @@ use Rattle.page_jobs.specs.declared.page.Page.{Page}
 use Rattle.rim_chain.specs.Links.{PlanView, keys_of}
 use Rattle.rim_chain.specs.Rows.{has_all, value_in}
 use Rattle.rim_desc.specs.declared.measurement.Measurement.{Measurement}
-use Rattle.rim_manifest.specs.Launches.{NamedData, ReleaseData}
+use Rattle.rim_manifest.specs.Launches.{ReleaseData}
 use Rattle.rim_accepted.specs.Lines.{has_refused, lines_with}
 use Rattle.rim_accepted.specs.Outcomes.{IsLaidOut, OutcomesView}
-use Rattle.rim_accepted.specs.declared.audit_fault.AuditFault.{AuditFault}
-use Rattle.rim_accepted.specs.declared.accepted.AcceptedLaunch.{AcceptedLaunch}
 use Rattle.rim_accepted.proofs.OutcomesInTurn.{refused-are}
 use Rattle.rim_report.specs.Report.{measured_of, report_with}
 use Rattle.rim_report.specs.inside.Unknown.{unknown_outcome, with_rims}

@@ -1,4 +1,4 @@
-use Rattle.std.proofs.Common.{◌≡◌, ◌∙◌, ℕ, ◌+◌, List, Vec, Global, Result, ap, arith, length, sym, subst, take}
+use Rattle.std.proofs.Common.{◌∙◌, ◌+◌, List, Vec, Global, Result, ap, arith, sym, subst, take}
 use Rattle.rim_chain.specs.Links.{PlanView}
 use Rattle.rim_accepted.specs.Outcomes.{AreOutcomes}
 use Rattle.rim_accepted.specs.declared.accepted.AcceptedLaunch.{AcceptedLaunch}

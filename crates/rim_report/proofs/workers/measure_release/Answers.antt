@@ -1,5 +1,5 @@
 use Rattle.std.specs.Prelude.{is_err}
-use Rattle.std.specs.List.{AllByRecursion, Contains, list_any}
+use Rattle.std.specs.List.{Contains, list_any}
 use Rattle.std.proofs.Common.{◌≡◌, ◌∙◌, ℕ, List, ap, ap₂, arith, length, map, rules, subst, sym, true, Ok, Result}
 use Rattle.std.specs.List.{All}
 use Rattle.std.proofs.lemmas.List.{length-map}
@@ -9,19 +9,18 @@ use Rattle.page_jobs.specs.Page.{page_view}
 use Rattle.page_jobs.specs.Table as table
 use Rattle.page_jobs.specs.declared.page.Page.{Page}
 use Rattle.rim_chain.specs.Links.{PlanView, keys_of}
-use Rattle.rim_chain.specs.Rows.{has_all, value_in}
+use Rattle.rim_chain.specs.Rows.{value_in}
 use Rattle.rim_desc.specs.declared.measurement.Measurement.{Measurement}
-use Rattle.rim_manifest.specs.Launches.{NamedData, ReleaseData}
+use Rattle.rim_manifest.specs.Launches.{ReleaseData}
 use Rattle.rim_accepted.specs.Lines.{has_refused, lines_with, outcomes_for, seen}
 use Rattle.rim_accepted.specs.Outcomes.{IsLaidOut, OutcomesView}
 use Rattle.rim_accepted.specs.declared.audit_fault.AuditFault.{AuditFault}
-use Rattle.rim_accepted.specs.declared.accepted.AcceptedLaunch.{AcceptedLaunch}
 use Rattle.rim_accepted.proofs.OutcomesInTurn.{refused-are}
 use Rattle.rim_report.specs.Report.{is_crew, measured_of, report_with}
 use Rattle.rim_report.specs.inside.Unknown.{unknown_outcome, with_rims}
 use Rattle.page_jobs.specs.declared.page.PageKey.{PageKey}
 use Rattle.rim_report.proofs.ChainsAreRims.{all-known, found-keys, outcomes-is, report-is, rising-pages}
-use Rattle.rim_report.proofs.LengthOfReport.{HasSize, HasSizeWithin, chains-size, report-size, unknown-size}
+use Rattle.rim_report.proofs.LengthOfReport.{chains-size, report-size, unknown-size}
 use Rattle.rim_report.proofs.workers.measure_release.Goals as goal
 
 pub run-requires-clause-rising : goal.run-requires-clause-rising

@@ -3,8 +3,9 @@ use Rattle.std.specs.List.{slice_get}
 use Rattle.std.proofs.lemmas.Option.{same_Some, slice_get_within}
 use Rattle.page_jobs.specs.Page.{PageView}
 use Rattle.rim_chain.specs.Links.{PlanView, keys_of}
-use Rattle.job_board.specs.Tasks.{IsOwnRow}
-use Rattle.job_board.proofs.RowsOfOwnPages.{own_row}
+use Rattle.rim_chain.specs.SharedPrefixes.{AreShared}
+use Rattle.job_board.specs.Tasks.{IsOwnRow, whole_table}
+use Rattle.job_board.proofs.RowsOfOwnPages.{own_row, whole_row}
 use Rattle.job_board.specs.declared.job.Event.TheVariants.{Take}
 use Rattle.job_board.specs.declared.job.JobId.TheVariants.{Launch}
 use Rattle.job_board.specs.declared.job.JobState.TheVariants.{Free}
@@ -69,8 +70,13 @@ new-job-requires g c =
 pub going_on-requires : goal.going_on-requires
 going_on-requires g c =
     let i = c.self.inside in
-    let known = c.prefix-shared_prefix.ensures i.table c.plan_at-plan.result.now c.self.invariant.3 c.plan_at-plan.ensures in
-    rw c.new-job.ensures (own-shared_prefix i.table c.plan_at-plan.result.now c.filled_for-row.result.digests c.prefix-shared_prefix.result c.filled_for-row.ensures.row known)
+    let p = c.plan_at-plan.result.now in
+    let digests = c.filled_for-row.result.digests in
+    let whole = whole_table g.L.Run.pages in
+    let shared = subst (λ (plans : List PlanView). AreShared whole plans i.prefixes) (sym c.self.invariant.4.1) c.self.invariant.3 in
+    let known = c.prefix-shared_prefix.ensures whole p shared c.plan_at-plan.ensures in
+    let own = subst (λ (pages : List PageView). IsOwnRow pages (keys_of p.links) digests) c.self.invariant.4.0 (own_row i.table c.pages-pages.ensures.table (keys_of p.links) digests c.filled_for-row.ensures.row) in
+    rw c.new-job.ensures (own-shared_prefix whole p digests c.prefix-shared_prefix.result (whole_row g.L.Run.pages (keys_of p.links) digests own) known)
 
 pub invariant_of-self : goal.invariant_of-self
 invariant_of-self g c =
@@ -81,7 +87,7 @@ invariant_of-self g c =
       rw c.push_reserved.ensures.items (board_other b c.step.new.self (Take c.args.worker (Launch c.args.number)) refl c.self.invariant.0 step),
       omega (arith, most, c.self.invariant.1, c.push_reserved.ensures.capacity),
       rw c.take_row.ensures.rest (rows_take_launch i.core c.step.new.self i.plans.now i.rows.items i.room c.args.worker c.args.number c.self.invariant.2 step),
-      c.take_checkpoints.ensures.shared i.table i.plans.now c.self.invariant.3,
+      c.self.invariant.3,
       c.self.invariant.4,
     )
 

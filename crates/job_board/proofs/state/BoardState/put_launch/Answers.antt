@@ -1,8 +1,6 @@
 use Rattle.std.proofs.Common.{◌≡◌, ◌∙◌, ℕ, List, Ok, Some, ap, arith, subst, sym}
-use Rattle.std.specs.Prelude.{IfSome}
 use Rattle.std.specs.List.{slice_get}
 use Rattle.rim_desc.specs.declared.measurement.Measurement.{Measurement}
-use Rattle.rim_chain.specs.Prefixes.{AreCheckpoints}
 use Rattle.std.proofs.lemmas.Option.{same_Some, slice_get_within}
 use Rattle.page_jobs.specs.Page.{PageView}
 use Rattle.rim_chain.specs.Jobs.{JobView, RimView}
@@ -21,7 +19,6 @@ use Rattle.job_board.proofs.EventsKeepBoards.{board_put_launch, held_filled, res
 use Rattle.job_board.proofs.WhatStepsChange.{put_says}
 use Rattle.job_board.proofs.RowsOfWorkers.{rows_put_launch}
 use Rattle.job_board.proofs.RowsOfOwnPages.{row_of_own}
-use Rattle.rim_chain.proofs.KnownPrefixes.{own-checkpoints}
 use Rattle.job_board.proofs.state.BoardState.put_launch.Goals as goal
 
 -- what is known of a launch that was put
@@ -73,7 +70,7 @@ invariant_of-self-2 g c =
       rw c.push_reserved.ensures.items (board_put_launch b c.step.new.self c.args.worker n job.plan c.value.result c.self.invariant.0 step at value),
       omega (arith, most, c.self.invariant.1, c.push_reserved.ensures.capacity),
       rw c.keep_row.ensures (rows_put_launch i.core c.step.new.self i.plans.now i.rows.items i.room c.args.worker n c.self.invariant.2 step),
-      c.keep.ensures.shared i.table i.plans.now job.plan at (own-checkpoints (λ v. v.items) i.table job.plan job.row.digests c.into_parts-row.result.1 put.row (subst (λ (r : RimView). IfSome c.into_parts-row.result.1 (λ checkpoints. AreCheckpoints r.job.plan r.job.row.digests checkpoints.items)) c.into_rim-rim.ensures.rim c.into_parts-row.ensures.checkpoints)) c.self.invariant.3,
+      c.self.invariant.3,
       c.self.invariant.4,
     )
 
@@ -92,7 +89,7 @@ plan_same plans run n job p same own number at =
 pub of_launch-requires-clause-own : goal.of_launch-requires-clause-own
 of_launch-requires-clause-own g c =
     let job = c.args.launch.job in
-    let row : c.into_parts-row.result.0 ≡ job.row = c.into_parts-row.ensures.row ∙ ap (λ (r : RimView). r.job.row) c.into_rim-rim.ensures.rim in
+    let row : c.into_row.result ≡ job.row = c.into_row.ensures ∙ ap (λ (r : RimView). r.job.row) c.into_rim-rim.ensures.rim in
     let plan : job.plan ≡ c.plan_at.result.now =
     plan_same c.self.inside.plans.now g.L.Run.plans c.number-number.result job c.plan_at.result.now c.self.invariant.4.1 c.into_rim-rim.ensures.own.0 c.number-number.ensures c.plan_at.ensures in
     subst (λ (r : RowView). IsOwnRow g.L.Run.pages (keys_of c.plan_at.result.now.links) r.digests) (sym row)
@@ -100,7 +97,7 @@ of_launch-requires-clause-own g c =
 
 pub of_launch-requires-clause-roomy : goal.of_launch-requires-clause-roomy
 of_launch-requires-clause-roomy g c =
-    subst (λ (r : RowView). IsRoomy g.L.Run.plans r) (sym (c.into_parts-row.ensures.row ∙ ap (λ (r : RimView). r.job.row) c.into_rim-rim.ensures.rim)) c.into_rim-rim.ensures.own.2
+    subst (λ (r : RowView). IsRoomy g.L.Run.plans r) (sym (c.into_row.ensures ∙ ap (λ (r : RimView). r.job.row) c.into_rim-rim.ensures.rim)) c.into_rim-rim.ensures.own.2
 
 pub returns-clause-can : goal.returns-clause-can
 returns-clause-can g c =

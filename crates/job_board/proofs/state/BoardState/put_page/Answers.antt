@@ -10,7 +10,6 @@ use Rattle.job_board.proofs.HistoryGoesOn.{history_room, same_most}
 use Rattle.job_board.proofs.EventsKeepBoards.{board_put_page, slot_empty}
 use Rattle.job_board.proofs.WhatStepsChange.{put_says}
 use Rattle.job_board.proofs.RowsOfWorkers.{rows_put_page}
-use Rattle.rim_chain.proofs.KnownPrefixes.{shared-filled}
 use Rattle.job_board.proofs.state.BoardState.put_page.Goals as goal
 
 pub keep-requires : goal.keep-requires
@@ -49,6 +48,6 @@ invariant_of-self-2 g c =
       rw (c.push_reserved.ensures.items, c.keep.ensures, book) (board_put_page b c.step.new.self c.args.worker n d c.self.invariant.0 table step),
       omega (arith, most, c.self.invariant.1, c.push_reserved.ensures.capacity),
       rows_put_page i.core c.step.new.self i.plans.now i.rows.items i.room c.args.worker n c.self.invariant.2 step,
-      rw c.keep.ensures (shared-filled i.table i.plans.now i.prefixes n d (slot_empty i.table.digests i.core.pages c.args.worker n c.self.invariant.0.filled was.1) c.self.invariant.3),
+      c.self.invariant.3,
       rw c.keep.ensures c.self.invariant.4,
     )

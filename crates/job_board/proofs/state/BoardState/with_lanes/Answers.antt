@@ -6,6 +6,7 @@ use Rattle.page_jobs.specs.Page.{page_view}
 use Rattle.rim_chain.specs.Links.{PlanView}
 use Rattle.job_board.specs.declared.job.JobState.TheVariants.{Free}
 use Rattle.job_board.specs.Jobs.{opening}
+use Rattle.job_board.specs.Tasks.{whole_table}
 use Rattle.job_board.specs.History.{most_events}
 use Rattle.job_board.specs.inside.Needs.{needs_of}
 use Rattle.job_board.proofs.NewBoards.{board_new, plan_fits, rows_new}
@@ -29,7 +30,7 @@ invariant_of-result g c =
           (board_new c.args.workers c.args.table c.args.plans.now needs fresh c.pages-pages.ensures.table c.requires.empty own),
       omega (arith, most, cap, pages, own.size, length-replicate size Free, length-replicate (length needs) Free, length-replicate c.args.workers false),
       rw (core, c.in_ok-rows.ensures) (rows_new c.args.workers size needs c.args.plans.now c.most_pages-room.result c.most_pages-room.ensures),
-      c.in_ok-prefixes.ensures c.args.table c.args.plans.now,
+      c.in_ok-prefixes.ensures (whole_table g.L.Run.pages) g.L.Run.plans,
       (c.requires.pages, c.requires.plans),
     )
 
