@@ -24,13 +24,15 @@ import lanes
 import launches
 import peers
 import releases
+import rust
 import sizes
 import trees
+import waits
 import workers
 
 # What proves most comes first, so that a program that cannot be built is reported early.
-BUILDING = [prefixes, lanes, workers, board, hashes, peers, chain, crates, trees, releases]
-TIMING = [hashes, peers, chain, board, crates, trees, workers, lanes, prefixes, releases, launches, sizes]
+BUILDING = [prefixes, lanes, workers, waits, rust, board, hashes, peers, chain, crates, trees, releases]
+TIMING = [hashes, peers, rust, chain, board, crates, trees, workers, waits, lanes, prefixes, releases, launches, sizes]
 
 
 def processor():
