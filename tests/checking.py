@@ -85,12 +85,22 @@ def taken(program: str, command: str, folder: Folder) -> tuple[float, int]:
     return float(time), int(memory)
 
 
-def large(program: str, text: bytes) -> list[str]:
-    folder = Folder({"m.toml": text})
+def compared(program: str, folder: Folder) -> list[str]:
+    """What a check takes more than it may, beside `rim measure`."""
     time, memory = taken(program, "measure", folder)
     own_time, own_memory = taken(program, "check", folder)
     wrong = [] if own_time <= 2 * time + 0.05 else [f"check takes {own_time:.2f} s, and measure {time:.2f}"]
     return wrong + ([] if own_memory <= 2 * memory else [f"check takes {own_memory} KiB, and measure {memory}"])
+
+
+def large(program: str, text: bytes) -> list[str]:
+    """The same of the best of three tries, since a busy machine may hold up one of the two programs."""
+    folder = Folder({"m.toml": text})
+    for _ in range(3):
+        wrong = compared(program, folder)
+        if not wrong:
+            break
+    return wrong
 
 
 LARGE = [
