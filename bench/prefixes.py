@@ -24,10 +24,6 @@ NO_PREFIX = ("rim_chain/src/siblings.rt", "if last.links > 0 && later < shared.l
             "if last.links == usize::MAX && later < shared.len() {")
 
 
-# The program that counts calls what only rim_chain calls else.
-COUNTED = ("rim_chain/src/plan.rt", "pub(crate) fn parts_after(", "pub fn parts_after(")
-
-
 def image(folder, size):
     """A kernel's Image of that many bytes, which takes as many when it runs."""
     head = bytes(8) + (0).to_bytes(8, "little") + size.to_bytes(8, "little") + (0xA).to_bytes(8, "little") + bytes(24) + b"ARMd" + bytes(4)
@@ -61,7 +57,7 @@ def unlike(folder):
 
 
 def prepare():
-    counter = crates.built("prefixes", "rim_accepted rim_report rim_manifest rim_desc rim_chain", [SMALL], [COUNTED])
+    counter = crates.built("prefixes", "rim_accepted rim_report rim_manifest rim_desc rim_chain", [SMALL])
     return counter, [measuring(), measuring([NO_PREFIX])]
 
 

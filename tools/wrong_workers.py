@@ -52,14 +52,26 @@ BODIES = [
     ),
     (
         "no launch waits for another",
-        "job_board/src/preferences.rt",
-        [("    matches!(state, Some(JobState::Free | JobState::Held(_)))\n", "    false && matches!(state, Some(JobState::Free | JobState::Held(_)))\n")],
+        "job_board/src/state/giving.rt",
+        [("        if self.core.is_some_held() {\n", "        if false {\n")],
         "job_workers_tests",
     ),
     (
         "no launch waits for the pages of another",
-        "job_board/src/preferences.rt",
-        [("    matches!(state, Some(JobState::Free | JobState::Held(_)))\n", "    matches!(state, Some(JobState::Held(_)))\n")],
+        "job_board/src/machine.rt",
+        [("            if self.held(worker).is_some() {\n", "            if matches!(self.held(worker), Some(JobId::Launch(_))) {\n")],
+        "job_workers_tests",
+    ),
+    (
+        "a prefix that is handed over is not kept",
+        "job_board/src/state.rt",
+        [("        if prefixes.keep(launch, prefix) {\n", "        if false {\n")],
+        "job_workers_tests",
+    ),
+    (
+        "a prefix that is handed over is offered to nobody",
+        "job_board/src/state.rt",
+        [("            preferences.note_chained(SharedPrefix { launch, links });\n", "")],
         "job_workers_tests",
     ),
     (
@@ -140,7 +152,7 @@ BODIES = [
 
 
 # Tests that take longer than `rt try` waits, whatever the bodies are.
-SLOW = ["openings::nothing_after_a_file_too_large"]
+SLOW = ["openings::nothing_after_a_file_too_large", "waiting::runs_end_with_the_same_values"]
 
 
 def keep_module(source, module):
