@@ -65,13 +65,13 @@ BODIES = [
     (
         "a prefix that is handed over is not kept",
         "job_board/src/state.rt",
-        [("        if prefixes.keep(launch, prefix) {\n", "        if false {\n")],
+        [("        let followers = if prefixes.keep(launch, prefix) {\n", "        let followers = if false {\n")],
         "job_workers_tests",
     ),
     (
         "a prefix that is handed over is offered to nobody",
         "job_board/src/state.rt",
-        [("            preferences.note_chained(SharedPrefix { launch, links });\n", "")],
+        [("            preferences.note_chained(SharedPrefix { launch, links })\n", "            0\n")],
         "job_workers_tests",
     ),
     (

@@ -80,15 +80,16 @@ impl ChainOrder {
         self.offered.len() < self.offered.capacity()
     }
 
-    /// Offers the launches that go on from a prefix.
-    pub(crate) fn offer_followers(&mut self, prefix: SharedPrefix) {
+    /// Offers the launches that go on from a prefix. Answers how many they are.
+    pub(crate) fn offer_followers(&mut self, prefix: SharedPrefix) -> usize {
         let from = self.followers.partition_point(|other| other.from < prefix);
-        for at in from..self.followers.len() {
-            match self.followers.get(at).copied() {
-                Some(follower) if follower.from == prefix => self.offer(follower.number),
-                _ => return,
+        let to = self.followers.partition_point(|other| other.from <= prefix);
+        for at in from..to {
+            if let Some(follower) = self.followers.get(at).copied() {
+                self.offer(follower.number);
             }
         }
+        to.saturating_sub(from)
     }
 
     /// How many launches were offered and not taken.

@@ -31,5 +31,5 @@ pub use machine::{Core, WORKER_LIMIT};
 pub use run::Run;
 pub use share::Share;
 pub use state::BoardState;
-pub use task::{ChainedLaunch, HashedPage, LaunchTask, OwnPrefix, OwnValue, PageTask};
+pub use task::{ChainedLaunch, HashedPage, KeptPrefix, LaunchTask, OwnPrefix, OwnValue, PageTask};
 pub use work::Work;

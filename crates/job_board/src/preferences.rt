@@ -46,9 +46,9 @@ impl Preferences {
         })
     }
 
-    /// Notes that a prefix is chained: the launches that go on from it may be chained now.
-    pub(crate) fn note_chained(&mut self, prefix: SharedPrefix) {
-        self.chain_order.offer_followers(prefix);
+    /// Notes that a prefix is chained: the launches that go on from it may be chained now. Answers how many they are.
+    pub(crate) fn note_chained(&mut self, prefix: SharedPrefix) -> usize {
+        self.chain_order.offer_followers(prefix)
     }
 
     /// A row for a launch that is lent to a worker, if one is left.

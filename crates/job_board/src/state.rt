@@ -22,7 +22,7 @@ use crate::preferences::Preferences;
 use crate::rows::{WorkerRow, keep_row, lent_rows, plan_at, worker_rows};
 use crate::run::Run;
 use crate::share::{Share, cut};
-use crate::task::{ChainedLaunch, HashedPage, OwnPrefix};
+use crate::task::{ChainedLaunch, HashedPage, KeptPrefix, OwnPrefix};
 use page_jobs::{Page, Table};
 use refusal::NoMemory;
 use rim_chain::{LaunchPlan, SharedPrefix, SharedPrefixes, most_pages};
@@ -282,9 +282,8 @@ impl<'a, L: Run> BoardState<'a, L> {
         Ok(())
     }
 
-    /// Keeps a prefix of a launch that is being chained, from which others go on. It adds no event. Answers after how many links the
-    /// next ones go on from this launch, if any do.
-    pub fn keep_prefix(&mut self, prefix: OwnPrefix<L>) -> Option<usize>
+    /// Keeps a prefix of a launch that is being chained, from which others go on. It adds no event.
+    pub fn keep_prefix(&mut self, prefix: OwnPrefix<L>) -> KeptPrefix
         ensures { self.new ≡ self.old }
     {
         let BoardState {
@@ -295,10 +294,15 @@ impl<'a, L: Run> BoardState<'a, L> {
         let launch = prefix.number();
         let prefix = prefix.into_prefix();
         let links = prefix.links;
-        if prefixes.keep(launch, prefix) {
-            preferences.note_chained(SharedPrefix { launch, links });
+        let followers = if prefixes.keep(launch, prefix) {
+            preferences.note_chained(SharedPrefix { launch, links })
+        } else {
+            0
+        };
+        KeptPrefix {
+            followers,
+            next_stop: prefixes.next_stop(launch, links),
         }
-        prefixes.next_stop(launch, links)
     }
 
     /// Retires a worker, whose job is then free. False, and nothing is changed, for worker 0 and for workers that are

@@ -155,6 +155,15 @@ impl<L: Run> OwnPrefix<L> {
     }
 }
 
+/// What comes of a prefix that a board keeps. No value depends on it.
+#[derive(Clone, Copy, Debug, PartialEq, Eq)]
+pub struct KeptPrefix {
+    /// How many launches go on from it, which may be chained from now on.
+    pub followers: usize,
+    /// After how many links the next ones go on from the same launch, if any do.
+    pub next_stop: Option<usize>,
+}
+
 impl<'a, L: Run> PageTask<'a, L> {
     /// The job of the page of a number, if one of the run's pages, which are these, has it.
     pub fn new(pages: &'a [Page<'a>], number: usize) -> Option<PageTask<'a, L>>
@@ -253,7 +262,7 @@ impl<'a, L: Run> LaunchTask<'a, L> {
         })
     }
 
-    /// Notes after how many links others go on from the launch next, as `BoardState::keep_prefix` answers.
+    /// Notes after how many links others go on from the launch next (`KeptPrefix::next_stop`).
     pub fn set_stop(&mut self, stop: Option<usize>)
         ensures { self.new ≡ self.old }
     {

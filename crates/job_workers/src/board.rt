@@ -130,12 +130,14 @@ impl<'a, L: Run> Board<'a, L> {
         answer
     }
 
-    /// Keeps a prefix of a launch that is being chained, and wakes all that sleep, since others go on from it. Answers after how many
-    /// links the next ones do, if any.
+    /// Keeps a prefix of a launch that is being chained, and wakes a worker for each launch that goes on from it. Answers after how
+    /// many links the next ones do, if any.
     pub(crate) fn keep_prefix(&self, rt: &impl Wait, prefix: OwnPrefix<L>) -> Option<usize> {
-        let stop = self.state.lock(rt).keep_prefix(prefix);
-        self.changed.notify_all();
-        stop
+        let kept = self.state.lock(rt).keep_prefix(prefix);
+        for _ in 0..kept.followers {
+            self.changed.notify_one();
+        }
+        kept.next_stop
     }
 
     /// A row for a launch that is lent to a worker, if one is left.

@@ -116,7 +116,7 @@ impl<L: Run> ChainedBeside<L> {
     }
 }
 
-/// Chains a launch, and lets the board keep each prefix that others go on from as soon as the chain comes to it.
+/// Chains a launch, and lets the board keep each prefix that others go on from when the chain comes to it.
 fn run_and_keep<'a, L: Run>(
     rt: &impl Wait,
     board: &Board<'a, L>,

@@ -13,7 +13,7 @@ use Rattle.page_jobs.specs.declared.page.PageKey.{PageKey}
 use Rattle.rim_chain.specs.Prefixes.{IsPrefix, prefix_of, prefix_value}
 use Rattle.rim_chain.specs.Links.{PlanView, chain_of, keys_in, keys_of}
 use Rattle.rim_chain.specs.Rows.{IsRowOf, has_all, value_in}
-use Rattle.rim_chain.specs.SharedPrefixes.{AreShared, HaveOwnPrefixes, HaveOwnValues, IsOwnPrefix, IsValueOfPrefix}
+use Rattle.rim_chain.specs.SharedPrefixes.{AreShared, HaveOwnPrefixes, HaveOwnValues, IsKept, IsOwnPrefix, IsValueOfPrefix}
 use Rattle.rim_chain.specs.declared.prefix.Prefix.{Prefix}
 use Rattle.rim_chain.specs.declared.prefix.Checkpoint.{Checkpoint}
 use Rattle.rim_chain.specs.declared.starting.Start.{Start}
@@ -114,16 +114,17 @@ set-cases (x ∷ xs) (suc i) (suc j) y z at = elim (set-cases xs i j y z at) [
 ]
 
 -- where a launch's own prefix is kept, each launch still has its own values
-pub shared-kept : (t : TableView) (plans : List PlanView) (checkpoints : List (List Checkpoint)) (n at : ℕ) (own : List Checkpoint) (f : Prefix) → slice_get checkpoints n ≡ Some own
-    → IsOwnPrefix t plans n f → AreShared t plans checkpoints → AreShared t plans (set checkpoints n (set own at (record { links = f.links; value = Some f.value })))
-shared-kept t plans checkpoints n at own f there prefix shared = λ l p new plan is.
-    let kept : List Checkpoint = set own at (record { links = f.links; value = Some f.value }) in
-    elim (set-cases checkpoints n l kept new is) [
+pub shared-kept : (t : TableView) (plans : List PlanView) (old new : List (List Checkpoint)) (n : ℕ) (f : Prefix) → IsKept old n f new → IsOwnPrefix t plans n f → AreShared t plans old
+    → AreShared t plans new
+shared-kept t plans old new n f kept prefix shared = λ l p own plan is.
+    let checkpoint : Checkpoint = record { links = f.links; value = Some f.value } in
+    let put : HaveOwnValues t p kept.own → IsValueOfPrefix t p f.links f.value → HaveOwnValues t p kept.kept = λ values value.
+    subst (HaveOwnValues t p) (sym kept.put.after) (All-set (λ m. IfSome m.value (IsValueOfPrefix t p m.links)) kept.own kept.put.at checkpoint value values) in
+    elim (set-cases old n l kept.kept own (ap (λ (lists : List (List Checkpoint)). slice_get lists l) (sym kept.after) ∙ is)) [
       | inl here ↦
           (let same : slice_get plans n ≡ Some p = ap (slice_get plans) (sym here.0) ∙ plan in
-          subst (HaveOwnValues t p) here.1
-          (All-set (λ m. IfSome m.value (IsValueOfPrefix t p m.links)) own at (record { links = f.links; value = Some f.value }) (prefix p same) (shared n p own same there)))
-      | inr other ↦ shared l p new plan other
+          subst (HaveOwnValues t p) here.1 (put (shared n p kept.own same kept.before) (prefix p same)))
+      | inr other ↦ shared l p own plan other
     ]
 
 -- the prefix that a launch has in common with another is its own

@@ -1,5 +1,5 @@
 -- The prefixes that launches of a run have in common. This project's choice.
-use Rattle.std.specs.Prelude.{◌≡◌, ℕ, ◌≤◌, true, List, length, take, Option, Some, IfSome}
+use Rattle.std.specs.Prelude.{◌≡◌, ℕ, ◌≤◌, true, List, length, slice_set, take, Option, None, Some, IfSome}
 use Rattle.std.specs.List.{All, slice_get}
 use Rattle.rim_desc.specs.declared.measurement.Measurement.{Measurement}
 use Rattle.page_jobs.specs.Table.{TableView}
@@ -30,3 +30,17 @@ IsOwnPrefix t plans l f = (p : PlanView) → slice_get plans l ≡ Some p → Is
 -- each prefix is its launch's own
 abbrev pub HaveOwnPrefixes : TableView → List PlanView → List (Option Prefix) → Type 0
 HaveOwnPrefixes t plans prefixes = (l : ℕ) (f : Prefix) → slice_get prefixes l ≡ Some (Some f) → IsOwnPrefix t plans l f
+
+-- the value of a prefix was put at a checkpoint after its links that had none, and the others stay
+pub record IsPutAmong (old : List Checkpoint) (f : Prefix) (new : List Checkpoint) : Type 0 where
+  pub at : ℕ
+  pub before : slice_get old at ≡ Some (record { links = f.links; value = None })
+  pub after : new ≡ slice_set old at (record { links = f.links; value = Some f.value })
+
+-- so it was put among the checkpoints of one launch, and those of the others stay
+pub record IsKept (old : List (List Checkpoint)) (l : ℕ) (f : Prefix) (new : List (List Checkpoint)) : Type 0 where
+  pub own : List Checkpoint
+  pub kept : List Checkpoint
+  pub before : slice_get old l ≡ Some own
+  pub put : IsPutAmong own f kept
+  pub after : new ≡ slice_set old l kept

@@ -1,9 +1,10 @@
 //! The prefixes that launches of a run have in common, so that each is chained once.
-ghost use Rattle.std.specs.Prelude.{◌≡◌, ◌<◌, ℕ, [], true, List, length, map, Some, IfOk, IfSome, slice_set};
+ghost use Rattle.std.specs.Prelude.{◌≡◌, ◌<◌, [], false, true, List, length, map, Some, IfOk, IfSome};
 ghost use Rattle.std.specs.List.{Contains, slice_get};
+ghost use Rattle.std.specs.Option.{option_map};
 ghost use Rattle.page_jobs.specs.Table.{TableView};
 ghost use Rattle.rim_chain.specs.Links.{PlanView};
-ghost use Rattle.rim_chain.specs.SharedPrefixes.{AreShared, IsOwnPrefix, IsValueOfPrefix};
+ghost use Rattle.rim_chain.specs.SharedPrefixes.{AreShared, IsKept, IsOwnPrefix, IsPutAmong, IsValueOfPrefix};
 ghost use Rattle.rim_chain.specs.inside.Checkpoints.{BothHavePrefix};
 
 use crate::plan::LaunchPlan;
@@ -96,9 +97,12 @@ impl SharedPrefixes {
         Some(prefix)
     }
 
-    /// Keeps the value of a prefix of a launch, where another one parts from it there. Answers whether it is kept from now on.
+    /// Keeps the value of a prefix of a launch, where another one parts from it there and none is kept yet. Answers whether that
+    /// is so; else nothing is changed.
     pub fn keep(&mut self, number: usize, prefix: Prefix) -> bool
-        ensures { (t : TableView) (ps : List PlanView) → IsOwnPrefix t ps number prefix
+        ensures kept { result ≡ true → IsKept self.old number prefix self.new }
+        ensures same { result ≡ false → self.new ≡ self.old }
+        ensures shared { (t : TableView) (ps : List PlanView) → IsOwnPrefix t ps number prefix
             → AreShared t ps self.old
             → AreShared t ps self.new }
     {
@@ -161,7 +165,9 @@ fn checkpoints_at(checkpoints: &[Vec<Checkpoint>], launch: usize) -> Option<&[Ch
 
 /// Where a list has the checkpoint after this many links, if it has it.
 fn place_in(checkpoints: &[Checkpoint], links: usize) -> Option<usize>
-    ensures { IfSome result (λ at. at < length checkpoints.now) }
+    ensures within { IfSome result (λ at. at < length checkpoints.now) }
+    ensures links { IfSome result
+        (λ at. option_map (λ m. m.links) (slice_get checkpoints.now at) ≡ Some links) }
 {
     let at = checkpoints.partition_point(|checkpoint| checkpoint.links < links);
     let checkpoint = checkpoints.get(at)?;
@@ -183,20 +189,19 @@ fn prefix_at(checkpoints: &[Checkpoint], links: usize) -> Option<Prefix>
     Some(Prefix { links, value })
 }
 
-/// Puts the value of a prefix at its checkpoint, if there is one. Answers whether it had none.
+/// Puts the value of a prefix at its checkpoint, if there is one and it has no value. Answers whether that is so.
 fn put_value(checkpoints: &mut [Checkpoint], prefix: Prefix) -> bool
-    ensures { (at : ℕ) × (checkpoints.new ≡ slice_set checkpoints.old at
-        (record { links = prefix.links; value = Some prefix.value })) }
+    ensures put { result ≡ true → IsPutAmong checkpoints.old prefix checkpoints.new }
+    ensures same { result ≡ false → checkpoints.new ≡ checkpoints.old }
 {
     let Some(at) = place_in(checkpoints, prefix.links) else {
         return false;
     };
-    let is_new = checkpoints[at].value.is_none();
-    checkpoints[at] = Checkpoint {
-        links: prefix.links,
-        value: Some(prefix.value),
-    };
-    is_new
+    if checkpoints[at].value.is_some() {
+        return false;
+    }
+    checkpoints[at].value = Some(prefix.value);
+    true
 }
 
 /// Whether two launches have the same prefix of this many links.

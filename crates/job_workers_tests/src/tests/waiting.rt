@@ -175,7 +175,9 @@ fn go_on_from_first<'a, L: Run>(
     check(rt, given(rt, &mut board, 2).is_none(), "worker 2 waits");
     let prefix = first.run_to_stop().expect(rt, "launch 1 goes on from it");
     check(rt, prefix.number() == 0, "the prefix is launch 0's");
-    first.set_stop(board.keep_prefix(prefix));
+    let kept = board.keep_prefix(prefix);
+    check(rt, kept.followers == 1, "launch 1 goes on from it");
+    first.set_stop(kept.next_stop);
     check(
         rt,
         first.run_to_stop().is_none(),
