@@ -71,6 +71,11 @@ module _ (t : TableView) (table : IsTable t) where
       let rest : map (digest_among t.pages) keys ≡ map (λ (e : Measurement). Some e.bytes) digests = cc in
       rw (key_row key d here parts.0, row_of_own keys digests rest parts.1) refl
 
+-- so it is of a run's pages, which are the table's
+pub run_row : (t : TableView) → IsTable t → (pages : List PageView) (keys : List PageKey) (digests : List Measurement) → t.pages ≡ pages
+    → IsRowOf t keys digests → IsOwnRow pages keys digests
+run_row t table pages keys digests same row = subst (λ (ps : List PageView). IsOwnRow ps keys digests) same (own_row t table keys digests row)
+
 -- it is the row of these pages' whole table too
 whole_key : (pages : List PageView) (key : PageKey) (d : Measurement) → digest_among pages key ≡ Some d.bytes → digest_at (whole_table pages) key ≡ Some d
 whole_key pages key d own = by (slot_of pages key) own

@@ -103,16 +103,15 @@ impl ChainOrder {
         Some(candidate.number.0)
     }
 
-    /// Takes the launch that is to be chained next, where it is by an algorithm, goes on from no other and no other goes on from
-    /// it.
-    pub(crate) fn next_alone(
+    /// Takes the launch that is to be chained next, where it is best chained beside one by an algorithm.
+    pub(crate) fn next_last(
         &mut self,
         plans: &[LaunchPlan],
         prefixes: &SharedPrefixes,
         algo: Algo,
     ) -> Option<usize> {
         let number = self.next()?;
-        if is_by(plans, number, algo) && prefixes.is_alone(number) {
+        if goes_beside(plans, prefixes, number, algo) {
             return Some(number);
         }
         self.offer(number);
@@ -120,12 +119,15 @@ impl ChainOrder {
     }
 }
 
-/// Whether a launch is by an algorithm.
-fn is_by(plans: &[LaunchPlan], number: usize, algo: Algo) -> bool {
-    match plans.get(number) {
-        Some(plan) => plan.algo() == algo,
-        None => false,
-    }
+/// Whether a launch is best chained beside one by an algorithm: it is by the same, no other goes on from it, and much of it is
+/// left.
+fn goes_beside(plans: &[LaunchPlan], prefixes: &SharedPrefixes, number: usize, algo: Algo) -> bool {
+    let Some(plan) = plans.get(number) else {
+        return false;
+    };
+    let shared_prefix = prefixes.shared_prefix(number);
+    let links = shared_prefix.map_or(0, |shared_prefix| shared_prefix.links);
+    plan.algo() == algo && prefixes.is_last(number) && plan.is_long_after(links)
 }
 
 /// Of this many launches those that go on from others, by the prefix that each goes on from.

@@ -2,15 +2,18 @@
 ghost use Rattle.std.specs.Prelude.{◌≡◌, ◌<◌, ◌≤◌, ℕ, length, IfOk, IfSome, Some, slice_get};
 ghost use Rattle.rim_desc.specs.declared.side_by_side.TheConstants.{MOST_LANES};
 ghost use Rattle.rim_chain.specs.Links.{PlanView, keys_of};
+ghost use Rattle.rim_chain.specs.SharedPrefixes.{AreShared};
 ghost use Rattle.job_board.specs.Jobs.{IsOpen};
+ghost use Rattle.job_board.specs.Tasks.{whole_table};
 
+use crate::filling::filled_task;
 use crate::machine::Core;
 use crate::rows::plan_at;
 use crate::run::Run;
 use crate::task::LaunchTask;
 use page_jobs::{DigestRow, Table};
 use refusal::NoMemory;
-use rim_chain::{LaunchJob, LaunchPlan};
+use rim_chain::{LaunchPlan, SharedPrefixes};
 use rim_desc::{Algo, Lanes, MOST_LANES};
 use std::alloc::Global;
 
@@ -133,12 +136,14 @@ fn others_for(most: usize, offered: usize, workers: usize) -> usize
 pub(crate) fn lent_task<'a, L: Run>(
     table: &Table<'a>,
     plans: &'a [LaunchPlan],
+    prefixes: &SharedPrefixes,
     room: usize,
     number: usize,
     row: DigestRow,
 ) -> Result<LaunchTask<'a, L>, DigestRow>
     requires pages { table.now.pages ≡ L.pages }
     requires plans { plans.now ≡ L.plans }
+    requires prefixes { AreShared (whole_table L.pages) L.plans prefixes.now }
     requires most { (l : ℕ) (p : PlanView) → slice_get plans.now l ≡ Some p
         → length (keys_of p.links) ≤ room }
     ensures { IfOk result (λ task. task.number ≡ number) }
@@ -152,8 +157,5 @@ pub(crate) fn lent_task<'a, L: Run>(
     if row.room() < room || !plan.fill_row(table, &mut row) {
         return Err(row);
     }
-    // Each filled slot of a table has the digest of its own page.
-    let _pages = table.pages();
-    let job = LaunchJob::new(number, plan, row);
-    Ok(LaunchTask::new(job))
+    Ok(filled_task(table, plans, prefixes, number, plan, row))
 }

@@ -3,6 +3,7 @@
 
 mod chain_order;
 mod closing;
+mod filling;
 mod grouping;
 mod job;
 mod jobs;

@@ -74,7 +74,7 @@ impl Preferences {
     ) -> Option<usize>
         ensures { IfSome result (IsOpen core.now) }
     {
-        let number = self.chain_order.next_alone(plans, prefixes, algo)?;
+        let number = self.chain_order.next_last(plans, prefixes, algo)?;
         if !core.is_open(number) {
             return None;
         }

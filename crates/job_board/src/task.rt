@@ -292,7 +292,7 @@ impl<'a, L: Run> LaunchTask<'a, L> {
         self.job.algo()
     }
 
-    /// Whether the launch may be chained side by side with others.
+    /// Whether the launch is best chained side by side with others.
     pub fn can_run_with_others(&self) -> bool {
         self.job.can_run_with_others()
     }

@@ -3,7 +3,7 @@ use Rattle.std.proofs.Common.{rules, ◌≡◌, ◌⊎◌, inl, inr, ℕ, zero, 
 use Rattle.std.specs.Prelude.{IfSome}
 use Rattle.std.specs.List.{All, Contains, filter_map, slice_get}
 use Rattle.std.specs.Option.{option_map}
-use Rattle.std.proofs.lemmas.List.{length-append, length-take-le, take-append-drop}
+use Rattle.std.proofs.lemmas.List.{length-append, length-take-le, take-append-drop, take_all}
 use Rattle.std.proofs.lemmas.List.Concat.{flat_map-append}
 use Rattle.std.proofs.lemmas.List.Elements.{All-contains, All-set}
 use Rattle.std.proofs.lemmas.Option.{get_or_from_slice_get, same_Some, slice_get-map, slice_get_within}
@@ -14,6 +14,7 @@ use Rattle.rim_chain.specs.Prefixes.{IsPrefix, prefix_of, prefix_value}
 use Rattle.rim_chain.specs.Links.{PlanView, chain_of, keys_in, keys_of}
 use Rattle.rim_chain.specs.Rows.{IsRowOf, has_all, value_in}
 use Rattle.rim_chain.specs.SharedPrefixes.{AreShared, HaveOwnPrefixes, HaveOwnValues, IsKept, IsOwnPrefix, IsValueOfPrefix}
+use Rattle.rim_chain.specs.declared.link.Link.{Link}
 use Rattle.rim_chain.specs.declared.prefix.Prefix.{Prefix}
 use Rattle.rim_chain.specs.declared.prefix.Checkpoint.{Checkpoint}
 use Rattle.rim_chain.specs.declared.starting.Start.{Start}
@@ -166,6 +167,22 @@ pub row-prefix : (t : TableView) (plans : List PlanView) (l n : ℕ) (p : PlanVi
     → IsRowOf t (keys_of p.links) digests → IsPrefix p digests (record { links = n; value = v }) → IsOwnPrefix t plans l (record { links = n; value = v })
 row-prefix t plans l n p digests v own row prefix = λ q at.
     subst (λ (r : PlanView). IsValueOfPrefix t r n v) (same_Some p q (sym own ∙ at)) (known-prefix t p n v digests row prefix)
+
+-- all of a plan is a prefix of it
+whole-plan : (p : PlanView) → prefix_of (length p.links) p ≡ p
+whole-plan p = ap (λ (links : List Link). let q : PlanView = record { params = p.params; links = links } in q) (take_all (length p.links) p.links (omega arith))
+
+pub whole-prefix : (t : TableView) (plans : List PlanView) (l : ℕ) (p : PlanView) (v : Measurement) → slice_get plans l ≡ Some p
+    → has_all t (keys_of p.links) ≡ true → v.bytes ≡ value_in t p → IsOwnPrefix t plans l (record { links = length p.links; value = v })
+whole-prefix t plans l p v own full value = λ q at.
+    subst (λ (r : PlanView). IsValueOfPrefix t r (length p.links) v) (same_Some p q (sym own ∙ at)) (record {
+      within = omega arith;
+      full = ap (λ (r : PlanView). has_all t (keys_of r.links)) (whole-plan p) ∙ full;
+      value = value ∙ ap (value_in t) (sym (whole-plan p));
+    })
+
+pub whole-value : (t : TableView) (p : PlanView) (n : ℕ) (v : Measurement) → n ≡ length p.links → IsValueOfPrefix t p n v → v.bytes ≡ value_in t p
+whole-value t p n v is known = known.value ∙ ap (value_in t) (ap (λ m. prefix_of m p) is ∙ whole-plan p)
 
 pub start-prefix : (t : TableView) (plans : List PlanView) (s : Start) (p : PlanView) (digests : List Measurement) (v : Measurement) → IsStart t plans s p digests
     → v.bytes ≡ prefix_value s.links p digests → IsOwnPrefix t plans s.number (record { links = s.links; value = v })

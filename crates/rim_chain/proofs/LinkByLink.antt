@@ -2,7 +2,7 @@
 use Rattle.std.proofs.Common.{◌≡◌, ℕ, ◌+◌, ◌<◌, ◌≤◌, ◌∙◌, sym, refl, ap, arith, List, [], ◌∷◌, ◌++◌, length, take, drop, get_or, length-append}
 use Rattle.std.proofs.lemmas.List.Concat.{flat_map-append}
 use Rattle.std.proofs.lemmas.List.Folds.{length-flat_map-take}
-use Rattle.std.proofs.lemmas.List.{append-nil, append_assoc, at_drop_all, at_drop_more, drop-drop, drop-take, take-take, take_more}
+use Rattle.std.proofs.lemmas.List.{append-nil, append_assoc, at_drop_all, at_drop_more, drop-drop, drop-take, take-append-drop, take-take, take_more}
 use Rattle.rim_desc.specs.Part.{extended_by}
 use Rattle.rim_desc.specs.declared.measurement.Algo.{Algo}
 use Rattle.rim_desc.specs.declared.measurement.Measurement.{Measurement}
@@ -55,6 +55,15 @@ keys-within links i d n inside count =
     omega arith
 
 -- ---- a list of links in two pieces
+
+-- the first links, up to a place and from there on
+pub links-on : (links : List Link) (a b : ℕ) → a ≤ b → take b links ≡ take a links ++ drop a (take b links)
+links-on links a b less = sym (take-append-drop a (take b links)) ∙ ap (λ (first : List Link). first ++ drop a (take b links)) (take-take a b links less)
+
+pub keys-on : (links : List Link) (a b : ℕ) → a ≤ b → length (keys_of (take b links)) ≡ length (keys_of (take a links)) + length (keys_of (drop a (take b links)))
+keys-on links a b less =
+    ap (λ (ls : List Link). length (keys_of ls)) (links-on links a b less)
+    ∙ (ap length (flat_map-append keys_in (take a links) (drop a (take b links))) ∙ length-append (keys_of (take a links)) (keys_of (drop a (take b links))))
 
 parts-cut : (prefix back : List Link) (digests : List Measurement)
     → parts_with (prefix ++ back) digests ≡ parts_with prefix (take (length (keys_of prefix)) digests) ++ parts_with back (drop (length (keys_of prefix)) digests)

@@ -1,5 +1,5 @@
 -- What the prefixes of a plan chain to, one link after another.
-use Rattle.std.proofs.Common.{◌≡◌, ℕ, ◌+◌, ◌<◌, ◌∙◌, refl, ap, arith, List, [], ◌∷◌, length, take, drop, get_or}
+use Rattle.std.proofs.Common.{◌≡◌, ℕ, ◌+◌, ◌<◌, ◌≤◌, ◌∙◌, refl, ap, arith, List, [], ◌∷◌, length, take, drop, get_or}
 use Rattle.std.proofs.lemmas.List.{append-nil, drop-take, take-take, take_more}
 use Rattle.rim_desc.specs.Measurement.{measurement_of}
 use Rattle.rim_desc.specs.Part.{extended_by}
@@ -8,7 +8,7 @@ use Rattle.rim_desc.specs.declared.measurement.Measurement.{Measurement}
 use Rattle.rim_chain.specs.Prefixes.{prefix_value}
 use Rattle.rim_chain.specs.Links.{PlanView, chain_of, keys_of, link_parts, page_count, parts_with}
 use Rattle.rim_chain.specs.declared.link.Link.{Link}
-use Rattle.rim_chain.proofs.LinkByLink.{chain-cut, keys-so-far}
+use Rattle.rim_chain.proofs.LinkByLink.{chain-cut, keys-on, keys-so-far, links-on}
 
 pub prefix-first : (p : PlanView) (digests : List Measurement) → prefix_value 0 p digests ≡ measurement_of p.params.algo (realm_page_of p.params)
 unfolding chain_of parts_with
@@ -20,6 +20,22 @@ unfolding parts_with
 one-link l digests =
     append-nil (link_parts l (take (page_count l) (take (page_count l) digests)))
     ∙ ap (link_parts l) (take-take (page_count l) (page_count l) digests (omega arith))
+
+-- a prefix goes on from a shorter one
+pub prefix-on : (p : PlanView) (digests : List Measurement) (a b : ℕ) → a ≤ b
+    → prefix_value b p digests
+    ≡ extended_by p.params.algo (prefix_value a p digests)
+    (parts_with (drop a (take b p.links)) (drop (length (keys_of (take a p.links))) (take (length (keys_of (take b p.links))) digests)))
+unfolding chain_of
+prefix-on p digests a b less =
+    let links : List Link = take b p.links in
+    let n : ℕ = length (keys_of (take a p.links)) in
+    let k : ℕ = length (keys_of links) in
+    let first : List ℕ = measurement_of p.params.algo (realm_page_of p.params) in
+    let count : k ≡ n + length (keys_of (drop a links)) = keys-on p.links a b less in
+    let own : take n (take k digests) ≡ take n digests = take-take n k digests (omega (arith, count)) in
+    let cut = chain-cut p.params.algo first (take a p.links) (drop a links) (take k digests) in
+    ap (λ (ls : List Link). extended_by p.params.algo first (parts_with ls (take k digests))) (links-on p.links a b less) ∙ (rw own at cut)
 
 -- the prefix of one link more
 pub prefix-next : (p : PlanView) (digests : List Measurement) (i : ℕ) (d : Link) → i < length p.links

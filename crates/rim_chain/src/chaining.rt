@@ -116,6 +116,10 @@ pub fn chain_from(
         → AreShared t ps prefixes.new }
 {
     let mut place = place_of(plan, row, shared_prefix);
+    // Others may go on from the launch just there.
+    if let Some(prefix) = shared_prefix {
+        prefixes.keep(number, prefix);
+    }
     for _ in 0..plan.links().len() {
         let Some(next) = next_place(plan, row, place, prefixes.next_stop(number, place.links))
         else {

@@ -160,16 +160,17 @@ impl<'a> LaunchJob<'a> {
 }
 
 impl<'a> LaunchJob<'a> {
-    /// Whether the launch may be chained side by side with others: nothing of it is chained, and it does not stop.
+    /// Whether the launch is best chained side by side with others: it does not stop, and much of it is left.
     pub fn can_run_with_others(&self) -> bool {
-        self.place.is_none() && self.stop.is_none()
+        let links = self.place.map_or(0, |place| place.links);
+        self.stop.is_none() && self.plan.is_long_after(links)
     }
 
-    /// The chain of the launch, of which nothing is done.
+    /// The chain of the launch, as far as nothing of it is done.
     pub fn chain(&self) -> LaunchChain<'_>
         ensures { chains_to result ≡ chain_of self.now.plan self.now.row.digests }
     {
-        LaunchChain::new(self.plan, &self.row, self.plan.links().len())
+        LaunchChain::new(self.plan, &self.row, self.here(), self.plan.links().len())
     }
 
     /// The launch with its measurement, which is known.

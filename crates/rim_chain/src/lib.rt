@@ -27,5 +27,5 @@ pub use plan::LaunchPlan;
 pub use prefix::{Checkpoint, Prefix, SharedPrefix};
 pub use reading::page_key;
 pub use shared_prefixes::SharedPrefixes;
-pub use starting::first_prefixes;
+pub use starting::{add_prefixes, first_prefixes, put_prefix};
 pub use under_way::{LaunchChain, no_chains, side_by_side};

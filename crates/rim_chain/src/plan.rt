@@ -13,6 +13,9 @@ use rim_desc::{Algo, GRANULE_SIZE, RealmParams};
 use std::cmp::Ordering;
 use std::marker::Model;
 
+/// For how many pages a row is filled in about the time that is gained by one part that is chained beside others.
+const PAGES_A_PART: u64 = 8;
+
 /// What is measured of a launch, in order: its realm and what follows it, with keys in the places of the digests of
 /// its pages. It borrows nothing.
 #[derive(Drop)]
@@ -159,6 +162,12 @@ impl LaunchPlan {
             parts = parts.saturating_add(part_count(&self.links[at]));
         }
         parts
+    }
+
+    /// Whether so much follows its first links that it is best chained beside others. That needs a row of its own, and to fill it
+    /// takes as long as is gained by few of its parts. No value depends on it.
+    pub fn is_long_after(&self, links: usize) -> bool {
+        self.parts_after(links).saturating_mul(PAGES_A_PART) >= self.pages as u64
     }
 
     /// How many parts its first links have. It is a measure of the work alone.

@@ -46,17 +46,19 @@ impl SharedPrefixes {
         })
     }
 
-    /// The launches by an algorithm that go on from no other, the longest first.
+    /// The launches by an algorithm that can be chained now and have no prefix in this list yet, the longest first.
     pub(crate) fn starts(
         &self,
         alloc: Global,
         plans: &[LaunchPlan],
         algo: Algo,
+        prefixes: &[Option<Prefix>],
     ) -> Result<Vec<Start>, NoMemory> {
         let mut starts = Vec::with_capacity(alloc, plans.len())?;
         for number in 0..plans.len() {
             if plans[number].algo() == algo
-                && let Some(start) = self.start(number, &plans[number])
+                && let Some(None) = prefixes.get(number)
+                && let Some(start) = self.start(plans, number, &plans[number])
             {
                 starts.push(start)?;
             }
@@ -65,20 +67,21 @@ impl SharedPrefixes {
         Ok(starts)
     }
 
-    /// A launch that goes on from no other, up to where another first parts from it, or all of it.
-    fn start(&self, number: usize, plan: &LaunchPlan) -> Option<Start> {
-        let Some(None) = self.shared.get(number) else {
-            return None;
+    /// How far a launch can be chained now. One that goes on from no other can be chained up to where another first parts from it,
+    /// or all of it; one from which no other goes on can, where the prefix is known that it goes on from.
+    fn start(&self, plans: &[LaunchPlan], number: usize, plan: &LaunchPlan) -> Option<Start> {
+        let stop = checkpoints_at(self.checkpoints.as_slice(), number)?.first();
+        let from = match (self.shared.get(number)?, stop) {
+            (None, _) => 0,
+            (Some(_), None) => self.prefix(plans, number)?.links,
+            (Some(_), Some(_)) => return None,
         };
-        let checkpoints = checkpoints_at(self.checkpoints.as_slice(), number)?;
-        let links = match checkpoints.first() {
-            Some(checkpoint) => checkpoint.links,
-            None => plan.links().len(),
-        };
+        let links = stop.map_or(plan.links().len(), |checkpoint| checkpoint.links);
+        let parts = plan.parts_before(links);
         Some(Start {
             number,
             links,
-            parts: plan.parts_before(links),
+            parts: parts.saturating_sub(plan.parts_before(from)),
         })
     }
 
@@ -140,13 +143,10 @@ impl SharedPrefixes {
         prefix_at(checkpoints, shared_prefix.links).is_some()
     }
 
-    /// Whether a launch goes on from no other, and no other goes on from it.
-    pub fn is_alone(&self, number: usize) -> bool
+    /// Whether no other launch goes on from a launch.
+    pub fn is_last(&self, number: usize) -> bool
         ensures { result ≡ true → slice_get self.now number ≡ Some [] }
     {
-        let Some(None) = self.shared.get(number) else {
-            return false;
-        };
         match checkpoints_at(self.checkpoints.as_slice(), number) {
             Some(checkpoints) => checkpoints.is_empty(),
             None => false,

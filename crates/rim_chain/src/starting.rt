@@ -1,11 +1,12 @@
-//! The prefixes of launches that go on from no other, chained side by side.
+//! Prefixes of launches, chained side by side.
 ghost use Rattle.std.specs.Prelude.{◌≡◌, ◌≤◌, length, replicate, slice_set, true, None, Some, IfOk, IfSome};
 ghost use Rattle.rim_desc.specs.declared.measurement.Measurement.{Measurement};
 ghost use Rattle.rim_desc.specs.declared.side_by_side.TheConstants.{MOST_LANES};
 ghost use Rattle.rim_chain.specs.Chains.{ChainView, chains_to};
-ghost use Rattle.rim_chain.specs.SharedPrefixes.{HaveOwnPrefixes};
+ghost use Rattle.rim_chain.specs.SharedPrefixes.{AreShared, HaveOwnPrefixes};
 ghost use Rattle.rim_chain.specs.inside.Starts.{AreChainsOf, IsChainOf, IsStart};
 
+use crate::chaining::place_of;
 use crate::plan::LaunchPlan;
 use crate::prefix::Prefix;
 use crate::shared_prefixes::SharedPrefixes;
@@ -18,18 +19,17 @@ use std::alloc::Global;
 /// The fewest launches that are chained side by side.
 const FEWEST: usize = 4;
 
-/// A launch that goes on from no other, and its prefix up to where another first parts from it, or all of it.
+/// A launch that can be chained now, from its realm or from the prefix that it goes on from, and up to where.
 #[derive(Clone, Copy, Debug, PartialEq, Eq)]
 pub(crate) struct Start {
     pub number: usize,
     pub links: usize,
-    /// How many parts the prefix has after the realm.
+    /// How many parts that takes.
     pub parts: u64,
 }
 
-/// For each launch a prefix with its value, or none: the prefix of launches that go on from no other, in groups by one
-/// algorithm, the longest first. The last one to three, and launches of which the table has not all digests, have none. So have
-/// those by SHA-512 where the vectors have room for four words alone.
+/// For each launch a prefix with its value, or none, as `add_prefixes` adds them: at first, where no prefix in common is known,
+/// those of launches that go on from no other.
 pub fn first_prefixes(
     alloc: Global,
     table: &Table,
@@ -37,14 +37,11 @@ pub fn first_prefixes(
     shared: &SharedPrefixes,
     lanes: Lanes,
 ) -> Result<Vec<Option<Prefix>>, NoMemory>
+    requires { AreShared table.now plans.now shared.now }
     ensures { IfOk result (λ prefixes. HaveOwnPrefixes table.now plans.now prefixes.items) }
 {
     let mut prefixes = no_prefixes(alloc, plans.len())?;
-    for algo in [Algo::Sha256, Algo::Sha512] {
-        let starts = shared.starts(alloc, plans, algo)?;
-        let most = lanes.count(algo);
-        add_prefixes(alloc, table, plans, starts.as_slice(), most, &mut prefixes)?;
-    }
+    add_prefixes(alloc, table, plans, shared, lanes, &mut prefixes)?;
     Ok(prefixes)
 }
 
@@ -55,16 +52,50 @@ fn no_prefixes(alloc: Global, launches: usize) -> Result<Vec<Option<Prefix>>, No
     Ok(vec![in alloc; None; launches]?)
 }
 
-/// Adds the prefixes of these launches to the others, in groups of this many at most.
-fn add_prefixes(
+/// Adds prefixes with their values for launches that have none here. Of a launch that goes on from no other it is the one up to
+/// where another first parts from it; of one from which no other goes on it is all of it, where the prefix is known that it goes
+/// on from. They are chained in groups by one algorithm, the longest first. The last one to three get none, nor do launches of
+/// which the table has not all digests, nor those by SHA-512 where the vectors have room for four words alone.
+pub fn add_prefixes(
     alloc: Global,
     table: &Table,
     plans: &[LaunchPlan],
+    shared: &SharedPrefixes,
+    lanes: Lanes,
+    prefixes: &mut Vec<Option<Prefix>>,
+) -> Result<(), NoMemory>
+    requires { AreShared table.now plans.now shared.now }
+    ensures { HaveOwnPrefixes table.now plans.now prefixes.old.items
+        → HaveOwnPrefixes table.now plans.now prefixes.new.items }
+{
+    for algo in [Algo::Sha256, Algo::Sha512] {
+        let starts = shared.starts(alloc, plans, algo, prefixes.as_slice())?;
+        let most = lanes.count(algo);
+        add_groups(
+            alloc,
+            table,
+            plans,
+            shared,
+            starts.as_slice(),
+            most,
+            prefixes,
+        )?;
+    }
+    Ok(())
+}
+
+/// Adds the prefixes of these launches to the others, in groups of this many at most.
+fn add_groups(
+    alloc: Global,
+    table: &Table,
+    plans: &[LaunchPlan],
+    shared: &SharedPrefixes,
     starts: &[Start],
     most: usize,
     prefixes: &mut Vec<Option<Prefix>>,
 ) -> Result<(), NoMemory>
-    requires { most ≤ MOST_LANES }
+    requires most { most ≤ MOST_LANES }
+    requires shared { AreShared table.now plans.now shared.now }
     ensures { HaveOwnPrefixes table.now plans.now prefixes.old.items
         → HaveOwnPrefixes table.now plans.now prefixes.new.items }
 {
@@ -76,7 +107,7 @@ fn add_prefixes(
     let mut left = starts;
     'groups: for _ in 0..starts.len() {
         let (group, others) = left.split_at(group_size(left.len(), most));
-        put_group(table, plans, group, rows.as_mut_slice(), prefixes);
+        put_group(table, plans, shared, group, rows.as_mut_slice(), prefixes);
         left = others;
     }
     Ok(())
@@ -115,36 +146,37 @@ fn reserve_rows(alloc: Global, pages: usize, count: usize) -> Result<Vec<DigestR
 fn put_group(
     table: &Table,
     plans: &[LaunchPlan],
+    shared: &SharedPrefixes,
     starts: &[Start],
     rows: &mut [DigestRow],
     prefixes: &mut Vec<Option<Prefix>>,
 )
-    requires { length starts.now ≤ MOST_LANES }
+    requires few { length starts.now ≤ MOST_LANES }
+    requires shared { AreShared table.now plans.now shared.now }
     ensures { HaveOwnPrefixes table.now plans.now prefixes.old.items
         → HaveOwnPrefixes table.now plans.now prefixes.new.items }
 {
     let mut chains = no_chains();
     let chains = &mut chains[..starts.len()];
-    if !begin_each(table, plans, starts, rows, chains) {
+    if !begin_each(table, plans, shared, starts, rows, chains) {
         return;
     }
     let mut values = [Measurement { bytes: [0; 64] }; MOST_LANES];
     let values = &mut values[..starts.len()];
     side_by_side(chains, values);
     for i in 0..starts.len() {
-        put(prefixes, starts[i], values[i]);
+        let Start { number, links, .. } = starts[i];
+        let value = values[i];
+        put_prefix(prefixes, number, Prefix { links, value });
     }
 }
 
-/// Puts the prefix of a launch among the others.
-fn put(prefixes: &mut Vec<Option<Prefix>>, start: Start, value: Measurement)
-    ensures { prefixes.new.items
-        ≡ slice_set prefixes.old.items start.number
-        (Some (record { links = start.links; value = value })) }
+/// Puts the prefix of the launch of a number among those of all.
+pub fn put_prefix(prefixes: &mut Vec<Option<Prefix>>, number: usize, prefix: Prefix)
+    ensures { prefixes.new.items ≡ slice_set prefixes.old.items number (Some prefix) }
 {
-    if start.number < prefixes.len() {
-        let links = start.links;
-        prefixes[start.number] = Some(Prefix { links, value });
+    if number < prefixes.len() {
+        prefixes[number] = Some(prefix);
     }
 }
 
@@ -153,11 +185,13 @@ fn put(prefixes: &mut Vec<Option<Prefix>>, start: Start, value: Measurement)
 fn begin_each<'r>(
     table: &Table,
     plans: &'r [LaunchPlan],
+    shared: &SharedPrefixes,
     starts: &[Start],
     rows: &'r mut [DigestRow],
     chains: &mut [LaunchChain<'r>],
 ) -> bool
-    requires { length chains.old ≡ length starts.now }
+    requires size { length chains.old ≡ length starts.now }
+    requires shared { AreShared table.now plans.now shared.now }
     ensures size { length chains.new ≡ length chains.old }
     ensures chains { result ≡ true → AreChainsOf table.now plans.now starts.now chains.new }
 {
@@ -166,7 +200,7 @@ fn begin_each<'r>(
         let Some(row) = rows.next() else {
             return false;
         };
-        let Some(chain) = begun(table, plans, starts[i], row) else {
+        let Some(chain) = begun(table, plans, shared, starts[i], row) else {
             return false;
         };
         chains[i] = chain;
@@ -178,13 +212,19 @@ fn begin_each<'r>(
 fn begun<'r>(
     table: &Table,
     plans: &'r [LaunchPlan],
+    shared: &SharedPrefixes,
     start: Start,
     row: &'r mut DigestRow,
 ) -> Option<LaunchChain<'r>>
+    requires { AreShared table.now plans.now shared.now }
     ensures { IfSome result (λ chain. IsChainOf table.now plans.now start chain) }
 {
     let plan = filled(table, plans, start, row)?;
-    Some(LaunchChain::new(plan, row, start.links))
+    let from = place_of(plan, row, shared.prefix(plans, start.number));
+    if from.links > start.links {
+        return None;
+    }
+    Some(LaunchChain::new(plan, row, from, start.links))
 }
 
 /// The plan of a launch, and its digests in a row, where the table has them all and the row has room for them.

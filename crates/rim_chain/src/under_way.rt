@@ -9,9 +9,10 @@ ghost use Rattle.rim_chain.specs.Prefixes.{prefix_value};
 ghost use Rattle.rim_chain.specs.Links.{keys_of, parts_with};
 ghost use Rattle.rim_chain.specs.Rows.{IsFilled};
 ghost use Rattle.rim_chain.specs.Chains.{chains_to};
+ghost use Rattle.rim_chain.specs.inside.Places.{IsPlace};
 ghost use Rattle.rim_chain.specs.inside.UnderWay.{AreSet, HaveGoneOn, HaveTaken, set_to};
 
-use crate::chaining::{extended_by_link, realm_value};
+use crate::chaining::{Place, extended_by_link};
 use crate::link::Link;
 use crate::plan::{LaunchPlan, page_count, part_count};
 use page_jobs::DigestRow;
@@ -83,23 +84,30 @@ impl<'a> LaunchChain<'a> {
         }
     }
 
-    /// The chain of a plan's realm and first links, where the plan's pages have the digests of a row.
-    pub(crate) fn new(plan: &'a LaunchPlan, row: &'a DigestRow, links: usize) -> LaunchChain<'a>
+    /// The chain of a plan's first links from a place on, where the plan's pages have the digests of a row.
+    pub(crate) fn new(
+        plan: &'a LaunchPlan,
+        row: &'a DigestRow,
+        from: Place,
+        end: usize,
+    ) -> LaunchChain<'a>
         requires filled { IsFilled plan.now row.now.digests }
-        requires links { links ≤ length plan.now.links }
-        ensures { chains_to result ≡ prefix_value links plan.entry.now row.entry.now.digests }
+        requires from { IsPlace plan.now row.now.digests from }
+        requires end { (from.links ≤ end) × (end ≤ length plan.now.links) }
+        ensures { chains_to result ≡ prefix_value end plan.entry.now row.entry.now.digests }
     {
-        let parts = plan.parts_before(links);
-        let pages = plan.pages_before(links);
-        let (links, _) = plan.links().split_at(links);
-        let (digests, _) = row.digests().split_at(pages);
+        let before = plan.parts_before(from.links);
+        let (first_links, _) = plan.links().split_at(end);
+        let (first_digests, _) = row.digests().split_at(plan.pages_before(end));
+        let (_, links) = first_links.split_at(from.links);
+        let (_, digests) = first_digests.split_at(from.pages);
         LaunchChain {
             algo: plan.params().algo,
-            value: realm_value(plan),
+            value: from.value,
             rest: NONE_LEFT,
             links,
             digests,
-            parts,
+            parts: plan.parts_before(end).saturating_sub(before),
         }
     }
 

@@ -2,9 +2,11 @@
 //! first page, a page that is not measured, and a REC. The item has 4097 bytes, of which byte i is (7 * i + 3) mod 251.
 mod chains;
 mod first_prefixes;
+mod going_on;
 mod plans;
 
-ghost use Rattle.rim_chain.specs.Rows.{IsFilled};
+ghost use Rattle.rim_chain.specs.Links.{keys_of};
+ghost use Rattle.rim_chain.specs.Rows.{IsFilled, IsRowOf};
 
 use page_jobs::{DigestRow, Page, PageJob, PageKey, Table};
 use rim_chain::{LaunchPlan, Link};
@@ -120,7 +122,8 @@ fn put<'a>(rt: &impl Abort, table: &mut Table<'a>, slot: usize, page: Page<'a>) 
 
 /// A row with the digests of the plan's pages.
 fn filled_row(rt: &impl Abort, alloc: Global, plan: &LaunchPlan, table: &Table) -> DigestRow
-    ensures { IsFilled plan.now result.digests }
+    ensures filled { IsFilled plan.now result.digests }
+    ensures row { IsRowOf table.now (keys_of plan.now.links) result.digests }
 {
     let mut row = DigestRow::reserve(alloc, plan.pages()).expect(rt, "memory");
     assert!(rt; plan.fill_row(table, &mut row));

@@ -12,6 +12,7 @@ ghost use Rattle.job_board.specs.Gives.{Gives};
 ghost use Rattle.job_board.specs.Jobs.{IsOpen, NoneFree, SomeHeld, held_count, is_out, is_over, is_ready, state_of};
 
 use super::BoardState;
+use crate::filling::filled_task;
 use crate::job::{Event, JobId};
 use crate::lending::lent_task;
 use crate::rows::{plan_at, take_row};
@@ -19,7 +20,6 @@ use crate::run::Run;
 use crate::task::{LaunchTask, PageTask};
 use crate::work::Work;
 use page_jobs::DigestRow;
-use rim_chain::LaunchJob;
 use rim_desc::Algo;
 
 impl<'a, L: Run> BoardState<'a, L> {
@@ -165,13 +165,7 @@ impl<'a, L: Run> BoardState<'a, L> {
             unreachable!()
         };
         let row = row.filled_for(table, plan);
-        // Each filled slot of a table has the digest of its own page.
-        let _pages = table.pages();
-        let shared_prefix = prefixes.prefix(plans, number);
-        let links = shared_prefix.map_or(0, |prefix| prefix.links);
-        let stop = prefixes.next_stop(number, links);
-        let job = LaunchJob::new(number, plan, row);
-        LaunchTask::new(job.going_on(shared_prefix, stop))
+        filled_task(table, plans, prefixes, number, plan, row)
     }
 }
 
@@ -193,7 +187,7 @@ impl<'a, L: Run> BoardState<'a, L> {
 
     /// Lends a worker a launch that is ready, to be chained beside one by the same algorithm that it has taken. It is not taken by
     /// that, and is best given to this worker later. The row is handed back where no launch is lent: where the next is by
-    /// another algorithm or begins as others do, or the row has no room for it.
+    /// another algorithm, others go on from it or little of it is left, or where the row has no room for it.
     pub fn lend(
         &mut self,
         worker: usize,
@@ -215,6 +209,6 @@ impl<'a, L: Run> BoardState<'a, L> {
         let Some(number) = preferences.next_to_lend(core, plans, prefixes, worker, algo) else {
             return Err(row);
         };
-        lent_task(table, plans, *room, number, row)
+        lent_task(table, plans, prefixes, *room, number, row)
     }
 }

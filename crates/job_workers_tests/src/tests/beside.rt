@@ -1,17 +1,24 @@
 //! Runs in which a worker chains launches beside others.
-use super::{check, pages_of, plan_at, run_by};
+ghost use Rattle.std.specs.Prelude.{◌≤◌, map};
+ghost use Rattle.page_jobs.specs.Key.{IsRising};
+ghost use Rattle.page_jobs.specs.Page.{page_view};
+ghost use Rattle.page_jobs.specs.Table.{page_keys_of};
+
+use super::{REALM, check, pages_of, plan_at, run_by};
 use job_board::JobId;
 use job_board_tests::has_all_keys;
 use job_workers::Gate;
 use page_jobs::{DigestRow, Page, PageJob, Table};
 use refusal::NoMemory;
-use rim_chain::{LaunchPlan, chain};
+use rim_chain::{LaunchPlan, Link, chain};
 use rim_desc::{Lanes, Measurement};
 use std::alloc::Global;
 use std::marker::Brand;
 use std::process::Abort;
+use std::sync::Wait;
 use std::sync::ledger::Blank;
 use std::test::Fail;
+use std::thread::Threads;
 
 /// Three pages.
 const BYTES: [u8; 12_288] = [7; 12_288];
@@ -76,6 +83,35 @@ fn check_values(
     }
 }
 
+/// The values of a run by this many workers, in as many lanes.
+fn check_run<R: Threads + Wait + Abort + Sync>(
+    rt: &R,
+    alloc: Global,
+    lanes: Lanes,
+    workers: usize,
+    pages: &[Page<'_>],
+    plans: &[LaunchPlan],
+) -> Result<(), NoMemory>
+    requires workers { (1 ≤ workers) × (workers ≤ 64) }
+    requires rising { IsRising (page_keys_of (map page_view pages.now)) }
+{
+    let table = Table::reserve(alloc, pages)?;
+    if !has_all_keys(&table, plans) {
+        panic!(rt; "the launches' pages exist");
+    }
+    let values = run_by::<Brand, WidthGate, R>(
+        rt,
+        alloc,
+        Blank::new(workers as u64),
+        workers,
+        table,
+        plans,
+        &mut WidthGate { lanes },
+    )?;
+    check_values(rt, alloc, plans, pages, values.as_slice());
+    Ok(())
+}
+
 /// One worker, or each of two, chains four or eight launches at a time as long as enough are left; of nineteen workers none is
 /// lent any.
 #[test]
@@ -83,23 +119,41 @@ fn launches_are_chained_beside_others(rt: HostRuntime) -> Result<(), Fail> {
     let alloc = rt.alloc();
     let pages = pages_of(alloc, &BYTES, 3)?;
     let plans = plans(&rt, alloc);
-    let plans = plans.as_slice();
     for lanes in [Lanes::Four, Lanes::Eight] {
         for workers in [1, 2, 19] {
-            let table = Table::reserve(alloc, &pages)?;
-            if !has_all_keys(&table, plans) {
-                panic!(rt; "the launches' pages exist");
-            }
-            let values = run_by::<Brand, WidthGate, HostRuntime>(
-                &rt,
-                alloc,
-                Blank::new(workers as u64),
-                workers,
-                table,
-                plans,
-                &mut WidthGate { lanes },
-            )?;
-            check_values(&rt, alloc, plans, &pages, values.as_slice());
+            check_run(&rt, alloc, lanes, workers, &pages, &plans)?;
+        }
+    }
+    Ok(())
+}
+
+/// Launches that go on from one prefix, each with blocks of its own.
+fn plans_alike(rt: &impl Abort, alloc: Global) -> Vec<LaunchPlan> {
+    let mut plans = Vec::new(alloc);
+    for number in 0..LAUNCHES {
+        let first = plan_at(rt, alloc, 0x4000_0000, 0, 3);
+        let own = Link::Blocks {
+            base: 0x8000_0000,
+            size: 4096,
+            count: number + 1,
+        };
+        let mut links = Vec::from_slice(alloc, first.links()).expect(rt, "memory");
+        links.push(own).expect(rt, "memory");
+        let plan = LaunchPlan::new(REALM, links).expect(rt, "the links fit");
+        plans.push(plan).expect(rt, "memory");
+    }
+    plans
+}
+
+/// The same of launches that go on from the first one's prefix.
+#[test]
+fn launches_go_on_beside_others(rt: HostRuntime) -> Result<(), Fail> {
+    let alloc = rt.alloc();
+    let pages = pages_of(alloc, &BYTES, 3)?;
+    let plans = plans_alike(&rt, alloc);
+    for lanes in [Lanes::Four, Lanes::Eight] {
+        for workers in [1, 2] {
+            check_run(&rt, alloc, lanes, workers, &pages, &plans)?;
         }
     }
     Ok(())

@@ -172,6 +172,11 @@ fn go_on_from_first<'a, L: Run>(
     let own = values_of(rt, alloc, plans);
     let (mut board, _shares) = BoardState::<L>::new(alloc, blank, 3, table, plans)?;
     let mut first = given(rt, &mut board, 1).expect(rt, "launch 0");
+    check(
+        rt,
+        !first.can_run_with_others(),
+        "it stops where launch 1 goes on",
+    );
     check(rt, given(rt, &mut board, 2).is_none(), "worker 2 waits");
     let prefix = first.run_to_stop().expect(rt, "launch 1 goes on from it");
     check(rt, prefix.number() == 0, "the prefix is launch 0's");
@@ -185,11 +190,7 @@ fn go_on_from_first<'a, L: Run>(
     );
     let second = given(rt, &mut board, 2).expect(rt, "launch 1");
     check(rt, second.number() == 1, "launch 1");
-    check(
-        rt,
-        !second.can_run_with_others(),
-        "it goes on from the prefix",
-    );
+    check(rt, second.can_run_with_others(), "it does not stop");
     let values = [first.run().value(), second.run().value()];
     check(rt, values.as_slice() == own.as_slice(), "the values");
     Ok(())

@@ -1,5 +1,5 @@
 use Rattle.rim_chain.specs.SharedPrefixes.{HaveOwnPrefixes}
 use Rattle.rim_chain.proofs.starting.add_prefixes.Given as goal
 
-abbrev pub invariant-groups : goal.invariant-groups
-invariant-groups l = HaveOwnPrefixes l.table l.plans l.fn.prefixes.items → HaveOwnPrefixes l.table l.plans l.prefixes.items
+abbrev pub invariant-loop-algo : goal.invariant-loop-algo
+invariant-loop-algo l = HaveOwnPrefixes l.table l.plans l.fn.prefixes.items → HaveOwnPrefixes l.table l.plans l.prefixes.items

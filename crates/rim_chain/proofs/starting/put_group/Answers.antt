@@ -15,4 +15,4 @@ loop-i-preserved c = λ before.
     let same = same-at (λ (m : Measurement). m.bytes) chains_to c.side_by_side.new.values c.begin_each.new.chains c.loop-i.i none no_chain
     c.side_by_side.ensures (omega (arith, c.loop-i-test.true, c.begin_each.ensures.size)) in
     let own = c.if-not-begin_each.ensures.chains refl c.loop-i.i no_chain no_start c.loop-i-test.true _ same in
-    prefixes-set c.args.table.now c.args.plans.now _ c.put.new.prefixes.items _ _ c.put.ensures own (c.loop-i.invariant before)
+    prefixes-set c.args.table.now c.args.plans.now _ c.put_prefix.new.prefixes.items _ _ c.put_prefix.ensures own (c.loop-i.invariant before)

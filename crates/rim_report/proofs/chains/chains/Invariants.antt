@@ -6,6 +6,6 @@ use Rattle.rim_report.proofs.chains.chains.Given as goal
 abbrev pub invariant-loop-number : goal.invariant-loop-number
 invariant-loop-number l = record {
   room : l.row.room ≡ l.initial.row.room;
-  prefixes : AreShared l.table l.plans l.prefixes;
+  shared : AreShared l.table l.plans l.shared;
   rims : map (λ m. m.bytes) l.rims.items ≡ map (value_in l.table) (take l.number l.plans);
 }

@@ -1,11 +1,7 @@
 use Rattle.std.proofs.Common.{◌≡◌, ◌∙◌, List, Ok, Some, ap, arith, false, refl, subst, sym}
 use Rattle.std.specs.List.{slice_get}
 use Rattle.std.proofs.lemmas.Option.{same_Some, slice_get_within}
-use Rattle.page_jobs.specs.Page.{PageView}
-use Rattle.rim_chain.specs.Links.{PlanView, keys_of}
-use Rattle.rim_chain.specs.SharedPrefixes.{AreShared}
-use Rattle.job_board.specs.Tasks.{IsOwnRow, whole_table}
-use Rattle.job_board.proofs.RowsOfOwnPages.{own_row, whole_row}
+use Rattle.rim_chain.specs.Links.{PlanView}
 use Rattle.job_board.specs.declared.job.Event.TheVariants.{Take}
 use Rattle.job_board.specs.declared.job.JobId.TheVariants.{Launch}
 use Rattle.job_board.specs.declared.job.JobState.TheVariants.{Free}
@@ -17,8 +13,6 @@ use Rattle.job_board.proofs.WhatStepsChange.{take_says}
 use Rattle.job_board.proofs.RowsOfWorkers.{row_within, rows_take_launch}
 use Rattle.job_board.proofs.NotesOfWorkers.{held_counts}
 use Rattle.job_board.specs.Jobs.{held_count, is_out}
-use Rattle.rim_chain.proofs.KnownPrefixes.{own-shared_prefix}
-use Rattle.rim_chain.proofs.RowsLinkByLink.{row-length}
 use Rattle.job_board.proofs.state.BoardState.give_launch.Goals as goal
 
 pub push_reserved-requires : goal.push_reserved-requires
@@ -63,21 +57,6 @@ filled_for-row-requires-clause-all g c =
     let step : core_step i.core (Take c.args.worker (Launch c.args.number)) ≡ Ok c.step.new.self = c.in-Ok.ensures.step in
     ready_filled b c.args.number c.plan_at-plan.result.now c.self.invariant.0 c.plan_at-plan.ensures (take_says i.core c.step.new.self c.args.worker (Launch c.args.number) step).1
 
-pub new-job-requires : goal.new-job-requires
-new-job-requires g c =
-    row-length c.self.inside.table (keys_of c.plan_at-plan.result.now.links) c.filled_for-row.result.digests c.filled_for-row.ensures.row
-
-pub going_on-requires : goal.going_on-requires
-going_on-requires g c =
-    let i = c.self.inside in
-    let p = c.plan_at-plan.result.now in
-    let digests = c.filled_for-row.result.digests in
-    let whole = whole_table g.L.Run.pages in
-    let shared = subst (λ (plans : List PlanView). AreShared whole plans i.prefixes) (sym c.self.invariant.4.1) c.self.invariant.3 in
-    let known = c.prefix-shared_prefix.ensures whole p shared c.plan_at-plan.ensures in
-    let own = subst (λ (pages : List PageView). IsOwnRow pages (keys_of p.links) digests) c.self.invariant.4.0 (own_row i.table c.pages-pages.ensures.table (keys_of p.links) digests c.filled_for-row.ensures.row) in
-    rw c.new-job.ensures (own-shared_prefix whole p digests c.prefix-shared_prefix.result (whole_row g.L.Run.pages (keys_of p.links) digests own) known)
-
 pub invariant_of-self : goal.invariant_of-self
 invariant_of-self g c =
     let i = c.self.inside in
@@ -90,12 +69,3 @@ invariant_of-self g c =
       c.self.invariant.3,
       c.self.invariant.4,
     )
-
-pub new-requires : goal.new-requires
-new-requires g c =
-    let i = c.self.inside in
-    let p = c.plan_at-plan.result.now in
-    let digests = c.filled_for-row.result.digests in
-    let plan : slice_get g.L.Run.plans c.args.number ≡ Some p = ap (λ (plans : List PlanView). slice_get plans c.args.number) (sym c.self.invariant.4.1) ∙ c.plan_at-plan.ensures in
-    let row = own_row i.table c.pages-pages.ensures.table (keys_of p.links) digests c.filled_for-row.ensures.row in
-    rw (c.going_on.ensures, c.new-job.ensures) (plan, subst (λ (pages : List PageView). IsOwnRow pages (keys_of p.links) digests) c.self.invariant.4.0 row, c.filled_for-row.ensures.roomy)
