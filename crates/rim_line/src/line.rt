@@ -163,12 +163,22 @@ fn is_plain(byte: u8) -> bool
 
 /// Whether a person can see a character, and can tell it from a space (Unicode, `General_Category` and
 /// `Default_Ignorable_Code_Point`).
-fn is_shown(c: char) -> bool {
+pub(crate) fn is_shown(c: char) -> bool {
     let category = GeneralCategory::for_char(c);
     let is_sign = !GeneralCategoryGroup::Other.contains(category)
         && !GeneralCategoryGroup::Separator.contains(category)
-        && !is_default_ignorable_code_point(c);
+        && !is_default_ignorable_code_point(c)
+        && !is_blank(c);
     c == ' ' || is_sign
+}
+
+/// Whether a character is drawn as nothing although it is a sign or a letter by its category: the Braille pattern without dots, the one
+/// that an object is put in the place of, two blanks of Egyptian hieroglyphs, the filler of Khitan script, and a note without a head.
+fn is_blank(c: char) -> bool {
+    matches!(
+        c,
+        '\u{2800}' | '\u{fffc}' | '\u{13441}' | '\u{13442}' | '\u{16fe4}' | '\u{1d159}'
+    )
 }
 
 /// The hexadecimal digit of a number at a place, of which the last is 0.

@@ -3,7 +3,7 @@ use crate::columns::push_line;
 use refusal::NoMemory;
 use rim_accepted::AcceptedLaunch;
 use rim_line::{ItemNames, Line};
-use rim_unusual::{Unusual, find_unusual};
+use rim_unusual::{SeenTrees, Unusual, find_unusual};
 use std::alloc::Global;
 use std::fmt::Write;
 
@@ -29,7 +29,8 @@ pub(crate) fn warnings(
     accepted: &AcceptedLaunch<'_>,
 ) -> Result<Vec<Line>, NoMemory> {
     let mut lines = Vec::new(alloc);
-    for one in &find_unusual(alloc, names, accepted)? {
+    let mut seen = SeenTrees::new(alloc);
+    for one in &find_unusual(alloc, &mut seen, names, accepted)? {
         lines.push(warning(alloc, name, one)?)?;
     }
     Ok(lines)

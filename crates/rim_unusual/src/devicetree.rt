@@ -1,24 +1,19 @@
-//! A devicetree that does not go with its launch.
-use crate::chosen::{InitrdPlace, SEEDS, Seed};
+//! A devicetree that does not go with its launch, or is none of a realm.
+use crate::chosen::{InitrdPlace, Seed};
 use crate::items::placed_bytes;
-use crate::memory::memory_difference;
-use crate::processors::processors;
-use crate::ranges::Difference;
+use crate::memory::ram_ranges;
+use crate::ranges::{Difference, first_difference, merged};
+use crate::seen::{SeenTree, SeenTrees, TreeFacts, look_at};
 use crate::unusual::Unusual;
-use fdt_tree::{FdtFault, Tree};
+use fdt_tree::FdtFault;
 use refusal::NoMemory;
 use rim_accepted::AcceptedLaunch;
+use rim_desc::Source;
 use rim_launch::{Launch, Role};
 use rim_line::{ItemNames, Quoted};
 use rim_show::devicetree_kind;
 use std::alloc::Global;
 use std::fmt;
-
-/// From how many bytes on those that a devicetree does not use are said: 64 KiB.
-const LEAST_SLACK: usize = 65_536;
-
-/// How many bytes a devicetree has that QEMU makes, whatever is in it: 1 MiB. So one of that size is meant to be placed whole.
-const QEMU_SIZE: usize = 1_048_576;
 
 /// What is rarely meant of a launch's devicetree, with the name of its item.
 #[derive(Clone, Copy)]
@@ -51,6 +46,10 @@ pub enum TreeFault {
         size: usize,
         needed: usize,
     },
+    /// Its PSCI calls are HVC (Linux, psci.yaml). Linux asks for a monitor only where they are SMC (arch/arm64/kernel/rsi.c).
+    Hvc,
+    /// Its interrupt controller is a GIC 2, and a realm's is a GIC 3 (DEN0137, "Realm interrupts and timers").
+    Gic2,
 }
 
 impl fmt::Display for UnusualTree<'_> {
@@ -84,6 +83,12 @@ impl fmt::Display for TreeFault {
                 "{size} bytes, expected {needed} as it would have with an edit: \
                  the rest is not used"
             ),
+            TreeFault::Hvc => f.write_str(
+                "psci has the method \"hvc\", expected \"smc\": Linux looks for a monitor only then",
+            ),
+            TreeFault::Gic2 => f.write_str(
+                "the interrupt controller is a GIC 2, expected a GIC 3, as each realm has",
+            ),
         }
     }
 }
@@ -103,10 +108,11 @@ fn write_initrd<W: fmt::Write>(
     write!(f, "expected {start} and {end}")
 }
 
-/// Adds what is rarely meant of the devicetree of a launch, if it has one.
+/// Adds what is rarely meant of the devicetree of a launch, if it has one. Of a file it is found once.
 pub(crate) fn find_in_tree<'a>(
     alloc: Global,
     found: &mut Vec<Unusual<'a>>,
+    seen: &mut SeenTrees,
     names: ItemNames<'a>,
     accepted: &'a AcceptedLaunch<'_>,
 ) -> Result<(), NoMemory> {
@@ -115,13 +121,22 @@ pub(crate) fn find_in_tree<'a>(
     };
     let item = names.name(number);
     let bytes = placed_bytes(accepted, number);
-    match fdt_tree::read(alloc, bytes) {
-        Ok(tree) => find_in(alloc, found, item, accepted, &tree, bytes.len()),
-        Err(fault) => {
-            let what = TreeFault::Unreadable(fault.own_fault()?);
-            found.push(Unusual::Tree(UnusualTree { item, what }))?;
-            Ok(())
+    match accepted
+        .placed
+        .items()
+        .get(number)
+        .and_then(|item| item.source)
+    {
+        Some(Source::File(file)) => {
+            push_faults(
+                alloc,
+                found,
+                item,
+                accepted,
+                seen.of_file(alloc, file, bytes)?,
+            )
         }
+        _ => push_faults(alloc, found, item, accepted, &look_at(alloc, bytes)?),
     }
 }
 
@@ -130,35 +145,58 @@ fn number_of(launch: &Launch, role: Role) -> Option<usize> {
     launch.items().iter().position(|item| item.has_role(role))
 }
 
-/// Adds what is rarely meant of a devicetree, whose file has this many bytes.
-fn find_in<'a>(
+/// Adds what is rarely meant of a devicetree that was looked at.
+fn push_faults<'a>(
     alloc: Global,
     found: &mut Vec<Unusual<'a>>,
     item: &'a str,
     accepted: &AcceptedLaunch<'_>,
-    tree: &Tree,
-    size: usize,
+    tree: &SeenTree,
 ) -> Result<(), NoMemory> {
-    let memory = memory_difference(alloc, tree, accepted.launch.ram())?;
-    let faults = [
-        memory.map(|difference| TreeFault::Memory(difference)),
-        initrd_fault(accepted, tree),
-        processors_fault(accepted.launch, tree),
-        slack_fault(alloc, tree, size)?,
-    ];
-    for what in faults.iter().flatten() {
-        found.push(Unusual::Tree(UnusualTree { item, what: *what }))?;
+    match tree {
+        SeenTree::Read(facts) => push_facts(alloc, found, item, accepted, facts),
+        SeenTree::Unreadable(fault) => {
+            let what = TreeFault::Unreadable(*fault);
+            found.push(Unusual::Tree(UnusualTree { item, what }))?;
+            Ok(())
+        }
     }
-    for seed in SEEDS.iter().filter(|seed| seed.is_in(tree)) {
-        let what = TreeFault::Seed(*seed);
-        found.push(Unusual::Tree(UnusualTree { item, what }))?;
+}
+
+/// Adds where a devicetree does not go with its launch, and then what is rarely meant of it in whichever launch it is.
+fn push_facts<'a>(
+    alloc: Global,
+    found: &mut Vec<Unusual<'a>>,
+    item: &'a str,
+    accepted: &AcceptedLaunch<'_>,
+    facts: &TreeFacts,
+) -> Result<(), NoMemory> {
+    let compared = [
+        memory_fault(alloc, accepted.launch, facts)?,
+        initrd_fault(accepted, facts.initrd),
+        processors_fault(accepted.launch, facts.processors),
+    ];
+    for what in compared.iter().flatten().chain(facts.own.iter()) {
+        found.push(Unusual::Tree(UnusualTree { item, what: *what }))?;
     }
     Ok(())
 }
 
+/// Where its memory nodes have other addresses than the launch has RAM.
+fn memory_fault(
+    alloc: Global,
+    launch: &Launch,
+    facts: &TreeFacts,
+) -> Result<Option<TreeFault>, NoMemory> {
+    let Some(found) = &facts.memory else {
+        return Ok(None);
+    };
+    let expected = merged(alloc, ram_ranges(alloc, launch.ram())?)?;
+    Ok(first_difference(found, &expected).map(|difference| TreeFault::Memory(difference)))
+}
+
 /// Where it has another place of the initrd than the launch has.
-fn initrd_fault(accepted: &AcceptedLaunch<'_>, tree: &Tree) -> Option<TreeFault> {
-    let found = InitrdPlace::found(tree);
+fn initrd_fault(accepted: &AcceptedLaunch<'_>, found: InitrdPlace) -> Option<TreeFault> {
     let expected = initrd_place(accepted);
     if found == expected {
         None
@@ -182,32 +220,11 @@ fn initrd_place(accepted: &AcceptedLaunch<'_>) -> InitrdPlace {
 }
 
 /// Where it has another number of processors than the launch has RECs. A launch without RECs has a line of its own.
-fn processors_fault(launch: &Launch, tree: &Tree) -> Option<TreeFault> {
-    let found = processors(tree);
+fn processors_fault(launch: &Launch, found: usize) -> Option<TreeFault> {
     let expected = launch.recs().len();
     if expected == 0 || found == expected {
         None
     } else {
         Some(TreeFault::Processors { found, expected })
-    }
-}
-
-/// Where more than half of its bytes, and 64 KiB or more, are not used, unless QEMU made it. `size` is how many it has.
-fn slack_fault(alloc: Global, tree: &Tree, size: usize) -> Result<Option<TreeFault>, NoMemory> {
-    if size < LEAST_SLACK || size == QEMU_SIZE {
-        return Ok(None);
-    }
-    let needed = match tree.write(alloc) {
-        Ok(bytes) => bytes.len(),
-        Err(fault) => {
-            fault.own_fault()?;
-            return Ok(None);
-        }
-    };
-    let slack = size.saturating_sub(needed);
-    if slack >= LEAST_SLACK && slack > needed {
-        Ok(Some(TreeFault::Slack { size, needed }))
-    } else {
-        Ok(None)
     }
 }

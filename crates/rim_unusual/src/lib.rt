@@ -11,6 +11,8 @@ mod processors;
 mod ram;
 mod ranges;
 mod recs;
+mod seen;
 mod unusual;
 
+pub use seen::SeenTrees;
 pub use unusual::{Unusual, find_unusual};

@@ -1,28 +1,15 @@
-//! The memory that a devicetree has, beside the RAM of its launch.
+//! The memory that a devicetree has, and the RAM of a launch, as ranges of addresses.
 ghost use Rattle.std.specs.Prelude.{◌≤◌};
 
 use crate::cells::{Cells, root_cells, value_in};
-use crate::ranges::{Difference, compare};
 use fdt_tree::{Node, Tree};
 use ipa_layout::IpaRange;
 use refusal::NoMemory;
 use rim_launch::Region;
 use std::alloc::{AllocError, Global};
 
-/// Where the memory nodes and the regions of RAM differ first. `None` where they do not, or where a node cannot be read.
-pub(crate) fn memory_difference(
-    alloc: Global,
-    tree: &Tree,
-    ram: &[Region],
-) -> Result<Option<Difference>, NoMemory> {
-    match memory_ranges(alloc, tree)? {
-        Some(ranges) => compare(alloc, ranges, ram_ranges(alloc, ram)?),
-        None => Ok(None),
-    }
-}
-
 /// The regions as ranges.
-fn ram_ranges(alloc: Global, ram: &[Region]) -> Result<Vec<IpaRange>, AllocError> {
+pub(crate) fn ram_ranges(alloc: Global, ram: &[Region]) -> Result<Vec<IpaRange>, AllocError> {
     ram.iter()
         .map(|region| IpaRange {
             base: u128::from(region.base),
@@ -32,7 +19,7 @@ fn ram_ranges(alloc: Global, ram: &[Region]) -> Result<Vec<IpaRange>, AllocError
 }
 
 /// The addresses of all memory nodes, or `None` where those of one of them cannot be read.
-fn memory_ranges(alloc: Global, tree: &Tree) -> Result<Option<Vec<IpaRange>>, NoMemory> {
+pub(crate) fn memory_ranges(alloc: Global, tree: &Tree) -> Result<Option<Vec<IpaRange>>, NoMemory> {
     let Some(form) = reg_form(tree) else {
         return Ok(None);
     };

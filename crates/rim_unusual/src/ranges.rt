@@ -36,19 +36,8 @@ impl fmt::Display for RangeText {
     }
 }
 
-/// Where two sets of addresses differ first, if they do. Neither the order of ranges matters nor whether they touch.
-pub(crate) fn compare(
-    alloc: Global,
-    found: Vec<IpaRange>,
-    expected: Vec<IpaRange>,
-) -> Result<Option<Difference>, NoMemory> {
-    let found = merged(alloc, found)?;
-    let expected = merged(alloc, expected)?;
-    Ok(first_difference(&found, &expected))
-}
-
 /// The same addresses as ranges in rising order that do not touch.
-fn merged(alloc: Global, mut ranges: Vec<IpaRange>) -> Result<Vec<IpaRange>, NoMemory> {
+pub(crate) fn merged(alloc: Global, mut ranges: Vec<IpaRange>) -> Result<Vec<IpaRange>, NoMemory> {
     ranges.sort_by_key(|range| range.base)?;
     let mut all = Vec::new(alloc);
     for range in &ranges {
@@ -66,8 +55,8 @@ fn add(all: &mut Vec<IpaRange>, range: IpaRange) -> Result<(), NoMemory> {
     Ok(())
 }
 
-/// Where two lists of ranges differ first, if they do.
-fn first_difference(found: &[IpaRange], expected: &[IpaRange]) -> Option<Difference> {
+/// Where two sets of addresses differ first, if they do, each as ranges in rising order that do not touch.
+pub(crate) fn first_difference(found: &[IpaRange], expected: &[IpaRange]) -> Option<Difference> {
     let same = found
         .iter()
         .zip(expected.iter())

@@ -3,6 +3,7 @@ use crate::devicetree::{UnusualTree, find_in_tree};
 use crate::items::{UnusualItem, find_in_items};
 use crate::ram::{UnusualRam, find_in_ram};
 use crate::recs::{UnusualRec, find_in_recs};
+use crate::seen::SeenTrees;
 use refusal::NoMemory;
 use rim_accepted::AcceptedLaunch;
 use rim_launch::Launch;
@@ -36,9 +37,10 @@ impl fmt::Display for Unusual<'_> {
 }
 
 /// What is rarely meant in a launch that is accepted: of its RECs, its items, its RAM and its devicetree, in this order. A
-/// launch with none of them has that alone.
+/// launch with none of them has that alone. The files of the launch's release are those of `seen`.
 pub fn find_unusual<'a>(
     alloc: Global,
+    seen: &mut SeenTrees,
     names: ItemNames<'a>,
     accepted: &'a AcceptedLaunch<'_>,
 ) -> Result<Vec<Unusual<'a>>, NoMemory> {
@@ -50,7 +52,7 @@ pub fn find_unusual<'a>(
     find_in_recs(&mut found, accepted.placed.recs())?;
     find_in_items(&mut found, names, accepted)?;
     find_in_ram(&mut found, accepted.launch)?;
-    find_in_tree(alloc, &mut found, names, accepted)?;
+    find_in_tree(alloc, &mut found, seen, names, accepted)?;
     Ok(found)
 }
 

@@ -1,0 +1,157 @@
+//! What devicetrees say, found once a file.
+use crate::cells::value_in;
+use crate::chosen::{InitrdPlace, SEEDS};
+use crate::devicetree::TreeFault;
+use crate::memory::memory_ranges;
+use crate::processors::processors;
+use crate::ranges::merged;
+use fdt_tree::{FdtFault, Node, Tree};
+use ipa_layout::IpaRange;
+use refusal::NoMemory;
+use rim_launch::REGION_LIMIT;
+use std::alloc::Global;
+
+/// From how many bytes on those that a devicetree does not use are said: 64 KiB.
+const LEAST_SLACK: usize = 65_536;
+
+/// How many bytes a devicetree has that QEMU makes, whatever is in it: 1 MiB. So one of that size is meant to be placed whole.
+const QEMU_SIZE: usize = 1_048_576;
+
+/// How a GIC 2 names itself (Linux, arm,gic.yaml): QEMU's and kvmtool's, and the one of Arm's that came last.
+const GIC_2: [&[u8]; 2] = [b"arm,cortex-a15-gic", b"arm,gic-400"];
+
+/// A devicetree that was looked at.
+#[derive(Drop)]
+pub(crate) enum SeenTree {
+    /// It cannot be read.
+    Unreadable(FdtFault),
+    Read(TreeFacts),
+}
+
+/// What a devicetree says that a launch is compared with, and what is rarely meant of it in whichever launch it is.
+#[derive(Drop)]
+pub(crate) struct TreeFacts {
+    /// The addresses of its memory nodes, in rising order and joined where they touch: one range more than a launch may have at most, so
+    /// that each difference is seen. `None` where they cannot be read.
+    pub memory: Option<Vec<IpaRange>>,
+    pub initrd: InitrdPlace,
+    pub processors: usize,
+    pub own: Vec<TreeFault>,
+}
+
+/// The devicetrees of files that were looked at, each with its file's number. Launches that have the same file share them.
+#[derive(Drop)]
+pub struct SeenTrees {
+    trees: Vec<(usize, SeenTree)>,
+}
+
+impl SeenTrees {
+    /// None.
+    pub fn new(alloc: Global) -> SeenTrees {
+        SeenTrees {
+            trees: Vec::new(alloc),
+        }
+    }
+
+    /// The devicetree of the file of this number, which has these bytes.
+    pub(crate) fn of_file(
+        &mut self,
+        alloc: Global,
+        file: usize,
+        bytes: &[u8],
+    ) -> Result<&SeenTree, NoMemory> {
+        let at = match self.trees.iter().position(|(seen, _)| *seen == file) {
+            Some(at) => at,
+            None => {
+                self.trees.push((file, look_at(alloc, bytes)?))?;
+                self.trees.len() - 1
+            }
+        };
+        Ok(&self.trees[at].1)
+    }
+}
+
+/// Looks at a devicetree, of which these are all bytes.
+pub(crate) fn look_at(alloc: Global, bytes: &[u8]) -> Result<SeenTree, NoMemory> {
+    match fdt_tree::read(alloc, bytes) {
+        Ok(tree) => Ok(SeenTree::Read(facts_of(alloc, &tree, bytes.len())?)),
+        Err(fault) => Ok(SeenTree::Unreadable(fault.own_fault()?)),
+    }
+}
+
+/// What a devicetree says whose file has this many bytes.
+fn facts_of(alloc: Global, tree: &Tree, size: usize) -> Result<TreeFacts, NoMemory> {
+    Ok(TreeFacts {
+        memory: front_of_memory(alloc, tree)?,
+        initrd: InitrdPlace::found(tree),
+        processors: processors(tree),
+        own: own_faults(alloc, tree, size)?,
+    })
+}
+
+/// The first addresses of its memory nodes, one range more than a launch may have.
+fn front_of_memory(alloc: Global, tree: &Tree) -> Result<Option<Vec<IpaRange>>, NoMemory> {
+    let Some(ranges) = memory_ranges(alloc, tree)? else {
+        return Ok(None);
+    };
+    let ranges = merged(alloc, ranges)?;
+    let front = ranges.iter().copied().take(REGION_LIMIT + 1);
+    Ok(Some(front.collect(alloc)?))
+}
+
+/// What is rarely meant of a devicetree in whichever launch it is.
+fn own_faults(alloc: Global, tree: &Tree, size: usize) -> Result<Vec<TreeFault>, NoMemory> {
+    let mut own = Vec::new(alloc);
+    if let Some(slack) = slack_fault(alloc, tree, size)? {
+        own.push(slack)?;
+    }
+    for seed in SEEDS.iter().filter(|seed| seed.is_in(tree)) {
+        own.push(TreeFault::Seed(*seed))?;
+    }
+    if tree.get(b"/psci", b"method") == Some(b"hvc\0".as_slice()) {
+        own.push(TreeFault::Hvc)?;
+    }
+    if has_gic_2(tree) {
+        own.push(TreeFault::Gic2)?;
+    }
+    Ok(own)
+}
+
+/// Where more than half of its bytes, and 64 KiB or more, are not used, unless QEMU made it. `size` is how many it has.
+fn slack_fault(alloc: Global, tree: &Tree, size: usize) -> Result<Option<TreeFault>, NoMemory> {
+    if size < LEAST_SLACK || size == QEMU_SIZE {
+        return Ok(None);
+    }
+    let needed = match tree.write(alloc) {
+        Ok(bytes) => bytes.len(),
+        Err(fault) => {
+            fault.own_fault()?;
+            return Ok(None);
+        }
+    };
+    let slack = size.saturating_sub(needed);
+    if slack >= LEAST_SLACK && slack > needed {
+        Ok(Some(TreeFault::Slack { size, needed }))
+    } else {
+        Ok(None)
+    }
+}
+
+/// Whether a child of the root is a GIC 2.
+fn has_gic_2(tree: &Tree) -> bool {
+    let strings = tree.strings();
+    tree.root()
+        .children
+        .iter()
+        .any(|node| is_gic_2(strings, node))
+}
+
+/// Whether one of the names by which a node says what it is compatible with is a GIC 2's.
+fn is_gic_2(strings: &[u8], node: &Node) -> bool {
+    let Some(names) = value_in(strings, node, b"compatible") else {
+        return false;
+    };
+    names
+        .split(|byte| *byte == 0)
+        .any(|name| GIC_2.iter().any(|gic| name == *gic))
+}
