@@ -10,7 +10,7 @@ A promise of docs/PROMISES.md names definitions, as `FILE.word`. Its number is h
 has to believe for it: those that it names and all that they are made of, down to the kit's own words.
 Comments, imports and empty lines do not count, nor do types that are declared in src/.
 
-The check asks six things:
+The check asks nine things:
 1. each number of docs/PROMISES.md is the one that is counted here, and its list for reading the headline is the one that is made here;
 2. docs/ARCHITECTURE.md names each file of specs/, but for those in specs/inside/, which hold what loops and
    fields keep;
@@ -19,7 +19,10 @@ The check asks six things:
 4. each constant that docs/ARCHITECTURE.md names is a public one of its file;
 5. no line of a contract has more than 100 columns;
 6. no line of a proof has more than 160, but in the files that tools/wide_proofs.txt names. These are older than the rule: the list
-   only shrinks, so a file in it without such a line is a fault too.
+   only shrinks, so a file in it without such a line is a fault too;
+7. each crate but those of tests has a table in docs/PROMISES.md, or a row that says why it has none;
+8. no row is twice in docs/PROMISES.md or in docs/DEFINITIONS.md;
+9. README.md and docs/PROMISES.md name exactly the kit's crates that crates.txt has among what is trusted.
 """
 import pathlib
 import re
@@ -241,6 +244,58 @@ def wrong_widths():
     yield from (f"tools/wide_proofs.txt: {path} has no line of more than 160 columns" for path in listed if path not in wide)
 
 
+def used_crates():
+    """The crates of this repository, and those of the kit that they use, by crates.txt."""
+    own, used = set(), set()
+    for line in (TOP / "crates.txt").read_text().splitlines():
+        head, _, needs = line.partition(":")
+        if not line.startswith("#"):
+            own.add(head.split()[0])
+            used.update(needs.split())
+    return own, used - own
+
+
+def section(text, title):
+    """The lines of a section of a document, from its title to the next one."""
+    return text.partition(f"\n## {title}\n")[2].partition("\n## ")[0]
+
+
+def unpromised():
+    """The crates of which docs/PROMISES.md has neither a table nor a row that says why, or both."""
+    text = (TOP / "docs/PROMISES.md").read_text()
+    titles = set(re.findall(r"^## (\w+)$", text, re.M))
+    excused = set(re.findall(r"^\| `(\w+)` \| \S", section(text, "Crates without a table"), re.M))
+    crates = {crate for crate in used_crates()[0] if not crate.endswith("_tests")}
+    yield from (f"docs/PROMISES.md: {crate} has no table, and no row says why" for crate in sorted(crates - titles - excused))
+    yield from (f"docs/PROMISES.md: {crate} has a table, and a row says that it has none" for crate in sorted(titles & excused))
+    yield from (f"docs/PROMISES.md: there is no crate {crate}" for crate in sorted(excused - crates))
+
+
+def doubled_rows():
+    """The rows that are twice in a document, but for the heads of tables."""
+    for name in ("docs/PROMISES.md", "docs/DEFINITIONS.md"):
+        lines, seen = (TOP / name).read_text().splitlines(), set()
+        for line, following in zip(lines, lines[1:] + [""]):
+            if line.startswith("| ") and not following.startswith("|---"):
+                if line in seen:
+                    yield f"{name}: a row is there twice: {line[:80]}"
+                seen.add(line)
+
+
+def wrong_trust():
+    """What differs between the kit's crates that are used and those that the documents say are trusted."""
+    used = used_crates()[1]
+    promises = section((TOP / "docs/PROMISES.md").read_text(), "What is trusted")
+    readme = re.search(r"^\*\*Trusted\*\*: .*?\n\n", (TOP / "README.md").read_text(), re.M | re.S)
+    named = {
+        "docs/PROMISES.md": set(re.findall(r"^\| `(\w+)` \|", promises, re.M)),
+        "README.md": set(re.findall(r"`(\w+)`", readme.group(0) if readme else "")),
+    }
+    for name, crates in named.items():
+        yield from (f"{name}: {crate} is used, and not said to be trusted" for crate in sorted(used - crates))
+        yield from (f"{name}: {crate} is said to be trusted, and not used" for crate in sorted(crates - used))
+
+
 def main():
     if "--wide" in sys.argv:
         print("\n".join(wide_proofs()))
@@ -259,6 +314,7 @@ def main():
         listed = (TOP / "docs/PROMISES.md").read_text().splitlines()
         wrong += [f"docs/PROMISES.md: the list for reading the headline lacks: {row}" for row in reading(known) if row not in listed]
         wrong += [*missing_constants(), *wide_lines(), *wrong_widths()]
+        wrong += [*unpromised(), *doubled_rows(), *wrong_trust()]
         used = reached(known, cited(known))
         wrong += [f"crates/{c}/specs/{p}.antt: no contract needs {name}" for c, p, name in sorted(set(known) - used)]
     print("\n".join(wrong), end="\n" if wrong else "")
