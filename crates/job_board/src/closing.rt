@@ -1,9 +1,9 @@
-//! What is written at the end of a run.
-ghost use Rattle.std.specs.Prelude.{◌≡◌, ◌≢◌, ◌<◌, ℕ, length, map, sum, vec_len, None, Some, slice_get};
+//! What is written at the end of a run, and that the shares of all workers add up to the book.
+ghost use Rattle.std.specs.Prelude.{◌≡◌, ◌≢◌, ◌<◌, ◌+◌, ℕ, length, map, sum, vec_len, None, Some, slice_get};
 
 use crate::share::Share;
 use rim_desc::Measurement;
-use std::sync::ledger::{Book, Ledger};
+use std::sync::ledger::{Book, Ledger, Share as Part};
 
 /// Writes each share's number.
 pub(crate) fn write_counts<L: Ledger>(shares: &[Share<L>], counts: &mut [u64])
@@ -31,6 +31,41 @@ pub(crate) fn add_up<L: Ledger>(book: &mut Book<L>, shares: Vec<Share<L>>)
         all.merge(share.into_part());
     }
     book.audit(&mut all);
+}
+
+/// Finds that all parts of a ledger, which stay with their shares, add up to its book.
+pub(crate) fn audit_all<L: Ledger>(book: &mut Book<L>, shares: &mut [Share<L>])
+    requires whole { length shares.old ≡ L.parts }
+    requires some { 0 < length shares.old }
+    ensures sum { sum shares.old ≡ book.old.total }
+    ensures same { book.new.total ≡ book.old.total }
+    ensures shares { shares.new ≡ shares.old }
+{
+    let Some((first, rest)) = shares.split_first_mut() else {
+        unreachable!()
+    };
+    let Share { part, .. } = first;
+    audit_with(book, part, rest);
+}
+
+/// The same, where these parts are put together already. Each share lends its part until those after it have lent theirs.
+fn audit_with<L: Ledger>(book: &mut Book<L>, all: &mut Part<L>, rest: &mut [Share<L>])
+    requires whole { all.old.parts + length rest.old ≡ L.parts }
+    requires some { 0 < all.old.parts }
+    ensures sum { all.old.amount + sum rest.old ≡ book.old.total }
+    ensures same { book.new.total ≡ book.old.total }
+    ensures parts { all.new.parts ≡ all.old.parts }
+    ensures amount { all.new.amount ≡ all.old.amount }
+    ensures rest { rest.new ≡ rest.old }
+{
+    let Some((first, others)) = rest.split_first_mut() else {
+        book.audit(all);
+        return;
+    };
+    let Share { count, part, .. } = first;
+    all.merge(part.split_off(1, *count));
+    audit_with(book, all, others);
+    part.merge(all.split_off(1, *count));
 }
 
 /// Copies values, all of which were given.

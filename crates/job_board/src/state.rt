@@ -13,7 +13,7 @@ ghost use Rattle.job_board.specs.declared.machine.TheConstants.{WORKER_LIMIT};
 
 mod giving;
 
-use crate::closing::{add_up, copy_values, write_counts};
+use crate::closing::{add_up, audit_all, copy_values, write_counts};
 use crate::job::{Event, JobId};
 use crate::lending::{Lending, most_others};
 use crate::machine::Core;
@@ -325,6 +325,19 @@ impl<'a, L: Run> BoardState<'a, L> {
 }
 
 impl<'a, L: Run> BoardState<'a, L> {
+    /// Says that the shares of all workers add up to the board's book, and leaves both as they were.
+    pub fn audit_shares(&mut self, shares: &mut [Share<L>])
+        requires whole { length shares.old ≡ L.parts }
+        requires some { 0 < length shares.old }
+        ensures board { IsBoard self.old × IsOfRun L.pages L.plans self.old }
+        ensures sum { sum shares.old ≡ self.old.book }
+        ensures same { self.new ≡ self.old }
+        ensures shares { shares.new ≡ shares.old }
+    {
+        let BoardState { book, .. } = self;
+        audit_all(book, shares);
+    }
+
     /// Ends a run, all of whose jobs are done: writes how many pages each worker has put, and the value of each launch in
     /// the order of the plans. The answer is the number of pages, to which the workers' numbers add up.
     pub fn close(

@@ -6,7 +6,7 @@
 //! A worker that leaves launches for later holds no job, and another worker holds one: so the state's `take_or_wait` says. That
 //! one keeps a prefix, puts its job or retires, and each ends the wait. A job that was taken before the run in the name of worker 0, or
 //! of a worker that could not be started, is waited for as long as nobody puts it.
-ghost use Rattle.std.specs.Prelude.{◌≡◌, ◌≢◌, ◌<◌, ◌≤◌, ◌+◌, IfErr, OnOk, map};
+ghost use Rattle.std.specs.Prelude.{◌≡◌, ◌≢◌, ◌<◌, ◌≤◌, ◌+◌, IfErr, OnOk, length, map, sum};
 ghost use Rattle.rim_desc.specs.declared.side_by_side.TheConstants.{MOST_LANES};
 ghost use Rattle.job_board.specs.declared.job.Event.{Event};
 ghost use Rattle.job_board.specs.declared.job.JobId.{JobId};
@@ -128,6 +128,17 @@ impl<'a, L: Run> Board<'a, L> {
             self.changed.notify_all();
         }
         answer
+    }
+
+    /// The shares of all workers add up to the book of the board that is found, and stay as they are.
+    pub(crate) fn audit_shares(&self, rt: &impl Wait, shares: &mut [Share<L>])
+        requires whole { length shares.old ≡ L.parts }
+        requires some { 0 < length shares.old }
+        ensures found { (found : BoardView) × IsBoard found × IsOfRun L.pages L.plans found
+            × (found.book ≡ sum shares.old) }
+        ensures same { shares.new ≡ shares.old }
+    {
+        self.state.lock(rt).audit_shares(shares);
     }
 
     /// Keeps a prefix of a launch that is being chained, and wakes a worker for each launch that goes on from it. Answers after how

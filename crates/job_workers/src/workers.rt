@@ -1,6 +1,6 @@
 //! A run: workers in threads of their own, until all jobs of a board are done.
 ghost use Rattle.std.specs.Prelude.{◌≡◌, ◌≤◌, ◌<◌, length, sum, vec_len};
-ghost use Rattle.job_board.specs.Board.{AreValuesOf};
+ghost use Rattle.job_board.specs.Board.{AreValuesOf, BoardView, IsBoard, IsOfRun};
 
 use crate::board::Board;
 use crate::gate::Gate;
@@ -23,7 +23,7 @@ pub struct Tally {
 
 /// Does all jobs of a board, by as many workers as there are shares; the caller is worker 0. A worker that cannot be
 /// started is gone without. Writes how many pages each worker has put, and the value of each launch in the order of the
-/// plans.
+/// plans. The board that it finds first has in its book what the shares have counted.
 ///
 /// A launch is ready when its own pages are done. A worker that finds nothing ready sleeps until a put or a retirement is
 /// accepted; so does one that finds only launches that should wait for others, where the gate lets launches wait. When all
@@ -44,6 +44,8 @@ pub fn run_workers<L: Run + Send + Sync, G: Gate + Sync, R: Threads + Wait + Syn
     requires some { 0 < vec_len shares }
     requires counts { length counts.old ≡ vec_len shares }
     requires values { length values.old ≡ length L.plans }
+    ensures fresh { (found : BoardView) × IsBoard found × IsOfRun L.pages L.plans found
+        × (found.book ≡ sum shares.items) }
     ensures started { (1 ≤ result.started) × (result.started ≤ vec_len shares) }
     ensures pages { result.pages ≡ length L.pages }
     ensures sum { sum counts.new ≡ result.pages }
@@ -66,6 +68,8 @@ pub fn run_workers_on<L: Run + Send + Sync, G: Gate + Sync, R: Threads + Wait + 
     requires some { 0 < vec_len shares }
     requires counts { length counts.old ≡ vec_len shares }
     requires values { length values.old ≡ length L.plans }
+    ensures fresh { (found : BoardView) × IsBoard found × IsOfRun L.pages L.plans found
+        × (found.book ≡ sum shares.items) }
     ensures started { (1 ≤ result.started) × (result.started ≤ vec_len shares) }
     ensures pages { result.pages ≡ length L.pages }
     ensures sum { sum counts.new ≡ result.pages }
@@ -73,6 +77,7 @@ pub fn run_workers_on<L: Run + Send + Sync, G: Gate + Sync, R: Threads + Wait + 
 {
     let gate = &*gate;
     let mut shares = shares;
+    board.audit_shares(rt, &mut shares);
     round(rt, gate, board, &mut shares, stack_size);
     let started = started(&shares);
     retire_others(rt, board, shares.len());
