@@ -1,0 +1,80 @@
+"""How a script ends: what stops it is a line on standard error, and a status."""
+import os
+import sys
+from collections.abc import Callable
+
+from . import stopping
+from .faults import Fault, WrongWords
+from .stopping import Stopped
+from .texts import plain, visible
+
+
+def say(name: str, *lines: str):
+    """Says lines of the script on standard error."""
+    try:
+        print("".join(f"{name}: {plain(line)}\n" for line in lines), end="", file=sys.stderr, flush=True)
+    except OSError:
+        pass
+
+
+def drop_output():
+    """Lets what was not written go: Python would try to write it once more at its end."""
+    nowhere = os.open(os.devnull, os.O_WRONLY)
+    os.dup2(nowhere, sys.stdout.fileno())
+    os.close(nowhere)
+
+
+def prepare():
+    """Has both outputs take each text: a path need not be UTF-8, nor need a terminal know each letter."""
+    if sys.stderr is None:
+        sys.stderr = open(os.devnull, "w", encoding="utf-8")
+    if sys.stdout is None:
+        raise Fault("output: it is closed, expected one that can be written to")
+    for output in (sys.stdout, sys.stderr):
+        if hasattr(output, "reconfigure"):
+            output.reconfigure(errors="backslashreplace")
+
+
+def status_of(name: str, run: Callable[[], int]) -> int:
+    """The status of a run of the script of this name."""
+    stopping.heed()
+    try:
+        return status_or_fault(name, run)
+    finally:
+        try:
+            if sys.stdout is not None:
+                sys.stdout.flush()
+        except OSError:
+            drop_output()
+
+
+def status_or_fault(name: str, run: Callable[[], int]) -> int:
+    """The status of a run, also where something stops it."""
+    try:
+        prepare()
+        status = run()
+        sys.stdout.flush()
+        return status
+    except WrongWords as why:
+        say(name, str(why))
+        return why.status
+    except Fault as why:
+        say(name, *why.lines)
+        return why.status
+    except BrokenPipeError:
+        drop_output()
+        return 3
+    except OSError as why:
+        drop_output()
+        say(name, f"{visible(str(why.filename or 'output'))}: {why.strerror or why}")
+        return 3
+    except MemoryError:
+        say(name, "there is not enough memory")
+        return 3
+    except RecursionError:
+        say(name, "what is read has values too deep in one another")
+        return 3
+    except Stopped as why:
+        return why.status
+    except KeyboardInterrupt:
+        return 130

@@ -1,0 +1,122 @@
+"""Files: read with limits, and written with their path in each fault. What a file says is read as TOML or JSON without traps."""
+import json
+import os
+import shutil
+import stat
+import tempfile
+import tomllib
+from collections.abc import Iterator
+from contextlib import contextmanager
+
+from .faults import Fault
+from .stopping import held
+from .texts import plain, shown, visible
+
+KINDS = ((stat.S_ISDIR, "it is a folder"), (stat.S_ISFIFO, "it is a FIFO"), (stat.S_ISCHR, "it is a device"), (stat.S_ISBLK, "it is a device"),
+         (stat.S_ISSOCK, "it is a socket"))
+
+
+def why_of(why: OSError | ValueError) -> str:
+    """Why something of the system fails: a path with a zero byte is a ValueError."""
+    return (isinstance(why, OSError) and why.strerror) or str(why)
+
+
+@contextmanager
+def faults_of(path: str, what: str) -> Iterator[None]:
+    """A fault of the system in these steps is one of this path: where a disk is full, the system does not say which file it is about."""
+    try:
+        yield
+    except (OSError, ValueError) as why:
+        raise Fault(f"{visible(path)}: {why_of(why)}, expected {what}") from None
+
+
+def opened(path: str, what: str) -> int:
+    """A descriptor of a file that is no FIFO and no device: such a one may never end, or may never begin."""
+    with faults_of(path, what):
+        file = os.open(path, os.O_RDONLY | os.O_NONBLOCK | os.O_CLOEXEC | os.O_NOCTTY)
+        mode = os.fstat(file).st_mode
+    if not stat.S_ISREG(mode):
+        os.close(file)
+        kind = next((text for is_kind, text in KINDS if is_kind(mode)), "it is no file")
+        raise Fault(f"{visible(path)}: {kind}, expected {what}")
+    return file
+
+
+def read(path: str, most: int, what: str = "a file") -> bytes:
+    """The bytes of a file, of which there are at most so many; `what` is said to be expected where they cannot be read."""
+    with faults_of(path, what), open(opened(path, what), "rb") as file:
+        length = os.fstat(file.fileno()).st_size
+        data = file.read(most + 1) if length <= most else b""
+    if length > most or len(data) > most:
+        raise Fault(f"{visible(path)}: it has more than {most} bytes, expected {what} of at most that")
+    return data
+
+
+def size_of(path: str, what: str = "a file") -> int:
+    """How many bytes a file has."""
+    with faults_of(path, what), open(opened(path, what), "rb") as file:
+        return os.fstat(file.fileno()).st_size
+
+
+def write(path: str, data: bytes, name: str = ""):
+    """Writes a new file, or one anew; `name` is what a fault calls it."""
+    with faults_of(name or path, "that it can be written"), open(path, "wb") as file:
+        file.write(data)
+
+
+@contextmanager
+def folder(prefix: str) -> Iterator[str]:
+    """A folder for the steps in it, which is gone after them, also where a signal stops the script."""
+    made = ""
+    try:
+        with held(), faults_of(os.environ.get("TMPDIR") or "/tmp", "a folder in which files can be made"):
+            made = tempfile.mkdtemp(prefix=prefix)
+        yield made
+    finally:
+        if made:
+            with held():
+                shutil.rmtree(made, ignore_errors=True)
+
+
+def text_of(path: str, data: bytes, what: str) -> str:
+    try:
+        return data.decode()
+    except UnicodeDecodeError as why:
+        raise Fault(f"{visible(path)}: it is no UTF-8 at byte {why.start}, expected {what}") from None
+
+
+def toml_of(path: str, data: bytes, what: str = "TOML 1.0") -> dict[str, object]:
+    """The table of a file of TOML. What Python cannot read of it is a fault: numbers of thousands of digits, arrays in thousands of arrays."""
+    text = text_of(path, data, what)
+    try:
+        return tomllib.loads(text)
+    except (ValueError, RecursionError) as why:
+        raise Fault(f"{visible(path)}: it is no TOML that is read here ({reason(why)}), expected {what}") from None
+
+
+def once_each(pairs: list[tuple[str, object]]) -> dict[str, object]:
+    """The members of an object. Of two with one name, readers of JSON take one or the other: neither is taken here."""
+    table: dict[str, object] = {}
+    for name, value in pairs:
+        if name in table:
+            raise ValueError(f"the member {shown(name)} is given twice")
+        table[name] = value
+    return table
+
+
+def no_number(word: str) -> float:
+    raise ValueError(f"{word} is no number of JSON")
+
+
+def json_of(path: str, data: bytes, what: str = "JSON") -> object:
+    """The value of a file of JSON. What has two meanings, or what Python cannot read of it, is a fault."""
+    text = text_of(path, data, what)
+    try:
+        return json.loads(text, object_pairs_hook=once_each, parse_constant=no_number)
+    except (ValueError, RecursionError) as why:
+        raise Fault(f"{visible(path)}: it is no JSON that is read here ({reason(why)}), expected {what}") from None
+
+
+def reason(why: Exception) -> str:
+    """What a reader says in its own words, or that the values in one another were too many for it."""
+    return "values too deep in one another" if isinstance(why, RecursionError) else plain(str(why))

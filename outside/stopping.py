@@ -1,0 +1,76 @@
+"""The signals that stop a script: INT, TERM and HUP. The first of them ends all that goes on and raises `Stopped` in the main thread;
+those after it change nothing, so that the way out is gone once and to its end.
+"""
+import signal
+import threading
+from collections.abc import Callable, Iterator
+from contextlib import contextmanager
+from dataclasses import dataclass, field
+from types import FrameType
+
+SIGNALS = (signal.SIGINT, signal.SIGTERM, signal.SIGHUP)
+
+
+class Stopped(KeyboardInterrupt):
+    """A signal has stopped the script."""
+
+    def __init__(self, number: int):
+        super().__init__(number)
+        self.status = 128 + number
+
+
+@dataclass
+class State:
+    """Which signal has come, whether it was raised, how many steps of the main thread hold it off, and what is done when one comes."""
+
+    number: int | None = None
+    is_raised: bool = False
+    held: int = 0
+    calls: list[Callable[[], None]] = field(default_factory=list)
+
+
+STATE = State()
+
+
+def is_stopped() -> bool:
+    return STATE.number is not None
+
+
+def heed():
+    """Has the script stop at the signals, but for those that whoever started it has it ignore, as nohup does."""
+    for number in SIGNALS:
+        if signal.getsignal(number) != signal.SIG_IGN:
+            signal.signal(number, came)
+
+
+def when_stopped(call: Callable[[], None]):
+    """Has this done as soon as a signal comes, whatever the main thread waits for."""
+    STATE.calls.append(call)
+
+
+def came(number: int, _frame: FrameType | None):
+    if STATE.number is None:
+        STATE.number = number
+        for call in STATE.calls:
+            call()
+    raise_if_stopped()
+
+
+def raise_if_stopped():
+    """Raises a signal that has come, once, unless a step holds it off."""
+    if STATE.number is not None and not STATE.held and not STATE.is_raised:
+        STATE.is_raised = True
+        raise Stopped(STATE.number)
+
+
+@contextmanager
+def held() -> Iterator[None]:
+    """A step that is done whole: a signal that comes in it is raised at its end. Signals are raised in the main thread alone."""
+    is_main = threading.current_thread() is threading.main_thread()
+    STATE.held += is_main
+    try:
+        yield
+    finally:
+        STATE.held -= is_main
+    if is_main:
+        raise_if_stopped()

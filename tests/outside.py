@@ -1,0 +1,237 @@
+#!/usr/bin/env python3
+"""Tries what the scripts share: the package `outside`.
+
+    tests/outside.py
+
+- Texts: what is shown of characters that nobody sees, of bytes that are no UTF-8, of long texts.
+- Files that are FIFOs, devices, folders, too long; TOML and JSON that have two meanings or are too deep.
+- Programs that never end, say too much, leave others that keep their output open; scripts that a signal stops while one runs.
+- How a script ends: full disks, closed outputs, faults.
+
+The last line is 'N passed, M failed'.
+"""
+import os
+import signal
+import subprocess
+import sys
+import tempfile
+import time
+import unicodedata
+from collections.abc import Callable
+
+TOP = os.path.dirname(os.path.dirname(os.path.realpath(__file__)))
+sys.path.insert(0, TOP)
+
+from outside import files, programs, texts  # noqa: E402, the path is set above
+from outside.faults import Fault  # noqa: E402
+from outside.programs import Limits  # noqa: E402
+
+# ---- texts
+
+VISIBLE = [
+    ("plain /path", "plain /path"), ("a\\b", "a\\\\b"), ("\n\x1b[2J\x7f", "\\x0a\\x1b[2J\\x7f"), ("\xa0\x85", "\\xa0\\x85"), ("\xad", "\\xad"),
+    ("\u200b\u202e\ufeff", "\\u200b\\u202e\\ufeff"), ("\u3000\u2028", "\\u3000\\u2028"), ("\U000e0041", "\\U000e0041"),
+    ("\u2800\ufffc", "\\u2800\\ufffc"), ("\U00016fe4\U0001d159\U00013441\U00013442", "\\U00016fe4\\U0001d159\\U00013441\\U00013442"),
+    ("\udcff\udc80", "\\xff\\x80"), ("\ud800", "\\ud800"), ("\u00e9\u4e2d\U0001f600", "\u00e9\u4e2d\U0001f600"), ("\u115f\u3164", "\\u115f\\u3164"),
+    ("\ue000", "\\ue000"), ("\ufe0f", "\\ufe0f"), ('"', '"'),
+]
+SHOWN = [("a", '"a"'), ('"\\', '"\\"\\\\"'), ("\n", '"\\x0a"'), ("a" * 160, f'"{"a" * 160}"'), ("a" * 161, f'"{"a" * 160}"..'), ("", '""')]
+LAST = [("a\nb\n", "b"), ("a\n \n", "a"), ("", "it says nothing"), ("rim: a\\x0a\n", "rim: a\\x0a"), ("\x1b[1mx", "\\x1b[1mx"),
+        ("a" * 2000, "a" * 1000 + "..")]
+
+
+def wrong_rows(call: Callable[[str], str], rows: list[tuple[str, str]]) -> list[str]:
+    return [f"{ascii(text[:40])}: {ascii(call(text))}, expected {ascii(expected)}" for text, expected in rows if call(text) != expected]
+
+
+def shown_texts() -> list[str]:
+    wrong = wrong_rows(texts.visible, VISIBLE) + wrong_rows(texts.shown, SHOWN) + wrong_rows(texts.last_line, LAST)
+    hidden = [number for number in range(0x110000) if unicodedata.category(chr(number))[0] in "CZ" and number != 0x20]
+    return wrong + [f"{number:#x} is shown" for number in hidden if texts.character(chr(number)) == chr(number)]
+
+
+# ---- files
+
+
+def fault_of(call: Callable[[], object]) -> str:
+    try:
+        call()
+    except Fault as why:
+        return str(why)
+    return "no fault"
+
+
+READ = [("gone", "No such file or directory, expected a file"), (".", "it is a folder, expected a file"), ("fifo", "it is a FIFO, expected a file"),
+        ("/dev/zero", "it is a device, expected a file"), ("large", "it has more than 64 bytes, expected a file of at most that"),
+        ("/proc/self/maps", "it has more than 64 bytes, expected a file of at most that"), ("a\0b", "embedded null byte, expected a file")]
+DATA = [
+    (files.toml_of, b"a = 1", "no fault"), (files.toml_of, b"a = \xff", "x: it is no UTF-8 at byte 4, expected TOML 1.0"),
+    (files.toml_of, b"a = " + b"[" * 10_000, "x: it is no TOML that is read here (values too deep in one another), expected TOML 1.0"),
+    (files.toml_of, b"a = " + b"1" * 5_000, "x: it is no TOML that is read here (Exceeds the limit "),
+    (files.toml_of, b"a = 1\na = 2", "x: it is no TOML that is read here (Cannot overwrite a value "),
+    (files.json_of, b'{"a": [1, 2.5, null]}', "no fault"), (files.json_of, b'"\xff"', "x: it is no UTF-8 at byte 1, expected JSON"),
+    (files.json_of, b"[" * 100_000, "x: it is no JSON that is read here (values too deep in one another), expected JSON"),
+    (files.json_of, b"1" * 5_000, "x: it is no JSON that is read here (Exceeds the limit "),
+    (files.json_of, b'{"a": {"b\\n": 1, "b\\n": 2}}', 'x: it is no JSON that is read here (the member "b\\x0a" is given twice), expected JSON'),
+    (files.json_of, b"[NaN]", "x: it is no JSON that is read here (NaN is no number of JSON), expected JSON"),
+    (files.json_of, b"-Infinity", "x: it is no JSON that is read here (-Infinity is no number of JSON), expected JSON"),
+    (files.json_of, b"", "x: it is no JSON that is read here (Expecting value: "),
+]
+
+
+def read_files() -> list[str]:
+    with tempfile.TemporaryDirectory() as here:
+        os.mkfifo(os.path.join(here, "fifo"))
+        files.write(os.path.join(here, "large"), b"1" * 65)
+        files.write(os.path.join(here, "whole"), b"1" * 64)
+        wrong = []
+        for name, expected in READ:
+            path = os.path.join(here, name)
+            said = fault_of(lambda path=path: files.read(path, 64))
+            if said != f"{texts.visible(path)}: {expected}":
+                wrong.append(f"{name}: {said!r}")
+        if files.read(os.path.join(here, "whole"), 64) != b"1" * 64:
+            wrong.append("a whole file is not read")
+    said = fault_of(lambda: files.write("/dev/full", b"1"))
+    return wrong + [said] * (said != "/dev/full: No space left on device, expected that it can be written")
+
+
+def read_data() -> list[str]:
+    found = [(data[:40], fault_of(lambda call=call, data=data: call("x", data)), expected) for call, data, expected in DATA]
+    return [f"{data!r}: {said!r}, expected {expected!r}" for data, said, expected in found if not said.startswith(expected)]
+
+
+# ---- programs
+
+# A body of a shell's script, its limits, and what comes of it: status, output, what it has said, or a fault.
+RUNS = [
+    ("echo out; echo err >&2; exit 5", Limits(), (5, b"out\n", "err")),
+    ("kill -9 $$", Limits(), (-9, b"", "status -9")),
+    ("sleep 1000 & echo out", Limits(), (0, b"out\n", "status 0")),
+    ("exec >&- 2>&-; sleep 0.1; exit 3", Limits(), (3, b"", "status 3")),
+    ("yes >&2 & sleep 0.2; echo out", Limits(), (0, b"out\n", "y")),
+    ("sleep 1000", Limits(seconds=0.2), "/bin/sh: it takes more than 0.2 s, expected it to end"),
+    ("yes", Limits(), "/bin/sh: it says more than 65536 bytes, expected at most that"),
+    ("yes", Limits(out=10), "/bin/sh: it says more than 10 bytes, expected at most that"),
+    ("sleep 0.1; ulimit -v", Limits(memory=100 << 20), (0, b"102400\n", "status 0")),
+    ("sleep 0.1; ulimit -f", Limits(file=1 << 20), (0, b"2048\n", "status 0")),
+]
+
+
+def come_of(body: str, limits: Limits) -> tuple[int, bytes, str] | str:
+    try:
+        ran = programs.run(["/bin/sh", "-c", body], limits)
+    except Fault as why:
+        return str(why)
+    return ran.status, ran.out, ran.said
+
+
+def is_left(mark: str) -> bool:
+    """Whether a program runs that has this word."""
+    for name in filter(str.isdigit, os.listdir("/proc")):
+        try:
+            with open(f"/proc/{name}/cmdline", "rb") as file:
+                if mark.encode() in file.read().split(b"\0") and name != str(os.getpid()):
+                    return True
+        except OSError:
+            pass
+    return False
+
+
+def run_programs() -> list[str]:
+    wrong = []
+    for number, (body, limits, expected) in enumerate(RUNS):
+        mark = f"1000.{os.getpid()}{number}"
+        start = time.monotonic()
+        came = come_of(body.replace("sleep 1000", f"sleep {mark}"), limits)
+        wrong += [f"{body}: {came}, expected {expected}"] * (came != expected)
+        wrong += [f"{body}: it took {time.monotonic() - start} s"] * (time.monotonic() - start > 5)
+        wrong += [f"{body}: a program is left"] * is_left(mark)
+    said = fault_of(lambda: programs.run(["./none"]))
+    wrong += [said] * (said != "./none: No such file or directory, expected a program")
+    end = time.monotonic() + 0.2
+    ran = programs.run(["/bin/sh", "-c", "echo a; sleep 60"], until=lambda: time.monotonic() > end)
+    return wrong + [str(ran)] * ((ran.status, ran.out, ran.is_cut) != (-9, b"a\n", True))
+
+
+# ---- scripts that are stopped
+
+# A script that runs a program with a mark, in the main thread or in another one, and has a folder.
+SCRIPT = """
+import sys
+from concurrent.futures import ThreadPoolExecutor
+from outside import ending, files, programs
+def work():
+    with files.folder("outside-test-") as made:
+        print(made, flush=True)
+        words = ["/bin/sh", "-c", "sleep " + sys.argv[1] + " & echo x; sleep " + sys.argv[1]]
+        if sys.argv[2] == "thread":
+            pool = ThreadPoolExecutor(1)
+            try:
+                pool.submit(programs.run, words).result()
+            finally:
+                pool.shutdown(cancel_futures=True)
+        programs.run(words)
+    return 0
+sys.exit(ending.status_of("outside", work))
+"""
+
+
+def stopped() -> list[str]:
+    wrong = []
+    for number in (signal.SIGINT, signal.SIGTERM, signal.SIGHUP):
+        for where in ("main", "thread"):
+            mark = f"1001.{os.getpid()}{int(number)}{len(where)}"
+            ran = subprocess.Popen([sys.executable, "-c", SCRIPT, mark, where], cwd=TOP, stdout=subprocess.PIPE, stderr=subprocess.PIPE, text=True)
+            folder = ran.stdout.readline().strip()
+            while not is_left(f"sleep {mark} & echo x; sleep {mark}"):
+                time.sleep(0.01)
+            start = time.monotonic()
+            for _ in range(3):
+                ran.send_signal(number)
+            _, said = ran.communicate(timeout=20)
+            came = ran.returncode, said, os.path.exists(folder), is_left(mark), time.monotonic() - start < 3
+            wrong += [f"{number!r} {where}: {came}"] * (came != (128 + number, "", False, False, True))
+    return wrong
+
+
+ENDS = [
+    ("print('a' * 9)\nreturn 0", "/dev/full", 3, "name: output: No space left on device\n"),
+    ("print('a' * 99999)\nreturn 0", "/dev/full", 3, "name: output: No space left on device\n"),
+    ("return 7", "/dev/full", 7, ""),
+    ("print('a')\nraise Fault('one', 'two\\x1b')", "/dev/full", 3, "name: one\nname: two\\x1b\n"),
+    ("open('/none/x')", "/dev/null", 3, "name: /none/x: No such file or directory\n"),
+    ("raise WrongWords('w')", "/dev/null", 2, "name: w\n"),
+    ("def f(): f()\nf()", "/dev/null", 3, "name: what is read has values too deep in one another\n"),
+    ("raise MemoryError", "/dev/null", 3, "name: there is not enough memory\n"),
+    ("print(chr(0xdcff))\nreturn 0", "/dev/null", 0, ""),
+]
+
+
+def ends() -> list[str]:
+    wrong = []
+    for body, output, status, said in ENDS:
+        lines = "".join(f"    {line}\n" for line in body.split("\n"))
+        script = f"import sys\nfrom outside import ending\nfrom outside.faults import *\ndef run():\n{lines}sys.exit(ending.status_of('name', run))"
+        with open(output, "w", encoding="utf-8") as file:
+            ran = subprocess.run([sys.executable, "-c", script], cwd=TOP, stdout=file, stderr=subprocess.PIPE, text=True, check=False,
+                                 env=os.environ | {"PYTHONUNBUFFERED": ""})
+        wrong += [f"{body}: {ran.returncode} {ran.stderr!r}"] * ((ran.returncode, ran.stderr) != (status, said))
+    script = "import sys\nfrom outside import ending\nsys.exit(ending.status_of('name', lambda: 0))"
+    ran = subprocess.run(["/bin/sh", "-c", 'exec "$0" -c "$1" >&-', sys.executable, script], cwd=TOP, stderr=subprocess.PIPE, text=True, check=False)
+    came = ran.returncode, ran.stderr
+    return wrong + [f"closed: {came}"] * (came != (3, "name: output: it is closed, expected one that can be written to\n"))
+
+
+def run_all() -> int:
+    failed, looks = 0, (shown_texts, read_files, read_data, run_programs, stopped, ends)
+    for look in looks:
+        if wrong := look():
+            failed += 1
+            print(f"WRONG: {look.__name__}", *wrong, sep="\n  ")
+    print(f"{len(looks) - failed} passed, {failed} failed")
+    return int(failed > 0)
+
+
+if __name__ == "__main__":
+    sys.exit(run_all())
