@@ -1,6 +1,10 @@
 """The signals that stop a script: INT, TERM and HUP. The first of them ends all that goes on and raises `Stopped` in the main thread;
 those after it change nothing, so that the way out is gone once and to its end.
+
+Python runs a handler in the main thread, and not before what that waits for has come: it may wait for a thread that waits for a program.
+So a thread of its own ends the programs, and all waits end with them.
 """
+import os
 import signal
 import threading
 from collections.abc import Callable, Iterator
@@ -38,9 +42,27 @@ def is_stopped() -> bool:
 
 def heed():
     """Has the script stop at the signals, but for those that whoever started it has it ignore, as nohup does."""
+    ours, theirs = os.pipe()
+    os.set_blocking(theirs, False)
+    signal.set_wakeup_fd(theirs, warn_on_full_buffer=False)
+    threading.Thread(target=watch, args=(ours,), daemon=True).start()
     for number in SIGNALS:
         if signal.getsignal(number) != signal.SIG_IGN:
             signal.signal(number, came)
+
+
+def watch(ours: int):
+    """Begins to stop at each signal: Python writes its number when it comes."""
+    while number := os.read(ours, 1):
+        begin(number[0])
+
+
+def begin(number: int):
+    """Ends what goes on."""
+    if STATE.number is None:
+        STATE.number = number
+    for call in STATE.calls:
+        call()
 
 
 def when_stopped(call: Callable[[], None]):
@@ -49,10 +71,7 @@ def when_stopped(call: Callable[[], None]):
 
 
 def came(number: int, _frame: FrameType | None):
-    if STATE.number is None:
-        STATE.number = number
-        for call in STATE.calls:
-            call()
+    begin(number)
     raise_if_stopped()
 
 
@@ -66,11 +85,12 @@ def raise_if_stopped():
 @contextmanager
 def held() -> Iterator[None]:
     """A step that is done whole: a signal that comes in it is raised at its end. Signals are raised in the main thread alone."""
-    is_main = threading.current_thread() is threading.main_thread()
-    STATE.held += is_main
+    if threading.current_thread() is not threading.main_thread():
+        yield
+        return
+    STATE.held += 1
     try:
         yield
     finally:
-        STATE.held -= is_main
-    if is_main:
-        raise_if_stopped()
+        STATE.held -= 1
+    raise_if_stopped()

@@ -1,7 +1,7 @@
 #!/usr/bin/env python3
 """Tries what the scripts share: the package `outside`.
 
-    tests/outside.py
+    tests/sharing.py
 
 - Texts: what is shown of characters that nobody sees, of bytes that are no UTF-8, of long texts.
 - Files that are FIFOs, devices, folders, too long; TOML and JSON that have two meanings or are too deep.
@@ -127,6 +127,16 @@ def come_of(body: str, limits: Limits) -> tuple[int, bytes, str] | str:
 
 
 def is_left(mark: str) -> bool:
+    """Whether a program goes on that has this word; one that is killed takes a moment to end."""
+    until = time.monotonic() + 1
+    while runs(mark):
+        if time.monotonic() > until:
+            return True
+        time.sleep(0.01)
+    return False
+
+
+def runs(mark: str) -> bool:
     """Whether a program runs that has this word."""
     for name in filter(str.isdigit, os.listdir("/proc")):
         try:
@@ -184,7 +194,7 @@ def stopped() -> list[str]:
             mark = f"1001.{os.getpid()}{int(number)}{len(where)}"
             ran = subprocess.Popen([sys.executable, "-c", SCRIPT, mark, where], cwd=TOP, stdout=subprocess.PIPE, stderr=subprocess.PIPE, text=True)
             folder = ran.stdout.readline().strip()
-            while not is_left(f"sleep {mark} & echo x; sleep {mark}"):
+            while not runs(f"sleep {mark} & echo x; sleep {mark}"):
                 time.sleep(0.01)
             start = time.monotonic()
             for _ in range(3):
