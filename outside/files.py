@@ -52,6 +52,12 @@ def read(path: str, most: int, what: str = "a file") -> bytes:
     return data
 
 
+def head(path: str, count: int, what: str = "a file") -> bytes:
+    """The first bytes of a file, or all of one that has fewer."""
+    with faults_of(path, what), open(opened(path, what), "rb") as file:
+        return file.read(count)
+
+
 def size_of(path: str, what: str = "a file") -> int:
     """How many bytes a file has."""
     with faults_of(path, what), open(opened(path, what), "rb") as file:

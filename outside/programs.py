@@ -51,6 +51,10 @@ class Ran:
         return last_line(self.err.decode(errors="surrogateescape"), f"status {self.status}")
 
 
+class SaysTooMuch(Fault):
+    """A program says more on standard output than its caller has asked for."""
+
+
 RUNNING: set["Running"] = set()
 
 
@@ -115,7 +119,7 @@ class Running:
             if key.data is self.err:
                 del self.err[:-KEPT]
             elif len(self.out) > self.limits.out:
-                raise Fault(f"{visible(self.name)}: it says more than {self.limits.out} bytes, expected at most that")
+                raise SaysTooMuch(f"{visible(self.name)}: it says more than {self.limits.out} bytes, expected at most that")
         return bool(self.selector.get_map())
 
     def wait(self, until: Callable[[], bool] | None = None) -> Ran:

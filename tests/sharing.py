@@ -1,30 +1,36 @@
 #!/usr/bin/env python3
 """Tries what the scripts share: the package `outside`.
 
-    tests/sharing.py
+    tests/sharing.py [PROGRAM]          by default the program that `rt ci` has built
 
 - Texts: what is shown of characters that nobody sees, of bytes that are no UTF-8, of long texts.
 - Files that are FIFOs, devices, folders, too long; TOML and JSON that have two meanings or are too deep.
 - Programs that never end, say too much, leave others that keep their output open; scripts that a signal stops while one runs.
 - How a script ends: full disks, closed outputs, faults.
+- What PROGRAM says of Images and devicetrees, and of files that are none.
 
 The last line is 'N passed, M failed'.
 """
 import os
 import signal
+import struct
 import subprocess
 import sys
 import tempfile
 import time
 import unicodedata
 from collections.abc import Callable
+from functools import partial
 
 TOP = os.path.dirname(os.path.dirname(os.path.realpath(__file__)))
 sys.path.insert(0, TOP)
 
-from outside import files, programs, texts  # noqa: E402, the path is set above
+from hypervisors import deep, image, tree  # noqa: E402, the path is set above
+
+from outside import files, programs, texts  # noqa: E402
 from outside.faults import Fault  # noqa: E402
 from outside.programs import Limits  # noqa: E402
+from outside.rim import Image, Rim, image_of, tree_of  # noqa: E402
 
 # ---- texts
 
@@ -233,12 +239,75 @@ def ends() -> list[str]:
     return wrong + [f"closed: {came}"] * (came != (3, "name: output: it is closed, expected one that can be written to\n"))
 
 
+# ---- what rim says of files
+
+
+def node(name: bytes, children: list[bytes]) -> bytes:
+    """A node of a devicetree without properties."""
+    return b"\0\0\0\1" + name + bytes(4 - len(name) % 4) + b"".join(children) + b"\0\0\0\2"
+
+
+def devicetree(children: list[bytes]) -> bytes:
+    structure = node(b"", children) + b"\0\0\0\x09"
+    size = 56 + len(structure)
+    return struct.pack(">10I", 0xD00DFEED, size, 56, size, 40, 17, 16, 0, 0, len(structure)) + bytes(16) + structure
+
+
+def nested(length: int, leaves: int) -> bytes:
+    """Nodes with long names in one another, and many in the last one: a text of many times their size."""
+    children = [node(b"a", [])] * leaves
+    for _ in range(60):
+        children = [node(b"n" * length, children)]
+    return devicetree(children)
+
+
+CPUS = {"cpus": {"#address-cells": b"\0\0\0\2", "b": b""}}
+TOO_LARGE = ": it is too large to be shown by rim fdt, expected at most 33554432 bytes of text"
+TREES = [(nested(16_000, 60_000), TOO_LARGE), (nested(100, 10_000), TOO_LARGE), (devicetree([node(b"a", [])] * 170_000), ""),
+         (bytes(10), ": dtb-short, expected a flattened devicetree that rim fdt shows"),
+         (tree([(0, 1)], deep=deep(70)), ": dtb-too-deep, expected a flattened devicetree that rim fdt shows")]
+
+
+def images(program: str) -> list[str]:
+    rim, wrong = Rim(program), []
+    with tempfile.TemporaryDirectory() as here:
+        path = os.path.join(here, "-file")
+        for data, expected in ((image(0x300000, 0x1000), Image(0x1000, 0x300000, 0x1000, 0x300000)), (b"none", None),
+                               (image(0, 0x1000, 9000), Image(0x1000, 0, 0x80000, 9000)), (bytes(100), None)):
+            files.write(path, data)
+            wrong += [f"{data[:20]!r}: {image_of(rim, path)}"] * (image_of(rim, path) != expected)
+    said = fault_of(lambda: image_of(rim, "/dev/zero"))
+    wrong += [said] * (said != "/dev/zero: it is a device, expected a file")
+    said = fault_of(lambda: image_of(Rim("/bin/echo"), __file__))
+    return wrong + [said] * ("rim image has not said what it is" not in said)
+
+
+def trees(program: str) -> list[str]:
+    rim, wrong = Rim(program), []
+    with tempfile.TemporaryDirectory() as here:
+        path = os.path.join(here, "tree")
+        files.write(path, tree([(1 << 30, 1 << 31)], "quiet", **CPUS))
+        found = tree_of(rim, path)
+        cpus = found.root.child("cpus")
+        came = (found.total, [each.name for each in found.root.children], found.root.child("chosen").text("bootargs"), cpus.properties,
+                cpus.cells("#address-cells", 1), len(list(found.root.walk())))
+        expected = (1 << 20, ["chosen", "memory@40000000", "cpus", "psci", "pmu", "pcie@10000000"], "quiet", CPUS["cpus"], 2, 7)
+        wrong += [f"{came}, expected {expected}"] * (came != expected)
+        for data, fault in TREES:
+            files.write(path, data)
+            said = fault_of(lambda: tree_of(rim, path, "the devicetree"))
+            wrong += [f"{said}, expected {fault}"] * (said != (f"the devicetree{fault}" if fault else "no fault"))
+    said = fault_of(lambda: tree_of(Rim("/bin/echo"), __file__))
+    return wrong + [said] * ("rim fdt has shown no tree" not in said)
+
+
 def run_all() -> int:
-    failed, looks = 0, (shown_texts, read_files, read_data, run_programs, stopped, ends)
+    program = os.path.abspath(sys.argv[1] if len(sys.argv) > 1 else os.path.join(TOP, "crates", "rim", "out", "rim"))
+    failed, looks = 0, (shown_texts, read_files, read_data, run_programs, stopped, ends, partial(images, program), partial(trees, program))
     for look in looks:
         if wrong := look():
             failed += 1
-            print(f"WRONG: {look.__name__}", *wrong, sep="\n  ")
+            print(f"WRONG: {getattr(look, '__name__', look)}", *wrong, sep="\n  ")
     print(f"{len(looks) - failed} passed, {failed} failed")
     return int(failed > 0)
 

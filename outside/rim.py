@@ -1,0 +1,143 @@
+"""What `rim` says of files: the header of an arm64 Image, and a devicetree. No second reader of them is here."""
+import io
+import struct
+import sys
+from collections.abc import Iterator
+from dataclasses import dataclass, field, replace
+
+from . import files, programs
+from .faults import Fault
+from .programs import Limits, Ran, SaysTooMuch
+from .texts import visible
+
+# A report, a listing and a trace have at most so many bytes; so has the text of a devicetree, and so much memory has `rim` for it: names in
+# names can make gigabytes of text out of a devicetree of 2 MiB.
+MOST_OUT, MOST_TREE, TREE_MEMORY = 1 << 30, 32 << 20, 512 << 20
+# How long `rim` may take for an Image or a devicetree.
+SECONDS = 60
+REPORT = Limits(out=MOST_OUT)
+# What `rim image` says of a file that is no Image.
+NO_IMAGE = ("kernel-short", "kernel-bad-magic")
+# The header of a devicetree.
+HEADER = struct.Struct(">10I")
+
+
+@dataclass(frozen=True)
+class Rim:
+    """The program. It runs where the user is, so that paths are read as from there."""
+
+    path: str
+
+    def run(self, *words: str, limits: Limits = REPORT) -> Ran:
+        ran = programs.run([self.path, *words], limits)
+        return replace(ran, err=ran.err if ran.err.strip() else f"rim: status {ran.status}".encode())
+
+
+@dataclass(frozen=True)
+class Image:
+    """What the header of a kernel says, and what `rim` makes of it."""
+
+    text_offset: int
+    image_size: int
+    load_offset: int
+    extent: int
+
+    @property
+    def taken(self) -> int:
+        """The bytes of RAM that it is said to take: image_size, or the file's length where that is 0."""
+        return self.image_size or self.extent
+
+
+def image_of(rim: Rim, path: str) -> Image | None:
+    """The header of the Image at a path; None where the file is no Image."""
+    files.size_of(path)
+    ran = rim.run("image", "--", path, limits=Limits(seconds=SECONDS))
+    if ran.status == 3 and any(word in ran.said for word in NO_IMAGE):
+        return None
+    said = dict(line.split(" ") for line in lines_of(ran, f"{visible(path)}: rim image") if line.count(" ") == 1)
+    try:
+        return Image(*(int(said[name], 16) for name in ("text_offset", "image_size", "load_offset", "extent")))
+    except (KeyError, ValueError):
+        raise Fault(f"{visible(path)}: rim image has not said what it is, expected text_offset, image_size, load_offset, extent") from None
+
+
+def lines_of(ran: Ran, what: str) -> Iterator[str]:
+    """The lines that a run has printed."""
+    if ran.status:
+        raise Fault(f"{what}: {ran.said}")
+    return (line.decode("ascii", errors="replace").rstrip("\n") for line in io.BytesIO(ran.out))
+
+
+@dataclass
+class Node:
+    """A node of a devicetree. Of two properties of one name the first counts."""
+
+    name: str
+    properties: dict[str, bytes] = field(default_factory=dict)
+    children: list["Node"] = field(default_factory=list)
+
+    def child(self, name: str) -> "Node | None":
+        """The first child of this name, with a unit address or without; None where there is none."""
+        return next((each for each in self.children if each.name.split("@")[0] == name), None)
+
+    def text(self, name: str) -> str | None:
+        """A property that is a text; None where it is absent."""
+        value = self.properties.get(name)
+        return None if value is None else value.rstrip(b"\0").decode(errors="surrogateescape")
+
+    def cells(self, name: str, default: int) -> int:
+        """A number of cells, `#address-cells` or `#size-cells`."""
+        value = self.properties.get(name, b"")
+        return int.from_bytes(value, "big") if len(value) == 4 else default
+
+    def walk(self) -> "Iterator[Node]":
+        yield self
+        for each in self.children:
+            yield from each.walk()
+
+
+@dataclass(frozen=True)
+class Tree:
+    """A devicetree: its root, how many bytes its header says that it has, and where the last of its blocks ends."""
+
+    root: Node
+    total: int
+    used: int
+
+
+def tree_of(rim: Rim, path: str, name: str = "") -> Tree:
+    """The devicetree at a path; `name` is what a fault calls it. What `rim` does not read is a fault."""
+    name = name or path
+    head = files.head(path, HEADER.size)
+    too_large = Fault(f"{visible(name)}: it is too large to be shown by rim fdt, expected at most {MOST_TREE} bytes of text")
+    try:
+        ran = rim.run("fdt", "--", path, limits=Limits(SECONDS, MOST_TREE, TREE_MEMORY))
+    except SaysTooMuch:
+        raise too_large from None
+    if "no-memory" in ran.said:
+        raise too_large
+    if ran.status == 3:
+        raise Fault(f"{visible(name)}: {ran.said.removeprefix('rim: ')}, expected a flattened devicetree that rim fdt shows")
+    root = root_of(lines_of(ran, f"{visible(name)}: rim fdt"), name)
+    _, total, structure, strings, _, _, _, _, strings_size, structure_size = HEADER.unpack(head.ljust(HEADER.size, b"\0"))
+    return Tree(root, total, max(structure + structure_size, strings + strings_size))
+
+
+def root_of(lines: Iterator[str], name: str) -> Node:
+    """The root of the tree in the lines of `rim fdt`: a line for each node, with its path, and after it one for each of its properties."""
+    nodes: list[Node] = []
+    try:
+        for line in lines:
+            word, _, rest = line.partition(" ")
+            if word == "node":
+                above, _, last = rest.rpartition("/")
+                depth = above.count("/") + 1 if last else 0
+                nodes[depth:] = [Node(sys.intern(last))]
+                if depth:
+                    nodes[depth - 1].children.append(nodes[depth])
+            elif word == "prop":
+                key, _, digits = rest.partition(" ")
+                nodes[-1].properties.setdefault(sys.intern(key), bytes.fromhex(digits))
+        return nodes[0]
+    except (IndexError, ValueError):
+        raise Fault(f"{visible(name)}: rim fdt has shown no tree, expected lines of nodes and properties") from None
