@@ -1,11 +1,8 @@
-"""The files of a manifest: where each is, how long it is, and the header of a kernel."""
-import os
-import struct
+"""The files of a launch: where each is, how long it is, and the header of a kernel."""
 from dataclasses import dataclass
 
-from vmm.image import MAGIC, Image
-
-from .faults import Fault, shown
+from outside import files
+from outside.rim import Image, Rim, image_of
 
 
 @dataclass(frozen=True)
@@ -15,18 +12,10 @@ class Blob:
     image: Image | None     # None where it is no arm64 Image
 
 
-def read(path: str) -> Blob:
-    try:
-        with open(path, "rb") as file:
-            length, start = os.fstat(file.fileno()).st_size, file.read(64)
-    except OSError as why:
-        raise Fault(f"{shown(path)}: {why.strerror}") from None
-    image = None
-    if len(start) == 64 and start[56:60] == MAGIC:
-        image = Image(length, *struct.unpack_from("<QQ", start, 8))
-    return Blob(path, length, image)
+def read(rim: Rim, path: str) -> Blob:
+    return Blob(path, files.size_of(path), image_of(rim, path))
 
 
-def all_of(table: dict) -> dict[str, Blob]:
-    """The files of a manifest, by their names."""
-    return {each["name"]: read(each["path"]) for each in table.get("file", [])}
+def all_of(rim: Rim, paths: dict[str, str], names: set[str]) -> dict[str, Blob]:
+    """Some files of a manifest, by their names, in the manifest's order."""
+    return {name: read(rim, path) for name, path in paths.items() if name in names}

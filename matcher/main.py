@@ -1,39 +1,49 @@
 """The order of the work: words, the launch as it is, the search, what is printed."""
 import sys
-import tempfile
-import tomllib
 from collections.abc import Callable
 from dataclasses import dataclass, replace
 
-from . import ending, files, lines, nearest, program, value
+from outside import ending, programs
+from outside import files as outside_files
+from outside.faults import Fault, WrongWords
+from outside.programs import Ran
+from outside.rim import Rim
+from outside.stopping import Stopped
+from outside.texts import shown, visible
+
+from . import files, lines, nearest, program, value
 from .axes import AXES
-from .faults import Fault, WrongWords, shown
 from .launch import Launch, launch_of
-from .program import Rim
+from .program import Runs
 from .search import Candidate, Search
+from .value import Value
 
 VERSION = "0.2.0"
 LIMIT = 300_000
+# The longest manifest that is read, and how many names of launches a line has.
+MOST, MOST_NAMES = 64 << 20, 8
 
 ABOUT = f"""rim-match: which change of a launch gives the measurement that a machine has
 
-usage: rim-match [--limit N] MANIFEST LAUNCH VALUE
+usage: rim-match [--far] [--limit N] MANIFEST LAUNCH VALUE
        rim-match --nearest TRACE MANIFEST [LAUNCH]
        rim-match --axes
        rim-match --help | --version
 
 VALUE is the RIM of a token: 32 or 64 bytes, as hexadecimal digits or in base64. One that is padded with zeros is that of SHA-256.
-Launches that differ from LAUNCH in what people and hosts get wrong are measured by `rim`, the likeliest first, by one change, two and
-three. The first that has VALUE is printed, as the lines of the manifest to change. The program is the one that the variable RIM
-names, or `rim` beside this one, or of the PATH.
+First the launches of MANIFEST are measured by `rim`: the machine may have booted another one. Then those that differ from LAUNCH in what
+people and hosts get wrong, the likeliest first, by one change and by two likely ones. The first that has VALUE is printed, as the lines
+of the manifest to change. The program is the one that the variable RIM names, or `rim` beside this one, or of the PATH.
 
+  --far             go on after that with two and three changes of all kinds, which takes minutes
   --limit N         stop after N launches; {LIMIT} by default
   --nearest TRACE   which launch shares the longest beginning with TRACE, as `rim trace` prints one, and where it parts from it
   --axes            print what may be changed, and do nothing else
   -h, --help        print help
   -V, --version     print the version
 
-Status: 0 found, or TRACE is that of the launch; 1 not found, or TRACE is another; 2 wrong words; 3 a fault.
+Status: 0 found, or TRACE is that of the launch; 1 not found, or TRACE is another; 2 wrong words; 3 a fault; 130, 143 or 129 stopped by
+INT, TERM or HUP, once what was tried is printed.
 """
 HELP_HINT = "expected MANIFEST LAUNCH VALUE; see rim-match --help"
 
@@ -44,6 +54,7 @@ class Words:
 
     operands: tuple[str, ...] = ()
     limit: int = LIMIT
+    is_far: bool = False
     trace: str | None = None
     alone: str = ""             # an option that does nothing else
 
@@ -68,6 +79,8 @@ def parse(all_words: list[str]) -> Words:
                 raise WrongWords(f"{name}: nothing comes after it, expected {'a number' if name == '--limit' else 'a file'}")
             text = given if is_whole else rest.pop(0)
             said = replace(said, limit=limit_of(text)) if name == "--limit" else replace(said, trace=text)
+        elif word == "--far":
+            said = replace(said, is_far=True)
         elif word in ("-h", "--help", "-V", "--version", "--axes"):
             said = replace(said, alone=said.alone or word)
         elif word.startswith("-") and word != "-":
@@ -92,42 +105,63 @@ def axes_text() -> str:
 # ---- the manifest
 
 
-def read_manifest(rim: Rim, path: str, launch: str) -> dict:
-    """The manifest as Python reads it; what `rim` says of it comes first."""
-    try:
-        with open(path, "rb") as file:
-            data = file.read()
-    except (OSError, ValueError) as why:
-        raise Fault(f"{shown(path)}: {getattr(why, 'strerror', None) or why}") from None
-    try:
-        table = tomllib.loads(data.decode())
-    except ValueError as why:
-        ran = rim.run("trace", "--", path, launch)
-        if ran.status > 1:
-            raise fault_of(ran.said, path) from None
-        raise Fault(f"{shown(path)}: Python's tomllib does not read it ({why}), expected TOML 1.0") from None
-    return table
+def report_of(rim: Rim, path: str) -> tuple[dict[str, str], dict[str, object]]:
+    """What `rim measure` says of each launch of a manifest, by its name, and the manifest as Python reads it."""
+    data = outside_files.read(path, MOST, "a manifest")
+    ran = rim.run("measure", "--", path)
+    if ran.status > 1 or ran.status < 0:
+        if "too-many-pages" not in ran.said:
+            raise fault_of(ran.said, path)
+        return {}, table_of(path, data)
+    return values_of(ran), table_of(path, data)
+
+
+def table_of(path: str, data: bytes) -> dict[str, object]:
+    return outside_files.toml_of(path, data, "TOML 1.0, as Python's tomllib reads it")
+
+
+def values_of(ran: Ran) -> dict[str, str]:
+    """The lines of a report: what came of each launch by its name."""
+    rows = [line.split(" ", 1) for line in ran.out.decode("ascii", errors="replace").splitlines()[1:-1]]
+    return {row[0]: row[1] for row in rows if len(row) == 2}
 
 
 def fault_of(said: str, path: str) -> Fault:
-    return Fault(f"{said}; `rim check {path}` says where")
+    return Fault(f"{said}; `rim check {visible(path)}` says where")
 
 
-def launch_named(table: dict, name: str) -> Launch | None:
-    """The launch of a name, where the table is one of launches; whether it is, `rim` says."""
-    launches = table.get("launch")
-    some = [each for each in launches if isinstance(each, dict)] if isinstance(launches, list) else []
-    return next((launch_of(each) for each in some if each.get("name") == name), None)
+def tables_of(table: dict[str, object], key: str) -> list[dict]:
+    """The tables of an array of a manifest; that they are tables, `rim` says."""
+    some = table.get(key)
+    return [each for each in some if isinstance(each, dict)] if isinstance(some, list) else []
 
 
-def names_of(table: dict) -> list[str]:
-    launches = table.get("launch")
-    return [str(each.get("name")) for each in launches if isinstance(each, dict)] if isinstance(launches, list) else []
+def launches_of(path: str, table: dict[str, object]) -> list[Launch]:
+    """The launches of a manifest that `rim` has taken."""
+    try:
+        return [launch_of(each) for each in tables_of(table, "launch")]
+    except (TypeError, ValueError, KeyError, AttributeError):
+        raise Fault(f"{visible(path)}: it has a launch that is none, expected one that rim measures") from None
+
+
+def names_of(table: dict[str, object]) -> list[str]:
+    return [str(each.get("name")) for each in tables_of(table, "launch")]
+
+
+def blobs_of(rim: Rim, table: dict[str, object], launches: list[Launch]) -> dict[str, files.Blob]:
+    """The files that some launches name."""
+    names = {item.file for launch in launches for item in launch.item if item.file is not None}
+    return files.all_of(rim, {each["name"]: each["path"] for each in tables_of(table, "file")}, names)
 
 
 def no_such_launch(name: str, names: list[str], path: str) -> Fault:
-    some = ", ".join(map(shown, names[:8])) + ", .." * (len(names) > 8)
-    return Fault(f"rim: no-such-launch: {shown(name)}, expected one of {shown(path)}: {some or 'it has none'}")
+    return Fault(f"rim: no-such-launch: {shown(name)}, expected one of {visible(path)}: {list_of(names) or 'it has none'}")
+
+
+def list_of(names: list[str]) -> str:
+    """Some names: the first ones, and how many more there are."""
+    more = len(names) - MOST_NAMES
+    return ", ".join(map(shown, names[:MOST_NAMES])) + (f" and {more} more" if more > 0 else "")
 
 
 # ---- the answer
@@ -150,58 +184,94 @@ def hit_lines(found: Candidate, launch: Launch, version: int, search: Search) ->
     return [first, *(f"  {line}" for line in changes), f"  {search.tried:,} launches were tried"]
 
 
-def measure_again(rim: Rim, found: Launch, search: Search):
+def measure_again(runs: Runs, found: Launch, search: Search):
     """Measures the launch that was found by itself: what is printed holds of a run with nothing else in it."""
-    again = program.outcome(rim, [found], search.files, search.value)
+    again = program.outcome(runs, [found], search.files, search.value)
     if again.hit is None:
-        raise Fault(f"{shown(rim.path)}: it gives a launch the value among others, and not alone")
+        raise Fault(f"{visible(runs.rim.path)}: it gives a launch the value among others, and not alone")
 
 
-def match(rim: Rim, said: Words) -> int:
-    """Looks for the value."""
+def others_with(runs: Runs, table: dict[str, object], launches: list[Launch], values: dict[str, str], wanted: Value) -> list[str]:
+    """The launches of the manifest that have the value. Where all of them have too many pages for one report, they are measured in parts,
+    and the first is enough."""
+    if values:
+        return [name for name, said in values.items() if said == f"{wanted.algo} {wanted.digits}"]
+    some = [launch for launch in launches if launch.algo == wanted.algo]
+    hit = program.outcome(runs, some, blobs_of(runs.rim, table, some), wanted).hit if some else None
+    return [hit.name] if hit else []
+
+
+def said_of_others(name: str, others: list[str]) -> str:
+    """What is said where launches of the manifest have the value as they are."""
+    rest = [each for each in others if each != name]
+    several = len(rest) > 1
+    of_rest = f"launch{'es' * several} {list_of(rest)} of the same manifest {'have' if several else 'has'} the value"
+    if name not in others:
+        return of_rest
+    return f'launch "{name}" has the value as it is' + f"; {of_rest} too" * bool(rest)
+
+
+def match(runs: Runs, said: Words) -> int:
+    """Looks for the value: among the launches of the manifest, and then near one of them."""
     path, name, text = said.operands
     wanted = value.read(text)
-    table = read_manifest(rim, path, name)
-    ran = rim.run("trace", "--", path, name)
-    if "no-such-launch" in ran.said and ran.status == 3:
+    values, table = report_of(runs.rim, path)
+    launches = launches_of(path, table)
+    launch = next((each for each in launches if each.name == name), None)
+    if launch is None:
         raise no_such_launch(name, names_of(table), path)
-    if ran.status not in (0, 1):
-        raise fault_of(ran.said, path)
-    launch = launch_named(table, name)
-    if ran.status == 0 and ran.out.splitlines()[-1].split(" ")[0] == wanted.digits:
-        print(f'launch "{name}" has the value as it is')
+    if others := others_with(runs, table, launches, values, wanted):
+        print(said_of_others(name, others))
         return 0
-    if ran.status == 1:
-        print(f'rim-match: launch "{name}" is refused: {ran.out.split()[-1]}; launches near it are tried', file=sys.stderr)
-    search = Search(rim, files.all_of(table), wanted, said.limit)
-    found = search.found(replace(launch, algo=wanted.algo))
+    if values.get(name, "").startswith("refused "):
+        print(f'rim-match: launch "{name}" is {values[name].replace(" ", ": ")}; launches near it are tried', file=sys.stderr)
+    search = Search(runs, blobs_of(runs.rim, table, [launch]), wanted, said.limit, said.is_far)
+    try:
+        found = search.found(replace(launch, algo=wanted.algo))
+    except Stopped:
+        print("\n".join(not_found_lines(launch, search, "the search was stopped")), flush=True)
+        raise
     if found is None:
-        also = f", nor with algo {wanted.algo}, which the value's length is of" if launch.algo != wanted.algo else ""
-        print(f'launch "{name}" does not have the value{also}, and none of {search.tried:,} launches near it has')
-        print("\n".join(about_axes(search)))
+        is_near = not said.is_far and search.tried < said.limit
+        print("\n".join(not_found_lines(launch, search, "--far tries more: two and three changes of all kinds, for minutes" * is_near)))
         return 1
-    measure_again(rim, found.launch, search)
-    print("\n".join(hit_lines(found, launch, table["rim_manifest"], search)))
+    measure_again(runs, found.launch, search)
+    print("\n".join(hit_lines(found, launch, version_of(table), search)))
     return 0
+
+
+def version_of(table: dict[str, object]) -> int:
+    version = table.get("rim_manifest")
+    return version if isinstance(version, int) else 0
+
+
+def not_found_lines(launch: Launch, search: Search, end: str) -> list[str]:
+    """What is said where no launch that was tried has the value; `end` is how it ended, or nothing."""
+    also = f", nor with algo {search.value.algo}, which the value's length is of" if launch.algo != search.value.algo else ""
+    first = f'launch "{launch.name}" does not have the value{also}, and none of {search.tried:,} launches near it has'
+    return [first, *about_axes(search), *[f"  {end}"] * bool(end)]
 
 
 def near(rim: Rim, said: Words) -> int:
     """Looks for the launch whose trace is the nearest."""
     path, *name = said.operands
-    there = nearest.lines_of(said.trace)
-    table = read_manifest(rim, path, name[0] if name else "")
-    names = names_of(table)
+    there = nearest.lines_of(said.trace or "")
+    data = outside_files.read(path, MOST, "a manifest")
+    ran = rim.run("trace", "--", path, name[0] if name else "")
+    if ran.status > 1 and "no-such-launch" not in ran.said:
+        raise fault_of(ran.said, path)
+    names = names_of(table_of(path, data))
     if name and name[0] not in names:
         raise no_such_launch(name[0], names, path)
     if not names:
-        raise Fault(f"{shown(path)}: it has no launch; `rim check {path}` says what is wrong with it, if anything is")
-    found, refused = nearest.of_launches(rim, path, name or names, there)
-    if not found:
-        print("\n".join(refused))
+        raise Fault(f"{visible(path)}: it has no launch; `rim check {visible(path)}` says what is wrong with it, if anything is")
+    found = nearest.of_launches(rim, path, name or names, there)
+    if found.best is None:
+        print("\n".join(found.refused))
         return 1
-    best = nearest.nearest_of(found)
-    print("\n".join([*nearest.said_of(best, said.trace, there), *nearest.about_others(best, found)]))
-    return int(best.trace != there)
+    said_lines = nearest.said_of(found.best, found.trace, said.trace or "", there)
+    print("\n".join([*said_lines, *nearest.about_others(found.best, found.all)]))
+    return int(found.trace != there)
 
 
 def run(all_words: list[str], folder: str) -> int:
@@ -217,10 +287,12 @@ def run(all_words: list[str], folder: str) -> int:
     check_operands(said)
     if said.trace is None:
         value.read(said.operands[2])
-    path = program.found(folder)
-    program.check(path)
-    with tempfile.TemporaryDirectory(prefix="rim-match-") as made:
-        return (match if said.trace is None else near)(Rim(path, made), said)
+    rim = Rim(programs.found(folder))
+    programs.check(rim.path)
+    if said.trace is not None:
+        return near(rim, said)
+    with outside_files.folder("rim-match-") as made:
+        return match(Runs(rim, made), said)
 
 
 def main(all_words: list[str], folder: str) -> int:

@@ -1,4 +1,5 @@
 """The launches that are tried, in their order: each once, and as many in a run of `rim` as a manifest has."""
+import hashlib
 import itertools
 import sys
 import time
@@ -9,7 +10,7 @@ from dataclasses import dataclass, field
 
 from .axes import AXES, Axis, Files
 from .launch import Launch, is_whole, measured_of, steps_of
-from .program import Outcome, Rim, outcome
+from .program import Outcome, Runs, outcome
 from .value import Value
 
 MOST_LAUNCHES = 1024
@@ -18,7 +19,11 @@ MOST_LAUNCHES = 1024
 COSTLY_STEPS, MOST_STEPS = 1 << 12, 1 << 23
 # A launch of more steps than this is left for the last round where more than one thing is changed: gigabytes of RAM in blocks of 4 KiB.
 VAST_STEPS = 1 << 20
-# How many axes are changed at once, and how many of the changes need not be likely ones; what is said of a round.
+# How often a line says how far the search is, where standard error is no terminal; on one, how often it is shown.
+SECONDS, SECONDS_SHOWN = 10, 0.25
+# How many axes are changed at once, and how many of the changes need not be likely ones; what is said of a round. The first NEAR rounds
+# are tried where nothing else is said: what is in the others is rare, and they take minutes.
+NEAR = 2
 ROUNDS = ((1, 1, "one change"), (2, 0, "two likely changes"), (2, 2, "two changes"), (3, 0, "three likely changes"),
           (3, 1, "three changes, two of them likely"), (3, 3, "three changes"))
 LAST_ROUND = "changes of many steps"
@@ -58,15 +63,17 @@ class Round:
 class Search:
     """The search for a launch that has the value."""
 
-    rim: Rim
+    runs: Runs
     files: Files
     value: Value
     limit: int
+    is_far: bool = True
     axes: tuple[Axis, ...] = AXES
     rounds: list[Round] = field(default_factory=list)
-    seen: set[int] = field(default_factory=set)
+    seen: set[bytes] = field(default_factory=set)
     late: deque[Candidate] = field(default_factory=deque)
     shown_at: float = 0.0
+    started: float = field(default_factory=time.monotonic)
 
     @property
     def tried(self) -> int:
@@ -76,8 +83,8 @@ class Search:
         """Whether no launch was tried of which the same is measured."""
         if not is_whole(launch):
             return False
-        # a hash takes less room than what it is of; two of one hash among a million are not to be expected
-        key = hash(measured_of(launch, self.files))
+        # a digest takes less room than what it is of, and no two of them are alike; Python's hash of 0 is that of 2 ** 61 - 1
+        key = hashlib.blake2b(repr(measured_of(launch, self.files)).encode(), digest_size=16).digest()
         if key in self.seen:
             return False
         self.seen.add(key)
@@ -106,9 +113,10 @@ class Search:
 
     def rounds_of(self, base: Launch) -> Iterator[tuple[str, Iterator[Candidate]]]:
         """What is said of each round, and its launches."""
-        for count, others, about in ROUNDS:
+        for count, others, about in ROUNDS if self.is_far else ROUNDS[:NEAR]:
             yield about, self.launches(base, count, others)
-        yield LAST_ROUND, self.left()
+        if self.is_far:
+            yield LAST_ROUND, self.left()
 
     def batches(self, launches: Iterator[Candidate], limit: int) -> Iterator[list[Candidate]]:
         batch, steps = [], 0
@@ -122,17 +130,19 @@ class Search:
             yield batch
 
     def progress(self, done: bool = False):
-        """How far the search is, on a terminal, at most four times a second."""
-        if not sys.stderr.isatty() or (not done and time.monotonic() < self.shown_at + 0.25):
+        """How far the search is: on a terminal at most four times a second, and gone at the end; elsewhere a line every ten seconds."""
+        is_terminal, now = sys.stderr.isatty(), time.monotonic()
+        due = self.shown_at + SECONDS_SHOWN if is_terminal else max(self.shown_at, self.started) + SECONDS
+        if (now < due and not done) or (done and not is_terminal):
             return
-        self.shown_at = time.monotonic()
+        self.shown_at = now
         text = "" if done else f"rim-match: {self.tried:,} launches tried, {self.rounds[-1].about}"
-        print(f"\r\x1b[K{text}", end="", file=sys.stderr, flush=True)
+        print(f"\r\x1b[K{text}" if is_terminal else text, end="" if is_terminal else "\n", file=sys.stderr, flush=True)
 
-    def taken(self, waiting: tuple[list[Candidate], Future]) -> Candidate | None:
+    def taken(self, waiting: tuple[list[Candidate], Future[Outcome]]) -> Candidate | None:
         """What came of a batch, once it is measured."""
         batch, future = waiting
-        came: Outcome = future.result()
+        came = future.result()
         self.rounds[-1].tried += came.tried
         self.rounds[-1].refused += came.refused
         self.progress()
@@ -146,7 +156,7 @@ class Search:
             made += len(batch)
             if waiting and (hit := self.taken(waiting)):
                 return hit
-            waiting = batch, pool.submit(outcome, self.rim, [each.launch for each in batch], self.files, self.value)
+            waiting = batch, pool.submit(outcome, self.runs, [each.launch for each in batch], self.files, self.value)
         self.rounds[-1].is_whole = made < limit and not self.late
         return self.taken(waiting) if waiting else None
 
@@ -157,7 +167,7 @@ class Search:
             self.rounds.append(Round("no change"))
             hit = None
             if self.is_new(base):
-                hit = self.taken(([Candidate((), base)], pool.submit(outcome, self.rim, [base], self.files, self.value)))
+                hit = self.taken(([Candidate((), base)], pool.submit(outcome, self.runs, [base], self.files, self.value)))
                 if self.rounds[0].refused:
                     # another launch of which the same is measured may be one that is not refused
                     self.seen.clear()

@@ -4,7 +4,8 @@ import binascii
 import re
 from dataclasses import dataclass
 
-from .faults import WrongWords, shown
+from outside.faults import WrongWords
+from outside.texts import shown
 
 # How many bytes a digest of each algorithm has.
 LENGTHS = {"sha256": 32, "sha512": 64}

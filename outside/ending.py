@@ -1,6 +1,7 @@
 """How a script ends: what stops it is a line on standard error, and a status."""
 import os
 import sys
+import traceback
 from collections.abc import Callable
 
 from . import stopping
@@ -78,3 +79,7 @@ def status_or_fault(name: str, run: Callable[[], int]) -> int:
         return why.status
     except KeyboardInterrupt:
         return 130
+    except Exception as why:
+        last = traceback.extract_tb(why.__traceback__)[-1]
+        say(name, f"{type(why).__name__} in line {last.lineno} of {visible(last.filename)}: {why}, which is a fault of this script")
+        return 3

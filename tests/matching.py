@@ -14,14 +14,19 @@ The files are made here, and PROGRAM measures. The last line is 'N passed, M fai
 """
 import base64
 import concurrent.futures
+import contextlib
 import copy
+import io
 import json
 import os
 import re
 import shutil
+import signal
 import subprocess
 import sys
+import time
 import tomllib
+from dataclasses import replace
 
 from hypervisors import TOP, Folder, differs, image, tree, tried
 
@@ -29,7 +34,8 @@ sys.path.insert(0, TOP)
 
 from matcher import files, lines, main, search  # noqa: E402, the path is set by hypervisors
 from matcher.axes import AXES  # noqa: E402
-from matcher.launch import blocks_of, is_whole, manifest_text, measured_of  # noqa: E402
+from matcher.launch import Rec, blocks_of, is_whole, manifest_text, measured_of  # noqa: E402
+from outside.rim import Rim  # noqa: E402
 
 START = os.path.join(TOP, "rim-match")
 LOW, MIB = 0x4000_0000, 1 << 20
@@ -227,17 +233,17 @@ SINGLES = [
                                       [0x43000000, 0x44000000]]),
                           put("steps", ["ram 0", "ram 1", "item kernel", "ram 2", "item dtb", "ram 3", "item initrd", "rec 0", "rec 1"]))),
 ]
-# More than one: the axes, the launch, the change, and how many are found.
+# More than one: the axes, the launch, the change, how many are found, and whether that is far off.
 SEVERAL = [
-    ("two of the realm", "plain", both(put("num_bps", 4), put("s2sz", 36)), 2),
+    ("two of the realm", "plain", both(put("num_bps", 4), put("s2sz", 36)), 2, False),
     ("two of RECs and order", "plain", both(put("rec", [{}, {}]), put("steps", ["rec 0", "rec 1", "ram 0", "item kernel", "item initrd",
-                                                                               "item dtb"])), 2),
-    ("RAM and a kernel", "plain", both(put("ram", [[0x40000000, 0x50000000]]), item("kernel", at=0x40600000)), 2),
-    ("an algorithm and a size", "stub", both(put("algo", "sha256"), not_in("kernel", "size")), 2),
-    ("a devicetree that is measured, and edited", "stub", both(item("dtb", memory=True), not_in("dtb", "measured")), 2),
-    ("an algorithm", "old", put("algo", "sha512"), 1),
-    ("a version and an order", "old", both(put("rec", [{}, OFF, OFF]), put("rec_rule", "all"), put("block_level", 3)), 2),
-    ("three", "old", both(put("block_level", 3), put("num_bps", 1), put("rec", [{}])), 3),
+                                                                               "item dtb"])), 2, False),
+    ("RAM and a kernel", "plain", both(put("ram", [[0x40000000, 0x50000000]]), item("kernel", at=0x40600000)), 2, True),
+    ("an algorithm and a size", "stub", both(put("algo", "sha256"), not_in("kernel", "size")), 2, False),
+    ("a devicetree that is measured, and edited", "stub", both(item("dtb", memory=True), not_in("dtb", "measured")), 2, False),
+    ("an algorithm", "old", put("algo", "sha512"), 1, False),
+    ("a version and an order", "old", both(put("rec", [{}, OFF, OFF]), put("rec_rule", "all"), put("block_level", 3)), 2, False),
+    ("three", "old", both(put("block_level", 3), put("num_bps", 1), put("rec", [{}])), 3, True),
 ]
 
 
@@ -249,14 +255,14 @@ def base_table(name: str) -> dict:
     return tomllib.loads(OLD if name == "old" else MANIFEST)
 
 
-def change(program: str, name: str, changed, count: int) -> list[str]:
+def change(program: str, name: str, changed, count: int, is_far: bool = False) -> list[str]:
     """The measurement of a changed launch, given to rim-match with the manifest without the change."""
     here, table = folder(), base_table(name)
     changed(launch_of(table, name))
     value = measured(program, here, table | {"rim_manifest": 2})[name]
     if len(value) < 64:
         return [f"the changed launch is refused: {value}"]
-    status, out, said = here.run(file_of(name), name, value, start=START, RIM=program)
+    status, out, said = here.run(*["--far"] * is_far, file_of(name), name, value, start=START, RIM=program)
     wrong = differs("status, standard error", (status, said), (0, ""))
     if status:
         return wrong + [out]
@@ -272,8 +278,8 @@ def change(program: str, name: str, changed, count: int) -> list[str]:
 def lines_of(program: str, axis, name: str) -> list[str]:
     """Each change of an axis, as it is measured and as its lines change the manifest."""
     here, table = folder(), base_table(name)
-    blobs = {each["name"]: files.Blob(each["path"], *measures(here, each["path"])) for each in table["file"]}
-    launch = main.launch_named(table, name)
+    blobs = {each["name"]: measures(program, here, each["path"]) for each in table["file"]}
+    launch = launch_in(table, name)
     some = [(text, new) for text, new in axis.changes(launch, blobs) if is_whole(new)]
     if not some:
         return [] if axis.name == "devicetree" else ["no change"]
@@ -292,16 +298,19 @@ def lines_of(program: str, axis, name: str) -> list[str]:
     return [f"{text}: {mine}, expected {their}" for (text, _), mine, their in rows if mine != their]
 
 
-def measures(here: Folder, path: str):
-    blob = files.read(os.path.join(here.path, path))
-    return blob.length, blob.image
+def launch_in(table: dict, name: str):
+    return next(each for each in main.launches_of("m.toml", table) if each.name == name)
+
+
+def measures(program: str, here: Folder, path: str) -> files.Blob:
+    return replace(files.read(Rim(program), os.path.join(here.path, path)), path=path)
 
 
 def same_measured(program: str, name: str) -> list[str]:
     """Launches of which rim-match takes the same to be measured have one measurement, so that trying one of them is enough."""
     here, table = folder(), base_table(name)
-    blobs = {each["name"]: files.Blob(each["path"], *measures(here, each["path"])) for each in table["file"]}
-    launch = main.launch_named(table, name)
+    blobs = {each["name"]: measures(program, here, each["path"]) for each in table["file"]}
+    launch = launch_in(table, name)
     some = [each.launch for others in (1, 0) for each in search.combined((), launch, blobs, AXES, 2 - others, others)]
     some = [each for each in some if is_whole(each) and blocks_of(each) < 10_000]
     found: dict[tuple, str] = {}
@@ -317,13 +326,13 @@ def same_measured(program: str, name: str) -> list[str]:
     return wrong[:8] + differs("launches that are the same", len(found) < len(some), True)
 
 
-def many_steps(_program: str) -> list[str]:
+def many_steps(program: str) -> list[str]:
     """Launches of many steps come at the end of a round, or in the last one: their places among all, and what is left."""
     here, table = folder(), base_table("plain")
-    blobs = {each["name"]: files.Blob(each["path"], *measures(here, each["path"])) for each in table["file"]}
-    launch = main.launch_named(table, "plain")
+    blobs = {each["name"]: measures(program, here, each["path"]) for each in table["file"]}
+    launch = launch_in(table, "plain")
     axes = tuple(axis for axis in AXES if axis.name in ("block_level", "num_bps", "num_wps"))
-    some = search.Search(None, blobs, None, 10_000, axes)
+    some = search.Search(None, blobs, None, 10_000, axes=axes)
     wrong = []
     for count, others, is_left in ((1, 1, False), (2, 2, False), (3, 3, True)):
         here = [each.launch.block_level == 3 for each in some.launches(launch, count, others)]
@@ -351,10 +360,77 @@ def forms(program: str) -> list[str]:
     return wrong
 
 
+def others(program: str) -> list[str]:
+    """Another launch of the manifest has the value: it is named before anything is tried."""
+    here, table = folder(), base_table("plain")
+    table["launch"] += [copy.deepcopy(launch_of(table, "plain")) | {"name": name} for name in ("twin", "bad", *(f"twin-{n}" for n in range(9)))]
+    of_name(launch_of(table, "bad"), "initrd")["at"] = 0x50000000
+    values = measured(program, here, table)
+    here.put("m.toml", whole(table).encode())
+    fake = f'#!/bin/sh\n[ "$1 $3" = "measure m.toml" ] && {{ echo "rim: too-many-pages" >&2; exit 3; }}\nexec {program} "$@"\n'
+    here.put("fake", fake.encode(), is_program=True)
+    six, seven = (", ".join(f'"twin-{n}"' for n in range(count)) for count in (6, 7))
+    wrong = []
+    for name, value, rim, line in (
+            ("plain", values["stub"], program, 'launch "stub" of the same manifest has the value'),
+            ("bad", values["stub"], program, 'launch "stub" of the same manifest has the value'),
+            ("stub", values["plain"], program, f'launches "plain", "twin", {six} and 3 more of the same manifest have the value'),
+            ("twin", values["twin"], program,
+             f'launch "twin" has the value as it is; launches "plain", {seven} and 2 more of the same manifest have the value too'),
+            ("plain", values["stub"], "./fake", 'launch "stub" of the same manifest has the value'),
+            ("plain", values["plain"], "./fake", 'launch "plain" has the value as it is')):
+        wrong += differs(f"{name}, {rim}", here.run("m.toml", name, value, start=START, RIM=rim), (0, line + "\n", ""))
+    return wrong
+
+
+def alike(program: str) -> list[str]:
+    """Launches that differ in a number whose hash in Python is that of the other are tried both; what is tried already is not."""
+    here, table = folder(), base_table("plain")
+    blobs = {each["name"]: measures(program, here, each["path"]) for each in table["file"]}
+    launch, some = launch_in(table, "plain"), search.Search(None, blobs, None, 10)
+    tried_anew = [some.is_new(replace(launch, rec=(Rec(0, (number,)),))) for number in (0, (1 << 61) - 1, 0, 1)]
+    return differs("launches that are new", tried_anew, [True, True, False, True])
+
+
+def stopped(program: str) -> list[str]:
+    """A signal ends the search: what was tried is printed, nothing is left."""
+    wrong = []
+    for number in (signal.SIGINT, signal.SIGTERM, signal.SIGHUP):
+        here = folder()
+        made = os.path.join(here.path, "temporary")
+        os.makedirs(made)
+        ran = subprocess.Popen([START, "--far", "m.toml", "plain", NEVER], cwd=here.path, stdout=subprocess.PIPE, stderr=subprocess.PIPE,
+                               text=True, env=os.environ | {"RIM": program, "TMPDIR": made})
+        until = time.monotonic() + 30
+        while not any("3.toml" in names for _, _, names in os.walk(made)) and time.monotonic() < until:
+            time.sleep(0.001)
+        ran.send_signal(number)
+        out, said = ran.communicate(timeout=30)
+        has = re.match(r'launch "plain" does not have the value, and none of [\d,]+ launches near it has\n  one change: ', out) is not None
+        came = ran.returncode, said, has, out.endswith("\n  the search was stopped\n"), os.listdir(made)
+        wrong += differs(number.name, came, (128 + number, "", True, True, []))
+    return wrong
+
+
+def lines_said(_program: str) -> list[str]:
+    """Where standard error is no terminal, a line every ten seconds."""
+    some, said = search.Search(None, {}, None, 10), io.StringIO()
+    some.rounds.append(search.Round("one change", 1234))
+    with contextlib.redirect_stderr(said):
+        for since in (9, 11, 0):
+            some.started -= since
+            some.progress()
+        some.progress(done=True)
+    return differs("what is said", said.getvalue(), "rim-match: 1,234 launches tried, one change\n")
+
+
 def not_found(program: str) -> list[str]:
     here = folder()
+    status, out, said = here.run("m.toml", "stub", NEVER, start=START, RIM=program)
+    wrong = differs("the likely ones", (status, said, out.endswith("\n  --far tries more: two and three changes of all kinds, for minutes\n"),
+                                       re.search(r"\n  one change: [\d,]+; two likely changes: [\d,]+\n", out) is not None), (1, "", True, True))
     status, out, said = here.run("--limit", "300", "m.toml", "plain", NEVER, start=START, RIM=program)
-    wrong = differs("status, standard error", (status, said), (1, ""))
+    wrong += differs("status, standard error", (status, said, "--far" in out), (1, "", False))
     for part in ('launch "plain" does not have the value, and none of 300 launches near it has\n', "one change: ",
                  "two likely changes: ", ", not all", "of them are refused", ", ".join(axis.name for axis in AXES)):
         wrong += differs(f"{part!r} in {out!r}", part in out, True)
@@ -365,7 +441,8 @@ def not_found(program: str) -> list[str]:
 
 MORE = {"key.toml": MANIFEST.replace("s2sz = 40", "s2sz = 40\nss2z = 40"), "range.toml": MANIFEST.replace("s2sz = 40", "s2sz = 99"),
         "toml.toml": "rim_manifest = ", "new.toml": OLD.replace("name = \"old\", ", "name = \"old\",\n"),
-        "file.toml": MANIFEST.replace('path = "stub"', 'path = "none"'), "none.toml": "rim_manifest = 2\n"}
+        "file.toml": MANIFEST.replace('path = "stub"', 'path = "none"'), "none.toml": "rim_manifest = 2\n",
+        "deep.toml": "rim_manifest = " + "[" * 100_000}
 WORDS = [
     ([], 2, "usage: rim-match"),
     (["m.toml", "plain"], 2, "2 operands, expected MANIFEST LAUNCH VALUE"),
@@ -379,26 +456,33 @@ WORDS = [
     (["--limit"], 2, "--limit: nothing comes after it, expected a number"),
     (["--nearest"], 2, "--nearest: nothing comes after it, expected a file"),
     (["--nearest", "trace"], 2, "--nearest: 0 operands, expected MANIFEST"),
-    (["--far", "m.toml", "plain", NEVER], 2, '"--far" is no option'),
-    (["gone.toml", "plain", NEVER], 3, '"gone.toml": No such file or directory'),
-    (["m.toml", "plane", NEVER], 3, 'rim: no-such-launch: "plane", expected one of "m.toml": "plain", "stub"'),
-    (["none.toml", "plain", NEVER], 3, 'rim: no-such-launch: "plain", expected one of "none.toml": it has none'),
+    (["--farther", "m.toml", "plain", NEVER], 2, '"--farther" is no option'),
+    (["gone.toml", "plain", NEVER], 3, "gone.toml: No such file or directory, expected a manifest"),
+    (["m.toml", "plane", NEVER], 3, 'rim: no-such-launch: "plane", expected one of m.toml: "plain", "stub"'),
+    (["none.toml", "plain", NEVER], 3, 'rim: no-such-launch: "plain", expected one of none.toml: it has none'),
     (["key.toml", "plain", NEVER], 3, "rim: unknown-key; `rim check key.toml` says where"),
     (["range.toml", "plain", NEVER], 3, "rim: range; `rim check range.toml` says where"),
     (["toml.toml", "plain", NEVER], 3, "rim: syntax; `rim check toml.toml` says where"),
-    (["new.toml", "old", NEVER], 3, '"new.toml": Python\'s tomllib does not read it'),
+    (["new.toml", "old", NEVER], 3, "new.toml: it is no TOML that is read here (Invalid"),
     (["file.toml", "plain", NEVER], 3, "rim: file-unreadable; `rim check file.toml` says where"),
-    (["--nearest", "gone", "m.toml"], 3, '"gone": No such file or directory'),
-    (["--nearest", "m.toml", "m.toml"], 3, '"m.toml": its first line is "rim_manifest = 2", expected lines as `rim trace` prints them'),
+    (["fifo", "plain", NEVER], 3, "fifo: it is a FIFO, expected a manifest"),
+    (["/dev/zero", "plain", NEVER], 3, "/dev/zero: it is a device, expected a manifest"),
+    (["deep.toml", "plain", NEVER], 3, "rim: "),
+    (["--nearest", "/dev/zero", "m.toml"], 3, "/dev/zero: it is a device, expected lines as `rim trace` prints them"),
+    (["--nearest", "fifo", "m.toml"], 3, "fifo: it is a FIFO, expected lines as `rim trace` prints them"),
+    (["--nearest", "trace", "fifo"], 3, "fifo: it is a FIFO, expected a manifest"),
+    (["--nearest", "gone", "m.toml"], 3, "gone: No such file or directory, expected lines as `rim trace` prints them"),
+    (["--nearest", "m.toml", "m.toml"], 3, 'm.toml: its first line is "rim_manifest = 2", expected lines as `rim trace` prints them'),
     (["--nearest", "trace", "m.toml", "plane"], 3, 'rim: no-such-launch: "plane"'),
     (["--nearest", "trace", "key.toml"], 3, "rim: unknown-key; `rim check key.toml` says where"),
-    (["--nearest", "trace", "none.toml"], 3, '"none.toml": it has no launch'),
+    (["--nearest", "trace", "none.toml"], 3, "none.toml: it has no launch"),
 ]
 
 
 def words(program: str) -> list[str]:
     here = Folder(FILES | {"m.toml": MANIFEST.encode(), "trace": f"{NEVER} realm_create 1\n".encode()}
                   | {name: data.encode() for name, data in MORE.items()})
+    os.mkfifo(os.path.join(here.path, "fifo"))
     wrong = []
     for given, expected, text in WORDS:
         status, out, said = here.run(*given, start=START, RIM=program)
@@ -406,12 +490,12 @@ def words(program: str) -> list[str]:
             wrong.append(f"{given[:2]}: {status} {out!r} {said!r}, expected {expected} {text!r}")
         if given and (not said.startswith("rim-match: ") or said.count("\n") != 1):
             wrong.append(f"{given[:2]}: {said!r} is not one line")
-    for given, text in ((["--help"], "usage: rim-match [--limit N] MANIFEST LAUNCH VALUE"), (["-V"], "rim-match 0."),
+    for given, text in ((["--help"], "usage: rim-match [--far] [--limit N] MANIFEST LAUNCH VALUE"), (["-V"], "rim-match 0."),
                         (["--axes"], "block_level  ")):
         status, out, said = here.run(*given, start=START, RIM=program)
         wrong += differs(given[0], (status, text in out, said), (0, True, ""))
     for rim, text in (("/none/rim", 'no program "/none/rim" is found, expected it in the PATH or its path in the variable RIM'),
-                      ("/bin/false", '"/bin/false" --version: status 1')):
+                      ("/bin/false", '/bin/false --version: status 1, expected the program rim')):
         status, _, said = here.run("m.toml", "plain", NEVER, start=START, RIM=rim)
         wrong += differs(rim, (status, said), (3, f"rim-match: {text}\n"))
     return wrong
@@ -512,7 +596,7 @@ def installed(program: str) -> list[str]:
     value = measured(program, here, base_table("plain"))["plain"]
     os.makedirs(os.path.join(here.path, "usr/bin"))
     shutil.copy(START, os.path.join(here.path, "usr/bin/rim-match"))
-    for name in ("vmm", "matcher"):
+    for name in ("outside", "matcher"):
         shutil.copytree(os.path.join(TOP, name), os.path.join(here.path, "usr/share/rim", name),
                         ignore=shutil.ignore_patterns("__pycache__"))
     os.symlink(program, os.path.join(here.path, "usr/bin/rim"))
@@ -527,14 +611,14 @@ def installed(program: str) -> list[str]:
     wrong += differs("the temporary folder", os.listdir(os.path.join(here.path, "temporary")), [])
     os.remove(os.path.join(here.path, "usr/share/rim/matcher/main.py"))
     status, _, said = here.run("--help", start=start)
-    return wrong + differs("no modules", (status, "no folder matcher" in said), (1, True))
+    return wrong + differs("no modules", (status, "no folders matcher and outside" in said), (3, True))
 
 
 def documents(_program: str) -> list[str]:
     """The man page has each option, and the axes in their order."""
     with open(os.path.join(TOP, "docs", "rim-match.1"), encoding="utf-8") as file:
         page = file.read().replace("\\-", "-")
-    options = ("--limit", "--nearest", "--axes", "--help", "--version")
+    options = ("--far", "--limit", "--nearest", "--axes", "--help", "--version")
     wrong = [f"docs/rim-match.1: {name} is not named" for name in options if name not in page]
     named = [name for name in re.findall(r"^\.B ([a-z0-9_]+)$", page, re.M) if name in {axis.name for axis in AXES}]
     wrong += differs("the axes of docs/rim-match.1", named, [axis.name for axis in AXES])
@@ -558,14 +642,14 @@ def example(program: str) -> list[str]:
 def all_tries(program: str):
     for number, (axis, name, changed) in enumerate(SINGLES):
         yield f"{axis} of {name}, row {number}", lambda name=name, changed=changed: change(program, name, changed, 1)
-    for text, name, changed, count in SEVERAL:
-        yield text, lambda name=name, changed=changed, count=count: change(program, name, changed, count)
+    for text, name, changed, count, is_far in SEVERAL:
+        yield text, lambda name=name, changed=changed, count=count, is_far=is_far: change(program, name, changed, count, is_far)
     for axis in AXES:
         for name in ("plain", "stub", "old"):
             yield f"lines of {axis.name} of {name}", lambda axis=axis, name=name: lines_of(program, axis, name)
     for name in ("plain", "stub", "old"):
         yield f"what is measured of {name}", lambda name=name: same_measured(program, name)
-    for look in (many_steps, forms, not_found, words, refused, traces, terminal, installed, documents, example):
+    for look in (many_steps, forms, others, alike, stopped, lines_said, not_found, words, refused, traces, terminal, installed, documents, example):
         yield look.__name__, lambda look=look: look(program)
 
 
