@@ -1,5 +1,5 @@
 """What `rim-compare` is made of: it compares a kept report of `rim measure --json` with another one, or with what a manifest gives now.
-How `rim` is found and run, and how a script ends, are those of `matcher`.
+How `rim` is found and run, and how a script ends, are those of `outside`.
 
 report      a report as it is read
 differ      the lines of what differs between two

@@ -1,6 +1,8 @@
 """The lines of what differs between a kept report and another one."""
-import json
-from collections.abc import Callable
+from collections.abc import Callable, Mapping
+from typing import TypeVar
+
+from outside.texts import quoted
 
 from .report import Content, Report, Value
 
@@ -20,7 +22,10 @@ def of_content(was: Content, now: Content) -> str:
     return f"has other contents: {now}, was {was}"
 
 
-def of_all(what: str, was: dict, now: dict, other: Callable[..., str]) -> list[str]:
+Entry = TypeVar("Entry", Value, Content)
+
+
+def of_all(what: str, was: Mapping[str, Entry], now: Mapping[str, Entry], other: Callable[[Entry, Entry], str]) -> list[str]:
     """A line for each that differs: first those that were there, in their order, then the new ones in theirs."""
     found = []
     for name, old in was.items():
@@ -29,8 +34,7 @@ def of_all(what: str, was: dict, now: dict, other: Callable[..., str]) -> list[s
         elif now[name] != old:
             found.append((name, other(old, now[name])))
     found += [(name, f"is new: {new}") for name, new in now.items() if name not in was]
-    # a character that breaks a line is escaped, as in JSON
-    return [f"{what} {json.dumps(name)} {line}" for name, line in found]
+    return [f"{what} {quoted(name)} {line}" for name, line in found]
 
 
 def lines(was: Report, now: Report) -> list[str]:

@@ -1,14 +1,18 @@
 """The order of the work: words, the kept report, the other one, what is printed."""
 import sys
 
-from matcher import ending, program
-from matcher.faults import Fault, WrongWords, shown
-from matcher.program import Rim
+from outside import ending, files, programs
+from outside.faults import Fault, WrongWords
+from outside.programs import Limits
+from outside.rim import Rim
+from outside.texts import shown, visible
 
 from . import differ, report
 from .report import Report
 
 VERSION = "0.2.0"
+# The longest report, and the longest manifest, that is read.
+MOST = 64 << 20
 
 ABOUT = """rim-compare: what differs between a kept report and what a manifest gives now
 
@@ -37,28 +41,20 @@ def parsed(words: list[str]) -> tuple[list[str], list[str]]:
     return [word for word in words[:end] if word not in options] + words[end + 1:], options
 
 
-def bytes_at(path: str) -> bytes:
-    try:
-        with open(path, "rb") as file:
-            return file.read()
-    except OSError as why:
-        raise Fault(f"{shown(path)}: {why.strerror}") from None
-
-
 def measured(path: str, folder: str) -> Report:
     """The report of the manifest at a path, which the program makes now."""
-    rim = Rim(program.found(folder))
-    program.check(rim.path)
-    ran = rim.run("measure", "--json", "--", path)
+    rim = Rim(programs.found(folder))
+    programs.check(rim.path)
+    ran = rim.run("measure", "--json", "--", path, limits=Limits(out=MOST))
     if ran.status not in (0, 1):
-        raise Fault(f"{ran.said}; `rim check {path}` says where" if ran.status == 3 else ran.said)
-    return report.read(ran.out.encode(), shown(rim.path))
+        raise Fault(f"{ran.said}; `rim check {visible(path)}` says where" if ran.status == 3 else ran.said)
+    return report.read(ran.out, rim.path)
 
 
 def other(path: str, folder: str) -> Report:
     """The report at a path, where an object of JSON is there, or that of the manifest there: no TOML begins so."""
-    data = bytes_at(path)
-    return report.read(data, shown(path)) if data.lstrip().startswith(b"{") else measured(path, folder)
+    data = files.read(path, MOST, "a report or a manifest")
+    return report.read(data, path) if data.lstrip().startswith(b"{") else measured(path, folder)
 
 
 def notes(was: Report, now: Report) -> list[str]:
@@ -83,7 +79,7 @@ def run(words: list[str], folder: str) -> int:
     if len(operands) != 2:
         raise WrongWords(f"{len(operands)} operand{'s' * (len(operands) != 1)}, {HELP_HINT}")
     kept, path = operands
-    was = report.read(bytes_at(kept), shown(kept))
+    was = report.read(files.read(kept, MOST, report.WHAT), kept)
     now = other(path, folder)
     for note in notes(was, now):
         print(f"rim-compare: {note}", file=sys.stderr)

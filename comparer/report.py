@@ -1,13 +1,16 @@
 """A report as `rim measure --json` writes it, of each version that it has had."""
-import json
 import re
 from dataclasses import dataclass
+from typing import TypeVar
 
-from matcher.faults import Fault, shown
+from outside import files
+from outside.faults import Fault
+from outside.texts import shown, visible
 
 # How many digits a measurement of each algorithm has.
 DIGITS = {"sha256": 64, "sha512": 128}
 VERSIONS = (1, 2, 3)
+WHAT = "a report of rim measure --json"
 # The first version that has files and the program.
 WITH_FILES = 3
 
@@ -50,28 +53,35 @@ class Malformed(Exception):
     """A report does not have the form of its version."""
 
 
-def member(table, name: str, kind: type):
+Kind = TypeVar("Kind", str, int, list)
+
+
+def member(table: object, name: str, kind: type[Kind]) -> Kind:
     """A member of an object, of this kind. JSON's `true` is no number."""
-    if not isinstance(table, dict) or type(table.get(name)) is not kind:
+    value = table.get(name) if isinstance(table, dict) else None
+    if type(value) is not kind:
         raise Malformed(f"{name} is missing, or is no {({str: 'text', int: 'whole number', list: 'array'})[kind]}")
-    return table[name]
+    return value
 
 
-def text(table, name: str, pattern: str) -> str:
+def text(table: object, name: str, pattern: str) -> str:
     said = member(table, name, str)
     if not re.fullmatch(pattern, said):
         raise Malformed(f"{name} is {shown(said)}")
     return said
 
 
-def value_of(launch) -> Value:
+def value_of(launch: object) -> Value:
     algorithm = text(launch, "algorithm", "|".join(DIGITS))
-    if "refused" in launch:
+    has = set(launch) & {"rim", "refused"} if isinstance(launch, dict) else set()
+    if len(has) == 2:
+        raise Malformed("a launch has both rim and refused")
+    if "refused" in has:
         return Value(algorithm, refused=text(launch, "refused", "[a-z0-9-]+"))
     return Value(algorithm, digits=text(launch, "rim", f"[0-9a-f]{{{DIGITS[algorithm]}}}"))
 
 
-def launches_of(table) -> dict[str, Value]:
+def launches_of(table: object) -> dict[str, Value]:
     found: dict[str, Value] = {}
     for launch in member(table, "launches", list):
         name = member(launch, "name", str)
@@ -81,17 +91,20 @@ def launches_of(table) -> dict[str, Value]:
     return found
 
 
-def files_of(table) -> dict[str, Content]:
+def files_of(table: object) -> dict[str, Content]:
     """The files. A manifest may name one path twice; its contents are one, unless the file was changed while it was read."""
     found: dict[str, Content] = {}
     for file in member(table, "files", list):
-        path, content = member(file, "path", str), Content(member(file, "bytes", int), text(file, "sha256", "[0-9a-f]{64}"))
+        path, length = member(file, "path", str), member(file, "bytes", int)
+        if length < 0:
+            raise Malformed(f"bytes is {length}")
+        content = Content(length, text(file, "sha256", "[0-9a-f]{64}"))
         if found.setdefault(path, content) != content:
             raise Malformed(f"the file {shown(path)} is there twice, with other contents")
     return found
 
 
-def report_of(table) -> Report:
+def report_of(table: object) -> Report:
     version = member(table, "version", int)
     if version not in VERSIONS:
         raise Malformed(f"version is {version}, expected one of {', '.join(map(str, VERSIONS))}")
@@ -100,11 +113,9 @@ def report_of(table) -> Report:
     return Report(version, launches_of(table), files_of(table), member(table, "program", str))
 
 
-def read(data: bytes, name: str) -> Report:
-    """The report in some bytes, which came from what is named."""
+def read(data: bytes, path: str) -> Report:
+    """The report in some bytes, which came from a file or a program at a path."""
     try:
-        return report_of(json.loads(data))
-    except (ValueError, RecursionError) as why:
-        raise Fault(f"{name}: it is no JSON ({why}), expected a report of rim measure --json") from None
+        return report_of(files.json_of(path, data, WHAT))
     except Malformed as why:
-        raise Fault(f"{name}: {why}, expected a report of rim measure --json") from None
+        raise Fault(f"{visible(path)}: {why}, expected {WHAT}") from None

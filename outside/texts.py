@@ -43,10 +43,14 @@ def visible(text: str) -> str:
     return plain(text.replace("\\", "\\\\"))
 
 
+def quoted(text: str) -> str:
+    """A text between quotes."""
+    return '"' + plain(text.replace("\\", "\\\\").replace('"', '\\"')) + '"'
+
+
 def shown(text: str, most: int = MOST_SHOWN) -> str:
     """A text between quotes. One that is long is cut, with `..` after it."""
-    front, cut = (text, "") if len(text) <= most else (text[:most], "..")
-    return '"' + plain(front.replace("\\", "\\\\").replace('"', '\\"')) + '"' + cut
+    return quoted(text) if len(text) <= most else quoted(text[:most]) + ".."
 
 
 def last_line(said: str, otherwise: str = "it says nothing") -> str:

@@ -96,7 +96,7 @@ CHANGES = [
     ("a file that is not measured", LAUNCHES, PATHS, {"two": FILES["two"][:-1]},
      [f'file "two" has other contents: {content(FILES["two"][:-1])}, was {content(FILES["two"])}']),
     ("a file that has one byte more", LAUNCHES, PATHS, {ODD: LONGER},
-     [r'file "a \"b\"\n" has other contents: ' + f"{content(LONGER)}, was {content(FILES[ODD])}"]),
+     [r'file "a \"b\"\x0a" has other contents: ' + f"{content(LONGER)}, was {content(FILES[ODD])}"]),
     ("another path", LAUNCHES, PATHS | {"one": "./one"}, {},
      [f'file "one" is gone: it was {content(FILES["one"])}', f'file "./one" is new: {content(FILES["one"])}']),
     ("a file more", LAUNCHES, PATHS | {"more": "more"}, {"more": MORE}, [f'file "more" is new: {content(MORE)}']),
@@ -104,7 +104,7 @@ CHANGES = [
     ("all at once", [*LAUNCHES[2:], launch("e"), launch("f", algo="sha512")], {"two": "two", "one": "more"}, {"more": MORE},
      ['launch "a" is gone: it was {A}', 'launch "b" is gone: it was {B}', 'launch "e" is new: {e}', 'launch "f" is new: {f}',
       f'file "one" is gone: it was {content(FILES["one"])}',
-      r'file "a \"b\"\n" is gone: it was ' + content(FILES[ODD]), f'file "more" is new: {content(MORE)}']),
+      r'file "a \"b\"\x0a" is gone: it was ' + content(FILES[ODD]), f'file "more" is new: {content(MORE)}']),
 ]
 
 
@@ -212,6 +212,8 @@ MALFORMED = [
     ("no size", put_in("files", 0, "bytes", value="1"), "bytes is missing, or is no whole number"),
     ("no digest", put_in("files", 0, "sha256", value="00"), 'sha256 is "00"'),
     ("a path with two contents", put_in("files", 1, "path", value="one"), 'the file "one" is there twice, with other contents'),
+    ("a negative size", put_in("files", 0, "bytes", value=-1), "bytes is -1, expected"),
+    ("a value and a refusal", put_in("launches", 0, "refused", value="overlap"), "a launch has both rim and refused"),
     ("no program", taken_out("program"), "program is missing, or is no text"),
 ]
 
@@ -225,7 +227,7 @@ def malformed(program: str) -> list[str]:
         here.put("bad.json", json.dumps(table).encode())
         for given in (("bad.json", "m.toml"), ("kept.json", "bad.json")):
             status, out, said = here.run(*given, start=START, RIM=program)
-            if (status, out, said.startswith(f'rim-compare: "bad.json": {text}'), said.count("\n")) != (3, "", True, 1):
+            if (status, out, said.startswith(f"rim-compare: bad.json: {text}"), said.count("\n")) != (3, "", True, 1):
                 wrong.append(f"{name}, {given}: {status} {out!r} {said!r}")
     return wrong
 
@@ -234,22 +236,33 @@ def malformed(program: str) -> list[str]:
 
 BAD = {"key.toml": manifest(LAUNCHES, PATHS).replace(b"s2sz", b"ss2z", 1), "toml.toml": b"rim_manifest = ", "gone-file.toml":
        manifest(LAUNCHES, PATHS | {"one": "none"}), "array.json": b"[]", "cut.json": b'{"files":[', "deep.json": b'{"a":' + b"[" * 100_000,
-       "bytes.json": b"{\xff\xfe}", "empty": b""}
+       "bytes.json": b"{\xff\xfe}", "empty": b"", "twice.json": b'{"version":3,"version":3}', "digits.json": b'{"a":' + b"1" * 5000,
+       "nan.json": b'{"a":NaN}'}
 WORDS = [
     ([], 2, "usage: rim-compare REPORT MANIFEST"),
     (["kept.json"], 2, "1 operand, expected REPORT and MANIFEST, or two reports"),
     (["kept.json", "m.toml", "m.toml"], 2, "3 operands, expected"),
     (["--all", "kept.json", "m.toml"], 2, '"--all" is no option'),
     (["--help", "--all"], 2, '"--all" is no option'),
-    (["gone.json", "m.toml"], 3, '"gone.json": No such file or directory'),
-    (["kept.json", "gone.toml"], 3, '"gone.toml": No such file or directory'),
-    (["kept.json", "."], 3, '".": Is a directory'),
-    (["m.toml", "kept.json"], 3, '"m.toml": it is no JSON'),
-    (["array.json", "m.toml"], 3, '"array.json": version is missing'),
-    (["cut.json", "m.toml"], 3, '"cut.json": it is no JSON'),
-    (["deep.json", "m.toml"], 3, '"deep.json": it is no JSON'),
-    (["bytes.json", "m.toml"], 3, '"bytes.json": it is no JSON'),
-    (["kept.json", "bytes.json"], 3, '"bytes.json": it is no JSON'),
+    (["gone.json", "m.toml"], 3, "gone.json: No such file or directory, expected a report of rim measure --json"),
+    (["kept.json", "gone.toml"], 3, "gone.toml: No such file or directory, expected a report or a manifest"),
+    (["kept.json", "."], 3, ".: it is a folder, expected a report or a manifest"),
+    (["m.toml", "kept.json"], 3, "m.toml: it is no JSON that is read here"),
+    (["twice.json", "m.toml"], 3, 'twice.json: it is no JSON that is read here (the member "version" is given twice)'),
+    (["digits.json", "m.toml"], 3, "digits.json: it is no JSON that is read here (Exceeds the limit"),
+    (["nan.json", "m.toml"], 3, "nan.json: it is no JSON that is read here (NaN is no number of JSON)"),
+    (["/dev/zero", "m.toml"], 3, "/dev/zero: it is a device, expected a report"),
+    (["kept.json", "/dev/zero"], 3, "/dev/zero: it is a device, expected a report or a manifest"),
+    (["fifo", "m.toml"], 3, "fifo: it is a FIFO, expected a report"),
+    (["kept.json", "fifo"], 3, "fifo: it is a FIFO, expected a report or a manifest"),
+    (["huge", "m.toml"], 3, "huge: it has more than 67108864 bytes, expected a report"),
+    (["kept.json", "huge"], 3, "huge: it has more than 67108864 bytes, expected a report or a manifest"),
+    (["a\x1b\n\u200b", "m.toml"], 3, "a\\x1b\\x0a\\u200b: No such file or directory"),
+    (["array.json", "m.toml"], 3, "array.json: version is missing"),
+    (["cut.json", "m.toml"], 3, "cut.json: it is no JSON that is read here"),
+    (["deep.json", "m.toml"], 3, "deep.json: it is no JSON that is read here"),
+    (["bytes.json", "m.toml"], 3, "bytes.json: it is no UTF-8 at byte 1, expected a report"),
+    (["kept.json", "bytes.json"], 3, "bytes.json: it is no UTF-8 at byte 1, expected a report"),
     (["kept.json", "key.toml"], 3, "rim: unknown-key; `rim check key.toml` says where"),
     (["kept.json", "toml.toml"], 3, "rim: syntax; `rim check toml.toml` says where"),
     (["kept.json", "gone-file.toml"], 3, "rim: file-unreadable; `rim check gone-file.toml` says where"),
@@ -259,6 +272,9 @@ WORDS = [
 
 def words(program: str) -> list[str]:
     here = folder(BAD)
+    os.mkfifo(os.path.join(here.path, "fifo"))
+    with open(os.path.join(here.path, "huge"), "wb") as file:
+        file.truncate(1 << 30)
     keep(program, here)
     wrong = []
     for given, expected, text in WORDS:
@@ -271,8 +287,8 @@ def words(program: str) -> list[str]:
         status, out, said = here.run(*given, start=START)
         wrong += differs(given[0], (status, text in out, said), (0, True, ""))
     for rim, text in (("/none/rim", 'no program "/none/rim" is found, expected it in the PATH or its path in the variable RIM'),
-                      ("/bin/false", '"/bin/false" --version: status 1'),
-                      ("/bin/true", '"/bin/true": it is no JSON (Expecting value: line 1 column 1 (char 0)), '
+                      ("/bin/false", "/bin/false --version: status 1, expected the program rim"),
+                      ("/bin/true", "/bin/true: it is no JSON that is read here (Expecting value: line 1 column 1 (char 0)), "
                                     "expected a report of rim measure --json")):
         wrong += differs(rim, here.run("kept.json", "m.toml", start=START, RIM=rim), (3, "", f"rim-compare: {text}\n"))
     here.put("--", manifest(LAUNCHES, PATHS))
@@ -300,7 +316,7 @@ def installed(program: str) -> list[str]:
     keep(program, here)
     os.makedirs(os.path.join(here.path, "usr/bin"))
     start = shutil.copy(START, os.path.join(here.path, "usr/bin/rim-compare"))
-    for name in ("vmm", "matcher", "comparer"):
+    for name in ("outside", "comparer"):
         shutil.copytree(os.path.join(TOP, name), os.path.join(here.path, "usr/share/rim", name), ignore=shutil.ignore_patterns("__pycache__"))
     os.symlink(program, os.path.join(here.path, "usr/bin/rim"))
     os.symlink(START, os.path.join(here.path, "link"))
@@ -310,7 +326,7 @@ def installed(program: str) -> list[str]:
     wrong += differs("what is compiled", kept, [])
     os.remove(os.path.join(here.path, "usr/share/rim/comparer/main.py"))
     status, _, said = here.run("--help", start=start)
-    return wrong + differs("no modules", (status, "no folder comparer" in said), (1, True))
+    return wrong + differs("no modules", (status, "no folders comparer and outside" in said), (3, True))
 
 
 def outputs(program: str) -> list[str]:

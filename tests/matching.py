@@ -263,6 +263,7 @@ def change(program: str, name: str, changed, count: int, is_far: bool = False) -
     if len(value) < 64:
         return [f"the changed launch is refused: {value}"]
     status, out, said = here.run(*["--far"] * is_far, file_of(name), name, value, start=START, RIM=program)
+    said = re.sub(r"rim-match: [\d,]+ launches tried, .*\n", "", said) if is_far else said
     wrong = differs("status, standard error", (status, said), (0, ""))
     if status:
         return wrong + [out]
