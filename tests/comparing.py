@@ -5,6 +5,7 @@
 
 - Changes: PROGRAM makes the report of a manifest, the manifest or a file is changed here, and rim-compare has to print the lines that are
   written here. Values in them are those of `rim measure`, digests of files those of Python's hashlib.
+- Several manifests: the script that joins their reports, and what rim-compare says of what it writes; what misbehaves, and signals.
 - Two reports, reports of versions 1 and 2, another program, reports that are none, wrong words and faults, an installed rim-compare, its
   man page.
 
@@ -17,8 +18,10 @@ import json
 import os
 import re
 import shutil
+import signal
 import subprocess
 import sys
+import time
 
 from hypervisors import TOP, Folder, differs, tried
 
@@ -232,6 +235,122 @@ def malformed(program: str) -> list[str]:
     return wrong
 
 
+# ---- several manifests, whose reports vmm/measure.py joins
+
+MEASURE = "realms/measure"
+
+
+def several(more: dict[str, bytes] | None = None) -> Folder:
+    """Three manifests, of which each has a file of its own and one that all have."""
+    found = {f"realms/manifest-{n}.toml": manifest([launch(f"l{n}", RAM, ITEM % ("own", ""))], {"all": "all", "own": f"own-{n}"}) for n in (1, 2, 3)}
+    with open(os.path.join(TOP, "vmm", "measure.py"), "rb") as file:
+        found[MEASURE] = file.read()
+    here = Folder(found | {"realms/all": b"all"} | {f"realms/own-{n}": bytes([n]) for n in (1, 2, 3)} | (more or {}))
+    os.chmod(os.path.join(here.path, MEASURE), 0o755)
+    return here
+
+
+def rim_of(here: Folder, body: str) -> str:
+    """A program in the place of `rim`."""
+    here.put("fake", f"#!/bin/sh\n{body}\n".encode(), is_program=True)
+    return os.path.join(here.path, "fake")
+
+
+def joined(program: str) -> list[str]:
+    here = several()
+    measure = os.path.join(here.path, MEASURE)
+    status, out, said = here.run("--json", start=measure, RIM=program)
+    wrong = differs("status, standard error", (status, said), (0, ""))
+    here.put("kept.json", out.encode())
+    table = json.loads(out)
+    wrong += differs("files", [each["path"] for each in table["files"]], ["all", "own-1", "own-2", "own-3"])
+    wrong += differs("launches", [each["name"] for each in table["launches"]], ["l1", "l2", "l3"])
+    for name, text in (("own-3", b"three"), ("own-2", b"two"), ("all", b"other")):
+        was = here.read(f"realms/{name}")
+        here.put(f"realms/{name}", text)
+        here.put("now.json", here.run("--json", start=measure, RIM=program)[1].encode())
+        status, out, said = here.run("kept.json", "now.json", start=START)
+        line = f'file "{name}" has other contents: {content(text)}, was {content(was)}\n'
+        wrong += differs(name, (status, line in out, said), (1, True, ""))
+        here.put(f"realms/{name}", was)
+    fake = rim_of(here, f'{program} "$@"\necho >>all')
+    status, out, said = here.run("--json", start=measure, RIM=fake)
+    changed = f"measure: 'all': it was changed while it was measured: {content(b'all' + bytes([10]))}, was {content(b'all')}; expected one content\n"
+    return wrong + differs("a file that is changed", (status, out, said), (3, "", changed))
+
+
+def of_schema(program: str) -> list[str]:
+    """A joined report is as long as the schema lets it be."""
+    with open(os.path.join(TOP, "docs", "report.schema.json"), encoding="utf-8") as file:
+        schema = json.load(file)
+    report_of = json.dumps({"files": [], "launches": [], "pages": 1 << 20, "program": "p", "version": 3})
+    most = {key: 1024 * each for key, each in (("launches", 1024), ("files", 64))}
+    wrong = differs("the schema", {key: schema["properties"][key]["maxItems"] for key in most}, most)
+    wrong += differs("pages", schema["properties"]["pages"]["maximum"], 1 << 30)
+    here = several({f"realms/manifest-{n}.toml": b"" for n in range(4, 1026)})
+    fake = rim_of(here, f"echo '{report_of}'")
+    status, _, said = here.run("--json", start=os.path.join(here.path, MEASURE), RIM=fake)
+    return wrong + differs("manifests", (status, "has 1025 manifests, expected 1 to 1024" in said), (3, True))
+
+
+MISBEHAVING = [
+    ("nothing", "exit 0", [], 3, "a report of rim is none ("), ("nothing as JSON", "exit 0", ["--json"], 3, "a report of rim is none ("),
+    ("no UTF-8", r"printf '\377\n\n'", [], 3, "a report of rim is none ("), ("other lines", "echo a; echo b", [], 3, "a report of rim is none ("),
+    ("many pages", "echo rim-report 1; echo pages 11111111111111111111", [], 3, "a report of rim is none ("),
+    ("a list", "echo '[]'", ["--json"], 3, "a report of rim is none ("), ("a number", "echo 1", ["--json"], 3, "a report of rim is none ("),
+    ("deep", "head -c 100000 /dev/zero | tr '\\0' '['", ["--json"], 3, "a report of rim is none ("),
+    ("one launch thrice", "echo '{\"files\":[],\"launches\":[{\"name\":\"a\"}],\"pages\":1,\"program\":\"p\",\"version\":3}'", ["--json"], 3,
+     "('two launches have one name')"),
+    ("endless", "exec yes", [], 3, "manifest-1.toml: status -25"), ("killed", "kill -9 $$", [], 3, "manifest-1.toml: status -9"),
+    ("wrong words", "exit 2", ["--jso"], 2, "manifest-1.toml: status 2\n"), ("no memory", "exit 4", [], 4, "manifest-1.toml: status 4\n"),
+    ("a fault", "exit 3", [], 3, "manifest-1.toml: status 3; `rim check manifest-1.toml` in "), ("status 77", "exit 77", [], 3, "status 77\n"),
+    ("one that goes on", "sleep 1000 &\nexec /bin/false", [], 3, "a report of rim is none ("),
+]
+
+
+def misbehaving(_program: str) -> list[str]:
+    """A program that is no `rim`: a line, and no report."""
+    here, wrong = several(), []
+    for name, body, given, expected, text in MISBEHAVING:
+        status, out, said = here.run(*given, start=os.path.join(here.path, MEASURE), RIM=rim_of(here, body))
+        is_lines = all(line.startswith("measure: ") for line in said.splitlines())
+        wrong += differs(name, (status, out, text in said, is_lines), (expected, "", True, True)) and [f"{name}: {status} {out!r} {said!r}"]
+    for output, said in (("/dev/full", "measure: output: No space left on device\n"), ("closed", "")):
+        wrong += differs(output, ended(here, [os.path.join(here.path, MEASURE)], output, _program), (3, said))
+    return wrong
+
+
+def runs(number: str) -> bool:
+    """Whether a process goes on; one that is killed has no words any more."""
+    for _ in range(100):
+        try:
+            with open(f"/proc/{number}/cmdline", "rb") as file:
+                if not file.read():
+                    return False
+        except OSError:
+            return False
+        time.sleep(0.01)
+    return True
+
+
+def signals(_program: str) -> list[str]:
+    """A signal ends the script and all that its program has started, with no line."""
+    here, wrong = several(), []
+    fake = rim_of(here, "sleep 1000 &\necho $! >>started; wait")
+    for number in (signal.SIGINT, signal.SIGTERM, signal.SIGHUP):
+        ran = subprocess.Popen([os.path.join(here.path, MEASURE)], cwd=here.path, stdout=subprocess.PIPE, stderr=subprocess.PIPE, text=True,
+                               env=os.environ | {"RIM": fake})
+        while not os.path.exists(os.path.join(here.path, "realms/started")) or not here.read("realms/started").endswith(b"\n"):
+            time.sleep(0.01)
+        for _ in range(2):
+            ran.send_signal(number)
+        out, said = ran.communicate(timeout=20)
+        wrong += differs(number.name, (ran.returncode, out, said, runs(here.read("realms/started").decode().strip())),
+                         (128 + number, "", "", False))
+        os.remove(os.path.join(here.path, "realms/started"))
+    return wrong
+
+
 # ---- words and faults
 
 BAD = {"key.toml": manifest(LAUNCHES, PATHS).replace(b"s2sz", b"ss2z", 1), "toml.toml": b"rim_manifest = ", "gone-file.toml":
@@ -336,14 +455,18 @@ def outputs(program: str) -> list[str]:
     here.put("none.toml", b"rim_manifest = 1")
     wrong = []
     for output, said in (("/dev/full", "rim-compare: output: No space left on device\n"), ("closed", "")):
-        ends = os.pipe() if output == "closed" else (None, os.open(output, os.O_WRONLY))
-        if ends[0] is not None:
-            os.close(ends[0])
-        ran = subprocess.run([START, "kept.json", "none.toml"], cwd=here.path, stdout=ends[1], stderr=subprocess.PIPE, text=True, check=False,
-                             env=os.environ | {"RIM": program})
-        os.close(ends[1])
-        wrong += differs(output, (ran.returncode, ran.stderr), (3, said))
+        wrong += differs(output, ended(here, [START, "kept.json", "none.toml"], output, program), (3, said))
     return wrong
+
+
+def ended(here: Folder, words: list[str], output: str, program: str) -> tuple[int, str]:
+    """What comes of a run whose output is this file, or one that nobody reads."""
+    ends = os.pipe() if output == "closed" else (None, os.open(output, os.O_WRONLY))
+    if ends[0] is not None:
+        os.close(ends[0])
+    ran = subprocess.run(words, cwd=here.path, stdout=ends[1], stderr=subprocess.PIPE, text=True, check=False, env=os.environ | {"RIM": program})
+    os.close(ends[1])
+    return ran.returncode, ran.stderr
 
 
 def documents(_program: str) -> list[str]:
@@ -359,7 +482,7 @@ def documents(_program: str) -> list[str]:
 def all_tries(program: str):
     for name, launches, paths, changed, lines in CHANGES:
         yield name, lambda launches=launches, paths=paths, changed=changed, lines=lines: change(program, launches, paths, changed, lines)
-    for look in (versions, programs, malformed, words, faults, installed, outputs, documents):
+    for look in (joined, of_schema, misbehaving, signals, versions, programs, malformed, words, faults, installed, outputs, documents):
         yield look.__name__, lambda look=look: look(program)
 
 

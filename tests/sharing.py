@@ -6,11 +6,12 @@
 - Texts: what is shown of characters that nobody sees, of bytes that are no UTF-8, of long texts.
 - Files that are FIFOs, devices, folders, too long; TOML and JSON that have two meanings or are too deep.
 - Programs that never end, say too much, leave others that keep their output open; scripts that a signal stops while one runs.
-- How a script ends: full disks, closed outputs, faults.
+- How a script ends: full disks, closed outputs, faults. Older versions of Python, which read the files that are started.
 - What PROGRAM says of Images and devicetrees, and of files that are none.
 
 The last line is 'N passed, M failed'.
 """
+import ast
 import os
 import signal
 import struct
@@ -239,6 +240,25 @@ def ends() -> list[str]:
     return wrong + [f"closed: {came}"] * (came != (3, "name: output: it is closed, expected one that can be written to\n"))
 
 
+# ---- older versions of Python
+
+STARTS = ("rim-manifest", "rim-match", "rim-compare", "vmm/measure.py")
+OLD = "import runpy, sys; sys.version_info = (3, 9, 2, 'final', 0); sys.argv = sys.argv[1:]; runpy.run_path(sys.argv[0], run_name='__main__')"
+
+
+def versions() -> list[str]:
+    """An older Python reads each file that is started, and says which version it is to be."""
+    wrong = []
+    for name in STARTS:
+        path = os.path.join(TOP, name)
+        with open(path, encoding="utf-8") as file:
+            ast.parse(file.read(), name, feature_version=(3, 6))
+        ran = subprocess.run([sys.executable, "-c", OLD, path, "--help"], stdout=subprocess.PIPE, stderr=subprocess.PIPE, text=True, check=False)
+        said = f"{os.path.basename(name).removesuffix('.py')}: Python 3.9 runs it ({sys.executable}), expected Python 3.11 or later\n"
+        wrong += [f"{name}: {ran}"] * ((ran.returncode, ran.stdout, ran.stderr) != (3, "", said))
+    return wrong
+
+
 # ---- what rim says of files
 
 
@@ -303,7 +323,7 @@ def trees(program: str) -> list[str]:
 
 def run_all() -> int:
     program = os.path.abspath(sys.argv[1] if len(sys.argv) > 1 else os.path.join(TOP, "crates", "rim", "out", "rim"))
-    failed, looks = 0, (shown_texts, read_files, read_data, run_programs, stopped, ends, partial(images, program), partial(trees, program))
+    failed, looks = 0, (shown_texts, read_files, read_data, run_programs, stopped, ends, versions, partial(images, program), partial(trees, program))
     for look in looks:
         if wrong := look():
             failed += 1
