@@ -6,7 +6,14 @@
 # They are made of the last commit, so what is not committed is not in them; dist/ has to be of its sources. The same commit gives the
 # same bytes again, where dpkg-deb, xz, tar and gzip are of the same versions: each time is that of the commit, or SOURCE_DATE_EPOCH.
 # The maintainer is who made that commit, or DEBFULLNAME and DEBEMAIL. It is made on x86-64, since the version is asked of the program.
+# Nothing else of the environment changes it: tar, gzip, xz, dpkg-deb and git each take options from there, by which modes and bytes differ.
 set -eu
+for name in $(env | sed -n 's/^\([A-Za-z_][A-Za-z0-9_]*\)=.*/\1/p'); do
+    case $name in
+    PATH | HOME | TMPDIR | SOURCE_DATE_EPOCH | DEBFULLNAME | DEBEMAIL | SHELLOPTS | BASHOPTS) ;;
+    *) unset "$name" ;;
+    esac
+done
 umask 022
 export LC_ALL=C
 
@@ -43,7 +50,7 @@ put_programs() {
         [ ! -f "$script" ] || put 755 "$script" "bin/$script"
     done
     if [ -f rim-manifest ]; then
-        find vmm matcher comparer -type f | while read -r path; do
+        find outside vmm matcher comparer -type f | while read -r path; do
             mode=644
             [ ! -x "$path" ] || mode=755
             put "$mode" "$path" "share/rim/$path"
@@ -123,6 +130,13 @@ Description: expected measurements of Arm CCA realms
 END
 }
 
+# Modes that no umask, no list of access and no bit of the folder for temporary files changes. Five digits take such a bit away.
+set_modes() {
+    find "$1" -type d -exec chmod 00755 {} +
+    find "$1" -type f -perm -u+x -exec chmod 755 {} +
+    find "$1" -type f ! -perm -u+x -exec chmod 644 {} +
+}
+
 set_times() {
     find "$1" -exec touch -h -d "@$SOURCE_DATE_EPOCH" {} +
 }
@@ -134,33 +148,48 @@ make_package() {
     find "$package/usr" -type f -perm -u+x -exec sed -i '1s|^#!/usr/bin/env python3$|#!/usr/bin/python3|' {} +
     control >"$package/DEBIAN/control"
     (cd "$package" && find usr -type f | sort | xargs md5sum) >"$package/DEBIAN/md5sums"
+    set_modes "$package"
     set_times "$package"
     # xz by one thread: by more its bytes are others
-    DPKG_DEB_THREADS_MAX=1 dpkg-deb --root-owner-group -Zxz --build "$package" "$out/rim_${version}_amd64.deb" >/dev/null
+    DPKG_DEB_THREADS_MAX=1 dpkg-deb --root-owner-group -Zxz -z6 --build "$package" "$work/$deb" >/dev/null
 }
 
 make_archive() {
     put 644 LICENSE-APACHE LICENSE-APACHE
     put 644 LICENSE-MIT LICENSE-MIT
+    set_modes "$tree"
     set_times "$tree"
     tar -C "$work" --sort=name --owner=0 --group=0 --numeric-owner --format=gnu -cf "$work/archive.tar" "${tree##*/}"
-    gzip -9n <"$work/archive.tar" >"$out/${tree##*/}.tar.gz"
+    gzip -9n <"$work/archive.tar" >"$work/$archive"
+}
+
+# Puts a file in its place, whole or not at all.
+place() {
+    cp "$work/$1" "$out/.rim.$$.new"
+    mv "$out/.rim.$$.new" "$out/$1"
+}
+
+# A git that no configuration has change what is in the archive.
+plain_git() {
+    git -C "$top" -c core.autocrlf=false -c core.eol=lf -c core.attributesFile=/dev/null -c tar.umask=0022 -c log.showSignature=false "$@"
 }
 
 top=$(cd "$(dirname "$0")/.." && pwd)
 mkdir -p "${1:-$top/out}"
 out=$(cd "${1:-$top/out}" && pwd)
 work=$(mktemp -d)
-trap 'rm -rf "$work"' EXIT
+work=$(cd "$work" && pwd)
+export TMPDIR="$work"
+trap 'rm -rf "$work" "$out/.rim.$$.new"' EXIT
 trap 'exit 1' HUP INT TERM
 
-commit=$(git -C "$top" rev-parse HEAD)
-SOURCE_DATE_EPOCH=${SOURCE_DATE_EPOCH:-$(git -C "$top" log -1 --format=%ct)}
+commit=$(plain_git rev-parse HEAD)
+SOURCE_DATE_EPOCH=${SOURCE_DATE_EPOCH:-$(plain_git log -1 --format=%ct)}
 export SOURCE_DATE_EPOCH
-maintainer="${DEBFULLNAME:-$(git -C "$top" log -1 --format=%an)} <${DEBEMAIL:-$(git -C "$top" log -1 --format=%ae)}>"
+maintainer="${DEBFULLNAME:-$(plain_git log -1 --format=%an)} <${DEBEMAIL:-$(plain_git log -1 --format=%ae)}>"
 mkdir "$work/source"
-git -C "$top" archive -o "$work/source.tar" "$commit"
-tar -C "$work/source" -xf "$work/source.tar"
+plain_git archive --format=tar -o "$work/source.tar" "$commit"
+tar -C "$work/source" --no-same-owner --no-same-permissions -xf "$work/source.tar"
 cd "$work/source"
 
 is_dist_of_sources || fail "dist/ is not of the sources of this commit: tools/dist.py brings it up to date"
@@ -169,10 +198,14 @@ expr "$version" : '[0-9][0-9.]*$' >/dev/null || fail "the program's version is $
 
 tree=$work/rim-$version-x86_64-linux
 package=$work/package
+deb=rim_${version}_amd64.deb
+archive=${tree##*/}.tar.gz
 put_programs
 put_documents
 put_completions
 make_package
 make_archive
+place "$deb"
+place "$archive"
 cd "$out"
-sha256sum "rim_${version}_amd64.deb" "${tree##*/}.tar.gz"
+sha256sum "$deb" "$archive"

@@ -1,0 +1,91 @@
+#!/usr/bin/env python3
+"""Has tools/deb.sh make the package and the archive twice, of the last commit, and compares both.
+
+    tests/packaging.py
+
+The second time all that tar, gzip, xz, dpkg-deb and git take from the environment and from a user's configuration is set, new files may be
+written by everybody, and the folder for temporary files hands its group on. The bytes have to be the same, and the modes plain. Where dist/
+is not of the sources of the last commit, or dpkg-deb is not installed, nothing is asked.
+
+The last line is 'N passed, M failed'.
+"""
+import os
+import shutil
+import subprocess
+import sys
+import tarfile
+import tempfile
+
+TOP = os.path.dirname(os.path.dirname(os.path.realpath(__file__)))
+HOSTILE = {"TAR_OPTIONS": "--mode=0777 --format=pax", "DPKG_DEB_COMPRESSOR_LEVEL": "1", "DPKG_DEB_COMPRESSOR_TYPE": "gzip", "GZIP": "-1",
+           "DPKG_DEB_THREADS_MAX": "4", "XZ_OPT": "-0", "XZ_DEFAULTS": "-T4", "POSIXLY_CORRECT": "1", "CDPATH": "/", "GIT_DIR": "/none",
+           "TZ": "Asia/Tokyo", "PYTHONHOME": "/none", "TWO": "lines\nPATH=/none", "LANG": "xx", "GREP_COLORS": "x"}
+GITCONFIG = "[core]\n\tautocrlf = true\n\tattributesFile = {0}/attributes\n[tar]\n\tumask = 0\n[log]\n\tshowSignature = true\n[safe]\n\tdirectory = *\n"
+
+
+def made(here: str, name: str, mask: int, **environment: str) -> tuple[str, str, dict[str, bytes]]:
+    """What deb.sh prints, and the files that it makes."""
+    out = os.path.join(here, name)
+    ran = subprocess.run([os.path.join(TOP, "tools", "deb.sh"), out], capture_output=True, text=True, check=False, umask=mask, cwd=here,
+                         env=os.environ | {"HOME": here} | environment)
+    files = {}
+    for each in os.listdir(out):
+        with open(os.path.join(out, each), "rb") as file:
+            files[each] = file.read()
+    return ran.stdout, ran.stderr, files
+
+
+def modes(path: str) -> list[str]:
+    """What has another mode than files and folders of a package, or another owner."""
+    with tarfile.open(path) as archive:
+        return [f"{each.name}: {each.mode:o} {each.uid} {each.gid}" for each in archive
+                if each.mode not in ((0o755,) if each.isdir() else (0o644, 0o755)) or each.uid or each.gid]
+
+
+def modes_of_package(here: str, path: str) -> list[str]:
+    with open(os.path.join(here, "package.tar"), "wb") as file:
+        subprocess.run(["dpkg-deb", "--fsys-tarfile", path], stdout=file, check=True)
+    return modes(file.name)
+
+
+def packages(here: str) -> list[str] | None:
+    """What is wrong; None where dist/ has no programs of the sources."""
+    with open(os.path.join(here, "attributes"), "w", encoding="utf-8") as file:
+        file.write("*.md text eol=crlf\n")
+    temporary = os.path.join(here, "temporary")
+    os.mkdir(temporary)
+    os.chmod(temporary, 0o2777)
+    if os.getuid() == 0:
+        os.chown(temporary, -1, 12345)
+    with open(os.path.join(here, ".gitconfig"), "w", encoding="utf-8") as file:
+        file.write("[safe]\n\tdirectory = *\n")
+    plain = made(here, "plain", 0o022)
+    if "dist/ is not of the sources" in plain[1]:
+        return None
+    with open(file.name, "w", encoding="utf-8") as file:
+        file.write(GITCONFIG.format(here))
+    hostile = made(here, "hostile", 0, TMPDIR="temporary", **HOSTILE)
+    wrong = [f"{name} is another one" for name in plain[2] if plain[2][name] != hostile[2].get(name)]
+    wrong += [f"{said!r}" for said in (plain[1], hostile[1]) if said] + [f"{sorted(plain[2])}"] * (len(plain[2]) != 2)
+    for name in hostile[2]:
+        path = os.path.join(here, "hostile", name)
+        found = modes_of_package(here, path) if name.endswith(".deb") else modes(path)
+        wrong += [f"{name}: {each}" for each in found[:3]]
+        with tarfile.open(path if name.endswith(".gz") else os.path.join(here, "package.tar")) as archive:
+            folders = {"outside", "vmm", "matcher", "comparer"} - {os.path.basename(each.name) for each in archive if each.isdir()}
+        wrong += [f"{name}: there is no {each}" for each in folders]
+    return wrong + [f"{each} is left" for each in os.listdir(temporary)]
+
+
+def run_all() -> int:
+    with tempfile.TemporaryDirectory() as here:
+        wrong = packages(here) if shutil.which("dpkg-deb") else None
+    if wrong is None:
+        print("packaging.py: dpkg-deb is not installed, or dist/ is not of these sources: not asked\n0 passed, 0 failed")
+        return 0
+    print(*(f"WRONG: {line}" for line in wrong), f"{int(not wrong)} passed, {int(bool(wrong))} failed", sep="\n")
+    return int(bool(wrong))
+
+
+if __name__ == "__main__":
+    sys.exit(run_all())
