@@ -3,6 +3,8 @@ import functools
 import json
 from dataclasses import dataclass, fields, replace
 
+from outside.texts import is_hidden
+
 from .files import Blob
 
 PAGE, MIB, GIB = 1 << 12, 1 << 20, 1 << 30
@@ -219,8 +221,14 @@ def is_whole(launch: Launch) -> bool:
 
 
 def text(value: str) -> str:
-    """A text of TOML."""
-    return json.dumps(value, ensure_ascii=False).replace("\x7f", "\\u007f")
+    """A text of TOML, in which a character that nobody sees is written by its number."""
+    if value.isascii() and value.isprintable():
+        return json.dumps(value)
+    return "".join(numbered(letter) if is_hidden(letter) else letter for letter in json.dumps(value, ensure_ascii=False))
+
+
+def numbered(letter: str) -> str:
+    return f"\\u{ord(letter):04x}" if ord(letter) < 0x10000 else f"\\U{ord(letter):08x}"
 
 
 def value_text(key: str, value) -> str:

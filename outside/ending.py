@@ -27,8 +27,6 @@ def drop_output():
 
 def prepare():
     """Has both outputs take each text: a path need not be UTF-8, nor need a terminal know each letter."""
-    if sys.stderr is None:
-        sys.stderr = open(os.devnull, "w", encoding="utf-8")
     if sys.stdout is None:
         raise Fault("output: it is closed, expected one that can be written to")
     for output in (sys.stdout, sys.stderr):
@@ -38,15 +36,21 @@ def prepare():
 
 def status_of(name: str, run: Callable[[], int]) -> int:
     """The status of a run of the script of this name."""
-    stopping.heed()
+    if sys.stderr is None:
+        # first of all: what is opened next would get its number
+        sys.stderr = open(os.devnull, "w", encoding="utf-8")
     try:
-        return status_or_fault(name, run)
-    finally:
-        try:
-            if sys.stdout is not None:
-                sys.stdout.flush()
-        except OSError:
-            drop_output()
+        stopping.heed()
+        status = status_or_fault(name, run)
+        stopping.heed_no_more()
+    except KeyboardInterrupt as why:
+        status = why.status if isinstance(why, Stopped) else 130
+    try:
+        if sys.stdout is not None:
+            sys.stdout.flush()
+    except OSError:
+        drop_output()
+    return status
 
 
 def status_or_fault(name: str, run: Callable[[], int]) -> int:
@@ -75,10 +79,6 @@ def status_or_fault(name: str, run: Callable[[], int]) -> int:
     except RecursionError:
         say(name, "what is read has values too deep in one another")
         return 3
-    except Stopped as why:
-        return why.status
-    except KeyboardInterrupt:
-        return 130
     except Exception as why:
         last = traceback.extract_tb(why.__traceback__)[-1]
         say(name, f"{type(why).__name__} in line {last.lineno} of {visible(last.filename)}: {why}, which is a fault of this script")

@@ -12,8 +12,8 @@ from .faults import Fault
 from .stopping import held
 from .texts import plain, shown, visible
 
-KINDS = ((stat.S_ISDIR, "it is a folder"), (stat.S_ISFIFO, "it is a FIFO"), (stat.S_ISCHR, "it is a device"), (stat.S_ISBLK, "it is a device"),
-         (stat.S_ISSOCK, "it is a socket"))
+KINDS = ((stat.S_ISDIR, "it is a folder"), (stat.S_ISFIFO, "it is a FIFO"), (stat.S_ISSOCK, "it is a socket"),
+         (stat.S_ISCHR, "it is a device"), (stat.S_ISBLK, "it is a device"))
 
 
 def why_of(why: OSError | ValueError) -> str:
@@ -92,7 +92,7 @@ def text_of(path: str, data: bytes, what: str) -> str:
 
 
 def toml_of(path: str, data: bytes, what: str = "TOML 1.0") -> dict[str, object]:
-    """The table of a file of TOML. What Python cannot read of it is a fault: numbers of thousands of digits, arrays in thousands of arrays."""
+    """The table of a file of TOML. What Python cannot read is a fault: numbers of thousands of digits, thousands of arrays in one another."""
     text = text_of(path, data, what)
     try:
         return tomllib.loads(text)

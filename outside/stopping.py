@@ -51,6 +51,11 @@ def heed():
             signal.signal(number, came)
 
 
+def heed_no_more():
+    """Has signals change nothing from here on: the status is known."""
+    STATE.is_raised = True
+
+
 def watch(ours: int):
     """Begins to stop at each signal: Python writes its number when it comes."""
     while number := os.read(ours, 1):

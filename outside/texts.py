@@ -20,13 +20,20 @@ BYTES = range(0xDC80, 0xDD00)
 
 
 @functools.lru_cache(maxsize=4096)
+def is_hidden(letter: str) -> bool:
+    """Whether nobody sees a character, or can tell it from a space."""
+    number = ord(letter)
+    is_sign = letter == " " or unicodedata.category(letter)[0] not in "CZ"
+    return not is_sign or number in BLANK or any(first <= number <= last for first, last in IGNORABLE)
+
+
+@functools.lru_cache(maxsize=4096)
 def character(letter: str) -> str:
     """A character as it is shown."""
     number = ord(letter)
     if number in BYTES:
         return f"\\x{number - 0xDC00:02x}"
-    is_hidden = unicodedata.category(letter)[0] in "CZ" and letter != " "
-    if not (is_hidden or number in BLANK or any(first <= number <= last for first, last in IGNORABLE)):
+    if not is_hidden(letter):
         return letter
     if number < 0x100:
         return f"\\x{number:02x}"

@@ -35,6 +35,7 @@ sys.path.insert(0, TOP)
 from matcher import files, lines, main, search  # noqa: E402, the path is set by hypervisors
 from matcher.axes import AXES  # noqa: E402
 from matcher.launch import Rec, blocks_of, is_whole, manifest_text, measured_of  # noqa: E402
+from matcher.launch import text as launch_text  # noqa: E402
 from outside.rim import Rim  # noqa: E402
 
 START = os.path.join(TOP, "rim-match")
@@ -413,6 +414,19 @@ def stopped(program: str) -> list[str]:
     return wrong
 
 
+def hidden(program: str) -> list[str]:
+    """What nobody sees is printed by its number, in lines that a manifest takes."""
+    here, table = folder(), base_table("plain")
+    of_name(launch_of(table, "plain"), "dtb")["bootargs"] = "a\u202eb\u200b\x7f \u00e9"
+    here.put("m.toml", whole(table).encode())
+    value = measured(program, here, table | {"launch": [launch_of(table, "plain") | {"item": [
+        each if each["name"] != "dtb" else {key: each[key] for key in each if key != "bootargs"} for each in launch_of(table, "plain")["item"]]}]})
+    status, out, said = here.run("m.toml", "plain", value["plain"], start=START, RIM=program)
+    line = '  item "dtb": leave out bootargs           # the manifest has "a\\u202eb\\u200b\\u007f \u00e9"\n'
+    wrong = differs("a long number", launch_text("\U000e0041"), '"\\U000e0041"')
+    return wrong + differs(f"the line in {out!r}", (status, line in out, said), (0, True, ""))
+
+
 def lines_said(_program: str) -> list[str]:
     """Where standard error is no terminal, a line every ten seconds."""
     some, said = search.Search(None, {}, None, 10), io.StringIO()
@@ -650,7 +664,7 @@ def all_tries(program: str):
             yield f"lines of {axis.name} of {name}", lambda axis=axis, name=name: lines_of(program, axis, name)
     for name in ("plain", "stub", "old"):
         yield f"what is measured of {name}", lambda name=name: same_measured(program, name)
-    for look in (many_steps, forms, others, alike, stopped, lines_said, not_found, words, refused, traces, terminal, installed, documents, example):
+    for look in (many_steps, forms, others, alike, stopped, hidden, lines_said, not_found, words, refused, traces, terminal, installed, documents, example):
         yield look.__name__, lambda look=look: look(program)
 
 
