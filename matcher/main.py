@@ -15,7 +15,7 @@ from . import files, lines, nearest, program, value
 from .axes import AXES
 from .launch import Launch, launch_of
 from .program import Runs
-from .search import Candidate, Search
+from .search import Candidate, Search, show
 from .value import Value
 
 VERSION = "0.2.0"
@@ -215,7 +215,11 @@ def match(runs: Runs, said: Words) -> int:
     """Looks for the value: among the launches of the manifest, and then near one of them."""
     path, name, text = said.operands
     wanted = value.read(text)
-    values, table = report_of(runs.rim, path)
+    show(f"rim-match: the launches of {visible(path)} are measured")
+    try:
+        values, table = report_of(runs.rim, path)
+    finally:
+        show("")
     launches = launches_of(path, table)
     launch = next((each for each in launches if each.name == name), None)
     if launch is None:
@@ -249,7 +253,7 @@ def not_found_lines(launch: Launch, search: Search, end: str) -> list[str]:
     """What is said where no launch that was tried has the value; `end` is how it ended, or nothing."""
     also = f", nor with algo {search.value.algo}, which the value's length is of" if launch.algo != search.value.algo else ""
     first = f'launch "{launch.name}" does not have the value{also}, and none of {search.tried:,} launches near it has'
-    return [first, *about_axes(search), *[f"  {end}"] * bool(end)]
+    return [first, "  no launch of the manifest has it as it is", *about_axes(search), *[f"  {end}"] * bool(end)]
 
 
 def near(rim: Rim, said: Words) -> int:

@@ -29,6 +29,12 @@ ROUNDS = ((1, 1, "one change"), (2, 0, "two likely changes"), (2, 2, "two change
 LAST_ROUND = "changes of many steps"
 
 
+def show(text: str):
+    """Shows a line on a terminal in the place of the one before; nothing takes it away."""
+    if sys.stderr.isatty():
+        print(f"\r\x1b[K{text}", end="", file=sys.stderr, flush=True)
+
+
 @dataclass(frozen=True)
 class Candidate:
     """A launch, and the changes that lead to it."""
@@ -137,7 +143,10 @@ class Search:
             return
         self.shown_at = now
         text = "" if done else f"rim-match: {self.tried:,} launches tried, {self.rounds[-1].about}"
-        print(f"\r\x1b[K{text}" if is_terminal else text, end="" if is_terminal else "\n", file=sys.stderr, flush=True)
+        if is_terminal:
+            show(text)
+        else:
+            print(text, file=sys.stderr, flush=True)
 
     def taken(self, waiting: tuple[list[Candidate], Future[Outcome]]) -> Candidate | None:
         """What came of a batch, once it is measured."""

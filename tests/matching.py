@@ -408,7 +408,7 @@ def stopped(program: str) -> list[str]:
             time.sleep(0.001)
         ran.send_signal(number)
         out, said = ran.communicate(timeout=30)
-        has = re.match(r'launch "plain" does not have the value, and none of [\d,]+ launches near it has\n  one change: ', out) is not None
+        has = re.match(r'launch "plain" does not have the value, and none of [\d,]+ launches near it has\n  no launch of the manifest has it as it is\n  one change: ', out) is not None
         came = ran.returncode, said, has, out.endswith("\n  the search was stopped\n"), os.listdir(made)
         wrong += differs(number.name, came, (128 + number, "", True, True, []))
     return wrong
@@ -602,7 +602,8 @@ def terminal(program: str) -> list[str]:
     shown = os.read(ours, 1 << 16).decode()
     os.close(ours)
     has = re.search(r"\d launches tried, ", shown) is not None
-    return differs("what is shown", (ran.returncode, has, shown.endswith("\r\x1b[K")), (1, True, True))
+    is_first = shown.startswith("\r\x1b[Krim-match: the launches of m.toml are measured\r\x1b[K")
+    return differs("what is shown", (ran.returncode, has, is_first, shown.endswith("\r\x1b[K")), (1, True, True, True))
 
 
 def installed(program: str) -> list[str]:
