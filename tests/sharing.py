@@ -308,10 +308,10 @@ def trees(program: str) -> list[str]:
         path = os.path.join(here, "tree")
         files.write(path, tree([(1 << 30, 1 << 31)], "quiet", **CPUS))
         found = tree_of(rim, path)
-        cpus = found.root.child("cpus")
-        came = (found.total, [each.name for each in found.root.children], found.root.child("chosen").text("bootargs"), cpus.properties,
-                cpus.cells("#address-cells", 1), len(list(found.root.walk())))
-        expected = (1 << 20, ["chosen", "memory@40000000", "cpus", "psci", "pmu", "pcie@10000000"], "quiet", CPUS["cpus"], 2, 7)
+        cpus, names = found.root.child("cpus"), [each.name for each in found.root.children]
+        came = (found.total, names[:3], found.root.child("chosen").text("bootargs"), cpus.properties, cpus.cells("#address-cells", 1),
+                [each.name for each in found.root.walk()])
+        expected = 1 << 20, ["chosen", "memory@40000000", "cpus"], "quiet", CPUS["cpus"], 2, ["", *names]
         wrong += [f"{came}, expected {expected}"] * (came != expected)
         for data, fault in TREES:
             files.write(path, data)
@@ -323,11 +323,13 @@ def trees(program: str) -> list[str]:
 
 def run_all() -> int:
     program = os.path.abspath(sys.argv[1] if len(sys.argv) > 1 else os.path.join(TOP, "crates", "rim", "out", "rim"))
-    failed, looks = 0, (shown_texts, read_files, read_data, run_programs, stopped, ends, versions, partial(images, program), partial(trees, program))
-    for look in looks:
+    looks = {look.__name__: look for look in (shown_texts, read_files, read_data, run_programs, stopped, ends, versions)}
+    looks |= {look.__name__: partial(look, program) for look in (images, trees)}
+    failed = 0
+    for name, look in looks.items():
         if wrong := look():
             failed += 1
-            print(f"WRONG: {getattr(look, '__name__', look)}", *wrong, sep="\n  ")
+            print(f"WRONG: {name}", *wrong, sep="\n  ")
     print(f"{len(looks) - failed} passed, {failed} failed")
     return int(failed > 0)
 
