@@ -79,9 +79,10 @@ class Running:
                 if pipe:
                     os.set_blocking(pipe.fileno(), False)
                     self.selector.register(pipe, selectors.EVENT_READ, into)
-        if stopping.is_stopped():
-            self.stop()
-            raise stopping.Stopped(stopping.STATE.number or signal.SIGINT)
+            if stopping.is_stopped():
+                # what was running when the signal came is killed, and this was not known then
+                self.stop()
+                stopping.raise_here()
 
     def limit(self, which: int, most: int | None):
         """Limits what it may have from here on."""
@@ -141,7 +142,7 @@ class Running:
         finally:
             self.stop()
         if stopping.is_stopped():
-            raise stopping.Stopped(stopping.STATE.number or signal.SIGINT)
+            stopping.raise_here()
         return Ran(self.process.returncode, bytes(self.out), bytes(self.err), is_cut)
 
     def stop(self):

@@ -87,6 +87,13 @@ def raise_if_stopped():
         raise Stopped(STATE.number)
 
 
+def raise_here():
+    """Raises a signal that has come in this thread, whichever it is. In the main thread that is the once."""
+    if threading.current_thread() is threading.main_thread():
+        STATE.is_raised = True
+    raise Stopped(STATE.number or signal.SIGINT)
+
+
 @contextmanager
 def held() -> Iterator[None]:
     """A step that is done whole: a signal that comes in it is raised at its end. Signals are raised in the main thread alone."""
