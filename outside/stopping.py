@@ -11,6 +11,7 @@ from collections.abc import Callable, Iterator
 from contextlib import contextmanager
 from dataclasses import dataclass, field
 from types import FrameType
+from typing import NoReturn
 
 SIGNALS = (signal.SIGINT, signal.SIGTERM, signal.SIGHUP)
 
@@ -87,7 +88,7 @@ def raise_if_stopped():
         raise Stopped(STATE.number)
 
 
-def raise_here():
+def raise_here() -> NoReturn:
     """Raises a signal that has come in this thread, whichever it is. In the main thread that is the once."""
     if threading.current_thread() is threading.main_thread():
         STATE.is_raised = True
