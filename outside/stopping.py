@@ -53,8 +53,11 @@ def heed():
 
 
 def heed_no_more():
-    """Has signals change nothing from here on: the status is known."""
+    """Has signals end the script at once from here on: what was to be done is done."""
     STATE.is_raised = True
+    for number in SIGNALS:
+        if signal.getsignal(number) == came:
+            signal.signal(number, signal.SIG_DFL)
 
 
 def watch(ours: int):
