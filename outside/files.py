@@ -17,8 +17,8 @@ KINDS = ((stat.S_ISDIR, "it is a folder"), (stat.S_ISFIFO, "it is a FIFO"), (sta
 
 
 def why_of(why: OSError | ValueError) -> str:
-    """Why something of the system fails: a path with a zero byte is a ValueError."""
-    return (isinstance(why, OSError) and why.strerror) or str(why)
+    """Why something of the system fails. A path with a zero byte, and one that no bytes are of, is a ValueError."""
+    return (why.strerror or str(why)) if isinstance(why, OSError) else "it is no path"
 
 
 @contextmanager

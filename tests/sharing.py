@@ -70,7 +70,7 @@ def fault_of(call: Callable[[], object]) -> str:
 
 READ = [("gone", "No such file or directory, expected a file"), (".", "it is a folder, expected a file"), ("fifo", "it is a FIFO, expected a file"),
         ("/dev/zero", "it is a device, expected a file"), ("large", "it has more than 64 bytes, expected a file of at most that"),
-        ("/proc/self/maps", "it has more than 64 bytes, expected a file of at most that"), ("a\0b", "embedded null byte, expected a file")]
+        ("/proc/self/maps", "it has more than 64 bytes, expected a file of at most that"), ("a\0b", "it is no path, expected a file"), ("\ud800", "it is no path, expected a file")]
 DATA = [
     (files.toml_of, b"a = 1", "no fault"), (files.toml_of, b"a = \xff", "x: it is no UTF-8 at byte 4, expected TOML 1.0"),
     (files.toml_of, b"a = " + b"[" * 10_000, "x: it is no TOML that is read here (values too deep in one another), expected TOML 1.0"),
