@@ -83,11 +83,12 @@ def tree(ram, bootargs="", initrd=None, count=1, length: int | None = MIB, metho
     chosen = {"bootargs": bootargs.encode() + b"\0"} if bootargs else {}
     if initrd:
         chosen |= {"linux,initrd-start": struct.pack(cells, initrd[0]), "linux,initrd-end": struct.pack(cells, initrd[1])}
-    cpus = {f"cpu@{n:x}": {"reg": struct.pack(">I", n % 16 + n // 16 * 256)} for n in range(count)}
+    cpus = {f"cpu@{n:x}": {"compatible": b"arm,cortex-a57\0", "reg": struct.pack(">I", n % 16 + n // 16 * 256)} for n in range(count)}
     memory = b"".join(struct.pack(">QQ", base, end - base) for base, end in ram)
     root = {"#address-cells": struct.pack(">I", 2), "#size-cells": struct.pack(">I", 2), "chosen": chosen,
             f"memory@{ram[0][0]:x}": {"reg": memory}, "cpus": {"#address-cells": struct.pack(">I", 1)} | cpus,
-            "psci": {"method": method}, "pmu": {}, "pcie@10000000": {
+            "psci": {"method": method}, "pmu": {}, "intc@8000000": {"compatible": b"arm,gic-v3\0", "interrupt-controller": b""},
+            "pcie@10000000": {
                 "#address-cells": struct.pack(">I", 3), "#size-cells": struct.pack(">I", 2),
                 "ranges": struct.pack(">IQQQ", 0x3000000, 1 << 39, 1 << 39, 1 << 39)}} | more
     return Writer().whole({key: value for key, value in root.items() if value is not None}, length)
@@ -144,11 +145,11 @@ while [ $# -gt 0 ]; do
     -smp) processors=$2 ;;
     -append) args=$2 ;;
     -kernel) [ -f "$2" ] && kernel=$(basename "$2") ;;
-    -fail) echo "first" >&2; echo "a stand-in: no such word" >&2; exit 1 ;;
-    -differ) printf x >>"$here/count"; here=$here/$(wc -c <"$here/count" | tr -d ' ') ;;
     esac
     shift
 done
+[ -f "$here/fail" ] && { echo "first" >&2; echo "a stand-in: no such word" >&2; exit 1; }
+[ -d "$here/1" ] && { printf x >>"$here/count"; here=$here/$(wc -c <"$here/count" | tr -d ' '); }
 tree=$here/trees/$memory-$processors-$args
 [ -f "$tree-$kernel" ] && tree=$tree-$kernel
 cp "$tree" "$path"
@@ -227,49 +228,48 @@ def replaced(words: list[str], name: str, value: str) -> list[str]:
 
 WRONG = [
     ("no words", [], "usage: rim-manifest"),
-    ("another hypervisor", ["xen"], "'xen', expected qemu, kvmtool, cloud-hypervisor"),
-    ("a word that is not known", [*WITH_TREE, "-nodefaults"], "'-nodefaults': no word of this hypervisor's"),
+    ("another hypervisor", ["xen"], "\"xen\", expected qemu, kvmtool, cloud-hypervisor"),
+    ("a word that is not known", [*WITH_TREE, "-nodefaults"], "\"-nodefaults\": a word of QEMU's that rim-manifest makes no launch of, expected it after `--`"),
     ("no value", [*WITH_TREE, "-initrd"], "-initrd: nothing is given, expected FILE"),
     ("twice", [*WITH_TREE, "--out", "b"], "--out: it is given twice"),
-    ("a flag with a value", [*WITH_TREE, "--force=yes"], "--force: 'yes' is given, expected no value"),
+    ("a flag with a value", [*WITH_TREE, "--force=yes"], '--force: "yes" is given, expected no value'),
     ("no machine", without(WITH_TREE, "-M"), "-machine: it is not given"),
-    ("another machine", replaced(WITH_TREE, "-M", "raspi3b"), "-machine: 'raspi3b', expected virt"),
-    ("dumpdtb", replaced(WITH_TREE, "-M", "virt,dumpdtb=x"), "expected no dumpdtb"),
-    ("seeds", replaced(WITH_TREE, "-M", "virt,dtb-randomness=on"), "dtb-randomness=on: the devicetree differs at each start"),
+    ("another machine", replaced(WITH_TREE, "-M", "raspi3b"), '-machine: "raspi3b", expected virt'),
+    ("dumpdtb", replaced(WITH_TREE, "-M", "virt,dumpdtb=x"), '-machine: "dumpdtb=x": rim-manifest adds it itself, expected --qemu PROGRAM'),
+    ("seeds", replaced(WITH_TREE, "-M", "virt,dtb-randomness=on"), '"dtb-randomness=on": the devicetree differs at each start, expected dtb-randomness=off'),
     ("no processor model", without(WITH_TREE, "-cpu"), "-cpu: it is not given, expected a 64-bit"),
-    ("a 32-bit processor", replaced(WITH_TREE, "-cpu", "cortex-a15"), "'cortex-a15' is a 32-bit processor"),
+    ("a 32-bit processor", replaced(WITH_TREE, "-cpu", "cortex-a15"), '"cortex-a15" is a 32-bit processor'),
     ("no kernel", without(WITH_TREE, "-kernel"), "-kernel, --kernel: it is not given"),
-    ("no processors", [*WITH_TREE, "-smp", "0"], "-smp: '0', expected a whole number from 1 to 512"),
-    ("too many processors", [*WITH_TREE, "-smp", "1,513"], "-smp: '513'"),
-    ("processors without a number", [*WITH_TREE, "-smp", "maxcpus=4"], "'maxcpus=4' has no value, expected one alone or as cpus="),
-    ("no size", replaced(WITH_TREE, "-m", "much"), "-m: 'much', expected a size"),
-    ("a size of nothing", replaced(WITH_TREE, "-m", "0"), "-m: '0', expected more than nothing"),
-    ("another word of a size", replaced(WITH_TREE, "-m", "1G,share=on"), "-m: 'share=on': what it changes is not known"),
-    ("another algorithm", [*WITH_TREE, "--algo", "sha256,sha384"], "--algo: 'sha384', expected sha256 or sha512"),
-    ("a control character", [*WITH_TREE, "-append", "a\tb"], "'a\\tb' has a control character"),
+    ("no processors", [*WITH_TREE, "-smp", "0"], '-smp: "0", expected a whole number from 1 to 512'),
+    ("too many processors", [*WITH_TREE, "-smp", "1,513"], '-smp: "513"'),
+    ("processors without a number", [*WITH_TREE, "-smp", "maxcpus=4"], '"maxcpus=4" has no value, expected one alone or as cpus='),
+    ("no size", replaced(WITH_TREE, "-m", "much"), '-m: "much", expected a size'),
+    ("a size of nothing", replaced(WITH_TREE, "-m", "0"), '-m: "0", expected more than nothing'),
+    ("another word of a size", replaced(WITH_TREE, "-m", "1G,share=on"), '-m: "share=on": what it changes is not known'),
+    ("another algorithm", [*WITH_TREE, "--algo", "sha256,sha384"], '--algo: "sha384", expected sha256 or sha512'),
+    ("a control character", [*WITH_TREE, "-append", "a\tb"], '"a\\x09b" has a control character'),
     ("no devicetree", QEMU, "--qemu and --dtb: neither is given"),
     ("two sources of devicetrees", [*WITH_TREE, "--qemu", "qemu"], "--qemu and --dtb: both are given"),
-    ("words for no program", [*WITH_TREE, "--", "-nodefaults"], "-nodefaults: after `--` are words for the hypervisor's program"),
-    ("firmware", [*QEMU, "--qemu", "q", "--", "-bios", "x"], "-bios: after `--` it would change what the table places"),
-    ("an edited devicetree", [*QEMU, "--qemu", "q", "--", "--dtb", "x"], "--dtb: after `--` it would change"),
-    ("flash", [*QEMU, "--qemu", "q", "--", "-drive", "if=pflash,file=x"], "-drive if=pflash,file=x: it loads what no table places"),
+    ("firmware", [*QEMU, "--qemu", "q", "--", "-bios", "x"], "-bios: QEMU then starts firmware and puts no kernel into RAM"),
+    ("an edited devicetree", [*QEMU, "--qemu", "q", "--", "--dtb", "x"], "--dtb: QEMU edits such a file and makes it longer, expected --dtb before `--`"),
+    ("flash", [*QEMU, "--qemu", "q", "--", "-drive", "if=pflash,file=x"], "-drive if=pflash,file=x: QEMU then starts firmware"),
     ("a loader", [*QEMU, "--qemu", "q", "--", "-device", "loader,file=x"], "-device loader,file=x: it loads"),
     ("an order without RAM", [*WITH_TREE, "--order", "kernel,dtb,stub,rec"],
-     "--order: 'kernel,dtb,stub,rec', expected address, or each of"),
+     '--order: "kernel,dtb,stub,rec", expected address, or each of'),
     ("an order with one twice", [*WITH_TREE, "--order", "ram,kernel,dtb,stub,rec,rec"], "--order: "),
-    ("another stub", [*WITH_TREE, "--stub", "some"], "--stub: 'some', expected measured or none"),
-    ("other pages of the kernel", [*WITH_TREE, "--kernel-pages", "all"], "--kernel-pages: 'all', expected file or image_size"),
-    ("other pages of the devicetree", [*WITH_TREE, "--dtb-pages", "all"], "--dtb-pages: 'all', expected whole or used"),
-    ("a width", [*WITH_TREE, "--s2sz", "31"], "--s2sz: '31', expected a whole number from 32 to 48"),
+    ("another stub", [*WITH_TREE, "--stub", "some"], '--stub: "some", expected measured or none'),
+    ("other pages of the kernel", [*WITH_TREE, "--kernel-pages", "all"], '--kernel-pages: "all", expected file or image_size'),
+    ("other pages of the devicetree", [*WITH_TREE, "--dtb-pages", "all"], '--dtb-pages: "all", expected whole or used'),
+    ("a width", [*WITH_TREE, "--s2sz", "31"], '--s2sz: "31", expected a whole number from 32 to 48'),
     ("no folder", without(WITH_TREE, "--out"), "--out: it is not given"),
     ("no host", without(WITH_TREE, "--host"), "--host: it is not given, expected the file"),
     ("kvmtool: no processors", without(KVMTOOL, "-c"), "--cpus: it is not given"),
     ("kvmtool: no memory", without(KVMTOOL, "-m"), "--mem: it is not given"),
-    ("kvmtool: parts of pages", replaced(KVMTOOL, "-m", "3K"), "--mem: '3K', expected whole pages"),
-    ("kvmtool: no address", replaced(KVMTOOL, "-m", "1G@2G"), "--mem: '1G@2G', expected SIZE@0xADDRESS"),
+    ("kvmtool: parts of pages", replaced(KVMTOOL, "-m", "3K"), '--mem: "3K", expected whole pages'),
+    ("kvmtool: no address", replaced(KVMTOOL, "-m", "1G@2G"), '--mem: "1G@2G", expected SIZE@0xADDRESS'),
     ("kvmtool: a word for the program", [*without(KVMTOOL, "--dtb"), "--lkvm", "l", "--", "--firmware", "x"], "--firmware: after `--`"),
-    ("cloud-hypervisor: a word of processors", [*CLOUD, "--cpus", "boot=2,max=4"], "--cpus: 'max=4': what it changes is not known"),
-    ("cloud-hypervisor: a word of memory", [*CLOUD, "--memory", "size=1G,hotplug_size=1G"], "'hotplug_size=1G': what it changes"),
+    ("cloud-hypervisor: a word of processors", [*CLOUD, "--cpus", "boot=2,max=4"], '--cpus: "max=4": what it changes is not known'),
+    ("cloud-hypervisor: a word of memory", [*CLOUD, "--memory", "size=1G,hotplug_size=1G"], '"hotplug_size=1G": what it changes'),
 ]
 
 
@@ -283,10 +283,10 @@ def changed_tree(**changes):
 
 FAULTS = [
     ("no file of the host", replaced(WITH_TREE, "--host", "none"), {}, "none: No such file or directory, expected the file of --host"),
-    ("a host that is no TOML", WITH_TREE, {"host.toml": b"num_bps 5"}, "host.toml: no TOML"),
+    ("a host that is no TOML", WITH_TREE, {"host.toml": b"num_bps 5"}, "host.toml: it is no TOML that is read here (Expected '=' after a key"),
     ("a host with another key", WITH_TREE, changed_host(num_bp="5"), "num_bp = 5, expected one of num_bps"),
     ("a host with a number that is large", WITH_TREE, changed_host(num_bps="256"), "num_bps = 256, expected a whole number from 0 to 255"),
-    ("a host with a word for a number", WITH_TREE, changed_host(num_bps="true"), "num_bps = True, expected a whole number"),
+    ("a host with a word for a number", WITH_TREE, changed_host(num_bps="true"), "num_bps = true, expected a whole number"),
     ("a host without breakpoints", WITH_TREE, changed_host(num_bps=None), "it has no num_bps, expected one since it is measured"),
     ("a host without watchpoints", WITH_TREE, changed_host(num_wps=None), "it has no num_wps"),
     ("a host without block_level", WITH_TREE, changed_host(block_level=None), "it has no block_level"),
@@ -296,11 +296,11 @@ FAULTS = [
     ("a host without counters", WITH_TREE, changed_host(pmu_num_ctrs=None), "it has no pmu_num_ctrs, expected one since pmu is true"),
     ("a host with counters of no PMU", WITH_TREE, changed_host(pmu="false"), "pmu_num_ctrs = 6 and pmu = false"),
     ("a host without rec_rule", [*WITH_TREE, "-smp", "2"], changed_host(rec_rule=None), "it has no rec_rule, expected one since there are"),
-    ("a host with another rec_rule", WITH_TREE, changed_host(rec_rule='"some"'), "rec_rule = 'some', expected runnable or all"),
-    ("a host with a short rpv", WITH_TREE, changed_host(rpv='"00"'), "rpv = '00', expected 128 hexadecimal digits"),
+    ("a host with another rec_rule", WITH_TREE, changed_host(rec_rule='"some"'), 'rec_rule = "some", expected runnable or all'),
+    ("a host with a short rpv", WITH_TREE, changed_host(rpv='"00"'), 'rpv = "00", expected 128 hexadecimal digits'),
     ("cloud-hypervisor: a host without a width", CLOUD, changed_host(s2sz_max=None),
      "it has no s2sz_max, expected one since cloud-hypervisor"),
-    ("no file of the kernel", replaced(WITH_TREE, "-kernel", "none"), {}, "none: No such file or directory, expected a file"),
+    ("no file of the kernel", replaced(WITH_TREE, "-kernel", "none"), {}, "none: No such file or directory, expected an arm64 Image"),
     ("a kernel that is ELF", WITH_TREE, {"Image": b"\x7fELF" + bytes(99)}, "Image: an ELF file, expected an arm64 Image"),
     ("a kernel that is xz", WITH_TREE, {"Image": b"\xfd7zXZ" + bytes(99)}, "Image: an xz file, expected an arm64 Image"),
     ("a kernel without magic", WITH_TREE, {"Image": bytes(99)}, "Image: no magic `ARM\\x64` at byte 56"),
@@ -314,30 +314,29 @@ FAULTS = [
     ("zboot of an old version", WITH_TREE, {"Image": zboot(image())} | changed_host(hypervisor_version='"7.2.22"'),
      "which QEMU 7.2.22 may load packed"),
     ("zboot by zstd", WITH_TREE, {"Image": zboot(image(), b"zstd22")} | changed_host(hypervisor_version='"10.0"'),
-     "an EFI zboot packed by 'zstd22'"),
+     'an EFI zboot packed by "zstd22"'),
     ("zboot without Linux's magic", WITH_TREE, {"Image": zboot(image(), magic=b"\0\0\0\0")}, "Image: no magic `ARM\\x64` at byte 56"),
     ("an empty initrd", [*WITH_TREE, "-initrd", "i"], {"i": b""}, "i: it is empty, expected an initrd"),
     ("an initrd of U-Boot", [*WITH_TREE, "-initrd", "i"], {"i": b"\x27\x05\x19\x56" + bytes(99)}, "i: an initrd with a U-Boot header"),
     ("no command lines", [*WITH_TREE, "--append-file", "a"], {"a": b"\n\n"}, "a: it has no command line"),
-    ("command lines that are not UTF-8", [*WITH_TREE, "--append-file", "a"], {"a": b"\xff\n"}, "a: it is not UTF-8"),
+    ("command lines that are not UTF-8", [*WITH_TREE, "--append-file", "a"], {"a": b"\xff\n"}, "a: it is no UTF-8 at byte 0, expected command lines, one a line"),
     ("a folder that exists", WITH_TREE, {"out/x": b""}, "out: it exists, expected a new folder or --force"),
     ("a folder of another", [*WITH_TREE, "--force"], {"out/x": b""}, "out: it is no folder that rim-manifest has written"),
     ("a folder in none", replaced(WITH_TREE, "--out", "a/b"), {}, "a/b: No such file or directory"),
     ("no file of the devicetree", replaced(WITH_TREE, "--dtb", "none"), {}, "none: No such file or directory, expected a devicetree"),
-    ("a short devicetree", WITH_TREE, {"tree": b"\xd0\x0d\xfe\xed"}, "tree: 4 bytes, expected a flattened devicetree"),
-    ("no devicetree", WITH_TREE, {"tree": bytes(99)}, "tree: begins with 0x00000000, expected 0xd00dfeed"),
-    ("a devicetree that is cut", WITH_TREE, {"tree": FILES["tree"][:-1]}, "tree: its header says 1048576 bytes"),
+    ("a short devicetree", WITH_TREE, {"tree": b"\xd0\x0d\xfe\xed"}, "tree: dtb-short, expected a flattened devicetree that rim fdt shows"),
+    ("no devicetree", WITH_TREE, {"tree": bytes(99)}, "tree: dtb-bad-magic"),
+    ("a devicetree that is cut", WITH_TREE, {"tree": FILES["tree"][:-1]}, "tree: dtb-bad-block"),
     ("a devicetree without an end", WITH_TREE, {"tree": FILES["tree"].replace(b"\0\0\0\2\0\0\0\2\0\0\0\x09",
-                                                                              b"\0\0\0\4\0\0\0\4\0\0\0\x09")}, "has no end"),
+                                                                              b"\0\0\0\4\0\0\0\4\0\0\0\x09")}, "tree: dtb-bad-token"),
     ("a devicetree of another version", WITH_TREE, {"tree": FILES["tree"][:20] + struct.pack(">II", 16, 16) + FILES["tree"][28:]},
-     "tree: version 16, compatible with 16, expected a devicetree of version 17"),
-    ("a devicetree that is deep", WITH_TREE, {"tree": Writer().whole(deep(65), MIB)}, "tree: a node is deeper than 64"),
+     "tree: dtb-bad-version"),
+    ("a devicetree that is deep", WITH_TREE, {"tree": Writer().whole(deep(65), MIB)}, "tree: dtb-too-deep"),
     ("another size of RAM", WITH_TREE, changed_tree(ram=[(LOW, LOW + 512 * MIB)]), "launch 256M-smp1-sha256, tree: RAM: the devicetree has "
      "0x40000000 to 0x60000000, expected 0x40000000 to 0x50000000"),
     ("another command line", [*WITH_TREE, "-append", "quiet"], changed_tree(bootargs="debug"),
-     "boot words: the devicetree has bootargs 'debug', "
-     "expected 'quiet'"),
-    ("a command line that is not said", WITH_TREE, changed_tree(bootargs="debug"), "has bootargs 'debug', expected ''"),
+     'boot words: the devicetree has bootargs "debug", expected "quiet"'),
+    ("a command line that is not said", WITH_TREE, changed_tree(bootargs="debug"), 'has bootargs "debug", expected ""'),
     ("no place of an initrd", [*WITH_TREE, "-initrd", "initrd"], {},
      "has the initrd at nothing to nothing, expected 0x48000000 to 0x48002329"),
     ("another place of an initrd", [*WITH_TREE, "-initrd", "initrd"], changed_tree(initrd=(0x4400_0000, 0x4400_2329)),
@@ -375,12 +374,11 @@ FAULTS = [
      "tree and b both fit and differ"),
     ("memory slots", replaced(WITH_TREE, "-m", "256M,slots=1,maxmem=1G"), {}, "no rule gives the width of an IPA for these words"),
     ("much RAM without highmem", replaced(replaced(WITH_TREE, "-m", "4G"), "-M", "virt,highmem=off"), {}, "no rule gives the width"),
-    ("no program", [*QEMU, "--qemu", "./none"], {}, "./none: No such file or directory, expected the hypervisor's program"),
+    ("no program", [*QEMU, "--qemu", "./none"], {}, "./none: No such file or directory, expected a program"),
     ("a program of another version", [*QEMU, "--qemu", "./stand-in"], changed_host(hypervisor_version='"7.2.22"'),
-     "it is of version '10.0.2', "
-     "expected 7.2.22"),
-    ("a program that fails", [*QEMU, "--qemu", "./stand-in", "--", "-fail"], {}, "no devicetree (status 1): a stand-in: no such word"),
-    ("dumps that differ", [*QEMU, "--qemu", "./stand-in", "--", "-differ"], {"1/trees/256M-1-none": FILES["tree"],
+     'it is of version "10.0.2", expected 7.2.22'),
+    ("a program that fails", [*QEMU, "--qemu", "./stand-in"], {"fail": b""}, "no devicetree (status 1): a stand-in: no such word"),
+    ("dumps that differ", [*QEMU, "--qemu", "./stand-in"], {"1/trees/256M-1-none": FILES["tree"],
      "2/trees/256M-1-none": FILES["tree"][:-1] + b"x"}, "two dumps of ./stand-in differ from byte 1048575 on"),
 ]
 
@@ -566,7 +564,7 @@ OPTIONS = [
     ("a width of the host", WITH_TREE, lambda folder: differs("s2sz", first(folder)["s2sz"], 39),
      changed_tree(**NO_PCIE) | changed_host(s2sz_max="39")),
     ("a plain guest", WITH_TREE, lambda folder: differs("warning", b"Warning: 1 of 1" in folder.read("out/manifest.toml"), True),
-     changed_tree(method=b"hvc\0"), "have the psci method 'hvc', expected 'smc': no realm has such a devicetree"),
+     changed_tree(method=b"hvc\0"), 'have the psci method "hvc", expected "smc": no realm has such a devicetree'),
     ("kernels and initrds", [*WITH_TREE, "--dtb", "with-initrd", "-kernel", "b", "-initrd", "initrd", "--no-initrd"],
      lambda folder: differs(
      "names", names_of(folder), [f"256M-smp1-{kernel}-{initrd}-sha256" for initrd in ("initrd", "no-initrd") for kernel in ("Image", "b")])
@@ -664,7 +662,7 @@ def forced(program: str):
         status, _, said = folder.run(*replaced(WITH_TREE, "-kernel", "out/kernel"), "--force")
         wrong = differs("status", (status, said), (0, "")) + differs("names", folder.names(), before)
         wrong += differs("files", sorted(os.listdir(os.path.join(folder.path, "out"))),
-                         ["dtb-1", "kernel", "manifest.toml", "measure", "record.json", "stub-1"])
+                         ["dtb-1", "kernel", "manifest.toml", "measure", "record.json", "report", "stub-1"])
         kept = folder.read("out/manifest.toml")
         status, _, _ = folder.run(*WITH_TREE, "--force", "-append", "other")
         wrong += differs("a fault", (status, folder.read("out/manifest.toml"), folder.names()), (3, kept, before))
@@ -678,7 +676,8 @@ def started(program: str):
         os.symlink(START, os.path.join(folder.path, "link"))
         os.makedirs(os.path.join(folder.path, "usr", "bin"))
         shutil.copy(START, os.path.join(folder.path, "usr", "bin", "rim-manifest"))
-        shutil.copytree(os.path.join(TOP, "vmm"), os.path.join(folder.path, "usr", "share", "rim", "vmm"))
+        for package in ("vmm", "outside"):
+            shutil.copytree(os.path.join(TOP, package), os.path.join(folder.path, "usr", "share", "rim", package))
         for start in ("./link", "usr/bin/rim-manifest"):
             shutil.rmtree(os.path.join(folder.path, "out"), ignore_errors=True)
             status, _, said = folder.run(*WITH_TREE, start=os.path.join(folder.path, start))
@@ -698,7 +697,10 @@ def texts(program: str):
             status, out, said = folder.run(*words)
             wrong += differs(" ".join(words), (status, text in out, said), (0, True, ""))
         example = os.path.join(TOP, "vmm", "host-example.toml")
-        wrong += differs("the example of a host", folder.run(*replaced(WITH_TREE, "--host", example))[0], 0)
+        status, _, said = folder.run(*replaced(WITH_TREE, "--host", example))
+        wrong += differs("the example of a host", (status, said.removeprefix(f"rim-manifest: {example}: ")), (3, 'num_bps, num_wps, sve, pmu, '
+                         'block_level, s2sz_max: "?" as in the example, expected what holds for the machine, or no such line where it need '
+                         'not be given\n'))
         with open(example, encoding="utf-8") as file:
             keys = set(re.findall(r"^#?([a-z0-9_]+) = ", file.read(), re.M))
         wrong += differs("keys of the example", "one of " + ", ".join(sorted(keys)), "one of " + ", ".join(sorted(
@@ -733,6 +735,7 @@ def main():
     program = os.path.abspath(sys.argv[1] if len(sys.argv) > 1 else os.path.join(TOP, "crates", "rim", "out", "rim"))
     if not os.path.exists(program):
         raise SystemExit(f"{program} is not built")
+    os.environ["RIM"] = program
     tries = [(f"option: {name}", lambda each=(words, look, *rest): option(program, *each)) for name, words, look, *rest in OPTIONS]
     tries += [*places(program)] + [(each.__name__, lambda each=each: each(program)) for each in (matrix, measured, forced, started, texts,
                                                                                                  documents)]

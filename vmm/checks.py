@@ -2,8 +2,10 @@
 from collections.abc import Iterator
 from dataclasses import dataclass
 
+from outside.rim import Node, Tree
+from outside.texts import shown
+
 from . import devicetree
-from .devicetree import Tree
 from .dumps import Dump
 from .guest import MIB, PAGE
 from .launches import Launch
@@ -38,10 +40,10 @@ def ram(launch: Launch, tree: Tree) -> Iterator[Difference]:
 
 def boot_words(vmm, launch: Launch, tree: Tree) -> Iterator[Difference]:
     """2. `bootargs` is the command line, and the initrd's place is its address and its end, in 4 or 8 bytes."""
-    chosen = tree.root.child("chosen") or devicetree.Node("chosen")
+    chosen = tree.root.child("chosen") or Node("chosen")
     args, text = chosen.text("bootargs") or "", launch.guest.append.text
     if args != text and not (vmm.NAME == "kvmtool" and is_among(text, args)):
-        yield Difference("boot words", f"the devicetree has bootargs {args!r}", f"{text!r}")
+        yield Difference("boot words", f"the devicetree has bootargs {shown(args)}", shown(text))
     values = [chosen.properties.get(f"linux,initrd-{end}") for end in ("start", "end")]
     if launch.guest.initrd is None:
         if any(value is not None for value in values):
@@ -62,8 +64,8 @@ def initrd_shown(values: list[bytes | None]) -> str:
     return " to ".join("nothing" if value is None else hex(int.from_bytes(value, "big")) for value in values)
 
 
-def processors(launch: Launch, tree: Tree, has_pmu: bool) -> Iterator[Difference]:
-    """3. A node for each processor with its number, and a PMU where the host says so."""
+def processors(vmm, launch: Launch, tree: Tree, has_pmu: bool) -> Iterator[Difference]:
+    """3. A node for each processor with its number and its model, and a PMU where the host says so."""
     has = devicetree.processors(tree)
     wanted = [number % 16 + 256 * (number // 16) for number in range(launch.processors)]
     if len(has) != len(wanted):
@@ -71,9 +73,22 @@ def processors(launch: Launch, tree: Tree, has_pmu: bool) -> Iterator[Difference
     elif sorted(has) != wanted:
         wrong = next(each for each in has if each not in wanted) if set(has) - set(wanted) else has[0]
         yield Difference("processors", f"the devicetree has one with reg {wrong:#x}", "n mod 16 + 256 * (n / 16) of each number n")
+    if (model := vmm.processor(launch.guest)) and devicetree.processor_models(tree) not in ([], [model]):
+        seen = next(each for each in devicetree.processor_models(tree) if each != model)
+        yield Difference("processors", f"the devicetree has {'one of no model' if seen is None else shown(seen)}", f"{shown(model)} by -cpu")
     if (tree.root.child("pmu") is not None) != has_pmu:
         has_node, wants_node = ("no", "one") if has_pmu else ("a", "none")
         yield Difference("processors", f"the devicetree has {has_node} node /pmu", f"{wants_node} by pmu of the host")
+
+
+def controller(vmm, launch: Launch, tree: Tree) -> Iterator[Difference]:
+    """3, the end. No realm has an interrupt controller other than GIC 3, and it is the one that the words ask for."""
+    has = devicetree.controllers(tree)
+    if other := next((each for each in has if each != devicetree.GIC_3), None):
+        yield Difference("interrupt controller", f"the devicetree has {shown(other)}, and no realm has GIC 2",
+                         f"{shown(devicetree.GIC_3)}{vmm.GIC_3_WORDS}")
+    elif not has and vmm.has_gic_3(launch.guest):
+        yield Difference("interrupt controller", "the devicetree has none", f"{shown(devicetree.GIC_3)} by gic-version")
 
 
 def same_bytes(vmm, dump: Dump) -> Iterator[Difference]:
@@ -127,7 +142,8 @@ def protected(launch: Launch, tree: Tree) -> Iterator[Difference]:
 
 def of_tree(vmm, launch: Launch, dump: Dump, has_pmu: bool) -> list[Difference]:
     """What does not fit between the words and the devicetree: checks 1 to 3."""
-    return [*ram(launch, dump.tree), *boot_words(vmm, launch, dump.tree), *processors(launch, dump.tree, has_pmu)]
+    return [*ram(launch, dump.tree), *boot_words(vmm, launch, dump.tree), *processors(vmm, launch, dump.tree, has_pmu),
+            *controller(vmm, launch, dump.tree)]
 
 
 def all_of(vmm, launch: Launch, dump: Dump, has_pmu: bool) -> list[Difference]:
@@ -151,11 +167,13 @@ def faults(found: dict[str, list[Difference]], paths: dict[str, str]) -> list[st
 
 
 def warnings(trees: list[Tree]) -> list[str]:
-    """What no realm has in its devicetree."""
-    methods = [(tree.root.child("psci") or devicetree.Node("psci")).text("method") for tree in trees]
-    plain = sum(method != "smc" for method in methods)
-    if not plain:
-        return []
-    other = next(method for method in methods if method != "smc")
-    return [f"{plain} of {len(trees)} devicetrees have the psci method {other!r}, expected 'smc': no realm has such a devicetree, since "
-            "Linux looks for the monitor only where PSCI's calls are SMC. The measurements are those of a plain guest's devicetree"]
+    """What no realm has in its devicetree. Linux looks for the monitor only where PSCI's calls are SMC."""
+    methods = [(tree.root.child("psci") or Node("psci")).text("method") for tree in trees]
+    found = []
+    for method in dict.fromkeys(methods):
+        if method == "smc":
+            continue
+        count, has = methods.count(method), "no psci method" if method is None else f"the psci method {shown(method)}"
+        found.append(f'{count} of {len(trees)} devicetrees have {has}, expected "smc": no realm has such a devicetree, since Linux looks for '
+                     "the monitor only where PSCI's calls are SMC. The measurements are those of a plain guest's devicetree")
+    return found

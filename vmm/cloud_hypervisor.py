@@ -1,8 +1,10 @@
 """cloud-hypervisor for arm64: the table of its layout, and its words. Nothing of it was tried."""
-from .faults import WrongWords
+from outside.faults import WrongWords
+from outside.texts import shown
+
 from .guest import MIB, PAGE, Guest, Memory, Processors, up
 from .layout import MEMORY, Places, Row
-from .words import Option, Word, memories, processors, shown, size
+from .words import Option, Others, Word, memories, processors, size
 
 NAME = "cloud-hypervisor"
 TITLE = "cloud-hypervisor"
@@ -11,6 +13,7 @@ LOW_END, HIGH = 0xFC00_0000, 0x1_0000_0000
 ENDS_AFTER_DUMP = False
 DTB_LENGTH = None
 NO_SEEDS = ""
+GIC_3_WORDS = ""
 DTB_ALIGN = 2 * MIB
 DTB_IS_PAST_INITRD = False
 SOURCE = "cloud-hypervisor's sources"
@@ -76,9 +79,30 @@ def read_memory(said: dict) -> list[Memory]:
     return memories("--memory", said.get("memory", ["512M"]), read, lambda key: key in harmless)
 
 
-def refuse_rest(rest: list[str]):
-    if rest:
-        raise WrongWords(f"{rest[0]}: after `--`, and cloud-hypervisor makes no devicetree here; expected no such word")
+def read_rest(words: list[str]) -> Others:
+    if words:
+        raise WrongWords(f"{words[0]}: after `--`, and cloud-hypervisor makes no devicetree here; expected no such word")
+    return Others()
+
+
+def refuse_before(words: list[str]):
+    """No other word of it is known."""
+
+
+def check_realm(machine: str, others: Others):
+    """No word of it names the realm."""
+
+
+def features(cpu: str) -> dict[str, bool]:
+    return {}
+
+
+def processor(guest: Guest) -> str | None:
+    return None
+
+
+def has_gic_3(guest: Guest) -> bool:
+    return False
 
 
 def final_words(guest: Guest, more: str = "") -> list[str]:

@@ -1,54 +1,77 @@
 """Devicetrees: made by the hypervisor's program, or handed in. None is made up, and none is edited."""
 import concurrent.futures
+import hashlib
 import os
 import re
-import subprocess
+import shutil
+import stat
 import sys
 import time
+from collections.abc import Callable
 from dataclasses import dataclass
 
-from . import devicetree
-from .devicetree import Tree
-from .faults import Fault
+from outside import files, programs
+from outside.faults import Fault
+from outside.programs import Limits, Ran
+from outside.rim import Rim, Tree, tree_of
+from outside.texts import last_line, plain, visible
+
 from .launches import Launch
 
 # How long a program may take for one devicetree, and how many run at a time.
 SECONDS, AT_A_TIME = 60, 2
 # No devicetree is longer (Linux, booting.rst).
 MOST = 2 << 20
+# How long a file may be that a program writes: a devicetree that is too long is seen to be.
+MOST_WRITTEN = MOST + 4096
 
 
 @dataclass(frozen=True)
-class Dump:
-    """A devicetree as it is loaded, and what a fault calls it. The zeros at its end, of which QEMU's have a million, are left out."""
+class Written:
+    """The bytes of a devicetree. The zeros at its end, of which QEMU's have a million, are left out."""
 
-    path: str
     packed: bytes
     length: int
-    tree: Tree
 
     @property
     def data(self) -> bytes:
         return self.packed.ljust(self.length, b"\0")
 
 
-def dump(path: str, data: bytes) -> Dump:
-    if len(data) > MOST:
-        raise Fault(f"{path}: it has more than {MOST} bytes, expected a devicetree of at most that")
-    return Dump(path, data.rstrip(b"\0"), len(data), devicetree.read(path, data))
+@dataclass(frozen=True)
+class Dump(Written):
+    """A devicetree as it is loaded, what a fault calls it, and what it says."""
+
+    path: str
+    tree: Tree
+
+
+def written(data: bytes) -> Written:
+    return Written(data.rstrip(b"\0"), len(data))
+
+
+class Reader:
+    """Reads devicetrees by `rim`, each of some bytes once, in a folder that is made for that."""
+
+    def __init__(self, rim: Rim, folder: str):
+        self.rim, self.folder = rim, folder
+        self.trees: dict[bytes, Tree] = {}
+
+    def dump(self, name: str, written: Written) -> Dump:
+        digest = hashlib.sha256(written.data).digest()
+        if digest not in self.trees:
+            path = os.path.join(self.folder, "tree")
+            files.write(path, written.data)
+            self.trees[digest] = tree_of(self.rim, path, name)
+        return Dump(written.packed, written.length, visible(name), self.trees[digest])
 
 
 def version(program: str) -> tuple[str, str]:
     """What the program says of its version: its first line, and the number in it."""
-    try:
-        ran = subprocess.run([program, "--version"], stdin=subprocess.DEVNULL, capture_output=True, timeout=SECONDS, check=False)
-    except OSError as why:
-        raise Fault(f"{program}: {why.strerror}, expected the hypervisor's program") from None
-    except subprocess.TimeoutExpired:
-        raise Fault(f"{program}: --version takes more than {SECONDS} s, expected the hypervisor's program") from None
-    line = (ran.stdout or ran.stderr).decode(errors="replace").strip().split("\n")[0]
-    found = re.search(r"[0-9]+(\.[0-9]+)+", line)
-    return "".join(letter if letter.isprintable() else "?" for letter in line), found[0] if found else ""
+    ran = programs.run([program, "--version"], Limits(SECONDS))
+    line = (ran.out or ran.err).decode(errors="surrogateescape").strip().split("\n")[0]
+    found = re.search(r"[0-9]{1,6}(\.[0-9]{1,6})+", line)
+    return plain(line[:200]), found[0] if found else ""
 
 
 def key_of(launch: Launch) -> tuple:
@@ -59,69 +82,65 @@ def key_of(launch: Launch) -> tuple:
 
 
 class Program:
-    """The hypervisor's program, which writes a devicetree and ends."""
+    """The hypervisor's program, which writes a devicetree and ends. `kept`: what it is given of the words after `--`."""
 
-    def __init__(self, vmm, path: str, rest: list[str], folder: str):
-        self.vmm, self.path, self.rest, self.folder = vmm, path, rest, folder
+    def __init__(self, vmm, path: str, kept: list[str], folder: str):
+        self.vmm, self.path, self.kept, self.folder = vmm, path, kept, folder
 
     def words(self, launch: Launch, path: str) -> list[str]:
         guest = launch.guest
         initrd = os.path.join(self.folder, guest.initrd.file) if guest.initrd else ""
         kernel = os.path.join(self.folder, guest.kernel.file)
-        return [self.path, *self.vmm.dump_words(guest, path), *self.vmm.load_words(kernel, initrd, guest.append.text), *self.rest]
+        return [self.path, *self.vmm.dump_words(guest, path), *self.vmm.load_words(kernel, initrd, guest.append.text), *self.kept]
 
     def run(self, launch: Launch, path: str) -> bytes:
-        """The devicetree that one run writes. A program that goes on after that is stopped."""
-        with open(path + ".log", "wb+") as log:
-            try:
-                ran = subprocess.Popen(self.words(launch, path), stdin=subprocess.DEVNULL, stdout=log, stderr=log)
-            except OSError as why:
-                raise Fault(f"{self.path}: {why.strerror}, expected the hypervisor's program") from None
-            try:
-                self.wait(ran, path)
-            finally:
-                ran.kill()
-                ran.wait()
-            log.seek(0)
-            said = log.read().decode(errors="replace")
-        os.remove(path + ".log")
-        if not os.path.exists(path):
-            raise Fault(f"launch {launch.name}: {self.path} has written no devicetree (status {ran.returncode}): {last_line(said)}")
-        with open(path, "rb") as file:
-            data = file.read()
-        os.remove(path)
-        return data
+        """The devicetree that one run writes into a folder of its own. A program that goes on after that is stopped."""
+        folder = os.path.dirname(path)
+        with files.faults_of(folder, "a folder that can be made"):
+            os.mkdir(folder)
+        try:
+            until = None if self.vmm.ENDS_AFTER_DUMP else lambda: is_whole(path)
+            ran = programs.run(self.words(launch, path), Limits(SECONDS, file=MOST_WRITTEN), until=until)
+            if not os.path.lexists(path):
+                raise Fault(f"launch {launch.name}: {visible(self.path)} has written no devicetree (status {ran.status}): {said_by(ran)}")
+            return read(path, f"the devicetree of launch {launch.name}")
+        finally:
+            shutil.rmtree(folder, ignore_errors=True)
 
-    def wait(self, ran: subprocess.Popen, path: str):
-        """Waits for the end of a run, or until all of the devicetree is written by a program that goes on."""
-        until = time.monotonic() + SECONDS
-        while ran.poll() is None:
-            if time.monotonic() > until:
-                raise Fault(f"{self.path}: no devicetree after {SECONDS} s, expected one")
-            if not self.vmm.ENDS_AFTER_DUMP and is_whole(path):
-                return
-            time.sleep(0.002)
-
-    def both(self, launch: Launch, number: int) -> Dump:
+    def both(self, launch: Launch, number: int) -> Written:
         """The devicetree of a launch, which two runs agree on."""
-        path = os.path.join(self.folder, f".dump-{number}")
+        path = os.path.join(self.folder, f".dump-{number}", "dtb")
         first, second = self.run(launch, path), self.run(launch, path)
         if first != second:
             at = next((i for i, (a, b) in enumerate(zip(first, second)) if a != b), min(len(first), len(second)))
-            raise Fault(f"launch {launch.name}: same bytes twice: two dumps of {self.path} differ from byte {at} on, expected equal ones")
-        return dump(f"the devicetree of launch {launch.name}", first)
+            raise Fault(f"launch {launch.name}: same bytes twice: two dumps of {visible(self.path)} differ from byte {at} on, expected "
+                        "equal ones")
+        return written(first)
+
+
+def said_by(ran: Ran) -> str:
+    """The last line that a program has said, on standard error or else on standard output."""
+    return last_line((ran.err or ran.out).decode(errors="surrogateescape"))
+
+
+def read(path: str, name: str) -> bytes:
+    """The bytes of a devicetree, of which `name` is what a fault calls it."""
+    try:
+        return files.read(path, MOST, "a devicetree")
+    except Fault as why:
+        raise Fault(*(line.replace(visible(path), visible(name)) for line in why.lines)) from None
 
 
 def is_whole(path: str) -> bool:
     """Whether a file has all the bytes that its header as a devicetree says, and has stayed so for a moment."""
-    def length():
+    def length() -> int:
         try:
-            with open(path, "rb") as file:
-                head = file.read(8)
-            size = os.path.getsize(path)
-        except OSError:
+            head = os.lstat(path)
+            if not stat.S_ISREG(head.st_mode) or head.st_size < 8:
+                return 0
+            return head.st_size if head.st_size >= int.from_bytes(files.head(path, 8)[4:], "big") else 0
+        except (OSError, Fault):
             return 0
-        return size if len(head) == 8 and size >= int.from_bytes(head[4:], "big") else 0
 
     before = length()
     if not before:
@@ -130,18 +149,12 @@ def is_whole(path: str) -> bool:
     return length() == before
 
 
-def last_line(said: str) -> str:
-    """The last line that a program has said, without control characters."""
-    lines = [line.strip() for line in said.splitlines() if line.strip()] or ["it says nothing"]
-    return "".join(letter if letter.isprintable() else "?" for letter in lines[-1])
-
-
-def made(program: Program, launches: list[Launch]) -> dict[str, Dump]:
+def made(program: Program, reader: Reader, launches: list[Launch]) -> dict[str, Dump]:
     """The devicetree of each launch, by its name: made once for all that share one. Progress is shown on a terminal."""
     firsts: dict[tuple, Launch] = {}
     for launch in launches:
         firsts.setdefault(key_of(launch), launch)
-    found: dict[tuple, Dump] = {}
+    found: dict[tuple, Written] = {}
     shows = sys.stderr.isatty()
     pool = concurrent.futures.ThreadPoolExecutor(AT_A_TIME)
     try:
@@ -151,21 +164,17 @@ def made(program: Program, launches: list[Launch]) -> dict[str, Dump]:
             if shows:
                 print(f"\rrim-manifest: {len(found)} of {len(firsts)} devicetrees", end="", file=sys.stderr, flush=True)
     finally:
+        programs.kill_all()
         pool.shutdown(cancel_futures=True)
         if shows:
             print("\r\033[K", end="", file=sys.stderr, flush=True)
-    return {launch.name: found[key_of(launch)] for launch in launches}
+    dumps = {key: reader.dump(f"the devicetree of launch {launch.name}", found[key]) for key, launch in firsts.items()}
+    return {launch.name: dumps[key_of(launch)] for launch in launches}
 
 
-def handed_in(paths: list[str], launches: list[Launch], differences) -> dict[str, Dump]:
+def handed_in(paths: list[str], reader: Reader, launches: list[Launch], differences: Callable[[Launch, Dump], list]) -> dict[str, Dump]:
     """The one of some files that fits each launch. Where none does, the one with the fewest differences, for the checks to name."""
-    dumps = []
-    for path in paths:
-        try:
-            with open(path, "rb") as file:
-                dumps.append(dump(path, file.read(MOST + 1)))
-        except OSError as why:
-            raise Fault(f"{path}: {why.strerror}, expected a devicetree") from None
+    dumps = [reader.dump(path, written(files.read(path, MOST, "a devicetree"))) for path in paths]
     chosen = {}
     for launch in launches:
         counts = [len(differences(launch, each)) for each in dumps]

@@ -1,82 +1,213 @@
-"""The folder that is written: made beside its place, and put there by one rename once it is whole."""
+"""The folder that is written: made in a folder of another name, and put in its place once it is whole.
+
+A folder that is new gets its place by one rename. In one that rim-manifest has written before, `--force` replaces the files that its
+record.json names, as far as they are as they were made, and nothing else. A stop in the middle leaves no manifest, and a record by which
+the next run goes on: so no manifest is ever beside files of another run.
+"""
+import fcntl
 import hashlib
 import json
 import os
+import re
 import shutil
+import stat
 import tempfile
+from collections.abc import Iterator
+from contextlib import contextmanager
+from dataclasses import dataclass, field
 
-from .faults import Fault
-from .guest import Blob, Kernel
-from .image import GZIP, MOST, UBOOT, gunzip, header, is_zboot, unzboot
-from .words import shown
+from outside import files
+from outside.faults import Fault
+from outside.stopping import held
+from outside.texts import visible
+
+from .guest import Blob
 
 RECORD = "record.json"
-RECORD_VERSION = 1
+RECORD_VERSION = 2
+MOST_RECORD = 64 << 20
+# How many names a fault has.
+MOST_NAMES = 5
+# What measures: it is taken away first and put in its place last.
+MEASURES = re.compile(r"manifest(-[0-9]+)?\.toml|measure")
 
 
-def read_whole(path: str) -> bytes:
-    try:
-        with open(path, "rb") as file:
-            data = file.read(MOST + 1)
-    except (OSError, ValueError) as why:
-        raise Fault(f"{path}: {getattr(why, 'strerror', None) or why}, expected a file") from None
-    if len(data) > MOST:
-        raise Fault(f"{path}: it has more than {MOST} bytes, expected at most that")
-    return data
+@dataclass
+class Made:
+    """What a record says that rim-manifest has made: the digests that each file may have. A stop in the middle leaves two of some."""
+
+    digests: dict[str, set[str]] = field(default_factory=dict)
 
 
 class Folder:
-    """What is written, in a folder of another name until all of it is there."""
+    """What is written, in a folder of another name until all of it is made."""
 
     def __init__(self, out: str, is_forced: bool):
-        self.out = os.path.realpath(out)
-        self.is_forced = is_forced
-        self.may_be_written(out)
-        parent, name = os.path.split(self.out)
-        try:
-            self.path = tempfile.mkdtemp(prefix=f".{name}.", dir=parent)
-        except OSError as why:
-            raise Fault(f"{out}: {why.strerror}, expected a folder that can be made") from None
+        self.name, self.out, self.is_forced = out, os.path.realpath(out), is_forced
+        self.digests: dict[str, str] = {}
+        self.replaces = os.path.lexists(self.out)
+        self.may_be_written()
+        parent, prefix = (self.out, ".rim-manifest.") if self.replaces else (os.path.dirname(self.out), f".{os.path.basename(self.out)[:64]}.")
+        with held(), files.faults_of(out, "a folder that can be made"):
+            self.path = tempfile.mkdtemp(prefix=prefix, dir=parent)
 
-    def may_be_written(self, out: str):
+    def shown(self, name: str = "") -> str:
+        return visible(os.path.join(self.name, name) if name else self.name)
+
+    def may_be_written(self):
+        """Refuses a place that is not free, and a file that somebody has changed."""
         if not os.path.lexists(self.out):
             return
         if not self.is_forced:
-            raise Fault(f"{out}: it exists, expected a new folder or --force")
-        if not is_ours(self.out):
-            raise Fault(f"{out}: it is no folder that rim-manifest has written, expected such a one for --force")
+            raise Fault(f"{self.shown()}: it exists, expected a new folder or --force")
+        made = self.made()
+        changed = [name for name, digests in made.digests.items() if is_another(os.path.join(self.out, name), digests)]
+        if changed:
+            raise Fault(f"{self.shown()}: {names_shown(changed)}: not as rim-manifest has made it, expected it unchanged: --force would "
+                        "lose it, so move it away, or take another --out")
+        others = [name for name in [*self.digests, RECORD] if name not in made.digests and is_in_the_way(self.out, name)]
+        if others:
+            raise Fault(f"{self.shown()}: {names_shown(others)}: rim-manifest has not made it, expected nothing of a name that it needs: "
+                        "move it away, or take another --out")
+
+    def made(self) -> Made:
+        """What the record of the folder says."""
+        path, what = os.path.join(self.out, RECORD), "one that rim-manifest has written"
+        if not os.path.isdir(self.out) or not os.path.lexists(path):
+            raise Fault(f"{self.shown()}: it is no folder that rim-manifest has written, expected such a one for --force")
+        table = files.json_of(self.shown(RECORD), files.read(path, MOST_RECORD, what), what)
+        version = table.get("rim_manifest_record") if isinstance(table, dict) else None
+        if version == 1:
+            raise Fault(f"{self.shown(RECORD)}: version 1, which does not say what was made, expected version {RECORD_VERSION}: move the "
+                        "folder away, or take another --out")
+        made = Made()
+        for key in ("files", "before"):
+            digests = table.get(key, {} if key == "before" else None) if isinstance(table, dict) else None
+            if version != RECORD_VERSION or not isinstance(digests, dict):
+                raise Fault(f"{self.shown(RECORD)}: it does not say what was made, expected {what}")
+            for name, digest in digests.items():
+                if not is_name(name) or not isinstance(digest, str):
+                    raise Fault(f"{self.shown(RECORD)}: {visible(name)} is no file of the folder, expected {what}")
+                made.digests.setdefault(name, set()).add(digest)
+        return made
+
+    def write(self, name: str, data: bytes, is_program: bool = False) -> str:
+        """Writes a file, and gives its digest."""
+        path = os.path.join(self.path, name)
+        files.write(path, data, os.path.join(self.name, name))
+        if is_program:
+            os.chmod(path, 0o777 & ~mask())
+        digest = hashlib.sha256(data).hexdigest()
+        if name != RECORD:
+            self.digests[name] = digest
+        return digest
 
     def put(self, name: str, data: bytes, label: str, origin: str, path: str = "") -> Blob:
         """Writes a file; `origin` says where its bytes come from."""
-        with open(os.path.join(self.path, name), "wb") as file:
-            file.write(data)
-        return Blob(name, path, origin, len(data), label, hashlib.sha256(data).hexdigest())
+        return Blob(name, path, origin, len(data), label, self.write(name, data))
 
     def text(self, name: str, text: str):
-        with open(os.path.join(self.path, name), "w", encoding="utf-8", newline="\n") as file:
-            file.write(text)
+        self.write(name, text.encode())
 
     def script(self, name: str, source: str):
-        shutil.copyfile(source, os.path.join(self.path, name))
-        os.chmod(os.path.join(self.path, name), 0o777 & ~mask())
+        self.write(name, files.read(source, 1 << 20), is_program=True)
 
-    def record(self, about: dict):
-        self.text(RECORD, json.dumps({"rim_manifest_record": RECORD_VERSION} | about, indent=1) + "\n")
+    def record(self, about: dict[str, object], before: Made | None = None):
+        """The record: what was made, and of what. `before`: files that may still be as another run has made them."""
+        table: dict[str, object] = {"rim_manifest_record": RECORD_VERSION} | about | {"files": self.digests}
+        if before:
+            table["before"] = {name: min(digests - {self.digests.get(name)}) for name, digests in before.digests.items()
+                               if digests - {self.digests.get(name)}}
+        self.text(RECORD, json.dumps(table, indent=1) + "\n")
 
-    def finish(self):
-        """Puts the folder in its place, and takes away the one that it replaces."""
+    def finish(self, about: dict[str, object]):
+        """Puts what was made in its place."""
+        if self.replaces:
+            with held(), locked(self.out, self.name):
+                self.replace(about)
+            return
+        self.record(about)
         os.chmod(self.path, 0o777 & ~mask())
-        old = None
-        self.may_be_written(self.out)
-        if os.path.lexists(self.out):
-            old = tempfile.mkdtemp(prefix=f".{os.path.basename(self.out)}.old.", dir=os.path.dirname(self.out))
-            os.rename(self.out, old)
-        os.rename(self.path, self.out)
-        if old:
-            shutil.rmtree(old)
+        with held():
+            self.may_be_written()
+            with files.faults_of(self.name, "a folder that can be made"):
+                os.rename(self.path, self.out)
+
+    def replace(self, about: dict[str, object]):
+        """Replaces the files of another run, one by one: the manifests go first and come last."""
+        self.may_be_written()
+        before = self.made()
+        for name, digests in before.digests.items():
+            digests &= {digest_of(os.path.join(self.out, name))}
+        self.record({}, before)
+        last = sorted(self.digests, key=lambda name: bool(MEASURES.fullmatch(name)))
+        with files.faults_of(self.name, "a folder that can be written; a next run with --force goes on"):
+            self.move(RECORD)
+            for name in sorted(before.digests, key=lambda name: not MEASURES.fullmatch(name)):
+                if MEASURES.fullmatch(name) or name not in self.digests:
+                    remove(os.path.join(self.out, name))
+            self.record(about)
+            for name in [*last, RECORD]:
+                self.move(name)
+
+    def move(self, name: str):
+        os.rename(os.path.join(self.path, name), os.path.join(self.out, name))
 
     def drop(self):
-        shutil.rmtree(self.path, ignore_errors=True)
+        with held():
+            shutil.rmtree(self.path, ignore_errors=True)
+
+
+def names_shown(names: list[str]) -> str:
+    more = f" and {len(names) - MOST_NAMES} more" if len(names) > MOST_NAMES else ""
+    return ", ".join(map(visible, sorted(names)[:MOST_NAMES])) + more
+
+
+def is_name(name: str) -> bool:
+    """Whether a name is that of a file of a folder itself."""
+    return name not in ("", ".", "..", RECORD) and "/" not in name and "\0" not in name
+
+
+def digest_of(path: str) -> str:
+    """The digest of a file, or nothing where it is absent or no file."""
+    try:
+        if not stat.S_ISREG(os.lstat(path).st_mode):
+            return ""
+        with open(files.opened(path, "a file"), "rb") as file:
+            return hashlib.file_digest(file, "sha256").hexdigest()
+    except OSError:
+        return ""
+
+
+def is_another(path: str, digests: set[str]) -> bool:
+    """Whether something has this path that is not what was made. What was taken away is not missed."""
+    return os.path.lexists(path) and digest_of(path) not in digests
+
+
+def is_in_the_way(folder: str, name: str) -> bool:
+    path = os.path.join(folder, name)
+    return os.path.lexists(path) and (name != RECORD or os.path.islink(path))
+
+
+def remove(path: str):
+    if os.path.lexists(path):
+        os.remove(path)
+
+
+@contextmanager
+def locked(path: str, name: str) -> Iterator[None]:
+    """The steps of one run at a time in a folder."""
+    with files.faults_of(name, "a folder that no other run replaces now"):
+        folder = os.open(path, os.O_RDONLY | os.O_DIRECTORY | os.O_CLOEXEC)
+        try:
+            fcntl.flock(folder, fcntl.LOCK_EX | fcntl.LOCK_NB)
+        except OSError:
+            os.close(folder)
+            raise
+    try:
+        yield
+    finally:
+        os.close(folder)
 
 
 def mask() -> int:
@@ -84,49 +215,3 @@ def mask() -> int:
     bits = os.umask(0)
     os.umask(bits)
     return bits
-
-
-def is_ours(path: str) -> bool:
-    try:
-        with open(os.path.join(path, RECORD), encoding="utf-8") as file:
-            return json.load(file).get("rim_manifest_record") == RECORD_VERSION
-    except (OSError, ValueError, AttributeError):
-        return False
-
-
-def copied(path: str) -> str:
-    return f"copied from {shown(path)}"
-
-
-def kernel(folder: Folder, path: str, label: str, name: str, vmm, version: str) -> Kernel:
-    """The kernel as the hypervisor loads it: unpacked, where it unpacks it itself."""
-    data, how = read_whole(path), ""
-    if vmm.NAME == "qemu" and data.startswith(GZIP):
-        data, how = gunzip(path, data), "unpacked from gzip, as QEMU does"
-    elif is_zboot(data):
-        data, how = from_zboot(path, data, vmm, version), f"unpacked from EFI zboot, as QEMU {version} does"
-    image = header(path, data)
-    blob = folder.put(name, data, label, copied(path), path)
-    return Kernel(blob.file, blob.path, blob.origin, blob.length, blob.label, blob.digest, image, how)
-
-
-def from_zboot(path: str, data: bytes, vmm, version: str) -> bytes:
-    """QEMU unpacks an EFI zboot from 10.0 on; 7.2 loads it packed, at another address."""
-    if vmm.NAME != "qemu":
-        raise Fault(f"{path}: an EFI zboot file, expected an arm64 Image that is not packed")
-    if not version:
-        raise Fault(f"{path}: an EFI zboot file, which QEMU unpacks from 10.0 on; "
-                    "expected --qemu, or hypervisor_version in the file of --host")
-    if int(version.split(".")[0]) < 10:
-        raise Fault(f"{path}: an EFI zboot file, which QEMU {version} may load packed; "
-                    "expected QEMU 10.0 or later, or the unpacked Image")
-    return unzboot(path, data)
-
-
-def initrd(folder: Folder, path: str, label: str, name: str) -> Blob:
-    data = read_whole(path)
-    if not data:
-        raise Fault(f"{path}: it is empty, expected an initrd, or none")
-    if data.startswith(UBOOT):
-        raise Fault(f"{path}: an initrd with a U-Boot header, which is not loaded; expected the file without its 64 bytes")
-    return folder.put(name, data, label, copied(path), path)

@@ -1,7 +1,7 @@
 """What a launch is made of, as the words say it."""
 from dataclasses import dataclass
 
-from .image import Image
+from outside.rim import Image
 
 KIB, MIB, GIB, TIB = 1 << 10, 1 << 20, 1 << 30, 1 << 40
 PAGE = 4096

@@ -1,9 +1,10 @@
 """The file about a host: what no words say. vmm/host-example.toml explains each key."""
 import re
-import tomllib
-from dataclasses import dataclass
+from dataclasses import dataclass, field
 
-from .faults import Fault
+from outside import files
+from outside.faults import Fault
+from outside.texts import shown, visible
 
 # Each number with its least and its greatest value.
 NUMBERS = {"num_bps": (0, 255), "num_wps": (0, 255), "sve_vl": (0, 255), "pmu_num_ctrs": (0, 255), "block_level": (0, 3),
@@ -13,33 +14,42 @@ RULES = ("runnable", "all")
 TEXTS = ("rpv", "rec_rule", "hypervisor_version")
 # What is measured of each realm, and so has to be given.
 REQUIRED = ("num_bps", "num_wps", "sve", "pmu", "block_level")
+# What the example has in the place of a number that only the machine knows.
+UNSAID = "?"
+MOST = 64 << 10
 
 
 @dataclass(frozen=True)
 class Host:
     path: str
-    values: dict
+    values: dict[str, int | str]
+    notes: dict[str, str] = field(default_factory=dict)     # where a value comes from that the file does not have
 
-    def __getitem__(self, key: str):
+    def __getitem__(self, key: str) -> int | str | None:
         return self.values.get(key)
 
-    def require(self, key: str, why: str):
+    @property
+    def name(self) -> str:
+        return visible(self.path)
+
+    def require(self, key: str, why: str) -> int | str:
         if key not in self.values:
-            raise Fault(f"{self.path}: it has no {key}, expected one {why} (vmm/host-example.toml explains it)")
+            raise Fault(f"{self.name}: it has no {key}, expected one {why} (vmm/host-example.toml explains it)")
         return self.values[key]
 
 
 def read(path: str) -> Host:
-    try:
-        with open(path, "rb") as file:
-            values = tomllib.load(file)
-    except OSError as why:
-        raise Fault(f"{path}: {why.strerror}, expected the file of --host") from None
-    except (tomllib.TOMLDecodeError, UnicodeDecodeError) as why:
-        raise Fault(f"{path}: no TOML: {why}") from None
-    for key, value in values.items():
+    values: dict[str, int | str] = {}
+    table = files.toml_of(path, files.read(path, MOST, "the file of --host"), "the file of --host")
+    unsaid = [key for key, value in table.items() if value == UNSAID]
+    if unsaid and not set(unsaid) - {*NUMBERS, *FLAGS, *TEXTS}:
+        raise Fault(f'{visible(path)}: {", ".join(unsaid)}: "{UNSAID}" as in the example, expected what holds for the machine, '
+                    "or no such line where it need not be given")
+    for key, value in table.items():
         if expected := wrong(key, value):
-            raise Fault(f"{path}: {key} = {value!r}, expected {expected}")
+            raise Fault(f"{visible(path)}: {key_shown(key)} = {value_shown(value)}, expected {expected}")
+        if isinstance(value, int | str):
+            values[key] = value
     host = Host(path, values)
     for key in REQUIRED:
         host.require(key, "since it is measured")
@@ -47,16 +57,29 @@ def read(path: str) -> Host:
         if values[flag]:
             host.require(key, f"since {flag} is true and it is measured")
         elif values.get(key):
-            raise Fault(f"{path}: {key} = {values[key]} and {flag} = false, expected no {key} or {flag} = true")
+            raise Fault(f"{visible(path)}: {key} = {values[key]} and {flag} = false, expected no {key} or {flag} = true")
     return host
 
 
-def wrong(key: str, value) -> str | None:
+def key_shown(key: str) -> str:
+    return key if re.fullmatch(r"[a-z0-9_]{1,32}", key) else shown(key)
+
+
+def value_shown(value: object) -> str:
+    """A value of TOML in a line."""
+    if isinstance(value, bool):
+        return "true" if value else "false"
+    if isinstance(value, dict | list):
+        return "a table" if isinstance(value, dict) else "an array"
+    return shown(value) if isinstance(value, str) else str(value) if not isinstance(value, int) or abs(value) < 1 << 64 else "a large number"
+
+
+def wrong(key: str, value: object) -> str | None:
     """What is expected of a key, where its value is not that."""
     if key in NUMBERS:
         least, most = NUMBERS[key]
         is_number = isinstance(value, int) and not isinstance(value, bool) and least <= value <= most
-        if key == "pool_base" and is_number and value % 65536:
+        if key == "pool_base" and isinstance(value, int) and is_number and value % 65536:
             return "a multiple of 65,536"
         return None if is_number else f"a whole number from {least} to {most}"
     if key in FLAGS:
@@ -66,5 +89,6 @@ def wrong(key: str, value) -> str | None:
     if key == "rpv":
         return None if isinstance(value, str) and re.fullmatch(r"[0-9a-fA-F]{128}", value) else "128 hexadecimal digits"
     if key == "hypervisor_version":
-        return None if isinstance(value, str) and re.fullmatch(r"[0-9A-Za-z.+~_-]+", value) else "a version such as 10.0.2"
+        is_version = isinstance(value, str) and re.fullmatch(r"[0-9]{1,6}(\.[0-9]{1,6})*([.+~_-][0-9A-Za-z.+~_-]{0,64})?", value)
+        return None if is_version else "a version such as 10.0.2"
     return "one of " + ", ".join([*NUMBERS, *FLAGS, *TEXTS])

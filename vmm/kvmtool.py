@@ -1,10 +1,12 @@
 """kvmtool (`lkvm run`) for arm64: the table of its layout, and its words. All of it is remembered, and nothing was tried."""
 import re
 
-from .faults import WrongWords
+from outside.faults import WrongWords
+from outside.texts import shown
+
 from .guest import KIB, MIB, PAGE, Guest, Memory, Processors, up
 from .layout import MEMORY, Places, Row
-from .words import Option, Word, memories, processors, required, shown, size
+from .words import ALGORITHMS, Option, Others, Realm, Word, memories, processors, required, size
 
 NAME = "kvmtool"
 TITLE = "kvmtool (lkvm run)"
@@ -12,6 +14,7 @@ BASE = 0x8000_0000
 ENDS_AFTER_DUMP = False
 DTB_LENGTH = None
 NO_SEEDS = ""
+GIC_3_WORDS = ""
 DTB_ALIGN = 2 * MIB
 DTB_IS_PAST_INITRD = True
 SOURCE = "kvmtool's sources"
@@ -24,7 +27,7 @@ OPTIONS = [
     Option(("-i", "--initrd"), "initrd", "FILE", "an initrd", True),
     Option(("-p", "--params", "--append"), "append", "TEXT", "a command line of the kernel", True),
     Option(("--lkvm",), "program", "PROGRAM", "lkvm itself, which makes the devicetrees: each by the final words with --dump-dtb, twice. "
-           "What comes after `--` is given to it too"),
+           "What comes after `--` is given to it too; what may open a file is refused"),
 ]
 
 
@@ -87,11 +90,59 @@ def read_memory(said: dict) -> list[Memory]:
     return memories("--mem", required(said, "memory", "--mem", "sizes of RAM: lkvm's default depends on the host"), read, lambda key: False)
 
 
-def refuse_rest(rest: list[str]):
+# Words that may change the devicetree and open no file of a guest's: whether they take a value.
+KEPT = {"--realm": False, "--measurement-algo": True, "--realm-pv": True, "--restricted_mem": False, "--sve-vl": True, "--irqchip": True,
+        "--pmu": False, "--force-pci": False, "--virtio-legacy": False, "--virtio-transport": True, "--no-pvtime": False,
+        "--nodefaults": False, "--debug": False, "--loglevel": True}
+
+
+def read_rest(words: list[str]) -> Others:
+    """The words after `--`. lkvm starts the guest for a dump, so no word is taken that may open a disk or a socket of another one."""
     taken = {name for option in OPTIONS for name in option.names} | {"--dump-dtb", "-f", "--firmware", "--flash"}
-    for word in rest:
-        if word.partition("=")[0] in taken:
+    others, left = Others(), list(words)
+    while left:
+        word = left.pop(0)
+        name, equals, value = word.partition("=")
+        if name in taken:
             raise WrongWords(f"{word}: after `--` it would change what the table places, expected it before `--` or not at all")
+        if name not in KEPT:
+            raise WrongWords(f"{shown(word)}: what it opens, and what it changes in the devicetree, is not known, expected no such word, or "
+                             "--dtb with the devicetree")
+        if KEPT[name] and not equals and not left:
+            raise WrongWords(f"{word}: nothing is given, expected a value")
+        given = [word, left.pop(0)] if KEPT[name] and not equals else [word]
+        others.kept += given
+        if name in ("--realm", "--measurement-algo"):
+            others.realm = realm_of(others.realm, name, value or given[-1])
+    return others
+
+
+def realm_of(before: Realm | None, name: str, value: str) -> Realm:
+    algorithm = value if name == "--measurement-algo" else before and before.algorithm
+    if algorithm is not None and algorithm not in ALGORITHMS:
+        raise WrongWords(f"{name}: {shown(value)}, expected {' or '.join(ALGORITHMS)}")
+    return Realm(name, algorithm=algorithm)
+
+
+def refuse_before(words: list[str]):
+    if words[0].partition("=")[0] in KEPT:
+        raise WrongWords(f"{shown(words[0])}: a word of lkvm's that rim-manifest makes no launch of, expected it after `--`")
+
+
+def check_realm(machine: str, others: Others):
+    """No word of the machine names the realm."""
+
+
+def features(cpu: str) -> dict[str, bool]:
+    return {}
+
+
+def processor(guest: Guest) -> str | None:
+    return None
+
+
+def has_gic_3(guest: Guest) -> bool:
+    return False
 
 
 def dump_words(guest: Guest, path: str) -> list[str]:

@@ -3,7 +3,8 @@ import re
 from dataclasses import dataclass
 
 from . import layout
-from .faults import Fault
+from outside.faults import Fault
+from outside.texts import visible
 from .guest import PAGE, Blob, Guest, Kernel, up
 from .layout import Places
 

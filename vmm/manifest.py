@@ -135,7 +135,7 @@ def host_lines(host: Host) -> str:
     """The keys of a launch that the host has, as it has them."""
     given = {key: host[key] for key in OF_HOST if host[key] is not None}
     lines = {key: text(value) if isinstance(value, str) else str(value).lower() for key, value in given.items()}
-    return "".join(noted(f"{key} = {value}", "host") for key, value in lines.items())
+    return "".join(noted(f"{key} = {value}", host.notes.get(key, "host")) for key, value in lines.items())
 
 
 def said(launch: Launch, vmm) -> str:

@@ -1,10 +1,13 @@
 """QEMU's machine `virt`, started with -kernel: the table of its layout, and its words."""
 import re
 
-from .faults import WrongWords
+from outside.faults import WrongWords
+from outside.texts import shown
+
 from .guest import GIB, MIB, PAGE, Guest, Memory, Processors, up
 from .layout import MEMORY, SEEN, SOURCE, Places, Row
-from .words import Option, labelled, memories, processors, required, shown, size
+from .qemu_words import OFF, parts, read_others, refuse_before, refuse_machine_words
+from .words import Option, Others, labelled, memories, processors, required, size
 
 NAME = "qemu"
 TITLE = "QEMU, machine virt"
@@ -12,6 +15,7 @@ BASE = 0x4000_0000
 ENDS_AFTER_DUMP = True
 DTB_LENGTH = MIB
 NO_SEEDS = " (dtb-randomness=off)"
+GIC_3_WORDS = " (gic-version=3)"
 DTB_ALIGN = 2 * MIB
 DTB_IS_PAST_INITRD = True
 BOOT = "hw/arm/boot.c of QEMU 7.2, 10.0 and 10.2"
@@ -20,7 +24,8 @@ VIRT = "hw/arm/virt.c of QEMU 7.2, 10.0 and 10.2"
 STUB = (0x580000C0, 0xAA1F03E1, 0xAA1F03E2, 0xAA1F03E3, 0x58000084, 0xD61F0080)
 
 OPTIONS = [
-    Option(("-machine", "--machine", "-M"), "machine", "WORDS", "the machine: virt or one of its versions, and its words. Required", True),
+    Option(("-machine", "--machine", "-M"), "machine", "WORDS", "the machine: virt or one of its versions, and its words. Required. Words "
+           "without a machine go to the one machine that is given", True),
     Option(("-cpu", "--cpu"), "cpu", "WORDS", "the processor model and its words. Required", True),
     Option(("-smp", "--smp"), "smp", "LIST", "numbers of processors; 1 where it is not given. Words such as maxcpus= go beside them", True),
     Option(("-m", "--memory"), "memory", "LIST", "sizes of RAM; 128M where it is not given, and a bare number is MiB", True),
@@ -28,10 +33,14 @@ OPTIONS = [
     Option(("-initrd", "--initrd"), "initrd", "FILE", "an initrd", True),
     Option(("-append", "--append"), "append", "TEXT", "a command line of the kernel", True),
     Option(("--qemu",), "program", "PROGRAM", "QEMU itself, which makes the devicetrees: each by the final words with "
-           "dumpdtb= and dtb-randomness=off, twice. What comes after `--` is given to it too"),
+           "dumpdtb= and dtb-randomness=off, twice. Of what comes after `--` it is given what changes a devicetree, and nothing that opens "
+           "a file or a socket"),
     Option(("--stub",), "stub", "WHICH", "whether QEMU's boot stub is part of the realm: `measured` (default), where the first processor "
            "begins at it; or `none`, where it begins at the kernel"),
 ]
+
+
+QUIET = ("-nodefaults", "-display", "none", "-S")
 
 
 def base(guest: Guest) -> int:
@@ -58,11 +67,11 @@ def stub_bytes(guest: Guest, places: Places) -> bytes:
 
 def machine_words(text: str) -> dict[str, str]:
     """The words of a machine after its type, by their keys."""
-    return dict(part.partition("=")[::2] for part in text.split(",")[1:])
+    return dict(part.partition("=")[::2] for part in parts(text)[1:])
 
 
 def is_off(words: dict[str, str], key: str) -> bool:
-    return words.get(key) in ("off", "no", "false", "n")
+    return words.get(key) in OFF
 
 
 def window_bits(size_: int) -> int:
@@ -119,25 +128,58 @@ TABLE = [
 ]
 
 
+def is_machine(text: str) -> bool:
+    """Whether some words begin with a machine, and not with a word of one."""
+    front = parts(text)[0]
+    return "=" not in front or front.startswith("type=")
+
+
+def machines(texts: list[str]) -> list[str]:
+    """The machines. Words without one go to the one machine that is given, as QEMU reads them."""
+    whole = [text.removeprefix("type=") for text in texts if is_machine(text)]
+    more = [text for text in texts if not is_machine(text)]
+    if more and len(whole) != 1:
+        has = "no machine" if not whole else f"{len(whole)} machines"
+        raise WrongWords(f"-machine: {shown(more[0])}: words of one machine, and {has} is given, expected virt and its words together")
+    return [",".join([whole[0], *more])] if more else whole
+
+
 def read_machine(said: dict, most: int):
-    texts = required(said, "machine", "-machine", "virt and its words")
+    texts = machines(required(said, "machine", "-machine", "virt and its words"))
     for text in texts:
-        kind = text.split(",")[0].removeprefix("type=")
+        kind, *words = parts(text)
         if not re.fullmatch(r"virt(-[0-9.]+)?", kind):
             raise WrongWords(f"-machine: {shown(kind)}, expected virt or one of its versions first")
-        words = machine_words(text)
-        if "dumpdtb" in words or "kernel" in words or "initrd" in words or "append" in words:
-            raise WrongWords(f"-machine: {shown(text)}, expected no dumpdtb, kernel, initrd or append among its words")
-        for key in ("dtb-randomness", "dtb-kaslr-seed"):
-            if key in words and not is_off(words, key):
-                raise WrongWords(f"-machine: {key}={words[key]}: the devicetree differs at each start, expected {key}=off")
-    return labelled([text.removeprefix("type=") for text in texts], "machine", most)
+        refuse_machine_words(words)
+    return labelled(texts, "machine", most)
+
+
+# What each model is in a devicetree, as far as it is the same in each QEMU. `max` and `host` are not.
+MODELS = {model: f"arm,{model}" for model in ("cortex-a35", "cortex-a53", "cortex-a55", "cortex-a57", "cortex-a72", "cortex-a76",
+                                              "cortex-a710", "neoverse-n1", "neoverse-n2", "neoverse-v1", "a64fx")}
+
+
+def processor(guest: Guest) -> str | None:
+    """What the devicetree has to say of the processors; None where it is not known."""
+    return MODELS.get(guest.cpu.text.split(",")[0])
+
+
+def has_gic_3(guest: Guest) -> bool:
+    """Whether the words ask for GIC 3, or for 4, which is the same in a devicetree."""
+    return machine_words(guest.machine.text).get("gic-version") in ("3", "4", "max")
+
+
+def features(cpu: str) -> dict[str, bool]:
+    """What the words of -cpu switch on or off that the host's file says too."""
+    given = dict(part.partition("=")[::2] for part in parts(cpu)[1:])
+    return {key: given[key] not in OFF for key in ("sve", "pmu") if given.get(key) in (*OFF, "on", "yes", "true", "y")}
 
 
 def read_cpu(said: dict, most: int):
     texts = required(said, "cpu", "-cpu", "a 64-bit processor model: without it QEMU's is a 32-bit one")
     for text in texts:
-        if text.split(",")[0] in ("cortex-a7", "cortex-a15") or "aarch64=off" in text.split(","):
+        model, *words = parts(text)
+        if model in ("cortex-a7", "cortex-a15") or any(word in [f"aarch64={off}" for off in OFF] for word in words):
             raise WrongWords(f"-cpu: {shown(text)} is a 32-bit processor, expected a 64-bit one")
     return labelled(texts, "cpu", most)
 
@@ -153,23 +195,23 @@ def read_memory(said: dict) -> list[Memory]:
     return memories("-m", said.get("memory", ["128M"]), read, lambda key: key in ("slots", "maxmem"))
 
 
-# Words that move what the table places, or that rim-manifest takes itself. -dtb is one: QEMU edits such a file and makes it longer.
-MOVING = ("bios", "pflash", "dtb", "shim", "kernel", "initrd", "append", "machine", "M", "cpu", "smp", "m")
+def read_rest(words: list[str]) -> Others:
+    return read_others(words)
 
 
-def refuse_rest(rest: list[str]):
-    """Refuses words for the program that would move what the table places."""
-    for word, value in zip(rest, [*rest[1:], ""]):
-        if re.sub(r"^--?", "", word) in MOVING and word.startswith("-"):
-            raise WrongWords(f"{word}: after `--` it would change what the table places, expected it before `--` or not at all")
-        if word.lstrip("-") == "device" and value.split(",")[0] == "loader" or word.lstrip("-") == "drive" and "if=pflash" in value:
-            raise WrongWords(f"{word} {value}: it loads what no table places, expected no such word")
+def check_realm(machine: str, others: Others):
+    """The realm's object has to be the one that the machine names."""
+    named = machine_words(machine).get("confidential-guest-support")
+    if named != (others.realm.name if others.realm is not None else None):
+        raise WrongWords(f"-machine: {shown(machine)} and the words after `--`: expected confidential-guest-support=ID where they have "
+                         "-object rme-guest,id=ID, and only there")
 
 
 def dump_words(guest: Guest, path: str) -> list[str]:
-    """The words by which QEMU writes a devicetree to a path and ends; without kernel, initrd and command line."""
+    """The words by which QEMU writes a devicetree to a path and ends; without kernel, initrd and command line. The quiet ones change
+    nothing in the devicetree, and spare what QEMU adds by itself: a network card whose file may be missing, a window, its monitor."""
     doubled = path.replace(",", ",,")
-    return final_words(guest, f",dumpdtb={doubled}")
+    return [*final_words(guest, f",dumpdtb={doubled}"), *QUIET]
 
 
 def final_words(guest: Guest, more: str = "") -> list[str]:

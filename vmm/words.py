@@ -2,10 +2,12 @@
 import re
 import textwrap
 from collections.abc import Callable
-from dataclasses import dataclass
+from dataclasses import dataclass, field
 from fractions import Fraction
 
-from .faults import WrongWords
+from outside.faults import WrongWords
+from outside.texts import shown
+
 from .guest import GIB, KIB, MIB, Memory, Processors, Word
 
 UNITS = {"": 1, "B": 1, "K": KIB, "M": MIB, "G": GIB, "T": KIB * GIB}
@@ -19,6 +21,26 @@ class Option:
     value: str          # what the help calls its value; nothing where it takes none
     help: str
     many: bool = False  # whether it may be given more than once, each time with one value more of a list
+
+
+@dataclass(frozen=True)
+class Realm:
+    """What the words after `--` say of the realm itself, and which words these are."""
+
+    source: str
+    name: str | None = None
+    algorithm: str | None = None
+    personalization: str | None = None
+
+
+@dataclass
+class Others:
+    """The words that are no words of rim-manifest's: what a dump is given in their place, those that it is not given as they are, and
+    what they say of the realm."""
+
+    kept: list[str] = field(default_factory=list)
+    dropped: list[str] = field(default_factory=list)
+    realm: Realm | None = None
 
 
 COMMON = [
@@ -36,14 +58,15 @@ COMMON = [
     Option(("--order",), "order", "ORDER", "in which order the realm is built: `address` (default: RAM, then what is placed by rising "
            "address, then the RECs), or a list such as ram,kernel,initrd,dtb,rec"),
     Option(("--out",), "out", "DIR", "the folder that is written. Required"),
-    Option(("--force",), "force", "", "replace DIR, if rim-manifest has written it"),
+    Option(("--force",), "force", "", "replace what rim-manifest has written into DIR before, as far as it is unchanged, and nothing else"),
     Option(("--rules",), "rules", "", "print the table of the hypervisor, and do nothing else"),
     Option(("-h", "--help"), "help", "", "print this help"),
 ]
 
 
-def parse(options: list[Option], words: list[str]) -> dict:
-    """What the words say: a text for each key, a list where there may be many, True for a flag. `rest` is what comes after `--`."""
+def parse(options: list[Option], words: list[str], refuse: Callable[[list[str]], None]) -> dict:
+    """What the words say: a text for each key, a list where there may be many, True for a flag. `rest` is what comes after `--`. A word
+    that is no option is refused by `refuse`, where that knows it, or as one that nobody knows."""
     by_name = {name: option for option in options for name in option.names}
     said: dict = {"rest": []}
     words = list(words)
@@ -54,7 +77,8 @@ def parse(options: list[Option], words: list[str]) -> dict:
             break
         name, equals, value = word.partition("=") if word.startswith("--") else (word, "", "")
         if name not in by_name:
-            raise WrongWords(f"{shown(word)}: no word of this hypervisor's that is known, expected one of --help; others go after `--`")
+            refuse([word, *words])
+            raise WrongWords(f"{shown(word)}: no word of this hypervisor's that is known, expected one of --help")
         option = by_name[name]
         if not option.value and equals:
             raise WrongWords(f"{name}: {shown(value)} is given, expected no value")
@@ -81,11 +105,6 @@ def help_of(options: list[Option]) -> str:
         lines.append("  " + ", ".join(option.names) + (f" {option.value}" if option.value else ""))
         lines.append(textwrap.fill(option.help + (" [list]" if option.many else ""), 120, initial_indent=INDENT, subsequent_indent=INDENT))
     return "\n".join(lines)
-
-
-def shown(text: str) -> str:
-    """A text of the user's in a line: between quotes, without control characters."""
-    return repr(text)
 
 
 def required(said: dict, key: str, names: str, why: str = ""):
