@@ -12,9 +12,11 @@
 PROGRAM reads each manifest that is written, by `check` without a line, and measures it. The devicetrees are made here. The last line is
 'N passed, M failed'.
 """
+import base64
 import concurrent.futures
 import contextlib
 import gzip
+import hashlib
 import io
 import json
 import os
@@ -52,14 +54,14 @@ class Writer:
         self.structure += bytes(-len(self.structure) % 4)
 
     def name(self, name: str) -> int:
-        found = self.strings.find(name.encode() + b"\0")
+        found = self.strings.find(name.encode(errors="surrogateescape") + b"\0")
         if found < 0:
             found = len(self.strings)
-            self.strings += name.encode() + b"\0"
+            self.strings += name.encode(errors="surrogateescape") + b"\0"
         return found
 
     def node(self, name: str, node: dict):
-        self.put(1, data=name.encode() + b"\0")
+        self.put(1, data=name.encode(errors="surrogateescape") + b"\0")
         for key, value in node.items():
             if not isinstance(value, dict):
                 self.put(3, len(value), self.name(key), data=value)
@@ -92,6 +94,15 @@ def tree(ram, bootargs="", initrd=None, count=1, length: int | None = MIB, metho
                 "#address-cells": struct.pack(">I", 3), "#size-cells": struct.pack(">I", 2),
                 "ranges": struct.pack(">IQQQ", 0x3000000, 1 << 39, 1 << 39, 1 << 39)}} | more
     return Writer().whole({key: value for key, value in root.items() if value is not None}, length)
+
+
+def wide() -> dict:
+    """A node of a long path whose children are many: megabytes of which `rim fdt` makes gigabytes."""
+    name = "a" * 31
+    node: dict = {f"n{n:x}": {} for n in range(60_000)}
+    for _ in range(40):
+        node = {name: node}
+    return node
 
 
 def deep(count: int) -> dict:
@@ -138,6 +149,7 @@ STAND_IN = r"""#!/bin/sh
 here=$(dirname "$0")
 [ "$1" = --version ] && echo "QEMU emulator version 10.0.2 (a stand-in)" && exit
 args=none
+printf '%s\n' "$@" >>"$here/said"
 while [ $# -gt 0 ]; do
     case $1 in
     -machine) path=${2#*dumpdtb=} path=${path%,dtb-randomness=off} ;;
@@ -254,6 +266,48 @@ WRONG = [
     ("an edited devicetree", [*QEMU, "--qemu", "q", "--", "--dtb", "x"], "--dtb: QEMU edits such a file and makes it longer, expected --dtb before `--`"),
     ("flash", [*QEMU, "--qemu", "q", "--", "-drive", "if=pflash,file=x"], "-drive if=pflash,file=x: QEMU then starts firmware"),
     ("a loader", [*QEMU, "--qemu", "q", "--", "-device", "loader,file=x"], "-device loader,file=x: it loads"),
+    *[(f"-machine {word}", replaced(WITH_TREE, "-M", f"virt,gic-version=3,{word}"), f'-machine: "{word}": {why}') for word, why in (
+        ("firmware=F", "QEMU then starts firmware"), ("pflash0=F", "QEMU then starts firmware"), ("pflash1=F", "QEMU then starts firmware"),
+        ("dtb=F", "QEMU edits such a file"), ("kernel=F", "rim-manifest reads no file of it, expected -kernel FILE"),
+        ("initrd=F", "rim-manifest reads no file of it, expected -initrd FILE"),
+        ("append=a", "rim-manifest reads no text of it, expected -append TEXT"), ("smp.cpus=4", "other processors than those of -smp"),
+        ("memory.size=2G", "other RAM than that of -m, expected -m"), ("memory.slots=1", "other RAM than that of -m"),
+        ("memory-encryption=a", "an older word for confidential-guest-support"), ("type=virt", "the kind of the machine"),
+        ("virtualization=on", "a processor with EL2: no realm has it, expected virtualization=off"),
+        ("secure=on", "a processor with TrustZone: no realm has it, expected secure=off"),
+        ("mte=on", "memory tagging: no realm has it, expected mte=off"), ("shim=F", "it loads what no table places"),
+        ("x-new=on", "what it changes is not known, expected one of gic-version, its"))],
+    ("a word of -machine without a value", replaced(WITH_TREE, "-M", "virt,secure"), '-machine: "secure" has no value, expected secure='),
+    ("GIC 2", replaced(WITH_TREE, "-M", "virt,gic-version=2"), '"gic-version=2": the interrupt controller: GIC 2 is one that no realm has'),
+    ("a word of -machine twice", replaced(WITH_TREE, "-M", "virt,its=on,its=off"), "-machine: its is given twice, expected once"),
+    ("words of no machine", replaced(WITH_TREE, "-M", "gic-version=3"), "words of one machine, and no machine is given"),
+    ("words of two machines", [*WITH_TREE, "-M", "virt-10.0", "-M", "its=off"], "words of one machine, and 2 machines are given"),
+    *[(f"before --: {' '.join(given)}", [*WITH_TREE, *given], why) for given, why in (
+        (["-bios", "F"], "-bios: QEMU then starts firmware"), (["-incoming", "defer"], "-incoming: all of RAM comes from elsewhere"),
+        (["--device", "loader,file=F"], "--device loader,file=F: it loads what no table places"),
+        (["-serial", "null"], "makes no launch of, expected it after `--`"), (["-new"], '"-new": no word of this hypervisor\'s'))],
+    *[(f"after --: {' '.join(given)}", [*QEMU, "--qemu", "q", "--", *given], why) for given, why in (
+        (["-device", "driver=loader,file=F"], "it loads what no table places"), (["-device", "guest-loader,file=F"], "it loads what no"),
+        (["-device", '{"driver":"loader","file":"F"}'], "it loads what no table places"), (["-device", "{"], "it begins as JSON and is none"),
+        (["-device=loader,file=F"], "no word of QEMU's that is known"), (["-incoming", "defer"], "all of RAM comes from elsewhere"),
+        (["-device", "virtio-mem-pci,id=a"], "it adds RAM that no table has"), (["-device", "pc-dimm,id=a"], "it adds RAM that no table has"),
+        (["-device", "nvdimm,id=a"], "it adds RAM that no table has"), (["-device", "tpm-tis-device"], "whether it changes the devicetree"),
+        (["-device", "virtio-iommu-pci"], "without addr= other devices decide it, expected addr="), (["-readconfig", "F"], "does not read"),
+        (["-global", "cpu.psci-conduit=2"], "whether it changes the devicetree is not known"), (["-M", "virt"], "expected it before `--`"),
+        (["-object", "memory-backend-file,id=a,mem-path=F"], "it has no size, expected one"), (["disk.img"], "no word of QEMU's"),
+        (["-object", "rme-guest,id=a"], "expected confidential-guest-support=ID where they have -object rme-guest"), (["-smp"], "expected it"),
+        (["-serial"], "-serial: nothing is given"))],
+    ("a realm that no object says", replaced(WITH_TREE, "-M", "virt,confidential-guest-support=a"), "expected confidential-guest-support=ID"),
+    *[(f"a realm's object: {words}", [*replaced(WITH_TREE, "-M", "virt,gic-version=3,confidential-guest-support=a"), *more, "--", "-object",
+                                      f"rme-guest,id=a{words}"], why) for words, more, why in (
+        ("", [], "--algo: it is not given, expected one, since -object rme-guest says none"),
+        (",measurement-algorithm=sha512", ["--algo", "sha256"], '--algo: "sha256", expected sha512, which -object rme-guest says'),
+        (",measurement-algorithm=sha1", [], 'measurement-algorithm="sha1", expected sha256 or sha512'),
+        (",measurement-algorithm=sha256,personalization-value=00", [], 'personalization-value="00", expected 64 bytes'))],
+    ("kvmtool: a disk", [*without(KVMTOOL, "--dtb"), "--lkvm", "l", "--", "--disk", "live.img"], '"--disk": what it opens, and what it'),
+    ("kvmtool: another algorithm", [*KVMTOOL, "--algo", "sha512", "--", "--realm", "--measurement-algo", "sha256"],
+     '--algo: "sha512", expected sha256, which --measurement-algo says'),
+    ("kvmtool: a realm of no algorithm", [*KVMTOOL, "--", "--realm"], "--algo: it is not given, expected one, since --realm says none"),
     ("an order without RAM", [*WITH_TREE, "--order", "kernel,dtb,stub,rec"],
      '--order: "kernel,dtb,stub,rec", expected address, or each of'),
     ("an order with one twice", [*WITH_TREE, "--order", "ram,kernel,dtb,stub,rec,rec"], "--order: "),
@@ -281,6 +335,7 @@ def changed_tree(**changes):
     return {"tree": tree(changes.pop("ram", [(LOW, LOW + 256 * MIB)]), **changes)}
 
 
+GIC_2 = {"intc@8000000": {"compatible": b"arm,cortex-a15-gic\0", "interrupt-controller": b""}}
 FAULTS = [
     ("no file of the host", replaced(WITH_TREE, "--host", "none"), {}, "none: No such file or directory, expected the file of --host"),
     ("a host that is no TOML", WITH_TREE, {"host.toml": b"num_bps 5"}, "host.toml: it is no TOML that is read here (Expected '=' after a key"),
@@ -300,6 +355,41 @@ FAULTS = [
     ("a host with a short rpv", WITH_TREE, changed_host(rpv='"00"'), 'rpv = "00", expected 128 hexadecimal digits'),
     ("cloud-hypervisor: a host without a width", CLOUD, changed_host(s2sz_max=None),
      "it has no s2sz_max, expected one since cloud-hypervisor"),
+    ("a host that is the example", WITH_TREE, changed_host(num_bps='"?"', sve='"?"'), 'host.toml: num_bps, sve: "?" as in the example'),
+    ("a host that is deep", WITH_TREE, {"host.toml": b"a = " + b"[" * 10_000 + b"]" * 10_000}, "host.toml: it is no TOML that is read here"),
+    ("a host with a long number", WITH_TREE, changed_host(num_bps="1" * 5000), "host.toml: it is no TOML that is read here"),
+    ("a host with a large number", WITH_TREE, changed_host(num_bps="1" * 999), "num_bps = a large number, expected a whole number"),
+    ("a host with a table", WITH_TREE, changed_host(num_bps="[]"), "num_bps = an array, expected a whole number"),
+    ("a host with a key of escapes", WITH_TREE, {"host.toml": b'"a\\u001b[2J" = 1'}, 'host.toml: "a\\x1b[2J" = 1, expected one of'),
+    ("a host that is long", WITH_TREE, {"host.toml": host() + b"#" * 65536}, "host.toml: it has more than 65536 bytes"),
+    *[(f"a host of version {version}", WITH_TREE, changed_host(hypervisor_version=f'"{version}"'), "expected a version such as 10.0.2")
+      for version in ("v10.0", ".5", "1" * 5000)],
+    *[(f"a device: {name}", words, {}, f"/dev/zero: it is a device, expected {what}") for name, words, what in (
+        ("host", replaced(WITH_TREE, "--host", "/dev/zero"), "the file of --host"), ("dtb", replaced(WITH_TREE, "--dtb", "/dev/zero"), "a dev"),
+        ("kernel", replaced(WITH_TREE, "-kernel", "/dev/zero"), "an arm64 Image"), ("initrd", [*WITH_TREE, "-initrd", "/dev/zero"], "an init"),
+        ("lines", [*WITH_TREE, "--append-file", "/dev/zero"], "command lines, one a line"))],
+    ("a path with an escape", replaced(WITH_TREE, "-kernel", "a\x1b[2J"), {}, "a\\x1b[2J: No such file or directory"),
+    ("SVE that is off", replaced(WITH_TREE, "-cpu", "max,sve=off"), changed_host(sve="true", sve_vl="1"),
+     '-cpu: "max,sve=off", and host.toml has sve = true, expected sve = false there'),
+    ("SVE that is on", replaced(WITH_TREE, "-cpu", "max,sve=on"), {}, "host.toml has sve = false, expected sve = true there"),
+    ("a PMU that is off", replaced(WITH_TREE, "-cpu", "max,pmu=off"), {}, "host.toml has pmu = true, expected pmu = false there"),
+    ("a PMU that is on", replaced(WITH_TREE, "-cpu", "max,pmu=on"), changed_host(pmu="false", pmu_num_ctrs=None), "expected pmu = true"),
+    ("a width above the host's", [*WITH_TREE, "--s2sz", "48"], changed_host(s2sz_max="41"), "--s2sz: 48, expected at most 41, s2sz_max of"),
+    ("another personalization value", [*replaced(WITH_TREE, "-M", "virt,confidential-guest-support=a"), "--", "-object",
+     "rme-guest,id=a,measurement-algorithm=sha256,personalization-value=" + "0f" * 64], changed_host(rpv='"' + "00" * 64 + '"'),
+     "expected that of -object rme-guest"),
+    ("a devicetree of GIC 2", replaced(WITH_TREE, "-M", "virt"), changed_tree(**GIC_2), 'interrupt controller: the devicetree has '
+     '"arm,cortex-a15-gic", and no realm has GIC 2, expected "arm,gic-v3" (gic-version=3)'),
+    ("a devicetree without a GIC", WITH_TREE, changed_tree(**{"intc@8000000": None}), "the devicetree has none, expected \"arm,gic-v3\""),
+    ("a devicetree of another model", replaced(WITH_TREE, "-cpu", "cortex-a72"), {},
+     'processors: the devicetree has "arm,cortex-a57", expected "arm,cortex-a72" by -cpu'),
+    ("a node's name that is not UTF-8", WITH_TREE, {"tree": tree([(LOW, LOW + 256 * MIB)], **{"memory\udcff@60000000": {
+        "reg": struct.pack(">QQ", LOW, LOW)}})}, "tree: dtb-bad-name"),
+    ("a seed in a node of such a name", WITH_TREE, {"tree": tree([(LOW, LOW + 256 * MIB)], **{"a\udcff": {"kaslr-seed": bytes(8)}})},
+     "tree: dtb-bad-name"),
+    ("memory of another name", WITH_TREE, changed_tree(**{"ram@60000000": {"device_type": b"memory\0", "reg": struct.pack(">QQ", LOW, LOW)}}),
+     "RAM: the devicetree has 0x40000000 to 0x50000000 and 0x40000000 to 0x80000000"),
+    ("a devicetree of much text", WITH_TREE, {"tree": Writer().whole(wide(), 2 * MIB)}, "tree: it is too large to be shown by rim fdt"),
     ("no file of the kernel", replaced(WITH_TREE, "-kernel", "none"), {}, "none: No such file or directory, expected an arm64 Image"),
     ("a kernel that is ELF", WITH_TREE, {"Image": b"\x7fELF" + bytes(99)}, "Image: an ELF file, expected an arm64 Image"),
     ("a kernel that is xz", WITH_TREE, {"Image": b"\xfd7zXZ" + bytes(99)}, "Image: an xz file, expected an arm64 Image"),
@@ -402,7 +492,7 @@ def stopped(words: list[str], files: dict, status: int, text: str) -> list[str]:
             wrong.append(f"{text!r} is not in {said!r}")
         if words and (not said.startswith("rim-manifest: ") or said.count("\n") != 1):
             wrong.append(f"not one line: {said!r}")
-        if out or folder.names() - before - {"count"}:
+        if out or folder.names() - before - {"count", "said"}:
             wrong.append(f"it writes {out!r} and {folder.names() - before}")
         return wrong
 
@@ -542,6 +632,31 @@ def first(folder: Folder) -> dict:
     return folder.toml()["launch"][0]
 
 
+# Words after `--`, of a guest that runs; and what a dump is given in their place.
+OTHERS = ["-object", "memory-backend-file,id=r,size=256M,mem-path=live/ram,share=on", "-object", "rng-random,id=g,filename=live/log",
+          "--serial", "file:live/log", "-serial", "none", "-accel", "tcg,thread=multi", "-qmp", "unix:live/qmp,server=on,wait=off",
+          "-drive", "file=live/disk,format=raw,if=none,id=d", "-device", "virtio-blk-pci,drive=d", "-D", "live/log", "-nographic",
+          "-pidfile", "live/log", "-object", '{"qom-type":"memory-backend-memfd","id":"s","size":4096,"share":true}', "-monitor",
+          "unix:live/qmp,server=on,wait=off", "-netdev", "user,id=n,hostfwd=tcp::22-:22", "-numa", "node,memdev=r"]
+KEPT = ["-object", "memory-backend-ram,id=r,size=256M,reserve=off", "-serial", "null", "-serial", "none", "-accel", "tcg,thread=multi",
+        "-object", "memory-backend-ram,id=s,size=4096,reserve=off", "-numa", "node,memdev=r"]
+
+
+def recorded(folder: Folder) -> dict:
+    """The first launch of the record."""
+    return json.loads(folder.read("out/record.json"))["launches"][0]
+
+
+def given_to_a_dump(folder: Folder) -> list[str]:
+    """A dump is given what changes the devicetree, and the record says the rest."""
+    given = folder.read("said").decode().splitlines()
+    record = recorded(folder)
+    wrong = differs("the words of a dump", given[given.index("-kernel") + 2:][:len(KEPT)], KEPT)
+    wrong += differs("paths in them", [word for word in given if "live" in word], []) + differs("rest", record["rest"], KEPT)
+    return wrong + differs("dropped", [word for word in record["dropped"] if word not in OTHERS], []) + differs(
+        "dropped", {"-qmp", "-D", "-drive", "--serial", "-pidfile", "-monitor"} - set(record["dropped"]), set())
+
+
 NO_PCIE = {"pcie@10000000": None}
 TREES = {"trees/256M-1-none": FILES["tree"], "trees/256M-2-none": tree([(LOW, LOW + 256 * MIB)], count=2)}
 FULL_HOST = host(sve="true", sve_vl="1", num_aux="2", rpv='"' + "0f" * 64 + '"', rec_rule='"all"', hypervisor_version='"10.0.2"')
@@ -565,6 +680,18 @@ OPTIONS = [
      changed_tree(**NO_PCIE) | changed_host(s2sz_max="39")),
     ("a plain guest", WITH_TREE, lambda folder: differs("warning", b"Warning: 1 of 1" in folder.read("out/manifest.toml"), True),
      changed_tree(method=b"hvc\0"), 'have the psci method "hvc", expected "smc": no realm has such a devicetree'),
+    ("a guest without PSCI", WITH_TREE, lambda folder: [], changed_tree(psci=None), 'warning: 1 of 1 devicetrees have no psci method, expected'),
+    ("words of one machine", ["qemu", "-M", "its=on", "-M", "virt", "-M", "gic-version=3", *QEMU[3:], "--qemu", "./stand-in"],
+     lambda folder: differs("words", recorded(folder)["words"][1], "virt,its=on,gic-version=3,dtb-randomness=off"), TREES),
+    ("a realm's object", [*replaced(WITH_TREE, "-M", "virt,confidential-guest-support=a"), "--", "-object",
+     "rme-guest,id=a,measurement-algorithm=sha512,personalization-value=" + base64.b64encode(b"\x0f" * 64).decode()],
+     lambda folder: differs("keys", [first(folder).get(key) for key in ("algo", "rpv")], ["sha512", "0f" * 64])),
+    ("a realm's object as JSON", [*replaced(WITH_TREE, "-M", "virt,confidential-guest-support=a"), "--", "-object",
+     '{"qom-type":"rme-guest","id":"a","measurement-algorithm":"sha256","personalization-value":"%s"}' % ("0F" * 64)],
+     lambda folder: differs("keys", [first(folder).get(key) for key in ("algo", "rpv")], ["sha256", "0f" * 64])),
+    ("a processor by its words", replaced(WITH_TREE, "-cpu", "max,pmu=on,sve=off"), lambda folder: []),
+    ("words of a dump", [*QEMU, "--qemu", "./stand-in", "--", *OTHERS], given_to_a_dump, TREES),
+    ("words of no dump", [*WITH_TREE, "--", *OTHERS], lambda folder: differs("dropped", "-qmp" in recorded(folder)["dropped"], True)),
     ("kernels and initrds", [*WITH_TREE, "--dtb", "with-initrd", "-kernel", "b", "-initrd", "initrd", "--no-initrd"],
      lambda folder: differs(
      "names", names_of(folder), [f"256M-smp1-{kernel}-{initrd}-sha256" for initrd in ("initrd", "no-initrd") for kernel in ("Image", "b")])
@@ -653,20 +780,123 @@ def measured(program: str):
         return wrong + differs("a fault", (status, out, "rim check manifest.toml" in said), (3, "", True))
 
 
+MADE = ["dtb-1", "kernel", "manifest.toml", "measure", "record.json", "stub-1"]
+
+
+def files_of(folder: Folder, out="out") -> dict[str, bytes]:
+    return {name: folder.read(f"{out}/{name}") for name in os.listdir(os.path.join(folder.path, out))
+            if os.path.isfile(os.path.join(folder.path, out, name))}
+
+
 def forced(program: str):
-    """--force replaces a folder that rim-manifest has written, also where the kernel is in it; else the old one stays as it is."""
+    """--force replaces what rim-manifest has written, also where the kernel is among it, and keeps the rest, also where DIR is a link."""
     with Folder() as folder:
         folder.run(*WITH_TREE)
-        folder.put("out/report", b"")
+        for name in ("out/values.json", "out/history/a"):
+            folder.put(name, b"mine")
         before = folder.names()
         status, _, said = folder.run(*replaced(WITH_TREE, "-kernel", "out/kernel"), "--force")
         wrong = differs("status", (status, said), (0, "")) + differs("names", folder.names(), before)
-        wrong += differs("files", sorted(os.listdir(os.path.join(folder.path, "out"))),
-                         ["dtb-1", "kernel", "manifest.toml", "measure", "record.json", "report", "stub-1"])
+        wrong += differs("files", sorted(os.listdir(os.path.join(folder.path, "out"))), sorted([*MADE, "history", "values.json"]))
+        wrong += differs("kept", (folder.read("out/values.json"), folder.read("out/history/a")), (b"mine", b"mine"))
         kept = folder.read("out/manifest.toml")
         status, _, _ = folder.run(*WITH_TREE, "--force", "-append", "other")
         wrong += differs("a fault", (status, folder.read("out/manifest.toml"), folder.names()), (3, kept, before))
+        folder.put("with", tree([(LOW, LOW + 256 * MIB)], initrd=WITH_INITRD))
+        os.rename(os.path.join(folder.path, "out"), os.path.join(folder.path, "there"))
+        os.symlink("there", os.path.join(folder.path, "out"))
+        status, _, said = folder.run(*replaced(WITH_TREE, "--dtb", "with"), "-initrd", "initrd", "--stub", "none", "--force")
+        wrong += differs("a link", (status, said, os.path.islink(os.path.join(folder.path, "out"))), (0, "", True))
+        wrong += differs("files that are gone", sorted(os.listdir(os.path.join(folder.path, "there"))), sorted(
+            ["dtb-1", "history", "initrd", "kernel", "manifest.toml", "measure", "record.json", "values.json"]))
         return wrong + read_by(program, folder, count=1)
+
+
+def spoil(what: str, folder: Folder):
+    """Changes something in a folder that rim-manifest has made."""
+    path = os.path.join(folder.path, "out")
+    record = json.loads(folder.read("out/record.json"))
+    if what in ("a file", "a folder", "a link"):
+        os.rename(os.path.join(path, "kernel"), os.path.join(folder.path, "mine"))
+        if what == "a file":
+            folder.put("out/kernel", b"mine")
+        elif what == "a folder":
+            folder.put("out/kernel/a", b"mine")
+        else:
+            os.symlink("../mine", os.path.join(path, "kernel"))
+    elif what == "another file":
+        folder.put("out/initrd", b"mine")
+    elif what == "a record of version 1":
+        del record["files"]
+        folder.put("out/record.json", json.dumps(record | {"rim_manifest_record": 1}).encode())
+    elif what == "a record of another folder":
+        record["files"]["../host.toml"] = hashlib.sha256(FILES["host.toml"]).hexdigest()
+        folder.put("out/record.json", json.dumps(record).encode())
+    else:
+        folder.put("out/record.json", {"a deep record": b"[" * 100_000, "a record of nothing": b'{"rim_manifest_record":2}'}[what])
+
+
+SPOILT = [("a file", "out: kernel: not as rim-manifest has made it"), ("a folder", "out: kernel: not as rim-manifest has made it"),
+          ("a link", "out: kernel: not as rim-manifest has made it"), ("another file", "out: initrd: rim-manifest has not made it"),
+          ("a record of version 1", "out/record.json: version 1, which does not say what was made, expected version 2: move the folder away"),
+          ("a record of another folder", "out/record.json: ../host.toml is no file of the folder"),
+          ("a deep record", "out/record.json: it is no JSON that is read here (values too deep in one another)"),
+          ("a record of nothing", "out/record.json: it does not say what was made")]
+
+
+def not_forced(_program: str):
+    """--force replaces nothing that rim-manifest has not made, or that was changed since: it names it, and all is as before."""
+    wrong = []
+    for what, why in SPOILT:
+        with Folder({"with": tree([(LOW, LOW + 256 * MIB)], initrd=WITH_INITRD)}) as folder:
+            folder.run(*WITH_TREE)
+            spoil(what, folder)
+            before, names = files_of(folder), folder.names()
+            status, _, said = folder.run(*replaced(WITH_TREE, "--dtb", "with"), "-initrd", "initrd", "--force")
+            wrong += differs(what, (status, why in said, said.count("\n")), (3, True, 1)) + ([] if why in said else [said])
+            wrong += differs(f"{what}: files", (files_of(folder), folder.names()), (before, names))
+    return wrong
+
+
+def stopped_midway(program: str):
+    """Wherever a run with --force is stopped, no manifest is beside files of another run, nothing of the user's is lost, and the next run
+    with --force ends well. The stop is a kill before the Nth renaming or removal."""
+    wrong = []
+    for number in range(20):
+        with Folder({"b": OTHER_IMAGE}) as folder:
+            folder.run(*WITH_TREE)
+            folder.put("out/values.json", b"mine")
+            old = files_of(folder)
+            words = [*replaced(WITH_TREE, "-kernel", "b"), "--stub", "none", "--force"]
+            status = folder.run("-c", KILLED, str(number), *words, start=sys.executable, PYTHONPATH=TOP)[0]
+            has = files_of(folder)
+            wrong += differs(f"{number}: mine", has.get("values.json"), b"mine")
+            if "manifest.toml" in has:
+                is_old, is_new = ({"kernel": kernel} == {"kernel": has.get("kernel")} for kernel in (FILES["Image"], OTHER_IMAGE))
+                wrong += differs(f"{number}: the manifest", has["manifest.toml"] == old["manifest.toml"] and is_old or is_new, True)
+            wrong += differs(f"{number}: the next run", folder.run(*words)[::2], (0, ""))
+            wrong += read_by(program, folder, count=1) + differs("mine", folder.read("out/values.json"), b"mine")
+            if not status:
+                return wrong
+    return [*wrong, "it is never done"]
+
+
+# Runs rim-manifest, and kills itself before the Nth renaming or removal of a file.
+KILLED = """
+import os, signal, sys
+left = int(sys.argv[1])
+def counted(call):
+    def counting(*words, **more):
+        global left
+        if left == 0:
+            os.kill(os.getpid(), signal.SIGKILL)
+        left -= 1
+        return call(*words, **more)
+    return counting
+os.rename, os.remove = counted(os.rename), counted(os.remove)
+from vmm.main import main
+sys.exit(main(sys.argv[2:]))
+"""
 
 
 def started(program: str):
@@ -737,7 +967,7 @@ def main():
         raise SystemExit(f"{program} is not built")
     os.environ["RIM"] = program
     tries = [(f"option: {name}", lambda each=(words, look, *rest): option(program, *each)) for name, words, look, *rest in OPTIONS]
-    tries += [*places(program)] + [(each.__name__, lambda each=each: each(program)) for each in (matrix, measured, forced, started, texts,
+    tries += [*places(program)] + [(each.__name__, lambda each=each: each(program)) for each in (matrix, measured, forced, not_forced, stopped_midway, started, texts,
                                                                                                  documents)]
     processors = len(os.sched_getaffinity(0))
     with concurrent.futures.ProcessPoolExecutor(processors) as pool:

@@ -37,8 +37,8 @@ class Monitor:
     """QEMU's monitor (QMP) on its standard input and output."""
 
     def __init__(self, words: list[str]):
-        self.process = subprocess.Popen([*words, "-S", "-display", "none", "-qmp", "stdio"], stdin=subprocess.PIPE, stdout=subprocess.PIPE,
-                                        stderr=subprocess.PIPE, text=True)
+        self.process = subprocess.Popen([*words, "-S", "-nodefaults", "-display", "none", "-qmp", "stdio"], stdin=subprocess.PIPE,
+                                        stdout=subprocess.PIPE, stderr=subprocess.PIPE, text=True)
         self.read()
         self.ask("qmp_capabilities")
 

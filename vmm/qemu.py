@@ -86,7 +86,7 @@ def s2sz(guest: Guest, places: Places) -> int | None:
     """The width; None where no rule is known."""
     words = machine_words(guest.machine.text)
     off = {key for key in words if key.startswith("highmem") and is_off(words, key)}
-    if any(f"{key}=" in guest.memory.words for key in ("maxmem", "slots")):
+    if "highmem-mmio-size" in words or any(f"{key}=" in guest.memory.words for key in ("maxmem", "slots")):
         return None
     if not off:
         return max(32, window_bits(guest.memory.size)) + 1
@@ -139,8 +139,8 @@ def machines(texts: list[str]) -> list[str]:
     whole = [text.removeprefix("type=") for text in texts if is_machine(text)]
     more = [text for text in texts if not is_machine(text)]
     if more and len(whole) != 1:
-        has = "no machine" if not whole else f"{len(whole)} machines"
-        raise WrongWords(f"-machine: {shown(more[0])}: words of one machine, and {has} is given, expected virt and its words together")
+        has = f"{len(whole)} machines are" if whole else "no machine is"
+        raise WrongWords(f"-machine: {shown(more[0])}: words of one machine, and {has} given, expected virt and its words together")
     return [",".join([whole[0], *more])] if more else whole
 
 
