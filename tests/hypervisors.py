@@ -6,7 +6,9 @@
 - Wrong words and faults: the status, the one line and that nothing is written. For speed these are runs of its `main` in a process of
   many; all others start rim-manifest itself.
 - Places: addresses that were worked out by hand from docs/VMM.md, of each hypervisor.
-- Options, names, matrices, more than 64 files, a folder that is moved, --force, an installed rim-manifest.
+- Options, names, matrices, more than 64 files, a folder that is moved, an installed rim-manifest.
+- --force: what it replaces, what it keeps, where it refuses, and what a stop at each step leaves.
+- A guest that runs beside a dump; programs that misbehave; signals; full disks; FIFOs.
 - Documents: docs/rim-manifest.1 has each option, and docs/VMM.md each row of the tables.
 
 PROGRAM reads each manifest that is written, by `check` without a line, and measures it. The devicetrees are made here. The last line is
@@ -245,14 +247,16 @@ def replaced(words: list[str], name: str, value: str) -> list[str]:
 WRONG = [
     ("no words", [], "usage: rim-manifest"),
     ("another hypervisor", ["xen"], "\"xen\", expected qemu, kvmtool, cloud-hypervisor"),
-    ("a word that is not known", [*WITH_TREE, "-nodefaults"], "\"-nodefaults\": a word of QEMU's that rim-manifest makes no launch of, expected it after `--`"),
+    ("a word that is not known", [*WITH_TREE, "-nodefaults"],
+     "\"-nodefaults\": a word of QEMU's that rim-manifest makes no launch of, expected it after `--`"),
     ("no value", [*WITH_TREE, "-initrd"], "-initrd: nothing is given, expected FILE"),
     ("twice", [*WITH_TREE, "--out", "b"], "--out: it is given twice"),
     ("a flag with a value", [*WITH_TREE, "--force=yes"], '--force: "yes" is given, expected no value'),
     ("no machine", without(WITH_TREE, "-M"), "-machine: it is not given"),
     ("another machine", replaced(WITH_TREE, "-M", "raspi3b"), '-machine: "raspi3b", expected virt'),
     ("dumpdtb", replaced(WITH_TREE, "-M", "virt,dumpdtb=x"), '-machine: "dumpdtb=x": rim-manifest adds it itself, expected --qemu PROGRAM'),
-    ("seeds", replaced(WITH_TREE, "-M", "virt,dtb-randomness=on"), '"dtb-randomness=on": the devicetree differs at each start, expected dtb-randomness=off'),
+    ("seeds", replaced(WITH_TREE, "-M", "virt,dtb-randomness=on"),
+     '"dtb-randomness=on": the devicetree differs at each start, expected dtb-randomness=off'),
     ("no processor model", without(WITH_TREE, "-cpu"), "-cpu: it is not given, expected a 64-bit"),
     ("a 32-bit processor", replaced(WITH_TREE, "-cpu", "cortex-a15"), '"cortex-a15" is a 32-bit processor'),
     ("no kernel", without(WITH_TREE, "-kernel"), "-kernel, --kernel: it is not given"),
@@ -267,7 +271,8 @@ WRONG = [
     ("no devicetree", QEMU, "--qemu and --dtb: neither is given"),
     ("two sources of devicetrees", [*WITH_TREE, "--qemu", "qemu"], "--qemu and --dtb: both are given"),
     ("firmware", [*QEMU, "--qemu", "q", "--", "-bios", "x"], "-bios: QEMU then starts firmware and puts no kernel into RAM"),
-    ("an edited devicetree", [*QEMU, "--qemu", "q", "--", "--dtb", "x"], "--dtb: QEMU edits such a file and makes it longer, expected --dtb before `--`"),
+    ("an edited devicetree", [*QEMU, "--qemu", "q", "--", "--dtb", "x"],
+     "--dtb: QEMU edits such a file and makes it longer, expected --dtb before `--`"),
     ("flash", [*QEMU, "--qemu", "q", "--", "-drive", "if=pflash,file=x"], "-drive if=pflash,file=x: QEMU then starts firmware"),
     ("a loader", [*QEMU, "--qemu", "q", "--", "-device", "loader,file=x"], "-device loader,file=x: it loads"),
     *[(f"-machine {word}", replaced(WITH_TREE, "-M", f"virt,gic-version=3,{word}"), f'-machine: "{word}": {why}') for word, why in (
@@ -413,7 +418,8 @@ FAULTS = [
     ("an empty initrd", [*WITH_TREE, "-initrd", "i"], {"i": b""}, "i: it is empty, expected an initrd"),
     ("an initrd of U-Boot", [*WITH_TREE, "-initrd", "i"], {"i": b"\x27\x05\x19\x56" + bytes(99)}, "i: an initrd with a U-Boot header"),
     ("no command lines", [*WITH_TREE, "--append-file", "a"], {"a": b"\n\n"}, "a: it has no command line"),
-    ("command lines that are not UTF-8", [*WITH_TREE, "--append-file", "a"], {"a": b"\xff\n"}, "a: it is no UTF-8 at byte 0, expected command lines, one a line"),
+    ("command lines that are not UTF-8", [*WITH_TREE, "--append-file", "a"], {"a": b"\xff\n"},
+     "a: it is no UTF-8 at byte 0, expected command lines, one a line"),
     ("a folder that exists", WITH_TREE, {"out/x": b""}, "out: it exists, expected a new folder or --force"),
     ("a folder of another", [*WITH_TREE, "--force"], {"out/x": b""}, "out: it is no folder that rim-manifest has written"),
     ("a folder in none", replaced(WITH_TREE, "--out", "a/b"), {}, "a/b: No such file or directory"),
@@ -1027,7 +1033,7 @@ def started(program: str):
             wrong += differs(start, (status, said), (0, "")) + read_by(program, folder, count=1)
         os.remove(os.path.join(folder.path, "usr", "share", "rim", "vmm", "main.py"))
         status, _, said = folder.run("--help", start=os.path.join(folder.path, "usr/bin/rim-manifest"))
-        return wrong + differs("no modules", (status, "no folder vmm" in said), (1, True))
+        return wrong + differs("no modules", (status, "no folders vmm and outside" in said), (3, True))
 
 
 def texts(program: str):
@@ -1080,8 +1086,8 @@ def main():
         raise SystemExit(f"{program} is not built")
     os.environ["RIM"] = program
     tries = [(f"option: {name}", lambda each=(words, look, *rest): option(program, *each)) for name, words, look, *rest in OPTIONS]
-    tries += [*places(program)] + [(each.__name__, lambda each=each: each(program)) for each in (matrix, measured, forced, not_forced, stopped_midway, bad_programs, signals, full, fifos, unharmed, started, texts,
-                                                                                                 documents)]
+    tries += [*places(program)] + [(each.__name__, lambda each=each: each(program)) for each in (
+        matrix, measured, forced, not_forced, stopped_midway, bad_programs, signals, full, fifos, unharmed, started, texts, documents)]
     processors = len(os.sched_getaffinity(0))
     with concurrent.futures.ProcessPoolExecutor(processors) as pool:
         outcomes = [(each[0], wrong) for each, wrong in zip(STOPS, pool.map(stops, range(len(STOPS)), chunksize=8))]

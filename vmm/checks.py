@@ -75,7 +75,8 @@ def processors(vmm, launch: Launch, tree: Tree, has_pmu: bool) -> Iterator[Diffe
         yield Difference("processors", f"the devicetree has one with reg {wrong:#x}", "n mod 16 + 256 * (n / 16) of each number n")
     if (model := vmm.processor(launch.guest)) and devicetree.processor_models(tree) not in ([], [model]):
         seen = next(each for each in devicetree.processor_models(tree) if each != model)
-        yield Difference("processors", f"the devicetree has {'one of no model' if seen is None else shown(seen)}", f"{shown(model)} by -cpu")
+        has_model = "one of no model" if seen is None else shown(seen)
+        yield Difference("processors", f"the devicetree has {has_model}", f"{shown(model)} by -cpu")
     if (tree.root.child("pmu") is not None) != has_pmu:
         has_node, wants_node = ("no", "one") if has_pmu else ("a", "none")
         yield Difference("processors", f"the devicetree has {has_node} node /pmu", f"{wants_node} by pmu of the host")
@@ -174,6 +175,6 @@ def warnings(trees: list[Tree]) -> list[str]:
         if method == "smc":
             continue
         count, has = methods.count(method), "no psci method" if method is None else f"the psci method {shown(method)}"
-        found.append(f'{count} of {len(trees)} devicetrees have {has}, expected "smc": no realm has such a devicetree, since Linux looks for '
-                     "the monitor only where PSCI's calls are SMC. The measurements are those of a plain guest's devicetree")
+        found.append(f'{count} of {len(trees)} devicetrees have {has}, expected "smc": no realm has such a devicetree, since Linux looks '
+                     "for the monitor only where PSCI's calls are SMC. The measurements are those of a plain guest's devicetree")
     return found

@@ -47,7 +47,8 @@ class Folder:
         self.digests: dict[str, str] = {}
         self.replaces = os.path.lexists(self.out)
         self.may_be_written()
-        parent, prefix = (self.out, ".rim-manifest.") if self.replaces else (os.path.dirname(self.out), f".{os.path.basename(self.out)[:64]}.")
+        parent, name = os.path.split(self.out)
+        parent, prefix = (self.out, ".rim-manifest.") if self.replaces else (parent, f".{name[:64]}.")
         with held(), files.faults_of(out, "a folder that can be made"):
             self.path = tempfile.mkdtemp(prefix=prefix, dir=parent)
 
@@ -116,8 +117,7 @@ class Folder:
         """The record: what was made, and of what. `before`: files that may still be as another run has made them."""
         table: dict[str, object] = {"rim_manifest_record": RECORD_VERSION} | about | {"files": self.digests}
         if before:
-            table["before"] = {name: min(digests - {self.digests.get(name)}) for name, digests in before.digests.items()
-                               if digests - {self.digests.get(name)}}
+            table["before"] = {name: digest for name, digests in before.digests.items() for digest in digests}
         self.text(RECORD, json.dumps(table, indent=1) + "\n")
 
     def finish(self, about: dict[str, object]):
@@ -136,9 +136,8 @@ class Folder:
     def replace(self, about: dict[str, object]):
         """Replaces the files of another run, one by one: the manifests go first and come last."""
         self.may_be_written()
-        before = self.made()
-        for name, digests in before.digests.items():
-            digests &= {digest_of(os.path.join(self.out, name))}
+        found = {name: {digest_of(os.path.join(self.out, name))} & digests for name, digests in self.made().digests.items()}
+        before = Made(found)
         self.record({}, before)
         last = sorted(self.digests, key=lambda name: bool(MEASURES.fullmatch(name)))
         with files.faults_of(self.name, "a folder that can be written; a next run with --force goes on"):

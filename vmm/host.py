@@ -71,7 +71,9 @@ def value_shown(value: object) -> str:
         return "true" if value else "false"
     if isinstance(value, dict | list):
         return "a table" if isinstance(value, dict) else "an array"
-    return shown(value) if isinstance(value, str) else str(value) if not isinstance(value, int) or abs(value) < 1 << 64 else "a large number"
+    if isinstance(value, int) and abs(value) >= 1 << 64:
+        return "a large number"
+    return shown(value) if isinstance(value, str) else str(value)
 
 
 def wrong(key: str, value: object) -> str | None:

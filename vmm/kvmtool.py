@@ -106,8 +106,8 @@ def read_rest(words: list[str]) -> Others:
         if name in taken:
             raise WrongWords(f"{word}: after `--` it would change what the table places, expected it before `--` or not at all")
         if name not in KEPT:
-            raise WrongWords(f"{shown(word)}: what it opens, and what it changes in the devicetree, is not known, expected no such word, or "
-                             "--dtb with the devicetree")
+            raise WrongWords(f"{shown(word)}: what it opens, and what it changes in the devicetree, is not known, expected no such word, "
+                             "or --dtb with the devicetree")
         if KEPT[name] and not equals and not left:
             raise WrongWords(f"{word}: nothing is given, expected a value")
         given = [word, left.pop(0)] if KEPT[name] and not equals else [word]

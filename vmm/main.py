@@ -251,8 +251,8 @@ class Work:
     def made_by(self) -> str:
         if "program" in self.said:
             among = ", dtb-randomness=off among them" if self.vmm is qemu else ""
-            return (f"The devicetrees were made by {shown(self.program_line)}, twice each. Another version makes others, so start guests by "
-                    f"this one, and by the words of the launch{among}.")
+            return (f"The devicetrees were made by {shown(self.program_line)}, twice each. Another version makes others, so start guests "
+                    f"by this one, and by the words of the launch{among}.")
         return "The devicetrees were handed in by --dtb and are placed as they are."
 
     def write(self, made: Folder) -> tuple[list[str], dict[str, object]]:

@@ -22,8 +22,7 @@ if [ ! -f linux ] || [ ! -f initrd.gz ]; then
     rm "$package"_*.deb
 fi
 
-# The network card of QEMU's default has a file of another package and is not in the devicetree, so it is left out. There is a warning:
-# a plain QEMU makes the devicetrees of plain guests.
+# There is a warning: a plain QEMU makes the devicetrees of plain guests.
 "$top/rim-manifest" qemu -machine virt,gic-version=3 -cpu cortex-a57 -m 256M,1G,2G -smp 1,2,4,8 -kernel linux -initrd initrd.gz \
-    --append-file ../command-lines --algo sha256,sha512 --host ../host.toml --qemu qemu-system-aarch64 --out realms --force -- -nic none
+    --append-file ../command-lines --algo sha256,sha512 --host ../host.toml --qemu qemu-system-aarch64 --out realms --force
 RIM="$top/rim" realms/measure
