@@ -325,6 +325,7 @@ WRONG = [
     ("other pages of the devicetree", [*WITH_TREE, "--dtb-pages", "all"], '--dtb-pages: "all", expected whole or used'),
     ("a width", [*WITH_TREE, "--s2sz", "31"], '--s2sz: "31", expected a whole number from 32 to 48'),
     ("no folder", without(WITH_TREE, "--out"), "--out: it is not given"),
+    ("a folder without a name", replaced(WITH_TREE, "--out", ""), '--out: "", expected the folder that is written'),
     ("no host", without(WITH_TREE, "--host"), "--host: it is not given, expected the file"),
     ("kvmtool: no processors", without(KVMTOOL, "-c"), "--cpus: it is not given"),
     ("kvmtool: no memory", without(KVMTOOL, "-m"), "--mem: it is not given"),
@@ -344,7 +345,7 @@ def changed_tree(**changes):
     return {"tree": tree(changes.pop("ram", [(LOW, LOW + 256 * MIB)]), **changes)}
 
 
-GIC_2 = {"intc@8000000": {"compatible": b"arm,cortex-a15-gic\0", "interrupt-controller": b""}}
+GIC_2 = {"intc@8000000": {"compatible": b"other\0arm,cortex-a15-gic\0", "interrupt-controller": b""}}
 FAULTS = [
     ("no file of the host", replaced(WITH_TREE, "--host", "none"), {}, "none: No such file or directory, expected the file of --host"),
     ("a host that is no TOML", WITH_TREE, {"host.toml": b"num_bps 5"}, "host.toml: it is no TOML that is read here (Expected '=' after a key"),
@@ -423,6 +424,8 @@ FAULTS = [
     ("a folder that exists", WITH_TREE, {"out/x": b""}, "out: it exists, expected a new folder or --force"),
     ("a folder of another", [*WITH_TREE, "--force"], {"out/x": b""}, "out: it is no folder that rim-manifest has written"),
     ("a folder in none", replaced(WITH_TREE, "--out", "a/b"), {}, "a/b: No such file or directory"),
+    ("a folder in a file", replaced(WITH_TREE, "--out", "Image/b"), {}, "Image/b: Not a directory"),
+    ("a folder of a long name", replaced(WITH_TREE, "--out", "a" * 300), {}, "a: File name too long, expected a folder that can be made"),
     ("no file of the devicetree", replaced(WITH_TREE, "--dtb", "none"), {}, "none: No such file or directory, expected a devicetree"),
     ("a short devicetree", WITH_TREE, {"tree": b"\xd0\x0d\xfe\xed"}, "tree: dtb-short, expected a flattened devicetree that rim fdt shows"),
     ("no devicetree", WITH_TREE, {"tree": bytes(99)}, "tree: dtb-bad-magic"),
@@ -467,6 +470,7 @@ FAULTS = [
     ("kvmtool: an initrd in the kernel's last page", [*KVMTOOL, "-i", "initrd"], {"Image": image(0xFDF_DC00),
      "tree": tree([(2 * LOW, 2 * LOW + 256 * MIB)], initrd=(0x8FDF_DCD4, 0x8FDF_FFFD))}, "share a page"),
     ("a value twice", [*WITH_TREE, "-m", "256"], {}, "launch 256M-smp1-sha256: two combinations have this name"),
+    ("too many launches", [*WITH_TREE, "--append-file", "a"], {"a": b"a\n" * 65537}, "the words have 65537 combinations, expected at most"),
     ("a name that is long", [*replaced(KVMTOOL, "-m", "123456789012K@0x400000000000"), "-k", "k" * 32], {"k" * 32: image()},
      "-smp1-" + "k" * 32 + "-sha256: its name has 72 characters, expected at most 64"),
     ("a devicetree that is long", WITH_TREE, {"tree": FILES["tree"].ljust(2 * MIB + 1, b"\0")}, "tree: it has more than 2097152 bytes"),
@@ -690,6 +694,8 @@ OPTIONS = [
      changed_tree(**NO_PCIE) | changed_host(s2sz_max="39")),
     ("a plain guest", WITH_TREE, lambda folder: differs("warning", b"Warning: 1 of 1" in folder.read("out/manifest.toml"), True),
      changed_tree(method=b"hvc\0"), 'have the psci method "hvc", expected "smc": no realm has such a devicetree'),
+    ("PSCI of another place", WITH_TREE, lambda folder: [], changed_tree(psci=None, firmware={"p": {
+        "compatible": b"arm,psci-1.0\0arm,psci-0.2\0", "method": b"smc\0"}})),
     ("a guest without PSCI", WITH_TREE, lambda folder: [], changed_tree(psci=None), 'warning: 1 of 1 devicetrees have no psci method, expected'),
     ("words of one machine", ["qemu", "-M", "its=on", "-M", "virt", "-M", "gic-version=3", *QEMU[3:], "--qemu", "./stand-in"],
      lambda folder: differs("words", recorded(folder)["words"][1], "virt,its=on,gic-version=3,dtb-randomness=off"), TREES),
@@ -983,6 +989,18 @@ def full(_program: str):
                        (3, "rim-manifest: out/kernel: File too large, expected that it can be written\n", before))
 
 
+def odd_names(program: str):
+    """Names with a line's end, an escape and a byte that is no UTF-8: all is as with others, and none is printed as it is."""
+    odd = "n\n\x1b[2J\udcff"
+    with Folder() as folder:
+        for name in ("Image", "initrd", "tree", "host.toml"):
+            os.rename(os.path.join(folder.path, name), os.path.join(folder.path, name + odd))
+        words = ["qemu", "-M", "virt", "-cpu", "max", "-m", "256M", "-kernel", "Image" + odd, "--host", "host.toml" + odd, "--out", odd]
+        status, out, said = folder.run(*words, "--dtb", "tree" + odd)
+        wrong = differs("status", (status, out, said), (0, "n\\x0a\\x1b[2J\\xff/manifest.toml: 1 launch, 3 files\n", ""))
+        return wrong + read_by(program, folder, out=odd, count=1)
+
+
 def fifos(_program: str):
     """A FIFO is named, and not waited for."""
     wrong = []
@@ -1087,7 +1105,7 @@ def main():
     os.environ["RIM"] = program
     tries = [(f"option: {name}", lambda each=(words, look, *rest): option(program, *each)) for name, words, look, *rest in OPTIONS]
     tries += [*places(program)] + [(each.__name__, lambda each=each: each(program)) for each in (
-        matrix, measured, forced, not_forced, stopped_midway, bad_programs, signals, full, fifos, unharmed, started, texts, documents)]
+        matrix, measured, forced, not_forced, stopped_midway, bad_programs, signals, full, odd_names, fifos, unharmed, started, texts, documents)]
     processors = len(os.sched_getaffinity(0))
     with concurrent.futures.ProcessPoolExecutor(processors) as pool:
         outcomes = [(each[0], wrong) for each, wrong in zip(STOPS, pool.map(stops, range(len(STOPS)), chunksize=8))]

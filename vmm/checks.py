@@ -169,7 +169,7 @@ def faults(found: dict[str, list[Difference]], paths: dict[str, str]) -> list[st
 
 def warnings(trees: list[Tree]) -> list[str]:
     """What no realm has in its devicetree. Linux looks for the monitor only where PSCI's calls are SMC."""
-    methods = [(tree.root.child("psci") or Node("psci")).text("method") for tree in trees]
+    methods = [devicetree.psci_method(tree) for tree in trees]
     found = []
     for method in dict.fromkeys(methods):
         if method == "smc":

@@ -67,21 +67,27 @@ def processors(tree: Tree) -> list[int]:
     return [int.from_bytes(node.properties.get("reg", b"")[:4 * cells], "big") for node in processor_nodes(tree)]
 
 
-def first_compatible(node: Node) -> str | None:
-    """The first of what a node is compatible with: what it is."""
+def compatible(node: Node) -> list[str]:
+    """What a node is compatible with, what it is first."""
     text = node.text("compatible")
-    return None if text is None else text.split("\0")[0]
+    return [] if text is None else text.split("\0")
 
 
 def processor_models(tree: Tree) -> list[str | None]:
     """What the processors are, each model once."""
-    return list(dict.fromkeys(first_compatible(node) for node in processor_nodes(tree)))
+    return list(dict.fromkeys(next(iter(compatible(node)), None) for node in processor_nodes(tree)))
 
 
 def controllers(tree: Tree) -> list[str]:
     """The GICs: what their nodes are."""
-    found = (first_compatible(node) for node in tree.root.walk() if "interrupt-controller" in node.properties)
-    return [each for each in found if each is not None and each in (GIC_3, *GIC_2)]
+    found = (each for node in tree.root.walk() if "interrupt-controller" in node.properties for each in compatible(node))
+    return [each for each in found if each in (GIC_3, *GIC_2)]
+
+
+def psci_method(tree: Tree) -> str | None:
+    """How PSCI is called. Linux finds its node by what that is compatible with."""
+    nodes = [node for node in tree.root.walk() if any(each.startswith("arm,psci") for each in compatible(node))]
+    return (nodes[0] if nodes else tree.root.child("psci") or Node("psci")).text("method")
 
 
 def seeds(tree: Tree) -> list[str]:

@@ -45,7 +45,7 @@ class Folder:
     def __init__(self, out: str, is_forced: bool):
         self.name, self.out, self.is_forced = out, os.path.realpath(out), is_forced
         self.digests: dict[str, str] = {}
-        self.replaces = os.path.lexists(self.out)
+        self.replaces = exists(self.out, out)
         self.may_be_written()
         parent, name = os.path.split(self.out)
         parent, prefix = (self.out, ".rim-manifest.") if self.replaces else (parent, f".{name[:64]}.")
@@ -155,6 +155,17 @@ class Folder:
     def drop(self):
         with held():
             shutil.rmtree(self.path, ignore_errors=True)
+
+
+def exists(path: str, name: str) -> bool:
+    """Whether something has a path. A path that nothing can have is a fault, before any work is done."""
+    try:
+        os.lstat(path)
+    except FileNotFoundError:
+        return False
+    except OSError as why:
+        raise Fault(f"{visible(name)}: {files.why_of(why)}, expected a folder that can be made") from None
+    return True
 
 
 def names_shown(names: list[str]) -> str:

@@ -5,7 +5,7 @@ import zlib
 
 from outside import files
 from outside.faults import Fault
-from outside.rim import Rim, image_of
+from outside.rim import Image, Rim, image_of
 from outside.texts import shown, visible
 
 from .folder import Folder
@@ -33,14 +33,21 @@ def kernel(made: Folder, rim: Rim, path: str, label: str, name: str, vmm, versio
     elif is_zboot(data):
         data, how = from_zboot(path, data, vmm, version), f"unpacked from EFI zboot, as QEMU {version} does"
     blob = made.put(name, data, label, copied(path), path)
-    copy = os.path.join(made.path, name)
-    try:
-        image = image_of(rim, copy)
-    except Fault as why:
-        raise Fault(*(line.replace(visible(copy), visible(path)) for line in why.lines)) from None
+    image = header(rim, os.path.join(made.path, name), path)
     if image is None:
         raise Fault(f"{visible(path)}: {kind_of(data)}, expected an arm64 Image")
     return Kernel(blob.file, blob.path, blob.origin, blob.length, blob.label, blob.digest, image, how)
+
+
+def header(rim: Rim, copy: str, path: str) -> Image | None:
+    """The header of the copy of an Image. `rim` takes no path that is not UTF-8, so it is given one of its own."""
+    with files.folder("rim-manifest.") as scratch:
+        link = os.path.join(scratch, "kernel")
+        os.symlink(os.path.abspath(copy), link)
+        try:
+            return image_of(rim, link)
+        except Fault as why:
+            raise Fault(*(line.replace(visible(link), visible(path)) for line in why.lines)) from None
 
 
 def kind_of(data: bytes) -> str:

@@ -1,15 +1,18 @@
 """A launch for each combination, with a name that says it, and groups of launches for each manifest."""
+import math
 import re
 from dataclasses import dataclass
 
-from . import layout
 from outside.faults import Fault
-from outside.texts import visible
+
+from . import layout
 from .guest import PAGE, Blob, Guest, Kernel, up
 from .layout import Places
 
 # What a manifest takes at most (docs/FORMATS.md): launches, files, and different pages that are measured.
 MOST_LAUNCHES, MOST_FILES, MOST_PAGES = 1024, 64, 1 << 20
+# How many launches one run makes.
+MOST_COMBINATIONS = 1 << 16
 
 
 @dataclass
@@ -31,6 +34,9 @@ class Launch:
 
 def combinations(lists: dict, has_stub: bool) -> list[Guest]:
     """A guest for each combination. Those that share a devicetree are neighbours."""
+    count = math.prod(len(values) for values in lists.values())
+    if count > MOST_COMBINATIONS:
+        raise Fault(f"the words have {count} combinations, expected at most {MOST_COMBINATIONS}")
     return [Guest(machine, cpu, memory, smp, kernel, initrd, append, algo, has_stub)
             for machine in lists["machine"] for cpu in lists["cpu"] for memory in lists["memory"] for smp in lists["smp"]
             for append in lists["append"] for initrd in lists["initrd"] for kernel in lists["kernel"] for algo in lists["algo"]]

@@ -197,6 +197,8 @@ class Work:
         if "s2sz" in said:
             words.number("--s2sz", said["s2sz"], 32, 48)
         self.out = words.required(said, "out", "--out", "the folder that is written")
+        if not self.out:
+            raise WrongWords(f"--out: {shown(self.out)}, expected the folder that is written")
         path = words.required(said, "host", "--host", "the file that says what only the machine knows: vmm/host-example.toml")
         self.host = of_realm(host.read(path), self.others.realm)
         check_features(vmm, self.lists["cpu"], self.host)

@@ -10,7 +10,7 @@ import re
 from dataclasses import dataclass
 
 from outside.faults import WrongWords
-from outside.texts import shown
+from outside.texts import MOST_SHOWN, shown, visible
 
 from .words import ALGORITHMS, Others, Realm
 
@@ -125,6 +125,11 @@ HARMLESS_DEVICE = re.compile(
 HARMLESS_GLOBAL = re.compile(r"(virtio|vhost|usb|scsi|nvme|vfio-pci|pcie-root-port|migration)[a-z0-9-]*")
 
 
+def given_as(option: str, text: str) -> str:
+    """A word and its value in a line."""
+    return f"{option} {visible(text[:MOST_SHOWN])}{'..' * (len(text) > MOST_SHOWN)}"
+
+
 def properties(option: str, text: str, first: str) -> dict[str, str]:
     """What an object or a device is given, of words or of JSON; `first` is the key of a word without one."""
     if not text.startswith("{"):
@@ -142,7 +147,7 @@ def properties(option: str, text: str, first: str) -> dict[str, str]:
 def memory_backend(text: str, given: dict[str, str]) -> list[str]:
     """RAM of the same name and size, of no file and of no page yet: the devicetree is the same."""
     if "id" not in given or "size" not in given:
-        raise WrongWords(f"-object {text}: it has no {'id' if 'id' not in given else 'size'}, expected one")
+        raise WrongWords(f"{given_as('-object', text)}: it has no {'id' if 'id' not in given else 'size'}, expected one")
     doubled = (given[key].replace(",", ",,") for key in ("id", "size"))
     return ["-object", "memory-backend-ram,id={},size={},reserve=off".format(*doubled)]
 
@@ -179,7 +184,7 @@ def read_object(others: Others, option: str, text: str):
         others.dropped += [] if kept == [option, text] else [option, text]
     elif kind == "rme-guest":
         if others.realm is not None:
-            raise WrongWords(f"-object {text}: it is the second rme-guest, expected one")
+            raise WrongWords(f"{given_as('-object', text)}: it is the second rme-guest, expected one")
         others.kept += [option, text]
         others.realm = realm_of(given)
     else:
@@ -190,17 +195,17 @@ def read_device(others: Others, option: str, text: str):
     given = properties("device", text, "driver")
     driver = given.get("driver", "")
     if driver in ("loader", "guest-loader"):
-        raise WrongWords(f"{option} {text}: it loads what no table places, expected no such word")
+        raise WrongWords(f"{given_as(option, text)}: it loads what no table places, expected no such word")
     if driver.startswith(("virtio-mem", "virtio-pmem", "nvdimm", "pc-dimm")):
-        raise WrongWords(f"{option} {text}: it adds RAM that no table has, expected all RAM by -m")
+        raise WrongWords(f"{given_as(option, text)}: it adds RAM that no table has, expected all RAM by -m")
     if driver.startswith("virtio-iommu"):
         if "addr" not in given:
-            raise WrongWords(f"{option} {text}: its place is in the devicetree, and without addr= other devices decide it, expected addr=")
+            raise WrongWords(f"{given_as(option, text)}: its place is in the devicetree, and without addr= other devices decide it, expected addr=")
         others.kept += [option, text]
     elif HARMLESS_DEVICE.fullmatch(driver):
         others.dropped += [option, text]
     else:
-        raise WrongWords(f"{option} {text}: whether it changes the devicetree is not known, expected another device or none")
+        raise WrongWords(f"{given_as(option, text)}: whether it changes the devicetree is not known, expected another device or none")
 
 
 def read_serial(others: Others, option: str, text: str):
@@ -212,14 +217,14 @@ def read_serial(others: Others, option: str, text: str):
 
 def read_drive(others: Others, option: str, text: str):
     if properties("drive", text, "file").get("if") == "pflash":
-        raise WrongWords(f"{option} {text}: {REFUSED['pflash']}")
+        raise WrongWords(f"{given_as(option, text)}: {REFUSED['pflash']}")
     others.dropped += [option, text]
 
 
 def read_global(others: Others, option: str, text: str):
     driver = properties("global", text, "first").get("driver", text.partition(".")[0])
     if not HARMLESS_GLOBAL.fullmatch(driver):
-        raise WrongWords(f"{option} {text}: whether it changes the devicetree is not known, expected no such word")
+        raise WrongWords(f"{given_as(option, text)}: whether it changes the devicetree is not known, expected no such word")
     others.dropped += [option, text]
 
 
