@@ -1,4 +1,5 @@
 """The five checks of a launch against its devicetree, and the layout's own. Each difference names both sides."""
+import os
 from collections.abc import Iterator
 from dataclasses import dataclass
 
@@ -43,7 +44,8 @@ def boot_words(vmm, launch: Launch, tree: Tree) -> Iterator[Difference]:
     chosen = tree.root.child("chosen") or Node("chosen")
     args, text = chosen.text("bootargs") or "", launch.guest.append.text
     if args != text and not (vmm.NAME == "kvmtool" and is_among(text, args)):
-        yield Difference("boot words", f"the devicetree has bootargs {shown(args)}", shown(text))
+        other, own = command_lines_shown(args, text)
+        yield Difference("boot words", f"the devicetree has bootargs {other}", own)
     values = [chosen.properties.get(f"linux,initrd-{end}") for end in ("start", "end")]
     if launch.guest.initrd is None:
         if any(value is not None for value in values):
@@ -61,7 +63,15 @@ def is_among(text: str, args: str) -> bool:
 
 
 def initrd_shown(values: list[bytes | None]) -> str:
-    return " to ".join("nothing" if value is None else hex(int.from_bytes(value, "big")) for value in values)
+    return " to ".join("nothing" if value is None else hex(int.from_bytes(value, "big")) if len(value) <= 16 else f"{len(value)} bytes"
+                       for value in values)
+
+
+def command_lines_shown(*texts: str) -> list[str]:
+    """Command lines that differ, as they are shown: where they begin alike for long, from a bit before the first that differs."""
+    same = len(os.path.commonprefix(texts))
+    start = same - 40 if same > 100 else 0
+    return [(f"{start} characters and " if start else "") + shown(text[start:]) for text in texts]
 
 
 def processors(vmm, launch: Launch, tree: Tree, has_pmu: bool) -> Iterator[Difference]:

@@ -46,10 +46,14 @@ class Folder:
         self.name, self.out, self.is_forced = out, os.path.realpath(out), is_forced
         self.digests: dict[str, str] = {}
         self.replaces = exists(self.out, out)
+        self.path = ""
         self.may_be_written()
+
+    def begin(self):
+        """Makes the folder of another name."""
         parent, name = os.path.split(self.out)
         parent, prefix = (self.out, ".rim-manifest.") if self.replaces else (parent, f".{name[:64]}.")
-        with held(), files.faults_of(out, "a folder that can be made"):
+        with held(), files.faults_of(self.name, "a folder that can be made"):
             self.path = tempfile.mkdtemp(prefix=prefix, dir=parent)
 
     def shown(self, name: str = "") -> str:
@@ -153,8 +157,9 @@ class Folder:
         os.rename(os.path.join(self.path, name), os.path.join(self.out, name))
 
     def drop(self):
-        with held():
-            shutil.rmtree(self.path, ignore_errors=True)
+        if self.path:
+            with held():
+                shutil.rmtree(self.path, ignore_errors=True)
 
 
 def exists(path: str, name: str) -> bool:

@@ -302,6 +302,7 @@ def run(all_words: list[str]) -> int:
     work = Work(vmm, said, ["rim-manifest", *all_words])
     made = Folder(work.out, "force" in said)
     try:
+        made.begin()
         work.find_programs()
         lines, record = work.write(made)
         # the lines come first: where they cannot be written, there is no folder either
