@@ -6,7 +6,7 @@ from outside.texts import shown
 
 from .guest import GIB, MIB, PAGE, Guest, Memory, Processors, up
 from .layout import MEMORY, SEEN, SOURCE, Places, Row
-from .qemu_words import OFF, parts, read_others, refuse_before, refuse_machine_words
+from .qemu_words import OFF, parts, read_rest, refuse_before, refuse_machine_words  # noqa: F401, as main calls two of them by this module
 from .words import Option, Others, labelled, memories, processors, required, size
 
 NAME = "qemu"
@@ -193,10 +193,6 @@ def read_memory(said: dict) -> list[Memory]:
         return up(size("-m", text, MIB, has_fractions=True), 8192), None
 
     return memories("-m", said.get("memory", ["128M"]), read, lambda key: key in ("slots", "maxmem"))
-
-
-def read_rest(words: list[str]) -> Others:
-    return read_others(words)
 
 
 def check_realm(machine: str, others: Others):

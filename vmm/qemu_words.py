@@ -200,7 +200,8 @@ def read_device(others: Others, option: str, text: str):
         raise WrongWords(f"{given_as(option, text)}: it adds RAM that no table has, expected all RAM by -m")
     if driver.startswith("virtio-iommu"):
         if "addr" not in given:
-            raise WrongWords(f"{given_as(option, text)}: its place is in the devicetree, and without addr= other devices decide it, expected addr=")
+            raise WrongWords(f"{given_as(option, text)}: its place is in the devicetree, and without addr= other devices decide it, expected "
+                             "addr=")
         others.kept += [option, text]
     elif HARMLESS_DEVICE.fullmatch(driver):
         others.dropped += [option, text]
@@ -240,7 +241,7 @@ def is_known(word: str) -> bool:
     return word.startswith("-") and (takes_value(name) or name in DROPPED_ALONE or name in KEPT_ALONE)
 
 
-def read_others(words: list[str]) -> Others:
+def read_rest(words: list[str]) -> Others:
     """Reads the words after `--`."""
     others, left = Others(), list(words)
     while left:
@@ -266,5 +267,5 @@ def refuse_before(words: list[str]):
     """Says of a word before `--`, which rim-manifest does not know, why a launch has none such, or that its place is after `--`."""
     word = words[0]
     if is_known(word):
-        read_others(words[:2] if takes_value(re.sub(r"^--?", "", word)) else words[:1])
+        read_rest(words[:2] if takes_value(re.sub(r"^--?", "", word)) else words[:1])
         raise WrongWords(f"{shown(word)}: a word of QEMU's that rim-manifest makes no launch of, expected it after `--`")
