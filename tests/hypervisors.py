@@ -302,6 +302,7 @@ WRONG = [
         (["-device", "virtio-mem-pci,id=a"], "it adds RAM that no table has"), (["-device", "pc-dimm,id=a"], "it adds RAM that no table has"),
         (["-device", "nvdimm,id=a"], "it adds RAM that no table has"), (["-device", "tpm-tis-device"], "whether it changes the devicetree"),
         (["-device", "virtio-iommu-pci"], "without addr= other devices decide it, expected addr="), (["-readconfig", "F"], "does not read"),
+        (["-global", "virtio-iommu-pci.addr=2"], "whether it changes"),
         (["-global", "cpu.psci-conduit=2"], "whether it changes the devicetree is not known"), (["-M", "virt"], "expected it before `--`"),
         (["-object", "memory-backend-file,id=a,mem-path=F"], "it has no size, expected one"), (["disk.img"], "no word of QEMU's"),
         (["-object", "rme-guest,id=a"], "expected confidential-guest-support=ID where they have -object rme-guest"), (["-smp"], "expected it"),
@@ -723,7 +724,7 @@ OPTIONS = [
     ("kernels of long names", [*WITH_TREE, "-kernel", "k" * 33], lambda folder: differs("names", names_of(folder),
      ["256M-smp1-kernel1-sha256", "256M-smp1-kernel2-sha256"]), {"k" * 33: OTHER_IMAGE}),
     ("machines and models", [*QEMU, "-M", "virt-10.0", "-cpu", "cortex-a57,pmu=on", "--qemu", "./stand-in"], lambda folder: differs("names",
-     names_of(folder), [f"machine{m}-cpu{c}-256M-smp1-sha256" for m in (1, 2) for c in (1, 2)]), TREES),
+     names_of(folder), [f"machine{m}-cpu{c}-256M-smp1-sha256" for m in (1, 2) for c in (1, 2)]), TREES, "-machine has 2 machines"),
     ("a kernel that moves the initrd", [*replaced(QEMU, "-m", "1G"), "-kernel", "big", "-initrd", "initrd", "--qemu", "./stand-in"],
      lambda folder: differs("initrds", [item["at"] for launch in folder.toml()["launch"] for item in launch["item"][2:3]],
      [0x4800_0000, 0x4820_0000]), {"big": image(128 * MIB)} | {f"trees/1G-1-none-kernel-{name}": tree(

@@ -191,6 +191,9 @@ class Work:
         for machine in self.lists["machine"]:
             vmm.check_realm(machine.text, self.others)
         self.lists["algo"] = algorithms(said, self.others.realm)
+        if len(self.lists["machine"]) > 1:
+            count = len(self.lists["machine"])
+            ending.say("rim-manifest", f"warning: -machine has {count} machines: there are launches for each, where QEMU would make one of them")
         if ("program" in said) == ("dtb" in said):
             given = "both are" if "program" in said else "neither is"
             raise WrongWords(f"{source_names(vmm)}: {given} given, expected one of them for the devicetrees")

@@ -122,7 +122,7 @@ HARMLESS_DEVICE = re.compile(
     r"secondary-vga|bochs-display|ramfb|qxl|vfio-pci|qemu-xhci|nec-usb-xhci|ich9-usb|piix[34]-usb|pvpanic-pci|ivshmem|edu|i6300esb|"
     r"AC97|ES1370|pvscsi|rocker|ccid-card)([a-z0-9-]*)")
 # Drivers whose defaults change nothing in the devicetree.
-HARMLESS_GLOBAL = re.compile(r"(virtio|vhost|usb|scsi|nvme|vfio-pci|pcie-root-port|migration)[a-z0-9-]*")
+HARMLESS_GLOBAL = re.compile(r"(virtio-(?!iommu|mem|pmem)|vhost-|usb-|scsi-|nvme|vfio-pci|pcie-root-port)[a-z0-9-]*")
 
 
 def given_as(option: str, text: str) -> str:
@@ -200,8 +200,8 @@ def read_device(others: Others, option: str, text: str):
         raise WrongWords(f"{given_as(option, text)}: it adds RAM that no table has, expected all RAM by -m")
     if driver.startswith("virtio-iommu"):
         if "addr" not in given:
-            raise WrongWords(f"{given_as(option, text)}: its place is in the devicetree, and without addr= other devices decide it, expected "
-                             "addr=")
+            raise WrongWords(f"{given_as(option, text)}: its place is in the devicetree, and without addr= other devices decide it, "
+                             "expected addr=")
         others.kept += [option, text]
     elif HARMLESS_DEVICE.fullmatch(driver):
         others.dropped += [option, text]
