@@ -23,7 +23,7 @@ from outside.texts import visible
 
 from .guest import Blob
 
-RECORD = "record.json"
+RECORD, MEANWHILE = "record.json", ".record.json"
 RECORD_VERSION = 2
 MOST_RECORD = 64 << 20
 # How many names a fault has.
@@ -34,7 +34,7 @@ MEASURES = re.compile(r"manifest(-[0-9]+)?\.toml|measure")
 
 @dataclass
 class Made:
-    """What a record says that rim-manifest has made: the digests that each file may have. A stop in the middle leaves two of some."""
+    """What a record says that rim-manifest has made: the digests that each file may have. A stop in the middle may leave two of some."""
 
     digests: dict[str, set[str]] = field(default_factory=dict)
 
@@ -102,10 +102,8 @@ class Folder:
         files.write(path, data, os.path.join(self.name, name))
         if is_program:
             os.chmod(path, 0o777 & ~mask())
-        digest = hashlib.sha256(data).hexdigest()
-        if name != RECORD:
-            self.digests[name] = digest
-        return digest
+        self.digests[name] = hashlib.sha256(data).hexdigest()
+        return self.digests[name]
 
     def put(self, name: str, data: bytes, label: str, origin: str, path: str = "") -> Blob:
         """Writes a file; `origin` says where its bytes come from."""
@@ -117,12 +115,10 @@ class Folder:
     def script(self, name: str, source: str):
         self.write(name, files.read(source, 1 << 20), is_program=True)
 
-    def record(self, about: dict[str, object], before: Made | None = None):
-        """The record: what was made, and of what. `before`: files that may still be as another run has made them."""
+    def record(self, name: str, about: dict[str, object]):
+        """Writes the record: what was made, and of what."""
         table: dict[str, object] = {"rim_manifest_record": RECORD_VERSION} | about | {"files": self.digests}
-        if before:
-            table["before"] = {name: digest for name, digests in before.digests.items() for digest in digests}
-        self.text(RECORD, json.dumps(table, indent=1) + "\n")
+        files.write(os.path.join(self.path, name), (json.dumps(table, indent=1) + "\n").encode(), os.path.join(self.name, RECORD))
 
     def finish(self, about: dict[str, object]):
         """Puts what was made in its place."""
@@ -130,7 +126,7 @@ class Folder:
             with held(), locked(self.out, self.name):
                 self.replace(about)
             return
-        self.record(about)
+        self.record(RECORD, about)
         os.chmod(self.path, 0o777 & ~mask())
         with held():
             self.may_be_written()
@@ -138,23 +134,23 @@ class Folder:
                 os.rename(self.path, self.out)
 
     def replace(self, about: dict[str, object]):
-        """Replaces the files of another run, one by one: the manifests go first and come last."""
+        """Replaces the files of another run, one by one: the manifests go first and come last. Meanwhile the record has a member `before`,
+        the digests that files have which are still those of the other run."""
         self.may_be_written()
-        found = {name: {digest_of(os.path.join(self.out, name))} & digests for name, digests in self.made().digests.items()}
-        before = Made(found)
-        self.record({}, before)
-        last = sorted(self.digests, key=lambda name: bool(MEASURES.fullmatch(name)))
+        before = {name: digest for name in self.made().digests if (digest := digest_of(os.path.join(self.out, name)))}
+        self.record(RECORD, about)
+        self.record(MEANWHILE, {"before": before})
         with files.faults_of(self.name, "a folder that can be written; a next run with --force goes on"):
-            self.move(RECORD)
-            for name in sorted(before.digests, key=lambda name: not MEASURES.fullmatch(name)):
+            self.move(MEANWHILE, RECORD)
+            for name in sorted(before, key=lambda name: not MEASURES.fullmatch(name)):
                 if MEASURES.fullmatch(name) or name not in self.digests:
-                    remove(os.path.join(self.out, name))
-            self.record(about)
-            for name in [*last, RECORD]:
-                self.move(name)
+                    os.remove(os.path.join(self.out, name))
+            for name in sorted(self.digests, key=lambda name: bool(MEASURES.fullmatch(name))):
+                self.move(name, name)
+            self.move(RECORD, RECORD)
 
-    def move(self, name: str):
-        os.rename(os.path.join(self.path, name), os.path.join(self.out, name))
+    def move(self, name: str, to: str):
+        os.rename(os.path.join(self.path, name), os.path.join(self.out, to))
 
     def drop(self):
         if self.path:
@@ -202,11 +198,6 @@ def is_another(path: str, digests: set[str]) -> bool:
 def is_in_the_way(folder: str, name: str) -> bool:
     path = os.path.join(folder, name)
     return os.path.lexists(path) and (name != RECORD or os.path.islink(path))
-
-
-def remove(path: str):
-    if os.path.lexists(path):
-        os.remove(path)
 
 
 @contextmanager
