@@ -41,6 +41,7 @@ sys.path.insert(0, TOP)
 from vmm import host as host_keys  # noqa: E402, the path is set above
 from vmm.main import HYPERVISORS, options_of  # noqa: E402
 from vmm.main import main as rim_manifest  # noqa: E402
+from vmm.qemu_words import MACHINE  # noqa: E402
 
 MIB = 1 << 20
 SECONDS = 60
@@ -1090,6 +1091,8 @@ def documents(_program: str):
         wrong += [f"docs/rim-manifest.1: {name} is not named" for option in options_of(vmm) for name in option.names if name not in named]
         rows = [f"| {row.name} | {row.rule} | {row.sure} |" for row in vmm.TABLE]
         wrong += [f"docs/VMM.md has not {row!r}" for row in rows if row not in tables]
+    words = {key for row in MACHINE if not row.instead or row.passes for key in row.keys}
+    wrong += [f"docs/VMM.md: {key} of -M is not named" for key in sorted(words) if f"`{key}`" not in tables]
     keys = {*host_keys.NUMBERS, *host_keys.FLAGS, *host_keys.TEXTS}
     return wrong + [f"docs/rim-manifest.1: {key} is not named" for key in sorted(keys - named)]
 
