@@ -994,6 +994,17 @@ def full(_program: str):
                        (3, "rim-manifest: out/kernel: File too large, expected that it can be written\n", before))
 
 
+def read_once(program: str):
+    """Devicetrees of the same bytes are read once, whatever the number of launches, dumps and files that have them."""
+    with Folder(TREES) as folder:
+        folder.put("stand-in", STAND_IN.encode(), is_program=True)
+        folder.put("rim", f'#!/bin/sh\necho "$1" >>"$(dirname "$0")/runs"\nexec {program} "$@"\n'.encode(), is_program=True)
+        words = [*QEMU, "-cpu", "max,pmu=on", "-cpu", "cortex-a57", "-smp", "1,2", "--algo", "sha256,sha512", "--qemu", "./stand-in"]
+        status, _, said = folder.run(*words, RIM="./rim")
+        return differs("status", (status, said), (0, "")) + differs("runs", sorted(folder.read("runs").decode().split()),
+                                                                    ["--version", "fdt", "fdt", "image"])
+
+
 def odd_names(program: str):
     """Names with a line's end, an escape and a byte that is no UTF-8: all is as with others, and none is printed as it is."""
     odd = "n\n\x1b[2J\udcff"
@@ -1112,7 +1123,7 @@ def main():
     os.environ["RIM"] = program
     tries = [(f"option: {name}", lambda each=(words, look, *rest): option(program, *each)) for name, words, look, *rest in OPTIONS]
     tries += [*places(program)] + [(each.__name__, lambda each=each: each(program)) for each in (
-        matrix, measured, forced, not_forced, stopped_midway, bad_programs, signals, full, odd_names, fifos, unharmed, started, texts, documents)]
+        matrix, measured, forced, not_forced, stopped_midway, bad_programs, signals, full, read_once, odd_names, fifos, unharmed, started, texts, documents)]
     processors = len(os.sched_getaffinity(0))
     with concurrent.futures.ProcessPoolExecutor(processors) as pool:
         outcomes = [(each[0], wrong) for each, wrong in zip(STOPS, pool.map(stops, range(len(STOPS)), chunksize=8))]
