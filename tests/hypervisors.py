@@ -249,7 +249,7 @@ WRONG = [
     ("no words", [], "usage: rim-manifest"),
     ("another hypervisor", ["xen"], "\"xen\", expected qemu, kvmtool, cloud-hypervisor"),
     ("a word that is not known", [*WITH_TREE, "-nodefaults"],
-     "\"-nodefaults\": a word of QEMU's that rim-manifest makes no launch of, expected it after `--`"),
+     '"-nodefaults": rim-manifest makes no launch of it, expected it after `--`'),
     ("no value", [*WITH_TREE, "-initrd"], "-initrd: nothing is given, expected FILE"),
     ("twice", [*WITH_TREE, "--out", "b"], "--out: it is given twice"),
     ("a flag with a value", [*WITH_TREE, "--force=yes"], '--force: "yes" is given, expected no value'),
@@ -295,7 +295,9 @@ WRONG = [
     *[(f"before --: {' '.join(given)}", [*WITH_TREE, *given], why) for given, why in (
         (["-bios", "F"], "-bios: QEMU then starts firmware"), (["-incoming", "defer"], "-incoming: all of RAM comes from elsewhere"),
         (["--device", "loader,file=F"], "--device loader,file=F: it loads what no table places"),
-        (["-serial", "null"], "makes no launch of, expected it after `--`"), (["-new"], '"-new": no word of this hypervisor\'s'))],
+        (["-serial", "null"], '"-serial": rim-manifest makes no launch of it, expected it after `--`'),
+        (["-nographic", "-m", "1G", "-drive", "file=x", "--algo", "sha256", "-enable-kvm"],
+         '"-nographic", "-drive", "-enable-kvm": rim-manifest makes no launch of them, expected them after `--`'), (["-new"], '"-new": no word of this hypervisor\'s'))],
     *[(f"after --: {' '.join(given)}", [*QEMU, "--qemu", "q", "--", *given], why) for given, why in (
         (["-device", "driver=loader,file=F"], "it loads what no table places"), (["-device", "guest-loader,file=F"], "it loads what no"),
         (["-device", '{"driver":"loader","file":"F"}'], "it loads what no table places"), (["-device", "{"], "it begins as JSON and is none"),

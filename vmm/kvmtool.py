@@ -126,7 +126,7 @@ def realm_of(before: Realm | None, name: str, value: str) -> Realm:
 
 def refuse_before(words: list[str]):
     if words[0].partition("=")[0] in KEPT:
-        raise WrongWords(f"{shown(words[0])}: a word of lkvm's that rim-manifest makes no launch of, expected it after `--`")
+        raise WrongWords(f"{shown(words[0])}: rim-manifest makes no launch of it, expected it after `--`")
 
 
 def check_realm(machine: str, others: Others):

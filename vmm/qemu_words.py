@@ -113,8 +113,10 @@ REFUSED = {
     "readconfig": "rim-manifest does not read that file, expected its words one by one",
     "writeconfig": "it writes a file, expected no such word",
     "set": "what it changes is not known, expected no such word",
-} | dict.fromkeys(("machine", "M", "cpu", "smp", "m", "kernel", "initrd", "append"),
-                  "after `--` it would change what the table places, expected it before `--`")
+}
+# What is before `--`, as a launch is made of it.
+OWN = ("machine", "M", "cpu", "smp", "m", "kernel", "initrd", "append")
+REFUSED |= dict.fromkeys(OWN, "after `--` it would change what the table places, expected it before `--`")
 # Devices that change nothing in the devicetree: those on PCIe, USB and other buses that are in it anyway.
 HARMLESS_DEVICE = re.compile(
     r"(virtio|vhost)-(?!iommu|mem|pmem)[a-z0-9-]+|(usb|scsi|ide|nvme|pcie|pci|ioh3420|x3130|xio3130|sdhci|hda|intel-hda|ich9-intel-hda|"
@@ -264,8 +266,16 @@ def read_rest(words: list[str]) -> Others:
 
 
 def refuse_before(words: list[str]):
-    """Says of a word before `--`, which rim-manifest does not know, why a launch has none such, or that its place is after `--`."""
-    word = words[0]
-    if is_known(word):
-        read_rest(words[:2] if takes_value(re.sub(r"^--?", "", word)) else words[:1])
-        raise WrongWords(f"{shown(word)}: a word of QEMU's that rim-manifest makes no launch of, expected it after `--`")
+    """Says of words before `--`, the first of which is none of rim-manifest's, why a launch has none such, or that they go after `--`."""
+    found, left = [], list(words)
+    while left and left[0] != "--":
+        word = left.pop(0)
+        name = re.sub(r"^--?", "", word)
+        if not is_known(word) or name in OWN:
+            continue
+        given = [word, left.pop(0)] if takes_value(name) and left else [word]
+        read_rest(given)
+        found.append(word)
+    if found and found[0] == words[0]:
+        them = "it" if len(found) == 1 else "them"
+        raise WrongWords(f"{', '.join(map(shown, found))}: rim-manifest makes no launch of {them}, expected {them} after `--`")
