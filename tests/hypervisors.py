@@ -885,11 +885,11 @@ def stopped_midway(program: str):
     """Wherever a run with --force is stopped, no manifest is beside files of another run, nothing of the user's is lost, and the next run
     with --force ends well. The stop is a kill before the Nth renaming or removal."""
     wrong = []
+    with Folder() as folder:
+        folder.run(*WITH_TREE)
+        old = files_of(folder)
     for number in range(20):
-        with Folder({"b": OTHER_IMAGE}) as folder:
-            folder.run(*WITH_TREE)
-            folder.put("out/values.json", b"mine")
-            old = files_of(folder)
+        with Folder({"b": OTHER_IMAGE, "out/values.json": b"mine"} | {f"out/{name}": data for name, data in old.items()}) as folder:
             words = [*replaced(WITH_TREE, "-kernel", "b"), "--stub", "none", "--force"]
             status = folder.run("-c", KILLED, str(number), *words, start=sys.executable, PYTHONPATH=TOP)[0]
             has = files_of(folder)
