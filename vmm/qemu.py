@@ -154,9 +154,8 @@ def read_machine(said: dict, most: int):
     return labelled(texts, "machine", most)
 
 
-# What each model is in a devicetree, as far as it is the same in each QEMU. `max` and `host` are not.
-MODELS = {model: f"arm,{model}" for model in ("cortex-a35", "cortex-a53", "cortex-a55", "cortex-a57", "cortex-a72", "cortex-a76",
-                                              "cortex-a710", "neoverse-n1", "neoverse-n2", "neoverse-v1", "a64fx")}
+# What models are in a devicetree, as it was seen in QEMU 7.2.22. What `max` and `host` are depends on the version and the machine.
+MODELS = {model: f"arm,{model}" for model in ("cortex-a35", "cortex-a53", "cortex-a57", "cortex-a72", "cortex-a76", "neoverse-n1", "a64fx")}
 
 
 def processor(guest: Guest) -> str | None:
