@@ -85,10 +85,12 @@ class Running:
                 stopping.raise_here()
 
     def limit(self, which: int, most: int | None):
-        """Limits what it may have from here on."""
+        """Limits what it may have from here on, where it is not limited more already."""
         if most is not None:
             try:
-                resource.prlimit(self.process.pid, which, (most, most))
+                _, hard = resource.prlimit(self.process.pid, which)
+                least = most if hard == resource.RLIM_INFINITY else min(most, hard)
+                resource.prlimit(self.process.pid, which, (least, least))
             except (ProcessLookupError, PermissionError):
                 pass
 

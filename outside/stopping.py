@@ -43,6 +43,8 @@ def is_stopped() -> bool:
 
 def heed():
     """Has the script stop at the signals, but for those that whoever started it has it ignore, as nohup does."""
+    # where whoever started it ignores the ends of programs, nobody could see them
+    signal.signal(signal.SIGCHLD, signal.SIG_DFL)
     ours, theirs = os.pipe()
     os.set_blocking(theirs, False)
     signal.set_wakeup_fd(theirs, warn_on_full_buffer=False)

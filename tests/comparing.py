@@ -308,15 +308,18 @@ MISBEHAVING = [
 ]
 
 
-def misbehaving(_program: str) -> list[str]:
+def misbehaving(program: str) -> list[str]:
     """A program that is no `rim`: a line, and no report."""
     here, wrong = several(), []
     for name, body, given, expected, text in MISBEHAVING:
         status, out, said = here.run(*given, start=os.path.join(here.path, MEASURE), RIM=rim_of(here, body))
         is_lines = all(line.startswith("measure: ") for line in said.splitlines())
         wrong += differs(name, (status, out, text in said, is_lines), (expected, "", True, True)) and [f"{name}: {status} {out!r} {said!r}"]
+    words = ["/bin/sh", "-c", "ulimit -f 8192; trap '' CHLD; exec realms/measure"]
+    ran = subprocess.run(words, cwd=here.path, capture_output=True, text=True, check=False, env=os.environ | {"RIM": program})
+    wrong += differs("less than its limit", (ran.returncode, ran.stderr, ran.stdout.count("\n")), (0, "", 5))
     for output, said in (("/dev/full", "measure: output: No space left on device\n"), ("closed", "")):
-        wrong += differs(output, ended(here, [os.path.join(here.path, MEASURE)], output, _program), (3, said))
+        wrong += differs(output, ended(here, [os.path.join(here.path, MEASURE)], output, program), (3, said))
     return wrong
 
 

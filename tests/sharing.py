@@ -155,8 +155,26 @@ def runs(mark: str) -> bool:
     return False
 
 
+# A script whose own limit is less than that of the program, and which is started with the ends of programs ignored.
+LIMITED = """
+import signal, sys
+signal.signal(signal.SIGCHLD, signal.SIG_IGN)
+from outside import ending, programs
+def work():
+    print(programs.run(["/bin/sh", "-c", "sleep 0.1; ulimit -f; exit 5"], programs.Limits(file=1 << 30)))
+    return 0
+sys.exit(ending.status_of("outside", work))
+"""
+
+
+def limited() -> list[str]:
+    words = ["/bin/sh", "-c", 'ulimit -f 64; exec "$0" -c "$1"', sys.executable, LIMITED]
+    ran = subprocess.run(words, cwd=TOP, capture_output=True, text=True, check=False)
+    return [f"{ran}"] * ((ran.returncode, ran.stdout, ran.stderr) != (0, "Ran(status=5, out=b'64\\n', err=b'', is_cut=False)\n", ""))
+
+
 def run_programs() -> list[str]:
-    wrong = []
+    wrong = limited()
     for number, (body, limits, expected) in enumerate(RUNS):
         mark = f"1000.{os.getpid()}{number}"
         start = time.monotonic()

@@ -32,6 +32,8 @@ import tempfile  # noqa: E402
 MANIFEST = re.compile(r"manifest(?:-([0-9]+))?\.toml")
 # The longest report of a manifest, and the most manifests: docs/report.schema.json has as many launches and files as these can have.
 MOST, MOST_MANIFESTS = 64 << 20, 1024
+# How long a file of this script's may be already; no limit is the greatest number.
+HARD = resource.getrlimit(resource.RLIMIT_FSIZE)[1] % (1 << 64)
 SIGNALS = (signal.SIGINT, signal.SIGTERM, signal.SIGHUP)
 # The signals that have come, and whether a program is being started: it is killed once it is known.
 CAME, HELD = [], []
@@ -74,7 +76,7 @@ def measured(rim: str, folder: str, name: str, words: list[str]) -> tuple[int, b
             if CAME:
                 sys.exit(128 + CAME[0])
             # it ends by a signal where its report is longer, and does not fill the disk
-            resource.prlimit(ran.pid, resource.RLIMIT_FSIZE, (MOST, MOST))
+            resource.prlimit(ran.pid, resource.RLIMIT_FSIZE, (min(MOST, HARD), min(MOST, HARD)))
             os.waitid(os.P_PID, ran.pid, os.WEXITED | os.WNOWAIT)
         finally:
             os.killpg(ran.pid, signal.SIGKILL)
@@ -147,6 +149,8 @@ def run(words: list[str]) -> int:
 
 
 def main() -> int:
+    # where whoever started it ignores the ends of programs, nobody could see them
+    signal.signal(signal.SIGCHLD, signal.SIG_DFL)
     for each in SIGNALS:
         if signal.getsignal(each) != signal.SIG_IGN:
             signal.signal(each, stopped)
