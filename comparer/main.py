@@ -5,7 +5,7 @@ from outside import ending, files, programs
 from outside.faults import Fault, WrongWords
 from outside.programs import Limits
 from outside.rim import Rim
-from outside.texts import shown, visible
+from outside.texts import pasted, shown, visible
 
 from . import differ, report
 from .report import Report
@@ -47,7 +47,7 @@ def measured(path: str, folder: str) -> Report:
     programs.check(rim.path)
     ran = rim.run("measure", "--json", "--", path, limits=Limits(out=MOST))
     if ran.status not in (0, 1):
-        raise Fault(f"{ran.said}; `rim check {visible(path)}` says where" if ran.status == 3 else ran.said)
+        raise Fault(f"{ran.said}; `rim check {pasted(path)}` says where" if ran.status == 3 else ran.said)
     return report.read(ran.out, rim.path)
 
 

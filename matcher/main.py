@@ -9,7 +9,7 @@ from outside.faults import Fault, WrongWords
 from outside.programs import Ran
 from outside.rim import Rim
 from outside.stopping import Stopped
-from outside.texts import shown, visible
+from outside.texts import pasted, shown, visible
 
 from . import files, lines, nearest, program, value
 from .axes import AXES
@@ -127,7 +127,7 @@ def values_of(ran: Ran) -> dict[str, str]:
 
 
 def fault_of(said: str, path: str) -> Fault:
-    return Fault(f"{said}; `rim check {visible(path)}` says where")
+    return Fault(f"{said}; `rim check {pasted(path)}` says where")
 
 
 def tables_of(table: dict[str, object], key: str) -> list[dict]:
@@ -261,14 +261,15 @@ def near(rim: Rim, said: Words) -> int:
     path, *name = said.operands
     there = nearest.lines_of(said.trace or "")
     data = outside_files.read(path, MOST, "a manifest")
-    ran = rim.run("trace", "--", path, name[0] if name else "")
+    # no launch has this name: what is wrong with the manifest comes first
+    ran = rim.run("trace", "--", path, "")
     if ran.status > 1 and "no-such-launch" not in ran.said:
         raise fault_of(ran.said, path)
     names = names_of(table_of(path, data))
     if name and name[0] not in names:
         raise no_such_launch(name[0], names, path)
     if not names:
-        raise Fault(f"{visible(path)}: it has no launch; `rim check {visible(path)}` says what is wrong with it, if anything is")
+        raise Fault(f"{visible(path)}: it has no launch; `rim check {pasted(path)}` says what is wrong with it, if anything is")
     found = nearest.of_launches(rim, path, name or names, there)
     if found.best is None:
         print("\n".join(found.refused))

@@ -6,7 +6,7 @@ from dataclasses import dataclass, field
 from outside import files
 from outside.faults import Fault
 from outside.rim import Rim
-from outside.texts import plain, shown, visible
+from outside.texts import pasted, plain, shown, visible
 
 # The longest trace that is read, as long as the longest file that `rim` reads.
 MOST = 256 << 20
@@ -89,7 +89,7 @@ def of_launches(rim: Rim, manifest: str, names: list[str], there: list[str]) -> 
         elif ran.status == 1:
             found.refused.append(out.strip())
         else:
-            raise Fault(f"{ran.said}; `rim check {visible(manifest)}` says where")
+            raise Fault(f"{ran.said}; `rim check {pasted(manifest)}` says where")
     return found
 
 

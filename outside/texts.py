@@ -5,6 +5,7 @@ or `\\U` and eight. So no text ends a line, moves a terminal's cursor or looks l
 number too: Python keeps such a byte in a path as one of a pair of surrogates.
 """
 import functools
+import shlex
 import unicodedata
 
 # How many characters are shown of a text between quotes, and of a line that a program says.
@@ -48,6 +49,11 @@ def plain(text: str) -> str:
 def visible(text: str) -> str:
     """A text that is not between quotes, as a path: each `\\` is doubled, so that none is taken for the first of a number."""
     return plain(text.replace("\\", "\\\\"))
+
+
+def pasted(word: str) -> str:
+    """A word in a command line that a reader may paste into a shell: no character of it begins another command."""
+    return shlex.quote(visible(word))
 
 
 def quoted(text: str) -> str:

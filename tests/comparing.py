@@ -356,7 +356,8 @@ def signals(_program: str) -> list[str]:
 
 # ---- words and faults
 
-BAD = {"key.toml": manifest(LAUNCHES, PATHS).replace(b"s2sz", b"ss2z", 1), "toml.toml": b"rim_manifest = ", "gone-file.toml":
+KEY = manifest(LAUNCHES, PATHS).replace(b"s2sz", b"ss2z", 1)
+BAD = {"key.toml": KEY, "key $(b).toml": KEY, "toml.toml": b"rim_manifest = ", "gone-file.toml":
        manifest(LAUNCHES, PATHS | {"one": "none"}), "array.json": b"[]", "cut.json": b'{"files":[', "deep.json": b'{"a":' + b"[" * 100_000,
        "bytes.json": b"{\xff\xfe}", "empty": b"", "twice.json": b'{"version":3,"version":3}', "digits.json": b'{"a":' + b"1" * 5000,
        "nan.json": b'{"a":NaN}'}
@@ -386,6 +387,7 @@ WORDS = [
     (["bytes.json", "m.toml"], 3, "bytes.json: it is no UTF-8 at byte 1, expected a report"),
     (["kept.json", "bytes.json"], 3, "bytes.json: it is no UTF-8 at byte 1, expected a report"),
     (["kept.json", "key.toml"], 3, "rim: unknown-key; `rim check key.toml` says where"),
+    (["kept.json", "key $(b).toml"], 3, "rim: unknown-key; `rim check 'key $(b).toml'` says where"),
     (["kept.json", "toml.toml"], 3, "rim: syntax; `rim check toml.toml` says where"),
     (["kept.json", "gone-file.toml"], 3, "rim: file-unreadable; `rim check gone-file.toml` says where"),
     (["kept.json", "empty"], 3, "rim: version; `rim check empty` says where"),

@@ -454,7 +454,8 @@ def not_found(program: str) -> list[str]:
     return wrong
 
 
-MORE = {"key.toml": MANIFEST.replace("s2sz = 40", "s2sz = 40\nss2z = 40"), "range.toml": MANIFEST.replace("s2sz = 40", "s2sz = 99"),
+KEY = MANIFEST.replace("s2sz = 40", "s2sz = 40\nss2z = 40")
+MORE = {"key.toml": KEY, "a $(b).toml": KEY, "range.toml": MANIFEST.replace("s2sz = 40", "s2sz = 99"),
         "toml.toml": "rim_manifest = ", "new.toml": OLD.replace("name = \"old\", ", "name = \"old\",\n"),
         "file.toml": MANIFEST.replace('path = "stub"', 'path = "none"'), "none.toml": "rim_manifest = 2\n",
         "deep.toml": "rim_manifest = " + "[" * 100_000}
@@ -477,6 +478,7 @@ WORDS = [
     (["none.toml", "plain", NEVER], 3, 'rim: no-such-launch: "plain", expected one of none.toml: it has none'),
     (["key.toml", "plain", NEVER], 3, "rim: unknown-key; `rim check key.toml` says where"),
     (["range.toml", "plain", NEVER], 3, "rim: range; `rim check range.toml` says where"),
+    (["a $(b).toml", "plain", NEVER], 3, "rim: unknown-key; `rim check 'a $(b).toml'` says where"),
     (["toml.toml", "plain", NEVER], 3, "rim: syntax; `rim check toml.toml` says where"),
     (["new.toml", "old", NEVER], 3, "new.toml: it is no TOML that is read here (Invalid"),
     (["file.toml", "plain", NEVER], 3, "rim: file-unreadable; `rim check file.toml` says where"),

@@ -43,6 +43,7 @@ VISIBLE = [
     ("\ue000", "\\ue000"), ("\ufe0f", "\\ufe0f"), ('"', '"'),
 ]
 SHOWN = [("a", '"a"'), ('"\\', '"\\"\\\\"'), ("\n", '"\\x0a"'), ("a" * 160, f'"{"a" * 160}"'), ("a" * 161, f'"{"a" * 160}"..'), ("", '""')]
+PASTED = [("a.toml", "a.toml"), ("a b;c", "'a b;c'"), ("a\n'", "'a\\x0a'\"'\"''"), ("", "''")]
 LAST = [("a\nb\n", "b"), ("a\n \n", "a"), ("", "it says nothing"), ("rim: a\\x0a\n", "rim: a\\x0a"), ("\x1b[1mx", "\\x1b[1mx"),
         ("a" * 2000, "a" * 1000 + "..")]
 
@@ -53,6 +54,7 @@ def wrong_rows(call: Callable[[str], str], rows: list[tuple[str, str]]) -> list[
 
 def shown_texts() -> list[str]:
     wrong = wrong_rows(texts.visible, VISIBLE) + wrong_rows(texts.shown, SHOWN) + wrong_rows(texts.last_line, LAST)
+    wrong += wrong_rows(texts.pasted, PASTED)
     hidden = [number for number in range(0x110000) if unicodedata.category(chr(number))[0] in "CZ" and number != 0x20]
     return wrong + [f"{number:#x} is shown" for number in hidden if texts.character(chr(number)) == chr(number)]
 
