@@ -5,21 +5,24 @@
 
 - Lists of faults: at most 200 lines and how many more there are, none of what is past a limit, one line for one cause.
 - Large manifests: a check takes at most twice the time and the memory of `rim measure`, which looks for the lowest fault alone.
-- Terminals: after a fault, the file that it is about, the nearest name of a launch, or the command that says where; after those that a check
+- One devicetree of many launches: what it says is found once, and not at all where no warning is asked for.
+- Terminals: JSON has no character that nobody sees, and means the same. After a fault, the file that it is about, the nearest name of a launch, or the command that says where; after those that a check
   prints, the line with the first. Nothing where standard error is no terminal. The line of progress, of measurements and of audits, leaves
   the cursor on a line of its own, and is removed.
 
 The files are made here. The last line is 'N passed, M failed'.
 """
 import concurrent.futures
+import json
 import os
 import pty
 import re
 import resource
+import struct
 import subprocess
 import sys
 
-from hypervisors import TOP, Folder, differs, tried
+from hypervisors import TOP, Folder, Writer, differs, tried
 
 SMALL = "[[launch]]\nname = '%s'\nalgo = 'sha256'\ns2sz = 33\n"
 NONE = "m.toml:2:1: launch 0: name: missing-key: not given, expected a name of 1 to 64 letters, digits, '.', '_' and '-'"
@@ -76,31 +79,41 @@ def one_more(program: str) -> list[str]:
     return differs("the last", checked(program, manifest("[[launch]]\n" * 67))[-1], "1 more fault")
 
 
-def taken(program: str, command: str, folder: Folder) -> tuple[float, int]:
+def taken(program: str, words: tuple[str, ...], folder: Folder) -> tuple[float, int]:
     """Processor time in seconds and the most memory in KiB that a run takes."""
     script = "import resource, subprocess, sys\nsubprocess.run(sys.argv[1:], stdout=subprocess.DEVNULL, stderr=subprocess.DEVNULL)\n" \
              "used = resource.getrusage(resource.RUSAGE_CHILDREN)\nprint(used.ru_utime + used.ru_stime, used.ru_maxrss)"
-    words = [sys.executable, "-c", script, program, command, "m.toml"]
-    time, memory = subprocess.run(words, cwd=folder.path, capture_output=True, text=True, check=True).stdout.split()
+    line = [sys.executable, "-c", script, program, *words, "m.toml"]
+    time, memory = subprocess.run(line, cwd=folder.path, capture_output=True, text=True, check=True).stdout.split()
     return float(time), int(memory)
 
 
-def compared(program: str, folder: Folder) -> list[str]:
+def compared(program: str, folder: Folder, words: tuple[str, ...]) -> list[str]:
     """What a check takes more than it may, beside `rim measure`."""
-    time, memory = taken(program, "measure", folder)
-    own_time, own_memory = taken(program, "check", folder)
+    time, memory = taken(program, ("measure",), folder)
+    own_time, own_memory = taken(program, words, folder)
     wrong = [] if own_time <= 2 * time + 0.05 else [f"check takes {own_time:.2f} s, and measure {time:.2f}"]
     return wrong + ([] if own_memory <= 2 * memory else [f"check takes {own_memory} KiB, and measure {memory}"])
 
 
-def large(program: str, text: bytes) -> list[str]:
+def large(program: str, files: dict[str, bytes], *words: str) -> list[str]:
     """The same of the best of three tries, since a busy machine may hold up one of the two programs."""
-    folder = Folder({"m.toml": text})
+    folder = Folder(files)
     for _ in range(3):
-        wrong = compared(program, folder)
+        wrong = compared(program, folder, ("check", *words))
         if not wrong:
             break
     return wrong
+
+
+def many_ranges() -> dict[str, bytes]:
+    """A devicetree of 1.9 MB whose memory node has 120,000 ranges, which 1,024 launches share."""
+    reg = b"".join(struct.pack(">QQ", i * 37 % 120_000 << 13, 1 << 12) for i in range(120_000))
+    two = struct.pack(">I", 2)
+    tree = Writer().whole({"#address-cells": two, "#size-cells": two, "memory@0": {"reg": reg}}, None)
+    item = "ram = [[0x40000000, 0x50000000]]\nitem = [{name = 'd', kind = 'dtb', file = 'd', at = 0x40000000}]\n"
+    launches = [f"[[launch]]\nname = 'a{i}'\nalgo = 'sha256'\ns2sz = 40\nrec = [{{}}]\n{item}" for i in range(1024)]
+    return {"d": tree, "m.toml": manifest("[[file]]\nname = 'd'\npath = 'd'\n", *launches)}
 
 
 LARGE = [
@@ -110,10 +123,11 @@ LARGE = [
 ]
 
 
-def at_terminal(program: str, folder: Folder, *words: str, stop=False) -> tuple[int, str]:
-    """The status of a run whose standard error is a terminal, and what it shows there."""
+def at_terminal(program: str, folder: Folder, *words: str, stop=False, of="stderr") -> tuple[int, str]:
+    """The status of a run of which one stream is a terminal, and what it shows there."""
     own, other = pty.openpty()
-    ran = subprocess.Popen([program, *words], cwd=folder.path, stdout=subprocess.DEVNULL, stderr=other)
+    streams = {"stdout": subprocess.DEVNULL, "stderr": subprocess.DEVNULL} | {of: other}
+    ran = subprocess.Popen([program, *words], cwd=folder.path, **streams)
     os.close(other)
     shown = b""
     while True:
@@ -129,6 +143,21 @@ def at_terminal(program: str, folder: Folder, *words: str, stop=False) -> tuple[
             stop = False
     os.close(own)
     return ran.wait(), shown.decode().replace("\r\n", "\n")
+
+
+HIDDEN = "a\x7f\x9b\u202e\U000e0041\u2800b"
+
+
+def hidden(program: str) -> list[str]:
+    """JSON on a terminal has the number of each character that nobody sees, and means what it has by a pipe."""
+    path = json.dumps(HIDDEN)
+    folder = Folder({HIDDEN: b"x", "m.toml": manifest(f"file = [{{name = 'f', path = {path}}}]\n", SMALL % "a")})
+    status, shown = at_terminal(program, folder, "measure", "--json", "m.toml", of="stdout")
+    ran = subprocess.run([program, "measure", "--json", "m.toml"], cwd=folder.path, capture_output=True, text=True, check=True)
+    wrong = differs("the status", status, 0) + differs("what it means", json.loads(shown), json.loads(ran.stdout))
+    wrong += differs("the path", json.loads(shown)["files"][0]["path"], HIDDEN)
+    wrong += [] if shown.isascii() and shown.replace("\n", "").isprintable() else [f"shown: {shown!r}"]
+    return wrong + ([] if HIDDEN in ran.stdout else ["by a pipe the path is not as it is"])
 
 
 FILE = "[[file]]\nname = 'f'\npath = '%s'\n"
@@ -217,10 +246,12 @@ def broken_off(program: str) -> list[str]:
 
 
 def all_tries(program: str):
-    for look in (many, all_of_them, lower, past_limit, one_more, no_terminal, progress, progress_of_audit, broken_off):
+    for look in (many, all_of_them, lower, past_limit, one_more, no_terminal, hidden, progress, progress_of_audit, broken_off):
         yield look.__name__, lambda look=look: look(program)
     for name, text in LARGE:
-        yield name, lambda text=text: large(program, text())
+        yield name, lambda text=text: large(program, {"m.toml": text()})
+    yield "one devicetree of 1,024 launches", lambda: large(program, many_ranges())
+    yield "the same without warnings", lambda: large(program, many_ranges(), "--quiet")
     for name, words, text, shown in ADVICE:
         yield name, lambda words=words, text=text, shown=shown: advice(program, words, text, shown)
 

@@ -1,39 +1,76 @@
 -- The faults of a manifest, explained.
-use Rattle.std.proofs.Common.{◌≡◌, ◌∙◌, ℕ, List, [], ◌∷◌, Some, None, Err, ap, map, refl, subst, sym}
-use Rattle.std.proofs.lemmas.List.{append-nil}
+use Rattle.std.proofs.Common.{◌≡◌, ◌∙◌, ◌+◌, ◌≤◌, ℕ, List, [], ◌∷◌, ◌++◌, Option, Some, None, Err, ap, arith, length, map, refl, subst, sym}
+use Rattle.std.proofs.lemmas.List.{append-nil, length-map}
 use Rattle.toml.specs.Data.{Members}
 use Rattle.rim_manifest.specs.declared.fault.ManifestFault.{ManifestFault}
 use Rattle.rim_manifest.specs.declared.fault.ManifestFault.TheVariants.{Syntax}
+use Rattle.rim_manifest.specs.declared.finding.Finding.{Finding}
 use Rattle.rim_manifest.specs.Faults.{lower, lowest}
+use Rattle.rim_manifest.specs.Found.{AreFound}
 use Rattle.rim_manifest.specs.Manifest.{Answer, answer_of, document_of, manifest_of, read_of}
-use Rattle.rim_check.specs.Explained.{Explains, IsCheckOf, fault_said, others_said}
+use Rattle.rim_manifest.specs.inside.Kept.{faults_in}
+use Rattle.rim_check.specs.Explained.{Explains, IsCheckOf, Located, fault_said, others_said}
+use Rattle.rim_check.specs.inside.Listed.{ShowsFindings, ShowsList, faults_at, no_document}
 use Rattle.rim_line.specs.Lines.{AddsAll, Saying, SayInTurn}
 use Rattle.rim_check.specs.declared.manifest.ManifestCheck.{ManifestCheck}
+use Rattle.rim_spot.specs.declared.spot.Spot.{Spot}
 
 -- a text that is no document is explained by one line
-pub explains-syntax : (lines : List ℕ) → SayInTurn (map fault_said (Syntax ∷ [])) lines → Explains Syntax lines
+pub explains-syntax : (path bytes : List ℕ) (spot : Option Spot) (text : List ℕ) → document_of bytes ≡ None
+    → SayInTurn (fault_said path None (no_document spot) ∷ []) text → Explains path bytes Syntax text
 unfolding lower
-explains-syntax lines says = record { faults = Syntax ∷ []; lowest = refl; more = 0; lines = says }
+explains-syntax path bytes spot text none says =
+    record {
+      faults = no_document spot ∷ [];
+      lowest = refl;
+      more = 0;
+      counted = rw none (refl, refl);
+      lines = subst (λ (document : Option Members). SayInTurn (fault_said path document (no_document spot) ∷ []) text) (sym none) says;
+    }
 
--- a manifest is explained by a line for each fault of an excerpt with the same lowest, and how many others there are
-pub explains-more : (fault : ManifestFault) (listed shown : List ManifestFault) (more : ℕ) (old new : List ℕ)
-    → lowest shown ≡ lowest listed → SayInTurn (map fault_said shown) old → AddsAll (others_said more) old new → lowest listed ≡ Some fault → Explains fault new
-explains-more fault listed shown more old new same says adds least =
-    record { faults = shown; lowest = same ∙ least; more = more; lines = adds (map fault_said shown) says }
+counted-same : (found : List Finding) (shown : List Located) → faults_at shown ≡ faults_in found → length shown ≡ length found
+counted-same found shown are =
+    sym (length-map shown (λ (l : Located). l.fault)) ∙ ap (λ (fs : List ManifestFault). length fs) are ∙ length-map found (λ (f : Finding). f.fault)
 
-pub explains-all : (fault : ManifestFault) (listed shown : List ManifestFault) (text : List ℕ)
-    → lowest shown ≡ lowest listed → SayInTurn (map fault_said shown) text → lowest listed ≡ Some fault → Explains fault text
-explains-all fault listed shown text same says least = record {
-  faults = shown;
-  lowest = same ∙ least;
-  more = 0;
-  lines = subst (λ (ss : List Saying). SayInTurn ss text) (sym (append-nil (map fault_said shown))) says;
+-- faults that were found are listed by a line for each fault of an excerpt with the same lowest, and how many others there are
+pub lists-more : (path : List ℕ) (ms : Members) (listed shown : List Finding) (others more : ℕ) (old new : List ℕ)
+    → lowest (faults_in shown) ≡ lowest (faults_in listed) → others ≤ more → length shown + more ≤ length listed + others
+    → ShowsFindings path ms shown old → AddsAll (others_said more) old new → ShowsList path ms (faults_in listed) others new
+lists-more path ms listed shown others more old new same beside within shows adds =
+    let count : length shows.faults ≡ length shown = counted-same shown shows.faults shows.are in
+    let all : length (faults_in listed) ≡ length listed = length-map listed (λ (f : Finding). f.fault) in
+    record {
+      faults = shows.faults;
+      least = ap lowest shows.are ∙ same;
+      more = more;
+      beside = beside;
+      within = omega (arith, within, count, all);
+      lines = adds (map (fault_said path (Some ms)) shows.faults) shows.lines;
+    }
+
+pub lists-all : (path : List ℕ) (ms : Members) (listed shown : List Finding) (others more : ℕ) (text : List ℕ)
+    → lowest (faults_in shown) ≡ lowest (faults_in listed) → others ≤ more → length shown + more ≤ length listed + others → more ≤ 0
+    → ShowsFindings path ms shown text → ShowsList path ms (faults_in listed) others text
+lists-all path ms listed shown others more text same beside within none shows =
+    lists-more path ms listed shown others 0 text text same (omega (arith, beside, none)) (omega (arith, within)) shows
+    (λ (said : List Saying) (says : SayInTurn said text). subst (λ (ss : List Saying). SayInTurn ss text) (sym (append-nil said)) says)
+
+-- a document is explained by the list of what was found in it
+pub explains-list : (path bytes : List ℕ) (ms : Members) (listed : List ManifestFault) (others : ℕ) (text : List ℕ) (found : AreFound ms listed others)
+    → document_of bytes ≡ Some ms → ShowsList path ms listed others text → Explains path bytes found.fault text
+explains-list path bytes ms listed others text found document shows = record {
+  faults = shows.faults;
+  lowest = shows.least ∙ found.lowest;
+  more = shows.more;
+  counted = rw document (listed, others, found, shows.beside, shows.within);
+  lines = subst (λ (d : Option Members). SayInTurn (map (fault_said path d) shows.faults ++ others_said shows.more) text) (sym document) shows.lines;
 }
 
 -- a check of what a document reads as is one of the manifest
-pub of-document : (bytes : List ℕ) (ms : Members) (a : Answer) (m : ManifestCheck) → document_of bytes ≡ Some ms → read_of ms ≡ a → IsCheckOf a m
-    → IsCheckOf (manifest_of bytes) m
-of-document bytes ms a m document read is = subst (λ (x : Answer). IsCheckOf x m) (sym (ap answer_of document ∙ read)) is
+pub of-document : (path bytes : List ℕ) (ms : Members) (a : Answer) (m : ManifestCheck)
+    → document_of bytes ≡ Some ms → read_of ms ≡ a → IsCheckOf path bytes a m → IsCheckOf path bytes (manifest_of bytes) m
+of-document path bytes ms a m document read is = subst (λ (x : Answer). IsCheckOf path bytes x m) (sym (ap answer_of document ∙ read)) is
 
-pub of-none : (bytes : List ℕ) (m : ManifestCheck) → document_of bytes ≡ None → IsCheckOf (Err Syntax) m → IsCheckOf (manifest_of bytes) m
-of-none bytes m document is = subst (λ (x : Answer). IsCheckOf x m) (sym (ap answer_of document)) is
+pub of-none : (path bytes : List ℕ) (m : ManifestCheck) → document_of bytes ≡ None → IsCheckOf path bytes (Err Syntax) m
+    → IsCheckOf path bytes (manifest_of bytes) m
+of-none path bytes m document is = subst (λ (x : Answer). IsCheckOf path bytes x m) (sym (ap answer_of document)) is

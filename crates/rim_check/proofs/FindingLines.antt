@@ -1,28 +1,42 @@
 -- The lines of faults, one after another.
-use Rattle.std.proofs.Common.{◌≡◌, ◌∙◌, ◌+◌, ◌<◌, ◌≤◌, ℕ, List, [], ◌∷◌, ◌++◌, ap, arith, get_or, length, map, refl, subst, suc, sym, take}
+use Rattle.std.proofs.Common.{◌≡◌, ◌∙◌, ◌+◌, ◌<◌, ◌≤◌, ℕ, List, [], ◌∷◌, ◌++◌, Option, Some, ap, arith, get_or, length, map, refl, subst, suc, sym, take}
 use Rattle.std.proofs.Math.Seq.{take-suc}
-use Rattle.std.proofs.lemmas.List.{take_all}
+use Rattle.std.proofs.lemmas.List.{map-append, take_all}
+use Rattle.toml.specs.Data.{Members}
+use Rattle.rim_manifest.specs.declared.fault.ManifestFault.{ManifestFault}
 use Rattle.rim_manifest.specs.declared.finding.Finding.{Finding}
 use Rattle.rim_manifest.specs.inside.Kept.{faults_in}
-use Rattle.rim_check.specs.Explained.{fault_said}
+use Rattle.rim_check.specs.Explained.{Located, fault_said}
+use Rattle.rim_check.specs.inside.Listed.{ShowsFindings, faults_at, located}
 use Rattle.rim_line.specs.Lines.{AddsLine, Saying, SayInTurn}
+use Rattle.rim_spot.specs.declared.spot.Spot.{Spot}
 
--- what is said of what was found
-abbrev pub findings_said : List Finding → List Saying
-findings_said found = map fault_said (faults_in found)
+faults-next : (found : List Finding) (f : Finding) → faults_in (found ++ f ∷ []) ≡ faults_in found ++ f.fault ∷ []
+faults-next [] f = refl
+faults-next (g ∷ found) f = ap (λ (fs : List ManifestFault). g.fault ∷ fs) (faults-next found f)
 
-said-next : (found : List Finding) (f : Finding) → findings_said (found ++ f ∷ []) ≡ findings_said found ++ fault_said f.fault ∷ []
-said-next [] f = refl
-said-next (g ∷ found) f = ap (λ (ss : List Saying). fault_said g.fault ∷ ss) (said-next found f)
+-- one fault more
+shows-next : (path : List ℕ) (ms : Members) (found : List Finding) (f : Finding) (spot : Option Spot) (old new : List ℕ)
+    → AddsLine (fault_said path (Some ms) (located f spot)) old new → ShowsFindings path ms found old → ShowsFindings path ms (found ++ f ∷ []) new
+shows-next path ms found f spot old new adds shows =
+    let says : Located → Saying = fault_said path (Some ms) in
+    record {
+      faults = shows.faults ++ located f spot ∷ [];
+      are = map-append (λ (l : Located). l.fault) shows.faults (located f spot ∷ []) ∙ ap (λ (fs : List ManifestFault). fs ++ f.fault ∷ []) shows.are
+          ∙ sym (faults-next found f);
+      lines = subst (λ (ss : List Saying). SayInTurn ss new) (sym (map-append says shows.faults (located f spot ∷ []))) (adds (map says shows.faults) shows.lines);
+    }
 
 -- in a loop over what was found, of which this is the one with number i
-pub said-at : (found : List Finding) (i : ℕ) (d : Finding) (text text' : List ℕ) → i < length found
-    → AddsLine (fault_said (get_or found i d).fault) text text' → SayInTurn (findings_said (take i found)) text → SayInTurn (findings_said (take (i + 1) found)) text'
-said-at found i d text text' inside adds says =
+pub shown-at : (path : List ℕ) (ms : Members) (found : List Finding) (i : ℕ) (d : Finding) (spot : Option Spot) (old new : List ℕ) → i < length found
+    → AddsLine (fault_said path (Some ms) (located (get_or found i d) spot)) old new → ShowsFindings path ms (take i found) old
+    → ShowsFindings path ms (take (i + 1) found) new
+shown-at path ms found i d spot old new inside adds shows =
     let next : i + 1 ≡ suc i = omega arith in
     let front : take (i + 1) found ≡ take i found ++ get_or found i d ∷ [] = ap (λ (n : ℕ). take n found) next ∙ take-suc found i d inside in
-    subst (λ (ss : List Saying). SayInTurn ss text') (sym (ap findings_said front ∙ said-next (take i found) (get_or found i d))) (adds (findings_said (take i found)) says)
+    subst (λ (fs : List Finding). ShowsFindings path ms fs new) (sym front) (shows-next path ms (take i found) (get_or found i d) spot old new adds shows)
 
 -- all is said
-pub all-said : (found : List Finding) (i : ℕ) (text : List ℕ) → length found ≤ i → SayInTurn (findings_said (take i found)) text → SayInTurn (findings_said found) text
-all-said found i text past says = subst (λ (xs : List Finding). SayInTurn (findings_said xs) text) (take_all i found past) says
+pub all-shown : (path : List ℕ) (ms : Members) (found : List Finding) (i : ℕ) (text : List ℕ) → length found ≤ i → ShowsFindings path ms (take i found) text
+    → ShowsFindings path ms found text
+all-shown path ms found i text past shows = subst (λ (fs : List Finding). ShowsFindings path ms fs text) (take_all i found past) shows

@@ -3,6 +3,8 @@
 pub mod FaultsAreExplained
 -- the loop that writes these lines
 pub mod FindingLines
+-- and what is before a fault's word in them
+pub mod FaultPlaces
 -- The loop over the launches of a release, and whether one of them is refused
 pub mod LaunchLines
 -- in each turn of that loop: nothing is said of a launch that is accepted, and one line of one that is refused, for its reason
@@ -13,3 +15,5 @@ pub mod FoundOfLaunches
 pub mod WarningLines
 -- The numbers of a reason: their hexadecimal digits
 pub mod HexadecimalDigits
+-- What a check finds as JSON
+pub mod LinesAsJson

@@ -1,9 +1,14 @@
 -- What is said of a manifest's faults and of the launches that are refused. This project's choice.
-use Rattle.std.specs.Prelude.{◌≡◌, ◌⊎◌, ℕ, Bool, List, [], ◌∷◌, ◌++◌, ◌==◌, length, map, Option, Some, None, IsOk, Ok, Err, codes, decimal, nat_lt, if◌then◌else◌}
+use Rattle.std.specs.Prelude.{◌≡◌, ◌⊎◌, ◌≤◌, ◌+◌, ℕ, Bool, List, [], ◌∷◌, ◌++◌, ◌==◌, length, map, Option, Some, None, IsOk, Ok, Err, codes, decimal, nat_lt, option_map, if◌then◌else◌}
 use Rattle.rim_manifest.specs.declared.fault.ManifestFault.{ManifestFault}
 use Rattle.rim_manifest.specs.Faults.{kind_of, lowest}
+use Rattle.rim_manifest.specs.Found.{AreFound}
 use Rattle.rim_manifest.specs.Launches.{NamedData}
-use Rattle.rim_manifest.specs.Manifest.{Answer}
+use Rattle.rim_manifest.specs.Manifest.{Answer, document_of}
+use Rattle.rim_manifest.specs.declared.finding.Place.{Place}
+use Rattle.rim_manifest.specs.declared.finding.Subject.{Subject}
+use Rattle.rim_spot.specs.declared.spot.Spot.{Spot}
+use Rattle.toml.specs.Data.{Members}
 use Rattle.rim_accepted.specs.Accepted.{rim_for}
 use Rattle.rim_accepted.specs.AuditFaults.{audit_kind_of}
 use Rattle.rim_accepted.specs.Lines.{has_refused}
@@ -14,6 +19,7 @@ use Rattle.rim_report.specs.Pages.{page_keys}
 use Rattle.rim_report.specs.declared.fault.StartFault.TheVariants as start
 use Rattle.rim_report.specs.declared.pages.TheConstants.{DISTINCT_LIMIT}
 use Rattle.rim_check.specs.Details.{reason_detail}
+use Rattle.rim_check.specs.Fronts.{place_text, spot_text}
 use Rattle.rim_line.specs.Lines.{AddsLine, Saying, SayInTurn}
 use Rattle.rim_line.specs.Readables.{item_name, item_names_in}
 use Rattle.rim_check.specs.Warned.{ShowsWarnings}
@@ -25,9 +31,21 @@ use Rattle.rim_check.specs.declared.manifest.ManifestCheck.TheVariants.{Faulty, 
 
 -- ---- manifests
 
--- what is said of a fault of a manifest: its word
-abbrev pub fault_said : ManifestFault → Saying
-fault_said fault = record { front = None; word = kind_of fault; detail = None }
+-- a fault with its place in the text, where that is known, and in the document
+pub record Located : Type 0 where
+  pub fault : ManifestFault
+  pub spot : Option Spot
+  pub place : Place
+  pub subject : Subject
+
+-- what is before the word of a fault: the manifest's path, the place in the text, and the table with its key where the text is a document
+abbrev pub fault_front : List ℕ → Option Members → Located → Option (List ℕ)
+fault_front path None l = Some (path ++ (spot_text l.spot ++ []))
+fault_front path (Some ms) l = option_map (λ place. path ++ (spot_text l.spot ++ place)) (place_text ms l.place l.subject)
+
+-- what is said of a fault of a manifest: where it is, and its word
+abbrev pub fault_said : List ℕ → Option Members → Located → Saying
+fault_said path document l = record { front = fault_front path document l; word = kind_of l.fault; detail = None }
 
 -- that there are more faults than have a line
 abbrev pub others_said : ℕ → List Saying
@@ -37,19 +55,27 @@ others_said more = if nat_lt 0 more then record {
   detail = Some (if more == 1 then codes " more fault" else codes " more faults");
 } ∷ [] else []
 
--- the text has a line for each of some faults, and then how many more there are; the lowest of those with a line is the one that
--- the manifest is refused with
-pub record Explains (fault : ManifestFault) (text : List ℕ) : Type 0 where
-  pub faults : List ManifestFault
-  pub lowest : lowest faults ≡ Some fault
+-- How many faults have a line, and how many more there are. A text that is no document has one. Of a document the others are at least those
+-- that are not listed, and none that has a line is among them: what is listed and has no line is one of them, or has the cause of another.
+abbrev pub AreCounted : Option Members → ℕ → ℕ → Type 0
+AreCounted None count more = (count ≡ 1) × (more ≡ 0)
+AreCounted (Some ms) count more =
+    (listed : List ManifestFault) × (others : ℕ) × AreFound ms listed others × (others ≤ more) × (count + more ≤ length listed + others)
+
+-- the text has a line for each of some faults of the manifest with this path and these bytes, and then how many more there are; the lowest of
+-- those with a line is the one that the manifest is refused with
+pub record Explains (path bytes : List ℕ) (fault : ManifestFault) (text : List ℕ) : Type 0 where
+  pub faults : List Located
+  pub lowest : lowest (map (λ l. l.fault) faults) ≡ Some fault
   pub more : ℕ
-  pub lines : SayInTurn (map fault_said faults ++ others_said more) text
+  pub counted : AreCounted (document_of bytes) (length faults) more
+  pub lines : SayInTurn (map (fault_said path (document_of bytes)) faults ++ others_said more) text
 
 -- a manifest is explained as faulty exactly where it is refused
-abbrev pub IsCheckOf : Answer → ManifestCheck → Type 0
-IsCheckOf (Err fault) (Faulty text) = Explains fault text.items
-IsCheckOf (Ok release) (Readable readable) = readable.release ≡ release
-IsCheckOf _ _ = ⊥
+abbrev pub IsCheckOf : List ℕ → List ℕ → Answer → ManifestCheck → Type 0
+IsCheckOf path bytes (Err fault) (Faulty text) = Explains path bytes fault text.items
+IsCheckOf path bytes (Ok release) (Readable readable) = readable.release ≡ release
+IsCheckOf path bytes _ _ = ⊥
 
 -- a manifest that is not faulty has the names of its text's items
 abbrev pub HasNames : List ℕ → ManifestCheck → Type 0

@@ -1,2 +1,3 @@
 pub mod Refused
 pub mod Found
+pub mod Listed

@@ -1,5 +1,5 @@
 //! Which faults of a manifest have a line.
-ghost use Rattle.std.specs.Prelude.{◌≡◌, IfOk};
+ghost use Rattle.std.specs.Prelude.{◌≡◌, ◌≤◌, ◌+◌, IfOk, length};
 ghost use Rattle.rim_manifest.specs.Faults.{lowest};
 ghost use Rattle.rim_manifest.specs.inside.Kept.{faults_in};
 
@@ -26,12 +26,15 @@ pub(crate) struct Excerpt {
 }
 
 impl Excerpt {
-    ghost use Rattle.std.specs.Prelude.{◌≡◌, OnOk};
+    ghost use Rattle.std.specs.Prelude.{◌≡◌, ◌≤◌, ◌+◌, OnOk, length};
     ghost use Rattle.rim_manifest.specs.Faults.{lower};
 
     /// Adds a fault: a line, or one more of the others.
     fn add(&mut self, document: &Document, finding: &Finding) -> Result<(), NoMemory>
-        ensures { OnOk result (self.new.least ≡ lower self.old.least finding.now.fault) }
+        ensures least { OnOk result (self.new.least ≡ lower self.old.least finding.now.fault) }
+        ensures beside { OnOk result (self.old.more ≤ self.new.more) }
+        ensures within { OnOk result (length self.new.findings.items + self.new.more
+            ≤ (length self.old.findings.items + self.old.more) + 1) }
     {
         if is_lower(finding.fault, self.least) {
             self.findings.push(*finding)?;
@@ -54,8 +57,11 @@ pub(crate) fn take_excerpt(
     document: &Document,
     list: &FaultList,
 ) -> Result<Excerpt, NoMemory>
-    ensures { IfOk result (λ e. lowest (faults_in e.findings.items)
+    ensures least { IfOk result (λ e. lowest (faults_in e.findings.items)
         ≡ lowest (faults_in list.now.findings.items)) }
+    ensures beside { IfOk result (λ e. list.now.more ≤ e.more) }
+    ensures within { IfOk result (λ e. length e.findings.items + e.more
+        ≤ length list.now.findings.items + list.now.more) }
 {
     let mut excerpt = Excerpt {
         findings: Vec::new(alloc),

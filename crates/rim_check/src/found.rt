@@ -8,6 +8,7 @@ use refusal::NoMemory;
 use rim_line::{Line, push_line};
 use rim_manifest::NamedLaunch;
 use rim_report::{DISTINCT_LIMIT, MeasuredPages, StartFault};
+use rim_unusual::SeenTrees;
 use std::alloc::{AllocError, Global};
 
 /// What is at fault in a release whose manifest is not, and whose files can be read.
@@ -26,17 +27,20 @@ pub struct LaunchCheck {
     pub fault: Option<ReleaseFault>,
     /// A line for each launch that is refused, and one where there are too many pages.
     pub faults: Vec<u8>,
-    /// A line for each thing that is rarely meant in launches that are accepted.
+    /// A line for each thing that is rarely meant in launches that are accepted; none where the check is quiet.
     pub warnings: Vec<u8>,
 }
 
-/// What was found in the launches that were looked at.
+/// What was found in the launches that were looked at. A quiet check looks for no warning.
 #[derive(Drop)]
 pub struct Found {
     pub refusals: Vec<u8>,
     pub has_refused: bool,
     pub pages: MeasuredPages,
     pub warnings: Warnings,
+    /// The devicetrees that were looked at for warnings.
+    pub seen: SeenTrees,
+    pub is_quiet: bool,
 }
 
 impl Found {
@@ -48,7 +52,7 @@ impl Found {
     ghost use Rattle.rim_check.specs.inside.Found.{AreWarned, numbers_of};
 
     /// Nothing: no launch was looked at.
-    pub fn new(alloc: Global) -> Found
+    pub fn new(alloc: Global, is_quiet: bool) -> Found
         ensures refusals { result.refusals.items ≡ [] }
         ensures refused { result.has_refused ≡ false }
         ensures pages { result.pages ≡ [] }
@@ -59,6 +63,8 @@ impl Found {
             has_refused: false,
             pages: MeasuredPages::new(alloc),
             warnings: Warnings::new(alloc),
+            seen: SeenTrees::new(alloc),
+            is_quiet,
         }
     }
 

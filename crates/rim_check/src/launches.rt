@@ -22,26 +22,33 @@ use std::alloc::{AllocError, Global};
 
 /// A line for each launch that is refused, in the manifest's order: its name, the word of its refusal as the report has
 /// it, and what is at fault. Then a line where the release has too many different measured pages, and beside them the warnings of
-/// the launches that are accepted. What is at fault is what keeps `rim measure` from a report without a refused launch.
+/// the launches that are accepted, unless the check is quiet. What is at fault is what keeps `rim measure` from a report without a
+/// refused launch.
 pub fn check_launches(
     alloc: Global,
     readable: &Readable,
     files: &Files,
+    is_quiet: bool,
 ) -> Result<LaunchCheck, NoMemory>
     requires { vec_len files.now ≡ length readable.now.release.paths }
     ensures { IfOk result (IsLaunchCheck readable.now.names
         (bytes_of_files files.now.items) readable.now.release.launches) }
 {
-    check_all(alloc, readable, files)
+    check_all(alloc, readable, files, is_quiet)
 }
 
-fn check_all(alloc: Global, readable: &Readable, files: &[Vec<u8>]) -> Result<LaunchCheck, NoMemory>
+fn check_all(
+    alloc: Global,
+    readable: &Readable,
+    files: &[Vec<u8>],
+    is_quiet: bool,
+) -> Result<LaunchCheck, NoMemory>
     requires { length files.now ≡ length readable.now.release.paths }
     ensures { IfOk result (IsLaunchCheck readable.now.names
         (bytes_of_files files.now) readable.now.release.launches) }
 {
     let launches = readable.release().all_launches();
-    let mut found = Found::new(alloc);
+    let mut found = Found::new(alloc, is_quiet);
     for launch in launches {
         look_at(alloc, &mut found, readable, launch, files)?;
     }
@@ -69,7 +76,7 @@ fn look_at(
     }
 }
 
-/// Adds the pages of a launch that is accepted, and what is rarely meant in it.
+/// Adds the pages of a launch that is accepted, and what is rarely meant in it unless the check is quiet.
 fn add_accepted(
     alloc: Global,
     found: &mut Found,
@@ -85,12 +92,15 @@ fn add_accepted(
         (numbers_of found.old.warnings) (numbers_of found.new.warnings)) }
 {
     found.pages.add(accepted)?;
+    if found.is_quiet {
+        return Ok(());
+    }
     let number = launch.launch().number();
     let names = ItemNames {
         readable,
         launch: number,
     };
-    let unusual = find_unusual(alloc, names, accepted)?;
+    let unusual = find_unusual(alloc, &mut found.seen, names, accepted)?;
     found.warnings.add_all(number, &unusual)
 }
 

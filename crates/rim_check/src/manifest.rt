@@ -1,14 +1,16 @@
 //! The faults of a manifest.
-ghost use Rattle.std.specs.Prelude.{◌≡◌, ◌<◌, [], ◌∷◌, IfOk, OnOk, Some, map};
-ghost use Rattle.rim_manifest.specs.Faults.{lowest};
+ghost use Rattle.std.specs.Prelude.{◌≡◌, ◌<◌, [], ◌∷◌, IfOk, None, OnOk, Option, Some};
+ghost use Rattle.toml.specs.View.{table_view};
 ghost use Rattle.rim_manifest.specs.Manifest.{manifest_of};
 ghost use Rattle.rim_manifest.specs.inside.Kept.{faults_in};
-ghost use Rattle.rim_check.specs.Explained.{Explains, HasNames, IsCheckOf, fault_said, others_said};
+ghost use Rattle.rim_check.specs.Explained.{HasNames, IsCheckOf, fault_said, others_said};
+ghost use Rattle.rim_spot.specs.declared.spot.Spot.{Spot};
+ghost use Rattle.rim_check.specs.inside.Listed.{ShowsFindings, ShowsList, located, no_document};
 ghost use Rattle.rim_line.specs.Lines.{AddsAll, AddsLine, SayInTurn};
 
 use crate::excerpt::take_excerpt;
 use crate::finding_detail::write_detail;
-use crate::place::{write_place, write_spot};
+use crate::place::{fault_front, place_text};
 use crate::spots::{Manifest, finding_spots};
 use crate::syntax::{error_spot, write_message};
 use itoa::Buffer;
@@ -28,11 +30,11 @@ pub enum ManifestCheck {
     Readable(Readable),
 }
 
-/// Checks the manifest at a path: a line for each of its faults, which is proved of the lowest alone, or the release that it
-/// describes. A line has the path, the line and the column of the fault in the text, its table and its key, its word, what is given and
+/// Checks the manifest at a path: a line for each of its faults, which is proved of the lowest alone, and how many there are beside
+/// these; or the release that it describes. A line has the path, the line and the column of the fault in the text, its table and its key, its word, what is given and
 /// what is expected.
 pub fn check_manifest(alloc: Global, path: &str, text: &[u8]) -> Result<ManifestCheck, NoMemory>
-    ensures check { IfOk result (IsCheckOf (manifest_of text.now)) }
+    ensures check { IfOk result (IsCheckOf path.now text.now (manifest_of text.now)) }
     ensures names { IfOk result (HasNames text.now) }
 {
     let document = match Document::read(alloc, text) {
@@ -61,11 +63,10 @@ pub fn check_manifest(alloc: Global, path: &str, text: &[u8]) -> Result<Manifest
 
 /// The line of a text that is no TOML document: where it is none, and why.
 fn syntax_line(alloc: Global, path: &str, text: &[u8], error: &Error) -> Result<Vec<u8>, NoMemory>
-    ensures { IfOk result
-        (λ line. SayInTurn (map fault_said (ManifestFault.Syntax ∷ [])) line.items) }
+    ensures { IfOk result (λ line. (spot : Option Spot)
+        × SayInTurn (fault_said path.now None (no_document spot) ∷ []) line.items) }
 {
-    let mut before = Line::new(alloc);
-    write_spot(&mut before, path, error_spot(text, error)).map_err(|_| NoMemory)?;
+    let before = fault_front(alloc, path, error_spot(text, error), "")?;
     let mut after = Line::new(alloc);
     write_message(&mut after, text, error).map_err(|_| NoMemory)?;
     let mut lines = Vec::new(alloc);
@@ -75,9 +76,9 @@ fn syntax_line(alloc: Global, path: &str, text: &[u8], error: &Error) -> Result<
 
 /// A line for each fault of which an excerpt is given, and one that says how many others there are.
 fn lines(alloc: Global, manifest: &Manifest<'_>, list: &FaultList) -> Result<Vec<u8>, NoMemory>
-    ensures { IfOk result (λ lines. (fault : ManifestFault)
-        → lowest (faults_in list.now.findings.items) ≡ Some fault
-        → Explains fault lines.items) }
+    ensures { IfOk result (λ lines. ShowsList manifest.now.path.now
+        (table_view manifest.now.document.now.table) (faults_in list.now.findings.items)
+        list.now.more lines.items) }
 {
     let excerpt = take_excerpt(alloc, manifest.document, list)?;
     let mut lines = finding_lines(alloc, manifest, &excerpt.findings)?;
@@ -93,7 +94,8 @@ fn finding_lines(
     manifest: &Manifest<'_>,
     found: &[Finding],
 ) -> Result<Vec<u8>, NoMemory>
-    ensures { IfOk result (λ lines. SayInTurn (map fault_said (faults_in found.now)) lines.items) }
+    ensures { IfOk result (λ lines. ShowsFindings manifest.now.path.now
+        (table_view manifest.now.document.now.table) found.now lines.items) }
 {
     let spots = finding_spots(alloc, manifest, found)?;
     let mut lines = Vec::new(alloc);
@@ -120,20 +122,20 @@ fn push_others(lines: &mut Vec<u8>, more: u64) -> Result<(), NoMemory>
     push_line(lines, &Line::new(alloc), Buffer::new().format(more), &after)
 }
 
-/// Adds the line of a fault.
+/// Adds the line of a fault, with its place in the text where that is known.
 fn add_line(
     lines: &mut Vec<u8>,
     manifest: &Manifest<'_>,
     finding: &Finding,
     spot: Option<Spot>,
 ) -> Result<(), NoMemory>
-    ensures { OnOk result
-        (AddsLine (fault_said finding.now.fault) lines.old.items lines.new.items) }
+    ensures { OnOk result (AddsLine (fault_said manifest.now.path.now
+        (Some (table_view manifest.now.document.now.table)) (located finding.now spot))
+        lines.old.items lines.new.items) }
 {
     let alloc = *lines.allocator();
-    let mut before = Line::new(alloc);
-    write_spot(&mut before, manifest.path, spot).map_err(|_| NoMemory)?;
-    write_place(&mut before, manifest.document, finding).map_err(|_| NoMemory)?;
+    let place = place_text(alloc, manifest.document, finding.place, finding.subject)?;
+    let before = fault_front(alloc, manifest.path, spot, place.as_str())?;
     let mut after = Line::new(alloc);
     write_detail(alloc, &mut after, manifest.document, finding).map_err(|_| NoMemory)?;
     push_line(lines, &before, finding.fault.kind(), &after)

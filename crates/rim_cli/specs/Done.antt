@@ -19,6 +19,7 @@ use Rattle.rim_accepted.specs.declared.audit_fault.AuditFault.TheVariants as aud
 use Rattle.rim_show.specs.declared.fault.ShowFault.TheVariants as show
 use Rattle.rim_report.specs.declared.fault.StartFault.{StartFault}
 use Rattle.rim_report.specs.declared.fault.StartFault.TheVariants as start
+use Rattle.rim_check.specs.CheckJson.{check_json_of}
 use Rattle.rim_check.specs.Explained.{Explains, ShowsFaults, fault_in}
 use Rattle.rim_check.specs.Warned.{ShowsWarnings}
 use Rattle.rim_check.specs.declared.found.ReleaseFault.{ReleaseFault}
@@ -80,12 +81,18 @@ pub record IsAudit (held : List ℕ → Known) (r : ReleaseData) (shown : List �
   pub text : shown ≡ audit_text_of files r.launches
   pub status : answer ≡ (if has_refused files r.launches then 1 else 0)
 
+-- what a check finds, in lines: faults, and warnings
+pub record Findings : Type 0 where
+  pub faults : List ℕ
+  pub warnings : List ℕ
+
 -- a release is checked whose files are not all read: a line for each that cannot be, and the status is 3
-pub record ChecksFiles (held : List ℕ → Known) (r : ReleaseData) (shown : List ℕ) (answer : ℕ) : Type 0 where
+pub record ChecksFiles (held : List ℕ → Known) (r : ReleaseData) (found : Findings) (answer : ℕ) : Type 0 where
   pub said : List Saying
   pub unread : AreUnread held r.paths said
   pub some : said ≢ []
-  pub lines : SayInTurn said shown
+  pub lines : SayInTurn said found.faults
+  pub none : found.warnings ≡ []
   pub status : answer ≡ 3
 
 -- the status that a check of launches ends with: 3 where there is no report, 1 where some launch is refused
@@ -94,32 +101,37 @@ check_status None = 0
 check_status (Some release.Refused) = 1
 check_status (Some release.TooManyPages) = 3
 
--- one is checked whose files are read: what is at fault, and then, unless the check is quiet, the warnings
-pub record ChecksLaunches (held : List ℕ → Known) (quiet : Bool) (m : ReadableData) (shown : List ℕ) (answer : ℕ) : Type 0 where
+-- one is checked whose files are read: what is at fault, and the warnings unless the check is quiet
+pub record ChecksLaunches (held : List ℕ → Known) (quiet : Bool) (m : ReadableData) (found : Findings) (answer : ℕ) : Type 0 where
   pub files : List (List ℕ)
   pub read : AreRead held m.release.paths files
-  pub faults : List ℕ
   pub warnings : List ℕ
-  pub text : shown ≡ faults ++ (if quiet then [] else warnings)
-  pub faulty : ShowsFaults m.names files m.release.launches faults
+  pub shown : found.warnings ≡ (if quiet then [] else warnings)
+  pub faulty : ShowsFaults m.names files m.release.launches found.faults
   pub warned : ShowsWarnings files m.release.launches warnings
   pub status : answer ≡ check_status (fault_in files m.release.launches)
 
 -- a release is checked: its files, or its launches where all files are read
-abbrev pub IsReleaseCheck : (List ℕ → Known) → Bool → ReadableData → List ℕ → ℕ → Type 0
-IsReleaseCheck held quiet m text status = ChecksFiles held m.release text status ⊎ ChecksLaunches held quiet m text status
+abbrev pub IsReleaseCheck : (List ℕ → Known) → Bool → ReadableData → Findings → ℕ → Type 0
+IsReleaseCheck held quiet m found status = ChecksFiles held m.release found status ⊎ ChecksLaunches held quiet m found status
 
--- a manifest whose items have these names is checked: a line for each of some faults, the lowest of its faults among
--- them, and the status is 3; or else the release that it describes is
-abbrev pub IsCheck : (List ℕ → Known) → Bool → List (List (List ℕ)) → Answer → List ℕ → ℕ → Type 0
-IsCheck held quiet names (Err fault) text status = Explains fault text × (status ≡ 3)
-IsCheck held quiet names (Ok r) text status = IsReleaseCheck held quiet (record { names = names; release = r }) text status
+-- a manifest with this path, these bytes and these names of its items is checked: a line for each of some faults, the lowest of its faults
+-- among them, and the status is 3; or else the release that it describes is
+abbrev pub FindsOf : (List ℕ → Known) → Bool → List ℕ → List ℕ → List (List (List ℕ)) → Answer → Findings → ℕ → Type 0
+FindsOf held quiet path bytes names (Err fault) found status = Explains path bytes fault found.faults × (found.warnings ≡ []) × (status ≡ 3)
+FindsOf held quiet path bytes names (Ok r) found status = IsReleaseCheck held quiet (record { names = names; release = r }) found status
 
--- What a check prints in a format, and its status: as JSON the status is that of the lines that it prints otherwise; what it shows of
--- them is tested alone.
-abbrev pub IsCheckIn : Format → (List ℕ → Known) → Bool → List (List (List ℕ)) → Answer → List ℕ → ℕ → Type 0
-IsCheckIn format.Text held quiet names answer text status = IsCheck held quiet names answer text status
-IsCheckIn format.Json held quiet names answer shown status = (text : List ℕ) × IsCheck held quiet names answer text status
+abbrev pub Finds : (List ℕ → Known) → Bool → List ℕ → List ℕ → Findings → ℕ → Type 0
+Finds held quiet path bytes found status = FindsOf held quiet path bytes (item_names_in bytes) (manifest_of bytes) found status
+
+-- what is found, in a format: the lines of the faults and then those of the warnings; or the same lines as JSON, with the status
+abbrev pub shown_in : Format → Findings → ℕ → List ℕ
+shown_in format.Text found status = found.faults ++ found.warnings
+shown_in format.Json found status = check_json_of found.faults found.warnings status
+
+-- what a check prints in a format, and its status
+abbrev pub IsCheckIn : Format → (List ℕ → Known) → Bool → List ℕ → List ℕ → List ℕ → ℕ → Type 0
+IsCheckIn format held quiet path bytes text status = (found : Findings) × Finds held quiet path bytes found status × (text ≡ shown_in format found status)
 
 -- what is shown of a launch with what came of it, and its status
 abbrev pub IsShown : NamedData → Result (List ℕ) AuditFault → List ℕ → ℕ → Type 0
@@ -164,7 +176,7 @@ IsAnswer held (Trace path launch) bytes text status = IsOkAnd (manifest_of bytes
 IsAnswer held (Map path launch format) bytes text status =
     IsOkAnd (manifest_of bytes) (λ r. IsMapped held format (item_names_in bytes) r launch.now text status)
 IsAnswer held (Audit path) bytes text status = IsOkAnd (manifest_of bytes) (λ r. IsAudit held r text status)
-IsAnswer held (Check path quiet format) bytes text status = IsCheckIn format held quiet (item_names_in bytes) (manifest_of bytes) text status
+IsAnswer held (Check path quiet format) bytes text status = IsCheckIn format held quiet path.now bytes text status
 IsAnswer held (Dtb path launch) bytes text status = IsOkAnd (manifest_of bytes) (λ r. IsDevicetree held r launch.now text status)
 IsAnswer held (Replay file) bytes text status = IsReplayed bytes text status
 IsAnswer held (Image file) bytes text status = (image_answer_of bytes ≡ Ok text) × (status ≡ 0)

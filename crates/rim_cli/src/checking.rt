@@ -1,10 +1,8 @@
 //! What is wrong with a manifest, with its files and with its launches.
 ghost use Rattle.std.specs.Prelude.{◌≡◌, ◌≢◌, ◌⊎◌, ◌≤◌, [], ◌++◌, IfErr, IfOk, OnOk, if◌then◌else◌, map};
-ghost use Rattle.rim_cli.specs.Done.{IsCheck, IsCheckIn, IsReleaseCheck, check_status};
+ghost use Rattle.rim_cli.specs.Done.{Finds, IsCheckIn, IsReleaseCheck, check_status, shown_in};
 ghost use Rattle.rim_cli.specs.Files.{IfFile, IsFileFault};
-ghost use Rattle.rim_cli.specs.inside.Found.{AreFound, HasLine};
-ghost use Rattle.rim_manifest.specs.Manifest.{manifest_of};
-ghost use Rattle.rim_line.specs.Readables.{item_names_in};
+ghost use Rattle.rim_cli.specs.inside.Found.{AreFound, HasLine, findings_of};
 
 use crate::answer::Answer;
 use crate::fault::Fault;
@@ -19,6 +17,14 @@ use rim_release::{Files, Release};
 use std::alloc::{AllocError, Global};
 use std::io::ErrorKind;
 
+/// What a check has found: a line for each fault, a line for each warning, and the exit status that it ends with.
+#[derive(Drop)]
+pub struct Checked {
+    pub faults: Vec<u8>,
+    pub warnings: Vec<u8>,
+    pub status: u8,
+}
+
 /// What is wrong with the manifest at a path; or else with the files and the launches of its release.
 pub fn check<O: Opener>(
     alloc: Global,
@@ -28,50 +34,77 @@ pub fn check<O: Opener>(
     format: Format,
 ) -> Result<Answer, Fault>
     ensures answered { IfOk result (λ a. IfFile (O.held opener.old path.now)
-        (λ bytes. IsCheckIn format (O.held opener.old) quiet (item_names_in bytes)
-        (manifest_of bytes) a.text.items a.status)) }
+        (λ bytes. IsCheckIn format (O.held opener.old) quiet path.now bytes a.text.items
+        a.status)) }
     ensures refused { IfErr result (IsFileFault (O.held opener.old path.now)) }
     ensures status { IfOk result (λ a. (a.status ≤ 1) ⊎ (a.status ≡ 3)) }
 {
-    let lines = check_lines(alloc, opener, path, quiet)?;
-    match format {
-        Format::Text => Ok(lines),
-        Format::Json => answer_json(alloc, &lines),
-    }
+    let found = check_path(alloc, opener, path, quiet)?;
+    answer_in(alloc, found, format)
 }
 
-/// An answer in lines as JSON, with the same status.
-fn answer_json(alloc: Global, lines: &Answer) -> Result<Answer, Fault>
-    ensures status { IfOk result (λ a. a.status ≡ lines.now.status) }
+/// What was found, in a format.
+fn answer_in(alloc: Global, found: Checked, format: Format) -> Result<Answer, Fault>
+    ensures text { IfOk result
+        (λ a. a.text.items ≡ shown_in format (findings_of found) found.status) }
+    ensures status { IfOk result (λ a. a.status ≡ found.status) }
     ensures refused { IfErr result (λ e. e ≡ Fault.NoMemory) }
 {
-    match check_json(alloc, &lines.text, lines.status) {
-        Ok(text) => Ok(Answer {
-            text,
-            status: lines.status,
+    let status = found.status;
+    match format {
+        Format::Text => Ok(Answer {
+            text: lines_of(found)?,
+            status,
         }),
-        Err(_) => Err(Fault::NoMemory),
+        Format::Json => match check_json(alloc, &found.faults, &found.warnings, status) {
+            Ok(text) => Ok(Answer { text, status }),
+            Err(_) => Err(Fault::NoMemory),
+        },
     }
 }
 
-/// The same in lines.
-fn check_lines<O: Opener>(
+/// The lines of the faults, and then those of the warnings.
+fn lines_of(found: Checked) -> Result<Vec<u8>, Fault>
+    ensures text { IfOk result (λ text. text.items ≡ found.faults.items ++ found.warnings.items) }
+    ensures refused { IfErr result (λ e. e ≡ Fault.NoMemory) }
+{
+    let mut text = found.faults;
+    if text.extend_from_slice(&found.warnings).is_err() {
+        return Err(Fault::NoMemory);
+    }
+    Ok(text)
+}
+
+/// What is found of the manifest at a path.
+fn check_path<O: Opener>(
     alloc: Global,
     opener: &mut O,
     path: &str,
     quiet: bool,
-) -> Result<Answer, Fault>
-    ensures answered { IfOk result (λ a. IfFile (O.held opener.old path.now)
-        (λ bytes. IsCheck (O.held opener.old) quiet (item_names_in bytes) (manifest_of bytes)
-        a.text.items a.status)) }
+) -> Result<Checked, Fault>
+    ensures found { IfOk result (λ c. IfFile (O.held opener.old path.now)
+        (λ bytes. Finds (O.held opener.old) quiet path.now bytes (findings_of c) c.status)) }
     ensures refused { IfErr result (IsFileFault (O.held opener.old path.now)) }
-    ensures status { IfOk result (λ a. (a.status ≤ 1) ⊎ (a.status ≡ 3)) }
+    ensures status { IfOk result (λ c. (c.status ≤ 1) ⊎ (c.status ≡ 3)) }
 {
     let bytes = read_file(alloc, opener, path)?;
     match check_manifest(alloc, path, bytes.as_slice()) {
-        Ok(ManifestCheck::Faulty(text)) => Ok(Answer { text, status: 3 }),
+        Ok(ManifestCheck::Faulty(faults)) => Ok(at_fault(alloc, faults)),
         Ok(ManifestCheck::Readable(readable)) => check_release(alloc, opener, &readable, quiet),
         Err(_) => Err(Fault::NoMemory),
+    }
+}
+
+/// Faults of a manifest or of its files, which leave no launch to look at.
+fn at_fault(alloc: Global, faults: Vec<u8>) -> Checked
+    ensures faults { result.faults.items ≡ faults.items }
+    ensures warnings { result.warnings.items ≡ [] }
+    ensures status { result.status ≡ 3 }
+{
+    Checked {
+        faults,
+        warnings: Vec::new(alloc),
+        status: 3,
     }
 }
 
@@ -81,40 +114,39 @@ fn check_release<O: Opener>(
     opener: &mut O,
     readable: &Readable,
     quiet: bool,
-) -> Result<Answer, Fault>
-    ensures answered { IfOk result
-        (λ a. IsReleaseCheck (O.held opener.old) quiet readable.now a.text.items a.status) }
+) -> Result<Checked, Fault>
+    ensures found { IfOk result
+        (λ c. IsReleaseCheck (O.held opener.old) quiet readable.now (findings_of c) c.status) }
     ensures refused { IfErr result (λ e. e ≡ Fault.NoMemory) }
-    ensures status { IfOk result (λ a. (a.status ≤ 1) ⊎ (a.status ≡ 3)) }
+    ensures status { IfOk result (λ c. (c.status ≤ 1) ⊎ (c.status ≡ 3)) }
 {
     let found = find_files(alloc, opener, readable.release())?;
     if !found.unread.is_empty() {
-        return Ok(Answer {
-            text: found.unread,
-            status: 3,
-        });
+        return Ok(at_fault(alloc, found.unread));
     }
-    match check_launches(alloc, readable, &found.files) {
-        Ok(check) => release_answer(check, quiet),
+    match check_launches(alloc, readable, &found.files, quiet) {
+        Ok(check) => Ok(release_check(alloc, check, quiet)),
         Err(_) => Err(Fault::NoMemory),
     }
 }
 
-/// The answer that a check of launches is: what is at fault, and the warnings unless it is quiet.
-fn release_answer(check: LaunchCheck, quiet: bool) -> Result<Answer, Fault>
-    ensures text { IfOk result (λ a. a.text.items
-        ≡ check.faults.items ++ (if quiet then [] else check.warnings.items)) }
-    ensures status { IfOk result (λ a. a.status ≡ check_status check.fault) }
-    ensures refused { IfErr result (λ e. e ≡ Fault.NoMemory) }
+/// What a check of launches has found: what is at fault, and the warnings unless it is quiet.
+fn release_check(alloc: Global, check: LaunchCheck, quiet: bool) -> Checked
+    ensures faults { result.faults.items ≡ check.faults.items }
+    ensures warnings { result.warnings.items ≡ (if quiet then [] else check.warnings.items) }
+    ensures status { result.status ≡ check_status check.fault }
+    ensures known { (result.status ≤ 1) ⊎ (result.status ≡ 3) }
 {
-    let mut text = check.faults;
-    if !quiet && text.extend_from_slice(&check.warnings).is_err() {
-        return Err(Fault::NoMemory);
+    let LaunchCheck {
+        fault,
+        faults,
+        warnings,
+    } = check;
+    Checked {
+        faults,
+        warnings: if quiet { Vec::new(alloc) } else { warnings },
+        status: check_status(fault),
     }
-    Ok(Answer {
-        text,
-        status: check_status(check.fault),
-    })
 }
 
 /// The status that a check of launches ends with.

@@ -21,5 +21,6 @@ pub use file::Opener;
 pub use in_memory::measure_in_memory;
 pub use laws::{answers_are_printed, examples_are_read, the_smallest_manifest_is_read};
 pub use program::{asks_for_bytes, report_terminal, report_unreadable, run};
+pub use rim_line::TerminalWriter;
 pub use rim_release::{FreeGate, Gate, JobId, Lanes};
 pub use words::{CommandFault, Format, Request, command};

@@ -12,6 +12,7 @@ use crate::fault::Fault;
 use crate::file::Opener;
 use crate::words::{CommandFault, Request, command};
 use clap::error::ErrorKind as UsageKind;
+use rim_line::Line;
 use rim_release::Gate;
 use std::alloc::{AllocError, Global};
 use std::convert::AsStr;
@@ -59,9 +60,9 @@ pub fn run<R: Threads + Wait + Sync, G: Gate + Sync, S: AsStr, O: Opener, W: Wri
         Ok(request) => request,
         Err(CommandFault::NoMemory) => return report_fault(Fault::NoMemory, err),
         Err(CommandFault::Usage(answer)) => {
-            let status = show_usage(alloc, &answer, out, err);
+            let status = show_usage(alloc, words, &answer, out, err);
             if answer.kind() == UsageKind::UnknownArgument {
-                show_new_words(words, err);
+                show_new_words(alloc, words, err);
             }
             return status;
         }
@@ -72,10 +73,11 @@ pub fn run<R: Threads + Wait + Sync, G: Gate + Sync, S: AsStr, O: Opener, W: Wri
     }
 }
 
-/// Shows a usage text on standard error, status 2, or the help or version that was asked for on
+/// Shows what is wrong with the words on standard error, status 2, or the help or version that was asked for on
 /// standard output, status 0.
-fn show_usage<W: Write, E: Write>(
+fn show_usage<S: AsStr, W: Write, E: Write>(
     alloc: Global,
+    words: &[S],
     answer: &clap::Error,
     out: &mut W,
     err: &mut E,
@@ -85,33 +87,66 @@ fn show_usage<W: Write, E: Write>(
     ensures helps { is_asked (kind_of answer.now) ≡ true → result ≢ 2 }
     ensures kept { (result ≡ 2) ⊎ (result ≡ 4) → out.new ≡ out.old }
 {
-    let Ok(text) = format!(in alloc; "{answer}") else {
-        return report_fault(Fault::NoMemory, err);
-    };
     if answer.use_stderr() {
+        let Ok(text) = mistake_text(alloc, words, answer) else {
+            return report_fault(Fault::NoMemory, err);
+        };
         let _ = write_text(text.as_bytes(), err);
         return 2;
     }
+    let Ok(text) = format!(in alloc; "{answer}") else {
+        return report_fault(Fault::NoMemory, err);
+    };
     finish(text.as_bytes(), 0, out, err)
 }
 
+/// What is wrong with the words, in which a character that a person cannot see is shown by its number: words that are shown so have the
+/// same mistake, since none of them is a word of the program's.
+fn mistake_text<S: AsStr>(
+    alloc: Global,
+    words: &[S],
+    answer: &clap::Error,
+) -> Result<String, AllocError> {
+    let mut shown = Vec::with_capacity(alloc, words.len())?;
+    for word in words {
+        shown.push(shown_word(alloc, word.as_str())?)?;
+    }
+    match command(alloc, shown.as_slice()) {
+        Err(CommandFault::Usage(own)) => format!(in alloc; "{own}"),
+        _ => {
+            let text = format!(in alloc; "{answer}")?;
+            shown_word(alloc, text.as_str())
+        }
+    }
+}
+
+/// A word of the command line as it is shown.
+fn shown_word(alloc: Global, word: &str) -> Result<String, AllocError> {
+    let mut line = Line::new(alloc);
+    line.push_text(word)?;
+    String::from_utf8_lossy(alloc, line.as_slice())
+}
+
 /// Names the flag that asks for the report as JSON, where the words have the option that did so before it.
-fn show_new_words<S: AsStr, E: Write>(words: &[S], err: &mut E) {
+fn show_new_words<S: AsStr, E: Write>(alloc: Global, words: &[S], err: &mut E) {
     let mut is_next = false;
     for word in words {
         let word = word.as_str();
         if is_next {
-            return show_json_flag(word, err);
+            return show_json_flag(alloc, word, err);
         }
         if let Some(value) = word.strip_prefix("--format=") {
-            return show_json_flag(value, err);
+            return show_json_flag(alloc, value, err);
         }
         is_next = word == "--format";
     }
 }
 
 /// Names that flag, and the format that was asked for in the old way.
-fn show_json_flag<E: Write>(format: &str, err: &mut E) {
+fn show_json_flag<E: Write>(alloc: Global, format: &str, err: &mut E) {
+    let Ok(format) = shown_word(alloc, format) else {
+        return;
+    };
     let _ = writeln!(
         err,
         "\n  tip: '--json' prints the report as JSON, and without it the report is lines; \

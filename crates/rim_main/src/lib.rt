@@ -5,10 +5,12 @@ mod progress;
 
 use crate::progress::Progress;
 pub use rim_cli::Lanes;
-use rim_cli::{Opener, advise, asks_for_bytes, report_terminal, report_unreadable, run};
+use rim_cli::{
+    Opener, TerminalWriter, advise, asks_for_bytes, report_terminal, report_unreadable, run,
+};
 use std::fs::File;
 use std::io;
-use std::io::{Eprint, ErrorKind, IsTerminal};
+use std::io::{Eprint, ErrorKind, IsTerminal, Write};
 use std::process::ExitCode;
 use std::sync::Wait;
 use std::thread::Threads;
@@ -58,20 +60,39 @@ pub fn run_program<R: Threads + Wait + Clock + Eprint + Sync>(
     };
     let is_terminal = rt.stderr().is_terminal();
     let mut opener = FileOpener { rt, failure: None };
-    let status = run(
-        workers,
-        rt.alloc(),
-        &mut Progress::new(workers, is_terminal, lanes),
-        words.as_slice(),
-        &mut opener,
-        &mut io::writer(rt),
-        &mut rt.stderr(),
-    );
+    let mut gate = Progress::new(workers, is_terminal, lanes);
+    let mut out = io::writer(rt);
+    let status = if rt.stdout().is_terminal() {
+        let out = &mut TerminalWriter::new(out);
+        run_to(rt, workers, &mut gate, &words, &mut opener, out)
+    } else {
+        run_to(rt, workers, &mut gate, &words, &mut opener, &mut out)
+    };
     // At a terminal one more line says where to look.
     if status == FAULT && is_terminal {
         advise(rt.alloc(), words.as_slice(), &mut opener, &mut rt.stderr());
     }
     ExitCode::from(status)
+}
+
+/// Runs the program with this output, and answers its exit status.
+fn run_to<R: Threads + Wait + Clock + Eprint + Sync, W: Write>(
+    rt: &HostRuntime,
+    workers: &R,
+    gate: &mut Progress<'_, R>,
+    words: &[String],
+    opener: &mut FileOpener<'_>,
+    out: &mut W,
+) -> u8 {
+    run(
+        workers,
+        rt.alloc(),
+        gate,
+        words,
+        opener,
+        out,
+        &mut rt.stderr(),
+    )
 }
 
 /// The words of the command line, of which the first is the program's name; or `None` where they ask for bytes that are no

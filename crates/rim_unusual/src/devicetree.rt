@@ -84,7 +84,8 @@ impl fmt::Display for TreeFault {
                  the rest is not used"
             ),
             TreeFault::Hvc => f.write_str(
-                "psci has the method \"hvc\", expected \"smc\": Linux looks for a monitor only then",
+                "psci has the method \"hvc\", expected \"smc\": \
+                 Linux looks for a monitor only then",
             ),
             TreeFault::Gic2 => f.write_str(
                 "the interrupt controller is a GIC 2, expected a GIC 3, as each realm has",

@@ -1,12 +1,14 @@
--- What the loop over the files of a checked release has found. This project's choice.
+-- What a check has found. This project's choice.
 use Rattle.std.specs.Prelude.{◌≡◌, ℕ, List, []}
 use Rattle.rim_line.specs.Lines.{AddsLine, Saying, SayInTurn, file_said}
+use Rattle.rim_cli.specs.Done.{Findings}
 use Rattle.rim_cli.specs.Files.{AreRead, Known}
 use Rattle.rim_cli.specs.Status.{word_of}
 use Rattle.rim_cli.specs.Unread.{AreUnread}
+use Rattle.rim_cli.specs.declared.checking.Checked.{Checked}
 use Rattle.rim_cli.specs.declared.fault.Fault.{Fault}
 
--- a line for each file at these paths that cannot be read; and where there is none, the bytes of each file
+-- in the loop over the files of a release: a line for each file at these paths that cannot be read; and where there is none, the bytes of each file
 pub record AreFound (held : List ℕ → Known) (paths files : List (List ℕ)) (text : List ℕ) : Type 0 where
   pub said : List Saying
   pub unread : AreUnread held paths said
@@ -17,3 +19,7 @@ pub record AreFound (held : List ℕ → Known) (paths files : List (List ℕ)) 
 pub record HasLine (path : List ℕ) (fault : Fault) (old new : List ℕ) : Type 0 where
   pub hint : List ℕ
   pub adds : AddsLine (file_said path (word_of fault) hint) old new
+
+-- its lines
+abbrev pub findings_of : Checked → Findings
+findings_of c = record { faults = c.faults.items; warnings = c.warnings.items }

@@ -6,23 +6,25 @@ use Rattle.rim_manifest.specs.declared.document.Checked.TheVariants.{Accepted}
 use Rattle.rim_manifest.specs.Found.{AreFound, IsChecked}
 use Rattle.rim_manifest.specs.inside.Kept.{faults_in}
 use Rattle.rim_line.specs.Readables.{ReadableData}
-use Rattle.rim_check.proofs.FaultsAreExplained.{explains-syntax, of-document, of-none}
+use Rattle.rim_check.proofs.FaultsAreExplained.{explains-list, explains-syntax, of-document, of-none}
 use Rattle.rim_check.proofs.manifest.check_manifest.Goals as goal
 
 pub returns-in-Err-clause-check : goal.returns-in-Err-clause-check
 returns-in-Err-clause-check c =
     let not_memory : ¬ (IsMemory c.in-Err.error) = λ m. let t : c.is_memory.result ≡ true = c.is_memory.ensures.1 m in false≢true (sym c.if-is_memory.false ∙ t) in
-    of-none _ _ (c.in-Err.ensures.refused not_memory) (explains-syntax _ c.in_ok-syntax_line-in-Err.ensures)
+    let none = c.in-Err.ensures.refused not_memory in
+    of-none c.args.path.now c.args.text.now _ none (explains-syntax c.args.path.now c.args.text.now c.in_ok-syntax_line-in-Err.ensures.0 _ none c.in_ok-syntax_line-in-Err.ensures.1)
 
 pub returns-in-Accepted-clause-check : goal.returns-in-Accepted-clause-check
 returns-in-Accepted-clause-check c =
     let ms = table_view c.in-Ok.document.table in
     let checked : IsChecked ms (Accepted c.in-Accepted.release) = subst (IsChecked ms) c.in-Accepted.is c.in_ok-release.ensures in
-    of-document _ ms (Ok c.in-Accepted.release) _ c.in-Ok.ensures.document checked (ap (λ (r : ReadableData). r.release) c.new.ensures)
+    of-document c.args.path.now c.args.text.now ms (Ok c.in-Accepted.release) _ c.in-Ok.ensures.document checked (ap (λ (r : ReadableData). r.release) c.new.ensures)
 
 pub returns-in_ok-lines-in-Refused-clause-check : goal.returns-in_ok-lines-in-Refused-clause-check
 returns-in_ok-lines-in-Refused-clause-check c =
     let ms = table_view c.in-Ok.document.table in
     let list = c.in-Refused.list in
     let found : AreFound ms (faults_in list.findings.items) list.more = subst (IsChecked ms) c.in-Refused.is c.in_ok-release.ensures in
-    of-document _ ms (Err found.fault) _ c.in-Ok.ensures.document found.refused (c.in_ok-lines-in-Refused.ensures found.fault found.lowest)
+    of-document c.args.path.now c.args.text.now ms (Err found.fault) _ c.in-Ok.ensures.document found.refused
+    (explains-list c.args.path.now c.args.text.now ms _ _ _ found c.in-Ok.ensures.document c.in_ok-lines-in-Refused.ensures)

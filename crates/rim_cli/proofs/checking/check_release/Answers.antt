@@ -14,11 +14,11 @@ check_launches-requires g c =
     let count = subst (λ (r : ReleaseData). length files ≡ length r.paths) c.release.ensures (read_count held c.release.result.now.paths files read) in
     omega (arith, c.in_ok-found.found.files.ok, count, length-map c.in_ok-found.found.files.items (λ file. file.items))
 
-pub returns-in-Ok-clause-answered : goal.returns-in-Ok-clause-answered
-returns-in-Ok-clause-answered g c =
+pub returns-in-Ok-clause-found : goal.returns-in-Ok-clause-found
+returns-in-Ok-clause-found g c =
     let held : List ℕ → Known = g.O.Opener.held c.args.opener.now in
     let files : List (List ℕ) = map (λ file. file.items) c.in_ok-found.found.files.items in
     let read = all_files held c.release.result.now.paths files c.in_ok-found.found.unread c.in_ok-found.ensures.found c.if-not-is_empty.ensures in
-    launches-checked held c.args.quiet c.args.readable.now files c.in-Ok.check c.release_answer.result
-    (subst (λ (r : ReleaseData). AreRead held r.paths files) c.release.ensures read) c.in-Ok.ensures c.release_answer.ensures.text
-    c.release_answer.ensures.status
+    launches-checked held c.args.quiet c.args.readable.now files c.in-Ok.check c.release_check.result
+    (subst (λ (r : ReleaseData). AreRead held r.paths files) c.release.ensures read) c.in-Ok.ensures c.release_check.ensures.faults
+    c.release_check.ensures.warnings c.release_check.ensures.status
