@@ -9,3 +9,7 @@ pub mod GapsAreTheRest
 pub mod ExtensionsOfLinks
 -- the JSON of a map is made part by part, and has no float
 pub mod MapAsJson
+-- so is that of a launch that is refused
+pub mod RefusedMapAsJson
+-- a text with a line feed at its end is whole lines
+pub mod LastLine

@@ -16,7 +16,7 @@ use Rattle.rim_line.specs.declared.names.ItemNames.{ItemNames}
 use Rattle.rim_map.specs.Extensions.{extensions_of}
 use Rattle.rim_map.specs.Granules.{HasGranules}
 use Rattle.rim_map.specs.Rows.{rows_of}
-use Rattle.rim_map.specs.inside.Spaces.{AreTexts, IsSpace, IsText}
+use Rattle.rim_map.specs.inside.Spaces.{AreTexts, IsSpace}
 use Rattle.rim_map.specs.MapJson.{IsMap, SpaceView, extensions_json, granules_json, item_json, items_json, launch_json}
 use Rattle.rim_map.specs.MapJson.{map_data, path_json, place_json, region_json, regions_json, rule_json, space_of, stretch_json}
 use Rattle.rim_map.specs.Stretches.{AreRising, gaps_of, row_pages}
@@ -35,25 +35,25 @@ items-over name paths (item ∷ items) (row ∷ rows) now all (inr none) so_far 
 
 -- ---- no part has a float
 
-stretches-float : (ss : List Stretch) → items_have_float (items_of (map stretch_json ss)) ≡ false
+pub stretches-float : (ss : List Stretch) → items_have_float (items_of (map stretch_json ss)) ≡ false
 unfolding stretch_json
 stretches-float [] = refl
 stretches-float (s ∷ ss) = stretches-float ss
 
-regions-float : (taken : List Stretch) (ram : List Region) → items_have_float (items_of (regions_json taken ram)) ≡ false
+pub regions-float : (taken : List Stretch) (ram : List Region) → items_have_float (items_of (regions_json taken ram)) ≡ false
 unfolding region_json
 regions-float taken [] = refl
 regions-float taken (r ∷ ram) = rw (stretches-float (gaps_of r.base r.end taken)) (regions-float taken ram)
 
-path-float : (o : Option (List ℕ)) → has_float (path_json o) ≡ false
+pub path-float : (o : Option (List ℕ)) → has_float (path_json o) ≡ false
 path-float None = refl
 path-float (Some path) = refl
 
-rule-float : (o : Option RecRule) → has_float (rule_json o) ≡ false
+pub rule-float : (o : Option RecRule) → has_float (rule_json o) ≡ false
 rule-float None = refl
 rule-float (Some rule) = refl
 
-items-float : (name : ℕ → List ℕ) (paths : List (List ℕ)) (items : List Item) (rows : List Row)
+pub items-float : (name : ℕ → List ℕ) (paths : List (List ℕ)) (items : List Item) (rows : List Row)
     → items_have_float (items_of (items_json name paths items rows)) ≡ false
 unfolding item_json place_json
 items-float name paths [] rows = refl
@@ -75,11 +75,11 @@ no-float own l name paths rows taken between granules extensions texts =
 -- ---- the whole text
 
 -- one text more
-pub texts-more : (ds : List Data) (d : Data) → AreTexts ds → IsText d → AreTexts (ds ++ d ∷ [])
-texts-more ds d all one = record {
-  texts = all.texts ++ one.text ∷ [];
-  are = ap (λ (xs : List Data). xs ++ d ∷ []) all.are ∙ ap (λ (x : Data). map string all.texts ++ x ∷ []) one.is
-      ∙ sym (map-append string all.texts (one.text ∷ []));
+pub texts-more : (ds : List Data) (d : Data) (text : List ℕ) → AreTexts ds → d ≡ string text → AreTexts (ds ++ d ∷ [])
+texts-more ds d text all is = record {
+  texts = all.texts ++ text ∷ [];
+  are = ap (λ (xs : List Data). xs ++ d ∷ []) all.are ∙ ap (λ (x : Data). map string all.texts ++ x ∷ []) is
+      ∙ sym (map-append string all.texts (text ∷ []));
 }
 
 -- the text of a value that was made of a launch's parts is the launch's map

@@ -3,4 +3,5 @@ pub mod Extensions
 pub mod Rows
 pub mod Stretches
 pub mod MapJson
+pub mod RefusedMap
 pub mod inside

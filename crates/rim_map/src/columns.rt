@@ -1,4 +1,7 @@
 //! Lines of a map, and texts of a manifest that fit in them.
+ghost use Rattle.std.specs.Prelude.{◌≡◌, true};
+ghost use Rattle.rim_map.specs.RefusedMap.{are_lines};
+
 use refusal::NoMemory;
 use rim_line::Line;
 use std::alloc::{AllocError, Global};
@@ -6,6 +9,41 @@ use std::fmt;
 
 /// The most bytes of a line of a map, but for those that `rim check` prints too. No line has more columns than bytes.
 pub(crate) const COLUMNS: usize = 100;
+
+/// A text of whole lines.
+#[derive(Drop)]
+pub(crate) struct Lines {
+    text: Vec<u8>,
+    ghost whole: { are_lines text.items ≡ true },
+}
+
+impl Lines {
+    ghost use Rattle.std.specs.Prelude.{◌≡◌, true};
+    ghost use Rattle.rim_map.specs.RefusedMap.{are_lines};
+
+    pub(crate) fn new(alloc: Global) -> Lines {
+        Lines {
+            text: Vec::new(alloc),
+        }
+    }
+
+    /// Adds a line and a line feed.
+    #[tactic(auto, using(crate::proofs::LastLine::ends_lines))]
+    pub(crate) fn push(&mut self, line: &Line) -> Result<(), NoMemory> {
+        let bytes = line.as_slice();
+        self.text.reserve(bytes.len() + 1)?;
+        self.text.extend_from_slice(bytes)?;
+        self.text.push_reserved(b'\n');
+        Ok(())
+    }
+
+    /// Its bytes.
+    pub(crate) fn into_bytes(self) -> Vec<u8>
+        ensures { are_lines result.items ≡ true }
+    {
+        self.text
+    }
+}
 
 /// Adds a line and a line feed.
 pub(crate) fn push_line(text: &mut Vec<u8>, line: &Line) -> Result<(), NoMemory> {

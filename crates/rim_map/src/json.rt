@@ -1,10 +1,12 @@
 //! The map of a launch as JSON.
 ghost use Rattle.std.specs.Prelude.{◌≡◌, ◌++◌, IfOk, codes, false, map};
+ghost use Rattle.std.specs.Str.Lossy.{utf8_lossy};
+ghost use Rattle.serde_json.specs.Data.{string};
 ghost use Rattle.serde_json.specs.View.{view};
 ghost use Rattle.serde_json.specs.Written.{compact_text, has_float};
 ghost use Rattle.ipa_layout.specs.Files.{bytes_of_files};
 ghost use Rattle.rim_map.specs.MapJson.{IsMap, map_data};
-ghost use Rattle.rim_map.specs.inside.Spaces.{AreTexts, IsSpace, IsText, seen_space};
+ghost use Rattle.rim_map.specs.inside.Spaces.{AreTexts, IsSpace, seen_space};
 
 use crate::extensions::{Extensions, count_extensions};
 use crate::granules::{Granules, count_granules};
@@ -133,7 +135,7 @@ fn line_values(alloc: Global, lines: &[Line]) -> Result<Vec<Value>, AllocError>
 
 /// A text of UTF-8; other bytes are shown as the replacement character.
 pub(crate) fn text_value(alloc: Global, bytes: &[u8]) -> Result<Value, AllocError>
-    ensures { IfOk result (λ v. IsText (view v)) }
+    ensures { IfOk result (λ v. view v ≡ string (utf8_lossy bytes.now)) }
 {
     let text = String::from_utf8_lossy(alloc, bytes)?;
     json!(in alloc; text.as_str())

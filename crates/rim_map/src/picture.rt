@@ -1,5 +1,5 @@
 //! The address space of a launch in lines: its RAM, the items in it, and the addresses of none. What it says of the launch is tested alone.
-use crate::columns::{Size, push_line, push_name, push_path, room_after};
+use crate::columns::{Lines, Size, push_name, push_path, room_after};
 use crate::files::{kind_word, path_of};
 use crate::rows::Row;
 use crate::stretches::Stretch;
@@ -20,7 +20,7 @@ pub(crate) struct Shown<'a> {
 /// Adds the lines of a launch whose items have these places.
 pub(crate) fn push_space(
     alloc: Global,
-    text: &mut Vec<u8>,
+    text: &mut Lines,
     shown: Shown<'_>,
     rows: &[Row],
 ) -> Result<(), NoMemory> {
@@ -40,7 +40,7 @@ pub(crate) fn push_space(
 }
 
 /// Adds the lines of the RAM of a launch, rising.
-pub(crate) fn push_ram(alloc: Global, text: &mut Vec<u8>, launch: &Launch) -> Result<(), NoMemory> {
+pub(crate) fn push_ram(alloc: Global, text: &mut Lines, launch: &Launch) -> Result<(), NoMemory> {
     let mut before = None;
     for region in &rising_regions(alloc, launch)? {
         before = push_between(alloc, text, before, region)?;
@@ -66,7 +66,7 @@ fn rising_regions(alloc: Global, launch: &Launch) -> Result<Vec<Region>, NoMemor
 /// Adds the addresses between a region and those before it, which end at an address, if there are any. It answers where all end.
 fn push_between(
     alloc: Global,
-    text: &mut Vec<u8>,
+    text: &mut Lines,
     before: Option<u64>,
     region: &Region,
 ) -> Result<Option<u64>, NoMemory> {
@@ -84,7 +84,7 @@ fn push_between(
 }
 
 /// Adds the line of a region.
-fn push_region(alloc: Global, text: &mut Vec<u8>, region: &Region) -> Result<(), NoMemory> {
+fn push_region(alloc: Global, text: &mut Lines, region: &Region) -> Result<(), NoMemory> {
     let Region { base, end } = *region;
     push_stretch(alloc, text, "RAM", Stretch { base, end })
 }
@@ -92,7 +92,7 @@ fn push_region(alloc: Global, text: &mut Vec<u8>, region: &Region) -> Result<(),
 /// Adds a line about a stretch of addresses.
 fn push_stretch(
     alloc: Global,
-    text: &mut Vec<u8>,
+    text: &mut Lines,
     what: &str,
     stretch: Stretch,
 ) -> Result<(), NoMemory> {
@@ -100,7 +100,7 @@ fn push_stretch(
     let size = Size(end.saturating_sub(base));
     let mut line = Line::new(alloc);
     write!(line, "{what} {base:#x} to {end:#x}: {size}").map_err(|_| NoMemory)?;
-    push_line(text, &line)
+    text.push(&line)
 }
 
 /// Whether an item has pages in a region, or is there without pages.
@@ -112,7 +112,7 @@ fn meets(region: &Region, row: &Row) -> bool {
 /// Adds the items of a region, and the addresses of no item.
 fn push_inside(
     alloc: Global,
-    text: &mut Vec<u8>,
+    text: &mut Lines,
     shown: Shown<'_>,
     region: &Region,
     rising: &[Row],
@@ -131,7 +131,7 @@ fn push_inside(
 }
 
 /// Adds the addresses of no item from one on and below another, if there are any.
-fn push_no_item(alloc: Global, text: &mut Vec<u8>, base: u64, end: u64) -> Result<(), NoMemory> {
+fn push_no_item(alloc: Global, text: &mut Lines, base: u64, end: u64) -> Result<(), NoMemory> {
     if base < end {
         push_stretch(alloc, text, "  no item", Stretch { base, end })?;
     }
@@ -139,27 +139,17 @@ fn push_no_item(alloc: Global, text: &mut Vec<u8>, base: u64, end: u64) -> Resul
 }
 
 /// Adds the line of an item that began in a region before.
-fn push_rest(
-    alloc: Global,
-    text: &mut Vec<u8>,
-    shown: Shown<'_>,
-    row: &Row,
-) -> Result<(), NoMemory> {
+fn push_rest(alloc: Global, text: &mut Lines, shown: Shown<'_>, row: &Row) -> Result<(), NoMemory> {
     let top = row.top;
     let mut line = Line::new(alloc);
     write!(line, "  to {top:#x} the pages of ").map_err(|_| NoMemory)?;
     let room = room_after(&line);
     push_name(alloc, &mut line, shown.names.name(row.number), room)?;
-    push_line(text, &line)
+    text.push(&line)
 }
 
 /// Adds the two lines of an item.
-fn push_row(
-    alloc: Global,
-    text: &mut Vec<u8>,
-    shown: Shown<'_>,
-    row: &Row,
-) -> Result<(), NoMemory> {
+fn push_row(alloc: Global, text: &mut Lines, shown: Shown<'_>, row: &Row) -> Result<(), NoMemory> {
     let Some(item) = shown.launch.items().get(row.number) else {
         return Ok(());
     };
@@ -170,7 +160,7 @@ fn push_row(
     write!(line, "  {address:#x} to {end:#x} {kind} ").map_err(|_| NoMemory)?;
     let room = room_after(&line);
     push_name(alloc, &mut line, shown.names.name(row.number), room)?;
-    push_line(text, &line)?;
+    text.push(&line)?;
     let mut rest = Line::new(alloc);
     write_numbers(&mut rest, item, row).map_err(|_| NoMemory)?;
     push_source(alloc, text, shown.names, item, &rest)
@@ -203,7 +193,7 @@ fn measured_words(item: &Item) -> &'static str {
 /// Adds the line that says where an item's bytes come from, and what else there is to say.
 fn push_source(
     alloc: Global,
-    text: &mut Vec<u8>,
+    text: &mut Lines,
     names: ItemNames<'_>,
     item: &Item,
     rest: &Line,
@@ -222,13 +212,13 @@ fn push_source(
         line.push_text(words)?;
     }
     line.append(rest)?;
-    push_line(text, &line)
+    text.push(&line)
 }
 
 /// Adds the items as the manifest states them, by their addresses there.
 pub(crate) fn push_stated(
     alloc: Global,
-    text: &mut Vec<u8>,
+    text: &mut Lines,
     shown: Shown<'_>,
 ) -> Result<(), NoMemory> {
     let mut rising = Vec::new(alloc);
@@ -247,7 +237,7 @@ pub(crate) fn push_stated(
 /// Adds the two lines of an item as the manifest states it.
 fn push_item(
     alloc: Global,
-    text: &mut Vec<u8>,
+    text: &mut Lines,
     shown: Shown<'_>,
     number: usize,
     item: &Item,
@@ -258,7 +248,7 @@ fn push_item(
     write!(line, "  at {at:#x} {kind} ").map_err(|_| NoMemory)?;
     let room = room_after(&line);
     push_name(alloc, &mut line, shown.names.name(number), room)?;
-    push_line(text, &line)?;
+    text.push(&line)?;
     let mut rest = Line::new(alloc);
     match item.size {
         Some(size) => write!(rest, "size {size}"),

@@ -1,8 +1,19 @@
 //! The map of a launch that is refused, as far as it goes: the items at their places where its list is refused, and as the manifest
-//! states them where it cannot be laid out. What it shows is tested alone.
-ghost use Rattle.std.specs.Prelude.{◌≡◌, length, true};
+//! states them where it cannot be laid out. What its lines show before the last one is tested alone.
+ghost use Rattle.std.specs.Prelude.{◌≡◌, ◌++◌, ℕ, List, IfOk, Ok, codes, length, map, true};
+ghost use Rattle.std.specs.Str.Lossy.{utf8_lossy};
+ghost use Rattle.serde_json.specs.View.{view};
+ghost use Rattle.ipa_layout.specs.Files.{bytes_of_files};
+ghost use Rattle.ipa_layout.specs.Layout.{PlacedData, places};
+ghost use Rattle.rim_accepted.specs.AuditFaults.{audit_kind_of};
+ghost use Rattle.rim_accepted.specs.Reasons.{audit_fault_of};
 ghost use Rattle.rim_launch.specs.LaunchData.{has_files};
+ghost use Rattle.rim_line.specs.Names.{names_of};
+ghost use Rattle.rim_map.specs.RefusedMap.{EndsWithLine, IsRefusedMap, ShowsSpace, refused_data, size_json, stated_item_json, stated_items_json, stated_json};
+ghost use Rattle.rim_map.specs.Rows.{rows_of};
+ghost use Rattle.rim_map.specs.inside.Spaces.{IsStated, seen_space};
 
+use crate::columns::Lines;
 use crate::files::{kind_word, path_of};
 use crate::json::{Space, placed_space, text, text_value};
 use crate::json_parts::{launch_value, path_value, region_values, stretch_values};
@@ -36,20 +47,34 @@ pub fn refused_text(
     alloc: Global,
     readable: &Readable,
     refused: &RefusedLaunch<'_>,
-) -> Result<Vec<u8>, NoMemory> {
+) -> Result<Vec<u8>, NoMemory>
+    ensures { IfOk result (λ text. EndsWithLine refused.now.line.now text.items) }
+{
+    let mut text = lines_before(alloc, readable, refused)?.into_bytes();
+    text.extend_from_slice(refused.line)?;
+    Ok(text)
+}
+
+/// The lines of the map before the last one.
+fn lines_before(
+    alloc: Global,
+    readable: &Readable,
+    refused: &RefusedLaunch<'_>,
+) -> Result<Lines, NoMemory> {
     let launch = refused.launch;
     let names = names_in(readable, launch);
     let shown = Shown { names, launch };
-    let mut text = Vec::new(alloc);
+    let mut text = Lines::new(alloc);
     push_head(alloc, &mut text, refused.name, launch)?;
-    match placed_rows(alloc, refused)? {
-        Some(rows) => push_space(alloc, &mut text, shown, &rows)?,
-        None => {
+    match refused.reason {
+        LaunchReason::List(_) => {
+            push_space(alloc, &mut text, shown, &placed_rows(alloc, refused)?)?;
+        }
+        LaunchReason::Layout(_) => {
             push_ram(alloc, &mut text, launch)?;
             push_stated(alloc, &mut text, shown)?;
         }
     }
-    text.extend_from_slice(refused.line)?;
     Ok(text)
 }
 
@@ -60,19 +85,20 @@ pub fn refused_json(
     alloc: Global,
     readable: &Readable,
     refused: &RefusedLaunch<'_>,
-) -> Result<Vec<u8>, NoMemory> {
-    let launch = refused.launch;
-    let names = names_in(readable, launch);
-    let space = match placed_rows(alloc, refused)? {
-        Some(rows) => placed_space(alloc, names, launch, &rows)?,
-        None => stated_space(alloc, names, launch)?,
-    };
+) -> Result<Vec<u8>, NoMemory>
+    ensures { IfOk result (λ text. (line : List ℕ) → refused.now.line.now ≡ line ++ codes "\n"
+        → IsRefusedMap readable.now refused.now.name.now refused.now.launch.now
+        (bytes_of_files refused.now.files.now) refused.now.reason.now line text.items) }
+{
+    let space = shown_space(alloc, names_in(readable, refused.launch), refused)?;
     let value = refused_value(alloc, refused, space)?;
     text(alloc, &value)
 }
 
 /// The items of a launch, by their names.
-fn names_in<'a>(readable: &'a Readable, launch: &Launch) -> ItemNames<'a> {
+fn names_in<'a>(readable: &'a Readable, launch: &Launch) -> ItemNames<'a>
+    ensures { (result.readable.now ≡ readable.entry.now) × (result.launch ≡ launch.now.number) }
+{
     ItemNames {
         readable,
         launch: launch.number(),
@@ -80,18 +106,40 @@ fn names_in<'a>(readable: &'a Readable, launch: &Launch) -> ItemNames<'a> {
 }
 
 /// The items at their places, where it is the launch's list that is refused.
-fn placed_rows(alloc: Global, refused: &RefusedLaunch<'_>) -> Result<Option<Vec<Row>>, NoMemory> {
-    let LaunchReason::List(_) = refused.reason else {
-        return Ok(None);
-    };
+fn placed_rows(alloc: Global, refused: &RefusedLaunch<'_>) -> Result<Vec<Row>, NoMemory>
+    ensures { IfOk result (λ rows. (p : PlacedData)
+        × (places refused.now.launch.now (bytes_of_files refused.now.files.now) ≡ Ok p)
+        × (rows.items ≡ rows_of refused.now.launch.now (bytes_of_files refused.now.files.now) p)) }
+{
     match place(alloc, refused.launch, refused.files) {
-        Ok(placed) => Ok(Some(item_rows(alloc, refused.launch, refused.files, &placed)?)),
+        Ok(placed) => item_rows(alloc, refused.launch, refused.files, &placed),
         Err(_) => Err(NoMemory),
     }
 }
 
+/// The address space of a launch with the items of these names, as far as it is known.
+fn shown_space(
+    alloc: Global,
+    names: ItemNames<'_>,
+    refused: &RefusedLaunch<'_>,
+) -> Result<Space, NoMemory>
+    requires { names.launch ≡ refused.now.launch.now.number }
+    ensures { IfOk result (λ space. ShowsSpace names.entry.readable.now refused.now.launch.now
+        (bytes_of_files refused.now.files.now) refused.now.reason.now (seen_space space)) }
+{
+    let launch = refused.launch;
+    match refused.reason {
+        LaunchReason::List(_) => {
+            placed_space(alloc, names, launch, &placed_rows(alloc, refused)?)
+        }
+        LaunchReason::Layout(_) => space_as_stated(alloc, names, launch),
+    }
+}
+
 /// The RAM of a launch, and its items as the manifest states them.
-fn stated_space(alloc: Global, names: ItemNames<'_>, launch: &Launch) -> Result<Space, NoMemory> {
+fn space_as_stated(alloc: Global, names: ItemNames<'_>, launch: &Launch) -> Result<Space, NoMemory>
+    ensures { IfOk result (λ space. IsStated names.entry launch.now (seen_space space)) }
+{
     let gaps = between(alloc, launch.ram())?;
     Ok(Space {
         gaps: stretch_values(alloc, &gaps)?,
@@ -105,37 +153,55 @@ fn stated_values(
     alloc: Global,
     names: ItemNames<'_>,
     items: &[Item],
-) -> Result<Vec<Value>, AllocError> {
+) -> Result<Vec<Value>, AllocError>
+    ensures { IfOk result (λ values. map view values.items
+        ≡ stated_items_json (names_of names.entry) names.entry.readable.now.release.paths
+        0 items.now) }
+{
     let mut values = Vec::with_capacity(alloc, items.len())?;
-    for (number, item) in items.iter().enumerate() {
-        values.push(stated_value(alloc, names.name(number), names, item)?)?;
+    for item in items {
+        values.push(stated_value(alloc, names, values.len(), item)?)?;
     }
     Ok(values)
 }
 
-/// An item as the manifest states it.
+/// The item of a number as the manifest states it.
+#[tactic(auto, unfolding(crate::specs::RefusedMap::stated_item_json))]
 fn stated_value(
     alloc: Global,
-    name: &str,
     names: ItemNames<'_>,
+    number: usize,
     item: &Item,
-) -> Result<Value, AllocError> {
+) -> Result<Value, AllocError>
+    ensures { IfOk result (λ v. view v ≡ stated_item_json (names_of names.entry)
+        names.entry.readable.now.release.paths number item.now) }
+{
     let file = path_value(alloc, path_of(names.readable.release(), item))?;
-    let size = size_value(item.size);
+    let stated = stated_place(alloc, item)?;
     let is_edited = item.kind.has_edits();
-    let stated = json!(in alloc; {"at": item.at, "size": size})?;
     json!(in alloc; {
         "edited": is_edited,
         "file": file,
         "kind": kind_word(item.kind.role()),
         "measured": item.measured,
-        "name": name,
+        "name": names.name(number),
         "stated": stated,
     })
 }
 
+/// Where the manifest asks for an item, and how large it says that it is.
+#[tactic(auto, unfolding(crate::specs::RefusedMap::stated_json))]
+fn stated_place(alloc: Global, item: &Item) -> Result<Value, AllocError>
+    ensures { IfOk result (λ v. view v ≡ stated_json item.now) }
+{
+    let size = size_value(item.size);
+    json!(in alloc; {"at": item.at, "size": size})
+}
+
 /// A size, or null where none is stated.
-fn size_value(size: Option<u64>) -> Value {
+fn size_value(size: Option<u64>) -> Value
+    ensures { view result ≡ size_json size }
+{
     match size {
         Some(size) => Value::from(size),
         None => Value::Null,
@@ -143,14 +209,18 @@ fn size_value(size: Option<u64>) -> Value {
 }
 
 /// The map as a JSON value.
+#[tactic(auto, unfolding(crate::specs::RefusedMap::refused_data))]
 fn refused_value(
     alloc: Global,
     refused: &RefusedLaunch<'_>,
     space: Space,
-) -> Result<Value, AllocError> {
+) -> Result<Value, AllocError>
+    ensures { IfOk result (λ v. (line : List ℕ) → refused.now.line.now ≡ line ++ codes "\n"
+        → view v ≡ refused_data refused.now.name.now refused.now.launch.now (seen_space space)
+        (utf8_lossy line) (audit_kind_of (audit_fault_of refused.now.reason.now))) }
+{
     let launch = launch_value(alloc, refused.name, refused.launch)?;
-    let line = refused.line;
-    let refusal = text_value(alloc, line.strip_suffix(b"\n").unwrap_or(line))?;
+    let refusal = text_value(alloc, without_feed(refused.line))?;
     let Space {
         gaps,
         items,
@@ -165,4 +235,14 @@ fn refused_value(
         "regions": regions,
         "version": 1u64,
     })
+}
+
+/// A line without the line feed at its end, if it has one.
+fn without_feed(line: &[u8]) -> &[u8]
+    ensures { (before : List ℕ) → line.entry.now ≡ before ++ codes "\n" → result.now ≡ before }
+{
+    match line.split_last() {
+        Some((last, before)) if *last == b'\n' => before,
+        _ => line,
+    }
 }

@@ -1,5 +1,5 @@
 //! The map of a launch as lines. That they show the launch is tested alone; the counts in them are proved where they are made.
-use crate::columns::{COLUMNS, push_line, push_name};
+use crate::columns::{COLUMNS, Lines, push_name};
 use crate::extensions::{Extensions, count_extensions};
 use crate::granules::{Granules, count_granules};
 use crate::picture::{Shown, push_space};
@@ -30,7 +30,7 @@ pub fn map_text(
         launch: launch.number(),
     };
     let rows = item_rows(alloc, launch, accepted.files, &accepted.placed)?;
-    let mut text = Vec::new(alloc);
+    let mut text = Lines::new(alloc);
     push_head(alloc, &mut text, name, launch)?;
     push_space(alloc, &mut text, Shown { names, launch }, &rows)?;
     push_granules(
@@ -40,6 +40,7 @@ pub fn map_text(
         &count_granules(alloc, accepted)?,
     )?;
     push_extensions(alloc, &mut text, &count_extensions(alloc, accepted)?)?;
+    let mut text = text.into_bytes();
     push_warnings(alloc, &mut text, names, name, accepted)?;
     Ok(text)
 }
@@ -47,7 +48,7 @@ pub fn map_text(
 /// Adds the line that says what a launch is.
 pub(crate) fn push_head(
     alloc: Global,
-    text: &mut Vec<u8>,
+    text: &mut Lines,
     name: &str,
     launch: &Launch,
 ) -> Result<(), NoMemory> {
@@ -58,7 +59,7 @@ pub(crate) fn push_head(
     let others = line.as_slice().len() + rest.as_slice().len();
     push_name(alloc, &mut line, name, COLUMNS.saturating_sub(others))?;
     line.append(&rest)?;
-    push_line(text, &line)
+    text.push(&line)
 }
 
 /// What a launch is, after its name.
@@ -83,19 +84,19 @@ fn write_config(line: &mut Line, config: &Config, recs: usize) -> fmt::Result {
 /// Adds the lines of granules.
 fn push_granules(
     alloc: Global,
-    text: &mut Vec<u8>,
+    text: &mut Lines,
     config: &Config,
     granules: &Granules,
 ) -> Result<(), NoMemory> {
     let mut line = Line::new(alloc);
     write_pool(&mut line, config, granules).map_err(|_| NoMemory)?;
-    push_line(text, &line)?;
+    text.push(&line)?;
     let mut line = Line::new(alloc);
     write_tables(&mut line, granules).map_err(|_| NoMemory)?;
-    push_line(text, &line)?;
+    text.push(&line)?;
     let mut line = Line::new(alloc);
     write_others(&mut line, granules).map_err(|_| NoMemory)?;
-    push_line(text, &line)
+    text.push(&line)
 }
 
 /// How many granules of the pool are taken.
@@ -134,15 +135,15 @@ fn write_others(line: &mut Line, granules: &Granules) -> fmt::Result {
 /// Adds the lines of extensions.
 fn push_extensions(
     alloc: Global,
-    text: &mut Vec<u8>,
+    text: &mut Lines,
     extensions: &Extensions,
 ) -> Result<(), NoMemory> {
     let mut line = Line::new(alloc);
     write_total(&mut line, extensions).map_err(|_| NoMemory)?;
-    push_line(text, &line)?;
+    text.push(&line)?;
     let mut line = Line::new(alloc);
     write_kinds(&mut line, extensions).map_err(|_| NoMemory)?;
-    push_line(text, &line)
+    text.push(&line)
 }
 
 /// How many extensions there are.

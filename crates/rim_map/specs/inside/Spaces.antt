@@ -6,6 +6,7 @@ use Rattle.rim_launch.specs.LaunchData.{LaunchData}
 use Rattle.rim_line.specs.Names.{names_of}
 use Rattle.rim_line.specs.declared.names.ItemNames.{ItemNames}
 use Rattle.rim_map.specs.MapJson.{SpaceView, space_of}
+use Rattle.rim_map.specs.RefusedMap.{stated_of}
 use Rattle.rim_map.specs.Stretches.{AreRising, IsBetween, row_pages}
 use Rattle.rim_map.specs.declared.json.Space.{Space}
 use Rattle.rim_map.specs.declared.rows.Row.{Row}
@@ -22,10 +23,11 @@ pub record IsSpace (n : ItemNames) (l : LaunchData) (rows : List Row) (space : S
   pub around : IsBetween l.ram between
   pub is : space ≡ space_of (names_of n) n.readable.now.release.paths l rows taken between
 
--- a value is some text
-pub record IsText (d : Data) : Type 0 where
-  pub text : List ℕ
-  pub is : d ≡ string text
+-- a space is that of a launch whose items have these names and no places
+pub record IsStated (n : ItemNames) (l : LaunchData) (space : SpaceView) : Type 0 where
+  pub between : List Stretch
+  pub around : IsBetween l.ram between
+  pub is : space ≡ stated_of (names_of n) n.readable.now.release.paths l between
 
 -- values are some texts
 pub record AreTexts (ds : List Data) : Type 0 where
