@@ -1,11 +1,8 @@
-use Rattle.std.proofs.Common.{◌≡◌, ◌∙◌, ◌+◌, ◌∷◌, ◌++◌, List, [], ap, arith, length, map, min, sym, take}
+use Rattle.std.proofs.Common.{◌∙◌, List, ap, arith, map}
 use Rattle.std.proofs.lemmas.List.{map-append}
-use Rattle.serde_json.specs.Data.{Data}
 use Rattle.serde_json.specs.View.{view}
 use Rattle.serde_json.specs.declared.value.Value.{Value}
-use Rattle.rim_launch.specs.declared.item.Item.{Item}
 use Rattle.rim_line.specs.Names.{names_of}
-use Rattle.rim_map.specs.RefusedMap.{stated_items_json}
 use Rattle.rim_map.proofs.RefusedMapAsJson.{stated-next}
 use Rattle.rim_map.proofs.refused.stated_values.Goals as goal
 
