@@ -45,13 +45,6 @@ impl Lines {
     }
 }
 
-/// Adds a line and a line feed.
-pub(crate) fn push_line(text: &mut Vec<u8>, line: &Line) -> Result<(), NoMemory> {
-    text.extend_from_slice(line.as_slice())?;
-    text.push(b'\n')?;
-    Ok(())
-}
-
 /// Adds a name between double quotes, with a `\` before each double quote and each `\` in it, in at most `room` bytes.
 pub(crate) fn push_name(
     alloc: Global,

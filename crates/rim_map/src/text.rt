@@ -40,9 +40,8 @@ pub fn map_text(
         &count_granules(alloc, accepted)?,
     )?;
     push_extensions(alloc, &mut text, &count_extensions(alloc, accepted)?)?;
-    let mut text = text.into_bytes();
     push_warnings(alloc, &mut text, names, name, accepted)?;
-    Ok(text)
+    Ok(text.into_bytes())
 }
 
 /// Adds the line that says what a launch is.

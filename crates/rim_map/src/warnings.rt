@@ -1,5 +1,5 @@
 //! The warnings of a launch, as `rim check` says them.
-use crate::columns::push_line;
+use crate::columns::Lines;
 use refusal::NoMemory;
 use rim_accepted::AcceptedLaunch;
 use rim_line::{ItemNames, Line};
@@ -10,13 +10,13 @@ use std::fmt::Write;
 /// Adds the line of each warning of a launch, which has this name and is accepted.
 pub(crate) fn push_warnings(
     alloc: Global,
-    text: &mut Vec<u8>,
+    text: &mut Lines,
     names: ItemNames<'_>,
     name: &str,
     accepted: &AcceptedLaunch<'_>,
 ) -> Result<(), NoMemory> {
     for line in &warnings(alloc, names, name, accepted)? {
-        push_line(text, line)?;
+        text.push(line)?;
     }
     Ok(())
 }
