@@ -125,7 +125,7 @@ RIM_MANIFEST = Program(
         Option(("--dtb-pages",), "Which pages of the devicetree are measured", ("whole", "used")),
         Option(("--order",), "The order in which the realm is built", ("address", "ram,kernel,initrd,dtb,rec")),
         Option(("--out",), "The folder that is written", FOLDER),
-        Option(("--force",), "Replace the folder"),
+        Option(("--force",), "Replace what was made before"),
         Option(("--rules",), "Print the table of the hypervisor"),
         HELP,
     ),

@@ -1,5 +1,5 @@
 -- The map of a launch that was found is that of the launch that the manifest describes, and its status says whether it is refused.
-use Rattle.std.proofs.Common.{◌≡◌, ◌∙◌, ℕ, ◌<◌, Bool, true, false, inl, inr, arith, length, slice_get, List, [], ◌∷◌}
+use Rattle.std.proofs.Common.{◌≡◌, ◌∙◌, ℕ, ◌<◌, Bool, true, false, inl, inr, arith, codes, length, slice_get, List, [], ◌∷◌, ◌++◌}
 use Rattle.std.proofs.Common.{Option, Some, None, option_map, refl, ap, sym, subst}
 use Rattle.std.specs.Prelude.{is_some, option_and_then, position, IsOkAnd, Result, Ok, Err, is_err, unwrap_or}
 use Rattle.std.proofs.lemmas.List.Quantifiers.{position-Some}
@@ -22,10 +22,13 @@ use Rattle.rim_cli.specs.Done.{RefusesListing, RefusesManifest, launch_in}
 use Rattle.rim_cli.specs.Files.{IfFile, IsFirstFault, Known}
 use Rattle.rim_cli.specs.declared.fault.Fault.{Fault}
 use Rattle.rim_cli.proofs.ReleaseOfManifest.{of_release}
-use Rattle.rim_cli.specs.Mapped.{IsMapBy, IsMapOf, Shows, ShowsPlaced}
+use Rattle.rim_cli.specs.Mapped.{IsMapBy, IsMapOf, IsRefusedMapOf, Shows, ShowsPlaced, ShowsRefusal}
+use Rattle.rim_check.specs.Explained.{AddsRefusal, refusal_said}
+use Rattle.rim_line.specs.Lines.{Begins, SayInTurn}
 use Rattle.rim_cli.specs.declared.words.Format.{Format}
 use Rattle.rim_cli.specs.declared.words.Format.TheVariants as format
 use Rattle.rim_map.specs.MapJson.{IsMap}
+use Rattle.rim_map.specs.RefusedMap.{EndsWithLine, IsRefusedMap}
 
 -- what holds of the manifest that was read holds of the one in the file
 pub of_readable : (known : Known) (m : ReadableData) (Q : List (List (List ℕ)) → ReleaseData → Type 0)
@@ -80,13 +83,51 @@ accepted-map f m l files a text own files_own accepted shows =
         subst (λ (x : LaunchData). IsMap m l.name x files a.placed text) own
         (subst (λ (fs : List (List ℕ)). IsMap m l.name a.launch.now fs a.placed text) files_own shows)
 
--- and one that is refused has the status 1
+-- the line of a refusal has a line feed at its end, and no other
+pub refusal-ends : (names : List (List (List ℕ))) (l : NamedData) (why : LaunchReason) (text : List ℕ) → AddsRefusal names l why [] text
+    → (line : List ℕ) × (text ≡ line ++ codes "\n")
+refusal-ends names l why text adds =
+    let begins : Begins (refusal_said names l why adds.hint) (SayInTurn []) text = adds.adds [] refl in
+    (begins.line, begins.split ∙ ap (λ (rest : List ℕ). begins.line ++ 10 ∷ rest) begins.follows)
+
+-- a map shows a line in which a check says why
+abbrev pub ShowsSome : Format → ReadableData → NamedData → List (List ℕ) → LaunchReason → List ℕ → Type 0
+ShowsSome f m l files why text = (line : List ℕ) × AddsRefusal m.names l why [] (line ++ codes "\n") × ShowsRefusal f m l files why line text
+
+-- lines that end with that one do
+pub lines-show : (f : Format) (m : ReadableData) (l : NamedData) (files : List (List ℕ)) (why : LaunchReason) (whole text : List ℕ)
+    → f ≡ format.Text → AddsRefusal m.names l why [] whole → EndsWithLine whole text → ShowsSome f m l files why text
+lines-show f m l files why whole text is adds ends =
+    let end = refusal-ends m.names l why whole adds in
+    subst (λ (g : Format). ShowsSome g m l files why text) (sym is) (
+      end.0,
+      subst (λ (w : List ℕ). AddsRefusal m.names l why [] w) end.1 adds,
+      subst (λ (w : List ℕ). EndsWithLine w text) end.1 ends,
+    )
+
+-- and so does JSON that has it
+pub json-shows : (f : Format) (m : ReadableData) (l : NamedData) (files : List (List ℕ)) (why : LaunchReason) (whole text : List ℕ)
+    → f ≡ format.Json → AddsRefusal m.names l why [] whole
+    → ((line : List ℕ) → whole ≡ line ++ codes "\n" → IsRefusedMap m l.name l.launch files why line text) → ShowsSome f m l files why text
+json-shows f m l files why whole text is adds shows =
+    let end = refusal-ends m.names l why whole adds in
+    subst (λ (g : Format). ShowsSome g m l files why text) (sym is) (
+      end.0,
+      subst (λ (w : List ℕ). AddsRefusal m.names l why [] w) end.1 adds,
+      shows end.0 end.1,
+    )
+
+-- and one that is refused has the status 1, and shows that line
 pub refused-map : (f : Format) (m : ReadableData) (l : NamedData) (files : List (List ℕ)) (why : LaunchReason) (text : List ℕ)
-    → IsRefusedFor l.launch files why → IsMapOf f m l files text 1
-refused-map f m l files why text refused = by-place (accepted_of l.launch files) refl
+    → IsRefusedFor l.launch files why
+    → ShowsSome f m l files why text → IsMapOf f m l files text 1
+refused-map f m l files why text refused shows = by-place (accepted_of l.launch files) refl
   where
+    whole : IsRefusedMapOf f m l files text
+    whole = record { why = why; refused = refused; line = shows.0; says = shows.1; shown = shows.2 }
+
     by-place : (place : Result PlacedData AuditFault) → accepted_of l.launch files ≡ place → IsMapBy f m l files place text 1
-    by-place (Err fault) is = refl
+    by-place (Err fault) is = (whole, refl)
     by-place (Ok p) is =
         let on : is_err (accepted_of l.launch files) ≡ true =
         sym (same_refusal l.launch files) ∙ ap (λ (r : Result (List ℕ) AuditFault). is_err r) refused.refused in

@@ -1,8 +1,9 @@
 //! The map of a manifest's launch.
-ghost use Rattle.std.specs.Prelude.{◌≡◌, ◌<◌, ◌≤◌, IfErr, IfOk, IfSome, IsOkAnd, Ok, Some, length, map, position, slice_get, true, vec_len};
+ghost use Rattle.std.specs.Prelude.{◌≡◌, ◌<◌, ◌≤◌, ◌++◌, ℕ, List, [], IfErr, IfOk, IfSome, IsOkAnd, Ok, Some, codes, length, map, position, slice_get, true, vec_len};
 ghost use Rattle.rim_cli.specs.Done.{IsManifestFault, IsMapped, RefusesListing, RefusesManifest};
 ghost use Rattle.rim_cli.specs.Files.{AreRead, IfFile};
-ghost use Rattle.rim_cli.specs.Mapped.{IsMapOf, Shows};
+ghost use Rattle.rim_cli.specs.Mapped.{IsMapOf, Shows, ShowsRefusal};
+ghost use Rattle.rim_check.specs.Explained.{AddsRefusal};
 ghost use Rattle.rim_launch.specs.LaunchData.{has_files};
 ghost use Rattle.ipa_layout.specs.Files.{bytes_of_files};
 ghost use Rattle.rim_line.specs.Readables.{item_names_in};
@@ -181,6 +182,10 @@ fn refused_map(
     format: Format,
 ) -> Result<Vec<u8>, NoMemory>
     requires { has_files launch.now.launch (length files.now) ≡ true }
+    ensures { IfOk result (λ text. (line : List ℕ)
+        × AddsRefusal readable.now.names launch.now reason.now [] (line ++ codes "\n")
+        × ShowsRefusal format readable.now launch.now (bytes_of_files files.now) reason.now
+        line text.items) }
 {
     let line = refusal_line(alloc, readable, launch, files, reason)?;
     let refused = RefusedLaunch {
