@@ -210,7 +210,7 @@ fn launches_checked<R: Print + AllocGlobal>(
 {
     let alloc = rt.alloc();
     begin(rt, is_tried)?;
-    let answer = check_launches(alloc, readable, files);
+    let answer = check_launches(alloc, readable, files, false);
     end(rt, is_tried)?;
     Ok(seen!(alloc, answer, check_digest, NoMemory))
 }

@@ -81,7 +81,7 @@ fn written_as_json<R: Print + AllocGlobal>(
 ) -> Result<Seen, Fault> {
     let alloc = rt.alloc();
     begin(rt, is_tried)?;
-    let answer = check_json(alloc, text, 3);
+    let answer = check_json(alloc, text, text, 3);
     end(rt, is_tried)?;
     Ok(seen!(alloc, answer, text_digest, NoMemory))
 }
