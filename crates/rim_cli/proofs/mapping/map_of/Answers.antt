@@ -6,4 +6,4 @@ pub returns-in_ok-refused_map-in-Err-clause-map : goal.returns-in_ok-refused_map
 returns-in_ok-refused_map-in-Err-clause-map c =
     let refused = rw (c.in-Err.is, c.launch.ensures) at c.in_ok-accepted.ensures.reason in
     refused-map c.args.format c.args.readable.now c.args.launch.now (bytes_of_files c.args.files.now) c.in-Err.reason _ refused
-    c.in_ok-refused_map.ensures
+    c.in_ok-refused_map-in-Err.ensures
