@@ -10,7 +10,7 @@ from .faults import Fault
 from .programs import Limits, Ran, SaysTooMuch
 from .texts import visible
 
-# A report, a listing and a trace have at most so many bytes; so has the text of a devicetree, and so much memory has `rim` for it: names in
+# The most bytes of a report, a listing and a trace; those of the text of a devicetree, and of the memory that `rim` has for it: names in
 # names can make gigabytes of text out of a devicetree of 2 MiB.
 MOST_OUT, MOST_TREE, TREE_MEMORY = 1 << 30, 32 << 20, 512 << 20
 # How long `rim` may take for an Image or a devicetree.
