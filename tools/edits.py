@@ -1,39 +1,126 @@
 #!/usr/bin/env python3
-"""Tries the broken edits of crates/NAME/edits/: the prover has to refuse each.
+"""Tries the broken edits of crates: the prover has to refuse each, for what a contract or a type asks.
 
-    tools/edits.py [NAME..]     those of these crates, or of all crates that have some
-    tools/edits.py --check      status 1 where an edit of edits/ or must-fail/ cannot be made; no prover is asked
+    tools/edits.py [--jobs N] [NAME..]         those of edits/ of these crates, or of all crates that have some
+    tools/edits.py --all [--jobs N] [NAME..]   those of must-fail/ too
+    tools/edits.py --check                     status 1 where an edit of edits/ or must-fail/ cannot be made; no prover is asked
 
-The gate tries the edits of crates/NAME/must-fail/ in each run, which are few. The others are here, since each costs a check
-of its crate; they are tried whenever the code or the contracts of their crate change. This puts them in the places of the
-gate's in a copy of the tree, runs `rt must-fail` there on the crates named, and prints what that says of each edit which is
-not refused, or is refused for the name of something alone. Its last line is 'N refused, M not'; the status is 1 where M is
-not 0. Nothing is kept in the checkout. The crates named and those below them are proved first where no checkout of this
-machine has them proved.
+The gate tries the edits of crates/NAME/must-fail/ in each run, which are few. The others are here, since each costs a check of what
+it changes; they are tried whenever the code or the contracts of their crate change. `rt ci` has to have built the libraries below a
+crate in this checkout (crates/*/out/rlib). Each crate is checked first without an edit, which is a whole proof of it unless a check
+in this checkout has kept its work. An edit's check begins with what that one has proved, so it takes 10 to 120 seconds. N edits are
+tried at a time, by default one; each may take 3 GB.
+
+A line for each edit says what came of it:
+
+    goal     refused: a goal of a contract or of a type is not proved. This is what an edit is for
+    name     refused, but only since a proof names what the edit took away: it says nothing of the contract
+    proved   the crate is still proved: a contract to strengthen, or an edit that changes nothing
+    text     it cannot be made, or what it makes is no text that the prover can read
+    late     the prover has no answer: it took too long, met a limit of its own, or was killed
+    base     the crate is not proved here without the edit, or a library below it is not built
+
+Then comes a table of the crates; the last line is 'N refused, M not', where N counts those of `goal` alone. The status is 0 where M is
+0, 3 where an edit is `late` or `base`, else 1. A signal stops it: it says how far it came, and what is done is kept.
+
+What came of an edit is kept on this machine, in ${XDG_CACHE_HOME:-~/.cache}/rim/edits, but for `text`, `late` and `base`. A file there
+is named by a sum of all that was read: the edit, its crate, the crates below that, the lines of crates.txt, and `rt version`. So a
+later run tries what changed, and prints at once what it knows.
 
 An edit can be made where it has a pair of `old:` and `new:` lines, no line that is neither of these nor `file:`, and each old
 text is in its file exactly once, as the pairs before it left that file, and is not its new text.
 """
+import contextlib
+import enum
+import functools
+import hashlib
+import json
+import os
 import pathlib
 import re
 import shutil
-import subprocess
 import sys
 import tempfile
+import time
+from collections import Counter
+from collections.abc import Callable, Iterable, Iterator
+from concurrent.futures import Future, ThreadPoolExecutor, as_completed
+from dataclasses import dataclass, field
 
 TOP = pathlib.Path(__file__).resolve().parent.parent
+sys.path.insert(0, str(TOP))
+
+from outside import ending, files, programs, texts  # noqa: E402, the path is set above
+from outside.faults import Fault, WrongWords  # noqa: E402
+from outside.programs import Limits, Ran, SaysTooMuch  # noqa: E402
+from outside.stopping import Stopped  # noqa: E402
+
 # What a check reads of a crate.
 PARTS = ("src", "specs", "proofs")
+# The folders of a crate that have edits. The gate tries those of the first.
+FOLDERS = ("must-fail", "edits")
+# A change of how an answer is read gets the next number: what was kept counts no more.
+VERSION = 1
+# How long a check may take with an edit, and without one, which is a whole proof; how much it may say; how long a file may be.
+EDITED, UNEDITED, SAID, FILE = 1200, 7200, 64 << 20, 16 << 20
+MOST_JOBS = 64
 
 
-def with_edits():
-    """The crates that have edits for this tool."""
-    return sorted(path.parent.name for path in TOP.glob("crates/*/edits") if any(path.glob("*.edit")))
+class Word(enum.Enum):
+    """What came of an edit, in the order of the table above."""
+
+    GOAL = "goal"
+    NAME = "name"
+    PROVED = "proved"
+    TEXT = "text"
+    LATE = "late"
+    BASE = "base"
 
 
-def pairs(text):
+# What stays so wherever the same is tried.
+KEPT = (Word.GOAL, Word.NAME, Word.PROVED)
+
+
+@dataclass(frozen=True)
+class Came:
+    """What came of an edit, and why; after how many seconds, where it was tried just now."""
+
+    word: Word
+    why: str = ""
+    seconds: int | None = None
+
+
+@dataclass(frozen=True)
+class Edit:
+    """An edit: a file of a crate, and its text as the run found it."""
+
+    path: pathlib.Path
+    text: str
+
+    @property
+    def crate(self) -> str:
+        return self.path.parent.parent.name
+
+    @property
+    def label(self) -> str:
+        return texts.visible(str(self.path.relative_to(TOP / "crates")))
+
+
+def text_of(path: pathlib.Path) -> str:
+    return files.text_of(str(path), files.read(str(path), FILE, "a text"), "a text")
+
+
+def edit_at(path: pathlib.Path) -> Edit:
+    return Edit(path, text_of(path))
+
+
+# Whether an edit can be made.
+
+
+def pairs(text: str) -> tuple[list[tuple[str, str, str]], list[str]]:
     """The pairs of an edit, as (file, old, new), and what is wrong with its lines."""
-    found, wrong, file, old = [], [], None, None
+    found: list[tuple[str, str, str]] = []
+    wrong, file, old = [], "", None
     for number, line in enumerate(text.splitlines(), 1):
         kind, _, rest = line.partition(":")
         rest = rest.removeprefix(" ")
@@ -51,81 +138,474 @@ def pairs(text):
     return found, wrong
 
 
-def faults(edit):
-    """Why an edit cannot be made, if it cannot."""
-    found, wrong = pairs(edit.read_text())
+def made(edit: Edit) -> tuple[dict[str, str], list[str]]:
+    """The files of its crate as an edit makes them, and why it cannot be made, if it cannot."""
+    found, wrong = pairs(edit.text)
     if not found and not wrong:
         wrong.append("it has no pair of `old:` and `new:`")
-    texts, crate = {}, edit.parent.parent
+    now: dict[str, str] = {}
+    crate = edit.path.parent.parent
     for file, old, new in found:
         path = crate / file
         if not re.match(r"(src|specs|proofs)/(?!.*\.\.)", file) or not path.is_file():
             wrong.append(f"{file} is no file of its crate's src/, specs/ or proofs/")
             continue
-        text = texts.setdefault(file, path.read_text())
+        text = now.setdefault(file, text_of(path))
         if text.count(old) != 1:
             wrong.append(f"{file} has an old text {text.count(old)} times, and not once: {old.strip()}")
         if old == new:
             wrong.append(f"an old text of {file} is the new one: {old.strip()}")
-        texts[file] = text.replace(old, new)
-    if not wrong and all(texts[file] == (crate / file).read_text() for file in texts):
+        now[file] = text.replace(old, new)
+    if not wrong and all(now[file] == text_of(crate / file) for file in now):
         wrong.append("its pairs together change nothing")
-    return wrong
+    return now, wrong
 
 
-def check():
+def check() -> int:
     """Shows each edit that cannot be made, and answers how many."""
     bad = 0
-    for edit in sorted(TOP.glob("crates/*/edits/*")) + sorted(TOP.glob("crates/*/must-fail/*")):
-        wrong = faults(edit) if edit.suffix == ".edit" else ["its name does not end in .edit"]
+    for path in sorted(TOP.glob("crates/*/edits/*")) + sorted(TOP.glob("crates/*/must-fail/*")):
+        wrong = made(edit_at(path))[1] if path.suffix == ".edit" else ["its name does not end in .edit"]
         bad += bool(wrong)
         for what in wrong:
-            print(f"{edit.relative_to(TOP)}: {what}")
+            print(texts.plain(f"{texts.visible(str(path.relative_to(TOP)))}: {what}"))
     return bad
 
 
-def copy_to(room, names):
-    """Copies what a check reads, with the edits of these crates where `rt must-fail` looks for them; answers how many."""
-    for name in ("crates.txt", "HANDLES"):
-        shutil.copy2(TOP / name, room / name)
-    for crate in (TOP / "crates").iterdir():
+# The crates, and what they are made of.
+
+
+@functools.cache
+def lines_of_crates() -> dict[str, tuple[str, tuple[str, ...]]]:
+    """The line of each crate in crates.txt, and the libraries that it names."""
+    found = {}
+    for line in text_of(TOP / "crates.txt").splitlines():
+        head, _, tail = line.partition("#")[0].partition(":")
+        if head.strip():
+            found[head.split()[0]] = line, tuple(tail.split())
+    return found
+
+
+def uses(crate: str) -> tuple[str, ...]:
+    if crate not in lines_of_crates():
+        raise Fault(f"crates.txt: it has no line of {texts.visible(crate)}, expected one for each folder of crates/")
+    return lines_of_crates()[crate][1]
+
+
+@functools.cache
+def below(crate: str) -> tuple[str, ...]:
+    """The crates of this repository that a crate uses, and those that these use."""
+    own = [each for each in uses(crate) if each in lines_of_crates()]
+    return tuple(dict.fromkeys(name for each in own for name in (*below(each), each)))
+
+
+@functools.cache
+def sources(crate: str) -> tuple[pathlib.Path, ...]:
+    """The files that a check reads of a crate."""
+    folder = TOP / "crates" / crate
+    return tuple(path for part in PARTS for path in sorted((folder / part).rglob("*")) if not path.is_dir())
+
+
+# What shows whether a file was changed: its number, its length, and when it was written.
+Mark = tuple[int, int, int]
+
+
+def mark_of(path: pathlib.Path) -> Mark:
+    with files.faults_of(str(path), "a file that stays while edits are tried"):
+        at = path.stat()
+    return at.st_ino, at.st_size, at.st_mtime_ns
+
+
+@functools.cache
+def read_of(crate: str) -> tuple[str, dict[pathlib.Path, Mark]]:
+    """A sum of what a check reads of a crate, beside the crates below it, and the marks of these files."""
+    uses(crate)
+    known, marks = hashlib.sha256(lines_of_crates()[crate][0].encode()), {}
+    for path in sources(crate):
+        marks[path] = mark_of(path)
+        data = files.read(str(path), FILE, "a text")
+        known.update(f"\n{path.relative_to(TOP)} {len(data)}\n".encode(errors="surrogateescape") + data)
+    return known.hexdigest(), marks
+
+
+def library(crate: str) -> pathlib.Path:
+    return TOP / "crates" / crate / "out" / "rlib" / f"{crate}.rlib"
+
+
+def fault_of_libraries(crate: str) -> str:
+    """Why the libraries below a crate cannot be those of these sources, if so. The time of a file's last change cannot be set, nor can
+    that of a folder."""
+    for each in below(crate):
+        if not (library(each) / "format").is_file():
+            return f"the library of {each} is not built here: run `rt ci`"
+        placed = library(each).stat().st_ctime_ns
+        for path in (path for name in (each, *below(each)) for path in sources(name)):
+            if path.stat().st_ctime_ns > placed:
+                return f"{path.relative_to(TOP)} is newer than the library of {each}: remove crates/{each}/out/rlib and run `rt ci`"
+    return ""
+
+
+# What is kept.
+
+
+class Store:
+    """What came of edits, on this machine. Each is written apart and then renamed, so that no run meets half of it."""
+
+    def __init__(self, version: str):
+        named = os.environ.get("XDG_CACHE_HOME", "")
+        cache = pathlib.Path(named if os.path.isabs(named) else os.path.expanduser("~/.cache"))
+        self.folder, self.version, self.is_useless = cache / "rim" / "edits", version, False
+
+    def name(self, edit: Edit) -> str:
+        read = [read_of(name)[0] for name in (edit.crate, *below(edit.crate))]
+        return hashlib.sha256(repr((VERSION, self.version, edit.text, edit.crate, read)).encode()).hexdigest()
+
+    def known(self, edit: Edit) -> Came | None:
+        path = str(self.folder / self.name(edit))
+        try:
+            read = files.json_of(path, files.read(path, FILE))
+            word, why = (read.get("word"), read.get("why")) if isinstance(read, dict) else (None, None)
+            came = Came(Word(word), texts.plain(why)) if isinstance(why, str) else None
+        except (Fault, ValueError):
+            return None
+        return came if came and came.word in KEPT else None
+
+    def keep(self, edit: Edit, came: Came):
+        if came.word not in KEPT or self.is_useless:
+            return
+        try:
+            self.folder.mkdir(parents=True, exist_ok=True)
+            with tempfile.NamedTemporaryFile("w", dir=self.folder, prefix="new-", delete=False, encoding="utf-8") as file:
+                try:
+                    json.dump({"edit": edit.label, "word": came.word.value, "why": came.why}, file)
+                    file.close()
+                    os.replace(file.name, self.folder / self.name(edit))
+                except BaseException:
+                    os.unlink(file.name)
+                    raise
+        except OSError as why:
+            self.is_useless = True
+            ending.say("edits.py", f"{texts.visible(str(self.folder))}: {why.strerror}: what came of edits is not kept")
+
+
+# What the prover says.
+
+# Where a proof names what is gone, or cites a proof that did so; what the names themselves are is left out before.
+GONE = re.compile(r"is not in scope|can be named from here|no such name|is no name|has no (field|``)|was not admitted|is no (hole|goal)")
+# A line about a place: of a goal that no file of answers has, and of what a file says.
+GOAL = re.compile(r"(?:note: )?(?P<file>\S+?):\d+:\d+: (?P<said>it is not proved that .*)")
+ERROR = re.compile(r"(?:\./)?(?P<file>\S+?):\d+:\d+: error: (?P<said>.*)")
+UNPROVED = re.compile(r"fn \S+: (not proved|no proof|could not tell).*")
+VERDICT = re.compile(r"^logic=(proved|not-proved)\b", re.M)
+
+
+def why_of(line: str) -> str:
+    return texts.plain(line.removeprefix("note: ").removeprefix("./"))[:200]
+
+
+def refusal(lines: list[str]) -> Came:
+    """What it means that the prover refuses a crate with an edit."""
+    gone = []
+    for line in lines:
+        if GOAL.match(line):
+            return Came(Word.GOAL, why_of(line))
+        found = ERROR.match(line)
+        if found and not GONE.search(re.sub(r"`[^`]*`", "``", found["said"])):
+            return Came(Word.GOAL, why_of(line))
+        if found and found["file"].startswith(("src/", "specs/")):
+            return Came(Word.TEXT, why_of(line))
+        gone += [line] if found else []
+    first = gone or [line for line in lines if UNPROVED.match(line)] or [""]
+    return Came(Word.NAME, why_of(first[0]))
+
+
+def answer(ran: Ran) -> Came:
+    """What a check says of a crate with an edit."""
+    said = (ran.out + b"\n" + ran.err).decode(errors="replace")
+    lines = said.splitlines()
+    verdict = VERDICT.search(said)
+    first = next((line for line in lines if "error" in line), ran.said)
+    if ran.status == 0 and verdict and verdict[1] == "proved":
+        return Came(Word.PROVED)
+    if ran.status == 1 and verdict and verdict[1] == "not-proved":
+        return refusal(lines)
+    if ran.status == 1 and not verdict:
+        return Came(Word.TEXT, why_of(first))
+    return Came(Word.LATE, why_of(f"status {ran.status}: {first}"))
+
+
+# A try.
+
+
+@dataclass(frozen=True)
+class Kit:
+    """The kit that proves: its folder, and its version as one line."""
+
+    folder: pathlib.Path
+    version: str
+
+
+def kit() -> Kit:
+    def line(*words: str) -> str:
+        ran = programs.run(["rt", *words], Limits(60))
+        said = ran.out.decode(errors="surrogateescape").strip()
+        if ran.status or not said or "\n" in said:
+            raise Fault(f"rt {' '.join(words)}: {ran.said}, expected one line")
+        return said
+
+    folder = pathlib.Path(line("doc")).parent
+    if not (folder / "bin" / "rattle").is_file():
+        raise Fault(f"{texts.visible(str(folder))}: it has no bin/rattle, expected the kit of `rt`")
+    return Kit(folder, line("version"))
+
+
+def words_of(at: Kit, crate: str, room: pathlib.Path) -> list[str]:
+    """The words of a check of a crate over its libraries."""
+    root = "src/main.rt" if (room / "src" / "main.rt").exists() else "src/lib.rt"
+    words = [f"{at.folder}/bin/rattle", "check", "--crate-name", crate, root, "-L", f"dependency={at.folder}/rlibs"]
+    for each in ("std", *uses(crate)):
+        words += ["--extern", f"{each}={library(each) if each in lines_of_crates() else at.folder / 'rlibs' / f'{each}.rlib'}"]
+    for each in below(crate):
+        words += ["-L", f"dependency={library(each).parent}"]
+    return [*words, "--antt-project", f"{at.folder}/rattle/logic/antt-project.json", "--logic-built", f"{at.folder}/logic_built",
+            "--links", f"{crate}="]
+
+
+def copied(one: pathlib.Path, other: pathlib.Path, how: Callable[[str, str], str] = shutil.copy2):
+    try:
+        shutil.copytree(one, other, copy_function=how)
+    except shutil.Error as why:
+        first = why.args[0][0]
+        raise Fault(f"{texts.visible(str(first[0]))}: {first[2]}, expected that it can be copied") from None
+
+
+def linked(one: pathlib.Path, other: pathlib.Path):
+    """Copies what a check has proved. It makes a file of a module anew and never writes into one, so a second name serves for a copy."""
+
+    def link(source: str, to: str) -> str:
+        with contextlib.suppress(OSError):
+            if source.endswith(".oantt"):
+                os.link(source, to)
+                return to
+        return shutil.copy2(source, to)
+
+    copied(one, other, link)
+
+
+@contextlib.contextmanager
+def copy_of(crate: str, room: pathlib.Path) -> Iterator[pathlib.Path]:
+    """A folder in this one with the text of a crate, for the steps in it."""
+    copy = pathlib.Path(tempfile.mkdtemp(dir=room))
+    try:
         for part in PARTS:
-            if (crate / part).is_dir():
-                shutil.copytree(crate / part, room / "crates" / crate.name / part)
-    for name in names:
-        shutil.copytree(TOP / "crates" / name / "edits", room / "crates" / name / "must-fail")
-    return sum(1 for _ in room.glob("crates/*/must-fail/*.edit"))
+            if (TOP / "crates" / crate / part).is_dir():
+                copied(TOP / "crates" / crate / part, copy / part)
+        yield copy
+    finally:
+        shutil.rmtree(copy, ignore_errors=True)
 
 
-def tried(room, names):
-    """Runs the edits, shows what is not simply refused, and answers how many are refused."""
-    command = ["rt", "must-fail", *names]
-    run = subprocess.Popen(command, cwd=room, stdout=subprocess.PIPE, stderr=subprocess.STDOUT, text=True, errors="replace")
-    refused = 0
-    for line in run.stdout:
-        found = re.match(r"(?:rt: )?must-fail (\S+): refused, as it must be(.*)", line)
-        refused += bool(found)
-        if not found or found[2].startswith(" ("):
-            print(line, end="", flush=True)
-    run.wait()
-    return refused
+@dataclass
+class Trial:
+    """The edits of a crate that are tried. Each begins with `seed`: what a check of the crate without an edit has proved."""
+
+    kit: Kit
+    crate: str
+    room: pathlib.Path
+    jobs: int
+    marks: dict[pathlib.Path, Mark] = field(default_factory=dict)
+    # set where nobody waits for its answers any more
+    is_over: bool = False
+
+    def mark(self):
+        """Notes what the tries read, which nothing may change meanwhile."""
+        for name in (self.crate, *below(self.crate)):
+            self.marks |= read_of(name)[1]
+        for path in [*(library(name) / "format" for name in below(self.crate)), *self.seed.rglob("*.oantt")]:
+            self.marks[path] = mark_of(path)
+
+    def ask_marks(self):
+        changed = next((path for path, mark in self.marks.items() if mark_of(path) != mark), None)
+        if changed:
+            raise Fault(f"{texts.visible(str(changed))}: it was changed while edits were tried, expected that it stays: run this again")
+
+    @property
+    def seed(self) -> pathlib.Path:
+        return self.room / "seed"
+
+    def run(self, copy: pathlib.Path, proved: pathlib.Path, jobs: int, seconds: int) -> tuple[Came, int]:
+        words = [*words_of(self.kit, self.crate, copy), "--incremental", str(proved), "--jobs", str(jobs)]
+        began = time.monotonic()
+
+        def is_late() -> bool:
+            return self.is_over or time.monotonic() > began + seconds
+
+        try:
+            ran = programs.run(words, Limits(out=SAID), str(copy), is_late)
+        except SaysTooMuch as why:
+            return Came(Word.LATE, str(why)), 0
+        return Came(Word.LATE, f"it takes more than {seconds} s") if ran.is_cut else answer(ran), round(time.monotonic() - began)
+
+    def base(self) -> str:
+        """Checks the crate as it is; why its edits cannot be tried, if they cannot. It begins with what a check in this checkout kept."""
+        if why := fault_of_libraries(self.crate):
+            return why
+        kept = TOP / "crates" / self.crate / "out" / "incremental"
+        try:
+            if kept.is_dir():
+                linked(kept, self.seed)
+        except (Fault, OSError):
+            # another check may write there now: this one begins with nothing
+            shutil.rmtree(self.seed, ignore_errors=True)
+        with copy_of(self.crate, self.room) as copy:
+            came, _ = self.run(copy, self.seed, self.jobs, UNEDITED)
+        if came.word != Word.PROVED:
+            return f"without an edit: {came.why or came.word.value}"
+        self.mark()
+        self.ask_marks()
+        return ""
+
+    def tried(self, edit: Edit) -> Came:
+        """What comes of an edit that can be made."""
+        with copy_of(self.crate, self.room) as copy:
+            for file, text in made(edit)[0].items():
+                files.write(str(copy / file), text.encode())
+            linked(self.seed, copy / "proved")
+            came, seconds = self.run(copy, copy / "proved", 1, EDITED)
+        self.ask_marks()
+        return Came(came.word, came.why, seconds)
 
 
-def main(words):
+# A run.
+
+
+@dataclass
+class Run:
+    """A run over edits: what came of each so far."""
+
+    store: Store
+    came: dict[Edit, Came] = field(default_factory=dict)
+
+    def say(self, edit: Edit, came: Came, how: str):
+        self.came[edit] = came
+        print(f"{came.word.value:7}{edit.label}  {how}{': ' if came.why else ''}{came.why}", flush=True)
+
+    def try_all(self, trial: Trial, edits: list[Edit]):
+        """Tries the edits of a crate, some at a time, and says and keeps what comes of each."""
+        pool = ThreadPoolExecutor(trial.jobs)
+        try:
+            waiting: dict[Future[Came], Edit] = {pool.submit(trial.tried, edit): edit for edit in edits}
+            for each in as_completed(waiting):
+                came = each.result()
+                self.store.keep(waiting[each], came)
+                self.say(waiting[each], came, f"{came.seconds} s")
+        finally:
+            trial.is_over = True
+            pool.shutdown(cancel_futures=True)
+
+    def crate(self, kit: Kit, crate: str, edits: list[Edit], jobs: int):
+        """Tries edits of a crate."""
+        with files.folder("rim-edits-") as room:
+            trial = Trial(kit, crate, pathlib.Path(room), jobs)
+            if why := trial.base():
+                for edit in edits:
+                    self.say(edit, Came(Word.BASE, why), "not tried")
+                return
+            self.try_all(trial, edits)
+
+    def table(self):
+        """What came of the edits of each crate."""
+        counts: dict[str, Counter[Word]] = {}
+        for edit, came in self.came.items():
+            counts.setdefault(edit.crate, Counter())[came.word] += 1
+        print(f"\n{'crate':18}{'edits':>7}{'goal':>7}{'name':>7}{'others':>8}")
+        for crate, count in sorted(counts.items()):
+            goals, names, every = count[Word.GOAL], count[Word.NAME], sum(count.values())
+            print(f"{crate:18}{every:7}{goals:7}{names:7}{every - goals - names:8}")
+
+    def end(self) -> int:
+        """Says what came of all, and answers the status."""
+        self.table()
+        words = [came.word for came in self.came.values()]
+        refused = words.count(Word.GOAL)
+        print(f"{refused} refused, {len(words) - refused} not")
+        return 3 if Word.LATE in words or Word.BASE in words else int(refused != len(words))
+
+
+def begun(run: Run, edits: Iterable[Edit]) -> dict[str, list[Edit]]:
+    """Says what is known of edits and which cannot be made, and answers the others by crate."""
+    left: dict[str, list[Edit]] = {}
+    for edit in edits:
+        wrong = made(edit)[1]
+        if wrong:
+            run.say(edit, Came(Word.TEXT, texts.plain(wrong[0])), "not tried")
+        elif known := run.store.known(edit):
+            run.say(edit, known, "known")
+        else:
+            left.setdefault(edit.crate, []).append(edit)
+    return left
+
+
+def try_edits(edits: list[Edit], jobs: int) -> int:
+    at = kit()
+    run = Run(Store(at.version))
+    try:
+        for crate, left in begun(run, edits).items():
+            run.crate(at, crate, left, jobs)
+    except Stopped:
+        ending.say("edits.py", f"stopped after {len(run.came)} of {len(edits)} edits; what came of these is kept")
+        raise
+    return run.end()
+
+
+# The words of a command line.
+
+
+@dataclass
+class Words:
+    """What was asked for."""
+
+    names: list[str] = field(default_factory=list)
+    jobs: int = 1
+    has_all: bool = False
+
+
+def read_words(words: list[str]) -> Words:
+    said, left = Words(), list(words)
+    while left:
+        word = left.pop(0)
+        if word == "--all":
+            said.has_all = True
+        elif word == "--jobs":
+            number = left.pop(0) if left else ""
+            if not re.fullmatch(r"[1-9][0-9]?", number, re.ASCII) or int(number) > MOST_JOBS:
+                raise WrongWords(f"--jobs: {texts.shown(number)} is seen, expected a number from 1 to {MOST_JOBS}")
+            said.jobs = int(number)
+        elif word.startswith("-"):
+            raise WrongWords(f"{texts.shown(word)} is no option, expected --all, --jobs N, or --check alone")
+        else:
+            said.names.append(word)
+    return said
+
+
+def chosen(said: Words) -> list[Edit]:
+    """The edits that were asked for."""
+    folders = FOLDERS if said.has_all else FOLDERS[1:]
+    edits = [edit_at(path) for folder in folders for path in TOP.glob(f"crates/*/{folder}/*.edit")]
+    known = sorted({edit.crate for edit in edits})
+    unknown = [name for name in said.names if name not in known]
+    if unknown:
+        raise WrongWords(f"{texts.shown(unknown[0])} is no crate with edits, expected one of: {' '.join(known)}")
+    return sorted((edit for edit in edits if not said.names or edit.crate in said.names), key=lambda edit: (edit.crate, edit.path))
+
+
+def main() -> int:
+    words = sys.argv[1:]
     if words == ["--check"]:
         return int(check() > 0)
-    known = with_edits()
-    unknown = [word for word in words if word not in known]
-    if unknown:
-        print(f"edits.py: {unknown[0]} is no crate with edits; those are: {' '.join(known)}", file=sys.stderr)
-        return 2
-    with tempfile.TemporaryDirectory(prefix="rim-edits-") as folder:
-        room = pathlib.Path(folder)
-        count = copy_to(room, words or known)
-        refused = tried(room, words or known)
-    print(f"{refused} refused, {count - refused} not")
-    return int(refused != count)
+    said = read_words(words)
+    return try_edits(chosen(said), said.jobs)
 
 
 if __name__ == "__main__":
-    sys.exit(main(sys.argv[1:]))
+    sys.exit(ending.status_of("edits.py", main))
