@@ -54,6 +54,9 @@ ANSWERS = {
     "proved": (0, "logic=proved functions=1\n", "proved"),
     "not_compiled": (1, "src/lib.rt:3:5: error[mismatched-types]: expected `u8`\n", "text"),
     "clause_that_is_not_read": (1, "src/lib.rt:3:5: error: `y` is not in scope: nothing has the name\n" + NOT, "text"),
+    "module_without_a_line": (1, "./specs/A.antt: error: no `mod` line names this file\n" + NOT, "text"),
+    "clause_beside_a_goal": (1, GOAL + "src/lib.rt:3:5: error: `ensures`: `y` is not in scope\n" + NOT, "text"),
+    "proof_without_a_line": (1, "./proofs/A.antt: error: no `mod` line names this file\n" + NOT, "name"),
     "no_verdict": (3, "rattle: no verdict: antt ran out of steps\n", "late"),
     "no_word": (0, "", "late"),
     "called_wrongly": (2, "error: the library low is not one\n", "late"),
@@ -148,7 +151,7 @@ def answers() -> list[str]:
         left = os.listdir(made.top / "tmp")
     wanted = {body: word for body, (_, _, word) in ANSWERS.items()}
     return differs("words", words_of(lines), wanted) + differs("end", (status, lines[-2:], said, left),
-                   (3, [f"{'high':18}{13:7}{4:7}{3:7}{6:8}", "4 refused, 9 not"], "", []))
+                   (3, [f"{'high':18}{16:7}{4:7}{4:7}{8:8}", "4 refused, 12 not"], "", []))
 
 
 def statuses() -> list[str]:

@@ -292,9 +292,9 @@ class Store:
 
 # Where a proof names what is gone, or cites a proof that did so; what the names themselves are is left out before.
 GONE = re.compile(r"is not in scope|can be named from here|no such name|is no name|has no (field|``)|was not admitted|is no (hole|goal)")
-# A line about a place: of a goal that no file of answers has, and of what a file says.
-GOAL = re.compile(r"(?:note: )?(?P<file>\S+?):\d+:\d+: (?P<said>it is not proved that .*)")
-ERROR = re.compile(r"(?:\./)?(?P<file>\S+?):\d+:\d+: error: (?P<said>.*)")
+# A line of a goal that no file of answers has, and one of what is wrong in a file; the name is that of what is proved there.
+GOAL = re.compile(r"(?:note: )?\S+?:\d+:\d+: it is not proved that ")
+ERROR = re.compile(r"(?:\./)?\w+/\S+?: error: (?P<name>`[^`]*`: )?(?P<said>.*)")
 UNPROVED = re.compile(r"fn \S+: (not proved|no proof|could not tell).*")
 VERDICT = re.compile(r"^logic=(proved|not-proved)\b", re.M)
 
@@ -303,19 +303,20 @@ def why_of(line: str) -> str:
     return texts.plain(line.removeprefix("note: ").removeprefix("./"))[:200]
 
 
+def is_goal(line: str) -> bool:
+    """Whether a line says of a goal that it is not proved, and not that a text in proofs/ names what is gone."""
+    found = ERROR.match(line)
+    return bool(GOAL.match(line) or found and found["name"] and not GONE.search(re.sub(r"`[^`]*`", "``", found["said"])))
+
+
 def refusal(lines: list[str]) -> Came:
-    """What it means that the prover refuses a crate with an edit."""
-    gone = []
-    for line in lines:
-        if GOAL.match(line):
-            return Came(Word.GOAL, why_of(line))
-        found = ERROR.match(line)
-        if found and not GONE.search(re.sub(r"`[^`]*`", "``", found["said"])):
-            return Came(Word.GOAL, why_of(line))
-        if found and found["file"].startswith(("src/", "specs/")):
-            return Came(Word.TEXT, why_of(line))
-        gone += [line] if found else []
-    first = gone or [line for line in lines if UNPROVED.match(line)] or [""]
+    """What it means that the prover refuses a crate with an edit. Where a text of src/ or specs/ cannot be read, no goal counts."""
+    errors = [line for line in lines if ERROR.match(line)]
+    unread = [line for line in errors if not line.removeprefix("./").startswith("proofs/")]
+    goals = [line for line in lines if is_goal(line)]
+    if unread or goals:
+        return Came(Word.TEXT if unread else Word.GOAL, why_of((unread or goals)[0]))
+    first = errors or [line for line in lines if UNPROVED.match(line)] or [""]
     return Came(Word.NAME, why_of(first[0]))
 
 
