@@ -506,6 +506,7 @@ class Run:
 
     def crate(self, kit: Kit, crate: str, edits: list[Edit], jobs: int):
         """Tries edits of a crate."""
+        ending.say("edits.py", f"{crate} is checked without an edit, and then with each of {len(edits)}")
         with files.folder("rim-edits-") as room:
             trial = Trial(kit, crate, pathlib.Path(room), jobs)
             if why := trial.base():
