@@ -155,8 +155,10 @@ def answers() -> list[str]:
         status, lines, said = made.run("--jobs", "3")
         left = os.listdir(made.top / "tmp")
     wanted = {body: word for body, (_, _, word) in ANSWERS.items()}
-    return differs("words", words_of(lines), wanted) + differs("end", (status, lines[-2:], said, left),
-                   (3, [f"{'high':18}{16:7}{4:7}{4:7}{8:8}", "4 refused, 12 not"], "", []))
+    too = [line.split(".")[1] for line in lines if line.endswith(" (a name is gone too)")]
+    wrong = differs("words", words_of(lines), wanted) + differs("too", too, ["goal_after_a_name"])
+    end = 3, [f"{'high':18}{16:7}{4:7}{4:7}{8:8}", "4 refused, 12 not"], "", []
+    return wrong + differs("end", (status, lines[-2:], said, left), end)
 
 
 def statuses() -> list[str]:

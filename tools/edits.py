@@ -20,6 +20,7 @@ A line for each edit says what came of it:
     late     the prover has no answer: it took too long, met a limit of its own, or was killed
     base     the crate is not proved here without the edit, or a library below it is not built
 
+A goal whose line ends in '(a name is gone too)' is to be read: it may have a written proof, which the edit has given another name.
 Then comes a table of the crates; the last line is 'N refused, M not', where N counts those of `goal` alone. The status is 0 where M is
 0, 3 where an edit is `late` or `base`, else 1. A signal stops it: it says how far it came, and what is done is kept.
 
@@ -296,6 +297,8 @@ GONE = re.compile(r"is not in scope|can be named from here|no such name|is no na
 GOAL = re.compile(r"(?:note: )?\S+?:\d+:\d+: it is not proved that ")
 ERROR = re.compile(r"(?:\./)?\w+/\S+?: error: (?P<name>`[^`]*`: )?(?P<said>.*)")
 UNPROVED = re.compile(r"fn \S+: (not proved|no proof|could not tell).*")
+# What is added where a goal is not proved and a name is gone.
+TOO = " (a name is gone too)"
 VERDICT = re.compile(r"^logic=(proved|not-proved)\b", re.M)
 
 
@@ -314,8 +317,10 @@ def refusal(lines: list[str]) -> Came:
     errors = [line for line in lines if ERROR.match(line)]
     unread = [line for line in errors if not line.removeprefix("./").startswith("proofs/")]
     goals = [line for line in lines if is_goal(line)]
-    if unread or goals:
-        return Came(Word.TEXT if unread else Word.GOAL, why_of((unread or goals)[0]))
+    if unread:
+        return Came(Word.TEXT, why_of(unread[0]))
+    if goals:
+        return Came(Word.GOAL, why_of(goals[0]) + TOO * any(not is_goal(line) for line in errors))
     first = errors or [line for line in lines if UNPROVED.match(line)] or [""]
     return Came(Word.NAME, why_of(first[0]))
 
