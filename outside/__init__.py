@@ -1,4 +1,5 @@
-"""How the scripts meet what is outside: files, programs, texts, signals. `rim-manifest`, `rim-match` and `rim-compare` share it.
+"""How the scripts meet what is outside: files, programs, texts, signals. `rim-manifest`, `rim-match`, `rim-compare` and
+`tools/edits.py` share it.
 
 faults      what stops a script: wrong words, a fault
 texts       how a text of somebody else's is shown

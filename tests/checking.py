@@ -150,8 +150,8 @@ HIDDEN = "a\x7f\x9b\u202e\U000e0041\u2800b"
 
 def hidden(program: str) -> list[str]:
     """JSON on a terminal has the number of each character that nobody sees, and means what it has by a pipe."""
-    path = json.dumps(HIDDEN)
-    folder = Folder({HIDDEN: b"x", "m.toml": manifest(f"file = [{{name = 'f', path = {path}}}]\n", SMALL % "a")})
+    path = "".join(f"\\U{ord(letter):08x}" for letter in HIDDEN)
+    folder = Folder({HIDDEN: b"x", "m.toml": manifest(f'file = [{{name = "f", path = "{path}"}}]\n', SMALL % "a")})
     status, shown = at_terminal(program, folder, "measure", "--json", "m.toml", of="stdout")
     ran = subprocess.run([program, "measure", "--json", "m.toml"], cwd=folder.path, capture_output=True, text=True, check=True)
     wrong = differs("the status", status, 0) + differs("what it means", json.loads(shown), json.loads(ran.stdout))
