@@ -22,18 +22,21 @@ from collections.abc import Callable, Iterator
 from dataclasses import dataclass
 
 TOP = pathlib.Path(__file__).resolve().parent.parent
-# A prover that says what the folder `said` has for the line of a crate's body, and ends with the status before that.
+# A prover that says what the folder `said` has for the line of a crate's body, and ends with the status before that; of a function alone
+# what it has for that.
 RATTLE = r"""#!/bin/sh
 echo tried >> "$KIT/log"
+alone=
+for word in "$@"; do [ "$word" != --only ] || alone=alone_; done
 while [ "$1" != --incremental ]; do shift; done
 [ -f "$2/one.oantt" ] || { mkdir -p "$2"; echo proved > "$2/one.oantt"; }
-body=$(sed -n 's/^body //p' src/lib.rt)
+body=$(sed -n 's/^ *body //p' src/lib.rt)
 cp "$2/one.oantt" "$KIT/seen"
 [ "$body" = sleeps ] && { touch "$KIT/sleeps"; sleep 1000; }
 [ "$body" = spoils ] && echo spoiled >> "$2/one.oantt"
 [ "$body" = meanwhile ] && echo more >> "$ROOT/crates/low/src/lib.rt"
-tail -n +2 "$KIT/said/$body"
-exit $(head -n 1 "$KIT/said/$body")
+tail -n +2 "$KIT/said/$alone$body"
+exit $(head -n 1 "$KIT/said/$alone$body")
 """
 RT = """#!/bin/sh
 case $1 in doc) echo "$KIT/START.md" ;; version) cat "$KIT/version" ;; esac
@@ -45,6 +48,7 @@ GONE = HERE + "`c.let-x.result` is not in scope: not a local variable\n"
 # The status of a check with an edit, what it says, and what comes of the edit.
 ANSWERS = {
     "goal_of_the_code": (1, GOAL + NOT, "goal"),
+    "goal_without_an_answer": (1, "fn high::f: no proof: expected answers in ./proofs/f/Answers.antt; `search` did not prove `returns`\n" + NOT, "goal"),
     "goal_of_a_proof": (1, HERE + "`search`: no proof of `a ≡ b`\n" + NOT, "goal"),
     "goal_that_has_the_words": (1, HERE + "no proof of `the text is not in scope`\n" + NOT, "goal"),
     "goal_after_a_name": (1, GONE + GOAL + NOT, "goal"),
@@ -61,11 +65,19 @@ ANSWERS = {
     "no_word": (0, "", "late"),
     "called_wrongly": (2, "error: the library low is not one\n", "late"),
 }
+# What is said of the function that an edit changes, and of the whole crate; what comes of the edit, and after how many checks.
+ALONE = {
+    "goal_of_the_function": ((1, GOAL + "only=1 proved=0\n"), (0, ""), "goal", 1),
+    "goal_above_the_function": ((0, "only=1 proved=1\n"), (1, GOAL + NOT), "goal", 3),
+    "name_in_the_function": ((1, GONE + "only=2 proved=1\n"), (1, GOAL + NOT), "goal", 3),
+    "name_of_several": ((2, "error: f fits several functions\n"), (1, GONE + NOT), "name", 3),
+    "proved_everywhere": ((0, "only=1 proved=1\n"), (0, "logic=proved functions=1\n"), "proved", 3),
+}
 
 
 def faults_in(said: str) -> str:
     """What is said on standard error, but for how far the run is."""
-    return "".join(line for line in said.splitlines(keepends=True) if " is checked without an edit, and then with each of " not in line)
+    return "".join(line for line in said.splitlines(keepends=True) if " is checked with each of " not in line)
 
 
 @dataclass
@@ -98,9 +110,10 @@ class Tree:
         self.write(f"tree/crates/high/{folder}/f.{body}.edit", self.text(body))
 
     def build(self):
-        """Builds the library below, as `rt ci` does."""
-        shutil.rmtree(self.root / "crates/low/out", ignore_errors=True)
-        self.write("tree/crates/low/out/rlib/low.rlib/format", "rattle rlib\n")
+        """Builds the libraries, as `rt ci` does."""
+        for crate in ("low", "high"):
+            shutil.rmtree(self.root / f"crates/{crate}/out/rlib", ignore_errors=True)
+            self.write(f"tree/crates/{crate}/out/rlib/{crate}.rlib/format", "rattle rlib\n")
 
     def start(self, *words: str, out: int = subprocess.PIPE) -> subprocess.Popen[str]:
         return subprocess.Popen([sys.executable, "tools/edits.py", *words], cwd=self.root, env=self.environment, stdout=out,
@@ -134,6 +147,9 @@ def tree(*bodies: str) -> Iterator[Tree]:
             (made.kit / "bin" / name).chmod(0o755)
         for body, (status, said, _) in (ANSWERS | dict.fromkeys(("first", "spoils", "meanwhile"), ANSWERS["proved"])).items():
             made.write(f"kit/said/{body}", f"{status}\n{said}")
+        for body, ((alone, of_function), (status, said), _, _) in ALONE.items():
+            made.write(f"kit/said/alone_{body}", f"{alone}\n{of_function}")
+            made.write(f"kit/said/{body}", f"{status}\n{said}")
         (made.top / "tmp").mkdir()
         for body in bodies:
             made.edit(body)
@@ -157,8 +173,26 @@ def answers() -> list[str]:
     wanted = {body: word for body, (_, _, word) in ANSWERS.items()}
     too = [line.split(".")[1] for line in lines if line.endswith(" (a name is gone too)")]
     wrong = differs("words", words_of(lines), wanted) + differs("too", too, ["goal_after_a_name"])
-    end = 3, [f"{'high':18}{16:7}{4:7}{4:7}{8:8}", "4 refused, 12 not"], "", []
+    end = 3, [f"{'high':18}{17:7}{5:7}{4:7}{8:8}", "5 refused, 12 not"], "", []
     return wrong + differs("end", (status, lines[-2:], said, left), end)
+
+
+# Sources in which an edit changes a method of a type, and one of a trait.
+OF_TYPE = "impl<'a, L: Run> Type<'a, L> {\n    pub(crate) const fn f(&self)\n    {\n        body first\n    }\n}\n"
+OF_TRAIT = "impl fmt::Display for Type<'_> {\n    fn f(&self) {\n        body first\n    }\n}\n"
+
+
+def of_functions() -> list[str]:
+    """The function that an edit changes is checked first, and the whole crate only where that says nothing."""
+    rows = [(OF_TYPE, body, word, tries) for body, (_, _, word, tries) in ALONE.items()]
+    wrong = []
+    for source, body, word, tries in [*rows, (OF_TRAIT, "proved_everywhere", "proved", 2)]:
+        with tree(body) as made:
+            made.write("tree/crates/high/src/lib.rt", source)
+            made.build()
+            _, lines, _ = made.run()
+            wrong += differs(body, (words_of(lines), made.tries()), ({body: word}, tries))
+    return wrong
 
 
 def statuses() -> list[str]:
@@ -182,7 +216,7 @@ def kept() -> list[str]:
     with tree("goal_of_the_code", "proved", "no_verdict") as made:
         after("first", lambda: None, 4)
         after("again", lambda: None, 2)
-        after("its crate", lambda: made.write("tree/crates/high/specs/A.antt", "a"), 4)
+        after("its crate", lambda: (made.write("tree/crates/high/specs/A.antt", "a"), made.build()), 4)
         after("a crate below", lambda: (made.write("tree/crates/low/src/lib.rt", "body other"), made.build()), 4)
         after("a library built anew", made.build, 2)
         after("a line of crates.txt", lambda: made.write("tree/crates.txt", "low:\nhigh: low\n"), 4)
@@ -205,6 +239,9 @@ def bases() -> list[str]:
     def missing():
         shutil.rmtree(made.root / "crates/low/out")
 
+    def missing_own():
+        shutil.rmtree(made.root / "crates/high/out")
+
     def changed():
         made.write("tree/crates/low/src/lib.rt", "body other\n")
 
@@ -215,9 +252,10 @@ def bases() -> list[str]:
     def unproved():
         made.write("tree/crates/high/src/lib.rt", "body no_word\n")
         made.write("tree/crates/high/edits/f.goal_of_the_code.edit", "file: src/lib.rt\nold: no_word\nnew: goal_of_the_code\n")
+        made.build()
 
     wrong = []
-    for change, why in ((missing, "the library of low is not built here"), (changed, "is newer than the library of low"),
+    for change, why in ((missing, "the library of low is not built here"), (missing_own, "the library of high is not built here"), (changed, "is newer than the library of low"),
                         (put_back, "is newer than the library of low"), (unproved, "without an edit")):
         with tree("goal_of_the_code") as made:
             change()
@@ -322,7 +360,7 @@ def signals() -> list[str]:
 
 
 def run_all() -> int:
-    tries = (answers, statuses, kept, folders, bases, begins, bad_edits, faults, places, meanwhile, signals)
+    tries = (answers, of_functions, statuses, kept, folders, bases, begins, bad_edits, faults, places, meanwhile, signals)
     failed = 0
     for look in tries:
         wrong = look()

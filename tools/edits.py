@@ -6,10 +6,12 @@
     tools/edits.py --check                     status 1 where an edit of edits/ or must-fail/ cannot be made; no prover is asked
 
 The gate tries the edits of crates/NAME/must-fail/ in each run, which are few. The others are here, since each costs a check of what
-it changes; they are tried whenever the code or the contracts of their crate change. `rt ci` has to have built the libraries below a
-crate in this checkout (crates/*/out/rlib). Each crate is checked first without an edit, which is a whole proof of it unless a check
-in this checkout has kept its work. An edit's check begins with what that one has proved, so it takes 10 to 120 seconds. N edits are
-tried at a time, by default one; each may take 3 GB.
+it changes; they are tried whenever the code or the contracts of their crate change. `rt ci` has to have built the library of a crate
+and those below it in this checkout (crates/*/out/rlib): what it builds is proved. First just the functions that an edit changes are
+checked, with those that they call: where a goal is not proved there, it is not in a check of the whole either. That takes 10 to 60
+seconds, since it begins with what the tries before have proved. Where these functions are proved, or no function has the changed text,
+the whole crate is checked with the edit, which begins with a check without one. N edits are tried at a time, by default one; each may
+take 3 GB.
 
 A line for each edit says what came of it:
 
@@ -18,7 +20,7 @@ A line for each edit says what came of it:
     proved   the crate is still proved: a contract to strengthen, or an edit that changes nothing
     text     it cannot be made, or what it makes is no text that the prover can read
     late     the prover has no answer: it took too long, met a limit of its own, or was killed
-    base     the crate is not proved here without the edit, or a library below it is not built
+    base     the crate is not proved here without the edit, or its library or one below it is not built
 
 A goal whose line ends in '(a name is gone too)' is to be read: it may have a written proof, which the edit has given another name.
 Then comes a table of the crates; the last line is 'N refused, M not', where N counts those of `goal` alone. The status is 0 where M is
@@ -38,10 +40,12 @@ import hashlib
 import json
 import os
 import pathlib
+import queue
 import re
 import shutil
 import sys
 import tempfile
+import threading
 import time
 from collections import Counter
 from collections.abc import Callable, Iterable, Iterator
@@ -61,7 +65,7 @@ PARTS = ("src", "specs", "proofs")
 # The folders of a crate that have edits. The gate tries those of the first.
 FOLDERS = ("must-fail", "edits")
 # A change of how an answer is read gets the next number: what was kept counts no more.
-VERSION = 1
+VERSION = 2
 # How long a check may take with an edit, and without one, which is a whole proof; how much it may say; how long a file may be.
 EDITED, UNEDITED, SAID, FILE = 1200, 7200, 64 << 20, 16 << 20
 MOST_JOBS = 64
@@ -162,6 +166,36 @@ def made(edit: Edit) -> tuple[dict[str, str], list[str]]:
     return now, wrong
 
 
+# The first line of a function, and of what it may be in, which begins its line.
+FUNCTION = re.compile(r" *(?:pub(?:\([a-z: ]*\))? )?(?:const )?fn (\w+)")
+OUTER = re.compile(r"(?:unsafe )?(impl|trait|mod|pub trait|pub mod)\b(?:<.*?>+(?= ))?(?P<of>[^{]*)")
+TYPE = re.compile(r"(?:\w+::)*(\w+)")
+
+
+def function_at(text: str, at: int) -> str | None:
+    """The end of the name of the function that has a place of a file's text, if it is one by itself or of a type: of what implements
+    a trait, the prover has names of its own."""
+    name, found = None, None
+    for line in text[: text.index("\n", at) if "\n" in text[at:] else len(text)].splitlines():
+        if line.startswith("}"):
+            name, found = None, None
+        elif outer := OUTER.match(line):
+            of = TYPE.match(outer["of"].strip()) if outer[1] == "impl" and " for " not in line else None
+            name, found = (of[1] if of else ""), None
+        elif function := FUNCTION.match(line):
+            found = function[1] if name is None else f"{name}::{function[1]}" if name else None
+    return found
+
+
+def functions(edit: Edit) -> list[str]:
+    """The functions that an edit changes, if each of its texts is in one."""
+    found: list[str | None] = []
+    for file, old, _ in pairs(edit.text)[0]:
+        text = text_of(edit.path.parent.parent / file)
+        found.append(function_at(text, text.index(old)) if file.startswith("src/") and old in text else None)
+    return sorted({each for each in found if each}) if all(found) else []
+
+
 def check() -> int:
     """Shows each edit that cannot be made, and answers how many."""
     bad = 0
@@ -234,9 +268,9 @@ def library(crate: str) -> pathlib.Path:
 
 
 def fault_of_libraries(crate: str) -> str:
-    """Why the libraries below a crate cannot be those of these sources, if so. The time of a file's last change cannot be set, nor can
-    that of a folder."""
-    for each in below(crate):
+    """Why the library of a crate and those below it cannot be of these sources, if so. The time of a file's last change cannot be set, nor
+    can that of a folder."""
+    for each in (*below(crate), crate):
         if not (library(each) / "format").is_file():
             return f"the library of {each} is not built here: run `rt ci`"
         placed = library(each).stat().st_ctime_ns
@@ -294,12 +328,14 @@ class Store:
 # Where a proof names what is gone, or cites a proof that did so; what the names themselves are is left out before.
 GONE = re.compile(r"is not in scope|can be named from here|no such name|is no name|has no (field|``)|was not admitted|is no (hole|goal)")
 # A line of a goal that no file of answers has, and one of what is wrong in a file; the name is that of what is proved there.
-GOAL = re.compile(r"(?:note: )?\S+?:\d+:\d+: it is not proved that ")
+GOAL = re.compile(r"(?:note: )?\S+?:\d+:\d+: it is not proved that |fn \S+: no proof: expected answers in \S+; .*did not prove `")
 ERROR = re.compile(r"(?:\./)?\w+/\S+?: error: (?P<name>`[^`]*`: )?(?P<said>.*)")
 UNPROVED = re.compile(r"fn \S+: (not proved|no proof|could not tell).*")
 # What is added where a goal is not proved and a name is gone.
 TOO = " (a name is gone too)"
 VERDICT = re.compile(r"^logic=(proved|not-proved)\b", re.M)
+# The same of a check of some functions: how many were asked for, and how many of them are proved.
+COUNTED = re.compile(r"^only=(\d+) proved=(\d+)$", re.M)
 
 
 def why_of(line: str) -> str:
@@ -325,17 +361,25 @@ def refusal(lines: list[str]) -> Came:
     return Came(Word.NAME, why_of(first[0]))
 
 
+def is_proved(said: str) -> bool | None:
+    """Whether all that was asked for is proved, if a check says so."""
+    if verdict := VERDICT.search(said):
+        return verdict[1] == "proved"
+    counted = COUNTED.search(said)
+    return counted[1] == counted[2] if counted else None
+
+
 def answer(ran: Ran) -> Came:
     """What a check says of a crate with an edit."""
     said = (ran.out + b"\n" + ran.err).decode(errors="replace")
     lines = said.splitlines()
-    verdict = VERDICT.search(said)
+    verdict = is_proved(said)
     first = next((line for line in lines if "error" in line), ran.said)
-    if ran.status == 0 and verdict and verdict[1] == "proved":
+    if ran.status == 0 and verdict is True:
         return Came(Word.PROVED)
-    if ran.status == 1 and verdict and verdict[1] == "not-proved":
+    if ran.status == 1 and verdict is False:
         return refusal(lines)
-    if ran.status == 1 and not verdict:
+    if ran.status == 1 and verdict is None:
         return Came(Word.TEXT, why_of(first))
     return Came(Word.LATE, why_of(f"status {ran.status}: {first}"))
 
@@ -413,13 +457,18 @@ def copy_of(crate: str, room: pathlib.Path) -> Iterator[pathlib.Path]:
 
 @dataclass
 class Trial:
-    """The edits of a crate that are tried. Each begins with `seed`: what a check of the crate without an edit has proved."""
+    """The edits of a crate that are tried."""
 
     kit: Kit
     crate: str
     room: pathlib.Path
     jobs: int
     marks: dict[pathlib.Path, Mark] = field(default_factory=dict)
+    # what each try at a time has proved so far; no two share a folder
+    proved: queue.SimpleQueue[pathlib.Path] = field(default_factory=queue.SimpleQueue)
+    # one makes the seed, and the others wait for it; why the crate is not proved without an edit, once that is known
+    seeding: threading.Lock = field(default_factory=threading.Lock)
+    unproved: str | None = None
     # set where nobody waits for its answers any more
     is_over: bool = False
 
@@ -427,20 +476,22 @@ class Trial:
         """Notes what the tries read, which nothing may change meanwhile."""
         for name in (self.crate, *below(self.crate)):
             self.marks |= read_of(name)[1]
-        for path in [*(library(name) / "format" for name in below(self.crate)), *self.seed.rglob("*.oantt")]:
+        for path in (library(name) / "format" for name in below(self.crate)):
             self.marks[path] = mark_of(path)
 
     def ask_marks(self):
-        changed = next((path for path, mark in self.marks.items() if mark_of(path) != mark), None)
+        changed = next((path for path, mark in list(self.marks.items()) if mark_of(path) != mark), None)
         if changed:
             raise Fault(f"{texts.visible(str(changed))}: it was changed while edits were tried, expected that it stays: run this again")
 
     @property
     def seed(self) -> pathlib.Path:
+        """The folder of what a check of the whole crate without an edit has proved."""
         return self.room / "seed"
 
-    def run(self, copy: pathlib.Path, proved: pathlib.Path, jobs: int, seconds: int) -> tuple[Came, int]:
+    def run(self, copy: pathlib.Path, proved: pathlib.Path, jobs: int, seconds: int, only: Iterable[str] = ()) -> tuple[Came, int]:
         words = [*words_of(self.kit, self.crate, copy), "--incremental", str(proved), "--jobs", str(jobs)]
+        words += [word for name in only for word in ("--only", name)]
         began = time.monotonic()
 
         def is_late() -> bool:
@@ -453,33 +504,66 @@ class Trial:
         return Came(Word.LATE, f"it takes more than {seconds} s") if ran.is_cut else answer(ran), round(time.monotonic() - began)
 
     def base(self) -> str:
-        """Checks the crate as it is; why its edits cannot be tried, if they cannot. It begins with what a check in this checkout kept."""
+        """Why the edits of the crate cannot be tried, if they cannot; else makes the folders that the tries begin with."""
         if why := fault_of_libraries(self.crate):
             return why
+        for number in range(self.jobs):
+            folder = self.room / f"proved-{number}"
+            self.begin(folder)
+            self.proved.put(folder)
+        self.mark()
+        return ""
+
+    def begin(self, folder: pathlib.Path):
+        """Makes a folder with what a check in this checkout has kept of the crate, if one has."""
         kept = TOP / "crates" / self.crate / "out" / "incremental"
         try:
             if kept.is_dir():
-                linked(kept, self.seed)
+                linked(kept, folder)
         except (Fault, OSError):
             # another check may write there now: this one begins with nothing
-            shutil.rmtree(self.seed, ignore_errors=True)
-        with copy_of(self.crate, self.room) as copy:
-            came, _ = self.run(copy, self.seed, self.jobs, UNEDITED)
-        if came.word != Word.PROVED:
-            return f"without an edit: {came.why or came.word.value}"
-        self.mark()
-        self.ask_marks()
-        return ""
+            shutil.rmtree(folder, ignore_errors=True)
+
+    def seeded(self) -> str:
+        """Checks the crate as it is, once; why it is not proved, if it is not."""
+        with self.seeding:
+            if self.unproved is None:
+                self.begin(self.seed)
+                with copy_of(self.crate, self.room) as copy:
+                    came, _ = self.run(copy, self.seed, self.jobs, UNEDITED)
+                self.unproved = "" if came.word == Word.PROVED else f"without an edit: {came.why or came.word.value}"
+                self.marks |= {path: mark_of(path) for path in self.seed.rglob("*.oantt")}
+            return self.unproved
 
     def tried(self, edit: Edit) -> Came:
         """What comes of an edit that can be made."""
         with copy_of(self.crate, self.room) as copy:
             for file, text in made(edit)[0].items():
                 files.write(str(copy / file), text.encode())
-            linked(self.seed, copy / "proved")
-            came, seconds = self.run(copy, copy / "proved", 1, EDITED)
+            came, seconds = self.of_functions(edit, copy)
+            if came.word != Word.GOAL:
+                came, more = self.of_whole(copy)
+                seconds += more
         self.ask_marks()
         return Came(came.word, came.why, seconds)
+
+    def of_functions(self, edit: Edit, copy: pathlib.Path) -> tuple[Came, int]:
+        """What comes of the functions that an edit changes."""
+        names = functions(edit)
+        if not names:
+            return Came(Word.PROVED), 0
+        folder = self.proved.get()
+        try:
+            return self.run(copy, folder, 1, EDITED, names)
+        finally:
+            self.proved.put(folder)
+
+    def of_whole(self, copy: pathlib.Path) -> tuple[Came, int]:
+        """What comes of the whole crate with an edit."""
+        if why := self.seeded():
+            return Came(Word.BASE, why), 0
+        linked(self.seed, copy / "proved")
+        return self.run(copy, copy / "proved", 1, EDITED)
 
 
 # A run.
@@ -504,14 +588,14 @@ class Run:
             for each in as_completed(waiting):
                 came = each.result()
                 self.store.keep(waiting[each], came)
-                self.say(waiting[each], came, f"{came.seconds} s")
+                self.say(waiting[each], came, "not tried" if came.word == Word.BASE else f"{came.seconds} s")
         finally:
             trial.is_over = True
             pool.shutdown(cancel_futures=True)
 
     def crate(self, kit: Kit, crate: str, edits: list[Edit], jobs: int):
         """Tries edits of a crate."""
-        ending.say("edits.py", f"{crate} is checked without an edit, and then with each of {len(edits)}")
+        ending.say("edits.py", f"{crate} is checked with each of {len(edits)} edits")
         with files.folder("rim-edits-") as room:
             trial = Trial(kit, crate, pathlib.Path(room), jobs)
             if why := trial.base():
