@@ -1,5 +1,6 @@
 #!/usr/bin/env python3
-"""Tries tools/edits.py over a kit that is made here: what it says of each answer of a prover, what it keeps, and how it ends.
+"""Tries tools/edits.py and tools/gate_times.py over a kit that is made here: what the first says of each answer of a prover, what it
+keeps, and how it ends; and what the second says that each part of `rt ci` took.
 
     tests/editing.py
 
@@ -38,8 +39,30 @@ cp "$2/one.oantt" "$KIT/seen"
 tail -n +2 "$KIT/said/$alone$body"
 exit $(head -n 1 "$KIT/said/$alone$body")
 """
-RT = """#!/bin/sh
-case $1 in doc) echo "$KIT/START.md" ;; version) cat "$KIT/version" ;; esac
+# Its `ci` is that of a crate `high` over `low`: each process of it takes as many seconds as its first word says.
+RT = r"""#!/bin/bash
+takes() {
+    (cd "$ROOT/crates/$2" && exec -a "$3" "$PYTHON" -c "import sys, time
+while time.process_time() < $1: pass" "${@:4}")
+}
+case $1 in
+doc) echo "$KIT/START.md" ;;
+version) cat "$KIT/version" ;;
+ci)
+    takes 0.3 low /a/rattle build --crate-name low
+    takes 0.6 high /a/rattle build --crate-name high &
+    takes 0.3 high /a/rattle build --crate-name high --test -o x
+    cd "$TMPDIR"
+    takes 0.5 ../.. /a/rattle check --crate-name high --incremental /b/seed
+    takes 0.3 ../.. /a/rattle check --crate-name high --incremental /b/0
+    takes 0.4 ../.. /a/rattle check --crate-name high --incremental /b/1
+    takes 0.3 ../.. sh x /tmp/rt-run-1-ab_c/bin/high_tests
+    takes 0.3 ../.. another
+    wait
+    echo "$* by $RT_JOBS"
+    exit 1
+    ;;
+esac
 """
 NOT = "logic=not-proved\n"
 GOAL = "note: src/lib.rt:3:5: it is not proved that what the function ensures holds when it returns (`returns`)\n"
@@ -97,7 +120,7 @@ class Tree:
     @property
     def environment(self) -> dict[str, str]:
         return os.environ | {"PATH": f"{self.kit}/bin:{os.environ['PATH']}", "KIT": str(self.kit), "ROOT": str(self.root),
-                             "XDG_CACHE_HOME": str(self.top / "cache"), "TMPDIR": str(self.top / "tmp")}
+                             "XDG_CACHE_HOME": str(self.top / "cache"), "TMPDIR": str(self.top / "tmp"), "PYTHON": sys.executable}
 
     def write(self, path: str, text: str):
         (self.top / path).parent.mkdir(parents=True, exist_ok=True)
@@ -115,8 +138,8 @@ class Tree:
             shutil.rmtree(self.root / f"crates/{crate}/out/rlib", ignore_errors=True)
             self.write(f"tree/crates/{crate}/out/rlib/{crate}.rlib/format", "rattle rlib\n")
 
-    def start(self, *words: str, out: int = subprocess.PIPE) -> subprocess.Popen[str]:
-        return subprocess.Popen([sys.executable, "tools/edits.py", *words], cwd=self.root, env=self.environment, stdout=out,
+    def start(self, *words: str, out: int = subprocess.PIPE, script: str = "edits.py") -> subprocess.Popen[str]:
+        return subprocess.Popen([sys.executable, f"tools/{script}", *words], cwd=self.root, env=self.environment, stdout=out,
                                 stderr=subprocess.PIPE, text=True)
 
     def run(self, *words: str) -> tuple[int, list[str], str]:
@@ -137,7 +160,8 @@ def tree(*bodies: str) -> Iterator[Tree]:
     with tempfile.TemporaryDirectory() as folder:
         made = Tree(pathlib.Path(folder))
         shutil.copytree(TOP / "outside", made.root / "outside", ignore=shutil.ignore_patterns("__pycache__"))
-        made.write("tree/tools/edits.py", (TOP / "tools/edits.py").read_text())
+        for script in ("edits.py", "gate_times.py"):
+            made.write(f"tree/tools/{script}", (TOP / "tools" / script).read_text())
         made.write("tree/crates.txt", "# NAME: libraries\nlow:\nhigh may_wait=1: low hex\n")
         made.write("tree/crates/low/src/lib.rt", "body low\n")
         made.write("tree/crates/high/src/lib.rt", "body first\n")
@@ -359,8 +383,29 @@ def signals() -> list[str]:
     return wrong
 
 
+def times() -> list[str]:
+    """What each part of `rt ci` took. A process is looked at now and then, so a part may lack a fifth of a second, and their sum more."""
+    with tree() as made:
+        for body in ("first_edit", "second_edit"):
+            made.edit(body, "must-fail")
+        ran = made.start("--lanes", "3", script="gate_times.py")
+        out, said = ran.communicate(timeout=60)
+    wrong = differs("end", (ran.returncode, said), (1, "ci --anew by 3\n"))
+    rows = {line.split()[0]: line.split()[1:] for line in out.splitlines() if line[:4] in ("high", "low ")}
+    wanted = {"high": (0.6, 0, 0.3, 0.3, 0.5, 0.7, "(2)", 2.4, "f.second_edit", 0.4), "low": (0.3, 0, 0, 0, 0, 0, 0.3)}
+    most = (0.2,) * 7 + (0.8, 0, 0.2)
+    for crate, numbers in wanted.items():
+        wrong += differs(crate, len(rows.get(crate, [])), len(numbers))
+        for seen, number, by in zip(rows.get(crate, []), numbers, most):
+            is_near = seen == number if isinstance(number, str) else abs(float(seen) - number) <= by
+            wrong += [] if is_near else [f"{crate}: {seen}, expected about {number}"]
+    chain = next((line for line in out.splitlines() if line.startswith("the longest chain: 0.0 minutes: ")), "")
+    steps = [step.rsplit(" ", 1)[0] for step in chain.partition("minutes: ")[2].split(", ")]
+    return wrong + differs("chain", steps, ["low", "high", "f.second_edit"])
+
+
 def run_all() -> int:
-    tries = (answers, of_functions, statuses, kept, folders, bases, begins, bad_edits, faults, places, meanwhile, signals)
+    tries = (answers, of_functions, statuses, kept, folders, bases, begins, bad_edits, faults, places, meanwhile, signals, times)
     failed = 0
     for look in tries:
         wrong = look()
