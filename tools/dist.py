@@ -4,6 +4,7 @@
     tools/dist.py                  proves and builds both here, and writes dist/
     tools/dist.py --check          builds both here again, and compares them with dist/
     tools/dist.py --built PROGRAM  compares dist/'s program for x86-64-v2 with one that was built already, as the gate does
+    tools/dist.py --named          status 1 where dist/ has not both programs of these sources, as dist/SOURCE names them
 
 They are stripped, by the kit's own tool, so that whoever has the kit gets the same bytes. dist/SOURCE names what they were built
 of: the kit, the folders of the sources, and the checksum of each file in these, of crates.txt and of both programs, as
@@ -95,6 +96,12 @@ def other_sources(sums):
     return sorted(path for path in here.keys() | then.keys() if here.get(path) != then.get(path))
 
 
+def of_others(sums):
+    """A line where dist/ is of other sources."""
+    others = other_sources(sums)
+    return [f"dist/ is of other sources: {len(others)} differ, {others[0]} first"] if others else []
+
+
 def build(crate, words):
     """Proves a program, builds it for a processor, and answers its bytes as they are in dist/."""
     command = ["rt", "run", *words, "--", "--help"]
@@ -133,9 +140,8 @@ def write():
 def check():
     """Builds the programs again: what differs from dist/."""
     sums, by = named()
-    others = other_sources(sums)
-    if others:
-        return [f"dist/ is not of these sources: {len(others)} differ, {others[0]} first"]
+    if of_others(sums):
+        return of_others(sums)
     faults = faults_of_programs(sums)
     faults += [f"{path} differs from what is built here by {kit()} (dist/SOURCE: {by})" for path, (crate, words) in PROGRAMS.items() if build(crate, words) != (TOP / path).read_bytes()]
     return faults
@@ -145,9 +151,8 @@ def compare(program):
     """What differs between a program that was built of these sources and dist/."""
     sums, by = named()
     faults = faults_of_programs(sums)
-    others = other_sources(sums)
-    if others:
-        print(f"dist.py: dist/ is of other sources: {len(others)} differ, {others[0]} first")
+    if of_others(sums):
+        print(f"dist.py: {of_others(sums)[0]}")
         return faults
     if by != kit():
         print(f"dist.py: dist/ was built by {by}, and this is {kit()}: the programs are not compared")
@@ -165,6 +170,9 @@ def main(words):
             faults = check()
         case ["--built", program]:
             faults = compare(pathlib.Path(program))
+        case ["--named"]:
+            sums, _ = named()
+            faults = of_others(sums) + faults_of_programs(sums)
         case _:
             print(__doc__.split("\n\n")[1], file=sys.stderr)
             return 2
