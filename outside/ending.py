@@ -60,10 +60,7 @@ def status_or_fault(name: str, run: Callable[[], int]) -> int:
         status = run()
         sys.stdout.flush()
         return status
-    except WrongWords as why:
-        say(name, str(why))
-        return why.status
-    except Fault as why:
+    except (WrongWords, Fault) as why:
         say(name, *why.lines)
         return why.status
     except BrokenPipeError:

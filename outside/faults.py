@@ -1,16 +1,8 @@
 """What stops a script: lines on standard error, and a status."""
 
 
-class WrongWords(Exception):
-    """The words of the command line are none that it knows."""
-
-    status = 2
-
-
-class Fault(Exception):
-    """A file, a program or a launch is not as it has to be. It has a line for each thing that is wrong."""
-
-    status = 3
+class Lines(Exception):
+    """What stops a script has a line for each thing that is wrong."""
 
     def __init__(self, *lines: str):
         super().__init__(*lines)
@@ -18,3 +10,15 @@ class Fault(Exception):
 
     def __str__(self) -> str:
         return "\n".join(self.lines)
+
+
+class WrongWords(Lines):
+    """The words of the command line are none that it knows."""
+
+    status = 2
+
+
+class Fault(Lines):
+    """A file, a program or a launch is not as it has to be."""
+
+    status = 3
