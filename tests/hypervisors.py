@@ -39,7 +39,8 @@ START = os.path.join(TOP, "rim-manifest")
 sys.path.insert(0, TOP)
 
 from vmm import host as host_keys  # noqa: E402, the path is set above
-from vmm.main import HYPERVISORS, options_of  # noqa: E402
+from vmm.hypervisors import HYPERVISORS  # noqa: E402, the path is set above
+from vmm.main import options_of  # noqa: E402
 from vmm.main import main as rim_manifest  # noqa: E402
 from vmm.qemu_words import MACHINE  # noqa: E402
 
@@ -123,11 +124,19 @@ def image(image_size=2 * MIB, text_offset=0, length=20_000) -> bytes:
     return header + bytes(n * 37 % 251 for n in range(length - 64))
 
 
-def zboot(plain: bytes, how=b"gzip", magic=b"\xcd\x23\x82\x81") -> bytes:
+def zboot(plain: bytes, how=b"gzip", magic=b"\xcd\x23\x82\x81", packs=lambda plain: gzip.compress(plain, mtime=0)) -> bytes:
     """An EFI zboot: a header, and a packed Image."""
-    packed = gzip.compress(plain, mtime=0)
+    packed = packs(plain)
     return struct.pack("<2sH4sII8s32s4sI", b"MZ", 0, b"zimg", 64, len(packed), b"", how, magic, 64) + packed
 
+
+# The Image of `image`, packed by `zstd -19`.
+ZSTD = bytes.fromhex(
+    "28b52ffd0468e508008410001000001400200a0041524d6400254a6f94b9de082d52779cc1e610355a7fa4c9ee183d6287acd1f620456a8fb4d90328"
+    "4d7297bce10b30557a9fc4e913385d82a7ccf11b40658aafd4f923486d92b7dc062b50759abfe40e33587da2c7ec163b6085aacff41e43688db2d701"
+    "264b7095badf092e53789dc2e711365b80a5caef193e6388add2f721466b90b5da04294e7398bde20c31567ba0c5ea14395e83a8cdf21c41668bb0d5"
+    "fa24496e93b8dd072c51769bc0e50f34597ea3c8ed173c6186abd0f51f44698eb3d802274c7196bbe00a2f54799ec3e812375c81a6cbf01a3f6489ae"
+    "d3f822476c91b6db052a4f7499bee30d32577ca1c6eb153a5f84a9cef31d42678cb1d606007a71c66f560256bb025fc140f100200462513e41")
 
 HOST = {"num_bps": "5", "num_wps": "3", "sve": "false", "pmu": "true", "pmu_num_ctrs": "6", "block_level": "2", "rec_rule": '"runnable"',
         "s2sz_max": "48"}
@@ -250,7 +259,7 @@ WRONG = [
     ("another hypervisor", ["xen"], "\"xen\", expected qemu, kvmtool, cloud-hypervisor"),
     ("a word that is not known", [*WITH_TREE, "-nodefaults"],
      '"-nodefaults": rim-manifest makes no launch of it, expected it after `--`'),
-    ("no value", [*WITH_TREE, "-initrd"], "-initrd: nothing is given, expected FILE"),
+    ("no value", [*WITH_TREE, "-initrd"], "-initrd: nothing is given, expected [NAME=]FILE"),
     ("twice", [*WITH_TREE, "--out", "b"], "--out: it is given twice"),
     ("a flag with a value", [*WITH_TREE, "--force=yes"], '--force: "yes" is given, expected no value'),
     ("no machine", without(WITH_TREE, "-M"), "-machine: it is not given"),
@@ -260,10 +269,13 @@ WRONG = [
      '"dtb-randomness=on": the devicetree differs at each start, expected dtb-randomness=off'),
     ("no processor model", without(WITH_TREE, "-cpu"), "-cpu: it is not given, expected a 64-bit"),
     ("a 32-bit processor", replaced(WITH_TREE, "-cpu", "cortex-a15"), '"cortex-a15" is a 32-bit processor'),
-    ("no kernel", without(WITH_TREE, "-kernel"), "-kernel, --kernel: it is not given"),
+    ("no kernel", without(WITH_TREE, "-kernel"), "-kernel, --kernel, --each-kernel: it is not given"),
+    ("kernels of one name", [*WITH_TREE, "-kernel", "other/Image"],
+     '-kernel: "Image" and "other/Image" are both called Image, expected NAME=FILE for one of them'),
     ("no processors", [*WITH_TREE, "-smp", "0"], '-smp: "0", expected a whole number from 1 to 512'),
     ("too many processors", [*WITH_TREE, "-smp", "1,513"], '-smp: "513"'),
-    ("processors without a number", [*WITH_TREE, "-smp", "maxcpus=4"], '"maxcpus=4" has no value, expected one alone or as cpus='),
+    ("another word of processors", [*WITH_TREE, "-smp", "1,new=4"], '-smp: "new=4": what it changes is not known'),
+    ("processors of no number", [*WITH_TREE, "-smp", "cores=a"], '-smp: cores: "a", expected a whole number'),
     ("no size", replaced(WITH_TREE, "-m", "much"), '-m: "much", expected a size'),
     ("a size of nothing", replaced(WITH_TREE, "-m", "0"), '-m: "0", expected more than nothing'),
     ("another word of a size", replaced(WITH_TREE, "-m", "1G,share=on"), '-m: "share=on": what it changes is not known'),
@@ -271,9 +283,9 @@ WRONG = [
     ("a control character", [*WITH_TREE, "-append", "a\tb"], '"a\\x09b" has a control character'),
     ("no devicetree", QEMU, "--qemu and --dtb: neither is given"),
     ("two sources of devicetrees", [*WITH_TREE, "--qemu", "qemu"], "--qemu and --dtb: both are given"),
-    ("firmware", [*QEMU, "--qemu", "q", "--", "-bios", "x"], "-bios: QEMU then starts firmware and puts no kernel into RAM"),
+    ("firmware", [*QEMU, "--qemu", "q", "--", "-bios", "x"], "-bios x: QEMU then starts firmware and puts no kernel into RAM"),
     ("an edited devicetree", [*QEMU, "--qemu", "q", "--", "--dtb", "x"],
-     "--dtb: QEMU edits such a file and makes it longer, expected --dtb before `--`"),
+     "--dtb x: QEMU edits such a file and makes it longer; expected `--dtb FILE`, an option of rim-manifest's before `--`"),
     ("flash", [*QEMU, "--qemu", "q", "--", "-drive", "if=pflash,file=x"], "-drive if=pflash,file=x: QEMU then starts firmware"),
     ("a loader", [*QEMU, "--qemu", "q", "--", "-device", "loader,file=x"], "-device loader,file=x: it loads"),
     *[(f"-machine {word}", replaced(WITH_TREE, "-M", f"virt,gic-version=3,{word}"), f'-machine: "{word}": {why}') for word, why in (
@@ -293,7 +305,7 @@ WRONG = [
     ("words of no machine", replaced(WITH_TREE, "-M", "gic-version=3"), "words of one machine, and no machine is given"),
     ("words of two machines", [*WITH_TREE, "-M", "virt-10.0", "-M", "its=off"], "words of one machine, and 2 machines are given"),
     *[(f"before --: {' '.join(given)}", [*WITH_TREE, *given], why) for given, why in (
-        (["-bios", "F"], "-bios: QEMU then starts firmware"), (["-incoming", "defer"], "-incoming: all of RAM comes from elsewhere"),
+        (["-bios", "F"], "-bios F: QEMU then starts firmware"), (["-incoming", "defer"], "-incoming defer: all of RAM comes from elsewhere"),
         (["--device", "loader,file=F"], "--device loader,file=F: it loads what no table places"),
         (["-serial", "null"], '"-serial": rim-manifest makes no launch of it, expected it after `--`'),
         (["-nographic", "-m", "1G", "-drive", "file=x", "--algo", "sha256", "-enable-kvm"],
@@ -307,8 +319,8 @@ WRONG = [
         (["-device", "virtio-iommu-pci"], "without addr= other devices decide it, expected addr="), (["-readconfig", "F"], "does not read"),
         (["-global", "virtio-iommu-pci.addr=2"], "whether it changes"),
         (["-global", "cpu.psci-conduit=2"], "whether it changes the devicetree is not known"), (["-M", "virt"], "expected it before `--`"),
-        (["-object", "memory-backend-file,id=a,mem-path=F"], "it has no size, expected one"), (["disk.img"], "no word of QEMU's"),
-        (["-object", "rme-guest,id=a"], "expected confidential-guest-support=ID where they have -object rme-guest"), (["-smp"], "expected it"),
+        (["-object", "memory-backend-file,id=a,mem-path=F"], "it has no size, expected one"), (["-nographic", "disk.img"], "no word of QEMU's"),
+        (["-object", "rme-guest,id=a"], "expected confidential-guest-support=ID where they have -object rme-guest"), (["-smp", "2"], "expected it"),
         (["-serial"], "-serial: nothing is given"))],
     ("a realm that no object says", replaced(WITH_TREE, "-M", "virt,confidential-guest-support=a"), "expected confidential-guest-support=ID"),
     *[(f"a realm's object: {words}", [*replaced(WITH_TREE, "-M", "virt,gic-version=3,confidential-guest-support=a"), *more, "--", "-object",
@@ -317,7 +329,7 @@ WRONG = [
         (",measurement-algorithm=sha512", ["--algo", "sha256"], '--algo: "sha256", expected sha512, which -object rme-guest says'),
         (",measurement-algorithm=sha1", [], 'measurement-algorithm="sha1", expected sha256 or sha512'),
         (",measurement-algorithm=sha256,personalization-value=00", [], 'personalization-value="00", expected 64 bytes'))],
-    ("kvmtool: a disk", [*without(KVMTOOL, "--dtb"), "--lkvm", "l", "--", "--disk", "live.img"], '"--disk": what it opens, and what it'),
+    ("kvmtool: a disk", [*without(KVMTOOL, "--dtb"), "--lkvm", "l", "--", "--disk", "live.img"], '"--disk live.img": in the devicetree, and making'),
     ("kvmtool: another algorithm", [*KVMTOOL, "--algo", "sha512", "--", "--realm", "--measurement-algo", "sha256"],
      '--algo: "sha512", expected sha256, which --measurement-algo says'),
     ("kvmtool: a realm of no algorithm", [*KVMTOOL, "--", "--realm"], "--algo: it is not given, expected one, since --realm says none"),
@@ -335,8 +347,8 @@ WRONG = [
     ("kvmtool: no memory", without(KVMTOOL, "-m"), "--mem: it is not given"),
     ("kvmtool: parts of pages", replaced(KVMTOOL, "-m", "3K"), '--mem: "3K", expected whole pages'),
     ("kvmtool: no address", replaced(KVMTOOL, "-m", "1G@2G"), '--mem: "1G@2G", expected SIZE@0xADDRESS'),
-    ("kvmtool: a word for the program", [*without(KVMTOOL, "--dtb"), "--lkvm", "l", "--", "--firmware", "x"], "--firmware: after `--`"),
-    ("cloud-hypervisor: a word of processors", [*CLOUD, "--cpus", "boot=2,max=4"], '--cpus: "max=4": what it changes is not known'),
+    ("kvmtool: a word for the program", [*without(KVMTOOL, "--dtb"), "--lkvm", "l", "--", "--firmware", "x"], "--firmware x: lkvm then starts"),
+    ("cloud-hypervisor: a word of processors", [*CLOUD, "--cpus", "boot=2,max_phys_bits=40"], '--cpus: "max_phys_bits=40": what'),
     ("cloud-hypervisor: a word of memory", [*CLOUD, "--memory", "size=1G,hotplug_size=1G"], '"hotplug_size=1G": what it changes'),
 ]
 
@@ -414,11 +426,17 @@ FAULTS = [
     ("gzip of no Image", WITH_TREE, {"Image": gzip.compress(bytes(99))}, "Image: no magic"),
     ("kvmtool: gzip", KVMTOOL, {"Image": gzip.compress(image())}, "Image: a gzip file, expected an arm64 Image"),
     ("kvmtool: zboot", KVMTOOL, {"Image": zboot(image())}, "Image: an EFI zboot file, expected an arm64 Image"),
-    ("zboot of no version", WITH_TREE, {"Image": zboot(image())}, "an EFI zboot file, which QEMU unpacks from 10.0 on"),
+    ("zboot of no version", WITH_TREE, {"Image": zboot(image())}, "an EFI zboot file packed by gzip, which QEMU unpacks from 10.0 on"),
     ("zboot of an old version", WITH_TREE, {"Image": zboot(image())} | changed_host(hypervisor_version='"7.2.22"'),
      "which QEMU 7.2.22 may load packed"),
     ("zboot by zstd", WITH_TREE, {"Image": zboot(image(), b"zstd22")} | changed_host(hypervisor_version='"10.0"'),
-     'an EFI zboot packed by "zstd22"'),
+     "an EFI zboot file packed by zstd, which QEMU 10.0 may load packed, or stop at; expected QEMU 11.1 or later"),
+    ("zboot by xz", WITH_TREE, {"Image": zboot(image(), b"xzkern")} | changed_host(hypervisor_version='"11.1"'),
+     'an EFI zboot packed by "xzkern", expected gzip or zstd, which QEMU unpacks'),
+    ("zboot by bad zstd", WITH_TREE, {"Image": zboot(image(), b"zstd")} | changed_host(hypervisor_version='"11.1"'),
+     "Image: an EFI zboot of zstd that is none"),
+    ("zboot by zstd that is cut", WITH_TREE, {"Image": zboot(ZSTD[:-9], b"zstd", packs=bytes)} | changed_host(hypervisor_version='"11.1"'),
+     "Image: zstd that cannot be unpacked: "),
     ("zboot without Linux's magic", WITH_TREE, {"Image": zboot(image(), magic=b"\0\0\0\0")}, "Image: no magic `ARM\\x64` at byte 56"),
     ("an empty initrd", [*WITH_TREE, "-initrd", "i"], {"i": b""}, "i: it is empty, expected an initrd"),
     ("an initrd of U-Boot", [*WITH_TREE, "-initrd", "i"], {"i": b"\x27\x05\x19\x56" + bytes(99)}, "i: an initrd with a U-Boot header"),
@@ -439,7 +457,7 @@ FAULTS = [
     ("a devicetree of another version", WITH_TREE, {"tree": FILES["tree"][:20] + struct.pack(">II", 16, 16) + FILES["tree"][28:]},
      "tree: dtb-bad-version"),
     ("a devicetree that is deep", WITH_TREE, {"tree": Writer().whole(deep(65), MIB)}, "tree: dtb-too-deep"),
-    ("another size of RAM", WITH_TREE, changed_tree(ram=[(LOW, LOW + 512 * MIB)]), "launch 256M-smp1-sha256, tree: RAM: the devicetree has "
+    ("another size of RAM", WITH_TREE, changed_tree(ram=[(LOW, LOW + 512 * MIB)]), "launch 256M-smp1-Image-no-initrd-sha256, tree: RAM: the devicetree has "
      "0x40000000 to 0x60000000, expected 0x40000000 to 0x50000000"),
     ("another command line", [*WITH_TREE, "-append", "quiet"], changed_tree(bootargs="debug"),
      'boot words: the devicetree has bootargs "debug", expected "quiet"'),
@@ -476,15 +494,14 @@ FAULTS = [
      "tree: there is something after its blocks, expected zeros for --dtb-pages used"),
     ("kvmtool: an initrd in the kernel's last page", [*KVMTOOL, "-i", "initrd"], {"Image": image(0xFDF_DC00),
      "tree": tree([(2 * LOW, 2 * LOW + 256 * MIB)], initrd=(0x8FDF_DCD4, 0x8FDF_FFFD))}, "share a page"),
-    ("a value twice", [*WITH_TREE, "-m", "256"], {}, "launch 256M-smp1-sha256: two combinations have this name"),
+    ("a value twice", [*WITH_TREE, "-m", "256"], {}, "launch 256M-smp1-Image-no-initrd-sha256: two combinations have this name"),
     ("too many launches", [*WITH_TREE, "--append-file", "a"], {"a": b"a\n" * 65537}, "the words have 65537 combinations, expected at most"),
-    ("a name that is long", [*replaced(KVMTOOL, "-m", "123456789012K@0x400000000000"), "-k", "k" * 32], {"k" * 32: image()},
-     "-smp1-" + "k" * 32 + "-sha256: its name has 72 characters, expected at most 64"),
     ("a devicetree that is long", WITH_TREE, {"tree": FILES["tree"].ljust(2 * MIB + 1, b"\0")}, "tree: it has more than 2097152 bytes"),
     ("two devicetrees that fit", [*WITH_TREE, "--dtb", "b"], {"b": tree([(LOW, LOW + 256 * MIB)], model=b"b\0")},
      "tree and b both fit and differ"),
-    ("memory slots", replaced(WITH_TREE, "-m", "256M,slots=1,maxmem=1G"), {}, "no rule gives the width of an IPA for these words"),
-    ("much RAM without highmem", replaced(replaced(WITH_TREE, "-m", "4G"), "-M", "virt,highmem=off"), {}, "no rule gives the width"),
+    ("much RAM without highmem", replaced(replaced(WITH_TREE, "-m", "4G"), "-M", "virt,highmem=off"), {}, "QEMU stops where that is past 32"),
+    ("RAM and slots past what the host allows", replaced(WITH_TREE, "-m", "256M,slots=250,maxmem=1G"), changed_host(s2sz_max="37"),
+     "RAM, and room for slots, is up to 0x3f40000000, and QEMU stops where that is past 36 bits"),
     ("no program", [*QEMU, "--qemu", "./none"], {}, "./none: No such file or directory, expected a program"),
     ("a program of another version", [*QEMU, "--qemu", "./stand-in"], changed_host(hypervisor_version='"7.2.22"'),
      'it is of version "10.0.2", expected 7.2.22'),
@@ -687,7 +704,7 @@ OPTIONS = [
     ("the host's keys", WITH_TREE, lambda folder: differs("keys", {key: first(folder).get(key) for key in HOST_KEYS}, HOST_KEYS),
      {"host.toml": FULL_HOST}),
     ("processors that begin off", [*WITH_TREE, "-smp", "18,sockets=1"], lambda folder: differs("rec", first(folder)["rec"][1:],
-     [{"runnable": False}] * 17) + differs("name", names_of(folder), ["256M-smp18-sha256"]), changed_tree(count=18)),
+     [{"runnable": False}] * 17) + differs("name", names_of(folder), ["256M-smp18-Image-no-initrd-sha256"]), changed_tree(count=18)),
     ("an order", [*WITH_TREE, "--order", "rec,ram,kernel,initrd,dtb,stub"], lambda folder: differs("steps", first(folder)["steps"],
      ["rec 0", "ram 0", "item kernel", "item dtb", "item stub"])),
     ("pages of the BSS", [*WITH_TREE, "--kernel-pages", "image_size"], lambda folder: differs("size",
@@ -697,7 +714,7 @@ OPTIONS = [
     ("pages that are used", [*WITH_TREE, "--dtb-pages", "used"],
      lambda folder: differs("bytes", folder.read("out/dtb-1"), FILES["tree"][:4096])),
     ("a width", [*WITH_TREE, "--s2sz", "48"], lambda folder: differs("s2sz", first(folder)["s2sz"], 48)),
-    ("a width of the host", WITH_TREE, lambda folder: differs("s2sz", first(folder)["s2sz"], 39),
+    ("a width of the host", WITH_TREE, lambda folder: differs("s2sz", first(folder)["s2sz"], 33),
      changed_tree(**NO_PCIE) | changed_host(s2sz_max="39")),
     ("a plain guest", WITH_TREE, lambda folder: differs("warning", b"Warning: 1 of 1" in folder.read("out/manifest.toml"), True),
      changed_tree(method=b"hvc\0"), 'have the psci method "hvc", expected "smc": no realm has such a devicetree'),
@@ -721,24 +738,25 @@ OPTIONS = [
      + differs("files", sorted(each["name"] for each in folder.toml()["file"]),
                ["dtb-1", "dtb-2", "initrd", "kernel-Image", "kernel-b", "stub-1", "stub-2"]),
      {"b": OTHER_IMAGE, "with-initrd": tree([(LOW, LOW + 256 * MIB)], initrd=WITH_INITRD)}),
-    ("kernels of one name", [*WITH_TREE, "-kernel", "other/Image"], lambda folder: differs("names", names_of(folder),
-     ["256M-smp1-kernel1-sha256", "256M-smp1-kernel2-sha256"]) + differs("kernel", folder.read("out/kernel-kernel2"), OTHER_IMAGE),
+    ("kernels by their names", [*WITH_TREE, "--each-kernel", "old=other/Image"], lambda folder: differs("names", names_of(folder),
+     ["256M-smp1-Image-no-initrd-sha256", "256M-smp1-old-no-initrd-sha256"]) + differs("kernel", folder.read("out/kernel-old"), OTHER_IMAGE),
      {"other/Image": OTHER_IMAGE}),
-    ("kernels of long names", [*WITH_TREE, "-kernel", "k" * 33], lambda folder: differs("names", names_of(folder),
-     ["256M-smp1-kernel1-sha256", "256M-smp1-kernel2-sha256"]), {"k" * 33: OTHER_IMAGE}),
     ("machines and models", [*QEMU, "-M", "virt-10.0", "-cpu", "cortex-a57,pmu=on", "--qemu", "./stand-in"], lambda folder: differs("names",
-     names_of(folder), [f"machine{m}-cpu{c}-256M-smp1-sha256" for m in (1, 2) for c in (1, 2)]), TREES, "-machine has 2 machines"),
+     names_of(folder), [f"{names}-256M-smp1-Image-no-initrd-sha256" for names in ("virt_gic-version_3-max", "virt_070287_n_3-cort_241c6d__on",
+     "virt-10.0-max", "virt-10.0-cortex-a57_pmu_on")]), TREES, "-machine has 2 machines"),
     ("a kernel that moves the initrd", [*replaced(QEMU, "-m", "1G"), "-kernel", "big", "-initrd", "initrd", "--qemu", "./stand-in"],
      lambda folder: differs("initrds", [item["at"] for launch in folder.toml()["launch"] for item in launch["item"][2:3]],
      [0x4800_0000, 0x4820_0000]), {"big": image(128 * MIB)} | {f"trees/1G-1-none-kernel-{name}": tree(
          [(LOW, LOW + 1024 * MIB)], initrd=(at, at + len(INITRD))) for name, at in (("Image", 0x4800_0000), ("big", 0x4820_0000))}),
     ("models", [*QEMU, "-cpu", "cortex-a57", "--qemu", "./stand-in"], lambda folder: differs("names", names_of(folder),
-     ["max-256M-smp1-sha256", "cortex-a57-256M-smp1-sha256"]) + differs("devicetrees",
+     ["max-256M-smp1-Image-no-initrd-sha256", "cortex-a57-256M-smp1-Image-no-initrd-sha256"]) + differs("devicetrees",
                                                                         os.path.exists(os.path.join(folder.path, "out/dtb-2")), False),
      TREES),
     ("gzip", WITH_TREE, lambda folder: differs("kernel", folder.read("out/kernel"), image()), {"Image": gzip.compress(image()) + b"after"}),
     ("zboot", [*QEMU, "--qemu", "./stand-in"], lambda folder: differs("kernel", folder.read("out/kernel"), image()),
      {"Image": zboot(image())} | TREES),
+    ("zboot by zstd", WITH_TREE, lambda folder: differs("kernel", folder.read("out/kernel"), image()),
+     {"Image": zboot(ZSTD, b"zstd22", packs=bytes)} | changed_host(hypervisor_version='"11.1.3"')),
     ("text of a command line", [*WITH_TREE, "-append", "a=\"b\" \\ é # 'c'"], lambda folder: differs("record",
      json.loads(folder.read("out/record.json"))["launches"][0]["append"], "a=\"b\" \\ é # 'c'"),
      changed_tree(bootargs="a=\"b\" \\ é # 'c'")),
@@ -750,7 +768,7 @@ OPTIONS = [
      lambda folder: differs("length", len(folder.read("out/dtb-1")), 65536),
      {"tree": tree([(2 * LOW, 2 * LOW + 256 * MIB)], length=65536, **NO_PCIE)}),
     ("processors beside a list", [*QEMU, "-smp", "1,2", "--algo", "sha512,sha256", "--qemu", "./stand-in"], lambda folder: differs("names",
-     names_of(folder), [f"256M-smp{n}-sha{size}" for n in (1, 2) for size in (512, 256)]), TREES),
+     names_of(folder), [f"256M-smp{n}-Image-no-initrd-sha{size}" for n in (1, 2) for size in (512, 256)]), TREES),
 ]
 
 
@@ -773,8 +791,8 @@ def matrix(program: str):
         wrong = differs("lines", len(out.splitlines()), 2)
         wrong += differs("files", [len(folder.toml(f"out/manifest-{n}.toml")["file"]) for n in (1, 2)], [64, 16])
         # launches of one devicetree are side by side, also where they are of two models
-        expected = [f"{cpu}-{m}M-smp{n}-append{a}-sha256" for m in sizes for n in counts for a in range(1, 6) for cpu in ("max",
-                                                                                                                          "cortex-a57")]
+        expected = [f"{cpu}-{m}M-smp{n}-Image-no-initrd-a{a}-sha256" for m in sizes for n in counts for a in range(5)
+                    for cpu in ("max", "cortex-a57")]
         wrong += differs("names", names[0] + names[1], expected)
         os.rename(os.path.join(folder.path, "out"), os.path.join(folder.path, "moved"))
         for name in ("Image", "trees"):
@@ -797,7 +815,7 @@ def measured(program: str):
         text = folder.read("out/manifest.toml").decode()
         folder.put("out/manifest.toml", text.replace("at = 0x48000000", "at = 0x40200000").encode())
         status, out, _ = folder.run(start=measure, RIM=program)
-        wrong += differs("refused", (status, out.splitlines()[1]), (1, "256M-smp1-sha256 refused overlap"))
+        wrong += differs("refused", (status, out.splitlines()[1]), (1, "256M-smp1-Image-no-initrd-sha256 refused overlap"))
         folder.put("out/manifest.toml", text.replace("s2sz = 41", "s2sz = 49").encode())
         status, out, said = folder.run(start=measure, RIM=program)
         return wrong + differs("a fault", (status, out, "rim check manifest.toml" in said), (3, "", True))
@@ -927,9 +945,9 @@ sys.exit(main(sys.argv[2:]))
 BAD_PROGRAMS = [
     ("says much", "yes & sleep 0.1; yes", "it says more than 65536 bytes"),
     ("complains much", "yes >&2 & sleep 0.3; kill $!; exit 1", "has written no devicetree (status 1): y"),
-    ("writes much", 'head -c 300000000 /dev/zero >"$path"', "the devicetree of launch 256M-smp1-sha256: "),
-    ("writes a FIFO", 'mkfifo "$path"', "the devicetree of launch 256M-smp1-sha256: it is a FIFO, expected a devicetree"),
-    ("writes a folder", 'mkdir "$path"', "the devicetree of launch 256M-smp1-sha256: it is a folder"),
+    ("writes much", 'head -c 300000000 /dev/zero >"$path"', "the devicetree of launch 256M-smp1-Image-no-initrd-sha256: "),
+    ("writes a FIFO", 'mkfifo "$path"', "the devicetree of launch 256M-smp1-Image-no-initrd-sha256: it is a FIFO, expected a devicetree"),
+    ("writes a folder", 'mkdir "$path"', "the devicetree of launch 256M-smp1-Image-no-initrd-sha256: it is a folder"),
     ("says escapes", r"printf 'a\033[2Jb\n' >&2; exit 1", "(status 1): a\\x1b[2Jb"),
     ("says nothing", "exit 9", "has written no devicetree (status 9): it says nothing"),
     ("is killed", "kill -9 $$", "has written no devicetree (status -9)"),

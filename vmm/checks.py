@@ -9,6 +9,7 @@ from outside.texts import shown
 from . import devicetree
 from .dumps import Dump
 from .guest import MIB, PAGE
+from .hypervisor import Hypervisor
 from .launches import Launch
 
 
@@ -22,6 +23,10 @@ class Difference:
 
     def __str__(self):
         return f"{self.check}: {self.seen}, expected {self.expected}"
+
+
+def in_brackets(word: str) -> str:
+    return f" ({word})" if word else ""
 
 
 def span(base: int, end: int) -> str:
@@ -39,11 +44,11 @@ def ram(launch: Launch, tree: Tree) -> Iterator[Difference]:
         yield Difference("RAM", f"the devicetree has {spans(has)}", spans(wanted) + " by the size of RAM")
 
 
-def boot_words(vmm, launch: Launch, tree: Tree) -> Iterator[Difference]:
+def boot_words(vmm: Hypervisor, launch: Launch, tree: Tree) -> Iterator[Difference]:
     """2. `bootargs` is the command line, and the initrd's place is its address and its end, in 4 or 8 bytes."""
     chosen = tree.root.child("chosen") or Node("chosen")
     args, text = chosen.text("bootargs") or "", launch.guest.append.text
-    if args != text and not (vmm.NAME == "kvmtool" and is_among(text, args)):
+    if args != text and not (vmm.FACTS.adds_boot_words and is_among(text, args)):
         other, own = command_lines_shown(args, text)
         yield Difference("boot words", f"the devicetree has bootargs {other}", own)
     values = [chosen.properties.get(f"linux,initrd-{end}") for end in ("start", "end")]
@@ -74,7 +79,7 @@ def command_lines_shown(*texts: str) -> list[str]:
     return [(f"{start} characters and " if start else "") + shown(text[start:]) for text in texts]
 
 
-def processors(vmm, launch: Launch, tree: Tree, has_pmu: bool) -> Iterator[Difference]:
+def processors(vmm: Hypervisor, launch: Launch, tree: Tree, has_pmu: bool) -> Iterator[Difference]:
     """3. A node for each processor with its number and its model, and a PMU where the host says so."""
     has = devicetree.processors(tree)
     wanted = [number % 16 + 256 * (number // 16) for number in range(launch.processors)]
@@ -92,24 +97,25 @@ def processors(vmm, launch: Launch, tree: Tree, has_pmu: bool) -> Iterator[Diffe
         yield Difference("processors", f"the devicetree has {has_node} node /pmu", f"{wants_node} by pmu of the host")
 
 
-def controller(vmm, launch: Launch, tree: Tree) -> Iterator[Difference]:
+def controller(vmm: Hypervisor, launch: Launch, tree: Tree) -> Iterator[Difference]:
     """3, the end. No realm has an interrupt controller other than GIC 3, and it is the one that the words ask for."""
     has = devicetree.controllers(tree)
     if other := next((each for each in has if each != devicetree.GIC_3), None):
         yield Difference("interrupt controller", f"the devicetree has {shown(other)}, and no realm has GIC 2",
-                         f"{shown(devicetree.GIC_3)}{vmm.GIC_3_WORDS}")
+                         f"{shown(devicetree.GIC_3)}{in_brackets(vmm.FACTS.gic_3)}")
     elif not has and vmm.has_gic_3(launch.guest):
         yield Difference("interrupt controller", "the devicetree has none", f"{shown(devicetree.GIC_3)} by gic-version")
 
 
-def same_bytes(vmm, dump: Dump) -> Iterator[Difference]:
+def same_bytes(vmm: Hypervisor, dump: Dump) -> Iterator[Difference]:
     """4. No seeds, and as many bytes as the hypervisor loads. That two dumps are equal is looked at where they are made."""
     for name in devicetree.seeds(dump.tree):
-        yield Difference("same bytes twice", f"the devicetree has {name}, which differs at each start", f"none{vmm.NO_SEEDS}")
-    if vmm.DTB_LENGTH and dump.length != vmm.DTB_LENGTH:
-        yield Difference("same bytes twice", f"the devicetree has {dump.length} bytes", f"{vmm.DTB_LENGTH}, as long as it is loaded")
-    if vmm.DTB_LENGTH and dump.length == vmm.DTB_LENGTH != dump.tree.total:
-        yield Difference("same bytes twice", f"the devicetree's header says {dump.tree.total} bytes", f"{vmm.DTB_LENGTH}")
+        yield Difference("same bytes twice", f"the devicetree has {name}, which differs at each start", f"none{in_brackets(vmm.FACTS.no_seeds)}")
+    length = vmm.FACTS.dtb_length
+    if length and dump.length != length:
+        yield Difference("same bytes twice", f"the devicetree has {dump.length} bytes", f"{length}, as long as it is loaded")
+    if length and dump.length == length != dump.tree.total:
+        yield Difference("same bytes twice", f"the devicetree's header says {dump.tree.total} bytes", f"{length}")
 
 
 def extents(launch: Launch, dump: Dump) -> list[tuple[str, int, int]]:
@@ -123,7 +129,7 @@ def extents(launch: Launch, dump: Dump) -> list[tuple[str, int, int]]:
     return sorted(found, key=lambda each: each[1])
 
 
-def place(vmm, launch: Launch, dump: Dump) -> Iterator[Difference]:
+def place(vmm: Hypervisor, launch: Launch, dump: Dump) -> Iterator[Difference]:
     """5. All is in RAM, nothing overlaps, the devicetree is where one may be, and all ends in the protected half."""
     places, taken = launch.places, extents(launch, dump)
     for name, base, end in taken:
@@ -132,9 +138,9 @@ def place(vmm, launch: Launch, dump: Dump) -> Iterator[Difference]:
     for (name, base, end), (other, other_base, other_end) in zip(taken, taken[1:]):
         if end > other_base // PAGE * PAGE:
             yield Difference("place", f"{name} {span(base, end)} and {other} {span(other_base, other_end)} share a page", "no such page")
-    if places.dtb % vmm.DTB_ALIGN or places.kernel % (2 * MIB):
+    if places.dtb % vmm.FACTS.dtb_align or places.kernel % (2 * MIB):
         yield Difference("place", f"dtb at {places.dtb:#x} and kernel's base at {places.kernel:#x}", "multiples of 2 MiB")
-    if vmm.DTB_IS_PAST_INITRD and places.dtb < places.initrd + launch.guest.initrd_length:
+    if vmm.FACTS.dtb_is_past_initrd and places.dtb < places.initrd + launch.guest.initrd_length:
         yield Difference("place", f"dtb at {places.dtb:#x}", "it past the initrd")
     if (places.pc == places.entry) != (places.stub is None) or places.stub not in (None, places.pc):
         yield Difference("place", f"pc {places.pc:#x} and stub {places.stub}", "both or neither")
@@ -151,13 +157,13 @@ def protected(launch: Launch, tree: Tree) -> Iterator[Difference]:
             yield Difference("place", f"{name} is at {span(base, end)}", half)
 
 
-def of_tree(vmm, launch: Launch, dump: Dump, has_pmu: bool) -> list[Difference]:
+def of_tree(vmm: Hypervisor, launch: Launch, dump: Dump, has_pmu: bool) -> list[Difference]:
     """What does not fit between the words and the devicetree: checks 1 to 3."""
     return [*ram(launch, dump.tree), *boot_words(vmm, launch, dump.tree), *processors(vmm, launch, dump.tree, has_pmu),
             *controller(vmm, launch, dump.tree)]
 
 
-def all_of(vmm, launch: Launch, dump: Dump, has_pmu: bool) -> list[Difference]:
+def all_of(vmm: Hypervisor, launch: Launch, dump: Dump, has_pmu: bool) -> list[Difference]:
     return [*of_tree(vmm, launch, dump, has_pmu), *same_bytes(vmm, dump), *place(vmm, launch, dump)]
 
 

@@ -1,30 +1,30 @@
-"""cloud-hypervisor for arm64: the table of its layout, and its words. Nothing of it was tried."""
+"""cloud-hypervisor for arm64: the table of its layout, and the values of its words. Nothing of it was tried."""
 from outside.faults import WrongWords
 from outside.texts import shown
 
-from .guest import MIB, PAGE, Guest, Memory, Processors, up
+from .cloud_hypervisor_words import GRAMMAR, refuse_before, sort, sort_rest  # noqa: F401, what a hypervisor has
+from .guest import MIB, PAGE, Guest, Memory, Processors, Word, up
+from .hypervisor import Facts
 from .layout import MEMORY, Places, Row
-from .words import Option, Others, Word, memories, processors, size
+from .sorting import Sorted
+from .words import Option, memories, number, processors, size
 
 NAME = "cloud-hypervisor"
 TITLE = "cloud-hypervisor"
+USAGE = "--dtb FILE.. [-- cloud-hypervisor WORDS..]"
+PROGRAM = r"cloud-hypervisor([-.].*)?"
 BASE = 0x4000_0000
 LOW_END, HIGH = 0xFC00_0000, 0x1_0000_0000
-ENDS_AFTER_DUMP = False
-DTB_LENGTH = None
-NO_SEEDS = ""
-GIC_3_WORDS = ""
-DTB_ALIGN = 2 * MIB
-DTB_IS_PAST_INITRD = False
 SOURCE = "cloud-hypervisor's sources"
 EDK = "cloud-hypervisor's sources; EDK II 2025.02, ArmVirtPkg, agrees"
+FACTS = Facts(2 * MIB, dtb_is_past_initrd=False, host_needs={"s2sz_max": "since cloud-hypervisor takes the host's width"})
 
 OPTIONS = [
-    Option(("--cpus", "--smp"), "smp", "LIST", "numbers of processors, as boot=N or alone; 1 where it is not given", True),
-    Option(("--memory",), "memory", "LIST", "sizes of RAM, as size=S or alone, a bare number is bytes; 512M where it is not given", True),
-    Option(("--kernel",), "kernel", "FILE", "an arm64 Image. Required", True),
-    Option(("--initramfs", "--initrd"), "initrd", "FILE", "an initrd", True),
-    Option(("--cmdline", "--append"), "append", "TEXT", "a command line of the kernel", True),
+    Option(("--cpus", "--smp", "--each-smp"), "smp", "LIST", "numbers of processors, as boot=N or alone; 1 where it is not given", True),
+    Option(("--memory", "--each-memory"), "memory", "LIST", "sizes of RAM, as size=S or alone, a bare number is bytes; 512M where it is not given", True),
+    Option(("--kernel", "--each-kernel"), "kernel", "[NAME=]FILE", "an arm64 Image. Required", True),
+    Option(("--initramfs", "--initrd", "--each-initrd"), "initrd", "[NAME=]FILE", "an initrd", True),
+    Option(("--cmdline", "--append", "--each-append"), "append", "TEXT", "a command line of the kernel", True),
 ]
 
 
@@ -53,11 +53,11 @@ TABLE = [
     Row("x", "x0 is the devicetree's address", lambda guest, places: [places.dtb], SOURCE, MEMORY),
     Row("recs", "the first processor is runnable; the others begin off and are turned on by PSCI", None, SOURCE, MEMORY),
     Row("order", "RAM, then what is placed by rising address (the devicetree first), then the RECs", None, SOURCE, MEMORY),
-    Row("s2sz", "the host's: s2sz_max of the file about it", lambda guest, places: None, SOURCE, MEMORY),
+    Row("s2sz", "the host's: s2sz_max of the file about it", lambda guest, places: guest.most_bits, SOURCE, MEMORY),
 ]
 
 
-def read_machine(said: dict, most: int):
+def read_machine(said: dict) -> list[Word]:
     return [Word("", "")]
 
 
@@ -65,7 +65,13 @@ read_cpu = read_machine
 
 
 def read_smp(said: dict) -> list[Processors]:
-    return processors("--cpus", said.get("smp", ["1"]), "boot", lambda key: False)
+    """The processors that a realm is made with. Those of max= may come later to other guests, and a realm gets none later."""
+    found = processors("--cpus", said.get("smp", ["1"]), "boot", lambda key: key in ("max", "topology"))
+    for each in found:
+        for word in each.words.split(",")[1:]:
+            if word.startswith("max="):
+                number("--cpus: max", word.removeprefix("max="), each.count, 512)
+    return found
 
 
 def read_memory(said: dict) -> list[Memory]:
@@ -79,17 +85,7 @@ def read_memory(said: dict) -> list[Memory]:
     return memories("--memory", said.get("memory", ["512M"]), read, lambda key: key in harmless)
 
 
-def read_rest(words: list[str]) -> Others:
-    if words:
-        raise WrongWords(f"{words[0]}: after `--`, and cloud-hypervisor makes no devicetree here; expected no such word")
-    return Others()
-
-
-def refuse_before(words: list[str]):
-    """No other word of it is known."""
-
-
-def check_realm(machine: str, others: Others):
+def check_realm(machine: str, others: Sorted):
     """No word of it names the realm."""
 
 
@@ -105,7 +101,11 @@ def has_gic_3(guest: Guest) -> bool:
     return False
 
 
-def final_words(guest: Guest, more: str = "") -> list[str]:
+def dump_words(guest: Guest, path: str) -> list[str]:
+    raise NotImplementedError("it has no word that writes a devicetree, and no option for its program")
+
+
+def final_words(guest: Guest) -> list[str]:
     return ["--cpus", f"boot={guest.smp.words}", "--memory", f"size={guest.memory.words}"]
 
 

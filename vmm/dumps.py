@@ -16,6 +16,7 @@ from outside.programs import Limits, Ran
 from outside.rim import Rim, Tree, tree_of
 from outside.texts import last_line, plain, visible
 
+from .hypervisor import Hypervisor
 from .launches import Launch
 
 # How long a program may take for one devicetree, and how many run at a time.
@@ -40,10 +41,11 @@ class Written:
 
 @dataclass(frozen=True)
 class Dump(Written):
-    """A devicetree as it is loaded, what a fault calls it, and what it says."""
+    """A devicetree as it is loaded, what a fault calls it, what it says, and the path or the words by which it is called."""
 
     path: str
     tree: Tree
+    source: str
 
 
 def written(data: bytes) -> Written:
@@ -63,7 +65,7 @@ class Reader:
             path = os.path.join(self.folder, "tree")
             files.write(path, written.data)
             self.trees[digest] = tree_of(self.rim, path, name)
-        return Dump(written.packed, written.length, visible(name), self.trees[digest])
+        return Dump(written.packed, written.length, visible(name), self.trees[digest], name)
 
 
 def version(program: str) -> tuple[str, str]:
@@ -84,7 +86,7 @@ def key_of(launch: Launch) -> tuple:
 class Program:
     """The hypervisor's program, which writes a devicetree and ends. `kept`: what it is given of the words after `--`."""
 
-    def __init__(self, vmm, path: str, kept: list[str], folder: str):
+    def __init__(self, vmm: Hypervisor, path: str, kept: list[str], folder: str):
         self.vmm, self.path, self.kept, self.folder = vmm, path, kept, folder
 
     def words(self, launch: Launch, path: str) -> list[str]:
@@ -99,13 +101,19 @@ class Program:
         with files.faults_of(folder, "a folder that can be made"):
             os.mkdir(folder)
         try:
-            until = None if self.vmm.ENDS_AFTER_DUMP else lambda: is_whole(path)
+            until = None if self.vmm.FACTS.ends_after_dump else lambda: is_whole(path)
             ran = programs.run(self.words(launch, path), Limits(SECONDS, file=MOST_WRITTEN), until=until)
             if not os.path.lexists(path):
-                raise Fault(f"launch {launch.name}: {visible(self.path)} has written no devicetree (status {ran.status}): {said_by(ran)}")
+                raise Fault(f"launch {launch.name}: {visible(self.path)} has written no devicetree (status {ran.status}): "
+                            f"{said_by(ran, self.copies(launch))}")
             return read(path, f"the devicetree of launch {launch.name}")
         finally:
             shutil.rmtree(folder, ignore_errors=True)
+
+    def copies(self, launch: Launch) -> dict[str, str]:
+        """The paths that the program was given of copies, each with the one that the user has given. A longer one comes first."""
+        blobs = [each for each in (launch.guest.kernel, launch.guest.initrd) if each]
+        return {os.path.join(self.folder, each.file): each.path for each in sorted(blobs, key=lambda each: -len(each.file))}
 
     def both(self, launch: Launch, number: int) -> Written:
         """The devicetree of a launch, which two runs agree on."""
@@ -118,9 +126,12 @@ class Program:
         return written(first)
 
 
-def said_by(ran: Ran) -> str:
-    """The last line that a program has said, on standard error or else on standard output."""
-    return last_line((ran.err or ran.out).decode(errors="surrogateescape"))
+def said_by(ran: Ran, copies: dict[str, str]) -> str:
+    """The last line that a program has said, on standard error or else on standard output. A copy's path is the user's there."""
+    said = (ran.err or ran.out).decode(errors="surrogateescape")
+    for copy, path in copies.items():
+        said = said.replace(copy, path)
+    return last_line(said)
 
 
 def read(path: str, name: str) -> bytes:

@@ -105,9 +105,9 @@ class Folder:
         self.digests[name] = hashlib.sha256(data).hexdigest()
         return self.digests[name]
 
-    def put(self, name: str, data: bytes, label: str, origin: str, path: str = "") -> Blob:
-        """Writes a file; `origin` says where its bytes come from."""
-        return Blob(name, path, origin, len(data), label, self.write(name, data))
+    def put(self, name: str, data: bytes, label: str, origin: str, path: str = "", source: str = "") -> Blob:
+        """Writes a file; `origin` says where its bytes come from, and `source` is the digest of what was read at the path."""
+        return Blob(name, path, origin, len(data), label, self.write(name, data), source)
 
     def text(self, name: str, text: str):
         self.write(name, text.encode())

@@ -1,5 +1,5 @@
 """What a launch is made of, as the words say it."""
-from dataclasses import dataclass
+from dataclasses import dataclass, field
 
 from outside.rim import Image
 
@@ -14,7 +14,8 @@ def up(number: int, multiple: int) -> int:
 
 @dataclass(frozen=True)
 class Blob:
-    """A file of the folder that is written: its name there, the path that it was copied from if there is one, and its origin in words."""
+    """A file of the folder that is written: its name there, the path that it was copied from if there is one, its origin in words, what a
+    launch's name calls it, and the digests of the file and of what was read at the path."""
 
     file: str
     path: str
@@ -22,12 +23,13 @@ class Blob:
     length: int
     label: str
     digest: str
+    source: str = ""
 
 
 @dataclass(frozen=True)
 class Kernel(Blob):
-    image: Image
-    how: str  # how its bytes were made of those of the path, or nothing
+    image: Image = field(kw_only=True)
+    how: str = field(kw_only=True)  # how its bytes were made of those of the path, or nothing
 
 
 @dataclass(frozen=True)
@@ -57,7 +59,8 @@ class Processors:
 
 @dataclass(frozen=True)
 class Guest:
-    """A launch, before anything has a place. `has_stub`: whether a boot stub, where the hypervisor has one, is part of the realm."""
+    """A launch, before anything has a place. `has_stub`: whether a boot stub, where the hypervisor has one, is part of the realm;
+    `most_bits`: the greatest width of an IPA that the host allows a realm."""
 
     machine: Word
     cpu: Word
@@ -68,6 +71,7 @@ class Guest:
     append: Word
     algo: str
     has_stub: bool = True
+    most_bits: int = 48
 
     @property
     def initrd_length(self) -> int:

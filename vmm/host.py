@@ -1,4 +1,5 @@
 """The file about a host: what no words say. vmm/host-example.toml explains each key."""
+import os
 import re
 from dataclasses import dataclass, field
 
@@ -19,6 +20,16 @@ UNSAID = "?"
 MOST = 64 << 10
 
 
+def example() -> str:
+    """The path of the example, as it is where this is installed; from the user's folder on where it is below that."""
+    path = os.path.join(os.path.dirname(os.path.realpath(__file__)), "host-example.toml")
+    try:
+        near = os.path.relpath(path)
+    except OSError:
+        return path
+    return path if near.startswith(os.pardir) else near
+
+
 @dataclass(frozen=True)
 class Host:
     path: str
@@ -34,7 +45,7 @@ class Host:
 
     def require(self, key: str, why: str) -> int | str:
         if key not in self.values:
-            raise Fault(f"{self.name}: it has no {key}, expected one {why} (vmm/host-example.toml explains it)")
+            raise Fault(f"{self.name}: it has no {key}, expected one {why} ({visible(example())} explains it)")
         return self.values[key]
 
 

@@ -1,33 +1,34 @@
-"""kvmtool (`lkvm run`) for arm64: the table of its layout, and its words. All of it is remembered, and nothing was tried."""
+"""kvmtool (`lkvm run`) for arm64: the table of its layout, and the values of its words. All is remembered, and nothing was tried."""
 import re
 
 from outside.faults import WrongWords
 from outside.texts import shown
 
-from .guest import KIB, MIB, PAGE, Guest, Memory, Processors, up
+from .guest import KIB, MIB, PAGE, Guest, Memory, Processors, Word, up
+from .hypervisor import Facts
+from .kvmtool_words import GRAMMAR, refuse_before, sort, sort_rest  # noqa: F401, what a hypervisor has
 from .layout import MEMORY, Places, Row
-from .words import ALGORITHMS, Option, Others, Realm, Word, memories, processors, required, size
+from .sorting import Sorted
+from .words import Option, memories, processors, required, size
 
 NAME = "kvmtool"
 TITLE = "kvmtool (lkvm run)"
+USAGE = "(--lkvm PROGRAM | --dtb FILE..) [-- lkvm run WORDS..]"
+PROGRAM = r"lkvm([-.].*)?|kvmtool"
 BASE = 0x8000_0000
-ENDS_AFTER_DUMP = False
-DTB_LENGTH = None
-NO_SEEDS = ""
-GIC_3_WORDS = ""
 DTB_ALIGN = 2 * MIB
-DTB_IS_PAST_INITRD = True
 SOURCE = "kvmtool's sources"
+FACTS = Facts(DTB_ALIGN, adds_boot_words=True)
 
 OPTIONS = [
-    Option(("-c", "--cpus", "--smp"), "smp", "LIST", "numbers of processors. Required: without it lkvm takes the host's", True),
-    Option(("-m", "--mem", "--memory"), "memory", "LIST", "sizes of RAM, a bare number is MiB; or SIZE@ADDRESS, with the address where RAM "
-           "begins. Required: lkvm's default depends on the host", True),
-    Option(("-k", "--kernel"), "kernel", "FILE", "an arm64 Image. Required", True),
-    Option(("-i", "--initrd"), "initrd", "FILE", "an initrd", True),
-    Option(("-p", "--params", "--append"), "append", "TEXT", "a command line of the kernel", True),
+    Option(("-c", "--cpus", "--smp", "--each-smp"), "smp", "LIST", "numbers of processors. Required: without it lkvm takes the host's", True),
+    Option(("-m", "--mem", "--memory", "--each-memory"), "memory", "LIST", "sizes of RAM, a bare number is MiB; or SIZE@ADDRESS, with the "
+           "address where RAM begins. Required: lkvm's default depends on the host", True),
+    Option(("-k", "--kernel", "--each-kernel"), "kernel", "[NAME=]FILE", "an arm64 Image. Required", True),
+    Option(("-i", "--initrd", "--each-initrd"), "initrd", "[NAME=]FILE", "an initrd", True),
+    Option(("-p", "--params", "--append", "--each-append"), "append", "TEXT", "a command line of the kernel", True),
     Option(("--lkvm",), "program", "PROGRAM", "lkvm itself, which makes the devicetrees: each by the final words with --dump-dtb, twice. "
-           "What comes after `--` is given to it too; what may open a file is refused"),
+           "What may open a file of a guest's is not given to it, and then the devicetree has to be handed in"),
 ]
 
 
@@ -42,6 +43,10 @@ def ram(guest: Guest, places: Places) -> list[tuple[int, int]]:
 def dtb(guest: Guest, places: Places) -> int:
     limit = base(guest) + min(guest.memory.size, 256 * MIB)
     return up(limit - 2 * MIB - 64 * KIB, 2 * MIB)
+
+
+def s2sz(guest: Guest, places: Places) -> int:
+    return min(max(32, (places.ram[-1][1] - 1).bit_length()) + 1, guest.most_bits)
 
 
 TABLE = [
@@ -61,11 +66,11 @@ TABLE = [
     Row("recs", "the first processor is runnable; the others begin off and are turned on by PSCI", None, SOURCE, MEMORY),
     Row("order", "RAM, then what is placed by rising address, then the RECs", None, SOURCE, MEMORY),
     Row("s2sz", "the bits of RAM's last address, at least 32, and one more for the shared half of a realm",
-        lambda guest, places: max(32, (places.ram[-1][1] - 1).bit_length()) + 1, "Linux, arm-cca.rst has the example of 33 bits", MEMORY),
+        s2sz, "Linux, arm-cca.rst has the example of 33 bits", MEMORY),
 ]
 
 
-def read_machine(said: dict, most: int):
+def read_machine(said: dict) -> list[Word]:
     return [Word("", "")]
 
 
@@ -90,46 +95,7 @@ def read_memory(said: dict) -> list[Memory]:
     return memories("--mem", required(said, "memory", "--mem", "sizes of RAM: lkvm's default depends on the host"), read, lambda key: False)
 
 
-# Words that may change the devicetree and open no file of a guest's: whether they take a value.
-KEPT = {"--realm": False, "--measurement-algo": True, "--realm-pv": True, "--restricted_mem": False, "--sve-vl": True, "--irqchip": True,
-        "--pmu": False, "--force-pci": False, "--virtio-legacy": False, "--virtio-transport": True, "--no-pvtime": False,
-        "--nodefaults": False, "--debug": False, "--loglevel": True}
-
-
-def read_rest(words: list[str]) -> Others:
-    """The words after `--`. lkvm starts the guest for a dump, so no word is taken that may open a disk or a socket of another one."""
-    taken = {name for option in OPTIONS for name in option.names} | {"--dump-dtb", "-f", "--firmware", "--flash"}
-    others, left = Others(), list(words)
-    while left:
-        word = left.pop(0)
-        name, equals, value = word.partition("=")
-        if name in taken:
-            raise WrongWords(f"{word}: after `--` it would change what the table places, expected it before `--` or not at all")
-        if name not in KEPT:
-            raise WrongWords(f"{shown(word)}: what it opens, and what it changes in the devicetree, is not known, expected no such word, "
-                             "or --dtb with the devicetree")
-        if KEPT[name] and not equals and not left:
-            raise WrongWords(f"{word}: nothing is given, expected a value")
-        given = [word, left.pop(0)] if KEPT[name] and not equals else [word]
-        others.kept += given
-        if name in ("--realm", "--measurement-algo"):
-            others.realm = realm_of(others.realm, name, value or given[-1])
-    return others
-
-
-def realm_of(before: Realm | None, name: str, value: str) -> Realm:
-    algorithm = value if name == "--measurement-algo" else before and before.algorithm
-    if algorithm is not None and algorithm not in ALGORITHMS:
-        raise WrongWords(f"{name}: {shown(value)}, expected {' or '.join(ALGORITHMS)}")
-    return Realm(name, algorithm=algorithm)
-
-
-def refuse_before(words: list[str]):
-    if words[0].partition("=")[0] in KEPT:
-        raise WrongWords(f"{shown(words[0])}: rim-manifest makes no launch of it, expected it after `--`")
-
-
-def check_realm(machine: str, others: Others):
+def check_realm(machine: str, others: Sorted):
     """No word of the machine names the realm."""
 
 
@@ -149,7 +115,7 @@ def dump_words(guest: Guest, path: str) -> list[str]:
     return ["run", *final_words(guest)[1:], "--dump-dtb", path]
 
 
-def final_words(guest: Guest, more: str = "") -> list[str]:
+def final_words(guest: Guest) -> list[str]:
     return ["run", "--cpus", guest.smp.words, "--mem", guest.memory.words]
 
 

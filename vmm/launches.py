@@ -1,11 +1,10 @@
 """A launch for each combination, with a name that says it, and groups of launches for each manifest."""
 import math
-import re
 from dataclasses import dataclass
 
 from outside.faults import Fault
 
-from . import layout
+from . import layout, names
 from .guest import PAGE, Blob, Guest, Kernel, up
 from .layout import Places
 
@@ -32,38 +31,26 @@ class Launch:
         return [blob for blob in (self.guest.kernel, self.guest.initrd, self.tree, self.stub) if blob]
 
 
-def combinations(lists: dict, has_stub: bool) -> list[Guest]:
+def combinations(lists: dict, has_stub: bool, most_bits: int) -> list[Guest]:
     """A guest for each combination. Those that share a devicetree are neighbours."""
     count = math.prod(len(values) for values in lists.values())
     if count > MOST_COMBINATIONS:
         raise Fault(f"the words have {count} combinations, expected at most {MOST_COMBINATIONS}")
-    return [Guest(machine, cpu, memory, smp, kernel, initrd, append, algo, has_stub)
+    return [Guest(machine, cpu, memory, smp, kernel, initrd, append, algo, has_stub, most_bits)
             for machine in lists["machine"] for cpu in lists["cpu"] for memory in lists["memory"] for smp in lists["smp"]
             for append in lists["append"] for initrd in lists["initrd"] for kernel in lists["kernel"] for algo in lists["algo"]]
 
 
-def name_of(guest: Guest, lists: dict) -> str:
-    """RAM, processors and algorithm always; of all else what there are several of."""
-    parts = []
-    for key, label in (("machine", guest.machine.label), ("cpu", guest.cpu.label), ("memory", guest.memory.label), ("smp", guest.smp.label),
-                       ("kernel", guest.kernel.label), ("initrd", guest.initrd.label if guest.initrd else "no-initrd"),
-                       ("append", guest.append.label), ("algo", guest.algo)):
-        if key in ("memory", "smp", "algo") or len(lists[key]) > 1:
-            parts.append(label)
-    return "-".join(parts)
-
-
-def named(guests: list[Guest], lists: dict, table: list) -> list[Launch]:
+def named(guests: list[Guest], lists: dict, table: list, is_short: bool) -> list[Launch]:
     """The launches of some guests. No two have one name, and none has a name that a manifest does not take."""
+    several = {key for key, values in lists.items() if len(values) > 1}
     found: dict[str, Launch] = {}
     for guest in guests:
-        name = name_of(guest, lists)
+        name = names.name_of(guest, several, is_short)
         if name in found:
             raise Fault(f"launch {name}: two combinations have this name, expected each value of a list once")
-        if len(name) > 64:
-            raise Fault(f"launch {name}: its name has {len(name)} characters, expected at most 64: give the files shorter names")
-        if not re.fullmatch(r"[A-Za-z0-9._-]+", name):
-            raise Fault(f"launch {name}: its name has a character other than letters, digits, `.`, `_` and `-`")
+        if len(name) > names.MOST:
+            raise Fault(f"launch {name}: its name has {len(name)} characters, expected at most {names.MOST}: give the files shorter names")
         found[name] = Launch(name, guest, layout.places(table, guest))
     return list(found.values())
 

@@ -1,35 +1,36 @@
 """The order of the work: words, files, places, devicetrees, checks, manifests."""
+import hashlib
 import os
 import shutil
 import sys
-from dataclasses import replace
+from collections.abc import Callable
 
 from outside import ending, files, programs
 from outside.faults import Fault, WrongWords
-from outside.rim import Rim
+from outside.rim import REPORT, Rim
 from outside.texts import shown, visible
 
-from . import checks, cloud_hypervisor, dumps, host, image, kvmtool, launches, layout, manifest, qemu, words
+from . import asked, checks, dumps, host, image, launches, layout, manifest, measure, names, sorting, words
+from .asked import Asked
 from .folder import Folder
-from .guest import PAGE, Blob, Word, up
+from .guest import PAGE, Blob, up
+from .hypervisor import Hypervisor
+from .hypervisors import ALL, HYPERVISORS
 from .launches import Launch
 
 VERSION = "0.2.0"
-# How long a file of command lines may be: each is a launch, of which a manifest takes 1,024.
-MOST_LINES = 4 << 20
-HYPERVISORS = {each.NAME: each for each in (qemu, kvmtool, cloud_hypervisor)}
-
-ABOUT = """rim-manifest: from a hypervisor's words to a manifest of rim
-
-usage: rim-manifest qemu WORDS.. --host FILE --out DIR (--qemu PROGRAM | --dtb FILE..) [-- OTHER WORDS OF QEMU..]
-       rim-manifest kvmtool WORDS.. --host FILE --out DIR (--lkvm PROGRAM | --dtb FILE..) [-- OTHER WORDS OF LKVM..]
-       rim-manifest cloud-hypervisor WORDS.. --host FILE --out DIR --dtb FILE..
-       rim-manifest HYPERVISOR --help | --rules
-       rim-manifest --help | --version
-"""
+COMMON_USE = "WORDS.. --host FILE (--out DIR | --measure)"
+ABOUT = "rim-manifest: from a hypervisor's words to a manifest of rim\n\nusage: " + "\n       ".join(
+    [f"rim-manifest {each.NAME} {COMMON_USE} {each.USAGE}" for each in ALL]
+    + ["rim-manifest HYPERVISOR --explain [--line FILE] [-- WORDS..]", "rim-manifest HYPERVISOR --help | --rules",
+       "rim-manifest --help | --version"]) + "\n"
 LISTS = """
+A hypervisor's command line comes after `--`, its program first, or is read of a file by --line. It is one launch. What it says, an
+option before it may say in its place: --each-smp 1,2,4 or --each-kernel NAME=FILE, and the same by other names.
+
 An option marked [list] may be given more than once. Where it says LIST, commas part values too. There is a launch for each
-combination. Its name has RAM, processors and the algorithm, and of all else what there are several of.
+combination. Its name has RAM, processors, kernel, initrd, command line and algorithm, and machine and processor model where there are
+several of them. A kernel or an initrd is called NAME where NAME=FILE says so, else as its file is.
 
 `-append` and its like take a text; --append-file takes a file with one command line a line.
 
@@ -39,17 +40,16 @@ the reports; and record.json, which says the words of each launch, and the diges
 
 Kernels and devicetrees are read by `rim`: the program that the variable RIM names, or `rim` beside this script or of the PATH.
 
-Status: 0 done, 2 wrong words, 3 a fault. A fault is a line on standard error, and then nothing is written.
+Status: 0 done, 1 a launch is refused by --measure, 2 wrong words, 3 a fault. A fault is a line on standard error, and then nothing is written.
 """
 
 
-def options_of(vmm) -> list[words.Option]:
+def options_of(vmm: Hypervisor) -> list[words.Option]:
     return vmm.OPTIONS + words.COMMON
 
 
-def help_of(vmm) -> str:
-    usage = next(line for line in ABOUT.splitlines() if f"rim-manifest {vmm.NAME} " in line).replace("usage:", "").strip()
-    return f"usage: {usage}\n\n{vmm.TITLE}\n\n{words.help_of(options_of(vmm))}\n{LISTS}"
+def help_of(vmm: Hypervisor) -> str:
+    return f"usage: rim-manifest {vmm.NAME} {COMMON_USE} {vmm.USAGE}\n\n{vmm.TITLE}\n\n{words.help_of(options_of(vmm))}\n{LISTS}"
 
 
 def choices(said: dict, has_stub: bool | None) -> manifest.Choices:
@@ -61,54 +61,24 @@ def choices(said: dict, has_stub: bool | None) -> manifest.Choices:
                             words.choice(said, "dtb_pages", "--dtb-pages", ("whole", "used")), has_stub)
 
 
-def command_lines(said: dict) -> list[str]:
-    """The command lines of `-append` and of the files."""
-    texts = list(said.get("append", []))
-    for path in said.get("append_file", []):
-        what = "command lines, one a line"
-        lines = [line for line in files.text_of(path, files.read(path, MOST_LINES, what), what).split("\n") if line]
-        if not lines:
-            raise Fault(f"{visible(path)}: it has no command line, expected one a line")
-        texts += lines
-    return texts or [""]
-
-
-def label_length(said: dict) -> int:
-    """How long the labels of files and models may be, so that names of launches don't get too long."""
-    several = sum(len(said.get(key, [])) + ("no_initrd" in said and key == "initrd") > 1 for key in ("machine", "cpu", "kernel", "initrd"))
-    return {0: 32, 1: 32, 2: 16}.get(several, 8)
-
-
-def blobs(made: Folder, rim: Rim, vmm, said: dict, version: str) -> dict[str, list]:
+def blobs(made: Folder, rim: Rim, vmm: Hypervisor, paths: dict[str, list[tuple[str, str]]], version: str) -> dict[str, list]:
     """Kernels and initrds, copied into the folder."""
-    found: dict[str, list] = {"kernel": [], "initrd": []}
-    for key in found:
-        paths = said.get(key, [])
-        labels = [each.label for each in words.labelled([os.path.basename(path) for path in paths], key, label_length(said))]
-        for path, label in zip(paths, labels):
-            name = key if len(paths) == 1 else f"{key}-{label}"
-            if key == "kernel":
-                found[key].append(image.kernel(made, rim, path, label, name, vmm, version))
-            else:
-                found[key].append(image.initrd(made, path, label, name))
-    if "no_initrd" in said or not found["initrd"]:
-        found["initrd"].append(None)
+    def named(key: str) -> list[tuple[str, str, str]]:
+        several = len(paths[key]) > 1
+        return [(path, label, f"{key}-{names.short(label, names.MOST_FILE)}" if several else key) for label, path in paths[key]]
+
+    found: dict[str, list] = {"kernel": [image.kernel(made, rim, path, label, name, vmm, version) for path, label, name in named("kernel")]}
+    found["initrd"] = [image.initrd(made, path, label, name) for path, label, name in named("initrd")]
     return found
 
 
-def set_width(vmm, launch: Launch, said: dict, about_host: host.Host):
-    """The width of an IPA: what is said, or what the rule gives and the host allows."""
-    places, most = launch.places, int(about_host["s2sz_max"] or 48)
+def set_width(launch: Launch, said: dict, most: int, source: str):
+    """The width of an IPA: what is said, or what the rule gives for the host."""
+    places = launch.places
     if "s2sz" in said:
         places.s2sz, places.width_from = words.number("--s2sz", said["s2sz"], 32, 48), "--s2sz"
-        if places.s2sz > most:
-            raise Fault(f"--s2sz: {places.s2sz}, expected at most {most}, s2sz_max of {about_host.name}")
-    elif vmm is cloud_hypervisor:
-        places.s2sz = int(about_host.require("s2sz_max", "since cloud-hypervisor takes the host's width"))
-    elif places.s2sz is None:
-        raise Fault(f"launch {launch.name}: no rule gives the width of an IPA for these words, expected --s2sz")
-    elif most < places.s2sz:
-        places.s2sz, places.width_from = most, f"s2sz_max of the host or 48, and {places.s2sz} by rule s2sz"
+    if places.s2sz > most:
+        raise Fault(f"{places.width_from}: {places.s2sz}, expected at most {most}, {source}")
 
 
 def tree_blob(made: Folder, launch: Launch, dump: dumps.Dump, pages: str, known: dict[tuple, Blob], is_handed_in: bool) -> Blob:
@@ -121,11 +91,12 @@ def tree_blob(made: Folder, launch: Launch, dump: dumps.Dump, pages: str, known:
     if key not in known:
         name = f"dtb-{len(known) + 1}"
         origin = f"copied from \"{dump.path}\"" if is_handed_in else f"made for launch {launch.name}"
-        known[key] = made.put(name, data, name, origin)
+        source = hashlib.sha256(dump.data).hexdigest()
+        known[key] = made.put(name, data, name, origin, dump.source if is_handed_in else "", source)
     return known[key]
 
 
-def checked(vmm, found: list[Launch], trees: dict[str, dumps.Dump], about_host: host.Host, is_handed_in: bool):
+def checked(vmm: Hypervisor, found: list[Launch], trees: dict[str, dumps.Dump], about_host: host.Host, is_handed_in: bool):
     """The five checks of each launch."""
     wrong = {launch.name: checks.all_of(vmm, launch, trees[launch.name], bool(about_host["pmu"])) for launch in found}
     paths = {launch.name: trees[launch.name].path for launch in found} if is_handed_in else {}
@@ -133,81 +104,69 @@ def checked(vmm, found: list[Launch], trees: dict[str, dumps.Dump], about_host: 
         raise Fault(*lines)
 
 
-def algorithms(said: dict, realm: words.Realm | None) -> list[str]:
-    """The hash algorithms: those of --algo, which the words of the realm may say too."""
-    if realm is None:
-        return words.algorithms(said.get("algo", ["sha256"]))
-    if realm.algorithm is None:
-        return words.algorithms(words.required(said, "algo", "--algo", f"one, since {realm.source} says none: what a realm then has is not "
-                                               "known"))
-    given = words.algorithms(said.get("algo", [realm.algorithm]))
-    if given != [realm.algorithm]:
-        raise WrongWords(f"--algo: {shown(','.join(given))}, expected {realm.algorithm}, which {realm.source} says")
-    return given
+def record_of(vmm: Hypervisor, groups: list[tuple[str, launches.Group]], program_line: str, what: Asked) -> dict[str, object]:
+    """What the record says: the command line, where each file is of, and each launch."""
+    blobs_ = {blob.file: blob for _, group in groups for launch in group.launches for blob in launch.files if blob.path}
+    return {"hypervisor": vmm.NAME, "program": program_line, "line": what.line and what.line.words,
+            "sources": {name: {"path": blob.path, "sha256": blob.source} for name, blob in blobs_.items()}, "launches": [
+                {"name": launch.name, "manifest": name, "words": vmm.final_words(launch.guest), "kernel": launch.guest.kernel.file,
+                 "initrd": launch.guest.initrd and launch.guest.initrd.file, "append": launch.guest.append.text, "rest": what.others.kept,
+                 "dropped": what.others.dropped}
+                for name, group in groups for launch in group.launches]}
 
 
-def of_realm(about_host: host.Host, realm: words.Realm | None) -> host.Host:
-    """The host with the personalization value that the words of the realm say."""
-    value, has = realm and realm.personalization, about_host["rpv"]
-    if realm is None or value is None or has == value:
-        return about_host
-    if has is not None and str(has).lower() != value:
-        raise Fault(f"{about_host.name}: rpv = {shown(str(has))}, expected that of {realm.source}, {shown(value)}, or none")
-    return replace(about_host, values=about_host.values | {"rpv": value}, notes={"rpv": realm.source})
-
-
-def check_features(vmm, cpus: list[Word], about_host: host.Host):
-    """What the words of a processor switch on or off, the host's file has to have on or off too."""
-    wrong = {}
-    for cpu in cpus:
-        for key, is_on in vmm.features(cpu.text).items():
-            if about_host[key] != is_on:
-                wrong[key] = (f"-cpu: {shown(cpu.text)}, and {about_host.name} has {key} = {host.value_shown(about_host[key])}, "
-                              f"expected {key} = {host.value_shown(is_on)} there, or another processor")
-    if wrong:
-        raise Fault(*wrong.values())
-
-
-def record_of(vmm, groups: list[tuple[str, launches.Group]], program_line: str, others: words.Others) -> dict[str, object]:
-    return {"hypervisor": vmm.NAME, "program": program_line, "launches": [
-        {"name": launch.name, "manifest": name, "words": vmm.final_words(launch.guest), "kernel": launch.guest.kernel.file,
-         "initrd": launch.guest.initrd and launch.guest.initrd.file, "append": launch.guest.append.text, "rest": others.kept,
-         "dropped": others.dropped}
-        for name, group in groups for launch in group.launches]}
+def first_faults(*steps: Callable[[], object]):
+    """Does some steps, and raises the wrong words of all of them at once."""
+    found: list[str] = []
+    for step in steps:
+        try:
+            step()
+        except WrongWords as why:
+            found += why.lines
+    if found:
+        raise WrongWords(*found)
 
 
 class Work:
-    """One run: the words, the host, and the folder that is being made."""
+    """One run: what is asked for, the host, and the folder that is being made."""
 
-    def __init__(self, vmm, said: dict, all_words: list[str]):
-        self.vmm, self.said, self.words = vmm, said, all_words
-        words.required(said, "kernel", kernel_names(vmm), "a kernel")
+    def __init__(self, vmm: Hypervisor, what: Asked, all_words: list[str]):
+        self.vmm, self.what, self.said, self.words = vmm, what, what.said, all_words
+        self.lists: dict[str, list] = {}
+        first_faults(what.others.raise_faults, self.read_values)
+        self.paths = asked.paths(vmm, what)
+        said, others = self.said, what.others
         knows_stub = any(row.name == "stub" for row in vmm.TABLE)
         self.choices = choices(said, words.choice(said, "stub", "--stub", ("measured", "none")) == "measured" if knows_stub else None)
-        length = label_length(said)
-        self.lists = {"machine": vmm.read_machine(said, length), "cpu": vmm.read_cpu(said, length), "smp": vmm.read_smp(said),
-                      "memory": vmm.read_memory(said)}
-        self.others = vmm.read_rest(said["rest"])
-        for machine in self.lists["machine"]:
-            vmm.check_realm(machine.text, self.others)
-        self.lists["algo"] = algorithms(said, self.others.realm)
-        if len(self.lists["machine"]) > 1:
-            count = len(self.lists["machine"])
-            ending.say("rim-manifest", f"warning: -machine has {count} machines: there are launches for each, where QEMU would make one of them")
-        if ("program" in said) == ("dtb" in said):
-            given = "both are" if "program" in said else "neither is"
-            raise WrongWords(f"{source_names(vmm)}: {given} given, expected one of them for the devicetrees")
+        self.lists["algo"] = asked.algorithms(said, others.realm)
+        ending.say("rim-manifest", *(f"warning: {each}" for each in asked.warnings(vmm, what, self.lists["machine"])))
+        self.check_source()
         if "s2sz" in said:
             words.number("--s2sz", said["s2sz"], 32, 48)
-        self.out = words.required(said, "out", "--out", "the folder that is written")
-        if not self.out:
-            raise WrongWords(f"--out: {shown(self.out)}, expected the folder that is written")
-        path = words.required(said, "host", "--host", "the file that says what only the machine knows: vmm/host-example.toml")
-        self.host = of_realm(host.read(path), self.others.realm)
-        check_features(vmm, self.lists["cpu"], self.host)
-        self.lists["append"] = words.appends("--append", command_lines(said))
+        self.out = said["out"]
+        path = words.required(said, "host", "--host", f"the file that says what only the machine knows: {host.example()}")
+        self.host = asked.of_realm(host.read(path), others.realm)
+        asked.check_features(vmm, self.lists["cpu"], self.host)
+        self.lists["append"] = words.appends("--append", asked.command_lines(said))
         self.program_line, self.version = "", str(self.host["hypervisor_version"] or "")
         self.rim = Rim("")
+
+    def read_values(self):
+        """Reads the values of the words, and refuses those that do not fit."""
+        words.required(self.said, "kernel", option_names(self.vmm, "kernel"), "a kernel")
+        self.lists = asked.values(self.vmm, self.what)
+        for machine in self.lists["machine"] if not self.what.others.faults else ():
+            self.vmm.check_realm(machine.text, self.what.others)
+
+    def check_source(self):
+        """Devicetrees are made or handed in, and not made where that would open what a guest has."""
+        if ("program" in self.said) == ("dtb" in self.said):
+            given = "both are" if "program" in self.said else "neither is"
+            raise WrongWords(f"{source_names(self.vmm)}: {given} given, expected one of them for the devicetrees")
+        if "program" in self.said and self.what.others.opens:
+            opens = sorting.listed([shown(str(each)) for each in self.what.others.opens])
+            raise WrongWords(f"{opens}: in the devicetree, and making one would open what a guest has open, expected --dtb with the "
+                             "devicetree")
 
     def find_programs(self):
         """Finds `rim`, and looks at the version of the hypervisor's program, which has to be the one that is deployed."""
@@ -224,12 +183,19 @@ class Work:
         self.version = version
 
     def launches(self, made: Folder) -> list[Launch]:
-        self.lists |= blobs(made, self.rim, self.vmm, self.said, self.version)
+        self.lists |= blobs(made, self.rim, self.vmm, self.paths, self.version)
+        if "no_initrd" in self.said or not self.lists["initrd"]:
+            self.lists["initrd"].append(None)
         if any(each.count > 1 for each in self.lists["smp"]):
             self.host.require("rec_rule", "since there are processors that begin off, and it says whether they are measured")
-        found = launches.named(launches.combinations(self.lists, bool(self.choices.has_stub)), self.lists, self.vmm.TABLE)
+        for key, why in self.vmm.FACTS.host_needs.items():
+            if "s2sz" not in self.said:
+                self.host.require(key, why)
+        most = int(self.host["s2sz_max"] or 48)
+        guests = launches.combinations(self.lists, bool(self.choices.has_stub), most)
+        found = launches.named(guests, self.lists, self.vmm.TABLE, "short_names" in self.said)
         for launch in found:
-            set_width(self.vmm, launch, self.said, self.host)
+            set_width(launch, self.said, most, f"s2sz_max of {self.host.name}")
         return found
 
     def trees(self, made: Folder, found: list[Launch]) -> dict[str, dumps.Dump]:
@@ -239,7 +205,7 @@ class Work:
         with files.folder("rim-manifest.") as scratch:
             reader = dumps.Reader(self.rim, scratch)
             if "program" in self.said:
-                return dumps.made(dumps.Program(self.vmm, self.said["program"], self.others.kept, made.path), reader, found)
+                return dumps.made(dumps.Program(self.vmm, self.said["program"], self.what.others.kept, made.path), reader, found)
             return dumps.handed_in(self.said["dtb"], reader, found, differences)
 
     def place_files(self, made: Folder, found: list[Launch], trees: dict[str, dumps.Dump]):
@@ -255,7 +221,8 @@ class Work:
 
     def made_by(self) -> str:
         if "program" in self.said:
-            among = ", dtb-randomness=off among them" if self.vmm is qemu else ""
+            seeds = self.vmm.FACTS.no_seeds
+            among = f", {seeds} among them" if seeds else ""
             return (f"The devicetrees were made by {shown(self.program_line)}, twice each. Another version makes others, so start guests "
                     f"by this one, and by the words of the launch{among}.")
         return "The devicetrees were handed in by --dtb and are placed as they are."
@@ -268,24 +235,93 @@ class Work:
         self.place_files(made, found, trees)
         different = {(each.packed, each.length): each.tree for each in trees.values()}
         warnings = checks.warnings(list(different.values()))
-        about = manifest.About(self.vmm, self.words, self.host, self.choices, self.made_by(), warnings)
+        line = self.what.line.words if self.what.line and not self.what.line.program else []
+        about = manifest.About(self.vmm, self.words, line, self.host, self.choices, self.made_by(), warnings)
         groups = launches.groups(found)
-        names = ["manifest.toml"] if len(groups) == 1 else [f"manifest-{number}.toml" for number in range(1, len(groups) + 1)]
-        for number, (name, group) in enumerate(zip(names, groups), 1):
+        manifests = ["manifest.toml"] if len(groups) == 1 else [f"manifest-{number}.toml" for number in range(1, len(groups) + 1)]
+        for number, (name, group) in enumerate(zip(manifests, groups), 1):
             part = f", part {number} of {len(groups)}" if len(groups) > 1 else ""
             made.text(name, manifest.manifest(group, about, part))
         made.script("measure", os.path.join(os.path.dirname(os.path.realpath(__file__)), "measure.py"))
         ending.say("rim-manifest", *(f"warning: {warning}" for warning in warnings))
-        lines = [f"{visible(os.path.join(self.out, name))}: {group}" for name, group in zip(names, groups)]
-        return lines, record_of(self.vmm, list(zip(names, groups)), self.program_line, self.others)
+        lines = [f"{visible(os.path.join(self.out, name))}: {group}" for name, group in zip(manifests, groups)]
+        return lines, record_of(self.vmm, list(zip(manifests, groups)), self.program_line, self.what)
+
+    def measured(self) -> int:
+        """Measures the launches, and prints the report; the status is that of `rim measure`."""
+        reports, statuses = [], []
+        for name in measure.manifests(self.out):
+            ran = programs.run([self.rim.path, "measure", name, *(["--json"] if "json" in self.said else [])], REPORT, self.out)
+            if ran.status not in (0, 1):
+                raise Fault(f"{visible(os.path.join(self.out, name))}: {ran.said.removeprefix('rim: ')}, expected a manifest that is measured")
+            reports.append(ran.out)
+            statuses.append(ran.status)
+        print(measure.joined(reports, "json" in self.said).decode(), end="", flush=True)
+        return max(statuses)
 
 
-def kernel_names(vmm) -> str:
-    return next(", ".join(option.names) for option in vmm.OPTIONS if option.key == "kernel")
+def option_names(vmm: Hypervisor, key: str) -> str:
+    return next(", ".join(option.names) for option in vmm.OPTIONS if option.key == key)
 
 
-def source_names(vmm) -> str:
+def source_names(vmm: Hypervisor) -> str:
     return " and ".join([name for option in vmm.OPTIONS if option.key == "program" for name in option.names] + ["--dtb"])
+
+
+def explain(vmm: Hypervisor, what: Asked) -> int:
+    """Prints what each word of a command line does, and refuses those that a launch cannot be made of."""
+    print("".join(f"{effect.value:<9} {text}\n{'':<10}{why}\n" for text, effect, why in what.others.explained()), end="", flush=True)
+    first_faults(what.others.raise_faults, lambda: asked.values(vmm, what))
+    return 0
+
+
+def go_to(folder: str):
+    """Has all paths read as from a folder; that of `rim` is one of where it was started."""
+    if os.sep in os.environ.get("RIM", ""):
+        os.environ["RIM"] = os.path.abspath(os.environ["RIM"])
+    sys.argv[0] = os.path.realpath(sys.argv[0])
+    with files.faults_of(folder, "a folder"):
+        os.chdir(folder)
+
+
+def do(vmm: Hypervisor, what: Asked, all_words: list[str]) -> int:
+    """Writes the folder, and measures it where that is asked for."""
+    work = Work(vmm, what, all_words)
+    made = Folder(work.out, "force" in what.said)
+    try:
+        made.begin()
+        work.find_programs()
+        lines, record = work.write(made)
+        # the lines come first: where they cannot be written, there is no folder either
+        if "measure" not in what.said:
+            print("\n".join(lines), flush=True)
+        made.finish(record)
+    finally:
+        made.drop()
+    return work.measured() if "measure" in what.said else 0
+
+
+def of_hypervisor(vmm: Hypervisor, all_words: list[str]) -> int:
+    said = words.parse(options_of(vmm), all_words[1:], vmm.refuse_before)
+    if "help" in said or "rules" in said:
+        print(help_of(vmm) if "help" in said else layout.shown(vmm.TABLE) + "\n\n" + sorting.shown_table(vmm.GRAMMAR.table))
+        return 0
+    if "folder" in said:
+        go_to(said["folder"])
+    what = asked.asked(vmm, said)
+    if "explain" in said:
+        return explain(vmm, what)
+    if "json" in said and "measure" not in said:
+        raise WrongWords("--json: it is of the report, expected --measure too")
+    if said.get("out") == "":
+        raise WrongWords('--out: "", expected the folder that is written')
+    every = ["rim-manifest", *all_words]
+    if "out" in said or "measure" not in said:
+        words.required(said, "out", "--out", "the folder that is written, or --measure")
+        return do(vmm, what, every)
+    with files.folder("rim-manifest.") as scratch:
+        what.said["out"] = os.path.join(scratch, "realms")
+        return do(vmm, what, every)
 
 
 def run(all_words: list[str]) -> int:
@@ -297,23 +333,7 @@ def run(all_words: list[str]) -> int:
         return 0
     if all_words[0] not in HYPERVISORS:
         raise WrongWords(f"{shown(all_words[0])}, expected {', '.join(HYPERVISORS)} or --help")
-    vmm = HYPERVISORS[all_words[0]]
-    said = words.parse(options_of(vmm), all_words[1:], vmm.refuse_before)
-    if "help" in said or "rules" in said:
-        print(help_of(vmm) if "help" in said else layout.shown(vmm.TABLE))
-        return 0
-    work = Work(vmm, said, ["rim-manifest", *all_words])
-    made = Folder(work.out, "force" in said)
-    try:
-        made.begin()
-        work.find_programs()
-        lines, record = work.write(made)
-        # the lines come first: where they cannot be written, there is no folder either
-        print("\n".join(lines), flush=True)
-        made.finish(record)
-    finally:
-        made.drop()
-    return 0
+    return of_hypervisor(HYPERVISORS[all_words[0]], all_words)
 
 
 def main(all_words: list[str]) -> int:

@@ -5,6 +5,7 @@ from dataclasses import dataclass
 
 from .guest import Blob, Kernel
 from .host import Host
+from .hypervisor import Hypervisor
 from .launches import Group, Launch
 
 WIDTH = 140
@@ -27,8 +28,9 @@ class Choices:
 class About:
     """What all manifests of a folder share."""
 
-    vmm: object
+    vmm: Hypervisor
     words: list[str]
+    line: list[str]         # the command line, where the words only name its file
     host: Host
     choices: Choices
     made_by: str            # where the devicetrees come from
@@ -63,6 +65,7 @@ def head(about: About, part: str) -> str:
     vmm = about.vmm
     lines = [f"Launches of {vmm.TITLE}{part}. rim-manifest has made this of the words", "  " + shown(about.words), about.made_by,
              f"The numbers marked `host` are those of {shown([about.host.path])}."]
+    lines[2:2] = ["by the command line", "  " + shown(about.line)] if about.line else []
     lines += ["Warning: " + each for each in about.warnings]
     lines += ["A path is relative to this folder: start rim here, or the script `measure` beside this file from anywhere.", "",
               "No realm that ran was yet compared with this table of places. What a realm may do otherwise is chosen here:"]
@@ -95,6 +98,8 @@ def file(blob: Blob) -> str:
     if isinstance(blob, Kernel):
         about += f"; text_offset {blob.image.text_offset:#x}, image_size {blob.image.image_size:#x}"
         about += f"; {blob.how}" if blob.how else ""
+    if blob.source not in ("", blob.digest):
+        about += f"; what was copied has sha256 {blob.source}"
     return f"\n[[file]]\n{comment(blob.origin)}{comment(about)}name = {text(blob.file)}\npath = {text(blob.file)}\n"
 
 
@@ -138,7 +143,7 @@ def host_lines(host: Host) -> str:
     return "".join(noted(f"{key} = {value}", host.notes.get(key, "host")) for key, value in lines.items())
 
 
-def said(launch: Launch, vmm) -> str:
+def said(launch: Launch, vmm: Hypervisor) -> str:
     """The words of a launch, as a comment."""
     guest = launch.guest
     words = vmm.final_words(guest) + vmm.load_words(guest.kernel.path, guest.initrd.path if guest.initrd else "", guest.append.text)

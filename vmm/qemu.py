@@ -1,40 +1,50 @@
-"""QEMU's machine `virt`, started with -kernel: the table of its layout, and its words."""
+"""QEMU's machine `virt`, started with -kernel: the table of its layout, and the values of its words."""
+import math
 import re
 
-from outside.faults import WrongWords
+from outside.faults import Fault, WrongWords
 from outside.texts import shown
 
-from .guest import GIB, MIB, PAGE, Guest, Memory, Processors, up
+from .guest import GIB, MIB, PAGE, Guest, Memory, Processors, Word, up
+from .hypervisor import Facts
 from .layout import MEMORY, SEEN, SOURCE, Places, Row
-from .qemu_words import OFF, parts, read_rest, refuse_before, refuse_machine_words  # noqa: F401, as main calls two of them by this module
-from .words import Option, Others, labelled, memories, processors, required, size
+from .names import labelled
+from .qemu_words import GRAMMAR, OFF, ON, parts, refuse_before, refuse_machine_words, sort, sort_rest  # noqa: F401, what a hypervisor has
+from .sorting import Sorted
+from .words import Option, memories, number, processors, required, size
 
 NAME = "qemu"
 TITLE = "QEMU, machine virt"
+USAGE = "(--qemu PROGRAM | --dtb FILE..) [-- qemu-system-aarch64 WORDS..]"
+PROGRAM = r"qemu-system-aarch64([-.].*)?|qemu-kvm([-.].*)?"
 BASE = 0x4000_0000
-ENDS_AFTER_DUMP = True
-DTB_LENGTH = MIB
-NO_SEEDS = " (dtb-randomness=off)"
-GIC_3_WORDS = " (gic-version=3)"
 DTB_ALIGN = 2 * MIB
-DTB_IS_PAST_INITRD = True
 BOOT = "hw/arm/boot.c of QEMU 7.2, 10.0 and 10.2"
 VIRT = "hw/arm/virt.c of QEMU 7.2, 10.0 and 10.2"
+FACTS = Facts(DTB_ALIGN, ends_after_dump=True, dtb_length=MIB, no_seeds="dtb-randomness=off", gic_3="gic-version=3", unpacks_gzip=True,
+              zboot={"gzip": (10, 0), "zstd": (11, 1)})
 # ldr x0, dtb; mov x1, xzr; mov x2, xzr; mov x3, xzr; ldr x4, kernel; br x4; then the two addresses
 STUB = (0x580000C0, 0xAA1F03E1, 0xAA1F03E2, 0xAA1F03E3, 0x58000084, 0xD61F0080)
+# The windows after RAM, in their order: the word that has one off, and its size.
+WINDOWS = (("highmem-redists", 64 * MIB), ("highmem-ecam", 256 * MIB), ("highmem-mmio", 512 * GIB))
+# The most memory slots, and the words beside a number of processors.
+MOST_SLOTS = 256
+TOPOLOGY = ("sockets", "dies", "clusters", "modules", "cores", "threads", "books", "drawers")
 
 OPTIONS = [
-    Option(("-machine", "--machine", "-M"), "machine", "WORDS", "the machine: virt or one of its versions, and its words. Required. Words "
-           "without a machine go to the one machine that is given", True),
-    Option(("-cpu", "--cpu"), "cpu", "WORDS", "the processor model and its words. Required", True),
-    Option(("-smp", "--smp"), "smp", "LIST", "numbers of processors; 1 where it is not given. Words such as maxcpus= go beside them", True),
-    Option(("-m", "--memory"), "memory", "LIST", "sizes of RAM; 128M where it is not given, and a bare number is MiB", True),
-    Option(("-kernel", "--kernel"), "kernel", "FILE", "an arm64 Image, or one packed by gzip. Required", True),
-    Option(("-initrd", "--initrd"), "initrd", "FILE", "an initrd", True),
-    Option(("-append", "--append"), "append", "TEXT", "a command line of the kernel", True),
+    Option(("-machine", "--machine", "-M", "--each-machine"), "machine", "WORDS", "the machine: virt or one of its versions, and its words. "
+           "Required. Words without a machine go to the one machine that is given", True),
+    Option(("-cpu", "--cpu", "--each-cpu"), "cpu", "WORDS", "the processor model and its words. Required", True),
+    Option(("-smp", "--smp", "--each-smp"), "smp", "LIST", "numbers of processors; 1 where it is not given. Words such as maxcpus= go "
+           "beside them", True),
+    Option(("-m", "--memory", "--each-memory"), "memory", "LIST", "sizes of RAM; 128M where it is not given, and a bare number is MiB", True),
+    Option(("-kernel", "--kernel", "--each-kernel"), "kernel", "[NAME=]FILE", "an arm64 Image, or one packed by gzip. Required", True),
+    Option(("-initrd", "--initrd", "--each-initrd"), "initrd", "[NAME=]FILE", "an initrd", True),
+    Option(("-append", "--append", "--each-append"), "append", "TEXT", "a command line of the kernel", True),
+    Option(("--libvirt",), "libvirt", "FILE", "a domain of libvirt's, as `virsh dumpxml` prints it: QEMU's line is made of it"),
     Option(("--qemu",), "program", "PROGRAM", "QEMU itself, which makes the devicetrees: each by the final words with "
-           "dumpdtb= and dtb-randomness=off, twice. Of what comes after `--` it is given what changes a devicetree, and nothing that opens "
-           "a file or a socket"),
+           "dumpdtb= and dtb-randomness=off, twice. Of other words it is given what changes a devicetree, and nothing that opens "
+           "a file or a socket. Not needed where a whole line is after `--`: then it is the program of that line"),
     Option(("--stub",), "stub", "WHICH", "whether QEMU's boot stub is part of the realm: `measured` (default), where the first processor "
            "begins at it; or `none`, where it begins at the kernel"),
 ]
@@ -74,29 +84,54 @@ def is_off(words: dict[str, str], key: str) -> bool:
     return words.get(key) in OFF
 
 
-def window_bits(size_: int) -> int:
-    """The bits of the last address of the windows after RAM: 64 MiB, 256 MiB and 512 GiB, each at a multiple of its size."""
-    end = max(up(BASE + size_, GIB), 256 * GIB)
-    for window in (64 * MIB, 256 * MIB, 512 * GIB):
-        end = up(end, window) + window
-    return (end - 1).bit_length()
+def words_beside(text: str) -> dict[str, str]:
+    """The words beside a value, by their keys."""
+    return dict(part.partition("=")[::2] for part in parts(text) if "=" in part)
 
 
-def s2sz(guest: Guest, places: Places) -> int | None:
-    """The width; None where no rule is known."""
+def top(guest: Guest) -> int:
+    """Where RAM ends, and the room for RAM that may be plugged in."""
+    beside, end = words_beside(guest.memory.words), up(BASE + guest.memory.size, GIB)
+    if "maxmem" not in beside:
+        return end
+    return end + up(size("-m", beside["maxmem"], 1, True) - guest.memory.size + int(beside.get("slots", "0")) * GIB, GIB)
+
+
+def is_compact(machine: str, words: dict[str, str]) -> bool:
+    """Whether a window that is off leaves no room. By default that is so from virt-8.0 on."""
+    if "compact-highmem" in words:
+        return words["compact-highmem"] not in OFF
+    version = re.fullmatch(r"virt-([0-9]+)\..*", parts(machine)[0])
+    return not version or int(version[1]) >= 8
+
+
+def highest(guest: Guest, bits: int) -> int:
+    """The end of the highest window after RAM, where a host takes addresses of so many bits: one that ends past them is left out."""
     words = machine_words(guest.machine.text)
-    off = {key for key in words if key.startswith("highmem") and is_off(words, key)}
-    if "highmem-mmio-size" in words or any(f"{key}=" in guest.memory.words for key in ("maxmem", "slots")):
-        return None
-    if not off:
-        return max(32, window_bits(guest.memory.size)) + 1
-    if "highmem" in off:
-        return 33 if guest.memory.size <= 3 * GIB else None
-    if off in ({"highmem-mmio"}, {"highmem-mmio", "highmem-ecam"}) and guest.memory.size <= 255 * GIB:
-        return 40
-    if off == {"highmem-mmio", "highmem-ecam", "highmem-redists"}:
-        return max(32, (BASE + up(guest.memory.size, GIB) - 1).bit_length()) + 1
-    return None
+    sizes = dict(WINDOWS)
+    if "highmem-mmio-size" in words:
+        sizes["highmem-mmio"] = size("-machine: highmem-mmio-size", words["highmem-mmio-size"], 1)
+    end = top(guest)
+    if end > 1 << bits:
+        raise Fault(f"-m: {shown(guest.memory.words)}: RAM, and room for slots, is up to {end:#x}, and QEMU stops where that is past "
+                    f"{bits} bits, which is what highmem and the host's s2sz_max leave; expected less RAM")
+    place, compact = max(end, 256 * GIB), is_compact(guest.machine.text, words)
+    for key, length in sizes.items():
+        start = up(place, length)
+        fits = start + length <= 1 << bits
+        if compact and (not fits or is_off(words, key)):
+            continue
+        place = start + length
+        end = place if fits else end
+    return end
+
+
+def s2sz(guest: Guest, places: Places) -> int:
+    """The width. What the host allows a realm is one bit more than what is left for QEMU's addresses."""
+    left = guest.most_bits - 1
+    if is_off(machine_words(guest.machine.text), "highmem"):
+        left = min(left, 32)
+    return max(32, (highest(guest, left) - 1).bit_length()) + 1
 
 
 TABLE = [
@@ -123,8 +158,8 @@ TABLE = [
         SEEN + "; that their RECs are not runnable: " + MEMORY),
     Row("order", "RAM, then what is placed by rising address (the stub first), then the RECs", None, "changes that were proposed to QEMU",
         MEMORY),
-    Row("s2sz", "the bits of the last address of the windows after RAM (40 up to 510 GiB of RAM), and one more for the shared half of a "
-        "realm; 32 and one more with highmem=off, 39 and one more with highmem-mmio=off", s2sz, VIRT, SOURCE + "; the one more: " + MEMORY),
+    Row("s2sz", "the bits of the last address of the windows after RAM, of those that the host's s2sz_max and highmem leave (40 up to 510 "
+        "GiB of RAM), at least 32, and one more for the shared half of a realm", s2sz, VIRT, SOURCE + "; the one more: " + MEMORY),
 ]
 
 
@@ -144,14 +179,23 @@ def machines(texts: list[str]) -> list[str]:
     return [",".join([whole[0], *more])] if more else whole
 
 
-def read_machine(said: dict, most: int):
+def read_machine(said: dict) -> list[Word]:
     texts = machines(required(said, "machine", "-machine", "virt and its words"))
     for text in texts:
         kind, *words = parts(text)
         if not re.fullmatch(r"virt(-[0-9.]+)?", kind):
             raise WrongWords(f"-machine: {shown(kind)}, expected virt or one of its versions first")
         refuse_machine_words(words)
-    return labelled(texts, "machine", most)
+        check_window(machine_words(text).get("highmem-mmio-size"))
+    return labelled(texts)
+
+
+def check_window(text: str | None):
+    """The window of PCIe has a power of two, and no less than by default: QEMU stops at others."""
+    if text is not None:
+        length = size("-machine: highmem-mmio-size", text, 1)
+        if length & (length - 1) or length < 512 * GIB:
+            raise WrongWords(f"-machine: highmem-mmio-size={shown(text)}, expected a power of two, at least 512G")
 
 
 # What models are in a devicetree, as it was seen in QEMU 7.2.22. What `max` and `host` are depends on the version and the machine.
@@ -171,34 +215,58 @@ def has_gic_3(guest: Guest) -> bool:
 def features(cpu: str) -> dict[str, bool]:
     """What the words of -cpu switch on or off that the host's file says too."""
     given = dict(part.partition("=")[::2] for part in parts(cpu)[1:])
-    return {key: given[key] not in OFF for key in ("sve", "pmu") if given.get(key) in (*OFF, "on", "yes", "true", "y")}
+    return {key: given[key] not in OFF for key in ("sve", "pmu") if given.get(key) in (*OFF, *ON)}
 
 
-def read_cpu(said: dict, most: int):
+def read_cpu(said: dict) -> list[Word]:
     texts = required(said, "cpu", "-cpu", "a 64-bit processor model: without it QEMU's is a 32-bit one")
     for text in texts:
         model, *words = parts(text)
         if model in ("cortex-a7", "cortex-a15") or any(word in [f"aarch64={off}" for off in OFF] for word in words):
             raise WrongWords(f"-cpu: {shown(text)} is a 32-bit processor, expected a 64-bit one")
-    return labelled(texts, "cpu", most)
+    return labelled(texts)
+
+
+def counted(text: str) -> str:
+    """A number of processors and the words beside it. Without a number it is that of maxcpus=, or what the topology comes to."""
+    found = words_beside(text)
+    if "cpus" in found or not found or any("=" not in part for part in parts(text)):
+        return text
+    numbers = {key: number(f"-smp: {key}", value, 1, 512) for key, value in found.items() if key in ("maxcpus", *TOPOLOGY)}
+    return f"{numbers.get('maxcpus') or math.prod(numbers.values())},{text}"
 
 
 def read_smp(said: dict) -> list[Processors]:
-    return processors("-smp", said.get("smp", ["1"]), "cpus", lambda key: True)
+    texts = [counted(text) for text in said.get("smp", ["1"])]
+    return processors("-smp", texts, "cpus", lambda key: key in ("maxcpus", *TOPOLOGY))
+
+
+def check_room(memory: Memory):
+    """Refuses what QEMU stops at: slots without maxmem, or too many, and less than there is."""
+    beside = words_beside(memory.words)
+    if "slots" in beside:
+        number("-m: slots", beside["slots"], 0, MOST_SLOTS)
+    if "maxmem" not in beside and "slots" in beside:
+        raise WrongWords(f"-m: {shown(memory.words)}: slots and no maxmem, expected both")
+    if "maxmem" in beside and size("-m: maxmem", beside["maxmem"], 1, True) < memory.size:
+        raise WrongWords(f"-m: {shown(memory.words)}: maxmem is less than RAM, expected at least {memory.size}")
 
 
 def read_memory(said: dict) -> list[Memory]:
     def read(text):
         return up(size("-m", text, MIB, has_fractions=True), 8192), None
 
-    return memories("-m", said.get("memory", ["128M"]), read, lambda key: key in ("slots", "maxmem"))
+    found = memories("-m", said.get("memory", ["128M"]), read, lambda key: key in ("slots", "maxmem"))
+    for memory in found:
+        check_room(memory)
+    return found
 
 
-def check_realm(machine: str, others: Others):
+def check_realm(machine: str, others: Sorted):
     """The realm's object has to be the one that the machine names."""
     named = machine_words(machine).get("confidential-guest-support")
     if named != (others.realm.name if others.realm is not None else None):
-        raise WrongWords(f"-machine: {shown(machine)} and the words after `--`: expected confidential-guest-support=ID where they have "
+        raise WrongWords(f"-machine: {shown(machine)}, and the words beside it: expected confidential-guest-support=ID where they have "
                          "-object rme-guest,id=ID, and only there")
 
 
@@ -206,12 +274,15 @@ def dump_words(guest: Guest, path: str) -> list[str]:
     """The words by which QEMU writes a devicetree to a path and ends; without kernel, initrd and command line. The quiet ones change
     nothing in the devicetree, and spare what QEMU adds by itself: a network card whose file may be missing, a window, its monitor."""
     doubled = path.replace(",", ",,")
-    return [*final_words(guest, f",dumpdtb={doubled}"), *QUIET]
+    return [*with_machine(guest, f",dumpdtb={doubled}"), *QUIET]
 
 
-def final_words(guest: Guest, more: str = "") -> list[str]:
-    words = machine_words(guest.machine.text)
-    seeds = "" if "dtb-randomness" in words else ",dtb-randomness=off"
+def final_words(guest: Guest) -> list[str]:
+    return with_machine(guest, "")
+
+
+def with_machine(guest: Guest, more: str) -> list[str]:
+    seeds = "" if "dtb-randomness" in machine_words(guest.machine.text) else f",{FACTS.no_seeds}"
     return ["-machine", guest.machine.text + more + seeds, "-cpu", guest.cpu.text, "-smp", guest.smp.words, "-m", guest.memory.words]
 
 

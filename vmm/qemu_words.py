@@ -1,62 +1,73 @@
-"""QEMU's words: which of them change what a launch is, and which a dump of its devicetree is given.
+"""What each word of QEMU does: the table of its words, that of the words of -machine, and those of objects and devices.
 
-A dump is a start of QEMU beside guests that run. So it gets no word that opens, empties or replaces a file, a socket or a device of
-theirs: only those that change the devicetree, and these without their paths. A word that is in no table is refused.
+A dump is a start of QEMU, perhaps beside the guest itself. So it is given no word that opens, empties or replaces a file, a socket or a
+device: only those that change the devicetree, and these without their paths. A word that is in no table is refused.
 """
-import base64
-import binascii
 import json
 import re
 from dataclasses import dataclass
 
 from outside.faults import WrongWords
+from outside.files import once_each
 from outside.texts import MOST_SHOWN, shown, visible
 
-from .words import ALGORITHMS, Others, Realm
+from .sorting import Effect, Entry, Explained, Given, Grammar, Realm, Sorted, Takes, one_dash
+from .words import ALGORITHMS, personalization
 
 OFF = ("off", "no", "false", "n")
+ON = ("on", "yes", "true", "y")
+FIRMWARE = "QEMU then starts firmware and puts no kernel into RAM, which is another layout that no table has"
+NO_FIRMWARE = "expected a line without it, by which QEMU itself loads the kernel of -kernel"
+OWN_TREE = "QEMU edits such a file and makes it longer"
+HAND_IN = "expected `--dtb FILE`, an option of rim-manifest's before `--`, with the devicetree as it is loaded"
+ELSEWHERE = "all of RAM comes from elsewhere then"
+NO_REALM = "no realm has it"
+
+
+# ---- the words of -machine
 
 
 @dataclass(frozen=True)
 class MachineWord:
-    """Words of -machine: what they do, and what is expected instead where they are refused, or where `refused` are some values of them."""
+    """Words of -machine: what they do, and what is to be done instead where they are refused, or where all but `passes` of their values
+    are."""
 
     keys: tuple[str, ...]
+    effect: Effect
     does: str
     instead: str = ""
-    passes: tuple[str, ...] = ()    # of a word that is refused, the values that are not
+    passes: tuple[str, ...] = ()
 
 
-LAYOUT = "another layout, which no table has"
-NO_REALM = "no realm has it"
 MACHINE = [
-    MachineWord(("gic-version",), "the interrupt controller: GIC 2 is one that no realm has", "gic-version=3", ("3", "4", "max", "host")),
-    MachineWord(("its", "iommu", "default-bus-bypass-iommu"), "nodes of the interrupt controller and of PCIe"),
-    MachineWord(("highmem", "highmem-ecam", "highmem-mmio", "highmem-mmio-size", "highmem-redists", "compact-highmem"),
+    MachineWord(("gic-version",), Effect.TREE, "the interrupt controller: GIC 2 is one that no realm has", "gic-version=3",
+                ("3", "4", "max", "host")),
+    MachineWord(("its", "iommu", "default-bus-bypass-iommu"), Effect.TREE, "nodes of the interrupt controller and of PCIe"),
+    MachineWord(("highmem", "highmem-ecam", "highmem-mmio", "highmem-mmio-size", "highmem-redists", "compact-highmem"), Effect.LAYOUT,
                 "windows of devices, and with them the width of an IPA"),
-    MachineWord(("phandle-start", "dt-compatible"), "numbers and names in the devicetree"),
-    MachineWord(("accel", "kernel-irqchip"), "what runs the processors, and so what -cpu host and gic-version=host are"),
-    MachineWord(("memory-backend",), "which -object is RAM: nothing in the devicetree"),
-    MachineWord(("confidential-guest-support",), "which -object makes the guest a realm"),
+    MachineWord(("phandle-start", "dt-compatible"), Effect.TREE, "numbers and names in the devicetree"),
+    MachineWord(("accel", "kernel-irqchip"), Effect.TREE, "what runs the processors, and so what -cpu host and gic-version=host are"),
+    MachineWord(("memory-backend",), Effect.HARMLESS, "which -object is RAM: nothing in the devicetree"),
+    MachineWord(("confidential-guest-support",), Effect.LAYOUT, "which -object makes the guest a realm"),
     MachineWord(("acpi", "ras", "usb", "graphics", "mem-merge", "dump-guest-core", "suppress-vmdesc", "x-oem-id", "x-oem-table-id",
                  "boot", "boot.order", "boot.once", "boot.menu", "boot.strict", "boot.splash", "boot.splash-time", "boot.reboot-timeout",
-                 "hmat", "aux-ram-share"), "nothing in the devicetree"),
-    MachineWord(("dtb-randomness", "dtb-kaslr-seed"), "the devicetree differs at each start", "{}=off", OFF),
-    MachineWord(("virtualization",), "a processor with EL2: " + NO_REALM, "{}=off", OFF),
-    MachineWord(("secure",), "a processor with TrustZone: " + NO_REALM, "{}=off", OFF),
-    MachineWord(("mte",), "memory tagging: " + NO_REALM, "{}=off", OFF),
-    MachineWord(("firmware", "pflash0", "pflash1"), "QEMU then starts firmware and puts no kernel into RAM: " + LAYOUT, "none: -kernel"),
-    MachineWord(("dtb",), "QEMU edits such a file and makes it longer", "--dtb with the file as it is loaded"),
-    MachineWord(("dumpdtb",), "rim-manifest adds it itself", "--qemu PROGRAM"),
-    MachineWord(("kernel",), "rim-manifest reads no file of it", "-kernel FILE"),
-    MachineWord(("initrd",), "rim-manifest reads no file of it", "-initrd FILE"),
-    MachineWord(("append",), "rim-manifest reads no text of it", "-append TEXT"),
-    MachineWord(("shim",), "it loads what no table places", "none"),
+                 "hmat", "aux-ram-share"), Effect.HARMLESS, "nothing in the devicetree"),
+    MachineWord(("dtb-randomness", "dtb-kaslr-seed"), Effect.TREE, "the devicetree differs at each start", "{}=off", OFF),
+    MachineWord(("virtualization",), Effect.TREE, "a processor with EL2: " + NO_REALM, "{}=off", OFF),
+    MachineWord(("secure",), Effect.TREE, "a processor with TrustZone: " + NO_REALM, "{}=off", OFF),
+    MachineWord(("mte",), Effect.TREE, "memory tagging: " + NO_REALM, "{}=off", OFF),
+    MachineWord(("firmware", "pflash0", "pflash1"), Effect.REFUSED, FIRMWARE, "none, and -kernel"),
+    MachineWord(("dtb",), Effect.REFUSED, OWN_TREE, "--dtb of rim-manifest's with the file as it is loaded"),
+    MachineWord(("dumpdtb",), Effect.REFUSED, "rim-manifest adds it itself", "--qemu PROGRAM"),
+    MachineWord(("kernel",), Effect.REFUSED, "rim-manifest reads no file of it", "-kernel FILE"),
+    MachineWord(("initrd",), Effect.REFUSED, "rim-manifest reads no file of it", "-initrd FILE"),
+    MachineWord(("append",), Effect.REFUSED, "rim-manifest reads no text of it", "-append TEXT"),
+    MachineWord(("shim",), Effect.REFUSED, "it loads what no table places", "none"),
     MachineWord(("smp", "smp.cpus", "smp.maxcpus", "smp.sockets", "smp.dies", "smp.clusters", "smp.modules", "smp.cores", "smp.threads",
-                 "smp.books", "smp.drawers"), "other processors than those of -smp", "-smp"),
-    MachineWord(("memory", "memory.size", "memory.max-size", "memory.slots"), "other RAM than that of -m", "-m"),
-    MachineWord(("memory-encryption",), "an older word for confidential-guest-support", "that one"),
-    MachineWord(("type",), "the kind of the machine", "it as the first word"),
+                 "smp.books", "smp.drawers"), Effect.REFUSED, "other processors than those of -smp", "-smp"),
+    MachineWord(("memory", "memory.size", "memory.max-size", "memory.slots"), Effect.REFUSED, "other RAM than that of -m", "-m"),
+    MachineWord(("memory-encryption",), Effect.REFUSED, "an older word for confidential-guest-support", "that one"),
+    MachineWord(("type",), Effect.REFUSED, "the kind of the machine", "it as the first word"),
 ]
 BY_KEY = {key: row for row in MACHINE for key in row.keys}
 
@@ -66,216 +77,287 @@ def parts(text: str) -> list[str]:
     return [part.replace("\0", ",") for part in text.replace(",,", "\0").split(",")]
 
 
-def refuse_machine_word(word: str):
-    """Refuses a word of -machine that a launch cannot be made of."""
+def joined(words: list[str]) -> str:
+    """The text of words that commas part."""
+    return ",".join(word.replace(",", ",,") for word in words)
+
+
+def machine_fault(word: str) -> str | None:
+    """Why no launch can be made of a word of -machine."""
     key, equals, value = word.partition("=")
-    if key not in BY_KEY:
-        known = ", ".join(key for row in MACHINE if not row.instead or row.passes for key in row.keys)
-        raise WrongWords(f"-machine: {shown(word)}: what it changes is not known, expected one of {known}")
     row = BY_KEY[key]
     if not equals:
-        raise WrongWords(f"-machine: {shown(word)} has no value, expected {key}=VALUE")
+        return f"-machine: {shown(word)} has no value, expected {key}=VALUE"
     if row.instead and value not in row.passes:
-        raise WrongWords(f"-machine: {shown(word)}: {row.does}, expected {row.instead.format(key)}")
+        return f"-machine: {shown(word)}: {row.does}, expected {row.instead.format(key)}"
+    return None
 
 
 def refuse_machine_words(words: list[str]):
-    for word in words:
-        refuse_machine_word(word)
+    """Refuses words of -machine that a launch cannot be made of; all that are in no table are named at once."""
     keys = [word.partition("=")[0] for word in words]
-    for number, key in enumerate(keys):
-        if key in keys[:number]:
-            raise WrongWords(f"-machine: {key} is given twice, expected once")
+    faults = [fault for word, key in zip(words, keys) if key in BY_KEY and (fault := machine_fault(word))]
+    if unknown := [shown(word) for word, key in zip(words, keys) if key not in BY_KEY]:
+        known = ", ".join(key for row in MACHINE if row.effect is not Effect.REFUSED for key in row.keys)
+        what = "what it changes is" if len(unknown) == 1 else "what they change is"
+        faults.append(f"-machine: {', '.join(unknown)}: {what} not known, expected one of {known}")
+    seen: set[str] = set()
+    for key in keys:
+        if key in seen:
+            faults.append(f"-machine: {key} is given twice, expected once")
+        seen.add(key)
+    if faults:
+        raise WrongWords(*faults)
 
 
-# ---- all other words: those after `--`
+def explain_machine(text: str) -> list[Explained]:
+    """What the words of a -machine do."""
+    found = []
+    for word in machine_texts("-machine", text):
+        row = BY_KEY.get(word.partition("=")[0])
+        if row and row.keys != ("type",):
+            effect = Effect.REFUSED if machine_fault(word) else row.effect
+            found.append((f"  {visible(word[:MOST_SHOWN])}", effect, row.does))
+    return found
 
-# What opens something, or runs something, and changes nothing in the devicetree: a dump is not given it.
-DROPPED_WITH_VALUE = frozenset(
-    "action add-fd audio audiodev blockdev boot cdrom chardev chroot compat d D debugcon dfilter display dump-vmstate echr fda fdb fsdev "
-    "fw_cfg gdb hda hdb hdc hdd icount iscsi k L mem-path mon monitor msg mtdblock name net netdev nic option-rom overcommit parallel "
-    "pidfile plugin qmp qmp-pretty rtc runas run-with sandbox sd seed semihosting-config smbios acpitable spice tb-size trace usbdevice "
-    "uuid vga virtfs vnc watchdog watchdog-action fsdev tpmdev rotate async-teardown".split())
-DROPPED_ALONE = frozenset(
-    "S s snapshot nographic nodefaults no-user-config daemonize mem-prealloc usb portrait full-screen no-acpi no-reboot no-shutdown "
-    "semihosting singlestep one-insn-per-tb preconfig only-migratable enable-sync-profile no-fd-bootchk no-hpet curses".split())
-# What changes the devicetree, and opens nothing of a guest's.
-KEPT_WITH_VALUE = frozenset(("accel", "numa"))
-KEPT_ALONE = frozenset(("enable-kvm",))
-# What no launch can be made of: why, and what is expected.
-REFUSED = {
-    "bios": "QEMU then starts firmware and puts no kernel into RAM: " + LAYOUT + ", expected none: -kernel",
-    "pflash": "QEMU then starts firmware and puts no kernel into RAM: " + LAYOUT + ", expected none: -kernel",
-    "dtb": "QEMU edits such a file and makes it longer, expected --dtb before `--`, with the file as it is loaded",
-    "shim": "it loads what no table places, expected no such word",
-    "incoming": "all of RAM comes from elsewhere then, expected a guest that begins by itself",
-    "loadvm": "all of RAM comes from elsewhere then, expected a guest that begins by itself",
-    "readconfig": "rim-manifest does not read that file, expected its words one by one",
-    "writeconfig": "it writes a file, expected no such word",
-    "set": "what it changes is not known, expected no such word",
-}
-# What is before `--`, as a launch is made of it.
-OWN = ("machine", "M", "cpu", "smp", "m", "kernel", "initrd", "append")
-REFUSED |= dict.fromkeys(OWN, "after `--` it would change what the table places, expected it before `--`")
+
+def flat(table: dict, front: str = "") -> list[str]:
+    """The members of an object of JSON as words."""
+    found = []
+    for key, value in table.items():
+        if isinstance(value, dict):
+            found += flat(value, f"{front}{key}.")
+        else:
+            text = ("off", "on")[value] if isinstance(value, bool) else value if isinstance(value, str) else json.dumps(value)
+            found.append(f"{front}{key}={text}")
+    return found
+
+
+def object_of(option: str, text: str) -> dict:
+    """The object of JSON that a word is."""
+    try:
+        table = json.loads(text, object_pairs_hook=once_each)
+    except (ValueError, RecursionError):
+        raise WrongWords(f"{option}: {shown(text)}: it begins as JSON and is none, expected an object of JSON") from None
+    return table
+
+
+def machine_texts(option: str, text: str) -> list[str]:
+    """The words of a -machine, its kind first where it has one."""
+    words = flat(object_of(option, text)) if text.startswith("{") else parts(text)
+    if words and "=" not in words[0]:
+        words[0] = "type=" + words[0]
+    return words
+
+
+def one_machine(option: str, texts: list[str]) -> str:
+    """The one machine of several -machine, as QEMU merges them: of two values of a key the last counts."""
+    found: dict[str, str] = {}
+    for text in texts:
+        for word in machine_texts(option, text):
+            key, equals, value = word.partition("=")
+            found[key] = equals + value
+    kind = found.pop("type", "")
+    if not kind:
+        raise WrongWords(f"{option}: {shown(texts[0])}: no machine is given, expected virt and its words")
+    return joined([kind[1:], *(key + value for key, value in found.items())])
+
+
+def merged(implied: str):
+    """How QEMU merges several of a word: of two values of a key the last counts. `implied` is the key of a value without one."""
+    def join(option: str, texts: list[str]) -> str:
+        found: dict[str, str] = {}
+        for text in texts:
+            for place, word in enumerate(parts(text)):
+                key, equals, value = word.partition("=")
+                if not equals:
+                    if place:
+                        raise WrongWords(f"{option}: {shown(text)}: {shown(word)} has no value, expected {implied} and words with values")
+                    key, value = implied, word
+                found[key] = value
+        front = [found.pop(implied)] if implied in found else []
+        return joined([*front, *(f"{key}={value}" for key, value in found.items())])
+    return join
+
+
+# ---- objects, devices and others of which the value decides
+
+# Objects that change nothing in the devicetree.
+HARMLESS_OBJECT = re.compile(
+    r"secret|secret_keyring|rng-(random|egd|builtin)|iothread|thread-context|main-loop|tls-(creds|cipher)-[a-z0-9-]+|authz-[a-z]+|"
+    r"throttle-group|filter-[a-z]+|colo-compare|cryptodev-[a-z-]+|can-bus|can-host-socketcan|input-[a-z]+|iommufd|dbus-vmstate|"
+    r"pr-manager-helper")
 # Devices that change nothing in the devicetree: those on PCIe, USB and other buses that are in it anyway.
 HARMLESS_DEVICE = re.compile(
-    r"(virtio|vhost)-(?!iommu|mem|pmem)[a-z0-9-]+|(usb|scsi|ide|nvme|pcie|pci|ioh3420|x3130|xio3130|sdhci|hda|intel-hda|ich9-intel-hda|"
-    r"e1000|e1000e|igb|rtl8139|vmxnet3|ne2k_pci|i82[0-9]+[a-z]*|tulip|pcnet|megasas|mptsas|lsi|am53c974|ahci|ich9-ahci|sd-card|VGA|"
-    r"secondary-vga|bochs-display|ramfb|qxl|vfio-pci|qemu-xhci|nec-usb-xhci|ich9-usb|piix[34]-usb|pvpanic-pci|ivshmem|edu|i6300esb|"
-    r"AC97|ES1370|pvscsi|rocker|ccid-card)([a-z0-9-]*)")
+    r"(virtio|vhost)-(?!iommu|mem|pmem)[a-z0-9-]+|(virtserialport|virtconsole|usb|scsi|ide|nvme|pcie|pci|ioh3420|x3130|xio3130|sdhci|hda|"
+    r"intel-hda|ich9-intel-hda|e1000|e1000e|igb|rtl8139|vmxnet3|ne2k_pci|i82[0-9]+[a-z]*|tulip|pcnet|megasas|mptsas|lsi|am53c974|ahci|"
+    r"ich9-ahci|sd-card|VGA|secondary-vga|bochs-display|ramfb|qxl|vfio-pci|qemu-xhci|nec-usb-xhci|ich9-usb|piix[34]-usb|pvpanic-pci|"
+    r"ivshmem|edu|i6300esb|AC97|ES1370|pvscsi|rocker|ccid-card)([a-z0-9-]*)")
 # Drivers whose defaults change nothing in the devicetree.
 HARMLESS_GLOBAL = re.compile(r"(virtio-(?!iommu|mem|pmem)|vhost-|usb-|scsi-|nvme|vfio-pci|pcie-root-port)[a-z0-9-]*")
-
-
-def given_as(option: str, text: str) -> str:
-    """A word and its value in a line."""
-    return f"{option} {visible(text[:MOST_SHOWN])}{'..' * (len(text) > MOST_SHOWN)}"
+# What -object rme-guest may say; two names are one thing in versions of the proposed changes.
+REALM_KEYS = {"qom-type", "id", "measurement-algorithm", "measurement-algo", "personalization-value"}
 
 
 def properties(option: str, text: str, first: str) -> dict[str, str]:
     """What an object or a device is given, of words or of JSON; `first` is the key of a word without one."""
-    if not text.startswith("{"):
-        words = parts(text)
-        if words and "=" not in words[0]:
-            words[0] = f"{first}={words[0]}"
-        return {key: value if equals else "on" for key, equals, value in (word.partition("=") for word in words)}
-    try:
-        table = json.loads(text)
-    except (ValueError, RecursionError):
-        raise WrongWords(f"-{option}: {shown(text)}: it begins as JSON and is none, expected an object of JSON") from None
-    return {key: value if isinstance(value, str) else json.dumps(value) for key, value in table.items()}
+    if text.startswith("{"):
+        return dict(word.partition("=")[::2] for word in flat(object_of(option, text)))
+    words = parts(text)
+    if words and "=" not in words[0]:
+        words[0] = f"{first}={words[0]}"
+    return {key: value if equals else "on" for key, equals, value in (word.partition("=") for word in words)}
 
 
-def memory_backend(text: str, given: dict[str, str]) -> list[str]:
+def read_backend(found: Sorted, given: Given, said: dict[str, str]):
     """RAM of the same name and size, of no file and of no page yet: the devicetree is the same."""
-    if "id" not in given or "size" not in given:
-        raise WrongWords(f"{given_as('-object', text)}: it has no {'id' if 'id' not in given else 'size'}, expected one")
-    doubled = (given[key].replace(",", ",,") for key in ("id", "size"))
-    return ["-object", "memory-backend-ram,id={},size={},reserve=off".format(*doubled)]
+    missing = next((key for key in ("id", "size") if key not in said), None)
+    if missing:
+        found.refuse(given, f"it has no {missing}, expected one")
+        return
+    doubled = (said[key].replace(",", ",,") for key in ("id", "size"))
+    found.keep(given, ["-object", "memory-backend-ram,id={},size={},reserve=off".format(*doubled)])
 
 
-def personalization(text: str) -> str | None:
-    """The 64 bytes of a personalization value, which is hexadecimal digits or base64; None where it is neither."""
-    if re.fullmatch(r"[0-9a-fA-F]{128}", text):
-        return text.lower()
-    try:
-        data = base64.b64decode(text, validate=True)
-    except (binascii.Error, ValueError):
-        return None
-    return data.hex() if len(data) == 64 else None
-
-
-def realm_of(given: dict[str, str]) -> Realm:
-    """What -object rme-guest says."""
+def read_realm(found: Sorted, given: Given, said: dict[str, str]):
+    """What -object rme-guest says of the realm."""
     source = "-object rme-guest"
-    algorithm, value = given.get("measurement-algorithm"), given.get("personalization-value")
-    if algorithm is not None and algorithm not in ALGORITHMS:
-        raise WrongWords(f"{source}: measurement-algorithm={shown(algorithm)}, expected {' or '.join(ALGORITHMS)}")
+    keys = [word.partition("=")[0] for word in ([] if given.value.startswith("{") else parts(given.value))]
+    algorithms = [said[key] for key in ("measurement-algorithm", "measurement-algo") if key in said]
+    doubled = next((key for number, key in enumerate(keys) if key in keys[:number]), None) or ("measurement-algorithm" if algorithms[1:] else None)
+    value = said.get("personalization-value")
     read = None if value is None else personalization(value)
-    if value is not None and read is None:
-        raise WrongWords(f"{source}: personalization-value={shown(value)}, expected 64 bytes as 128 hexadecimal digits or as base64")
-    return Realm(source, given.get("id"), algorithm, read)
+    if found.realm is not None:
+        found.refuse(given, "it is the second rme-guest, expected one")
+    elif doubled:
+        found.refuse(given, f"{doubled} is given twice, expected once")
+    elif set(said) - REALM_KEYS:
+        found.refuse(given, f"what {', '.join(sorted(set(said) - REALM_KEYS))} changes is not known, expected measurement-algorithm and "
+                     "personalization-value")
+    elif algorithms and algorithms[0] not in ALGORITHMS:
+        found.refuse(given, f"measurement-algorithm={shown(algorithms[0])}, expected {' or '.join(ALGORITHMS)}")
+    elif value is not None and read is None:
+        found.refuse(given, f"personalization-value={shown(value)}, expected 64 bytes as 128 hexadecimal digits or as base64")
+    else:
+        found.keep(given)
+        found.realm = Realm(source, said.get("id"), algorithms[0] if algorithms else None, read)
 
 
-def read_object(others: Others, option: str, text: str):
-    given = properties("object", text, "qom-type")
-    kind = given.get("qom-type", "")
+def read_object(found: Sorted, given: Given):
+    said = properties(given.words[0], given.value, "qom-type")
+    kind = said.get("qom-type", "")
     if kind.startswith("memory-backend-"):
-        kept = memory_backend(text, given)
-        others.kept += kept
-        others.dropped += [] if kept == [option, text] else [option, text]
+        read_backend(found, given, said)
     elif kind == "rme-guest":
-        if others.realm is not None:
-            raise WrongWords(f"{given_as('-object', text)}: it is the second rme-guest, expected one")
-        others.kept += [option, text]
-        others.realm = realm_of(given)
+        read_realm(found, given, said)
+    elif HARMLESS_OBJECT.fullmatch(kind):
+        found.drop(given)
     else:
-        others.dropped += [option, text]
+        found.refuse(given, "whether it changes what is measured is not known, expected another object or none")
 
 
-def read_device(others: Others, option: str, text: str):
-    given = properties("device", text, "driver")
-    driver = given.get("driver", "")
+def read_device(found: Sorted, given: Given):
+    said = properties(given.words[0], given.value, "driver")
+    driver = said.get("driver", "")
     if driver in ("loader", "guest-loader"):
-        raise WrongWords(f"{given_as(option, text)}: it loads what no table places, expected no such word")
-    if driver.startswith(("virtio-mem", "virtio-pmem", "nvdimm", "pc-dimm")):
-        raise WrongWords(f"{given_as(option, text)}: it adds RAM that no table has, expected all RAM by -m")
-    if driver.startswith("virtio-iommu"):
-        if "addr" not in given:
-            raise WrongWords(f"{given_as(option, text)}: its place is in the devicetree, and without addr= other devices decide it, "
-                             "expected addr=")
-        others.kept += [option, text]
+        found.refuse(given, "it loads what no table places, expected no such word")
+    elif driver.startswith(("virtio-mem", "virtio-pmem", "nvdimm", "pc-dimm")):
+        found.refuse(given, "it adds RAM that no table has, expected all RAM by -m")
+    elif driver.startswith("virtio-iommu") and "addr" not in said:
+        found.refuse(given, "its place is in the devicetree, and without addr= other devices decide it, expected addr=")
+    elif driver.startswith("virtio-iommu"):
+        found.keep(given)
     elif HARMLESS_DEVICE.fullmatch(driver):
-        others.dropped += [option, text]
+        found.drop(given)
     else:
-        raise WrongWords(f"{given_as(option, text)}: whether it changes the devicetree is not known, expected another device or none")
+        found.refuse(given, "whether it changes the devicetree is not known, expected another device or none")
 
 
-def read_serial(others: Others, option: str, text: str):
+def read_serial(found: Sorted, given: Given):
     """From QEMU 10.0 on the devicetree has as many as there are, and `none` is a gap among them."""
-    kept = "none" if text == "none" else "null"
-    others.kept += ["-serial", kept]
-    others.dropped += [] if kept == text else [option, text]
+    found.keep(given, ["-serial", "none" if given.value == "none" else "null"])
 
 
-def read_drive(others: Others, option: str, text: str):
-    if properties("drive", text, "file").get("if") == "pflash":
-        raise WrongWords(f"{given_as(option, text)}: {REFUSED['pflash']}")
-    others.dropped += [option, text]
+def read_drive(found: Sorted, given: Given):
+    if properties(given.words[0], given.value, "file").get("if") == "pflash":
+        found.refuse(given, f"{FIRMWARE}; {NO_FIRMWARE}")
+    else:
+        found.drop(given)
 
 
-def read_global(others: Others, option: str, text: str):
-    driver = properties("global", text, "first").get("driver", text.partition(".")[0])
-    if not HARMLESS_GLOBAL.fullmatch(driver):
-        raise WrongWords(f"{given_as(option, text)}: whether it changes the devicetree is not known, expected no such word")
-    others.dropped += [option, text]
+def read_global(found: Sorted, given: Given):
+    driver = properties(given.words[0], given.value, "first").get("driver", given.value.partition(".")[0])
+    if HARMLESS_GLOBAL.fullmatch(driver):
+        found.drop(given)
+    else:
+        found.refuse(given, "whether it changes the devicetree is not known, expected no such word")
 
 
-READERS = {"object": read_object, "device": read_device, "serial": read_serial, "drive": read_drive, "global": read_global}
+# ---- all words
 
 
-def takes_value(name: str) -> bool:
-    return name in DROPPED_WITH_VALUE or name in KEPT_WITH_VALUE or name in READERS or name in REFUSED
+def named(names: str) -> tuple[str, ...]:
+    return tuple("-" + name for name in names.split())
 
 
-def is_known(word: str) -> bool:
-    name = re.sub(r"^--?", "", word)
-    return word.startswith("-") and (takes_value(name) or name in DROPPED_ALONE or name in KEPT_ALONE)
+def harmless(why: str, names: str, alone: str = "") -> list[Entry]:
+    """Words that change nothing: those with a value, and those without."""
+    found = [Entry(named(names), Effect.HARMLESS, why)]
+    return found + ([Entry(named(alone), Effect.HARMLESS, why, takes=Takes.NOTHING)] if alone else [])
 
 
-def read_rest(words: list[str]) -> Others:
-    """Reads the words after `--`."""
-    others, left = Others(), list(words)
-    while left:
-        word = left.pop(0)
-        name = re.sub(r"^--?", "", word)
-        if not is_known(word):
-            raise WrongWords(f"{shown(word)}: no word of QEMU's that is known, so what it changes is not known, expected no such word")
-        if name in REFUSED:
-            raise WrongWords(f"{word}: {REFUSED[name]}")
-        if takes_value(name) and not left:
-            raise WrongWords(f"{word}: nothing is given, expected a value")
-        given = [word, left.pop(0)] if takes_value(name) else [word]
-        if name in READERS:
-            READERS[name](others, *given)
-        elif name in KEPT_WITH_VALUE or name in KEPT_ALONE:
-            others.kept += given
-        else:
-            others.dropped += given
-    return others
+def refused(why: str, names: str, instead: str) -> Entry:
+    return Entry(named(names), Effect.REFUSED, why, instead)
+
+
+WORDS = [
+    Entry(named("machine M"), Effect.LAYOUT, "the machine; the words of several are those of one", key="machine", joined=one_machine,
+          parts=explain_machine),
+    Entry(named("cpu"), Effect.LAYOUT, "the model of the processors; of several the last counts", key="cpu"),
+    Entry(named("smp"), Effect.LAYOUT, "the processors; several are merged", key="smp", joined=merged("cpus")),
+    Entry(named("m"), Effect.LAYOUT, "the size of RAM, and with slots and maxmem the width of an IPA; several are merged", key="memory",
+          joined=merged("size")),
+    Entry(named("kernel"), Effect.LAYOUT, "the kernel; of several the last counts", key="kernel"),
+    Entry(named("initrd"), Effect.LAYOUT, "the initrd; of several the last counts", key="initrd"),
+    Entry(named("append"), Effect.LAYOUT, "the kernel's command line; of several the last counts", key="append"),
+    Entry(named("accel"), Effect.TREE, "what runs the processors, and so what -cpu host and gic-version=host are"),
+    Entry(named("enable-kvm"), Effect.TREE, "that KVM runs the processors", takes=Takes.NOTHING),
+    Entry(named("numa"), Effect.TREE, "nodes of memory and of processors"),
+    Entry(named("object"), Effect.TREE, "RAM and the realm are such; others change nothing", read=read_object),
+    Entry(named("device"), Effect.TREE, "virtio-iommu-pci is in the devicetree; those on PCIe and other buses are not", read=read_device),
+    Entry(named("serial"), Effect.TREE, "from QEMU 10.0 on the devicetree has as many as there are", read=read_serial),
+    Entry(named("drive"), Effect.HARMLESS, "a disk of the host's; one of flash is refused", read=read_drive),
+    Entry(named("global"), Effect.HARMLESS, "defaults of devices that are not in the devicetree", read=read_global),
+    *harmless("disks, files and folders of the host's", "blockdev cdrom fda fdb hda hdb hdc hdd sd mtdblock fsdev virtfs iscsi add-fd"),
+    *harmless("networks of the host's", "net netdev nic"),
+    *harmless("consoles, monitors and screens, and where they are", "chardev mon monitor qmp qmp-pretty parallel debugcon echr display vnc "
+              "spice k usbdevice vga audio audiodev", "nographic curses portrait full-screen"),
+    *harmless("names, clocks and random numbers, which are in no memory", "name uuid rtc icount seed"),
+    *harmless("tables and files that are asked of QEMU by the guest, and are not in memory", "fw_cfg smbios acpitable option-rom boot",
+              "no-acpi no-hpet no-fd-bootchk"),
+    *harmless("a bus or a device that has no node", "tpmdev watchdog watchdog-action", "usb"),
+    *harmless("where the host has RAM, and whether its pages are there", "mem-path overcommit", "mem-prealloc"),
+    *harmless("how QEMU itself runs", "action chroot compat d D dfilter dump-vmstate gdb L msg pidfile plugin runas run-with sandbox "
+              "semihosting-config tb-size trace rotate async-teardown", "S s snapshot nodefaults no-user-config daemonize no-reboot "
+              "no-shutdown singlestep one-insn-per-tb preconfig only-migratable enable-sync-profile semihosting"),
+    refused(FIRMWARE, "bios pflash", NO_FIRMWARE),
+    refused(OWN_TREE, "dtb", HAND_IN),
+    refused("it loads what no table places", "shim", "expected no such word"),
+    refused(ELSEWHERE, "incoming loadvm", "expected a guest that begins by itself"),
+    refused("rim-manifest does not read that file", "readconfig", "expected its words one by one"),
+    refused("it writes a file", "writeconfig", "expected no such word"),
+    refused("what it changes is not known", "set", "expected no such word"),
+]
+GRAMMAR = Grammar("QEMU", WORDS, one_dash)
+
+
+def sort(words: list[str]) -> Sorted:
+    return GRAMMAR.sort(words, True)
+
+
+def sort_rest(words: list[str]) -> Sorted:
+    return GRAMMAR.sort(words, False)
 
 
 def refuse_before(words: list[str]):
-    """Says of words before `--`, the first of which is none of rim-manifest's, why a launch has none such, or that they go after `--`."""
-    found, left = [], list(words)
-    while left and left[0] != "--":
-        word = left.pop(0)
-        name = re.sub(r"^--?", "", word)
-        if not is_known(word) or name in OWN:
-            continue
-        given = [word, left.pop(0)] if takes_value(name) and left else [word]
-        read_rest(given)
-        found.append(word)
-    if found and found[0] == words[0]:
-        them = "it" if len(found) == 1 else "them"
-        raise WrongWords(f"{', '.join(map(shown, found))}: rim-manifest makes no launch of {them}, expected {them} after `--`")
+    GRAMMAR.refuse_before(words)

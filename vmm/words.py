@@ -1,17 +1,23 @@
 """The words of the command line: options, lists of values, sizes."""
+import base64
+import binascii
 import re
 import textwrap
 from collections.abc import Callable
-from dataclasses import dataclass, field
+from dataclasses import dataclass
 from fractions import Fraction
 
 from outside.faults import WrongWords
 from outside.texts import shown
 
 from .guest import GIB, KIB, MIB, Memory, Processors, Word
+from .host import example
+from .names import labelled
 
 UNITS = {"": 1, "B": 1, "K": KIB, "M": MIB, "G": GIB, "T": KIB * GIB}
 ALGORITHMS = ("sha256", "sha512")
+# The longest command line of a kernel: no Linux reads more than 2,048 bytes, and no program takes a word of more than 128 KiB.
+MOST_APPEND = 64 << 10
 
 
 @dataclass(frozen=True)
@@ -23,43 +29,30 @@ class Option:
     many: bool = False  # whether it may be given more than once, each time with one value more of a list
 
 
-@dataclass(frozen=True)
-class Realm:
-    """What the words after `--` say of the realm itself, and which words these are."""
-
-    source: str
-    name: str | None = None
-    algorithm: str | None = None
-    personalization: str | None = None
-
-
-@dataclass
-class Others:
-    """The words that are no words of rim-manifest's: what a dump is given in their place, those that it is not given as they are, and
-    what they say of the realm."""
-
-    kept: list[str] = field(default_factory=list)
-    dropped: list[str] = field(default_factory=list)
-    realm: Realm | None = None
-
-
 COMMON = [
+    Option(("--line",), "line", "FILE", "a file with the hypervisor's command line, as a shell reads it: quotes, backslashes, lines that go "
+           "on. It is what else comes after `--`"),
     Option(("--append-file",), "append_file", "FILE", "command lines of the kernel, one a line; empty lines are passed over", True),
     Option(("--no-initrd",), "no_initrd", "", "a launch without initrd too, beside those with one"),
     Option(("--algo",), "algo", "LIST", "hash algorithms: sha256 (default), sha512", True),
-    Option(("--host",), "host", "FILE", "what only the machine knows: vmm/host-example.toml explains it. Required"),
+    Option(("--host",), "host", "FILE", f"what only the machine knows: {example()} explains it. Required"),
     Option(("--dtb",), "dtb", "FILE", "a devicetree as the hypervisor loads it, which is placed as it is. Of several, each launch takes "
            "the one that fits it", True),
-    Option(("--s2sz",), "s2sz", "N", "the width of an IPA in bits, where the rule of the table does not hold"),
+    Option(("--s2sz",), "s2sz", "N", "the width of an IPA in bits, in the place of what the rule of the table gives"),
     Option(("--kernel-pages",), "kernel_pages", "WHICH", "pages of the kernel that are measured: those of its `file` (default), or those "
            "of its `image_size` too, with the BSS as zeros"),
     Option(("--dtb-pages",), "dtb_pages", "WHICH", "pages of the devicetree that are measured: the `whole` file (default), or those "
            "that are `used`"),
     Option(("--order",), "order", "ORDER", "in which order the realm is built: `address` (default: RAM, then what is placed by rising "
            "address, then the RECs), or a list such as ram,kernel,initrd,dtb,rec"),
-    Option(("--out",), "out", "DIR", "the folder that is written. Required"),
+    Option(("--out",), "out", "DIR", "the folder that is written. Required, but with --measure"),
     Option(("--force",), "force", "", "replace what rim-manifest has written into DIR before, as far as it is unchanged, and nothing else"),
-    Option(("--rules",), "rules", "", "print the table of the hypervisor, and do nothing else"),
+    Option(("--short-names",), "short_names", "", "names of launches without kernel, initrd and command line, where there is one of them"),
+    Option(("--measure",), "measure", "", "measure the launches at once, and print the report. Without --out the folder is gone after it"),
+    Option(("--json",), "json", "", "with --measure: the report as JSON"),
+    Option(("--explain",), "explain", "", "print what each word of the command line does, and do nothing else"),
+    Option(("-C",), "folder", "DIR", "do all as if it were started in DIR: paths, those of a command line too, are read as from there"),
+    Option(("--rules",), "rules", "", "print the tables of the hypervisor, and do nothing else"),
     Option(("-h", "--help"), "help", "", "print this help"),
 ]
 
@@ -195,17 +188,24 @@ def algorithms(texts: list[str]) -> list[str]:
     return values
 
 
-def labelled(texts: list[str], prefix: str, most: int) -> list[Word]:
-    """Texts with labels: the text itself where each is another, can be part of a name and has at most so many letters, else a number."""
-    plain = all(re.fullmatch(r"[A-Za-z0-9._-]+", text) and len(text) <= most for text in texts) and len(set(texts)) == len(texts)
-    return [Word(text, text if plain else f"{prefix}{number}") for number, text in enumerate(texts, 1)]
+def personalization(text: str) -> str | None:
+    """The 64 bytes of a personalization value, which is hexadecimal digits or base64; None where it is neither."""
+    if re.fullmatch(r"[0-9a-fA-F]{128}", text):
+        return text.lower()
+    try:
+        data = base64.b64decode(text, validate=True)
+    except (binascii.Error, ValueError):
+        return None
+    return data.hex() if len(data) == 64 else None
 
 
 def appends(name: str, texts: list[str]) -> list[Word]:
-    """Command lines of the kernel, numbered in their order."""
+    """Command lines of the kernel."""
     for text in texts:
         if any(ord(letter) < 32 or ord(letter) == 127 for letter in text):
             raise WrongWords(f"{name}: {shown(text)} has a control character, expected a text of one line")
         if any("\ud800" <= letter <= "\udfff" for letter in text):
             raise WrongWords(f"{name}: {shown(text)} is not UTF-8, expected a text that is")
-    return [Word(text, f"append{number}") for number, text in enumerate(texts, 1)]
+        if len(text.encode()) > MOST_APPEND:
+            raise WrongWords(f"{name}: {shown(text, 40)} has {len(text.encode())} bytes, expected at most {MOST_APPEND}")
+    return labelled(texts)

@@ -1,0 +1,143 @@
+"""What is asked for: the options of rim-manifest, and a hypervisor's command line. That is after `--`, in a file, or made of a domain of
+libvirt's; an option that says the same counts in its place. A command line is one launch: only options ask for several."""
+from dataclasses import dataclass, field, replace
+
+from outside import files
+from outside.faults import Fault, WrongWords
+from outside.texts import shown, visible
+
+from . import host, libvirt, lines, names, words
+from .guest import Word
+from .host import Host
+from .hypervisor import Hypervisor
+from .sorting import Realm, Sorted
+
+# How long a file of command lines may be: each is a launch, of which a manifest takes 1,024.
+MOST_LINES = 4 << 20
+ONE_OF = ("the words after `--`", "--line", "--libvirt")
+
+
+@dataclass(frozen=True)
+class Line:
+    """A hypervisor's command line: its program where that may be started, and its words."""
+
+    program: str
+    words: list[str]
+
+
+def line_of(vmm: Hypervisor, said: dict) -> Line | None:
+    """The command line that is given; None where there is none. A program that a file names is not started: a file may be somebody else's."""
+    given = [name for name, has in zip(ONE_OF, (said["rest"], "line" in said, "libvirt" in said)) if has]
+    if len(given) > 1:
+        raise WrongWords(f"{' and '.join(given)}: both are given, expected one of them")
+    if "line" in said:
+        return Line("", lines.of_file(said["line"], vmm.PROGRAM, vmm.GRAMMAR.title))
+    if "libvirt" in said:
+        return Line("", libvirt.words_of(said["libvirt"]))
+    if not said["rest"] or said["rest"][0].startswith("-"):
+        return None
+    return Line(*lines.of_words(said["rest"], vmm.PROGRAM, vmm.GRAMMAR.title))
+
+
+@dataclass
+class Asked:
+    """What the options and the command line say, by the keys of the options; what the words that are no options do; and the keys that the
+    command line alone says."""
+
+    said: dict
+    others: Sorted
+    line: Line | None = None
+    of_line: set[str] = field(default_factory=set)
+
+
+def asked(vmm: Hypervisor, said: dict) -> Asked:
+    """What is asked for; nothing is refused yet of the words that are no options."""
+    line = line_of(vmm, said)
+    if line is None:
+        return Asked(said, vmm.sort_rest(said["rest"]))
+    others = vmm.sort(line.words)
+    of_line = set(others.said) - set(said)
+    said = others.said | said
+    if line.program and "program" not in said and "dtb" not in said and any(option.key == "program" for option in vmm.OPTIONS):
+        said["program"] = line.program
+    return Asked(said, others, line, of_line)
+
+
+def command_lines(said: dict) -> list[str]:
+    """The kernel's command lines of `-append` and of the files."""
+    texts = list(said.get("append", []))
+    for path in said.get("append_file", []):
+        what = "command lines, one a line"
+        found = [text for text in files.text_of(path, files.read(path, MOST_LINES, what), what).split("\n") if text]
+        if not found:
+            raise Fault(f"{visible(path)}: it has no command line, expected one a line")
+        texts += found
+    return texts or [""]
+
+
+def algorithms(said: dict, realm: Realm | None) -> list[str]:
+    """The hash algorithms: those of --algo, which the words of the realm may say too."""
+    if realm is None:
+        return words.algorithms(said.get("algo", ["sha256"]))
+    if realm.algorithm is None:
+        return words.algorithms(words.required(said, "algo", "--algo", f"one, since {realm.source} says none: what a realm then has is not "
+                                               "known"))
+    given = words.algorithms(said.get("algo", [realm.algorithm]))
+    if given != [realm.algorithm]:
+        raise WrongWords(f"--algo: {shown(','.join(given))}, expected {realm.algorithm}, which {realm.source} says")
+    return given
+
+
+def of_realm(about_host: Host, realm: Realm | None) -> Host:
+    """The host with the personalization value that the words of the realm say."""
+    value, has = realm and realm.personalization, about_host["rpv"]
+    if realm is None or value is None or has == value:
+        return about_host
+    if has is not None and str(has).lower() != value:
+        raise Fault(f"{about_host.name}: rpv = {shown(str(has))}, expected that of {realm.source}, {shown(value)}, or none")
+    return replace(about_host, values=about_host.values | {"rpv": value}, notes={"rpv": realm.source})
+
+
+def check_features(vmm: Hypervisor, cpus: list[Word], about_host: Host):
+    """What the words of a processor switch on or off, the host's file has to have on or off too."""
+    wrong = {}
+    for cpu in cpus:
+        for key, is_on in vmm.features(cpu.text).items():
+            if about_host[key] != is_on:
+                wrong[key] = (f"-cpu: {shown(cpu.text)}, and {about_host.name} has {key} = {host.value_shown(about_host[key])}, "
+                              f"expected {key} = {host.value_shown(is_on)} there, or another processor")
+    if wrong:
+        raise Fault(*wrong.values())
+
+
+def values(vmm: Hypervisor, what: Asked) -> dict[str, list]:
+    """The values of a launch's words. A command line has one of each: commas part several only in options."""
+    said = what.said
+    found: dict[str, list] = {"machine": vmm.read_machine(said), "cpu": vmm.read_cpu(said), "smp": vmm.read_smp(said),
+                              "memory": vmm.read_memory(said)}
+    for key in what.of_line & set(found):
+        if len(found[key]) > 1:
+            option = next(option for option in vmm.OPTIONS if option.key == key)
+            raise WrongWords(f"{option.names[0]}: {shown(said[key][0])}: several values in a command line, expected one; {option.names[-1]} "
+                             "before `--` asks for several")
+    return found
+
+
+def paths(vmm: Hypervisor, what: Asked) -> dict[str, list[tuple[str, str]]]:
+    """Names and paths of kernels and initrds."""
+    found = {}
+    for key in ("kernel", "initrd"):
+        option = next(option for option in vmm.OPTIONS if option.key == key)
+        found[key] = names.files(option.names[0], what.said.get(key, []), key in what.of_line)
+    return found
+
+
+def warnings(vmm: Hypervisor, what: Asked, machines: list[Word]) -> list[str]:
+    """What is done otherwise than the words say, or might be meant otherwise."""
+    seeds = vmm.FACTS.no_seeds
+    found = []
+    if len(machines) > 1:
+        found.append(f"-machine has {len(machines)} machines: there are launches for each, where QEMU would make one of them")
+    if what.line and seeds and not any(word.partition("=")[0] in machines[0].text for word in (seeds, "dtb-kaslr-seed")):
+        found.append(f"the command line has no {seeds}, which is added: start the guest with it too, or each start has another devicetree")
+    return found

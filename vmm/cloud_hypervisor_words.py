@@ -1,0 +1,62 @@
+"""What each word of cloud-hypervisor does. All of it is remembered, and nothing was tried. It writes no devicetree, so that is handed in,
+and what changes it alone is in it."""
+from outside.faults import WrongWords
+from outside.texts import shown
+
+from .sorting import Effect, Entry, Given, Grammar, Sorted, Takes, two_dashes
+
+ALONE, MANY = Takes.NOTHING, Takes.VALUES
+# The words of --platform that change the devicetree or nothing.
+PLATFORM = ("num_pci_segments", "iommu_segments", "iommu_address_width", "serial_number", "uuid", "oem_strings")
+
+
+def names(text: str) -> tuple[str, ...]:
+    return tuple(text.split())
+
+
+def once(name: str, texts: list[str]) -> str:
+    if len(texts) > 1:
+        raise WrongWords(f"{name}: it is given {len(texts)} times, expected once, as cloud-hypervisor takes it")
+    return texts[0]
+
+
+def read_platform(found: Sorted, given: Given):
+    keys = [part.partition("=")[0] for part in given.value.split(",")]
+    if unknown := [key for key in keys if key not in PLATFORM]:
+        found.refuse(given, f"what {', '.join(map(shown, unknown))} changes is not known, expected {', '.join(PLATFORM)}")
+    else:
+        found.drop(given)
+
+
+WORDS = [
+    Entry(names("--cpus"), Effect.LAYOUT, "the processors: those of boot=, and no more, since a realm gets none later", key="smp", joined=once),
+    Entry(names("--memory"), Effect.LAYOUT, "the size of RAM", key="memory", joined=once),
+    Entry(names("--kernel"), Effect.LAYOUT, "the kernel", key="kernel", joined=once),
+    Entry(names("--initramfs"), Effect.LAYOUT, "the initrd", key="initrd", joined=once),
+    Entry(names("--cmdline"), Effect.LAYOUT, "the kernel's command line", key="append", joined=once),
+    Entry(names("--platform"), Effect.TREE, "how many PCI segments there are, and names", read=read_platform),
+    Entry(names("--serial --console"), Effect.TREE, "a UART has a node", takes=Takes.VALUE),
+    Entry(names("--disk --net --fs --device --user-device --vdpa"), Effect.HARMLESS, "devices on PCI, which has a node anyway", takes=MANY),
+    Entry(names("--vsock --rng --balloon"), Effect.HARMLESS, "a device on PCI, which has a node anyway"),
+    Entry(names("--watchdog --pvpanic"), Effect.HARMLESS, "a device on PCI, which has a node anyway", takes=ALONE),
+    Entry(names("--api-socket --event-monitor --log-file --seccomp --gdb"), Effect.HARMLESS, "how it runs itself"),
+    Entry(names("--landlock-rules"), Effect.HARMLESS, "how it runs itself", takes=MANY),
+    Entry(names("-v -vv -vvv --landlock"), Effect.HARMLESS, "how it runs itself", takes=ALONE),
+    Entry(names("--firmware"), Effect.REFUSED, "firmware is another layout, which no table has", "expected a line without it, with --kernel"),
+    Entry(names("--restore"), Effect.REFUSED, "all of RAM comes from elsewhere then", "expected a guest that begins by itself"),
+    Entry(names("--memory-zone"), Effect.REFUSED, "other RAM than that of --memory", "expected all RAM by --memory", MANY),
+    Entry(names("--pmem"), Effect.REFUSED, "it adds memory that no table has", "expected --disk", MANY),
+]
+GRAMMAR = Grammar("cloud-hypervisor", WORDS, two_dashes)
+
+
+def sort(words: list[str]) -> Sorted:
+    return GRAMMAR.sort(words, True)
+
+
+def sort_rest(words: list[str]) -> Sorted:
+    return GRAMMAR.sort(words, False)
+
+
+def refuse_before(words: list[str]):
+    GRAMMAR.refuse_before(words)

@@ -1,0 +1,79 @@
+"""What a hypervisor is to rim-manifest: its layout, its words, and facts about it. A module of vmm is one where it has all of this."""
+from dataclasses import dataclass, field
+from typing import Protocol
+
+from .guest import Guest, Memory, Processors, Word
+from .layout import Row
+from .sorting import Grammar, Sorted
+from .words import Option
+
+
+@dataclass(frozen=True)
+class Facts:
+    """What a hypervisor does, beside the rows of its layout."""
+
+    dtb_align: int                              # of what its devicetree's address is a multiple
+    ends_after_dump: bool = False               # whether its program ends once a devicetree is written
+    dtb_length: int | None = None               # how long its devicetrees are, where that is always the same
+    dtb_is_past_initrd: bool = True
+    adds_boot_words: bool = False               # whether it puts words of its own beside the kernel's command line
+    no_seeds: str = ""                          # the word without which each start has other seeds
+    gic_3: str = ""                             # the word for GIC 3
+    unpacks_gzip: bool = False
+    zboot: dict[str, tuple[int, int]] = field(default_factory=dict)     # by which packing, since which version it unpacks an EFI zboot
+    host_needs: dict[str, str] = field(default_factory=dict)            # keys that the host's file has to have for it, and why
+
+
+class Hypervisor(Protocol):
+    """What all of rim-manifest asks of a hypervisor. `HYPERVISORS` of vmm/hypervisors.py names those that there are."""
+
+    NAME: str                   # what the command line calls it
+    TITLE: str
+    USAGE: str                  # what comes after its options in a line of use
+    PROGRAM: str                # a pattern of the names that its program has
+    OPTIONS: list[Option]       # the options of rim-manifest that only it has
+    TABLE: list[Row]
+    GRAMMAR: Grammar            # the table of its words, and how they are spelled
+    FACTS: Facts
+
+    def sort(self, words: list[str]) -> Sorted:
+        """Sorts a whole command line, without the program."""
+
+    def sort_rest(self, words: list[str]) -> Sorted:
+        """Sorts words that are beside those of its options."""
+
+    def refuse_before(self, words: list[str]) -> None:
+        """Says of words among the options, the first of which is none, what is to be done with them."""
+
+    def read_machine(self, said: dict) -> list[Word]:
+        """The machines."""
+
+    def read_cpu(self, said: dict) -> list[Word]:
+        """The models of processors."""
+
+    def read_smp(self, said: dict) -> list[Processors]:
+        """The numbers of processors."""
+
+    def read_memory(self, said: dict) -> list[Memory]:
+        """The sizes of RAM."""
+
+    def check_realm(self, machine: str, others: Sorted) -> None:
+        """Refuses words of the machine and of the realm that do not fit."""
+
+    def features(self, cpu: str) -> dict[str, bool]:
+        """What the words of a processor switch on or off, by the keys of the host's file."""
+
+    def processor(self, guest: Guest) -> str | None:
+        """What the devicetree says of the processors; None where it is not known."""
+
+    def has_gic_3(self, guest: Guest) -> bool:
+        """Whether the words ask for GIC 3."""
+
+    def dump_words(self, guest: Guest, path: str) -> list[str]:
+        """The words by which its program writes a devicetree to a path; without kernel, initrd and command line."""
+
+    def final_words(self, guest: Guest) -> list[str]:
+        """The words of a launch; without kernel, initrd and command line."""
+
+    def load_words(self, kernel: str, initrd: str, append: str) -> list[str]:
+        """The words for kernel, initrd and command line."""

@@ -1,0 +1,91 @@
+"""What each word of `lkvm run` does. All of it is remembered, and nothing was tried.
+
+For a devicetree lkvm starts the guest itself. So a dump is given no word by which it would open what a running guest has open.
+"""
+from outside.faults import WrongWords
+from outside.texts import shown
+
+from .sorting import Effect, Entry, Given, Grammar, Realm, Sorted, Takes, two_dashes
+from .words import ALGORITHMS
+
+ALONE = Takes.NOTHING
+# How many bytes a personalization value has.
+RPV = 64
+
+
+def names(text: str) -> tuple[str, ...]:
+    return tuple(text.split())
+
+
+def read_opens(found: Sorted, given: Given):
+    """A device that is in the devicetree, of what a dump may not open."""
+    found.drop(given)
+    found.opens.append(given)
+
+
+def read_realm(found: Sorted, given: Given):
+    """The words of the realm, each once."""
+    before = found.realm or Realm(given.words[0])
+    algorithm, value = before.algorithm, before.personalization
+    if given.name == "--measurement-algo":
+        if algorithm is not None:
+            found.refuse(given, "--measurement-algo is given twice, expected once")
+        elif given.value not in ALGORITHMS:
+            found.refuse(given, f"expected {' or '.join(ALGORITHMS)}")
+        algorithm = given.value
+    elif given.name == "--realm-pv":
+        data = given.value.encode(errors="surrogateescape")
+        if value is not None:
+            found.refuse(given, "--realm-pv is given twice, expected once")
+        elif not 0 < len(data) <= RPV:
+            found.refuse(given, f"its value has {len(data)} bytes, expected 1 to {RPV}")
+        value = data.ljust(RPV, b"\0").hex()
+    found.keep(given)
+    source = given.name if algorithm != before.algorithm else before.source
+    found.realm = Realm(source, "realm" if given.name == "--realm" else before.name, algorithm, value)
+
+
+WORDS = [
+    Entry(names("-c --cpus"), Effect.LAYOUT, "the processors; of several the last counts", key="smp"),
+    Entry(names("-m --mem"), Effect.LAYOUT, "the size of RAM; of several the last counts", key="memory"),
+    Entry(names("-k --kernel"), Effect.LAYOUT, "the kernel; of several the last counts", key="kernel"),
+    Entry(names("-i --initrd"), Effect.LAYOUT, "the initrd; of several the last counts", key="initrd"),
+    Entry(names("-p --params"), Effect.LAYOUT, "the kernel's command line; of several the last counts", key="append"),
+    Entry(names("--realm"), Effect.TREE, "the guest is a realm", takes=ALONE, read=read_realm),
+    Entry(names("--measurement-algo"), Effect.TREE, "the realm's hash algorithm", read=read_realm),
+    Entry(names("--realm-pv"), Effect.TREE, "the realm's personalization value: the bytes of the text, with zeros up to 64", read=read_realm),
+    Entry(names("--restricted_mem --pmu --force-pci --virtio-legacy --no-pvtime --nodefaults --no-dhcp"), Effect.TREE,
+          "nodes of the devicetree, or words of its command line", takes=ALONE),
+    Entry(names("--sve-vl --irqchip --virtio-transport --console"), Effect.TREE, "nodes of the devicetree, or words of its command line"),
+    Entry(names("-d --disk -n --network --9p --vsock --tty --vfio-pci"), Effect.TREE, "a device, which has a node", read=read_opens),
+    Entry(names("--rng --balloon"), Effect.TREE, "a device, which has a node", takes=ALONE, read=read_opens),
+    Entry(names("--name --loglevel --hugetlbfs --dev --vcpu-affinity"), Effect.HARMLESS, "how lkvm itself runs"),
+    Entry(names("--debug --debug-single-step --debug-ioport --debug-mmio"), Effect.HARMLESS, "how lkvm itself runs", takes=ALONE),
+    Entry(names("-f --firmware --flash"), Effect.REFUSED, "lkvm then starts firmware, which is another layout that no table has",
+          "expected a line without it, with --kernel"),
+    Entry(names("--dump-dtb"), Effect.REFUSED, "rim-manifest adds it itself", "expected --lkvm PROGRAM, or --dtb with what it wrote"),
+    Entry(names("--kaslr-seed"), Effect.REFUSED, "the devicetree has a seed then", "expected no such word"),
+    Entry(names("--aarch32 --nested"), Effect.REFUSED, "no realm has such processors", "expected no such word", ALONE),
+]
+GRAMMAR = Grammar("lkvm", WORDS, two_dashes)
+
+
+def whole(found: Sorted) -> Sorted:
+    """What was sorted, where the words of the realm are with the one that makes it a realm."""
+    if found.realm and found.realm.name is None:
+        found.faults.append(f"{found.realm.source}: it is of a realm, expected --realm too")
+    return found
+
+
+def sort(words: list[str]) -> Sorted:
+    if words[:1] != ["run"]:
+        raise WrongWords(f"{shown(words[0]) if words else 'nothing'}: it comes after lkvm, expected run and its words")
+    return whole(GRAMMAR.sort(words[1:], True))
+
+
+def sort_rest(words: list[str]) -> Sorted:
+    return whole(GRAMMAR.sort(words, False))
+
+
+def refuse_before(words: list[str]):
+    GRAMMAR.refuse_before(words)
