@@ -36,6 +36,7 @@ import tomllib
 
 TOP = os.path.dirname(os.path.dirname(os.path.abspath(__file__)))
 START = os.path.join(TOP, "rim-manifest")
+LINES = os.path.join(TOP, "tests", "lines")
 sys.path.insert(0, TOP)
 
 from vmm import host as host_keys  # noqa: E402, the path is set above
@@ -511,8 +512,99 @@ FAULTS = [
 ]
 
 
+# Command lines that no launch can be made of: a name, the hypervisor, the text, the status and what a line on standard error has.
+HAND = "qemu-system-aarch64 -M virt,gic-version=3 -cpu max -m 256M -kernel Image"
+LKVM_HAND = "lkvm run -c 1 -m 256 -k Image"
+LINE_STOPS = [
+    ("unknown words are named at once", "qemu", HAND + " -new 1 --other -S disk.img", 2,
+     '"-new 1", "--other", "disk.img": no words of QEMU\'s that are known, so what they change is not known, expected no such words'),
+    ("unknown words of -machine", "qemu", HAND + " -M new=1,other=2", 2, '-machine: "new=1", "other=2": what they change is not known'),
+    ("very many unknown words", "qemu", HAND + " -x" * 5000, 2, '"-x": no word of QEMU\'s'),
+    ("firmware", "qemu", HAND + " -bios F", 2, "-bios F: QEMU then starts firmware and puts no kernel into RAM, which is another layout that "
+     "no table has; expected a line without it, by which QEMU itself loads the kernel of -kernel"),
+    ("flash", "qemu", HAND + " -M pflash0=a", 2, '-machine: "pflash0=a": QEMU then starts firmware'),
+    ("an object", "qemu", HAND + " -object new,id=a", 2, "-object new,id=a: whether it changes what is measured is not known"),
+    ("a member of JSON twice", "qemu", HAND + """ -device '{"driver":"virtio-rng-pci","driver":"loader"}'""", 2, "it begins as JSON and is none"),
+    ("several numbers of processors", "qemu", HAND + " -smp 1,2", 2, '-smp: "1,2": "2" has no value, expected cpus and words with values'),
+    ("several sizes", "qemu", HAND + " -m 1G,2G", 2, '-m: "1G,2G": "2G" has no value, expected size and words with values'),
+    ("several sizes of lkvm", "kvmtool", LKVM_HAND + " -m 1G,2G", 2, '-m: "1G,2G": several values in a command line'),
+    ("several numbers of cloud-hypervisor", "cloud-hypervisor", "cloud-hypervisor --cpus boot=1,boot=2 --kernel Image", 2,
+     '--cpus: "boot=1,boot=2": several values in a command line, expected one; --each-smp before `--` asks for several'),
+    ("slots without maxmem", "qemu", HAND + " -m 1G,slots=2", 2, "slots and no maxmem, expected both"),
+    ("maxmem below RAM", "qemu", HAND + " -m 2G,slots=2,maxmem=1G", 2, "maxmem is less than RAM, expected at least 2147483648"),
+    ("a small window", "qemu", HAND + " -M highmem-mmio-size=1G", 2, "expected a power of two, at least 512G"),
+    ("two realms", "qemu", HAND + " -M confidential-guest-support=a -object rme-guest,id=a -object rme-guest,id=b", 2, "it is the second rme-guest"),
+    ("two algorithms of a realm", "qemu", HAND + " -M confidential-guest-support=a -object rme-guest,id=a,measurement-algo=sha256,"
+     "measurement-algorithm=sha512", 2, "measurement-algorithm is given twice"),
+    ("a word of a realm that is not known", "qemu", HAND + " -M confidential-guest-support=a -object rme-guest,id=a,measurement-log=on", 2,
+     "what measurement-log changes is not known"),
+    ("lkvm: two algorithms", "kvmtool", LKVM_HAND + " --realm --measurement-algo sha256 --measurement-algo=sha256", 2, "given twice"),
+    ("lkvm: another algorithm", "kvmtool", LKVM_HAND + " --realm --measurement-algo sha1", 2, "--measurement-algo sha1: expected sha256 or sha512"),
+    ("lkvm: an algorithm of no realm", "kvmtool", LKVM_HAND + " --measurement-algo sha256", 2, "it is of a realm, expected --realm too"),
+    ("lkvm: a long personalization value", "kvmtool", LKVM_HAND + " --realm --realm-pv " + "a" * 65, 2, "its value has 65 bytes, expected 1 to 64"),
+    ("lkvm: another command", "kvmtool", "lkvm stop -a", 2, '"stop": it comes after lkvm, expected run and its words'),
+    ("cloud-hypervisor: a word twice", "cloud-hypervisor", "cloud-hypervisor --kernel a --kernel b", 2, "--kernel: it is given 2 times, expected once"),
+    ("cloud-hypervisor: a word of its platform", "cloud-hypervisor", "cloud-hypervisor --kernel Image --platform tdx=on", 2, '"tdx" changes is not'),
+    ("a long command line of the kernel", "qemu", HAND + " -append " + "a" * (1 << 20), 2, "has 1048576 bytes, expected at most 65536"),
+    ("a variable", "qemu", "K=Image\n" + HAND + ' -initrd "$K"', 3, 'l: line 2: "$K\\"": a shell would expand it, and none is run, expected'),
+    ("a command in a command", "qemu", HAND + " -initrd `ls`", 3, 'l: line 1: "`ls`": a shell would expand it'),
+    ("a pattern", "qemu", HAND + " -initrd initrd*", 3, 'l: line 1: "*": a shell would expand it'),
+    ("a home", "qemu", HAND + " -initrd ~/initrd", 3, 'l: line 1: "~/initrd": a shell would expand it'),
+    ("a brace", "qemu", HAND + " -device {a,b}", 3, 'l: line 1: "{a,b}": a shell would expand it'),
+    ("a quote without an end", "qemu", HAND + "\n-append 'a", 3, "l: line 2: ' has no end, expected one"),
+    ("a line without a backslash", "qemu", HAND + "\n    -append a", 3, 'l: line 2: a command begins with "-append", expected a backslash'),
+    ("lines of another system", "qemu", HAND + " \\\r\n -append a", 3, "l: line 1: a carriage return, expected lines that end with a line feed"),
+    ("a document", "qemu", HAND + " <<END\nEND\n", 3, "l: line 1: a document in the text"),
+    ("two lines", "qemu", f"{HAND}\n{HAND}", 3, "l: it has 2 command lines of QEMU's, in lines 1 and 2, expected one"),
+    ("no line", "qemu", LKVM_HAND, 3, "l: it has no command line of QEMU's, expected one"),
+    ("another program", "qemu", HAND.replace("aarch64", "x86_64"), 3, "l: it has no command line of QEMU's, expected one"),
+    ("another folder", "qemu", f"cd /\n{HAND}", 3, 'l: line 1: "cd /": paths are of another folder after it, expected -C DIR'),
+    ("a folder of env's", "qemu", f"env -C / {HAND}", 3, 'l: line 1: "-C" is before the program, so that paths are of another folder'),
+    ("another program before it", "qemu", f"docker run a {HAND}", 3, 'l: line 1: "docker" is before the program, and what it does is not known'),
+    ("a text that is long", "qemu", "#" * (4 << 20 | 1), 3, "l: it has more than 4194304 bytes"),
+]
+
+
+def domain(**changes: tuple[str, str]) -> bytes:
+    """The domain of tests/lines, in which a text is another one."""
+    with open(os.path.join(LINES, "domain.xml"), encoding="utf-8") as file:
+        text = file.read()
+    for old, new in changes.values():
+        assert old in text
+        text = text.replace(old, new)
+    return text.encode()
+
+
+DOMAIN_STOPS = [
+    ("a DOCTYPE", ("<domain ", '<!DOCTYPE domain [<!ENTITY a SYSTEM "/etc/passwd">]><domain '), 3, 'it has a DOCTYPE, "domain"'),
+    ("no XML", ("</domain>", ""), 3, "l: it is no XML that is read here (no element found"),
+    ("another element", ("<clock offset='utc'/>", "<new/><other/>"), 2, "l: <new>, <other>: what they change is not known, expected a domain without"),
+    ("firmware", ("<kernel>", "<loader>a</loader><kernel>"), 2, "l: <loader>: firmware is started then, and the kernel is not in RAM"),
+    ("firmware by itself", ("<os>", "<os firmware='efi'>"), 2, "l: <os>: its firmware is started"),
+    ("no kernel", ("<kernel>Image</kernel>", ""), 2, "l: <os>: it has no <kernel>, so that firmware is started"),
+    ("a devicetree", ("<kernel>", "<dtb>a</dtb><kernel>"), 2, "l: <dtb>: QEMU edits such a file"),
+    ("another architecture", ("aarch64' m", "x86_64' m"), 2, "l: <type>: expected arch='aarch64' and a machine"),
+    ("a TPM", ("<memballoon model='virtio'/>", "<tpm model='tpm-tis'/>"), 2, "l: <tpm>: what it changes is not known"),
+    ("RAM that is plugged in", ("<memballoon model='virtio'/>", "<memory model='dimm'/>"), 2, "l: <memory>: what it changes is not known"),
+    ("a device of the host", ("<memballoon model='virtio'/>", "<hostdev type='mdev'/>"), 2, 'l: <hostdev>: whether a "mdev" changes'),
+    ("no GIC", ("<gic version='3'/>", ""), 2, "l: <features>: it has no <gic version='3'/>"),
+    ("GIC 2", ("<gic version='3'/>", "<gic version='2'/>"), 2, '-machine: "gic-version=2": the interrupt controller'),
+    ("a model of the host's", ("host-passthrough", "host-model"), 2, 'l: <cpu>: mode "host-model" is a model that the host decides'),
+    ("a policy", ("policy='disable'", "policy='optional'"), 2, 'l: <feature>: policy "optional", expected force, require'),
+    ("distances", ("unit='KiB'/></numa>", "unit='KiB'><distances/></cell></numa>"), 2, "l: <numa>: what is in it beside"),
+    ("another unit", ("<memory unit='KiB'>", "<memory unit='x'>"), 2, 'l: <memory>: its unit is "x"'),
+    ("no number", (">1048576</memory>", ">many</memory>"), 2, 'l: <memory>: "many", expected a whole number'),
+    ("another realm", ("<seclabel type='none'/>", "<launchSecurity type='sev'/>"), 2, "l: <launchSecurity>: expected type='cca' with"),
+    ("a word of QEMU's", ("'dtb-randomness=off'", "'firmware=a'"), 2, '-machine: "firmware=a": QEMU then starts firmware'),
+    ("another kind of guest", ("<domain type='kvm'", "<domain type='xen'"), 2, 'l: <domain>: its type is "xen", expected kvm or qemu'),
+]
+
+
 STOPS = [(f"words: {name}", words, {}, 2, text) for name, words, text in WRONG]
 STOPS += [(f"fault: {name}", words, files, 3, text) for name, words, files, text in FAULTS]
+LINE_OF = ["--host", "host.toml", "--out", "out", "--dtb", "tree"]
+STOPS += [(f"a line: {name}", [vmm, "--line", "l", *LINE_OF], {"l": text.encode()}, *rest) for name, vmm, text, *rest in LINE_STOPS]
+STOPS += [(f"a domain: {name}", ["qemu", "--libvirt", "l", *LINE_OF], {"l": domain(a=change)}, *rest) for name, change, *rest in DOMAIN_STOPS]
 
 
 def stops(number: int) -> list[str]:
@@ -594,6 +686,22 @@ QEMU_PLACES = [
      {"stub": LOW, "kernel": 0x4020_0000, "dtb": 0x4800_0000}, LOW, [], 33),
     ("highmem-mmio=off", ["-M", "virt,highmem-mmio=off", "-cpu", "max", "-m", "1G"], image(), None, [(LOW, 0x8000_0000)],
      {"stub": LOW, "kernel": 0x4020_0000, "dtb": 0x4800_0000}, LOW, [], 40),
+    ("highmem-ecam=off", ["-M", "virt,highmem-ecam=off", "-cpu", "max", "-m", "1G"], image(), None, [(LOW, 0x8000_0000)],
+     {"stub": LOW, "kernel": 0x4020_0000, "dtb": 0x4800_0000}, LOW, [], 41),
+    ("windows that leave their room", ["-M", "virt,highmem-mmio=off,compact-highmem=off", "-cpu", "max", "-m", "1G"], image(), None,
+     [(LOW, 0x8000_0000)], {"stub": LOW, "kernel": 0x4020_0000, "dtb": 0x4800_0000}, LOW, [], 41),
+    ("windows that leave their room by the machine", ["-M", "virt-7.2,highmem-mmio=off", "-cpu", "max", "-m", "1G"], image(), None,
+     [(LOW, 0x8000_0000)], {"stub": LOW, "kernel": 0x4020_0000, "dtb": 0x4800_0000}, LOW, [], 41),
+    ("a larger window", ["-M", "virt,highmem-mmio-size=1T", "-cpu", "max", "-m", "1G"], image(), None, [(LOW, 0x8000_0000)],
+     {"stub": LOW, "kernel": 0x4020_0000, "dtb": 0x4800_0000}, LOW, [], 42),
+    ("memory slots", [*Q, "-m", "1G,slots=4,maxmem=8G"], image(), None, [(LOW, 0x8000_0000)],
+     {"stub": LOW, "kernel": 0x4020_0000, "dtb": 0x4800_0000}, LOW, [], 41),
+    ("memory slots up to 511 GiB", [*Q, "-m", "1G,slots=10,maxmem=500G"], image(), None, [(LOW, 0x8000_0000)],
+     {"stub": LOW, "kernel": 0x4020_0000, "dtb": 0x4800_0000}, LOW, [], 41),
+    ("memory slots past 512 GiB", [*Q, "-m", "1G,slots=12,maxmem=500G"], image(), None, [(LOW, 0x8000_0000)],
+     {"stub": LOW, "kernel": 0x4020_0000, "dtb": 0x4800_0000}, LOW, [], 42),
+    ("memory slots without windows", ["-M", "virt,highmem-mmio=off,highmem-ecam=off,highmem-redists=off", "-cpu", "max", "-m",
+     "1G,slots=2,maxmem=6G"], image(), None, [(LOW, 0x8000_0000)], {"stub": LOW, "kernel": 0x4020_0000, "dtb": 0x4800_0000}, LOW, [], 35),
     ("no window above RAM", ["-M", "virt,highmem-mmio=off,highmem-ecam=off,highmem-redists=off", "-cpu", "max", "-m", "4G"], image(), None,
      [(LOW, 0x1_4000_0000)], {"stub": LOW, "kernel": 0x4020_0000, "dtb": 0x4800_0000}, LOW, [], 34),
 ]
@@ -640,6 +748,40 @@ def placed(program: str, words: list[str], kernel: bytes, initrd: int | None, ra
             stub = "c0000058e1031faae2031faae3031faa8400005880001fd6" + struct.pack("<QQ", at["dtb"], entry).hex()
             wrong += differs("stub", folder.read("out/stub-1").hex(), stub)
         return wrong + read_by(program, folder, count=1)
+
+
+def line(program: str, name: str):
+    """How the launch of a command line of tests/lines differs from what is beside it, which was worked out by hand."""
+    with open(os.path.join(LINES, name + ".toml"), "rb") as file:
+        expected = tomllib.load(file)
+    at, length = expected["at"], len(INITRD)
+    is_qemu = expected["hypervisor"] == "qemu"
+    made = tree(expected["ram"], expected["bootargs"], (at["initrd"], at["initrd"] + length) if "initrd" in at else None, expected["recs"],
+                MIB if is_qemu else None, **NO_PCIE if expected["s2sz"] < 41 else {},
+                **{} if expected.get("host", {}).get("pmu", True) else {"pmu": None})
+    about = host(**{} if expected.get("host", {}).get("pmu", True) else {"pmu": "false", "pmu_num_ctrs": None})
+    with Folder({"tree": made, "host.toml": about}) as folder:
+        for path in os.listdir(LINES):
+            shutil.copy(os.path.join(LINES, path), folder.path)
+        status, _, said = folder.run(expected["hypervisor"], *expected["options"], "--host", "host.toml", "--out", "out", "--dtb", "tree")
+        if status or ("has no dtb-randomness=off, which is added" in said) != expected.get("warns", False) or said.count("\n") > 1:
+            return [f"status {status}, {said!r}"]
+        launch, record = first(folder), recorded(folder)
+        wrong = differs("launches", len(folder.toml()["launch"]), 1)
+        for key in ("name", "algo", "rpv", "s2sz", "ram"):
+            wrong += differs(key, launch.get(key), expected.get(key))
+        wrong += differs("items", {item["name"]: item["at"] for item in launch["item"]}, at)
+        recs = [{"pc": hex(expected["pc"]), "x": [hex(each) for each in expected.get("x", [])]}]
+        wrong += differs("rec", launch["rec"], recs + [{"runnable": False}] * (expected["recs"] - 1))
+        wrong += differs("words", record["words"], expected["words"]) + differs("rest", record["rest"], expected["rest"])
+        wrong += differs("append", record["append"], expected["bootargs"])
+        return wrong + read_by(program, folder, count=1)
+
+
+def lines(program: str):
+    for name in sorted(os.listdir(LINES)):
+        if name.endswith(".toml"):
+            yield f"line of {name.removesuffix('.toml')}", lambda name=name: line(program, name.removesuffix(".toml"))
 
 
 def places(program: str):
@@ -821,6 +963,87 @@ def measured(program: str):
         return wrong + differs("a fault", (status, out, "rim check manifest.toml" in said), (3, "", True))
 
 
+PASTED = ["-M", "virt", "-cpu", "max", "-M", "gic-version=3,dtb-randomness=off", "-m", "256M", "-smp", "4", "-kernel", "Image", "-nographic",
+          "-drive", "file=live/disk,if=none,id=a", "-serial", "mon:stdio"]
+QEMU_NAME = "./qemu-system-aarch64"
+
+
+def pasted(program: str):
+    """A whole line after `--`: its program makes the devicetrees, and options ask for several values in the place of its own."""
+    asked = ["qemu", "--host", "host.toml", "--out", "out", "--each-smp", "1,2", "--each-kernel", "b", "--kernel", "new=Image"]
+    with Folder(TREES | {"b": OTHER_IMAGE}) as folder:
+        folder.put(QEMU_NAME, STAND_IN.encode(), is_program=True)
+        status, out, said = folder.run(*asked, "--", "A=b", "sudo", "-E", QEMU_NAME, *PASTED)
+        wrong = differs("status", (status, out, said), (0, "out/manifest.toml: 4 launches, 5 files\n", ""))
+        wrong += differs("names", names_of(folder), [f"256M-smp{n}-{kernel}-no-initrd-sha256" for n in (1, 2) for kernel in ("b", "new")])
+        record = json.loads(folder.read("out/record.json"))
+        wrong += differs("line", record["line"], PASTED) + differs("rest", recorded(folder)["rest"], ["-serial", "null"])
+        digests = {name: hashlib.sha256(data).hexdigest() for name, data in (("b", OTHER_IMAGE), ("Image", FILES["Image"]))}
+        wrong += differs("sources", record["sources"], {"kernel-b": {"path": "b", "sha256": digests["b"]},
+                                                        "kernel-new": {"path": "Image", "sha256": digests["Image"]}})
+        return wrong + read_by(program, folder, count=4)
+
+
+def one_step(program: str):
+    """--measure prints what the script measure prints. Without --out nothing is left; -C has all paths be of a folder."""
+    words = ["qemu", "--host", "host.toml", "--dtb", "tree"]
+    line = ["--", QEMU_NAME, *replaced(PASTED, "-smp", "1")]
+    with Folder({"Image": gzip.compress(image())}) as folder:
+        before = folder.names()
+        status, report, said = folder.run(*words, "--measure", *line)
+        wrong = differs("status", (status, said, folder.names()), (0, "", before))
+        wrong += differs("report", (report.splitlines()[0], report.count("\n")), ("rim-report 1", 3))
+        status, joined, said = folder.run(*words, "--measure", "--json", "--out", "out", *line)
+        launch = json.loads(joined)["launches"][0] if not status else {}
+        wrong += differs("JSON", f"{launch.get('name')} {launch.get('algorithm')} {launch.get('rim')}", report.splitlines()[1])
+        wrong += differs("the script", folder.run(start=os.path.join(folder.path, "out", "measure"), RIM=program)[1], report)
+        digest = hashlib.sha256(folder.read("Image")).hexdigest()
+        wrong += differs("the comment", f"what was copied has sha256 {digest}" in folder.read("out/manifest.toml").decode(), True)
+        ran = subprocess.run([START, *words, "-C", os.path.basename(folder.path), "--measure", *line], cwd=os.path.dirname(folder.path),
+                             capture_output=True, timeout=SECONDS, check=False, text=True)
+        wrong += differs("-C", (ran.returncode, ran.stdout, ran.stderr), (0, report, ""))
+        folder.put("tree", tree([(LOW, LOW + 256 * MIB)], bootargs="other"))
+        status, out, said = folder.run(*words, "--measure", *line)
+        return wrong + differs("a fault", (status, out, folder.names() - before), (3, "", {"out"}))
+
+
+EXPLAINED = """\
+layout    -M virt,secure=on
+refused     secure=on
+refused   -bios F
+harmless  -nographic
+tree      -serial null
+harmless  -device virtio-rng-pci
+unknown   -new 1
+"""
+
+
+def explained(_program: str):
+    """--explain says what each word does, and refuses what a launch has none of, each on a line."""
+    words = ["-M", "virt,secure=on", "-bios", "F", "-nographic", "-serial", "null", "-device", "virtio-rng-pci", "-new", "1"]
+    with Folder() as folder:
+        status, out, said = folder.run("qemu", "--explain", "--", QEMU_NAME, *words)
+        lines = "".join(line + "\n" for line in out.splitlines()[::2])
+        wrong = differs("words", lines, EXPLAINED)
+        return wrong + differs("faults", (status, [line.split(":")[1] for line in said.splitlines()]), (2, [" -bios F", ' "-new 1"', " -machine"]))
+
+
+def long_names(_program: str):
+    """Long names are cut from the middle, and mean what they did whatever is beside them; characters that a name may not have are replaced."""
+    debian, long = "vmlinuz-6.12.117+deb13-arm64", "k" * 40 + "1"
+    files = {debian: image(), long: OTHER_IMAGE, long[:-1] + "2": image(length=4096)}
+    wrong, names = [], {}
+    with Folder(files) as folder:
+        for out, words in (("a", [debian]), ("b", [debian, long]), ("c", [debian, long, long[:-1] + "2"])):
+            kernels = [word for path in words for word in ("-kernel", path)]
+            status, _, said = folder.run(*replaced(without(WITH_TREE, "-kernel"), "--out", out), *kernels)
+            wrong += differs(f"status of {out}", (status, said), (0, ""))
+            names[out] = [launch["name"] for launch in folder.toml(f"{out}/manifest.toml")["launch"]]
+    wrong += differs("Debian's", names["a"], ["256M-smp1-vmlinuz-6.12.117_deb13-arm64-no-initrd-sha256"])
+    wrong += differs("the same parts", (names["b"][:1], names["c"][:2]), (names["a"], names["b"]))
+    return wrong + differs("lengths", [len(name) for name in names["c"][1:]], [64, 64]) + differs("each another", len(set(names["c"])), 3)
+
+
 MADE = ["dtb-1", "kernel", "manifest.toml", "measure", "record.json", "stub-1"]
 
 
@@ -949,6 +1172,7 @@ BAD_PROGRAMS = [
     ("writes a FIFO", 'mkfifo "$path"', "the devicetree of launch 256M-smp1-Image-no-initrd-sha256: it is a FIFO, expected a devicetree"),
     ("writes a folder", 'mkdir "$path"', "the devicetree of launch 256M-smp1-Image-no-initrd-sha256: it is a folder"),
     ("says escapes", r"printf 'a\033[2Jb\n' >&2; exit 1", "(status 1): a\\x1b[2Jb"),
+    ("names a copy", 'while [ "$1" != -kernel ]; do shift; done; echo "no $2 here" >&2; exit 1', "(status 1): no Image here\n"),
     ("says nothing", "exit 9", "has written no devicetree (status 9): it says nothing"),
     ("is killed", "kill -9 $$", "has written no devicetree (status -9)"),
 ]
@@ -1142,8 +1366,8 @@ def main():
         raise SystemExit(f"{program} is not built")
     os.environ["RIM"] = program
     tries = [(f"option: {name}", lambda each=(words, look, *rest): option(program, *each)) for name, words, look, *rest in OPTIONS]
-    tries += [*places(program)] + [(each.__name__, lambda each=each: each(program)) for each in (
-        matrix, measured, forced, not_forced, stopped_midway, bad_programs, signals, full, read_once, odd_names, fifos, unharmed, started, texts, documents)]
+    tries += [*places(program), *lines(program)] + [(each.__name__, lambda each=each: each(program)) for each in (
+        pasted, one_step, explained, long_names, matrix, measured, forced, not_forced, stopped_midway, bad_programs, signals, full, read_once, odd_names, fifos, unharmed, started, texts, documents)]
     processors = len(os.sched_getaffinity(0))
     with concurrent.futures.ProcessPoolExecutor(processors) as pool:
         outcomes = [(each[0], wrong) for each, wrong in zip(STOPS, pool.map(stops, range(len(STOPS)), chunksize=8))]

@@ -31,7 +31,7 @@ def line_of(vmm: Hypervisor, said: dict) -> Line | None:
     if len(given) > 1:
         raise WrongWords(f"{' and '.join(given)}: both are given, expected one of them")
     if "line" in said:
-        return Line("", lines.of_file(said["line"], vmm.PROGRAM, vmm.GRAMMAR.title))
+        return Line("", lines.of_file(said["line"], vmm.PROGRAM, vmm.GRAMMAR.title, "folder" in said))
     if "libvirt" in said:
         return Line("", libvirt.words_of(said["libvirt"]))
     if not said["rest"] or said["rest"][0].startswith("-"):

@@ -4,7 +4,7 @@ elements that change nothing which is measured are in a table. One that is in no
 What comes of each element is remembered of libvirt's sources (qemu_command.c), and was not tried with a libvirt.
 """
 import re
-from collections.abc import Callable, Iterator
+from collections.abc import Callable
 from xml.etree import ElementTree
 from xml.etree.ElementTree import Element
 
@@ -13,13 +13,13 @@ from outside.faults import Fault, WrongWords
 from outside.texts import shown, visible
 
 from .guest import KIB
+from .sorting import listed
 
 # How long a domain may be.
 MOST = 4 << 20
 UNITS = {"b": 1, "bytes": 1, "KB": 1000, "k": KIB, "KiB": KIB, "MB": 10**6, "M": KIB**2, "MiB": KIB**2, "GB": 10**9, "G": KIB**3, "GiB": KIB**3,
          "TB": 10**12, "T": KIB**4, "TiB": KIB**4}
 QEMU = "{http://libvirt.org/schemas/domain/qemu/1.0}"
-NOT_SAID = "what it changes is not known, expected a domain without it"
 # Elements that change nothing which is measured: names, events, what the host does, devices on PCIe and other buses.
 HARMLESS = {
     "domain": "name uuid genid title description metadata currentMemory memoryBacking memtune numatune cputune blkiotune iothreads iothreadids "
@@ -62,11 +62,12 @@ class Domain:
     def __init__(self, path: str, root: Element):
         self.path, self.root = visible(path), root
         self.faults: list[str] = []
+        self.unknown: list[str] = []
         self.machine: list[str] = []
         self.words: list[str] = []
         self.serials = 0
 
-    def refuse(self, element: str, why: str = NOT_SAID):
+    def refuse(self, element: str, why: str):
         self.faults.append(f"{self.path}: <{element}>: {why}")
 
     def text(self, element: Element | None) -> str:
@@ -92,7 +93,7 @@ class Domain:
             if each.tag in read:
                 read[each.tag](each)
             elif each.tag not in TABLE.get(parent.tag, ()):
-                self.refuse(visible(str(each.tag)[:80]))
+                self.unknown.append(f"<{visible(str(each.tag)[:80])}>")
 
     # ---- elements
 
@@ -107,6 +108,9 @@ class Domain:
             self.others(self.root, {"os": self.os, "memory": self.memory, "maxMemory": lambda each: None, "vcpu": self.vcpu, "cpu": self.cpu,
                                     "features": self.features, "devices": self.devices, "launchSecurity": self.security,
                                     QEMU + "commandline": self.commandline})
+        if self.unknown:
+            they = "it changes" if len(self.unknown) == 1 else "they change"
+            self.faults.append(f"{self.path}: {listed(self.unknown)}: what {they} is not known, expected a domain without")
         if self.faults:
             raise WrongWords(*self.faults)
         return ["-accel", "kvm" if kind == "kvm" else "tcg", "-machine", ",".join(self.machine), *self.words, *["-serial", "null"] * self.serials]
@@ -230,14 +234,9 @@ class Domain:
             if each.tag == QEMU + "arg":
                 self.words.append(each.get("value", ""))
             elif each.tag != QEMU + "env":
-                self.refuse(visible(str(each.tag)[:80]))
+                self.unknown.append(f"<{visible(str(each.tag)[:80])}>")
 
 
 def words_of(path: str) -> list[str]:
     """The line of QEMU that libvirt makes of a domain, as far as it decides the guest."""
     return Domain(path, parsed(path)).line()
-
-
-def names() -> Iterator[str]:
-    """The elements that are passed over."""
-    return (name for some in TABLE.values() for name in some)

@@ -23,6 +23,13 @@ TOKEN = re.compile(r"""
 # What is between double quotes: a backslash is one but before these.
 INNER = re.compile(r"""\\\n|\\([$`"\\])|(\$(?=[A-Za-z0-9_{(@*#?$!-])|`)""")
 
+# What may be before a program without another guest: how it is run, by whom, on which processors; and words of the shell's.
+BEFORE = frozenset("exec sudo doas env nohup setsid time nice ionice chrt taskset numactl stdbuf command if then else do ! {".split())
+# Their options that have paths mean others, and commands that do.
+MOVES = re.compile(r"-C|-D|-R|--chdir(=.*)?|--chroot(=.*)?")
+GOES = ("cd", "pushd", "chroot")
+ASSIGNS = re.compile(r"[A-Za-z_][A-Za-z0-9_]*=.*", re.S)
+
 
 @dataclass
 class Command:
@@ -43,8 +50,11 @@ class Reader:
         self.word: list[str] | None = None      # the parts of a word that is being read
         self.skips = False                      # whether the next word is where a redirection goes to
 
+    def line(self, at: int) -> int:
+        return self.text.count("\n", 0, at) + 1
+
     def fault(self, at: int, what: str) -> Fault:
-        return Fault(f"{visible(self.path)}: line {self.text.count(chr(10), 0, at) + 1}: {what}")
+        return Fault(f"{visible(self.path)}: line {self.line(at)}: {what}")
 
     def end_word(self):
         if self.word is not None:
@@ -125,32 +135,56 @@ def program_at(words: list[str], program: str) -> int | None:
     return next((at for at, word in enumerate(words) if pattern.fullmatch(os.path.basename(word))), None)
 
 
+def why_not(before: list[str]) -> str | None:
+    """Why a command is not read, by what is before its program."""
+    first = next((word for word in before if not ASSIGNS.fullmatch(word)), None)
+    if first is None:
+        return None
+    if os.path.basename(first) not in BEFORE:
+        return f"{shown(first)} is before the program, and what it does is not known, expected the command line alone"
+    if moves := next((word for word in before if MOVES.fullmatch(word)), None):
+        return f"{shown(moves)} is before the program, so that paths are of another folder, expected -C DIR of rim-manifest's before `--`"
+    return None
+
+
 def of_words(words: list[str], program: str, title: str) -> tuple[str, list[str]]:
     """The program of a line of words, and its words."""
     at = program_at(words, program)
     if at is None:
         raise WrongWords(f"{shown(words[0])}: it is after `--`, and no program of {title}'s is there, expected all of its command line")
+    if why := why_not(words[:at]):
+        raise WrongWords(why)
     return words[at], words[at + 1:]
 
 
-def of_file(path: str, program: str, title: str) -> list[str]:
-    """The words of the only command line of a hypervisor that a file has."""
+def commands_of(path: str) -> tuple[Reader, list[Command]]:
+    """The commands of a file."""
     what = "a command line, or a shell's script with one"
-    text = files.text_of(path, files.read(path, MOST, what), what)
-    reader = Reader(path, text)
+    reader = Reader(path, files.text_of(path, files.read(path, MOST, what), what))
     for letter, name in (("\r", "a carriage return, expected lines that end with a line feed alone"), ("\0", "a zero byte, expected a text")):
-        if letter in text:
-            raise reader.fault(text.index(letter), name)
+        if letter in reader.text:
+            raise reader.fault(reader.text.index(letter), name)
     commands = reader.read()
     if cut := next((each for each in commands if each.words[0].startswith("-")), None):
         raise reader.fault(cut.at, f"a command begins with {shown(cut.words[0])}, expected a backslash at the end of the line before it")
+    return reader, commands
+
+
+def of_file(path: str, program: str, title: str, has_folder: bool) -> list[str]:
+    """The words of the only command line of a hypervisor that a file has; `has_folder`: whether it is said from where paths are."""
+    reader, commands = commands_of(path)
     found = [(each, at) for each in commands if (at := program_at(each.words, program)) is not None]
     if len(found) != 1:
-        lines = " and ".join(str(text.count("\n", 0, each.at) + 1) for each, _ in found[:2])
+        lines = " and ".join(str(reader.line(each.at)) for each, _ in found[:2])
         has = f"it has {len(found)} command lines of {title}'s, in lines {lines}" if found else f"it has no command line of {title}'s"
         raise Fault(f"{visible(path)}: {has}, expected one")
     command, at = found[0]
     if command.expands:
         raise reader.fault(command.expands[0], f"{shown(command.expands[1])}: a shell would expand it, and none is run, expected its value, or "
                            "single quotes where it is meant as it is")
+    if why := why_not(command.words[:at]):
+        raise reader.fault(command.at, why)
+    goes = next((each for each in commands[:commands.index(command)] if each.words[0] in GOES), None)
+    if goes and not has_folder:
+        raise reader.fault(goes.at, f"{shown(' '.join(goes.words))}: paths are of another folder after it, expected -C DIR, which says of which")
     return command.words[at + 1:]

@@ -139,7 +139,6 @@ class Work:
         knows_stub = any(row.name == "stub" for row in vmm.TABLE)
         self.choices = choices(said, words.choice(said, "stub", "--stub", ("measured", "none")) == "measured" if knows_stub else None)
         self.lists["algo"] = asked.algorithms(said, others.realm)
-        ending.say("rim-manifest", *(f"warning: {each}" for each in asked.warnings(vmm, what, self.lists["machine"])))
         self.check_source()
         if "s2sz" in said:
             words.number("--s2sz", said["s2sz"], 32, 48)
@@ -150,6 +149,7 @@ class Work:
         self.lists["append"] = words.appends("--append", asked.command_lines(said))
         self.program_line, self.version = "", str(self.host["hypervisor_version"] or "")
         self.rim = Rim("")
+        ending.say("rim-manifest", *(f"warning: {each}" for each in asked.warnings(vmm, what, self.lists["machine"])))
 
     def read_values(self):
         """Reads the values of the words, and refuses those that do not fit."""

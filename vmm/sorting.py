@@ -100,11 +100,9 @@ class Sorted:
     def raise_faults(self):
         """Raises what is refused and what is unknown, each thing once."""
         lines = list(dict.fromkeys(self.faults))
-        if self.unknown:
-            words = "word" if len(self.unknown) == 1 else "words"
-            is_, they, such = ("is", "it changes", "no such word") if len(self.unknown) == 1 else ("are", "they change", "no such words")
-            named = listed(list(dict.fromkeys(shown(str(each)) for each in self.unknown)))
-            lines.append(f"{named}: no {words} of {self.title}'s that {is_} known, so what {they} is not known, expected {such}")
+        if unknown := list(dict.fromkeys(shown(str(each)) for each in self.unknown)):
+            word, is_, they = ("word", "is", "it changes") if len(unknown) == 1 else ("words", "are", "they change")
+            lines.append(f"{listed(unknown)}: no {word} of {self.title}'s that {is_} known, so what {they} is not known, expected no such {word}")
         if lines:
             raise WrongWords(*lines)
 
