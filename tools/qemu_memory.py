@@ -4,7 +4,8 @@
 usage: tools/qemu_memory.py [--qemu PROGRAM] [--only TEXT] DIR
 
 DIR is a folder that `rim-manifest qemu` has written; its record.json has the words of each launch. --only takes the launches whose name has
-TEXT. QEMU is qemu-system-aarch64 where it is not given. It is started stopped (-S), and its monitor is asked for all of its RAM. Then
+TEXT. QEMU is qemu-system-aarch64 where it is not given. It is started stopped (-S), and its monitor is asked for all of its RAM. The listing
+is that of `rim`: the program that the variable RIM names, or else the one at the top. Then
 
 - its RAM has the addresses that the listing makes RAM;
 - each page that the listing has a digest of has that digest;
@@ -149,6 +150,12 @@ def words_of(launch: dict, program: str, folder: str) -> list[str]:
     return words + launch["rest"]
 
 
+def listing_of(folder: str, manifest: str, name: str) -> Listing:
+    rim = os.path.abspath(os.environ.get("RIM") or os.path.join(TOP, "rim"))
+    listed = subprocess.run([rim, "list", manifest, name], cwd=folder, capture_output=True, text=True, check=False)
+    return Listing(listed.stdout.splitlines() or [listed.stderr])
+
+
 def main():
     parser = argparse.ArgumentParser(description=__doc__, formatter_class=argparse.RawDescriptionHelpFormatter)
     parser.add_argument("--qemu", default="qemu-system-aarch64")
@@ -163,10 +170,7 @@ def main():
     for launch in record["launches"]:
         if said.only not in launch["name"]:
             continue
-        listed = subprocess.run([os.path.join(TOP, "rim"), "list", launch["manifest"], launch["name"]], cwd=said.folder,
-                                capture_output=True,
-                                text=True, check=False)
-        listing = Listing(listed.stdout.splitlines() or [listed.stderr])
+        listing = listing_of(said.folder, launch["manifest"], launch["name"])
         wrong = compare(words_of(launch, said.qemu, said.folder), listing)
         size = sum(end - base for base, end in listing.ram) >> 20
         print(f"{launch['name']}: {len(listing.pages)} measured pages, {size} MiB of RAM: {'WRONG' if wrong else 'the same'}", flush=True)
