@@ -74,6 +74,9 @@ ROWS = [
     (["rim-manifest", "qemu", "--stub", ""], ["measured", "none"]),
     (["rim-manifest", "qemu", "--dtb", ""], PATHS),
     (["rim-manifest", "qemu", "--for"], ["--force"]),
+    (["rim-manifest", "qemu", "--li"], ["--libvirt", "--line"]),
+    (["rim-manifest", "kvmtool", "--each-k"], ["--each-kernel"]),
+    (["rim-manifest", "qemu", "--libvirt", ""], PATHS),
     (["rim-manifest", "qemu", "--smp", "1,2", "-kern"], ["-kernel"]),
     (["rim-manifest", "kvmtool", "--", ""], []),
 ]

@@ -522,6 +522,7 @@ LINE_STOPS = [
     ("very many unknown words", "qemu", HAND + " -x" * 5000, 2, '"-x": no word of QEMU\'s'),
     ("firmware", "qemu", HAND + " -bios F", 2, "-bios F: QEMU then starts firmware and puts no kernel into RAM, which is another layout that "
      "no table has; expected a line without it, by which QEMU itself loads the kernel of -kernel"),
+    ("a guest that the monitor changes", "qemu", HAND + " -preconfig -S", 2, "-preconfig: the monitor may change the guest before it is made"),
     ("flash", "qemu", HAND + " -M pflash0=a", 2, '-machine: "pflash0=a": QEMU then starts firmware'),
     ("an object", "qemu", HAND + " -object new,id=a", 2, "-object new,id=a: whether it changes what is measured is not known"),
     ("a member of JSON twice", "qemu", HAND + """ -device '{"driver":"virtio-rng-pci","driver":"loader"}'""", 2, "it begins as JSON and is none"),
@@ -591,6 +592,8 @@ DOMAIN_STOPS = [
     ("GIC 2", ("<gic version='3'/>", "<gic version='2'/>"), 2, '-machine: "gic-version=2": the interrupt controller'),
     ("a model of the host's", ("host-passthrough", "host-model"), 2, 'l: <cpu>: mode "host-model" is a model that the host decides'),
     ("a policy", ("policy='disable'", "policy='optional'"), 2, 'l: <feature>: policy "optional", expected force, require'),
+    ("another root of a bus", ("<memballoon model='virtio'/>", "<controller type='pci' model='pcie-expander-bus'/>"), 2,
+     'l: <controller>: whether a "pcie-expander-bus" changes'),
     ("distances", ("unit='KiB'/></numa>", "unit='KiB'><distances/></cell></numa>"), 2, "l: <numa>: what is in it beside"),
     ("another unit", ("<memory unit='KiB'>", "<memory unit='x'>"), 2, 'l: <memory>: its unit is "x"'),
     ("no number", (">1048576</memory>", ">many</memory>"), 2, 'l: <memory>: "many", expected a whole number'),
@@ -1309,6 +1312,9 @@ def started(program: str):
             shutil.rmtree(os.path.join(folder.path, "out"), ignore_errors=True)
             status, _, said = folder.run(*WITH_TREE, start=os.path.join(folder.path, start))
             wrong += differs(start, (status, said), (0, "")) + read_by(program, folder, count=1)
+        status, _, said = folder.run(*without(WITH_TREE, "--host"), start=os.path.join(folder.path, "usr/bin/rim-manifest"))
+        example = said.rpartition(": ")[2].strip()
+        wrong += differs("the example", (status, os.path.exists(os.path.join(folder.path, example))), (2, True))
         os.remove(os.path.join(folder.path, "usr", "share", "rim", "vmm", "main.py"))
         status, _, said = folder.run("--help", start=os.path.join(folder.path, "usr/bin/rim-manifest"))
         return wrong + differs("no modules", (status, "no folders vmm and outside" in said), (3, True))

@@ -26,12 +26,14 @@ HARMLESS = {
               "defaultiothread on_poweroff on_reboot on_crash on_lockfailure pm perf clock seclabel resource sysinfo idmap keywrap "
               "throttlegroups",
     "os": "boot bootmenu smbios bios acpi",
-    "features": "acpi apic pae hap viridian privnet pvspinlock vmport vmcoreinfo capabilities async-teardown ras",
-    "devices": "emulator disk controller interface filesystem input graphics video sound audio rng memballoon channel console parallel "
+    "features": "acpi apic pae hap viridian privnet pvspinlock vmport capabilities async-teardown ras",
+    "devices": "emulator disk interface filesystem input graphics video sound audio rng memballoon channel console parallel "
                "redirdev redirfilter hub lease smartcard vsock crypto",
-    "cpu": "numa topology model feature vendor cache maxphysaddr",
+    "cpu": "numa topology model feature",
 }
 TABLE = {parent: frozenset(names.split()) for parent, names in HARMLESS.items()}
+# Controllers of PCIe that are on the bus which is there anyway; another root of a bus is not.
+CONTROLLERS = ("", "pcie-root", "pcie-root-port", "pcie-to-pci-bridge", "pcie-switch-upstream-port", "pcie-switch-downstream-port", "pci-bridge")
 ON_OFF = {"force": "on", "require": "on", "disable": "off", "forbid": "off"}
 
 
@@ -211,8 +213,12 @@ class Domain:
                     self.refuse(each.tag, f"whether a {shown(model)} changes the devicetree is not known, expected {' or '.join(models)}")
             return check
 
-        self.others(element, {"serial": serial, "iommu": iommu, "hostdev": on_bus("pci", "usb", "scsi", "scsi_host"),
-                              "watchdog": on_bus("i6300esb"), "shmem": self.shmem, "panic": on_bus("pvpanic")})
+        def controller(each: Element):
+            if each.get("type") == "pci" and (model := each.get("model", "")) not in CONTROLLERS:
+                self.refuse("controller", f"whether a {shown(model)} changes the devicetree is not known, expected none")
+
+        self.others(element, {"serial": serial, "iommu": iommu, "controller": controller, "hostdev": on_bus("pci", "usb", "scsi", "scsi_host"),
+                              "watchdog": on_bus("i6300esb"), "shmem": self.shmem, "panic": on_bus("pvpanic-pci")})
 
     def shmem(self, _element: Element):
         """A device on PCI."""

@@ -5,6 +5,7 @@ device: only those that change the devicetree, and these without their paths. A 
 """
 import json
 import re
+from collections import Counter
 from dataclasses import dataclass
 
 from outside.faults import WrongWords
@@ -222,9 +223,9 @@ def read_backend(found: Sorted, given: Given, said: dict[str, str]):
 def read_realm(found: Sorted, given: Given, said: dict[str, str]):
     """What -object rme-guest says of the realm."""
     source = "-object rme-guest"
-    keys = [word.partition("=")[0] for word in ([] if given.value.startswith("{") else parts(given.value))]
+    keys = Counter(word.partition("=")[0] for word in ([] if given.value.startswith("{") else parts(given.value)))
     algorithms = [said[key] for key in ("measurement-algorithm", "measurement-algo") if key in said]
-    doubled = next((key for number, key in enumerate(keys) if key in keys[:number]), None) or ("measurement-algorithm" if algorithms[1:] else None)
+    doubled = next((key for key, count in keys.items() if count > 1), "measurement-algorithm" if algorithms[1:] else None)
     value = said.get("personalization-value")
     read = None if value is None else personalization(value)
     if found.realm is not None:
@@ -339,12 +340,13 @@ WORDS = [
     *harmless("where the host has RAM, and whether its pages are there", "mem-path overcommit", "mem-prealloc"),
     *harmless("how QEMU itself runs", "action chroot compat d D dfilter dump-vmstate gdb L msg pidfile plugin runas run-with sandbox "
               "semihosting-config tb-size trace rotate async-teardown", "S s snapshot nodefaults no-user-config daemonize no-reboot "
-              "no-shutdown singlestep one-insn-per-tb preconfig only-migratable enable-sync-profile semihosting"),
+              "no-shutdown singlestep one-insn-per-tb only-migratable enable-sync-profile semihosting"),
     refused(FIRMWARE, "bios pflash", NO_FIRMWARE),
     refused(OWN_TREE, "dtb", HAND_IN),
     refused("it loads what no table places", "shim", "expected no such word"),
     refused(ELSEWHERE, "incoming loadvm", "expected a guest that begins by itself"),
     refused("rim-manifest does not read that file", "readconfig", "expected its words one by one"),
+    Entry(named("preconfig"), Effect.REFUSED, "the monitor may change the guest before it is made", "expected no such word", Takes.NOTHING),
     refused("it writes a file", "writeconfig", "expected no such word"),
     refused("what it changes is not known", "set", "expected no such word"),
 ]
