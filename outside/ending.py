@@ -44,6 +44,7 @@ def status_of(name: str, run: Callable[[], int]) -> int:
         status = status_or_fault(name, run)
         stopping.heed_no_more()
     except KeyboardInterrupt as why:
+        stopping.heed_none()
         status = why.status if isinstance(why, Stopped) else 130
     try:
         if sys.stdout is not None:

@@ -62,6 +62,12 @@ def heed_no_more():
             signal.signal(number, signal.SIG_DFL)
 
 
+def heed_none():
+    """Has all later signals change nothing, to the very end: before that Python puts back what they do by default."""
+    for number in SIGNALS:
+        signal.signal(number, signal.SIG_IGN)
+
+
 def watch(ours: int):
     """Begins to stop at each signal: Python writes its number when it comes."""
     while number := os.read(ours, 1):

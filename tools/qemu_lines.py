@@ -34,7 +34,7 @@ OTHERS = [
     ["-blockdev", '{"driver":"null-co","node-name":"b{n}"}', "-device", '{"driver":"virtio-blk-pci","drive":"b{n}","id":"v{n}"}'],
     ["-netdev", "user,id=n{n}", "-device", "virtio-net-pci,netdev=n{n},romfile="], ["-pidfile", "live/pid"], ["-D", "live/trace"], ["-usb"],
     ["-object", "rng-random,id=r{n},filename=/dev/urandom", "-device", "virtio-rng-pci,rng=r{n}"], ["-overcommit", "mem-lock=off"],
-    ["-device", "pcie-root-port,id=p{n},chassis={n}"], ["-device", '{"driver":"qemu-xhci","id":"x{n}"}', "-device", "usb-kbd,bus=x{n}.0"],
+    ["-device", "pcie-root-port,id=p{n},chassis={n}"], ["-device", '{"driver":"qemu-xhci","id":"x{n}"}', "-device", '{"driver":"usb-kbd","bus":"x{n}.0"}'],
     ["-smbios", "type=1,serial=a"], ["-fw_cfg", "name=opt/a{n},string=b"], ["-audiodev", "none,id=a{n}"], ["-msg", "timestamp=on"],
     ["-no-shutdown"], ["-device", "virtio-serial-pci,id=s{n}", "-chardev", "null,id=h{n}", "-device", "virtconsole,chardev=h{n},bus=s{n}.0"],
     ["-fsdev", "local,id=f{n},path=live,security_model=none", "-device", "virtio-9p-pci,fsdev=f{n},mount_tag=t"], ["-action", "panic=none"],
@@ -85,6 +85,8 @@ def line(draw: random.Random) -> list[str]:
     if draw.random() < 0.3:
         beside.append("memory-backend=ram0")
         others.append(["-object", draw.choice((f"memory-backend-ram,id=ram0,size={size}", f"memory-backend-memfd,id=ram0,size={size},share=on"))])
+    if "its=off" in beside or kind == "virt-5.0":
+        others = [group for group in others if "pcie-root-port" not in group[-1]]   # which needs an ITS
     if "iommu=smmuv3" in beside:
         others = [group for group in others if "iommu" not in group[-1]]
     words = [several("-M", ",".join([kind, *beside]), draw), several("-smp", processors(draw), draw), several("-m", memory, draw),
