@@ -4,7 +4,8 @@
     tests/hypervisors.py [PROGRAM]          by default the program that `rt ci` has built
 
 - Wrong words and faults: the status, the one line and that nothing is written. For speed these are runs of its `main` in a process of
-  many; all others start rim-manifest itself.
+  many; all others start rim-manifest itself. Command lines and domains that no launch can be made of are among them.
+- Command lines as people have them: those of tests/lines, each with the launch that was worked out by hand beside it.
 - Places: addresses that were worked out by hand from docs/VMM.md, of each hypervisor.
 - Options, names, matrices, more than 64 files, a folder that is moved, an installed rim-manifest.
 - --force: what it replaces, what it keeps, where it refuses, and what a stop at each step leaves.
@@ -257,6 +258,7 @@ def replaced(words: list[str], name: str, value: str) -> list[str]:
 
 WRONG = [
     ("no words", [], "usage: rim-manifest"),
+    ("a line without --", ["qemu", "qemu-system-aarch64", "-M", "virt"], "it is no option, expected `--` before a hypervisor's command line"),
     ("another hypervisor", ["xen"], "\"xen\", expected qemu, kvmtool, cloud-hypervisor"),
     ("a word that is not known", [*WITH_TREE, "-nodefaults"],
      '"-nodefaults": rim-manifest makes no launch of it, expected it after `--`'),
@@ -558,6 +560,7 @@ LINE_STOPS = [
     ("a document", "qemu", HAND + " <<END\nEND\n", 3, "l: line 1: a document in the text"),
     ("two lines", "qemu", f"{HAND}\n{HAND}", 3, "l: it has 2 command lines of QEMU's, in lines 1 and 2, expected one"),
     ("no line", "qemu", LKVM_HAND, 3, "l: it has no command line of QEMU's, expected one"),
+    ("a script of its name", "qemu", HAND.replace("64 ", "64.sh "), 3, "l: it has no command line of QEMU's, expected one"),
     ("another program", "qemu", HAND.replace("aarch64", "x86_64"), 3, "l: it has no command line of QEMU's, expected one"),
     ("another folder", "qemu", f"cd /\n{HAND}", 3, 'l: line 1: "cd /": paths are of another folder after it, expected -C DIR'),
     ("a folder of env's", "qemu", f"env -C / {HAND}", 3, 'l: line 1: "-C" is before the program, so that paths are of another folder'),
@@ -596,6 +599,9 @@ DOMAIN_STOPS = [
      'l: <controller>: whether a "pcie-expander-bus" changes'),
     ("distances", ("unit='KiB'/></numa>", "unit='KiB'><distances/></cell></numa>"), 2, "l: <numa>: what is in it beside"),
     ("another unit", ("<memory unit='KiB'>", "<memory unit='x'>"), 2, 'l: <memory>: its unit is "x"'),
+    ("parts of MiB", ("<memory unit='KiB'>1048576<", "<memory unit='b'>1048577<"), 2, "l: <memory>: it has 1048577 bytes, expected whole MiB"),
+    ("other cells", ("memory='1048576'", "memory='2097152'"), 2, "l: <memory>: it has 1048576 KiB, and the cells of <numa> have 2097152"),
+    ("a text of two lines", ("a='b c'", "a='b\n'"), 2, '--append: "console=ttyAMA0 a=\'b\\x0a\'" has a control character'),
     ("no number", (">1048576</memory>", ">many</memory>"), 2, 'l: <memory>: "many", expected a whole number'),
     ("another realm", ("<seclabel type='none'/>", "<launchSecurity type='sev'/>"), 2, "l: <launchSecurity>: expected type='cca' with"),
     ("a word of QEMU's", ("'dtb-randomness=off'", "'firmware=a'"), 2, '-machine: "firmware=a": QEMU then starts firmware'),
@@ -912,6 +918,9 @@ OPTIONS = [
     ("a program that goes on", [*without(KVMTOOL, "--dtb"), "--lkvm", "./lkvm"],
      lambda folder: differs("length", len(folder.read("out/dtb-1")), 65536),
      {"tree": tree([(2 * LOW, 2 * LOW + 256 * MIB)], length=65536, **NO_PCIE)}),
+    ("command lines in the place of a line's", ["qemu", "--host", "host.toml", "--out", "out", "--append-file", "lines", "--line", "l", "--dtb",
+     "tree"], lambda folder: differs("names", names_of(folder), ["256M-smp1-Image-no-initrd-a_b-sha256"]),
+     {"l": (HAND + " -append other -M dtb-randomness=off").encode(), "lines": b"a=b\n"} | changed_tree(bootargs="a=b")),
     ("processors beside a list", [*QEMU, "-smp", "1,2", "--algo", "sha512,sha256", "--qemu", "./stand-in"], lambda folder: differs("names",
      names_of(folder), [f"256M-smp{n}-Image-no-initrd-sha{size}" for n in (1, 2) for size in (512, 256)]), TREES),
 ]

@@ -1,14 +1,20 @@
 """What `rim-manifest` is made of: it turns a hypervisor's words into manifests of `rim`.
 
-words               the command line: options, lists, sizes
+words               the options of rim-manifest: their lists, sizes and help
+asked               what is asked for: the options, and a hypervisor's command line
+lines               that line out of words, or of a text as a shell reads it
+libvirt             that line out of a domain of libvirt's
+sorting             tables of a hypervisor's words, by which its line is sorted
+names               names of launches and of what they are made of
 host                the file about a machine
 image               kernels and initrds as they are loaded: gzip, EFI zboot
 devicetree          what the checks ask of a devicetree
 guest               what a launch is: machine, memory, processors, kernel, initrd, command line
 layout              rows of a table, and how places follow from them
-qemu, kvmtool, cloud_hypervisor     the table of each hypervisor, its words, and how its devicetrees are made
-qemu_words          what each word of QEMU does, and which of them a dump of a devicetree is given
-launches            a launch for each combination, with its name; groups of launches for each manifest
+hypervisor          the type of a hypervisor: what all else asks of one; `hypervisors` names those that there are
+qemu, kvmtool, cloud_hypervisor     the layout of each hypervisor, the values of its words, and how its devicetrees are made
+qemu_words, kvmtool_words, cloud_hypervisor_words   what each of its words does, and which of them a dump of a devicetree is given
+launches            a launch for each combination; groups of launches for each manifest
 dumps               devicetrees: made by the hypervisor's program, or handed in
 checks              the five checks of a launch against its devicetree
 manifest            the text of a manifest

@@ -63,12 +63,13 @@ def asked(vmm: Hypervisor, said: dict) -> Asked:
     return Asked(said, others, line, of_line)
 
 
-def command_lines(said: dict) -> list[str]:
-    """The kernel's command lines of `-append` and of the files."""
-    texts = list(said.get("append", []))
+def command_lines(what: Asked) -> list[str]:
+    """The kernel's command lines of the options and of the files; of a hypervisor's line where these say none."""
+    said = what.said
+    texts = [] if "append" in what.of_line and "append_file" in said else list(said.get("append", []))
     for path in said.get("append_file", []):
-        what = "command lines, one a line"
-        found = [text for text in files.text_of(path, files.read(path, MOST_LINES, what), what).split("\n") if text]
+        kind = "command lines, one a line"
+        found = [text for text in files.text_of(path, files.read(path, MOST_LINES, kind), kind).split("\n") if text]
         if not found:
             raise Fault(f"{visible(path)}: it has no command line, expected one a line")
         texts += found

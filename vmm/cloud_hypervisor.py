@@ -12,7 +12,7 @@ from .words import Option, memories, number, processors, size
 NAME = "cloud-hypervisor"
 TITLE = "cloud-hypervisor"
 USAGE = "--dtb FILE.. [-- cloud-hypervisor WORDS..]"
-PROGRAM = r"cloud-hypervisor([-.].*)?"
+PROGRAM = r"cloud-hypervisor(-static)?(-aarch64)?(-v?[0-9.]+)?"
 BASE = 0x4000_0000
 LOW_END, HIGH = 0xFC00_0000, 0x1_0000_0000
 SOURCE = "cloud-hypervisor's sources"
@@ -21,7 +21,8 @@ FACTS = Facts(2 * MIB, dtb_is_past_initrd=False, host_needs={"s2sz_max": "since 
 
 OPTIONS = [
     Option(("--cpus", "--smp", "--each-smp"), "smp", "LIST", "numbers of processors, as boot=N or alone; 1 where it is not given", True),
-    Option(("--memory", "--each-memory"), "memory", "LIST", "sizes of RAM, as size=S or alone, a bare number is bytes; 512M where it is not given", True),
+    Option(("--memory", "--each-memory"), "memory", "LIST", "sizes of RAM, as size=S or alone, a bare number is bytes; 512M where it is not "
+           "given", True),
     Option(("--kernel", "--each-kernel"), "kernel", "[NAME=]FILE", "an arm64 Image. Required", True),
     Option(("--initramfs", "--initrd", "--each-initrd"), "initrd", "[NAME=]FILE", "an initrd", True),
     Option(("--cmdline", "--append", "--each-append"), "append", "TEXT", "a command line of the kernel", True),

@@ -3,15 +3,11 @@ and what changes it alone is in it."""
 from outside.faults import WrongWords
 from outside.texts import shown
 
-from .sorting import Effect, Entry, Given, Grammar, Sorted, Takes, two_dashes
+from .sorting import Effect, Entry, Given, Grammar, Sorted, Takes, spelled, two_dashes
 
 ALONE, MANY = Takes.NOTHING, Takes.VALUES
 # The words of --platform that change the devicetree or nothing.
 PLATFORM = ("num_pci_segments", "iommu_segments", "iommu_address_width", "serial_number", "uuid", "oem_strings")
-
-
-def names(text: str) -> tuple[str, ...]:
-    return tuple(text.split())
 
 
 def once(name: str, texts: list[str]) -> str:
@@ -29,23 +25,23 @@ def read_platform(found: Sorted, given: Given):
 
 
 WORDS = [
-    Entry(names("--cpus"), Effect.LAYOUT, "the processors: those of boot=, and no more, since a realm gets none later", key="smp", joined=once),
-    Entry(names("--memory"), Effect.LAYOUT, "the size of RAM", key="memory", joined=once),
-    Entry(names("--kernel"), Effect.LAYOUT, "the kernel", key="kernel", joined=once),
-    Entry(names("--initramfs"), Effect.LAYOUT, "the initrd", key="initrd", joined=once),
-    Entry(names("--cmdline"), Effect.LAYOUT, "the kernel's command line", key="append", joined=once),
-    Entry(names("--platform"), Effect.TREE, "how many PCI segments there are, and names", read=read_platform),
-    Entry(names("--serial --console"), Effect.TREE, "a UART has a node", takes=Takes.VALUE),
-    Entry(names("--disk --net --fs --device --user-device --vdpa"), Effect.HARMLESS, "devices on PCI, which has a node anyway", takes=MANY),
-    Entry(names("--vsock --rng --balloon"), Effect.HARMLESS, "a device on PCI, which has a node anyway"),
-    Entry(names("--watchdog --pvpanic"), Effect.HARMLESS, "a device on PCI, which has a node anyway", takes=ALONE),
-    Entry(names("--api-socket --event-monitor --log-file --seccomp --gdb"), Effect.HARMLESS, "how it runs itself"),
-    Entry(names("--landlock-rules"), Effect.HARMLESS, "how it runs itself", takes=MANY),
-    Entry(names("-v -vv -vvv --landlock"), Effect.HARMLESS, "how it runs itself", takes=ALONE),
-    Entry(names("--firmware"), Effect.REFUSED, "firmware is another layout, which no table has", "expected a line without it, with --kernel"),
-    Entry(names("--restore"), Effect.REFUSED, "all of RAM comes from elsewhere then", "expected a guest that begins by itself"),
-    Entry(names("--memory-zone"), Effect.REFUSED, "other RAM than that of --memory", "expected all RAM by --memory", MANY),
-    Entry(names("--pmem"), Effect.REFUSED, "it adds memory that no table has", "expected --disk", MANY),
+    Entry(spelled("--cpus"), Effect.LAYOUT, "the processors: those of boot=, and no more, since a realm gets none later", key="smp", joined=once),
+    Entry(spelled("--memory"), Effect.LAYOUT, "the size of RAM", key="memory", joined=once),
+    Entry(spelled("--kernel"), Effect.LAYOUT, "the kernel", key="kernel", joined=once),
+    Entry(spelled("--initramfs"), Effect.LAYOUT, "the initrd", key="initrd", joined=once),
+    Entry(spelled("--cmdline"), Effect.LAYOUT, "the kernel's command line", key="append", joined=once),
+    Entry(spelled("--platform"), Effect.TREE, "how many PCI segments there are, and names", read=read_platform),
+    Entry(spelled("--serial --console"), Effect.TREE, "a UART has a node", takes=Takes.VALUE),
+    Entry(spelled("--disk --net --fs --device --user-device --vdpa"), Effect.HARMLESS, "devices on PCI, which has a node anyway", takes=MANY),
+    Entry(spelled("--vsock --rng --balloon"), Effect.HARMLESS, "a device on PCI, which has a node anyway"),
+    Entry(spelled("--watchdog --pvpanic"), Effect.HARMLESS, "a device on PCI, which has a node anyway", takes=ALONE),
+    Entry(spelled("--api-socket --event-monitor --log-file --seccomp --gdb"), Effect.HARMLESS, "how it runs itself"),
+    Entry(spelled("--landlock-rules"), Effect.HARMLESS, "how it runs itself", takes=MANY),
+    Entry(spelled("-v -vv -vvv --landlock"), Effect.HARMLESS, "how it runs itself", takes=ALONE),
+    Entry(spelled("--firmware"), Effect.REFUSED, "firmware is another layout, which no table has", "expected a line without it, with --kernel"),
+    Entry(spelled("--restore"), Effect.REFUSED, "all of RAM comes from elsewhere then", "expected a guest that begins by itself"),
+    Entry(spelled("--memory-zone"), Effect.REFUSED, "other RAM than that of --memory", "expected all RAM by --memory", MANY),
+    Entry(spelled("--pmem"), Effect.REFUSED, "it adds memory that no table has", "expected --disk", MANY),
 ]
 GRAMMAR = Grammar("cloud-hypervisor", WORDS, two_dashes)
 

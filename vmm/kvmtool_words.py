@@ -5,16 +5,12 @@ For a devicetree lkvm starts the guest itself. So a dump is given no word by whi
 from outside.faults import WrongWords
 from outside.texts import shown
 
-from .sorting import Effect, Entry, Given, Grammar, Realm, Sorted, Takes, two_dashes
+from .sorting import Effect, Entry, Given, Grammar, Realm, Sorted, Takes, spelled, two_dashes
 from .words import ALGORITHMS
 
 ALONE = Takes.NOTHING
 # How many bytes a personalization value has.
 RPV = 64
-
-
-def names(text: str) -> tuple[str, ...]:
-    return tuple(text.split())
 
 
 def read_opens(found: Sorted, given: Given):
@@ -46,26 +42,26 @@ def read_realm(found: Sorted, given: Given):
 
 
 WORDS = [
-    Entry(names("-c --cpus"), Effect.LAYOUT, "the processors; of several the last counts", key="smp"),
-    Entry(names("-m --mem"), Effect.LAYOUT, "the size of RAM; of several the last counts", key="memory"),
-    Entry(names("-k --kernel"), Effect.LAYOUT, "the kernel; of several the last counts", key="kernel"),
-    Entry(names("-i --initrd"), Effect.LAYOUT, "the initrd; of several the last counts", key="initrd"),
-    Entry(names("-p --params"), Effect.LAYOUT, "the kernel's command line; of several the last counts", key="append"),
-    Entry(names("--realm"), Effect.TREE, "the guest is a realm", takes=ALONE, read=read_realm),
-    Entry(names("--measurement-algo"), Effect.TREE, "the realm's hash algorithm", read=read_realm),
-    Entry(names("--realm-pv"), Effect.TREE, "the realm's personalization value: the bytes of the text, with zeros up to 64", read=read_realm),
-    Entry(names("--restricted_mem --pmu --force-pci --virtio-legacy --no-pvtime --nodefaults --no-dhcp"), Effect.TREE,
+    Entry(spelled("-c --cpus"), Effect.LAYOUT, "the processors; of several the last counts", key="smp"),
+    Entry(spelled("-m --mem"), Effect.LAYOUT, "the size of RAM; of several the last counts", key="memory"),
+    Entry(spelled("-k --kernel"), Effect.LAYOUT, "the kernel; of several the last counts", key="kernel"),
+    Entry(spelled("-i --initrd"), Effect.LAYOUT, "the initrd; of several the last counts", key="initrd"),
+    Entry(spelled("-p --params"), Effect.LAYOUT, "the kernel's command line; of several the last counts", key="append"),
+    Entry(spelled("--realm"), Effect.TREE, "the guest is a realm", takes=ALONE, read=read_realm),
+    Entry(spelled("--measurement-algo"), Effect.TREE, "the realm's hash algorithm", read=read_realm),
+    Entry(spelled("--realm-pv"), Effect.TREE, "the realm's personalization value: the bytes of the text, with zeros up to 64", read=read_realm),
+    Entry(spelled("--restricted_mem --pmu --force-pci --virtio-legacy --no-pvtime --nodefaults --no-dhcp"), Effect.TREE,
           "nodes of the devicetree, or words of its command line", takes=ALONE),
-    Entry(names("--sve-vl --irqchip --virtio-transport --console"), Effect.TREE, "nodes of the devicetree, or words of its command line"),
-    Entry(names("-d --disk -n --network --9p --vsock --tty --vfio-pci"), Effect.TREE, "a device, which has a node", read=read_opens),
-    Entry(names("--rng --balloon"), Effect.TREE, "a device, which has a node", takes=ALONE, read=read_opens),
-    Entry(names("--name --loglevel --hugetlbfs --dev --vcpu-affinity"), Effect.HARMLESS, "how lkvm itself runs"),
-    Entry(names("--debug --debug-single-step --debug-ioport --debug-mmio"), Effect.HARMLESS, "how lkvm itself runs", takes=ALONE),
-    Entry(names("-f --firmware --flash"), Effect.REFUSED, "lkvm then starts firmware, which is another layout that no table has",
+    Entry(spelled("--sve-vl --irqchip --virtio-transport --console"), Effect.TREE, "nodes of the devicetree, or words of its command line"),
+    Entry(spelled("-d --disk -n --network --9p --vsock --tty --vfio-pci"), Effect.TREE, "a device, which has a node", read=read_opens),
+    Entry(spelled("--rng --balloon"), Effect.TREE, "a device, which has a node", takes=ALONE, read=read_opens),
+    Entry(spelled("--name --loglevel --hugetlbfs --dev --vcpu-affinity"), Effect.HARMLESS, "how lkvm itself runs"),
+    Entry(spelled("--debug --debug-single-step --debug-ioport --debug-mmio"), Effect.HARMLESS, "how lkvm itself runs", takes=ALONE),
+    Entry(spelled("-f --firmware --flash"), Effect.REFUSED, "lkvm then starts firmware, which is another layout that no table has",
           "expected a line without it, with --kernel"),
-    Entry(names("--dump-dtb"), Effect.REFUSED, "rim-manifest adds it itself", "expected --lkvm PROGRAM, or --dtb with what it wrote"),
-    Entry(names("--kaslr-seed"), Effect.REFUSED, "the devicetree has a seed then", "expected no such word"),
-    Entry(names("--aarch32 --nested"), Effect.REFUSED, "no realm has such processors", "expected no such word", ALONE),
+    Entry(spelled("--dump-dtb"), Effect.REFUSED, "rim-manifest adds it itself", "expected --lkvm PROGRAM, or --dtb with what it wrote"),
+    Entry(spelled("--kaslr-seed"), Effect.REFUSED, "the devicetree has a seed then", "expected no such word"),
+    Entry(spelled("--aarch32 --nested"), Effect.REFUSED, "no realm has such processors", "expected no such word", ALONE),
 ]
 GRAMMAR = Grammar("lkvm", WORDS, two_dashes)
 

@@ -12,7 +12,7 @@ from outside import files
 from outside.faults import Fault, WrongWords
 from outside.texts import shown, visible
 
-from .guest import KIB
+from .guest import KIB, MIB
 from .sorting import listed
 
 # How long a domain may be.
@@ -73,21 +73,24 @@ class Domain:
         self.faults.append(f"{self.path}: <{element}>: {why}")
 
     def text(self, element: Element | None) -> str:
-        return "" if element is None else (element.text or "").strip()
+        """The text of an element, as libvirt takes it: with the blanks around it."""
+        return "" if element is None else element.text or ""
 
     def number(self, name: str, text: str | None) -> int:
         if not re.fullmatch(r"[0-9]{1,15}", text or ""):
             self.refuse(name, f"{shown(text or '')}, expected a whole number")
-            return 1
+            return 0
         return int(text or "")
 
     def size(self, element: Element, key: str | None = None) -> int:
-        """A size in KiB."""
+        """A size in KiB, of whole MiB: libvirt rounds others."""
         unit = element.get("unit", "KiB")
         if unit not in UNITS:
             self.refuse(element.tag, f"its unit is {shown(unit)}, expected one such as KiB")
-        count = self.number(element.tag, element.get(key) if key else self.text(element))
-        return -(-count * UNITS.get(unit, KIB) // KIB)
+        size = self.number(element.tag, element.get(key) if key else self.text(element).strip()) * UNITS.get(unit, MIB)
+        if size % MIB:
+            self.refuse(element.tag, f"it has {size} bytes, expected whole MiB")
+        return size // KIB
 
     def others(self, parent: Element, read: dict[str, Callable[[Element], None]]):
         """Reads the elements of another one; those of the table are passed over."""
@@ -142,13 +145,13 @@ class Domain:
         most = self.root.find("maxMemory")
         size = self.size(element)
         cells = self.root.findall("cpu/numa/cell")
-        if most is not None and cells:
-            size = sum(self.size(cell, "memory") for cell in cells)
+        if cells and not self.faults and (there := sum(self.size(cell, "memory") for cell in cells)) != size:
+            self.refuse("memory", f"it has {size} KiB, and the cells of <numa> have {there}, expected as much")
         room = f",slots={self.number('maxMemory', most.get('slots'))},maxmem={self.size(most)}k" if most is not None else ""
         self.words += ["-m", f"size={size}k{room}"]
 
     def vcpu(self, element: Element):
-        most = self.number("vcpu", self.text(element))
+        most = self.number("vcpu", self.text(element).strip())
         count = self.number("vcpu", element.get("current", str(most)))
         topology = self.root.find("cpu/topology")
         given = dict(topology.attrib) if topology is not None else {"sockets": str(most), "cores": "1", "threads": "1"}
@@ -159,7 +162,7 @@ class Domain:
         self.words += ["-smp", ",".join([str(count), *([f"maxcpus={most}"] if most != count else []), *words])]
 
     def cpu(self, element: Element):
-        mode, model = element.get("mode", "custom"), self.text(element.find("model"))
+        mode, model = element.get("mode", "custom"), self.text(element.find("model")).strip()
         models = {"host-passthrough": "host", "maximum": "max", "custom": model}
         if not models.get(mode):
             self.refuse("cpu", f"mode {shown(mode)} is a model that the host decides, expected host-passthrough, maximum or <model>")
@@ -225,7 +228,7 @@ class Domain:
 
     def security(self, element: Element):
         """The realm, by the changes that were proposed to libvirt."""
-        given = {name: value for name, value in element.attrib.items() if name != "type"} | {each.tag: self.text(each) for each in element}
+        given = {name: value for name, value in element.attrib.items() if name != "type"} | {each.tag: self.text(each).strip() for each in element}
         names = {"measurement-algo": "measurement-algorithm", "measurement-algorithm": "measurement-algorithm",
                  "personalization-value": "personalization-value"}
         if element.get("type") != "cca" or set(given) - set(names):

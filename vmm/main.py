@@ -146,7 +146,7 @@ class Work:
         path = words.required(said, "host", "--host", f"the file that says what only the machine knows: {host.example()}")
         self.host = asked.of_realm(host.read(path), others.realm)
         asked.check_features(vmm, self.lists["cpu"], self.host)
-        self.lists["append"] = words.appends("--append", asked.command_lines(said))
+        self.lists["append"] = words.appends("--append", asked.command_lines(what))
         self.program_line, self.version = "", str(self.host["hypervisor_version"] or "")
         self.rim = Rim("")
         ending.say("rim-manifest", *(f"warning: {each}" for each in asked.warnings(vmm, what, self.lists["machine"])))

@@ -12,7 +12,7 @@ from outside.faults import WrongWords
 from outside.files import once_each
 from outside.texts import MOST_SHOWN, shown, visible
 
-from .sorting import Effect, Entry, Explained, Given, Grammar, Realm, Sorted, Takes, one_dash
+from .sorting import Effect, Entry, Explained, Given, Grammar, Realm, Sorted, Takes, one_dash, spelled
 from .words import ALGORITHMS, personalization
 
 OFF = ("off", "no", "false", "n")
@@ -297,38 +297,34 @@ def read_global(found: Sorted, given: Given):
 # ---- all words
 
 
-def named(names: str) -> tuple[str, ...]:
-    return tuple("-" + name for name in names.split())
-
-
 def harmless(why: str, names: str, alone: str = "") -> list[Entry]:
     """Words that change nothing: those with a value, and those without."""
-    found = [Entry(named(names), Effect.HARMLESS, why)]
-    return found + ([Entry(named(alone), Effect.HARMLESS, why, takes=Takes.NOTHING)] if alone else [])
+    found = [Entry(spelled(names, "-"), Effect.HARMLESS, why)]
+    return found + ([Entry(spelled(alone, "-"), Effect.HARMLESS, why, takes=Takes.NOTHING)] if alone else [])
 
 
 def refused(why: str, names: str, instead: str) -> Entry:
-    return Entry(named(names), Effect.REFUSED, why, instead)
+    return Entry(spelled(names, "-"), Effect.REFUSED, why, instead)
 
 
 WORDS = [
-    Entry(named("machine M"), Effect.LAYOUT, "the machine; the words of several are those of one", key="machine", joined=one_machine,
+    Entry(spelled("machine M", "-"), Effect.LAYOUT, "the machine; the words of several are those of one", key="machine", joined=one_machine,
           parts=explain_machine),
-    Entry(named("cpu"), Effect.LAYOUT, "the model of the processors; of several the last counts", key="cpu"),
-    Entry(named("smp"), Effect.LAYOUT, "the processors; several are merged", key="smp", joined=merged("cpus")),
-    Entry(named("m"), Effect.LAYOUT, "the size of RAM, and with slots and maxmem the width of an IPA; several are merged", key="memory",
+    Entry(spelled("cpu", "-"), Effect.LAYOUT, "the model of the processors; of several the last counts", key="cpu"),
+    Entry(spelled("smp", "-"), Effect.LAYOUT, "the processors; several are merged", key="smp", joined=merged("cpus")),
+    Entry(spelled("m", "-"), Effect.LAYOUT, "the size of RAM, and with slots and maxmem the width of an IPA; several are merged", key="memory",
           joined=merged("size")),
-    Entry(named("kernel"), Effect.LAYOUT, "the kernel; of several the last counts", key="kernel"),
-    Entry(named("initrd"), Effect.LAYOUT, "the initrd; of several the last counts", key="initrd"),
-    Entry(named("append"), Effect.LAYOUT, "the kernel's command line; of several the last counts", key="append"),
-    Entry(named("accel"), Effect.TREE, "what runs the processors, and so what -cpu host and gic-version=host are"),
-    Entry(named("enable-kvm"), Effect.TREE, "that KVM runs the processors", takes=Takes.NOTHING),
-    Entry(named("numa"), Effect.TREE, "nodes of memory and of processors"),
-    Entry(named("object"), Effect.TREE, "RAM and the realm are such; others change nothing", read=read_object),
-    Entry(named("device"), Effect.TREE, "virtio-iommu-pci is in the devicetree; those on PCIe and other buses are not", read=read_device),
-    Entry(named("serial"), Effect.TREE, "from QEMU 10.0 on the devicetree has as many as there are", read=read_serial),
-    Entry(named("drive"), Effect.HARMLESS, "a disk of the host's; one of flash is refused", read=read_drive),
-    Entry(named("global"), Effect.HARMLESS, "defaults of devices that are not in the devicetree", read=read_global),
+    Entry(spelled("kernel", "-"), Effect.LAYOUT, "the kernel; of several the last counts", key="kernel"),
+    Entry(spelled("initrd", "-"), Effect.LAYOUT, "the initrd; of several the last counts", key="initrd"),
+    Entry(spelled("append", "-"), Effect.LAYOUT, "the kernel's command line; of several the last counts", key="append"),
+    Entry(spelled("accel", "-"), Effect.TREE, "what runs the processors, and so what -cpu host and gic-version=host are"),
+    Entry(spelled("enable-kvm", "-"), Effect.TREE, "that KVM runs the processors", takes=Takes.NOTHING),
+    Entry(spelled("numa", "-"), Effect.TREE, "nodes of memory and of processors"),
+    Entry(spelled("object", "-"), Effect.TREE, "RAM and the realm are such; others change nothing", read=read_object),
+    Entry(spelled("device", "-"), Effect.TREE, "virtio-iommu-pci is in the devicetree; those on PCIe and other buses are not", read=read_device),
+    Entry(spelled("serial", "-"), Effect.TREE, "from QEMU 10.0 on the devicetree has as many as there are", read=read_serial),
+    Entry(spelled("drive", "-"), Effect.HARMLESS, "a disk of the host's; one of flash is refused", read=read_drive),
+    Entry(spelled("global", "-"), Effect.HARMLESS, "defaults of devices that are not in the devicetree", read=read_global),
     *harmless("disks, files and folders of the host's", "blockdev cdrom fda fdb hda hdb hdc hdd sd mtdblock fsdev virtfs iscsi add-fd"),
     *harmless("networks of the host's", "net netdev nic"),
     *harmless("consoles, monitors and screens, and where they are", "chardev mon monitor qmp qmp-pretty parallel debugcon echr display vnc "
@@ -346,7 +342,7 @@ WORDS = [
     refused("it loads what no table places", "shim", "expected no such word"),
     refused(ELSEWHERE, "incoming loadvm", "expected a guest that begins by itself"),
     refused("rim-manifest does not read that file", "readconfig", "expected its words one by one"),
-    Entry(named("preconfig"), Effect.REFUSED, "the monitor may change the guest before it is made", "expected no such word", Takes.NOTHING),
+    Entry(spelled("preconfig", "-"), Effect.REFUSED, "the monitor may change the guest before it is made", "expected no such word", Takes.NOTHING),
     refused("it writes a file", "writeconfig", "expected no such word"),
     refused("what it changes is not known", "set", "expected no such word"),
 ]

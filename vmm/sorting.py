@@ -200,8 +200,8 @@ class Grammar:
         again = self.sort((word for given, _ in found for word in given.words), False)
         again.raise_faults()
         them = "it" if len(found) == 1 else "them"
-        raise WrongWords(f"{', '.join(shown(given.words[0]) for given, _ in found)}: rim-manifest makes no launch of {them}, expected {them} "
-                         "after `--`, where all of the line may be, with its program")
+        raise WrongWords(f"{listed([shown(given.words[0]) for given, _ in found])}: rim-manifest makes no launch of {them}, expected {them} "
+                         "after `--`, or all of the line there, its program first")
 
 
 def effect_of(entry: Entry, found: Sorted, before: tuple[int, int]) -> Effect:
@@ -218,6 +218,11 @@ def shown_table(table: list[Entry]) -> str:
              "refused: no launch is made with it", ""]
     return "\n".join(lines + [f"{', '.join(entry.names)}\n    {entry.effect.value}: {entry.why}{'; ' * bool(entry.instead)}{entry.instead}"
                               for entry in table])
+
+
+def spelled(names: str, dash: str = "") -> tuple[str, ...]:
+    """The names of a row, out of a text with blanks between them."""
+    return tuple(dash + name for name in names.split())
 
 
 def one_dash(word: str) -> tuple[str, str | None]:

@@ -71,6 +71,8 @@ def parse(options: list[Option], words: list[str], refuse: Callable[[list[str]],
         name, equals, value = word.partition("=") if word.startswith("--") else (word, "", "")
         if name not in by_name:
             refuse([word, *words])
+            if not word.startswith("-"):
+                raise WrongWords(f"{shown(word)}: it is no option, expected `--` before a hypervisor's command line")
             raise WrongWords(f"{shown(word)}: no word of this hypervisor's that is known, expected one of --help")
         option = by_name[name]
         if not option.value and equals:
