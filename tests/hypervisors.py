@@ -20,6 +20,7 @@ import concurrent.futures
 import contextlib
 import gzip
 import hashlib
+import inspect
 import io
 import json
 import os
@@ -41,6 +42,7 @@ LINES = os.path.join(TOP, "tests", "lines")
 sys.path.insert(0, TOP)
 
 from vmm import host as host_keys  # noqa: E402, the path is set above
+from vmm.hypervisor import Hypervisor  # noqa: E402, the path is set above
 from vmm.hypervisors import HYPERVISORS  # noqa: E402, the path is set above
 from vmm.main import options_of  # noqa: E402
 from vmm.main import main as rim_manifest  # noqa: E402
@@ -1352,6 +1354,21 @@ def texts(program: str):
     return wrong
 
 
+def types(_program: str):
+    """Each hypervisor has what its type asks for, and no word in two rows of its table."""
+    wrong = []
+    methods = {name: inspect.signature(method) for name, method in vars(Hypervisor).items() if inspect.isfunction(method) and name[0] != "_"}
+    for name, vmm in HYPERVISORS.items():
+        wrong += [f"{name}: {each} is missing" for each in (*Hypervisor.__annotations__, *methods) if not hasattr(vmm, each)]
+        wrong += [f"{name}: {each} takes something else" for each, signature in methods.items()
+                  if len(inspect.signature(getattr(vmm, each)).parameters) != len(signature.parameters) - 1]
+        words = [each for entry in vmm.GRAMMAR.table for each in entry.names]
+        wrong += [f"{name}: {each} is in two rows" for each in sorted({each for each in words if words.count(each) > 1})]
+        keys = {option.key for option in vmm.OPTIONS}
+        wrong += [f"{name}: {entry.names[0]} is of no option" for entry in vmm.GRAMMAR.table if entry.key and entry.key not in keys]
+    return wrong
+
+
 def documents(_program: str):
     """The man page names each option and each key of the host; docs/VMM.md has each row of the tables."""
     page, tables = (open(os.path.join(TOP, "docs", name), encoding="utf-8").read() for name in ("rim-manifest.1", "VMM.md"))
@@ -1382,7 +1399,7 @@ def main():
     os.environ["RIM"] = program
     tries = [(f"option: {name}", lambda each=(words, look, *rest): option(program, *each)) for name, words, look, *rest in OPTIONS]
     tries += [*places(program), *lines(program)] + [(each.__name__, lambda each=each: each(program)) for each in (
-        pasted, one_step, explained, long_names, matrix, measured, forced, not_forced, stopped_midway, bad_programs, signals, full, read_once, odd_names, fifos, unharmed, started, texts, documents)]
+        pasted, one_step, explained, long_names, matrix, measured, forced, not_forced, stopped_midway, bad_programs, signals, full, read_once, odd_names, fifos, unharmed, started, texts, types, documents)]
     processors = len(os.sched_getaffinity(0))
     with concurrent.futures.ProcessPoolExecutor(processors) as pool:
         outcomes = [(each[0], wrong) for each, wrong in zip(STOPS, pool.map(stops, range(len(STOPS)), chunksize=8))]
