@@ -7,7 +7,8 @@ usage: tools/qemu_lines.py [--qemu PROGRAM] [--count N] [--seed N]
 A line has words of each row of QEMU's table that a start without a network takes: of the layout in several forms and more than once, those
 that change the devicetree, and harmless ones; in any order. `-M dtb-randomness=off` is added, since no two starts are alike without it.
 Each line has a line: `the same`, WRONG with what differs, or `refused` with why, where QEMU ends by itself too. A line that only
-rim-manifest refuses is WRONG. The last is 'N passed, M failed, L refused'.
+rim-manifest refuses is WRONG. First each word of the table is asked of QEMU, whether it takes a value: else the words after it would be
+read otherwise than QEMU reads them. The last line is 'N passed, M failed, L refused'.
 """
 import argparse
 import gzip
@@ -23,6 +24,11 @@ import tempfile
 import qemu_memory
 
 TOP = os.path.dirname(os.path.dirname(os.path.abspath(__file__)))
+sys.path.insert(0, TOP)
+
+from vmm.qemu_words import WORDS  # noqa: E402, the path is set above
+from vmm.sorting import Takes  # noqa: E402
+
 MIB = 1 << 20
 HOST = "num_bps = 5\nnum_wps = 3\nsve = false\npmu = true\npmu_num_ctrs = 6\nblock_level = 2\nrec_rule = \"runnable\"\ns2sz_max = 48\n"
 # Groups of words that are beside a layout, of which each is there or not. {n} is another number in each.
@@ -113,6 +119,16 @@ def make_files(folder: str, draw: random.Random):
             file.write(data)
 
 
+def other_values(qemu: str) -> list[str]:
+    """The words of the table that take a value where QEMU takes none, or the other way; of those that this QEMU has."""
+    wrong = []
+    for name, takes in ((name, entry.takes) for entry in WORDS for name in entry.names):
+        said = subprocess.run([qemu, "-M", "none such", name], capture_output=True, text=True, check=False).stderr
+        if "invalid option" not in said and ("requires an argument" in said) != (takes is Takes.VALUE):
+            wrong.append(name)
+    return wrong
+
+
 def ends(qemu: str, words: list[str]) -> bool:
     """Whether QEMU ends by itself."""
     try:
@@ -144,7 +160,9 @@ def main():
     parser.add_argument("--count", type=int, default=60)
     parser.add_argument("--seed", type=int, default=1)
     said = parser.parse_args()
-    draw, counts = random.Random(said.seed), {"the same": 0, "WRONG": 0, "refused": 0}
+    other = other_values(said.qemu)
+    print(*(f"{name}: WRONG: whether it takes a value" for name in other), sep="\n", end="\n" * bool(other))
+    draw, counts = random.Random(said.seed), {"the same": 0, "WRONG": len(other), "refused": 0}
     with tempfile.TemporaryDirectory() as folder:
         make_files(folder, draw)
         for number in range(said.count):

@@ -335,7 +335,7 @@ WORDS = [
     *harmless("a bus or a device that has no node", "tpmdev watchdog watchdog-action", "usb"),
     *harmless("where the host has RAM, and whether its pages are there", "mem-path overcommit", "mem-prealloc"),
     *harmless("how QEMU itself runs", "action chroot compat d D dfilter dump-vmstate gdb L msg pidfile plugin runas run-with sandbox "
-              "semihosting-config tb-size trace rotate async-teardown", "S s snapshot nodefaults no-user-config daemonize no-reboot "
+              "semihosting-config tb-size trace rotate", "async-teardown S s snapshot nodefaults no-user-config daemonize no-reboot "
               "no-shutdown singlestep one-insn-per-tb only-migratable enable-sync-profile semihosting"),
     refused(FIRMWARE, "bios pflash", NO_FIRMWARE),
     refused(OWN_TREE, "dtb", HAND_IN),
