@@ -11,7 +11,7 @@ from .words import Option, memories, number, processors, size
 
 NAME = "cloud-hypervisor"
 TITLE = "cloud-hypervisor"
-USAGE = "--dtb FILE.. [-- cloud-hypervisor WORDS..]"
+USAGE = "--dtb FILE.. -- cloud-hypervisor WORDS.."
 PROGRAM = r"cloud-hypervisor(-static)?(-aarch64)?(-v?[0-9.]+)?"
 BASE = 0x4000_0000
 LOW_END, HIGH = 0xFC00_0000, 0x1_0000_0000

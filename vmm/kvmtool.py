@@ -13,7 +13,7 @@ from .words import Option, memories, processors, required, size
 
 NAME = "kvmtool"
 TITLE = "kvmtool (lkvm run)"
-USAGE = "(--lkvm PROGRAM | --dtb FILE..) [-- lkvm run WORDS..]"
+USAGE = "-- lkvm run WORDS.."
 PROGRAM = r"lkvm(-static)?|kvmtool"
 BASE = 0x8000_0000
 DTB_ALIGN = 2 * MIB

@@ -19,14 +19,15 @@ from .hypervisors import ALL, HYPERVISORS
 from .launches import Launch
 
 VERSION = "0.2.0"
-COMMON_USE = "WORDS.. --host FILE (--out DIR | --measure)"
+COMMON_USE = "--host FILE (--out DIR | --measure) [OPTIONS..]"
 ABOUT = "rim-manifest: from a hypervisor's words to a manifest of rim\n\nusage: " + "\n       ".join(
     [f"rim-manifest {each.NAME} {COMMON_USE} {each.USAGE}" for each in ALL]
     + ["rim-manifest HYPERVISOR --explain [--line FILE] [-- WORDS..]", "rim-manifest HYPERVISOR --help | --rules",
        "rim-manifest --help | --version"]) + "\n"
 LISTS = """
 A hypervisor's command line comes after `--`, its program first, or is read of a file by --line. It is one launch. What it says, an
-option before it may say in its place: --each-smp 1,2,4 or --each-kernel NAME=FILE, and the same by other names.
+option before it may say in its place: --each-smp 1,2,4 or --each-kernel NAME=FILE, and the same by other names. The words may also be
+given as options, without a line.
 
 An option marked [list] may be given more than once. Where it says LIST, commas part values too. There is a launch for each
 combination. Its name has RAM, processors, kernel, initrd, command line and algorithm, and machine and processor model where there are

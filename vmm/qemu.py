@@ -15,7 +15,7 @@ from .words import Option, memories, number, processors, required, size
 
 NAME = "qemu"
 TITLE = "QEMU, machine virt"
-USAGE = "(--qemu PROGRAM | --dtb FILE..) [-- qemu-system-aarch64 WORDS..]"
+USAGE = "-- qemu-system-aarch64 WORDS.."
 PROGRAM = r"qemu-system-aarch64(-?[0-9.]+|-static)?|qemu-kvm"
 BASE = 0x4000_0000
 DTB_ALIGN = 2 * MIB
