@@ -100,13 +100,14 @@ def of_realm(about_host: Host, realm: Realm | None) -> Host:
 
 
 def check_features(vmm: Hypervisor, cpus: list[Word], about_host: Host):
-    """What the words of a processor switch on or off, the host's file has to have on or off too."""
+    """What the words of a processor say, the host's file has to say too."""
     wrong = {}
     for cpu in cpus:
-        for key, is_on in vmm.features(cpu.text).items():
-            if about_host[key] != is_on:
-                wrong[key] = (f"-cpu: {shown(cpu.text)}, and {about_host.name} has {key} = {host.value_shown(about_host[key])}, "
-                              f"expected {key} = {host.value_shown(is_on)} there, or another processor")
+        for key, fitting in vmm.features(cpu.text).items():
+            if about_host[key] not in fitting:
+                has = f"has {key} = {host.value_shown(about_host[key])}" if about_host[key] is not None else f"has no {key}"
+                wrong[key] = (f"-cpu: {shown(cpu.text)}, and {about_host.name} {has}, "
+                              f"expected {key} = {' or '.join(map(host.value_shown, fitting))} there, or another processor")
     if wrong:
         raise Fault(*wrong.values())
 

@@ -60,8 +60,8 @@ class Hypervisor(Protocol):
     def check_realm(self, machine: str, others: Sorted) -> None:
         """Refuses words of the machine and of the realm that do not fit."""
 
-    def features(self, cpu: str) -> dict[str, bool]:
-        """What the words of a processor switch on or off, by the keys of the host's file."""
+    def features(self, cpu: str) -> dict[str, tuple[int, ...]]:
+        """What the words of a processor say that the host's file says too: by its keys, the values that fit."""
 
     def processor(self, guest: Guest) -> str | None:
         """What the devicetree says of the processors; None where it is not known."""

@@ -99,7 +99,7 @@ def check_realm(machine: str, others: Sorted):
     """No word of the machine names the realm."""
 
 
-def features(cpu: str) -> dict[str, bool]:
+def features(cpu: str) -> dict[str, tuple[int, ...]]:
     return {}
 
 

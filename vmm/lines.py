@@ -17,14 +17,14 @@ MOST = 4 << 20
 # What a text is made of, outside of quotes; the first that fits counts. A text that fits none begins a quote that does not end.
 TOKEN = re.compile(r"""
     (?P<joined>\\\n) | (?P<escaped>\\.) | (?P<single>'[^']*') | (?P<double>"(?:[^"\\]|\\.)*") | (?P<blank>[ \t\f\v]+) | (?P<end>[\n;&|()]) |
-    (?P<redirect><<<|<<-?|[<>]&|<>|>>|>\||[<>]) | (?P<expands>\$(?=[A-Za-z0-9_{(@*#?$!'"-])|`|[*?\[]|\{(?=\S)) |
+    (?P<expands>[<>]\(|\$(?=[A-Za-z0-9_{(@*#?$!'"-])|`|[*?\[]|\{(?=\S)) | (?P<redirect><<<|<<-?|[<>]&|<>|>>|>\||[<>]) |
     (?P<plain>[^\s\\'"$`*?\[{;&|()<>]+|.)
 """, re.X | re.S)
 # What is between double quotes: a backslash is one but before these.
 INNER = re.compile(r"""\\\n|\\([$`"\\])|(\$(?=[A-Za-z0-9_{(@*#?$!-])|`)""")
 
 # What may be before a program without another guest: how it is run, by whom, on which processors; and words of the shell's.
-BEFORE = frozenset("exec sudo doas env nohup setsid time nice ionice chrt taskset numactl stdbuf command if then else do ! {".split())
+BEFORE = frozenset("exec sudo doas env nohup setsid time timeout nice ionice chrt taskset numactl stdbuf command if then else do ! {".split())
 # Their options that have paths mean others, and commands that do.
 MOVES = re.compile(r"-C|-D|-R|--chdir(=.*)?|--chroot(=.*)?")
 GOES = ("cd", "pushd", "chroot")
@@ -130,9 +130,9 @@ class Reader:
 
 
 def program_at(words: list[str], program: str) -> int | None:
-    """Where in a command the program is, by its name."""
+    """Where in a command the program is, by its name. A variable that has its path is none."""
     pattern = re.compile(program)
-    return next((at for at, word in enumerate(words) if pattern.fullmatch(os.path.basename(word))), None)
+    return next((at for at, word in enumerate(words) if pattern.fullmatch(os.path.basename(word)) and not ASSIGNS.fullmatch(word)), None)
 
 
 def why_not(before: list[str]) -> str | None:

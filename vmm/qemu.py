@@ -27,6 +27,8 @@ FACTS = Facts(DTB_ALIGN, ends_after_dump=True, dtb_length=MIB, no_seeds="dtb-ran
 STUB = (0x580000C0, 0xAA1F03E1, 0xAA1F03E2, 0xAA1F03E3, 0x58000084, 0xD61F0080)
 # The windows after RAM, in their order: the word that has one off, and its size.
 WINDOWS = (("highmem-redists", 64 * MIB), ("highmem-ecam", 256 * MIB), ("highmem-mmio", 512 * GIB))
+# The words of -cpu that count what is measured: the key of the host's file, and the least that there is.
+COUNTS = {"num-breakpoints": ("num_bps", 1), "num-watchpoints": ("num_wps", 1), "num-pmu-counters": ("pmu_num_ctrs", 0)}
 # The most memory slots, and the words beside a number of processors.
 MOST_SLOTS = 256
 TOPOLOGY = ("sockets", "dies", "clusters", "modules", "cores", "threads", "books", "drawers")
@@ -212,10 +214,15 @@ def has_gic_3(guest: Guest) -> bool:
     return machine_words(guest.machine.text).get("gic-version") in ("3", "4", "max")
 
 
-def features(cpu: str) -> dict[str, bool]:
-    """What the words of -cpu switch on or off that the host's file says too."""
+def features(cpu: str) -> dict[str, tuple[int, ...]]:
+    """What the words of -cpu say that the host's file says too. Of breakpoints it is not known whether the realm has one less."""
     given = dict(part.partition("=")[::2] for part in parts(cpu)[1:])
-    return {key: given[key] not in OFF for key in ("sve", "pmu") if given.get(key) in (*OFF, *ON)}
+    found: dict[str, tuple[int, ...]] = {key: (given[key] not in OFF,) for key in ("sve", "pmu") if given.get(key) in (*OFF, *ON)}
+    for word, (key, least) in COUNTS.items():
+        if word in given:
+            count = number(f"-cpu: {word}", given[word], least, 256)
+            found[key] = (count - least, count) if least else (count,)
+    return found
 
 
 def read_cpu(said: dict) -> list[Word]:

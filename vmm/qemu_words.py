@@ -230,6 +230,8 @@ def read_realm(found: Sorted, given: Given, said: dict[str, str]):
     read = None if value is None else personalization(value)
     if found.realm is not None:
         found.refuse(given, "it is the second rme-guest, expected one")
+    elif not said.get("id"):
+        found.refuse(given, "it has no id, expected one")
     elif doubled:
         found.refuse(given, f"{doubled} is given twice, expected once")
     elif set(said) - REALM_KEYS:
