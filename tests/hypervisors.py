@@ -24,6 +24,7 @@ import inspect
 import io
 import json
 import os
+import random
 import re
 import resource
 import shutil
@@ -41,9 +42,11 @@ START = os.path.join(TOP, "rim-manifest")
 LINES = os.path.join(TOP, "tests", "lines")
 sys.path.insert(0, TOP)
 
+from outside.faults import Fault  # noqa: E402, the path is set above
 from vmm import host as host_keys  # noqa: E402, the path is set above
 from vmm.hypervisor import Hypervisor  # noqa: E402, the path is set above
 from vmm.hypervisors import HYPERVISORS  # noqa: E402, the path is set above
+from vmm.lines import Reader  # noqa: E402, the path is set above
 from vmm.main import options_of  # noqa: E402
 from vmm.main import main as rim_manifest  # noqa: E402
 from vmm.qemu_words import MACHINE  # noqa: E402
@@ -767,6 +770,35 @@ def placed(program: str, words: list[str], kernel: bytes, initrd: int | None, ra
         return wrong + read_by(program, folder, count=1)
 
 
+# Prints the words of each command `f`, and how its end is known.
+SHELL = "f() { for w; do printf '%s\\001' \"$w\"; done; printf '\\002'; }\n"
+PIECES = ["a", "b", " ", "'", '"', "\\", "\n", "#", "\t", "\\\n", "-x", "é", "=", "%", "!", "^", "]", "}", ",", "f ", ";"]
+
+
+def read_by_shell(text: str, folder: str) -> list[list[str]] | None:
+    """The words of each command `f` of a text as the shell of this machine reads them; None where it takes no such text."""
+    ran = subprocess.run(["sh", "-c", SHELL + text], capture_output=True, check=False, cwd=folder, timeout=SECONDS)
+    found = [words.split("\1")[:-1] for words in ran.stdout.decode().split("\2")[:-1]]
+    return None if b"yntax error" in ran.stderr or b"nterminated" in ran.stderr else found
+
+
+def as_a_shell(_program: str):
+    """Texts are read as the shell of this machine reads them, in which other commands are unknown."""
+    wrong, draw, read = [], random.Random(1), 0
+    with Folder() as folder:
+        for _ in range(300):
+            text = "f " + "".join(draw.choice(PIECES) for _ in range(draw.randrange(1, 14)))
+            try:
+                has = [each.words[1:] for each in Reader("text", text).read() if each.words[0] == "f"]
+            except Fault:
+                continue
+            expected = read_by_shell(text, folder.path)
+            if expected is not None:
+                wrong += differs(ascii(text), has, expected)
+                read += 1
+    return wrong + differs("many are read", read > 50, True)
+
+
 def line(program: str, name: str):
     """How the launch of a command line of tests/lines differs from what is beside it, which was worked out by hand."""
     with open(os.path.join(LINES, name + ".toml"), "rb") as file:
@@ -1406,7 +1438,7 @@ def main():
     os.environ["RIM"] = program
     tries = [(f"option: {name}", lambda each=(words, look, *rest): option(program, *each)) for name, words, look, *rest in OPTIONS]
     tries += [*places(program), *lines(program)] + [(each.__name__, lambda each=each: each(program)) for each in (
-        pasted, one_step, explained, long_names, matrix, measured, forced, not_forced, stopped_midway, bad_programs, signals, full, read_once, odd_names, fifos, unharmed, started, texts, types, documents)]
+        as_a_shell, pasted, one_step, explained, long_names, matrix, measured, forced, not_forced, stopped_midway, bad_programs, signals, full, read_once, odd_names, fifos, unharmed, started, texts, types, documents)]
     processors = len(os.sched_getaffinity(0))
     with concurrent.futures.ProcessPoolExecutor(processors) as pool:
         outcomes = [(each[0], wrong) for each, wrong in zip(STOPS, pool.map(stops, range(len(STOPS)), chunksize=8))]
