@@ -94,6 +94,8 @@ def line(draw: random.Random) -> list[str]:
         others.append(["-object", draw.choice((f"memory-backend-ram,id=ram0,size={size}", f"memory-backend-memfd,id=ram0,size={size},share=on"))])
     if "its=off" in beside or kind == "virt-5.0":
         others = [group for group in others if "pcie-root-port" not in group[-1]]   # which needs an ITS
+    if ["-icount", "shift=1"] in others:
+        others = [group for group in others if "thread=multi" not in group[-1]]     # which are not possible together
     if "iommu=smmuv3" in beside:
         others = [group for group in others if "iommu" not in group[-1]]
     words = [several("-M", ",".join([kind, *beside]), draw), several("-smp", processors(draw), draw), several("-m", memory, draw),
