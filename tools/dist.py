@@ -114,7 +114,7 @@ def build(crate, words):
 
 def other_day():
     """What is wrong with the day that `rim --version` has: a line, or none."""
-    said = re.search(r'VERSION: &str = "[^"]*\((.*)\)"', (TOP / "crates/rim_cli/src/definition.rt").read_text())
+    said = re.search(r'VERSION: &str = "[^"]*\((.*)\)"', (TOP / "crates/rim_words/src/definition.rt").read_text())
     log = ["git", "log", "-1", "--format=%cs", "--", "crates.txt", *folders()]
     last = subprocess.run(log, cwd=TOP, capture_output=True, text=True, check=True).stdout.strip()
     return [] if said and said[1] == last else [f"`rim --version` has {said[1] if said else 'no day'}, and the sources are of {last}"]

@@ -21,7 +21,7 @@ import command_table
 
 TOP = pathlib.Path(__file__).resolve().parent.parent
 CRATES = TOP / "crates"
-FAULTS = ["rim_cli/src/fault.rt", "rim_manifest/src/fault.rt", "rim_report/src/fault.rt", "rim_accepted/src/audit_fault.rt",
+FAULTS = ["rim_cli/src/fault.rt", "rim_manifest/src/fault.rt", "rim_pages/src/fault.rt", "rim_accepted/src/audit_fault.rt",
           "rim_show/src/fault.rt", "rim_replay/src/fault.rt"]
 # The name of an option or a flag, where the command line is defined.
 LONG = r'(?:\.long\(|\bflag_arg\(\s*alloc,\s*)"([\w-]+)"'
@@ -43,7 +43,7 @@ def manifest_keys():
 
 def named():
     """What the page has to name, by kind."""
-    definition, words = CRATES / "rim_cli/src/definition.rt", CRATES / "rim_cli/src/words.rt"
+    definition, words = CRATES / "rim_words/src/definition.rt", CRATES / "rim_words/src/words.rt"
     return {
         "command": found(r'^\s+"(\w+)" => Request::', words),
         "option": ["--" + name for name in ["help", "version"] + found(LONG, definition)],
@@ -56,14 +56,14 @@ def named():
 
 def operands():
     """The operands of each command, as the program takes them off its words."""
-    text = (CRATES / "rim_cli/src/words.rt").read_text()
+    text = (CRATES / "rim_words/src/words.rt").read_text()
     rows = re.findall(r'^ +"(\w+)" => Request::\w+ \{(.*?)\}', text, re.M | re.S)
     return {command: tuple(re.findall(r'operand\(given, "(\w+)"\)', fields)) for command, fields in rows}
 
 
 def options():
     """The options of each command, as its definition adds them."""
-    text = (CRATES / "rim_cli/src/definition.rt").read_text()
+    text = (CRATES / "rim_words/src/definition.rt").read_text()
     bodies = dict(re.findall(r"^fn (\w+)<'a>\((.*?)^\}", text, re.M | re.S))
     longs = {name: re.findall(LONG, body) for name, body in bodies.items()}
     added = {name: [name, *re.findall(r"\b(\w+_arg)\(", body)] for name, body in bodies.items() if name.endswith("_command")}

@@ -1,14 +1,16 @@
 //! A board's state: what it keeps, and what a put, a retirement and the end of a run make of it.
-ghost use Rattle.std.specs.Prelude.{◌≡◌, ◌<◌, ◌≤◌, ◌+◌, ◌⊎◌, [], false, true, length, map, replicate, sum, vec_len, IfErr, IfOk, None, OnOk, Some, slice_set, vec_capacity};
+ghost use Rattle.std.specs.Prelude.{◌≡◌, ◌<◌, ◌≤◌, ◌+◌, ◌⊎◌, List, [], false, true, length, map, replicate, sum, vec_len, IfErr, IfOk, None, OnOk, Some, slice_set, vec_capacity};
 ghost use Rattle.std.specs.List.{All, Contains};
 ghost use Rattle.job_board.specs.declared.job.Event.{Event};
 ghost use Rattle.job_board.specs.declared.job.JobId.{JobId};
 ghost use Rattle.job_board.specs.Board.{Adds, AreValuesOf, CanPutJob, CanPutPage, IsBoard, IsOfRun, NeedsOwn, SameRest};
-ghost use Rattle.job_board.specs.Jobs.{is_out, is_over, opening};
+ghost use Rattle.job_board.specs.History.{most_events};
+ghost use Rattle.job_board.specs.Jobs.{NeedsWithin, is_out, is_over, opening};
 ghost use Rattle.page_jobs.specs.Page.{page_view};
-ghost use Rattle.page_jobs.specs.Table.{page_keys_of as page_keys, with_digest};
-ghost use Rattle.rim_chain.specs.Links.{keys_of};
+ghost use Rattle.page_jobs.specs.Table.{IsTable, TableView, page_keys_of as page_keys, with_digest};
+ghost use Rattle.rim_chain.specs.Links.{PlanView, keys_of};
 ghost use Rattle.rim_chain.specs.Rows.{value_in};
+ghost use Rattle.rim_chain.specs.SharedPrefixes.{AreShared};
 ghost use Rattle.job_board.specs.declared.machine.TheConstants.{WORKER_LIMIT};
 
 mod giving;
@@ -146,18 +148,11 @@ impl<'a, L: Run> BoardState<'a, L> {
     {
         let (book, part) = blank.open::<L>();
         let shares = cut(alloc, part, workers)?;
-        let pages = table.pages().len();
-        let needs = own_needs(alloc, &table, plans)?;
-        let core = Core::with_needs(alloc, workers, pages, needs)?;
-        let history = room_for(alloc, 2 * (pages + plans.len()) + 2 * workers)?;
+        let (core, history) = new_jobs(alloc, workers, &table, plans)?;
         let room = most_pages(plans);
         let rows = worker_rows(alloc, room, workers)?;
         let results = vec![in alloc; None; plans.len()]?;
-        let prefixes = SharedPrefixes::new(alloc, plans)?;
-        let others = most_others(plans, workers, lanes);
-        let lent_rows = lent_rows(alloc, room, others, workers)?;
-        let lending = Lending::new(alloc, workers, lanes, others, lent_rows)?;
-        let preferences = Preferences::new(alloc, workers, plans, &prefixes, lanes, lending)?;
+        let (prefixes, preferences) = new_choices(alloc, workers, plans, room, lanes)?;
         Ok((
             BoardState {
                 core,
@@ -368,6 +363,52 @@ impl<'a, L: Run> BoardState<'a, L> {
         copy_values(results, values);
         table.pages().len() as u64
     }
+}
+
+/// The jobs of a new board, none of which is begun, and its history, with room for each event of a run. Each launch needs just the pages
+/// of its own plan.
+fn new_jobs(
+    alloc: Global,
+    workers: usize,
+    table: &Table,
+    plans: &[LaunchPlan],
+) -> Result<(Core, Vec<Event>), NoMemory>
+    requires workers { (1 ≤ workers) × (workers ≤ WORKER_LIMIT) }
+    requires keys { All (λ p. All (Contains (page_keys table.now.pages)) (keys_of p.links))
+        plans.now }
+    ensures table { IsTable table.now }
+    ensures core { IfOk result
+        (λ r. r.0 ≡ opening workers (length table.now.pages) r.0.needs) }
+    ensures within { IfOk result (λ r. NeedsWithin r.0.needs (length table.now.pages)) }
+    ensures needs { IfOk result (λ r. NeedsOwn table.now plans.now r.0.needs) }
+    ensures empty { IfOk result (λ r. r.1.items ≡ []) }
+    ensures room { IfOk result (λ r. most_events r.0 ≤ vec_capacity r.1) }
+{
+    let pages = table.pages().len();
+    let needs = own_needs(alloc, table, plans)?;
+    let core = Core::with_needs(alloc, workers, pages, needs)?;
+    let history = room_for(alloc, 2 * (pages + plans.len()) + 2 * workers)?;
+    Ok((core, history))
+}
+
+/// The prefixes that these launches have in common, none of which is chained, and what each worker is best given next; no launch has more
+/// pages than `room`.
+fn new_choices(
+    alloc: Global,
+    workers: usize,
+    plans: &[LaunchPlan],
+    room: usize,
+    lanes: Lanes,
+) -> Result<(SharedPrefixes, Preferences), NoMemory>
+    requires workers { workers ≤ WORKER_LIMIT }
+    ensures { IfOk result (λ r. (t : TableView) (ps : List PlanView) → AreShared t ps r.0) }
+{
+    let prefixes = SharedPrefixes::new(alloc, plans)?;
+    let others = most_others(plans, workers, lanes);
+    let rows = lent_rows(alloc, room, others, workers)?;
+    let lending = Lending::new(alloc, workers, lanes, others, rows)?;
+    let preferences = Preferences::new(alloc, workers, plans, &prefixes, lanes, lending)?;
+    Ok((prefixes, preferences))
 }
 
 /// A list with room for this many events.

@@ -13,7 +13,7 @@ use Rattle.rim_accepted.specs.Reasons.{IsRefusedFor}
 use Rattle.rim_accepted.specs.declared.accepted.AcceptedLaunch.{AcceptedLaunch}
 use Rattle.rim_accepted.specs.declared.audit_fault.AuditFault.{AuditFault}
 use Rattle.rim_accepted.specs.declared.reason.LaunchReason.{LaunchReason}
-use Rattle.rim_report.specs.Pages.{keys_at}
+use Rattle.rim_pages.specs.Pages.{keys_at}
 use Rattle.rim_check.specs.Explained.{refusal_said}
 use Rattle.rim_line.specs.Lines.{AddsLine}
 use Rattle.rim_check.specs.declared.found.Found.{Found}

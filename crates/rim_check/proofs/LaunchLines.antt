@@ -15,7 +15,7 @@ use Rattle.rim_accepted.specs.Accepted.{accepted_of}
 use Rattle.rim_accepted.specs.Lines.{has_refused}
 use Rattle.page_jobs.specs.Key.{rising_keys}
 use Rattle.page_jobs.specs.declared.page.PageKey.{PageKey}
-use Rattle.rim_report.specs.Pages.{launch_keys, page_keys}
+use Rattle.rim_pages.specs.Pages.{launch_keys, page_keys}
 use Rattle.rim_check.specs.Explained.{AreSaidOf, IsLaunchCheck, IsSaidOf, fault_of, pages_said}
 use Rattle.rim_line.specs.Lines.{AddsAll, Saying, SayInTurn}
 use Rattle.rim_check.specs.Warned.{ShowsWarnings}

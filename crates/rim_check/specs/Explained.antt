@@ -14,10 +14,10 @@ use Rattle.rim_accepted.specs.AuditFaults.{audit_kind_of}
 use Rattle.rim_accepted.specs.Lines.{has_refused}
 use Rattle.rim_accepted.specs.Reasons.{IsRefusedFor, audit_fault_of}
 use Rattle.rim_accepted.specs.declared.reason.LaunchReason.{LaunchReason}
-use Rattle.rim_report.specs.Faults.{start_kind_of}
-use Rattle.rim_report.specs.Pages.{page_keys}
-use Rattle.rim_report.specs.declared.fault.StartFault.TheVariants as start
-use Rattle.rim_report.specs.declared.pages.TheConstants.{DISTINCT_LIMIT}
+use Rattle.rim_pages.specs.Faults.{start_kind_of}
+use Rattle.rim_pages.specs.Pages.{page_keys}
+use Rattle.rim_pages.specs.declared.fault.StartFault.TheVariants as start
+use Rattle.rim_pages.specs.declared.different.TheConstants.{DISTINCT_LIMIT}
 use Rattle.rim_check.specs.Details.{reason_detail}
 use Rattle.rim_check.specs.Fronts.{place_text, spot_text}
 use Rattle.rim_line.specs.Lines.{AddsLine, Saying, SayInTurn}

@@ -7,7 +7,7 @@ use crate::warnings::Warnings;
 use refusal::NoMemory;
 use rim_line::{Line, push_line};
 use rim_manifest::NamedLaunch;
-use rim_report::{DISTINCT_LIMIT, MeasuredPages, StartFault};
+use rim_pages::{DISTINCT_LIMIT, MeasuredPages, StartFault};
 use rim_unusual::SeenTrees;
 use std::alloc::{AllocError, Global};
 

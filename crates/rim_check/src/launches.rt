@@ -7,7 +7,7 @@ ghost use Rattle.rim_check.specs.Explained.{AddsRefusal, IsLaunchCheck, launch_f
 ghost use Rattle.rim_line.specs.Lines.{AddsLine, IsKnown};
 ghost use Rattle.rim_line.specs.Names.{names_of};
 ghost use Rattle.rim_check.specs.inside.Found.{AddsFound, AddsNumber, numbers_of};
-ghost use Rattle.rim_report.specs.Pages.{keys_at};
+ghost use Rattle.rim_pages.specs.Pages.{keys_at};
 
 use crate::detail::reason_detail;
 use crate::found::{Found, LaunchCheck};

@@ -1,8 +1,7 @@
 -- What a check of launches has found.
-use Rattle.std.proofs.Common.{◌≡◌, ◌∙◌, ℕ, Bool, List, [], ap, inl, inr}
-use Rattle.std.specs.Prelude.{◌≢◌, Option, if◌then◌else◌}
+use Rattle.std.proofs.Common.{◌≡◌, ◌∙◌, ℕ, Bool, List, [], ap, inr}
+use Rattle.std.specs.Prelude.{Option, if◌then◌else◌}
 use Rattle.rim_check.specs.Explained.{IsLaunchCheck}
-use Rattle.rim_line.specs.Lines.{Saying, SayInTurn}
 use Rattle.rim_line.specs.Readables.{ReadableData}
 use Rattle.rim_check.specs.declared.found.LaunchCheck.{LaunchCheck}
 use Rattle.rim_check.specs.declared.found.ReleaseFault.{ReleaseFault}
@@ -10,7 +9,6 @@ use Rattle.rim_cli.specs.Done.{IsReleaseCheck, check_status}
 use Rattle.rim_cli.specs.Files.{AreRead, Known}
 use Rattle.rim_cli.specs.declared.checking.Checked.{Checked}
 use Rattle.rim_cli.specs.inside.Found.{findings_of}
-use Rattle.rim_check.specs.Explained.{ShowsFaults}
 
 pub launches-checked : (held : List ℕ → Known) (quiet : Bool) (m : ReadableData) (files : List (List ℕ)) (check : LaunchCheck) (c : Checked)
     → AreRead held m.release.paths files → IsLaunchCheck m.names files m.release.launches check

@@ -25,8 +25,8 @@ use Rattle.rim_cli.proofs.ReleaseOfManifest.{of_release}
 use Rattle.rim_cli.specs.Mapped.{IsMapBy, IsMapOf, IsRefusedMapOf, Shows, ShowsPlaced, ShowsRefusal}
 use Rattle.rim_check.specs.Explained.{AddsRefusal, refusal_said}
 use Rattle.rim_line.specs.Lines.{Begins, SayInTurn}
-use Rattle.rim_cli.specs.declared.words.Format.{Format}
-use Rattle.rim_cli.specs.declared.words.Format.TheVariants as format
+use Rattle.rim_words.specs.declared.words.Format.{Format}
+use Rattle.rim_words.specs.declared.words.Format.TheVariants as format
 use Rattle.rim_map.specs.MapJson.{IsMap}
 use Rattle.rim_map.specs.RefusedMap.{EndsWithLine, IsRefusedMap}
 

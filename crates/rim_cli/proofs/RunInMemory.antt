@@ -11,15 +11,15 @@ use Rattle.rim_manifest.specs.Manifest.{manifest_of}
 use Rattle.rim_manifest.specs.declared.fault.ManifestFault.{ManifestFault}
 use Rattle.rim_accepted.specs.Lines.{has_refused}
 use Rattle.rim_report.specs.Report.{measured_of}
-use Rattle.rim_cli.specs.Command.{ReadsRequest, rim}
+use Rattle.rim_words.specs.Command.{ReadsRequest, rim}
 use Rattle.rim_cli.specs.Done.{IsAnswer, IsMade, IsReport, path_of}
-use Rattle.rim_cli.specs.Examples.{plain}
+use Rattle.rim_words.specs.Examples.{plain}
 use Rattle.rim_cli.specs.Files.{AreRead, IfFile, Known}
-use Rattle.rim_cli.specs.declared.words.Format.{Format}
-use Rattle.rim_cli.specs.declared.words.Format.TheVariants as format
-use Rattle.rim_cli.specs.declared.words.Request.{Request}
-use Rattle.rim_cli.specs.declared.words.Request.TheVariants.{Measure, List as Lists, Trace, Map, Audit, Check, Dtb, Replay, Image, Fdt}
-use Rattle.rim_cli.proofs.RequestsOfSubcommands.{apart}
+use Rattle.rim_words.specs.declared.words.Format.{Format}
+use Rattle.rim_words.specs.declared.words.Format.TheVariants as format
+use Rattle.rim_words.specs.declared.words.Request.{Request}
+use Rattle.rim_words.specs.declared.words.Request.TheVariants.{Measure, List as Lists, Trace, Map, Audit, Check, Dtb, Replay, Image, Fdt}
+use Rattle.rim_words.proofs.RequestsOfSubcommands.{apart}
 
 -- what is known where there is one manifest
 abbrev pub in_memory : List ℕ → List ℕ → Known

@@ -17,8 +17,8 @@ use Rattle.rim_show.specs.ShownImage.{image_answer_of}
 use Rattle.rim_accepted.specs.declared.audit_fault.AuditFault.{AuditFault}
 use Rattle.rim_accepted.specs.declared.audit_fault.AuditFault.TheVariants as audit
 use Rattle.rim_show.specs.declared.fault.ShowFault.TheVariants as show
-use Rattle.rim_report.specs.declared.fault.StartFault.{StartFault}
-use Rattle.rim_report.specs.declared.fault.StartFault.TheVariants as start
+use Rattle.rim_pages.specs.declared.fault.StartFault.{StartFault}
+use Rattle.rim_pages.specs.declared.fault.StartFault.TheVariants as start
 use Rattle.rim_check.specs.CheckJson.{check_json_of}
 use Rattle.rim_check.specs.Explained.{Explains, ShowsFaults, fault_in}
 use Rattle.rim_check.specs.Warned.{ShowsWarnings}
@@ -26,14 +26,14 @@ use Rattle.rim_check.specs.declared.found.ReleaseFault.{ReleaseFault}
 use Rattle.rim_check.specs.declared.found.ReleaseFault.TheVariants as release
 use Rattle.rim_line.specs.Lines.{Saying, SayInTurn}
 use Rattle.rim_line.specs.Readables.{ReadableData, item_names_in}
-use Rattle.rim_cli.specs.declared.definition.TheConstants.{VERSION}
-use Rattle.rim_cli.specs.declared.words.Format.{Format}
-use Rattle.rim_cli.specs.declared.words.Format.TheVariants as format
-use Rattle.rim_cli.specs.declared.words.Request.{Request}
-use Rattle.rim_cli.specs.declared.words.Request.TheVariants.{Measure, List as Lists, Trace, Map, Audit, Check, Dtb, Replay, Image, Fdt}
+use Rattle.rim_words.specs.declared.definition.TheConstants.{VERSION}
+use Rattle.rim_words.specs.declared.words.Format.{Format}
+use Rattle.rim_words.specs.declared.words.Format.TheVariants as format
+use Rattle.rim_words.specs.declared.words.Request.{Request}
+use Rattle.rim_words.specs.declared.words.Request.TheVariants.{Measure, List as Lists, Trace, Map, Audit, Check, Dtb, Replay, Image, Fdt}
 use Rattle.rim_cli.specs.declared.fault.Fault.{Fault}
 use Rattle.rim_cli.specs.declared.fault.Fault.TheVariants.{Manifest, NoSuchLaunch, Start, Refused, NoDevicetree, Show}
-use Rattle.rim_cli.specs.Command.{ReadsRequest, rim}
+use Rattle.rim_words.specs.Command.{ReadsRequest, rim}
 use Rattle.rim_cli.specs.Files.{AreRead, IfFile, IsFileFault, IsFirstFault, Known}
 use Rattle.rim_cli.specs.Unread.{AreUnread}
 use Rattle.rim_cli.specs.Mapped.{IsMapOf}

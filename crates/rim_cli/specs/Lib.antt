@@ -1,4 +1,3 @@
-pub mod Command
 pub mod Done
 pub mod Examples
 pub mod Files

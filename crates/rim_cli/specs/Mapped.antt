@@ -12,8 +12,8 @@ use Rattle.rim_accepted.specs.declared.reason.LaunchReason.{LaunchReason}
 use Rattle.rim_check.specs.Explained.{AddsRefusal}
 use Rattle.rim_map.specs.MapJson.{IsMap}
 use Rattle.rim_map.specs.RefusedMap.{EndsWithLine, IsRefusedMap}
-use Rattle.rim_cli.specs.declared.words.Format.{Format}
-use Rattle.rim_cli.specs.declared.words.Format.TheVariants as format
+use Rattle.rim_words.specs.declared.words.Format.{Format}
+use Rattle.rim_words.specs.declared.words.Format.TheVariants as format
 
 -- as JSON the map of a launch that is accepted shows it; what its lines show is tested alone
 abbrev pub Shows : Format → ReadableData → List ℕ → AcceptedLaunch → List ℕ → Type 0

@@ -7,11 +7,11 @@ use Rattle.rim_cli.specs.declared.fault.Fault.TheVariants.{Manifest, NoSuchLaunc
 use Rattle.rim_manifest.specs.Faults.{kind_of}
 use Rattle.rim_manifest.specs.declared.fault.ManifestFault.TheVariants as manifest
 use Rattle.rim_accepted.specs.AuditFaults.{audit_kind_of}
-use Rattle.rim_report.specs.Faults.{start_kind_of}
+use Rattle.rim_pages.specs.Faults.{start_kind_of}
 use Rattle.rim_show.specs.ShowFaults.{show_kind_of}
 use Rattle.rim_accepted.specs.declared.audit_fault.AuditFault.TheVariants as audit
 use Rattle.rim_show.specs.declared.fault.ShowFault.TheVariants as show
-use Rattle.rim_report.specs.declared.fault.StartFault.TheVariants as start
+use Rattle.rim_pages.specs.declared.fault.StartFault.TheVariants as start
 
 -- want of memory, wherever it was met, is 4; each other fault is 3
 abbrev pub status_of : Fault → ℕ

@@ -2,11 +2,11 @@
 //! true is tested alone.
 use crate::checking::{check, failure_text};
 use crate::file::{Opener, Unread, read_or_why};
-use crate::words::{Format, Request, command};
 use refusal::NoMemory;
 use rim_check::{MarkedLine, Nearest, mark_first};
 use rim_line::{Line, Quoted};
 use rim_release::{Release, read_manifest};
+use rim_words::{Format, Request, command};
 use std::alloc::Global;
 use std::convert::AsStr;
 use std::fmt::Write as _;

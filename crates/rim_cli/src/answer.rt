@@ -1,8 +1,8 @@
 //! The answer to a request, made whole.
 ghost use Rattle.std.specs.Prelude.{◌≡◌, ◌⊎◌, ◌<◌, ◌≤◌, Err, IfErr, IfOk, IsOkAnd, Ok, Some, if◌then◌else◌, length, map, position, true, vec_len};
 ghost use Rattle.rim_accepted.specs.Lines.{has_refused};
-ghost use Rattle.rim_report.specs.Report.{is_crew, measured_of};
-ghost use Rattle.rim_cli.specs.Command.{HasCrew};
+ghost use Rattle.rim_report.specs.Report.{measured_of};
+ghost use Rattle.rim_words.specs.Command.{HasCrew, IsCrew};
 ghost use Rattle.rim_manifest.specs.Manifest.{manifest_of, name_in};
 ghost use Rattle.rim_show.specs.ShownDevicetree.{ShowsDevicetree};
 ghost use Rattle.rim_show.specs.ShownImage.{image_answer_of};
@@ -10,18 +10,17 @@ ghost use Rattle.rim_cli.specs.Done.{IsAnswer, IsAudit, IsDevicetree, IsListing,
 ghost use Rattle.rim_cli.specs.Files.{AreRead, IfFile};
 
 use crate::checking::check;
-use crate::definition::VERSION;
 use crate::fault::Fault;
 use crate::file::{Opener, read_file, read_files};
 use crate::freed::keep_freed_memory;
 use crate::mapping::map;
 use crate::replaying::replay;
-use crate::words::{Format, Request};
 use rim_release::{
     Files, Gate, Lanes, Outcome, Release, Report, StartFault, audit_with_gate, json_report,
     listing_or_refusal, measure_release, placed_devicetree, read_manifest, show_fdt, show_image,
     trace_or_refusal,
 };
+use rim_words::{Format, Request, VERSION};
 use std::alloc::Global;
 use std::sync::Wait;
 use std::thread::Threads;
@@ -87,7 +86,7 @@ fn measure<R: Threads + Wait + Sync, G: Gate + Sync, O: Opener>(
     workers: u8,
     format: Format,
 ) -> Result<Answer, Fault>
-    requires { is_crew workers ≡ true }
+    requires { IsCrew workers }
     ensures answered { IfOk result (λ a. IfFile (O.held opener.old path.now) (λ bytes. IsOkAnd
         (manifest_of bytes)
         (λ r. IsReport format (O.held opener.old) r a.text.items a.status))) }
@@ -112,7 +111,7 @@ fn report<R: Threads + Wait + Sync, G: Gate + Sync>(
     format: Format,
 ) -> Result<Report, StartFault>
     requires files { vec_len files.now ≡ length release.now.paths }
-    requires crew { is_crew workers ≡ true }
+    requires crew { IsCrew workers }
     ensures text { IfOk result (λ r. IsReportOf format (map (λ file. file.items) files.now.items)
         release.now r.text.items) }
     ensures fault { IfErr result (λ e. (e ≡ StartFault.NoMemory)

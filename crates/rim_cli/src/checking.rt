@@ -7,13 +7,13 @@ ghost use Rattle.rim_cli.specs.inside.Found.{AreFound, HasLine, findings_of};
 use crate::answer::Answer;
 use crate::fault::Fault;
 use crate::file::{FILE_LIMIT, Opener, Unread, read_file, read_or_why};
-use crate::words::Format;
 use refusal::NoMemory;
 use rim_check::{
     LaunchCheck, ManifestCheck, Readable, ReleaseFault, check_json, check_launches, check_manifest,
     push_file,
 };
 use rim_release::{Files, Release};
+use rim_words::Format;
 use std::alloc::{AllocError, Global};
 use std::io::ErrorKind;
 

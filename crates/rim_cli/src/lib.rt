@@ -1,10 +1,9 @@
-//! The command line of `rim`, and a run of the program over any files and streams.
+//! A run of the program over any files and streams.
 #![tactic(auto)]
 
 mod advice;
 mod answer;
 mod checking;
-mod definition;
 mod fault;
 mod file;
 mod freed;
@@ -14,13 +13,12 @@ mod mapping;
 mod patient;
 mod program;
 mod replaying;
-mod words;
 
 pub use advice::advise;
 pub use file::Opener;
 pub use in_memory::measure_in_memory;
-pub use laws::{answers_are_printed, examples_are_read, the_smallest_manifest_is_read};
+pub use laws::{answers_are_printed, the_smallest_manifest_is_read};
 pub use program::{asks_for_bytes, report_terminal, report_unreadable, run};
 pub use rim_line::TerminalWriter;
 pub use rim_release::{FreeGate, Gate, JobId, Lanes};
-pub use words::{CommandFault, Format, Request, command};
+pub use rim_words::{CommandFault, Format, Request, command, examples_are_read};

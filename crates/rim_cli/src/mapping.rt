@@ -12,13 +12,13 @@ ghost use Rattle.rim_manifest.specs.Manifest.{manifest_of, name_in};
 use crate::answer::Answer;
 use crate::fault::Fault;
 use crate::file::{Opener, read_file, read_files};
-use crate::words::Format;
 use refusal::NoMemory;
 use rim_accepted::{AcceptedLaunch, Files, LaunchReason, accept_with_reason};
 use rim_check::refusal_line;
 use rim_line::Readable;
 use rim_manifest::{Document, NamedLaunch, read_manifest};
 use rim_map::{RefusedLaunch, map_json, map_text, refused_json, refused_text};
+use rim_words::Format;
 use std::alloc::Global;
 
 /// The map of a launch of the manifest at a path, as far as it goes: status 1 where the launch is refused.

@@ -40,7 +40,7 @@ use Rattle.rim_chain.specs.Reading.{IsReadOf}
 use Rattle.rim_chain.specs.Rows.{IsFull, IsRowOf, has_all, value_in}
 use Rattle.rim_chain.proofs.ChainsOfOwnPages.{chain-held, row-own}
 use Rattle.rim_accepted.specs.Accepted.{accepted_of, commands_for, rim_for}
-use Rattle.rim_report.specs.Pages.{keys_at, launch_keys, page_keys, release_pages, source_bytes}
+use Rattle.rim_pages.specs.Pages.{keys_at, launch_keys, page_keys, pages_of, release_pages, source_bytes}
 use Rattle.rim_accepted.specs.Lines.{lines_of, outcomes_for, seen}
 use Rattle.rim_report.specs.Report.{measured_of, report_of, report_with}
 use Rattle.rim_accepted.specs.Accepted.{places_of}
@@ -49,13 +49,12 @@ use Rattle.rim_accepted.specs.Outcomes.{AreOutcomes, IsLaidOut, OutcomesView}
 use Rattle.rim_accepted.specs.declared.accepted.AcceptedLaunch.{AcceptedLaunch}
 use Rattle.rim_report.specs.inside.Unknown.{unknown_outcome, with_rims}
 use Rattle.rim_accepted.specs.Lines.{lines_with}
-use Rattle.rim_report.specs.inside.Sources.{pages_of}
 use Rattle.rim_accepted.specs.declared.audit_fault.AuditFault.{AuditFault}
-use Rattle.rim_report.specs.declared.fault.StartFault.TheVariants.{TooManyPages}
+use Rattle.rim_pages.specs.declared.fault.StartFault.TheVariants.{TooManyPages}
 use Rattle.rim_accepted.proofs.AcceptedLaunches.{IsAccepted, accepted-is, refused-rim}
 use Rattle.rim_accepted.proofs.OutcomesInTurn.{own-place}
 use Rattle.rim_accepted.proofs.LinesOfLaunches.{own-lines}
-use Rattle.rim_report.proofs.DifferentPages.{each-measured, files-there}
+use Rattle.rim_pages.proofs.DifferentPages.{each-measured, files-there}
 
 -- ---- the pages of a table
 

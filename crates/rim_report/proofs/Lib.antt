@@ -1,9 +1,7 @@
 -- To prove: the report is the definitions', however workers share the jobs.
 -- Before hashing: each launch that is accepted is read as its plan
 pub mod PlansInTurn
--- the measured pages of these launches, each once, in the order of their keys: a table has a slot for each
-pub mod DifferentPages
--- and one thread fills it slot by slot
+-- a table has a slot for each of their different pages, and one thread fills it slot by slot
 pub mod FilledSlots
 -- THE VALUES: with the digests of that table each launch chains to what a monitor holds after its list of commands,
 pub mod ChainsAreRims

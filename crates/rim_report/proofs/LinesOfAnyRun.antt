@@ -30,7 +30,7 @@ use Rattle.job_board.proofs.OwnValues.{done_are_put, own_values}
 use Rattle.ipa_layout.specs.Layout.{PlacedData}
 use Rattle.rim_manifest.specs.Launches.{AreNumbered, NamedData, ReleaseData}
 use Rattle.rim_accepted.specs.Accepted.{accepted_of, rim_for}
-use Rattle.rim_report.specs.Pages.{release_pages}
+use Rattle.rim_pages.specs.Pages.{release_pages}
 use Rattle.rim_report.specs.Plans.{ArePlans, BeginsWith}
 use Rattle.rim_accepted.specs.Lines.{line_of, line_with, lines_of}
 use Rattle.rim_report.specs.Values.{IsRimOf, accepted_launches, as_digest, launch_value, measured_rim, put_accepted, lines_by, makes_of, next_job, outcome_by}

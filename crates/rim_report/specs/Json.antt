@@ -10,7 +10,7 @@ use Rattle.sha2.specs.Sha256.{sha256}
 use Rattle.rim_desc.specs.declared.measurement.Algo.{Algo}
 use Rattle.rim_manifest.specs.Launches.{NamedData, ReleaseData}
 use Rattle.rim_accepted.specs.AuditFaults.{audit_kind_of}
-use Rattle.rim_report.specs.Pages.{page_keys}
+use Rattle.rim_pages.specs.Pages.{page_keys}
 use Rattle.rmi_line.specs.Ends.{digest_bytes}
 use Rattle.rim_accepted.specs.Lines.{outcomes_for}
 use Rattle.rim_accepted.specs.declared.audit_fault.AuditFault.{AuditFault}

@@ -1,6 +1,4 @@
-pub mod Faults
 pub mod Plans
-pub mod Pages
 pub mod Report
 pub mod Json
 pub mod Values

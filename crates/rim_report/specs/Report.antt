@@ -3,10 +3,10 @@ use Rattle.std.specs.Prelude.{ℕ, Bool, ◌&&◌, List, ◌++◌, length, nat_l
 use Rattle.std.specs.Fmt.{decimal}
 use Rattle.rim_manifest.specs.Launches.{NamedData}
 use Rattle.rim_accepted.specs.Lines.{lines_of}
-use Rattle.rim_report.specs.Pages.{page_keys}
-use Rattle.rim_report.specs.declared.fault.StartFault.{StartFault}
-use Rattle.rim_report.specs.declared.fault.StartFault.TheVariants.{TooManyPages, Workers}
-use Rattle.rim_report.specs.declared.pages.TheConstants.{DISTINCT_LIMIT}
+use Rattle.rim_pages.specs.Pages.{page_keys}
+use Rattle.rim_pages.specs.declared.fault.StartFault.{StartFault}
+use Rattle.rim_pages.specs.declared.fault.StartFault.TheVariants.{TooManyPages, Workers}
+use Rattle.rim_pages.specs.declared.different.TheConstants.{DISTINCT_LIMIT}
 use Rattle.job_board.specs.declared.machine.TheConstants.{WORKER_LIMIT}
 
 -- a report of these lines, for a release with this many different measured pages

@@ -8,7 +8,7 @@ ghost use Rattle.job_board.specs.Jobs.{is_over, opening};
 ghost use Rattle.job_board.specs.Values.{NeedsHold, values};
 ghost use Rattle.rim_chain.specs.Links.{PlanView};
 ghost use Rattle.rim_manifest.specs.Launches.{AreNumbered, ReleaseData};
-ghost use Rattle.rim_report.specs.Pages.{release_pages};
+ghost use Rattle.rim_pages.specs.Pages.{release_pages};
 ghost use Rattle.rim_report.specs.Plans.{ArePlans};
 ghost use Rattle.rim_accepted.specs.Lines.{lines_of};
 ghost use Rattle.rim_report.specs.Values.{IsRimOf, lines_by, makes_of};

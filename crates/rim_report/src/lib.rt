@@ -2,24 +2,19 @@
 #![tactic(auto)]
 
 mod chains;
-mod fault;
 mod hashing;
 mod json;
 mod laws;
-mod measured;
 mod one_thread;
 mod outcomes;
-mod pages;
 mod pending_report;
 mod plans;
 mod report;
 mod workers;
 
-pub use fault::StartFault;
 pub use json::json_report;
 pub use laws::{a_value_is_its_launchs_rim, values_make_the_lines};
-pub use measured::MeasuredPages;
 pub use one_thread::{measure_alone, report_alone};
-pub use pages::DISTINCT_LIMIT;
 pub use plans::accepted_plans;
+pub use rim_pages::{DISTINCT_LIMIT, MeasuredPages, StartFault};
 pub use workers::{Outcome, measure_release};

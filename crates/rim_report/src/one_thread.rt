@@ -6,15 +6,14 @@ ghost use Rattle.rim_accepted.specs.Lines.{has_refused};
 ghost use Rattle.rim_report.specs.Report.{measured_of};
 
 use crate::chains::chains;
-use crate::fault::StartFault;
 use crate::hashing::hashed;
 use crate::outcomes::{set_rims, unknown_outcomes};
-use crate::pages::pages;
 use crate::plans::accepted_plans;
 use crate::report::report;
 use rim_accepted::{Files, Report, accept_all, has_refused};
 use rim_desc::Lanes;
 use rim_manifest::Release;
+use rim_pages::{StartFault, pages};
 use std::alloc::Global;
 
 /// The report of a release, made on the calling thread without waiting: a line `rim-report 1`; a line `NAME ALGO HEX`

@@ -3,7 +3,7 @@ use Rattle.std.specs.Prelude.{◌≡◌, ◌||◌, ℕ, List, ◌++◌, map, Som
 use Rattle.std.specs.List.{AllByRecursion, slice_get}
 use Rattle.rim_manifest.specs.Launches.{NamedData}
 use Rattle.rim_accepted.specs.Accepted.{accepted_of}
-use Rattle.rim_report.specs.Pages.{launch_keys}
+use Rattle.rim_pages.specs.Pages.{launch_keys}
 use Rattle.rim_check.specs.declared.found.Found.{Found}
 use Rattle.rim_check.specs.declared.warnings.Warnings.{Warnings}
 use Rattle.rim_check.specs.inside.Refused.{AddsSaid}

@@ -1,6 +1,6 @@
 use Rattle.std.proofs.Common.{◌≡◌, ℕ, ◌++◌, List, ap, inl, inr, sym, subst}
 use Rattle.std.specs.Prelude.{Result, IsOkAnd}
-use Rattle.rim_report.specs.declared.fault.StartFault.{StartFault}
+use Rattle.rim_pages.specs.declared.fault.StartFault.{StartFault}
 use Rattle.rim_cli.proofs.RunInMemory.{ends_above, none_made, own_status, own_text, plain_taken}
 use Rattle.rim_cli.proofs.in_memory.measure_in_memory.Goals as goal
 

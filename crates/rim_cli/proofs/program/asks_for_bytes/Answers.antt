@@ -1,5 +1,5 @@
 use Rattle.std.proofs.Common.{sym, ◌∙◌}
-use Rattle.rim_cli.proofs.RequestsOfSubcommands.{each_for_bytes}
+use Rattle.rim_words.proofs.RequestsOfSubcommands.{each_for_bytes}
 use Rattle.rim_cli.proofs.program.asks_for_bytes.Goals as goal
 
 pub returns-in-Ok-clause-asked : goal.returns-in-Ok-clause-asked

@@ -1,5 +1,5 @@
 use Rattle.std.proofs.Common.{inl, inr, map, refl, rules}
-use Rattle.rim_cli.proofs.KindsOfRefusal.{asked_kind, mistaken_kind}
+use Rattle.rim_words.proofs.KindsOfRefusal.{asked_kind, mistaken_kind}
 use Rattle.rim_cli.proofs.program.run.Goals as goal
 
 pub returns-in-Err-Usage-clause-mistaken : goal.returns-in-Err-Usage-clause-mistaken

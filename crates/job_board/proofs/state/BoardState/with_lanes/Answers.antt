@@ -17,19 +17,14 @@ pub invariant_of-result : goal.invariant_of-result
 invariant_of-result g c =
     let count = length c.args.plans.now in
     let size = length c.args.table.pages in
-    let needs : List (List ℕ) = needs_of c.in_ok-needs.needs in
-    let own = c.in_ok-needs.ensures.own in
-    let pages : length c.pages-pages.result.now ≡ size = sym (length-map c.pages-pages.result.now page_view) ∙ ap length c.pages-pages.ensures.pages in
-    let core : c.in_ok-core.core ≡ opening c.args.workers size needs = c.in_ok-core.ensures ∙ ap (λ (n : ℕ). opening c.args.workers n needs) pages in
+    let needs = c.in_ok-core.core.needs in
+    let own = c.in_ok-core.ensures.needs in
     let none : c.in_ok-results.results.items ≡ replicate count None = search rules in
-    let most : most_events c.in_ok-core.core ≡
-    2 * (length (replicate size Free) + length (replicate (length needs) Free)) + 2 * length (replicate c.args.workers false) = ap most_events core in
-    let cap : 2 * (length c.pages-pages.result.now + count) + 2 * c.args.workers ≤ vec_capacity c.in_ok-history.history = search rules in
-    let fresh = core_fresh c.args.workers size needs c.requires.workers.0 c.requires.workers.1 c.in_ok-needs.ensures.needs.within in (
-      rw (core, c.in_ok-history.ensures.empty, none, c.open-book.ensures.total)
-          (board_new c.args.workers c.args.table c.args.plans.now needs fresh c.pages-pages.ensures.table c.requires.empty own),
-      omega (arith, most, cap, pages, own.size, length-replicate size Free, length-replicate (length needs) Free, length-replicate c.args.workers false),
-      rw (core, c.in_ok-rows.ensures) (rows_new c.args.workers size needs c.args.plans.now c.most_pages-room.result c.most_pages-room.ensures),
+    let fresh = core_fresh c.args.workers size needs c.requires.workers.0 c.requires.workers.1 c.in_ok-core.ensures.within in (
+      rw (c.in_ok-core.ensures.core, c.in_ok-core.ensures.empty, none, c.open-book.ensures.total)
+          (board_new c.args.workers c.args.table c.args.plans.now needs fresh c.in_ok-core.ensures.table c.requires.empty own),
+      c.in_ok-core.ensures.room,
+      rw (c.in_ok-core.ensures.core, c.in_ok-rows.ensures) (rows_new c.args.workers size needs c.args.plans.now c.most_pages-room.result c.most_pages-room.ensures),
       c.in_ok-prefixes.ensures (whole_table g.L.Run.pages) g.L.Run.plans,
       (c.requires.pages, c.requires.plans),
     )

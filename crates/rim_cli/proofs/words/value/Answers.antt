@@ -1,7 +1,0 @@
-use Rattle.std.proofs.Common.{◌∙◌, sym}
-use Rattle.clap.specs.Words.{found_of}
-use Rattle.clap.proofs.WalkLemmas.{first_value-rows}
-use Rattle.rim_cli.proofs.words.value.Goals as goal
-
-pub returns : goal.returns
-returns c = sym (c.get_str.ensures ∙ first_value-rows (found_of c.args.given.now) c.args.id.now)

@@ -1,0 +1,3 @@
+-- What the loops of this crate keep.
+pub mod Ends
+pub mod Sources

@@ -1,0 +1,7 @@
+use Rattle.std.proofs.Common.{◌∙◌, sym}
+use Rattle.clap.specs.Words.{found_of}
+use Rattle.clap.proofs.WalkLemmas.{first_value-rows}
+use Rattle.rim_words.proofs.words.value.Goals as goal
+
+pub returns : goal.returns
+returns c = sym (c.get_str.ensures ∙ first_value-rows (found_of c.args.given.now) c.args.id.now)

@@ -1,0 +1,92 @@
+-- Examples of command lines, read by the definition of `clap`. This project's choice.
+use Rattle.std.specs.Prelude.{◌≡◌, ℕ, true, false, List, [], ◌∷◌, Option, Some, None, codes, option_map}
+use Rattle.clap.specs.Words.{Text, first_of, subcommand_of, takes}
+use Rattle.rim_words.specs.Command.{AsksForHelp, CountsWorkers, IsMistaken, format_of, rim}
+use Rattle.rim_words.specs.declared.words.Format.{Format}
+use Rattle.rim_words.specs.declared.words.Format.TheVariants as format
+
+abbrev pub plain : List Text
+plain = codes "rim" ∷ codes "measure" ∷ codes "manifest.toml" ∷ []
+
+abbrev pub with_seven : List Text
+with_seven = codes "rim" ∷ codes "measure" ∷ codes "--workers=7" ∷ codes "manifest.toml" ∷ []
+
+abbrev pub with_json : List Text
+with_json = codes "rim" ∷ codes "measure" ∷ codes "manifest.toml" ∷ codes "--json" ∷ []
+
+abbrev pub a_trace : List Text
+a_trace = codes "rim" ∷ codes "trace" ∷ codes "manifest.toml" ∷ codes "small" ∷ []
+
+abbrev pub a_map : List Text
+a_map = codes "rim" ∷ codes "map" ∷ codes "manifest.toml" ∷ codes "small" ∷ codes "--json" ∷ []
+
+abbrev pub a_replay : List Text
+a_replay = codes "rim" ∷ codes "replay" ∷ codes "listing" ∷ []
+
+abbrev pub an_image : List Text
+an_image = codes "rim" ∷ codes "image" ∷ codes "Image" ∷ []
+
+abbrev pub a_devicetree : List Text
+a_devicetree = codes "rim" ∷ codes "fdt" ∷ codes "virt.dtb" ∷ []
+
+abbrev pub a_listing : List Text
+a_listing = codes "rim" ∷ codes "list" ∷ codes "manifest.toml" ∷ codes "small" ∷ []
+
+abbrev pub an_audit : List Text
+an_audit = codes "rim" ∷ codes "audit" ∷ codes "manifest.toml" ∷ []
+
+abbrev pub a_check : List Text
+a_check = codes "rim" ∷ codes "check" ∷ codes "manifest.toml" ∷ []
+
+abbrev pub a_placed_devicetree : List Text
+a_placed_devicetree = codes "rim" ∷ codes "dtb" ∷ codes "manifest.toml" ∷ codes "small" ∷ []
+
+-- a listing of no launch
+abbrev pub too_few : List Text
+too_few = codes "rim" ∷ codes "list" ∷ codes "manifest.toml" ∷ []
+
+abbrev pub too_many : List Text
+too_many = codes "rim" ∷ codes "measure" ∷ codes "manifest.toml" ∷ codes "--workers" ∷ codes "65" ∷ []
+
+-- the flag takes no value
+abbrev pub json_with_value : List Text
+json_with_value = codes "rim" ∷ codes "measure" ∷ codes "manifest.toml" ∷ codes "--json=no" ∷ []
+
+-- the words are a command line of the program
+abbrev pub Takes : List Text → Type 0
+Takes words = takes rim words ≡ true
+
+abbrev pub TakesNot : List Text → Type 0
+TakesNot words = takes rim words ≡ false
+
+abbrev pub TakesExamples : Type 0
+TakesExamples = Takes plain × Takes with_seven × Takes with_json × Takes a_listing × Takes a_trace × Takes a_map × Takes an_audit × Takes a_check × Takes a_placed_devicetree
+    × Takes a_replay × Takes an_image × Takes a_devicetree × TakesNot too_many × TakesNot json_with_value × TakesNot too_few
+    × TakesNot (codes "rim" ∷ codes "help" ∷ []) × TakesNot (codes "rim" ∷ [])
+
+-- the texts of the manifest and of the workers that the words hold
+abbrev pub read_in : List Text → Option (Option Text × Option Text)
+read_in words = option_map (λ p. (first_of (codes "manifest") p.1, first_of (codes "workers") p.1)) (subcommand_of rim words)
+
+-- the texts of the manifest and of the launch that the words hold
+abbrev pub launch_in : List Text → Option (Option Text × Option Text)
+launch_in words = option_map (λ p. (first_of (codes "manifest") p.1, first_of (codes "launch") p.1)) (subcommand_of rim words)
+
+-- the format of the report that the words ask for
+abbrev pub format_in : List Text → Option Format
+format_in words = option_map (λ p. format_of (first_of (codes "json") p.1)) (subcommand_of rim words)
+
+abbrev pub ReadsExamples : Type 0
+ReadsExamples = (read_in plain ≡ Some (Some (codes "manifest.toml"), None))
+    × (read_in with_seven ≡ Some (Some (codes "manifest.toml"), Some (codes "7")))
+    × (launch_in a_listing ≡ Some (Some (codes "manifest.toml"), Some (codes "small")))
+    × (launch_in a_trace ≡ Some (Some (codes "manifest.toml"), Some (codes "small")))
+    × (launch_in a_map ≡ Some (Some (codes "manifest.toml"), Some (codes "small"))) × (format_in a_map ≡ Some format.Json)
+    × (launch_in a_placed_devicetree ≡ Some (Some (codes "manifest.toml"), Some (codes "small")))
+    × (format_in plain ≡ Some format.Text) × (format_in with_json ≡ Some format.Json)
+    × ((n : ℕ) → CountsWorkers None n → n ≡ 4) × ((n : ℕ) → CountsWorkers (Some (codes "7")) n → n ≡ 7)
+
+-- help and the version are asked for, and not a mistake; too many workers, a flag with a value, a listing of no launch, another subcommand and none are
+abbrev pub RefusesExamples : Type 0
+RefusesExamples = AsksForHelp (codes "rim" ∷ codes "--help" ∷ []) × AsksForHelp (codes "rim" ∷ codes "measure" ∷ codes "--help" ∷ [])
+    × AsksForHelp (codes "rim" ∷ codes "--version" ∷ []) × IsMistaken too_many × IsMistaken json_with_value × IsMistaken too_few × IsMistaken (codes "rim" ∷ codes "print" ∷ []) × IsMistaken (codes "rim" ∷ [])
