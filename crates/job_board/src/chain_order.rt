@@ -9,14 +9,14 @@ use std::cmp::Reverse;
 use std::collections::BinaryHeap;
 
 /// A launch, and the prefix of an earlier one that it goes on from.
-#[derive(Clone, Copy, Debug, PartialEq, Eq, PartialOrd, Ord)]
+#[derive(Clone, Copy, PartialEq, Eq, PartialOrd, Ord)]
 struct Follower {
     from: SharedPrefix,
     number: usize,
 }
 
 /// A launch that may be chained, in the order in which that is best done: the greatest of some is the next.
-#[derive(Clone, Copy, Debug, PartialEq, Eq, PartialOrd, Ord)]
+#[derive(Clone, Copy, PartialEq, Eq, PartialOrd, Ord)]
 struct Candidate {
     /// How many parts the longest way has that begins with the launch; of a launch that goes on from another, in whole steps.
     parts: u64,

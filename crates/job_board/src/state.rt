@@ -1,10 +1,12 @@
 //! A board's state: what it keeps, and what a put, a retirement and the end of a run make of it.
-ghost use Rattle.std.specs.Prelude.{◌≡◌, ◌<◌, ◌≤◌, ◌+◌, ◌⊎◌, List, [], false, true, length, map, replicate, sum, vec_len, IfErr, IfOk, None, OnOk, Some, slice_set, vec_capacity};
+ghost use Rattle.std.specs.Prelude.{◌≡◌, ◌<◌, ◌≤◌, ◌+◌, ◌⊎◌, List, [], ◌∷◌, ◌++◌, false, true, length, map, replicate, sum, vec_len, IfErr, IfOk, None, OnErr, OnOk, Some, slice_set, vec_capacity};
 ghost use Rattle.std.specs.List.{All, Contains};
 ghost use Rattle.job_board.specs.declared.job.Event.{Event};
 ghost use Rattle.job_board.specs.declared.job.JobId.{JobId};
 ghost use Rattle.job_board.specs.Board.{Adds, AreValuesOf, CanPutJob, CanPutPage, IsBoard, IsOfRun, NeedsOwn, SameRest};
-ghost use Rattle.job_board.specs.History.{most_events};
+ghost use Rattle.job_board.specs.History.{IsHistory, most_events};
+ghost use Rattle.job_board.specs.Step.{core_step};
+ghost use Rattle.refusal.specs.Answer.{Matches};
 ghost use Rattle.job_board.specs.Jobs.{NeedsWithin, is_out, is_over, opening};
 ghost use Rattle.page_jobs.specs.Page.{page_view};
 ghost use Rattle.page_jobs.specs.Table.{IsTable, TableView, page_keys_of as page_keys, with_digest};
@@ -16,7 +18,7 @@ ghost use Rattle.job_board.specs.declared.machine.TheConstants.{WORKER_LIMIT};
 mod giving;
 
 use crate::closing::{add_up, audit_all, copy_values, write_counts};
-use crate::job::{Event, JobId};
+use crate::job::{CoreFault, Event, JobId};
 use crate::lending::{Lending, most_others};
 use crate::machine::Core;
 use crate::own_needs::own_needs;
@@ -217,11 +219,10 @@ impl<'a, L: Run> BoardState<'a, L> {
             worker,
             job: JobId::Page(number),
         };
-        let Ok(()) = core.step(&event) else {
+        let Ok(()) = record(core, history, event) else {
             return Err(page);
         };
         table.keep(number, page.into_hashed());
-        history.push_reserved(event);
         book.add(part, 1);
         *count += 1;
         Ok(())
@@ -263,11 +264,10 @@ impl<'a, L: Run> BoardState<'a, L> {
             worker,
             job: JobId::Launch(number),
         };
-        let Ok(()) = core.step(&event) else {
+        let Ok(()) = record(core, history, event) else {
             return Err(launch);
         };
         let rim = launch.into_rim();
-        history.push_reserved(event);
         results[number] = Some(rim.value());
         keep_row(
             rows,
@@ -310,11 +310,9 @@ impl<'a, L: Run> BoardState<'a, L> {
             → (self.new ≡ self.old) × ((worker ≡ 0) ⊎ (is_out self.old.core worker ≡ true)) }
     {
         let BoardState { core, history, .. } = self;
-        let event = Event::Retire { worker };
-        let Ok(()) = core.step(&event) else {
+        let Ok(()) = record(core, history, Event::Retire { worker }) else {
             return false;
         };
-        history.push_reserved(event);
         true
     }
 }
@@ -409,6 +407,20 @@ fn new_choices(
     let lending = Lending::new(alloc, workers, lanes, others, rows)?;
     let preferences = Preferences::new(alloc, workers, plans, &prefixes, lanes, lending)?;
     Ok((prefixes, preferences))
+}
+
+/// Makes the step of an event and adds it to the history, or answers the first fault that holds and changes nothing. It takes no memory.
+fn record(core: &mut Core, history: &mut Vec<Event>, event: Event) -> Result<(), CoreFault>
+    requires history { IsHistory core.old history.old.items }
+    requires room { most_events core.old ≤ vec_capacity history.old }
+    ensures step { Matches (λ u. core.new) result (core_step core.old event) }
+    ensures history { OnOk result (history.new.items ≡ history.old.items ++ event ∷ []) }
+    ensures room { most_events core.new ≤ vec_capacity history.new }
+    ensures same { OnErr result ((core.new ≡ core.old) × (history.new ≡ history.old)) }
+{
+    core.step(&event)?;
+    history.push_reserved(event);
+    Ok(())
 }
 
 /// A list with room for this many events.

@@ -1,5 +1,5 @@
 //! What a board gives: jobs, and launches that are lent.
-ghost use Rattle.std.specs.Prelude.{◌≡◌, ◌≢◌, ◌<◌, false, true, IfOk, Some, slice_get};
+ghost use Rattle.std.specs.Prelude.{◌≡◌, ◌≢◌, ◌<◌, false, true, IfNone, IfOk, IfSome, Some, slice_get};
 ghost use Rattle.rim_desc.specs.declared.side_by_side.TheConstants.{MOST_LANES};
 ghost use Rattle.rim_chain.specs.Links.{keys_of};
 ghost use Rattle.rim_chain.specs.Rows.{IsRowOf};
@@ -11,7 +11,7 @@ ghost use Rattle.job_board.specs.Board.{Adds, IsBoard, IsOfRun, SameRest};
 ghost use Rattle.job_board.specs.Gives.{Gives};
 ghost use Rattle.job_board.specs.Jobs.{IsOpen, NoneFree, SomeHeld, held_count, is_out, is_over, is_ready, state_of};
 
-use super::BoardState;
+use super::{BoardState, record};
 use crate::filling::filled_task;
 use crate::job::{Event, JobId};
 use crate::lending::lent_task;
@@ -89,16 +89,31 @@ impl<'a, L: Run> BoardState<'a, L> {
         if self.core.held(worker).is_some() {
             return Work::Busy;
         }
-        if let Some(number) = self
-            .preferences
-            .next_launch(&mut self.core, &self.prefixes, worker)
-        {
+        if let Some(number) = self.preferred_launch(worker) {
             return Work::Launch(self.give_launch(worker, number));
         }
-        if let Some(page) = self.preferences.next_page(&mut self.core, worker) {
-            return Work::Page(self.give_page(worker, page));
+        match self.preferred_page(worker) {
+            Some(page) => Work::Page(self.give_page(worker, page)),
+            None => Work::Later,
         }
-        Work::Later
+    }
+
+    /// A launch that the worker is best given now, if there is one.
+    fn preferred_launch(&mut self, worker: usize) -> Option<usize>
+        ensures same { self.new ≡ self.old }
+        ensures open { IfSome result (IsOpen self.old.core) }
+    {
+        self.preferences
+            .next_launch(&mut self.core, &self.prefixes, worker)
+    }
+
+    /// The free page that the worker is best given now, if any page is free.
+    fn preferred_page(&mut self, worker: usize) -> Option<usize>
+        ensures same { self.new ≡ self.old }
+        ensures free { IfSome result (λ page. slice_get self.old.core.pages page ≡ Some JobState.Free) }
+        ensures none { IfNone result (NoneFree self.old.core.pages) }
+    {
+        self.preferences.next_page(&mut self.core, worker)
     }
 
     /// Gives a free page to a worker that holds no job.
@@ -121,10 +136,9 @@ impl<'a, L: Run> BoardState<'a, L> {
             worker,
             job: JobId::Page(page),
         };
-        let Ok(()) = core.step(&event) else {
+        let Ok(()) = record(core, history, event) else {
             unreachable!()
         };
-        history.push_reserved(event);
         let Some(task) = PageTask::new(table.pages(), page) else {
             unreachable!()
         };
@@ -156,10 +170,9 @@ impl<'a, L: Run> BoardState<'a, L> {
             worker,
             job: JobId::Launch(number),
         };
-        let Ok(()) = core.step(&event) else {
+        let Ok(()) = record(core, history, event) else {
             unreachable!()
         };
-        history.push_reserved(event);
         let plan = plan_at(plans, number);
         let Some(row) = take_row(rows, worker) else {
             unreachable!()

@@ -7,7 +7,6 @@ use Rattle.job_board.specs.declared.job.JobId.TheVariants.{Launch}
 use Rattle.job_board.specs.declared.job.JobState.TheVariants.{Free}
 use Rattle.job_board.specs.Board.{BoardView}
 use Rattle.job_board.specs.Step.{core_step}
-use Rattle.job_board.proofs.HistoryGoesOn.{history_room, same_most}
 use Rattle.job_board.proofs.EventsKeepBoards.{board_other, ready_filled}
 use Rattle.job_board.proofs.WhatStepsChange.{take_says}
 use Rattle.job_board.proofs.RowsOfWorkers.{row_within, rows_take_launch}
@@ -15,18 +14,11 @@ use Rattle.job_board.proofs.NotesOfWorkers.{held_counts}
 use Rattle.job_board.specs.Jobs.{held_count, is_out}
 use Rattle.job_board.proofs.state.BoardState.give_launch.Goals as goal
 
-pub push_reserved-requires : goal.push_reserved-requires
-push_reserved-requires g c =
-    let i = c.self.inside in
-    let step : core_step i.core (Take c.args.worker (Launch c.args.number)) ≡ Ok c.step.new.self = c.in-Ok.ensures.step in
-    let room = history_room i.core c.step.new.self i.history.items (Take c.args.worker (Launch c.args.number)) c.self.invariant.0.history step in
-    omega (arith, room, c.self.invariant.1)
-
 pub plan_at-plan-requires : goal.plan_at-plan-requires
 plan_at-plan-requires g c =
     let i = c.self.inside in
-    let step : core_step i.core (Take c.args.worker (Launch c.args.number)) ≡ Ok c.step.new.self = c.in-Ok.ensures.step in
-    let within = slice_get_within i.core.launches c.args.number Free (take_says i.core c.step.new.self c.args.worker (Launch c.args.number) step).0 in
+    let step : core_step i.core (Take c.args.worker (Launch c.args.number)) ≡ Ok c.record.new.core = c.in-Ok.ensures.step in
+    let within = slice_get_within i.core.launches c.args.number Free (take_says i.core c.record.new.core c.args.worker (Launch c.args.number) step).0 in
     omega (arith, within, c.self.invariant.0.plans)
 
 pub take_row-requires : goal.take_row-requires
@@ -54,18 +46,17 @@ pub filled_for-row-requires-clause-all : goal.filled_for-row-requires-clause-all
 filled_for-row-requires-clause-all g c =
     let i = c.self.inside in
     let b : BoardView = record { core = i.core; history = i.history.items; table = i.table; plans = i.plans.now; results = i.results.items; book = i.book.total } in
-    let step : core_step i.core (Take c.args.worker (Launch c.args.number)) ≡ Ok c.step.new.self = c.in-Ok.ensures.step in
-    ready_filled b c.args.number c.plan_at-plan.result.now c.self.invariant.0 c.plan_at-plan.ensures (take_says i.core c.step.new.self c.args.worker (Launch c.args.number) step).1
+    let step : core_step i.core (Take c.args.worker (Launch c.args.number)) ≡ Ok c.record.new.core = c.in-Ok.ensures.step in
+    ready_filled b c.args.number c.plan_at-plan.result.now c.self.invariant.0 c.plan_at-plan.ensures (take_says i.core c.record.new.core c.args.worker (Launch c.args.number) step).1
 
 pub invariant_of-self : goal.invariant_of-self
 invariant_of-self g c =
     let i = c.self.inside in
     let b : BoardView = record { core = i.core; history = i.history.items; table = i.table; plans = i.plans.now; results = i.results.items; book = i.book.total } in
-    let step : core_step i.core (Take c.args.worker (Launch c.args.number)) ≡ Ok c.step.new.self = c.in-Ok.ensures.step in
-    let most = same_most i.core c.step.new.self (Take c.args.worker (Launch c.args.number)) step in (
-      rw c.push_reserved.ensures.items (board_other b c.step.new.self (Take c.args.worker (Launch c.args.number)) refl c.self.invariant.0 step),
-      omega (arith, most, c.self.invariant.1, c.push_reserved.ensures.capacity),
-      rw c.take_row.ensures.rest (rows_take_launch i.core c.step.new.self i.plans.now i.rows.items i.room c.args.worker c.args.number c.self.invariant.2 step),
+    let step : core_step i.core (Take c.args.worker (Launch c.args.number)) ≡ Ok c.record.new.core = c.in-Ok.ensures.step in (
+      rw c.in-Ok.ensures.history (board_other b c.record.new.core (Take c.args.worker (Launch c.args.number)) refl c.self.invariant.0 step),
+      c.record.ensures.room,
+      rw c.take_row.ensures.rest (rows_take_launch i.core c.record.new.core i.plans.now i.rows.items i.room c.args.worker c.args.number c.self.invariant.2 step),
       c.self.invariant.3,
       c.self.invariant.4,
     )

@@ -14,7 +14,6 @@ use Rattle.job_board.specs.Jobs.{CoreState}
 use Rattle.job_board.specs.Step.{core_step}
 use Rattle.job_board.specs.Tasks.{IsOwnRow, IsRoomy}
 use Rattle.page_jobs.specs.Row.{RowView}
-use Rattle.job_board.proofs.HistoryGoesOn.{history_room, same_most}
 use Rattle.job_board.proofs.EventsKeepBoards.{board_put_launch, held_filled, results_are, value_is}
 use Rattle.job_board.proofs.WhatStepsChange.{put_says}
 use Rattle.job_board.proofs.RowsOfWorkers.{rows_put_launch}
@@ -37,19 +36,12 @@ is_put b t w job board step plan own =
       row = row_of_own b.table board.table (keys_of job.plan.links) job.row.digests own (held_filled b w job.number job.plan board plan held);
     }
 
-pub push_reserved-requires : goal.push_reserved-requires
-push_reserved-requires g c =
-    let i = c.self.inside in
-    let step : core_step i.core (Put c.args.worker (Launch c.number-number.result)) ≡ Ok c.step.new.self = c.in-Ok.ensures.step in
-    let room = history_room i.core c.step.new.self i.history.items (Put c.args.worker (Launch c.number-number.result)) c.self.invariant.0.history step in
-    omega (arith, room, c.self.invariant.1)
-
 pub index_mut-requires : goal.index_mut-requires
 index_mut-requires g c =
     let i = c.self.inside in
     let b : BoardView = record { core = i.core; history = i.history.items; table = i.table; plans = i.plans.now; results = i.results.items; book = i.book.total } in
-    let step : core_step i.core (Put c.args.worker (Launch c.number-number.result)) ≡ Ok c.step.new.self = c.in-Ok.ensures.step in
-    let within = slice_get_within i.core.launches c.number-number.result (Held c.args.worker) (put_says i.core c.step.new.self c.args.worker (Launch c.number-number.result) step).1 in
+    let step : core_step i.core (Put c.args.worker (Launch c.number-number.result)) ≡ Ok c.record.new.core = c.in-Ok.ensures.step in
+    let within = slice_get_within i.core.launches c.number-number.result (Held c.args.worker) (put_says i.core c.record.new.core c.args.worker (Launch c.number-number.result) step).1 in
     omega (arith, within, results_are b c.self.invariant.0)
 
 pub invariant_of-self-2 : goal.invariant_of-self-2
@@ -58,18 +50,17 @@ invariant_of-self-2 g c =
     let n = c.number-number.result in
     let job = c.args.launch.job in
     let b : BoardView = record { core = i.core; history = i.history.items; table = i.table; plans = i.plans.now; results = i.results.items; book = i.book.total } in
-    let step : core_step i.core (Put c.args.worker (Launch n)) ≡ Ok c.step.new.self = c.in-Ok.ensures.step in
-    let most = same_most i.core c.step.new.self (Put c.args.worker (Launch n)) step in
+    let step : core_step i.core (Put c.args.worker (Launch n)) ≡ Ok c.record.new.core = c.in-Ok.ensures.step in
     let number : n ≡ job.number = c.number-number.ensures in
     let plan : slice_get i.plans.now job.number ≡ Some job.plan = ap (λ (plans : List PlanView). slice_get plans job.number) c.self.invariant.4.1 ∙ c.into_rim-rim.ensures.own.0 in
     let own : IsOwnRow i.table.pages (keys_of job.plan.links) job.row.digests = subst (λ (pages : List PageView). IsOwnRow pages (keys_of job.plan.links) job.row.digests) (sym c.self.invariant.4.0) c.into_rim-rim.ensures.own.1 in
-    let put = is_put b c.step.new.self c.args.worker job c.self.invariant.0 (rw (← number) step) plan own in
+    let put = is_put b c.record.new.core c.args.worker job c.self.invariant.0 (rw (← number) step) plan own in
     let at : slice_get i.plans.now n ≡ Some job.plan = ap (slice_get i.plans.now) number ∙ plan in
     let value : c.value.result.bytes ≡ value_in i.table job.plan =
     c.value.ensures.own ∙ (ap (λ (r : RimView). chain_of r.job.plan r.job.row.digests) c.into_rim-rim.ensures.rim ∙ value_is i.table job.plan job.row.digests put.row) in (
-      rw c.push_reserved.ensures.items (board_put_launch b c.step.new.self c.args.worker n job.plan c.value.result c.self.invariant.0 step at value),
-      omega (arith, most, c.self.invariant.1, c.push_reserved.ensures.capacity),
-      rw c.keep_row.ensures (rows_put_launch i.core c.step.new.self i.plans.now i.rows.items i.room c.args.worker n c.self.invariant.2 step),
+      rw c.in-Ok.ensures.history (board_put_launch b c.record.new.core c.args.worker n job.plan c.value.result c.self.invariant.0 step at value),
+      c.record.ensures.room,
+      rw c.keep_row.ensures (rows_put_launch i.core c.record.new.core i.plans.now i.rows.items i.room c.args.worker n c.self.invariant.2 step),
       c.self.invariant.3,
       c.self.invariant.4,
     )
@@ -77,8 +68,8 @@ invariant_of-self-2 g c =
 pub plan_at-requires : goal.plan_at-requires
 plan_at-requires g c =
     let i = c.self.inside in
-    let step : core_step i.core (Put c.args.worker (Launch c.number-number.result)) ≡ Ok c.step.new.self = c.in-Ok.ensures.step in
-    let within = slice_get_within i.core.launches c.number-number.result (Held c.args.worker) (put_says i.core c.step.new.self c.args.worker (Launch c.number-number.result) step).1 in
+    let step : core_step i.core (Put c.args.worker (Launch c.number-number.result)) ≡ Ok c.record.new.core = c.in-Ok.ensures.step in
+    let within = slice_get_within i.core.launches c.number-number.result (Held c.args.worker) (put_says i.core c.record.new.core c.args.worker (Launch c.number-number.result) step).1 in
     omega (arith, within, c.self.invariant.0.plans)
 
 -- the plan of the launch's number is that of the job
@@ -105,12 +96,12 @@ returns-clause-can g c =
     let n = c.number-number.result in
     let job = c.args.launch.job in
     let b : BoardView = record { core = i.core; history = i.history.items; table = i.table; plans = i.plans.now; results = i.results.items; book = i.book.total } in
-    let step : core_step i.core (Put c.args.worker (Launch n)) ≡ Ok c.step.new.self = c.in-Ok.ensures.step in
+    let step : core_step i.core (Put c.args.worker (Launch n)) ≡ Ok c.record.new.core = c.in-Ok.ensures.step in
     let number : n ≡ job.number = c.number-number.ensures in
     let plan : slice_get i.plans.now job.number ≡ Some job.plan = ap (λ (plans : List PlanView). slice_get plans job.number) c.self.invariant.4.1 ∙ c.into_rim-rim.ensures.own.0 in
     let own : IsOwnRow i.table.pages (keys_of job.plan.links) job.row.digests = subst (λ (pages : List PageView). IsOwnRow pages (keys_of job.plan.links) job.row.digests) (sym c.self.invariant.4.0) c.into_rim-rim.ensures.own.1 in
-    let put = is_put b c.step.new.self c.args.worker job c.self.invariant.0 (rw (← number) step) plan own in
-    let was = put_says i.core c.step.new.self c.args.worker (Launch n) step in
+    let put = is_put b c.record.new.core c.args.worker job c.self.invariant.0 (rw (← number) step) plan own in
+    let was = put_says i.core c.record.new.core c.args.worker (Launch n) step in
     subst (λ (v : BoardView). CanPutLaunch v c.args.worker job.number job.plan job.row.digests) c.self.view_is (was.0, put.held, put.plan, put.row)
 
 pub returns-clause-own : goal.returns-clause-own
