@@ -9,7 +9,7 @@ use Rattle.rim_launch.specs.LaunchData.{LaunchData}
 use Rattle.ipa_layout.specs.Layout.{PlacedData}
 use Rattle.rmi_list.specs.Measured.{page_contents}
 use Rattle.rim_manifest.specs.Launches.{NamedData}
-use Rattle.rim_manifest.proofs.FaultsInTurn.{list_any_map}
+use Rattle.rim_rules.proofs.ListsOfValues.{list_any_map}
 use Rattle.rim_accepted.specs.Accepted.{accepted_of, commands_for, entries_of, placed_of, rim_after, rim_for}
 use Rattle.rim_accepted.specs.Lines.{has_refused, seen}
 use Rattle.rim_accepted.specs.declared.audit_fault.AuditFault.{AuditFault}

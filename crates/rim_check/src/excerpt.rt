@@ -6,10 +6,10 @@ ghost use Rattle.rim_manifest.specs.inside.Kept.{faults_in};
 use crate::finding_detail::lacks_initrd;
 use crate::other_keys::is_meant;
 use refusal::NoMemory;
-use rim_manifest::{
-    Document, FaultList, Finding, Form, ManifestFault, Place, Rule, Subject, TOP_RULES, cell,
-    is_lower,
-};
+use rim_manifest::{Document, FaultList, Finding, ManifestFault, Place, Subject, is_lower};
+use rim_rules::form::{Form, Rule};
+use rim_rules::rules::TOP_RULES;
+use rim_rules::value::cell;
 use std::alloc::{AllocError, Global};
 use toml::Table;
 

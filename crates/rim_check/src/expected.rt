@@ -1,5 +1,5 @@
 //! What a key may hold, in words.
-use rim_manifest::Form;
+use rim_rules::form::Form;
 use std::fmt;
 
 /// What a key of a form may hold.

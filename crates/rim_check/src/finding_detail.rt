@@ -8,9 +8,9 @@ use crate::shown::{Shown, bad_element};
 use crate::steps::{write_step, write_steps};
 use rim_launch::{ITEM_LIMIT, Role};
 use rim_line::{Line, Quoted};
-use rim_manifest::{
-    Document, Finding, Form, ManifestFault, Subject, asks_for, cell, entries, name, role,
-};
+use rim_manifest::{Document, Finding, ManifestFault, Subject, asks_for, entries, name, role};
+use rim_rules::form::Form;
+use rim_rules::value::cell;
 use std::alloc::Global;
 use std::fmt;
 use std::fmt::Write;

@@ -1,7 +1,7 @@
 //! How a value is to be written in place of what is given.
 use crate::alike::is_alike;
 use crate::number::{are_word_digits, is_number};
-use rim_manifest::Form;
+use rim_rules::form::Form;
 use std::fmt;
 use toml::Value;
 

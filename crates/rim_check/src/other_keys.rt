@@ -5,10 +5,9 @@ use crate::hint::Header;
 use crate::nearest::Nearest;
 use crate::place::text_at;
 use rim_line::{Line, Quoted};
-use rim_manifest::{
-    DTB_RULES, Document, FILE_RULES, Form, ITEM_RULES, Place, REC_RULES, Rule, TOP_RULES,
-    UNKNOWN_RULES,
-};
+use rim_manifest::{Document, Place};
+use rim_rules::form::{Form, Rule};
+use rim_rules::rules::{DTB_RULES, FILE_RULES, ITEM_RULES, REC_RULES, TOP_RULES, UNKNOWN_RULES};
 use std::alloc::{AllocError, Global};
 use std::fmt;
 use std::fmt::Write;

@@ -7,7 +7,8 @@ ghost use Rattle.rim_line.specs.Lines.{IsKnown};
 ghost use Rattle.rim_check.specs.Fronts.{is_bare, is_bare_name, name_at, named_text, place_text, spot_text, table_text, text_of};
 
 use rim_line::{Line, Quoted};
-use rim_manifest::{Document, Finding, Place, Subject, cell};
+use rim_manifest::{Document, Finding, Place, Subject};
+use rim_rules::value::cell;
 use rim_spot::Spot;
 use std::alloc::{AllocError, Global};
 use toml::{Table, Value};

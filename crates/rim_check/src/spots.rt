@@ -3,9 +3,9 @@ use crate::finding_detail::lacks_initrd;
 use crate::other_keys::rules_of;
 use crate::shown::bad_element;
 use refusal::NoMemory;
-use rim_manifest::{
-    Document, Finding, Form, ManifestFault, Place, Subject, asks_for, cell, entries,
-};
+use rim_manifest::{Document, Finding, ManifestFault, Place, Subject, asks_for, entries};
+use rim_rules::form::Form;
+use rim_rules::value::cell;
 use rim_spot::{Sought, Spot, find_spots};
 use std::alloc::Global;
 use toml::{Table, Value};

@@ -4,11 +4,11 @@ use Rattle.std.specs.Prelude.{option_and_then, option_map, unwrap_or}
 use Rattle.std.specs.List.{slice_get}
 use Rattle.std.proofs.lemmas.Option.{slice_get-map}
 use Rattle.toml.specs.Data.{Data, Members, array, boolean, datetime, float, get_member, integer, string, table}
-use Rattle.rim_manifest.specs.Forms.{items_in}
+use Rattle.rim_rules.specs.Forms.{items_in}
 use Rattle.rim_manifest.specs.Manifest.{launches_at}
 use Rattle.rim_manifest.specs.Names.{name_of}
 use Rattle.rim_manifest.specs.Places.{table_of}
-use Rattle.rim_manifest.specs.Values.{array_at}
+use Rattle.rim_rules.specs.Values.{array_at}
 use Rattle.rim_line.specs.Readables.{item_name, item_names}
 
 -- the names of the items of a launch

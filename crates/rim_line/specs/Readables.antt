@@ -5,7 +5,7 @@ use Rattle.toml.specs.Data.{Members}
 use Rattle.rim_manifest.specs.Launches.{ReleaseData}
 use Rattle.rim_manifest.specs.Manifest.{document_of, launches_at}
 use Rattle.rim_manifest.specs.Names.{name_of}
-use Rattle.rim_manifest.specs.Values.{array_at}
+use Rattle.rim_rules.specs.Values.{array_at}
 
 -- the names of a launch's items, for each launch of a document
 abbrev pub item_names : Members → List (List (List ℕ))

@@ -1,8 +1,8 @@
 -- Faults that are found one after another, and what is kept of them in the end.
 use Rattle.std.proofs.Common.{◌≡◌, ℕ, ◌+◌, ◌<◌, ◌≤◌, List, [], ◌∷◌, ◌++◌, length, get_or}
-use Rattle.std.proofs.Common.{drop, map, Bool, true, false, ◌||◌, Option, Some, None, refl, ap, append_assoc}
+use Rattle.std.proofs.Common.{drop, map, Bool, true, false, Option, Some, None, refl, ap, append_assoc}
 use Rattle.std.proofs.Common.{append-nil, arith, length-append, subst, sym, ◌∙◌}
-use Rattle.std.specs.List.{flat_map, list_any}
+use Rattle.std.specs.List.{flat_map}
 use Rattle.std.proofs.lemmas.List.{drop_more, map-append}
 use Rattle.std.specs.Prelude.{nat_lt}
 use Rattle.std.proofs.lemmas.Bool.{le-leb, lt-leb, ltb-false, ltb-true, or_parts}
@@ -142,10 +142,6 @@ pub not_lowest : (found : Findings) (fs : List ManifestFault) (least : Option Ma
 not_lowest found fs least is ends =
     let all = list_kept_of [] [] 0 fs none_listed in
     let e : Lowest least ≡ Listed all.listed all.more = sym (ap kept is) ∙ ends ∙ all.is in cc
-
-pub list_any_map : {X Y : Type 0} (p : Y → Bool) (f : X → Y) (xs : List X) → list_any p (map f xs) ≡ list_any (λ x. p (f x)) xs
-list_any_map p f [] = refl
-list_any_map p f (x ∷ xs) = ap (λ b. p (f x) || b) (list_any_map p f xs)
 
 pub flat_map_map : {X Y Z : Type 0} (g : Y → List Z) (f : X → Y) (xs : List X) → flat_map g (map f xs) ≡ flat_map (λ x. g (f x)) xs
 flat_map_map g f [] = refl

@@ -9,8 +9,6 @@ pub mod LowestFault
 pub mod FaultsInTurn
 -- launches are read in turn, each with its place as its number
 pub mod LaunchesNumbered
--- (lists in a value, beside the vectors and maps that hold them)
-pub mod ListsOfValues
 -- what is found among tables, and the kind of item that each reads as
 pub mod ItemsFromTables
 -- (items are decided by their values)
@@ -22,8 +20,6 @@ pub mod StepsAsSpelled
 -- so each part of a launch that is read is what its table gives
 pub mod ValuesAsGiven
 pub mod ReadAsGiven
--- (a number of at most 16 digits has room in 64 bits, digit by digit)
-pub mod RoomForDigits
 -- (regions are decided by their addresses)
 pub mod SameRegions
 -- A search for all faults finds those of tables, or else the one of names.

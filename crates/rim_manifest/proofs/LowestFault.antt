@@ -9,16 +9,16 @@ use Rattle.toml.specs.Data.{Data, Members, table, get_member}
 use Rattle.rim_manifest.specs.declared.fault.ManifestFault.{ManifestFault}
 use Rattle.rim_manifest.specs.declared.fault.ManifestFault.TheVariants.{Version, WrongKind, UnknownKey, MissingKey, Limit, Range, TwoNames, NoSuchFile, BadStep}
 use Rattle.rim_manifest.specs.Faults.{IsLowest, fault_if, lower, lowest, noted, rank_of}
-use Rattle.rim_manifest.specs.Forms.{has_kind, is_over, is_required, is_within}
-use Rattle.rim_manifest.specs.Rules.{Rule, file_rules, rec_rules, top_rules}
-use Rattle.rim_manifest.specs.Versions.{has_version, lacks_rule, launch_rules_in, version_at}
-use Rattle.rim_manifest.specs.declared.version.FormatVersion.{FormatVersion}
+use Rattle.rim_rules.specs.Forms.{has_kind, is_over, is_required, is_within}
+use Rattle.rim_rules.specs.Rules.{Rule, file_rules, rec_rules, top_rules}
+use Rattle.rim_rules.specs.Versions.{has_version, lacks_rule, launch_rules_in, version_at}
+use Rattle.rim_rules.specs.declared.version.FormatVersion.{FormatVersion}
 use Rattle.rim_manifest.specs.Checks.{cell_faults, has_unknown_key, rule_faults, ruled_faults, table_faults}
 use Rattle.rim_manifest.specs.Manifest.{all_faults, fault_or_named, fault_or_release, files_at, has_no_file, has_two_names, item_faults, launch_faults}
 use Rattle.rim_manifest.specs.Manifest.{launches_at, manifest_faults, name_faults, read_of, rules_of}
 use Rattle.rim_manifest.specs.Names.{has_asked, role_at}
 use Rattle.rim_manifest.specs.StepTexts.{has_bad_steps}
-use Rattle.rim_manifest.specs.Values.{array_at}
+use Rattle.rim_rules.specs.Values.{array_at}
 
 -- f does not come after what was found so far
 AtLeast : ManifestFault → Option ManifestFault → Type 0

@@ -3,22 +3,21 @@ use Rattle.std.proofs.Common.{◌≡◌, ◌≤◌, ℕ, zero, suc, ◌+◌, Lis
 use Rattle.std.proofs.Common.{ap, sym, subst, ◌∙◌, codes, true≢false}
 use Rattle.std.specs.Prelude.{IsSome, is_some, position, slice_get, unwrap_or}
 use Rattle.std.specs.List.{AllByRecursion, flat_map, list_all, list_any}
-use Rattle.std.specs.Str.{bytes_eq}
 use Rattle.std.proofs.lemmas.Slice.Eq.{bytes_eq-Decides}
 use Rattle.std.proofs.lemmas.Bool.{and_parts, or_parts, not-false}
-use Rattle.toml.specs.Data.{Data, string, integer, array, table, item, Members, at, get, get_member}
+use Rattle.toml.specs.Data.{Data, string, integer, array, table, Members, get, get_member}
 use Rattle.rim_desc.specs.declared.rule.RecRule.{RecRule}
 use Rattle.rim_launch.specs.declared.rec.Rec.{Rec}
 use Rattle.rim_manifest.specs.declared.fault.ManifestFault.{ManifestFault}
 use Rattle.rim_manifest.specs.declared.fault.ManifestFault.TheVariants.{BadStep, NoSuchFile, TwoNames}
-use Rattle.rim_manifest.specs.declared.form.Form.TheVariants as form
-use Rattle.rim_manifest.specs.declared.form.Presence.TheVariants.{Optional}
+use Rattle.rim_rules.specs.declared.form.Form.TheVariants as form
+use Rattle.rim_rules.specs.declared.form.Presence.TheVariants.{Optional}
 use Rattle.rim_manifest.specs.Faults.{fault_if, lowest}
-use Rattle.rim_manifest.specs.Forms.{is_table, items_list}
+use Rattle.rim_rules.specs.Forms.{is_table, items_list}
 use Rattle.rim_manifest.specs.Given.{EachGives, GivesBootargs, GivesBytes, GivesFile, GivesItem, GivesKind, GivesMeasured, GivesNumber, GivesPath, GivesRec}
 use Rattle.rim_manifest.specs.Given.{GivesRule, GivesSize, GivesSteps, GivesWord, GivesWords, HasItsRule, IsGiven, role_text}
 use Rattle.rim_manifest.specs.Launches.{ReleaseData, config_of, items_of, ram_of, recs_of, launch_of, launches_from, rec_of}
-use Rattle.rim_manifest.specs.Values.{algorithm_in, array_at, base_in, digits_in, number_in, text_in, word_in, words_in}
+use Rattle.rim_rules.specs.Values.{algorithm_in, array_at, base_in, digits_in, number_in, text_in, word_in, words_in}
 use Rattle.rim_manifest.specs.Manifest.{fault_or_named, fault_or_release, files_at, has_no_file, has_two_names, item_faults, launch_faults, launches_at}
 use Rattle.rim_manifest.specs.Manifest.{manifest_faults, name_faults, path_of, read_of, release_of, rules_of}
 use Rattle.rim_manifest.specs.Checks.{rule_faults, ruled_faults, table_faults}
@@ -32,14 +31,14 @@ use Rattle.rim_launch.specs.declared.item.Role.{Role}
 use Rattle.rim_launch.specs.declared.item.Role.TheVariants.{Kernel, Initrd, Dtb, Raw, Unknown}
 use Rattle.rim_manifest.specs.Items.{bootargs_in, item_of, kind_of, measured_for, size_for}
 use Rattle.rim_manifest.specs.Names.{file_at, has_file, is_named, lacks_file, lacks_its_file, name_of, needs_file, role_at}
-use Rattle.rim_manifest.specs.Rules.{added_rules, dtb_rules, file_rules, item_rules, launch_rules, launch_rules_2, rec_rules, unknown_rules}
-use Rattle.rim_manifest.specs.Versions.{is_not_runnable, lacks_rule, rule_for, rule_in, launch_rules_in, version_at}
-use Rattle.rim_manifest.specs.declared.version.FormatVersion.{FormatVersion}
-use Rattle.rim_manifest.specs.declared.version.FormatVersion.TheVariants.{One, Two}
+use Rattle.rim_rules.specs.Rules.{added_rules, dtb_rules, file_rules, item_rules, launch_rules, launch_rules_2, rec_rules, unknown_rules}
+use Rattle.rim_rules.specs.Versions.{is_not_runnable, lacks_rule, rule_for, rule_in, launch_rules_in, version_at}
+use Rattle.rim_rules.specs.declared.version.FormatVersion.{FormatVersion}
+use Rattle.rim_rules.specs.declared.version.FormatVersion.TheVariants.{One, Two}
 use Rattle.rim_manifest.proofs.TablesWithoutFaults.{all_first, all_tables, each_value, empty_parts, few_regions, good_launch, good_top, good_value}
 use Rattle.rim_manifest.proofs.TablesWithoutFaults.{not_faulty, not_given}
 use Rattle.rim_manifest.proofs.ItemsFromTables.{found_there, role_of-kind}
-use Rattle.rim_manifest.proofs.FaultsInTurn.{list_any_map}
+use Rattle.rim_rules.proofs.ListsOfValues.{list_any_map}
 use Rattle.rim_manifest.proofs.LowestFault.{none_noted}
 use Rattle.rim_desc.specs.Measurement.{algo_word}
 use Rattle.rim_manifest.proofs.ValuesAsGiven.{NoFault, algorithm_read, base_read, bootargs_read, bytes_read, given, name_there, number_given, number_there}

@@ -5,7 +5,7 @@ use Rattle.std.specs.Coded.{le_prop}
 use Rattle.std.proofs.lemmas.Bool.{and_parts, lt-ltb, ltb-true}
 use mathlib.Core.HLevel.{is_prop→PathP}
 use Rattle.rim_launch.specs.declared.item.Region.{Region}
-use Rattle.rim_manifest.specs.Forms.{is_region}
+use Rattle.rim_rules.specs.Forms.{is_region}
 use Rattle.rim_manifest.specs.Launches.{region_of}
 use Rattle.rim_manifest.specs.inside.NumberRanges.{region_if}
 

@@ -10,19 +10,19 @@ use Rattle.std.proofs.lemmas.Map.Lookups.{exact_bytes}
 use Rattle.toml.specs.Data.{Data, array, table, Members, no_members, member, get_member}
 use Rattle.rim_manifest.specs.declared.fault.ManifestFault.{ManifestFault}
 use Rattle.rim_manifest.specs.declared.fault.ManifestFault.TheVariants.{Limit, MissingKey, Range, UnknownKey, Version, WrongKind}
-use Rattle.rim_manifest.specs.declared.form.Form.{Form}
-use Rattle.rim_manifest.specs.declared.form.Form.TheVariants as form
-use Rattle.rim_manifest.specs.declared.form.Presence.{Presence}
+use Rattle.rim_rules.specs.declared.form.Form.{Form}
+use Rattle.rim_rules.specs.declared.form.Form.TheVariants as form
+use Rattle.rim_rules.specs.declared.form.Presence.{Presence}
 use Rattle.rim_manifest.specs.Faults.{fault_if}
-use Rattle.rim_manifest.specs.Forms.{has_kind, is_over, is_table, is_within, items_in, items_list}
+use Rattle.rim_rules.specs.Forms.{has_kind, is_over, is_table, is_within, items_in, items_list}
 use Rattle.rim_manifest.specs.Manifest.{files_at, item_faults, launch_faults, launches_at, manifest_faults}
 use Rattle.rim_manifest.specs.Names.{has_asked}
-use Rattle.rim_manifest.specs.Values.{array_at}
+use Rattle.rim_rules.specs.Values.{array_at}
 use Rattle.rim_manifest.specs.Checks.{cell_faults, has_unknown_key, is_known, rule_faults, ruled_faults, table_faults, value_faults}
-use Rattle.rim_manifest.specs.Rules.{Rule, added_rules, file_rules, launch_rules, launch_rules_2, rec_rules, top_rules}
-use Rattle.rim_manifest.specs.Versions.{has_version, lacks_rule, launch_rules_in, version_at}
-use Rattle.rim_manifest.specs.declared.version.FormatVersion.{FormatVersion}
-use Rattle.rim_manifest.specs.declared.version.FormatVersion.TheVariants.{One, Two}
+use Rattle.rim_rules.specs.Rules.{Rule, added_rules, file_rules, launch_rules, launch_rules_2, rec_rules, top_rules}
+use Rattle.rim_rules.specs.Versions.{has_version, lacks_rule, launch_rules_in, version_at}
+use Rattle.rim_rules.specs.declared.version.FormatVersion.{FormatVersion}
+use Rattle.rim_rules.specs.declared.version.FormatVersion.TheVariants.{One, Two}
 
 -- ---- lists of faults that are empty
 

@@ -1,5 +1,5 @@
 -- What is read at a key whose value has no fault is what its value gives.
-use Rattle.std.proofs.Common.{◌≡◌, IsOk, ℕ, zero, suc, ◌+◌, List, [], ◌∷◌, ◌++◌, length, take, drop, map, Bool, true, false, cond, ◌&&◌, ◌||◌, Option, Some}
+use Rattle.std.proofs.Common.{◌≡◌, IsOk, ℕ, zero, suc, List, [], ◌∷◌, ◌++◌, length, take, drop, map, Bool, true, false, cond, ◌&&◌, ◌||◌, Option, Some}
 use Rattle.std.proofs.Common.{None, Result, Ok, Err, pos, negsuc, refl, ap, sym, ◌∙◌, codes, true≢false}
 use Rattle.std.specs.Prelude.{nat_le, ◌==◌, IsSome, is_some}
 use Rattle.std.specs.List.{list_all}
@@ -16,25 +16,24 @@ use Rattle.hex.proofs.HexLemmas.{IsOk-decode_sized}
 use Rattle.toml.specs.Data.{Data, string, integer, boolean, array, Items, no_items, item, at, get_item}
 use Rattle.rim_desc.specs.Page.{zeros}
 use Rattle.rim_desc.specs.declared.measurement.Algo.TheVariants.{Sha256, Sha512}
-use Rattle.rim_desc.specs.declared.rule.RecRule.{RecRule}
 use Rattle.rim_desc.specs.declared.rule.RecRule.TheVariants.{All, Runnable}
-use Rattle.rim_manifest.specs.declared.form.Form.{Form}
-use Rattle.rim_manifest.specs.declared.form.Form.TheVariants as form
-use Rattle.rim_manifest.specs.declared.form.Presence.{Presence}
-use Rattle.rim_manifest.specs.declared.form.Presence.TheVariants.{Required, Optional}
-use Rattle.rim_manifest.specs.Forms.{has_kind, is_pool_base, is_range, is_range_pair, is_text, items_in, items_list}
+use Rattle.rim_rules.specs.declared.form.Form.{Form}
+use Rattle.rim_rules.specs.declared.form.Form.TheVariants as form
+use Rattle.rim_rules.specs.declared.form.Presence.{Presence}
+use Rattle.rim_rules.specs.declared.form.Presence.TheVariants.{Required, Optional}
+use Rattle.rim_rules.specs.Forms.{has_kind, is_pool_base, is_range, is_range_pair, is_text, items_in, items_list}
 use Rattle.rim_manifest.specs.Given.{EachGives, FillsWord, GivesBootargs, GivesBytes, GivesNumber, GivesRegion, GivesRule, GivesSize, GivesTruth, GivesWord}
 use Rattle.rim_manifest.specs.Given.{GivesWords, SpellsWord, role_text}
 use Rattle.rim_manifest.specs.Launches.{region_in, region_of}
-use Rattle.rim_manifest.specs.Values.{algorithm_in, base_in, digits_in, number_in, text_in, truth_in, whole_in, word_at, word_in, words_in}
-use Rattle.rim_manifest.specs.Words.{are_digits, hex_number, is_word, word_of}
+use Rattle.rim_rules.specs.Values.{algorithm_in, base_in, digits_in, number_in, text_in, truth_in, whole_in, word_at, word_in, words_in}
+use Rattle.rim_rules.specs.Words.{are_digits, hex_number, is_word, word_of}
 use Rattle.rim_manifest.specs.Checks.{cell_faults}
 use Rattle.rim_launch.specs.Texts.{has_no_zero}
 use Rattle.rim_launch.specs.declared.item.Role.TheVariants.{Kernel, Initrd, Dtb, Raw, Unknown}
 use Rattle.rim_manifest.specs.Items.{bootargs_in, size_in}
 use Rattle.rim_manifest.specs.Names.{role_of_word}
-use Rattle.rim_manifest.specs.Versions.{rule_in}
-use Rattle.rim_manifest.specs.declared.version.FormatVersion.TheVariants.{Two}
+use Rattle.rim_rules.specs.Versions.{rule_in}
+use Rattle.rim_rules.specs.declared.version.FormatVersion.TheVariants.{Two}
 use Rattle.rim_manifest.proofs.TablesWithoutFaults.{IsGood, good_value}
 use Rattle.rim_manifest.proofs.SameRegions.{reads_as}
 use Rattle.rim_desc.specs.Measurement.{algo_word}

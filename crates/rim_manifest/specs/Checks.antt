@@ -5,10 +5,10 @@ use Rattle.std.specs.Str.{bytes_eq}
 use Rattle.toml.specs.Data.{Data, Members, get_member, table}
 use Rattle.rim_manifest.specs.declared.fault.ManifestFault.{ManifestFault}
 use Rattle.rim_manifest.specs.declared.fault.ManifestFault.TheVariants.{WrongKind, UnknownKey, MissingKey, Limit, Range}
-use Rattle.rim_manifest.specs.declared.form.Form.{Form}
+use Rattle.rim_rules.specs.declared.form.Form.{Form}
 use Rattle.rim_manifest.specs.Faults.{fault_if}
-use Rattle.rim_manifest.specs.Forms.{has_kind, is_over, is_required, is_within, keys_list}
-use Rattle.rim_manifest.specs.Rules.{Rule}
+use Rattle.rim_rules.specs.Forms.{has_kind, is_over, is_required, is_within, keys_list}
+use Rattle.rim_rules.specs.Rules.{Rule}
 
 -- the faults of a value that is of its form's kind
 abbrev pub value_faults : Form → Data → List ManifestFault

@@ -11,7 +11,7 @@ use Rattle.rim_launch.specs.LaunchData.{LaunchData}
 use Rattle.rim_launch.specs.Steps.{default_steps}
 use Rattle.rim_launch.specs.declared.step.Step.{Step}
 use Rattle.rim_launch.specs.declared.step.Step.TheVariants as step
-use Rattle.rim_manifest.specs.Forms.{items_of}
+use Rattle.rim_rules.specs.Forms.{items_of}
 use Rattle.rim_manifest.specs.Names.{name_of}
 use Rattle.rim_manifest.specs.StepTexts.{is_decimal}
 use Rattle.rim_launch.specs.declared.item.Edits.{Edits}
@@ -23,9 +23,9 @@ use Rattle.rim_launch.specs.declared.item.Role.{Role}
 use Rattle.rim_launch.specs.declared.item.Role.TheVariants.{Kernel, Initrd, Dtb, Raw, Unknown}
 use Rattle.rim_launch.specs.declared.rec.Rec.{Rec}
 use Rattle.rim_manifest.specs.Launches.{NamedData}
-use Rattle.rim_manifest.specs.declared.version.FormatVersion.{FormatVersion}
-use Rattle.rim_manifest.specs.declared.version.FormatVersion.TheVariants.{One, Two}
-use Rattle.rim_manifest.specs.Values.{array_at}
+use Rattle.rim_rules.specs.declared.version.FormatVersion.{FormatVersion}
+use Rattle.rim_rules.specs.declared.version.FormatVersion.TheVariants.{One, Two}
+use Rattle.rim_rules.specs.Values.{array_at}
 use Rattle.rim_desc.specs.Measurement.{algo_word}
 use Rattle.rim_desc.specs.Rule.{rule_word}
 use Rattle.rim_desc.specs.declared.rule.RecRule.{RecRule}

@@ -1,10 +1,5 @@
 pub mod Faults
-pub mod Words
-pub mod Forms
-pub mod Rules
 pub mod Checks
-pub mod Values
-pub mod Versions
 pub mod Names
 pub mod inside
 pub mod Items

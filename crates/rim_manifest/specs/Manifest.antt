@@ -11,13 +11,13 @@ use Rattle.rim_launch.specs.LaunchData.{is_launch}
 use Rattle.rim_launch.specs.declared.item.Role.{Role}
 use Rattle.rim_launch.specs.declared.item.Role.TheVariants.{Dtb, Unknown}
 use Rattle.rim_manifest.specs.Faults.{fault_if, lowest}
-use Rattle.rim_manifest.specs.Forms.{items_in}
+use Rattle.rim_rules.specs.Forms.{items_in}
 use Rattle.rim_manifest.specs.Names.{has_asked, lacks_file, repeats, role_at, share_names}
-use Rattle.rim_manifest.specs.Rules.{Rule, dtb_rules, file_rules, item_rules, rec_rules, top_rules, unknown_rules}
+use Rattle.rim_rules.specs.Rules.{Rule, dtb_rules, file_rules, item_rules, rec_rules, top_rules, unknown_rules}
 use Rattle.rim_manifest.specs.StepTexts.{has_bad_steps}
-use Rattle.rim_manifest.specs.Values.{array_at, text_in}
-use Rattle.rim_manifest.specs.declared.version.FormatVersion.{FormatVersion}
-use Rattle.rim_manifest.specs.Versions.{has_version, lacks_rule, launch_rules_in, version_at}
+use Rattle.rim_rules.specs.Values.{array_at, text_in}
+use Rattle.rim_rules.specs.declared.version.FormatVersion.{FormatVersion}
+use Rattle.rim_rules.specs.Versions.{has_version, lacks_rule, launch_rules_in, version_at}
 use Rattle.rim_manifest.specs.Checks.{ruled_faults, table_faults}
 use Rattle.rim_manifest.specs.Launches.{NamedData, ReleaseData, launches_from}
 

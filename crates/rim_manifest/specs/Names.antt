@@ -6,7 +6,7 @@ use Rattle.toml.specs.Data.{Data, get}
 use Rattle.rim_launch.specs.Kinds.{is_role}
 use Rattle.rim_launch.specs.declared.item.Role.{Role}
 use Rattle.rim_launch.specs.declared.item.Role.TheVariants.{Kernel, Initrd, Dtb, Raw, Unknown}
-use Rattle.rim_manifest.specs.Values.{array_at, text_in, truth_in}
+use Rattle.rim_rules.specs.Values.{array_at, text_in, truth_in}
 
 abbrev pub name_of : Data → List ℕ
 name_of d = text_in (get (codes "name") d)

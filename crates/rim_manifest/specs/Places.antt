@@ -3,7 +3,7 @@ use Rattle.std.specs.Prelude.{ℕ, List, Option, Some, None, option_and_then, co
 use Rattle.std.specs.List.{slice_get}
 use Rattle.toml.specs.Data.{Data, table, Members}
 use Rattle.rim_manifest.specs.Manifest.{files_at, launches_at}
-use Rattle.rim_manifest.specs.Values.{array_at}
+use Rattle.rim_rules.specs.Values.{array_at}
 use Rattle.rim_manifest.specs.declared.finding.Array.{Array}
 use Rattle.rim_manifest.specs.declared.finding.Array.TheVariants.{Files, Launches, Items, Recs}
 use Rattle.rim_manifest.specs.declared.finding.Place.{Place}

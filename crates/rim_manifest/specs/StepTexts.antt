@@ -7,10 +7,10 @@ use Rattle.rim_launch.specs.Steps.{default_steps, steps_complete}
 use Rattle.rim_launch.specs.declared.item.Item.{Item}
 use Rattle.rim_launch.specs.declared.step.Step.{Step}
 use Rattle.rim_launch.specs.declared.step.Step.TheVariants as step
-use Rattle.rim_manifest.specs.Forms.{items_of}
+use Rattle.rim_rules.specs.Forms.{items_of}
 use Rattle.rim_manifest.specs.Names.{is_named}
-use Rattle.rim_manifest.specs.Values.{array_at, text_in}
-use Rattle.rim_manifest.specs.Words.{after, are_digits}
+use Rattle.rim_rules.specs.Values.{array_at, text_in}
+use Rattle.rim_rules.specs.Words.{after, are_digits}
 use Rattle.rim_launch.specs.declared.launch.TheConstants.{REGION_LIMIT}
 
 -- decimal digits without a leading zero; up to four, since no launch has 10,000 regions or RECs

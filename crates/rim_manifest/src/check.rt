@@ -4,15 +4,16 @@ ghost use Rattle.std.specs.List.{flat_map};
 ghost use Rattle.toml.specs.Data.{get_member};
 ghost use Rattle.toml.specs.View.{table_view, view};
 ghost use Rattle.rim_manifest.specs.Checks.{has_unknown_key, is_known, rule_faults, ruled_faults, table_faults, value_faults};
-ghost use Rattle.rim_manifest.specs.Forms.{has_kind};
-ghost use Rattle.rim_manifest.specs.Rules.{rule_of};
+ghost use Rattle.rim_rules.specs.Forms.{has_kind};
+ghost use Rattle.rim_rules.specs.Rules.{rule_of};
 ghost use Rattle.rim_manifest.specs.inside.Findings.{kept};
 ghost use Rattle.rim_manifest.specs.inside.Kept.{with_faults};
 
 use crate::fault::ManifestFault;
 use crate::finding::{Array, Finding, Findings, Place, Subject, note, note_if};
-use crate::form::{Form, Rule, has_kind, is_over, is_required, is_within};
 use refusal::NoMemory;
+use rim_rules::form::{Form, Rule, has_kind, is_over, is_required, is_within};
+use rim_rules::value::cell;
 use toml::{Table, Value};
 
 /// Adds the faults of a table whose keys have rules.
@@ -135,13 +136,6 @@ pub fn at_key(key: &'static str, form: Form, place: Place, fault: ManifestFault)
         subject: Subject::Key { key, form },
         fault,
     }
-}
-
-/// The value at a key of a table.
-pub fn cell<'a>(table: &'a Table, key: &str) -> Option<&'a Value>
-    ensures { get_member key.now (table_view table.now) ≡ option_map (λ v. view v.now) result }
-{
-    table.get(key)
 }
 
 /// Whether a table has a key without a rule.

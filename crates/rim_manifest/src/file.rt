@@ -3,7 +3,7 @@ ghost use Rattle.std.specs.Prelude.{◌≡◌, IfOk, map, string_bytes};
 ghost use Rattle.toml.specs.View.{view};
 ghost use Rattle.rim_manifest.specs.Manifest.{path_of};
 
-use crate::value::text;
+use rim_rules::value::text;
 use std::alloc::{AllocError, Global};
 use toml::Value;
 

@@ -7,8 +7,8 @@ ghost use Rattle.rim_manifest.specs.inside.Kept.{faults_in, with_fault, with_fau
 
 use crate::fault::{ManifestFault, lower};
 use crate::fault_list::FaultList;
-use crate::form::Form;
 use refusal::NoMemory;
+use rim_rules::form::Form;
 
 /// A table of a manifest: the one at the top, or one of an array, by its number there.
 #[derive(Clone, Copy, Debug, PartialEq, Eq)]

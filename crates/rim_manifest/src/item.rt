@@ -6,8 +6,8 @@ ghost use Rattle.rim_manifest.specs.Items.{bootargs_in, edits_of, item_of, kind_
 ghost use Rattle.rim_manifest.specs.Names.{role_at};
 
 use crate::names::{file_number, role};
-use crate::value::{field, number, truth};
 use rim_launch::{Bootargs, Edits, Item, ItemKind, Role};
+use rim_rules::value::{field, number, truth};
 use std::alloc::{AllocError, Global};
 use toml::Value;
 

@@ -6,7 +6,7 @@ ghost use Rattle.rim_manifest.specs.Faults.{IsLowest};
 ghost use Rattle.rim_manifest.specs.Given.{EachGives, GivesPath, IsGiven};
 ghost use Rattle.rim_manifest.specs.Launches.{ReleaseData};
 ghost use Rattle.rim_manifest.specs.Manifest.{all_faults, files_at, launches_at, read_of};
-ghost use Rattle.rim_manifest.specs.Versions.{version_at};
+ghost use Rattle.rim_rules.specs.Versions.{version_at};
 
 /// The fault that a document is refused with holds somewhere in it, and none that holds anywhere in it
 /// comes before it in the order of faults.

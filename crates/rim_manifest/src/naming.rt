@@ -2,13 +2,13 @@
 //! fault of its own; which fault the manifest is refused with does not rest on it.
 use crate::fault::ManifestFault;
 use crate::finding::{Array, Finding, Findings, Place, Subject, note, note_if};
-use crate::form::Form;
 use crate::manifest::entries;
 use crate::names::{lacks_its_file, name, position_of, role};
 use crate::step::{is_miscounted, step};
-use crate::value::{array, field, items};
 use refusal::NoMemory;
 use rim_launch::{Role, Step};
+use rim_rules::form::Form;
+use rim_rules::value::{array, field, items};
 use toml::{Table, Value};
 
 /// Adds the faults of names, of files and of steps.

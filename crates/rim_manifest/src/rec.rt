@@ -3,11 +3,11 @@ ghost use Rattle.std.specs.Prelude.{◌≡◌, IfOk, Some, map};
 ghost use Rattle.toml.specs.Data.{get};
 ghost use Rattle.toml.specs.View.{view};
 ghost use Rattle.rim_manifest.specs.Launches.{rec_of};
-ghost use Rattle.rim_manifest.specs.Values.{word_at, word_in, words_in};
+ghost use Rattle.rim_rules.specs.Values.{word_at, word_in, words_in};
 
-use crate::value::{field, truth};
-use crate::word::word;
 use rim_launch::Rec;
+use rim_rules::value::{field, truth};
+use rim_rules::word::word;
 use std::alloc::{AllocError, Global};
 use toml::Value;
 

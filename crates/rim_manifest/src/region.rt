@@ -3,7 +3,7 @@ ghost use Rattle.std.specs.Prelude.{◌≡◌, IfOk, map};
 ghost use Rattle.toml.specs.Data.{at};
 ghost use Rattle.toml.specs.View.{view};
 ghost use Rattle.rim_manifest.specs.Launches.{region_in, region_of};
-ghost use Rattle.rim_manifest.specs.Values.{whole_in};
+ghost use Rattle.rim_rules.specs.Values.{whole_in};
 
 use rim_launch::Region;
 use std::alloc::{AllocError, Global};

@@ -3,14 +3,14 @@ ghost use Rattle.std.specs.Prelude.{◌≡◌, ◌==◌, ◌||◌, codes, length
 ghost use Rattle.toml.specs.Data.{get};
 ghost use Rattle.toml.specs.View.{view};
 ghost use Rattle.rim_manifest.specs.StepTexts.{decimal_number, part_count, is_decimal, is_miscounted, item_number, step_in, step_of, steps_in};
-ghost use Rattle.rim_manifest.specs.Values.{array_at};
-ghost use Rattle.rim_manifest.specs.Words.{after};
+ghost use Rattle.rim_rules.specs.Values.{array_at};
+ghost use Rattle.rim_rules.specs.Words.{after};
 
 use crate::names::position_of;
-use crate::value::{array, field, items};
-use crate::word::{after, are_digits, spelled};
 use refusal::NoMemory;
 use rim_launch::{Item, REGION_LIMIT, Rec, Region, Step, default_steps};
+use rim_rules::value::{array, field, items};
+use rim_rules::word::{after, are_digits, spelled};
 use std::alloc::{AllocError, Global};
 use toml::Value;
 

@@ -1,7 +1,8 @@
 //! What is looked for in a manifest, and where it was found.
 use crate::spot::Spot;
 use refusal::NoMemory;
-use rim_manifest::{Place, Rule};
+use rim_manifest::Place;
+use rim_rules::form::Rule;
 use std::alloc::Global;
 use std::collections::BTreeMap;
 

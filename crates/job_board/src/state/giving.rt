@@ -110,7 +110,8 @@ impl<'a, L: Run> BoardState<'a, L> {
     /// The free page that the worker is best given now, if any page is free.
     fn preferred_page(&mut self, worker: usize) -> Option<usize>
         ensures same { self.new ≡ self.old }
-        ensures free { IfSome result (λ page. slice_get self.old.core.pages page ≡ Some JobState.Free) }
+        ensures free { IfSome result
+            (λ page. slice_get self.old.core.pages page ≡ Some JobState.Free) }
         ensures none { IfNone result (NoneFree self.old.core.pages) }
     {
         self.preferences.next_page(&mut self.core, worker)

@@ -4,8 +4,8 @@ use Rattle.std.proofs.lemmas.Bool.{and_parts, eqb-true, leb-true, ltb-true}
 use lib.Pow.{lt_of_le_ones}
 use Rattle.toml.specs.Data.{Data, integer}
 use Rattle.rim_launch.specs.declared.item.Region.{Region}
-use Rattle.rim_manifest.specs.Forms.{is_pool_base, is_region}
-use Rattle.rim_manifest.specs.Values.{base_in, number_in}
+use Rattle.rim_rules.specs.Forms.{is_pool_base, is_region}
+use Rattle.rim_rules.specs.Values.{base_in, number_in}
 
 abbrev pub is_within : ℕ → ℕ → ℕ → Bool
 is_within low high n = nat_le low n && nat_le n high

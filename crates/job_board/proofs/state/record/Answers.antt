@@ -1,6 +1,6 @@
 use Rattle.std.proofs.Common.{◌≡◌, Ok, arith}
 use Rattle.job_board.specs.Step.{core_step}
-use Rattle.job_board.proofs.HistoryGoesOn.{history_room, same_most}
+use Rattle.job_board.proofs.HistoryGoesOn.{history_room}
 use Rattle.job_board.proofs.state.record.Goals as goal
 
 pub push_reserved-requires : goal.push_reserved-requires

@@ -1,7 +1,7 @@
 use Rattle.std.proofs.Common.{◌∙◌}
 use Rattle.toml.specs.View.{table_view}
 use Rattle.rim_manifest.specs.Checks.{rule_faults}
-use Rattle.rim_manifest.specs.Rules.{rule_of}
+use Rattle.rim_rules.specs.Rules.{rule_of}
 use Rattle.rim_manifest.proofs.FaultsInTurn.{noted_step}
 use Rattle.rim_manifest.proofs.check.check_rules.Goals as goal
 

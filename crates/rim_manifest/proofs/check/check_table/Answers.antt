@@ -5,7 +5,7 @@ use Rattle.toml.specs.View.{table_view}
 use Rattle.rim_manifest.specs.declared.fault.ManifestFault.TheVariants.{UnknownKey}
 use Rattle.rim_manifest.specs.Checks.{has_unknown_key, rule_faults}
 use Rattle.rim_manifest.specs.Faults.{fault_if}
-use Rattle.rim_manifest.specs.Rules.{rule_of}
+use Rattle.rim_rules.specs.Rules.{rule_of}
 use Rattle.rim_manifest.specs.inside.Findings.{kept}
 use Rattle.rim_manifest.specs.inside.Kept.{with_faults}
 use Rattle.rim_manifest.proofs.FaultsInTurn.{flat_map_map, noted_two}

@@ -1,7 +1,7 @@
 use Rattle.std.proofs.Common.{◌∙◌, ap, map}
 use Rattle.toml.specs.View.{view}
 use Rattle.rim_manifest.specs.Checks.{ruled_faults}
-use Rattle.rim_manifest.specs.Rules.{rule_of}
+use Rattle.rim_rules.specs.Rules.{rule_of}
 use Rattle.rim_manifest.specs.inside.Findings.{kept}
 use Rattle.rim_manifest.specs.inside.Kept.{with_faults}
 use Rattle.rim_manifest.proofs.FaultsInTurn.{noted_step}

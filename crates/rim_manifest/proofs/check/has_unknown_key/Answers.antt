@@ -3,8 +3,8 @@ use Rattle.std.specs.Prelude.{string_bytes}
 use Rattle.std.proofs.lemmas.Iterator.Consumers.{YieldsList-from_rest}
 use Rattle.std.proofs.lemmas.Iterator.Search.{any_from_yields_List}
 use Rattle.rim_manifest.specs.Checks.{is_known}
-use Rattle.rim_manifest.specs.Rules.{rule_of}
-use Rattle.rim_manifest.proofs.ListsOfValues.{any_key}
+use Rattle.rim_rules.specs.Rules.{rule_of}
+use Rattle.rim_rules.proofs.ListsOfValues.{any_key}
 use Rattle.rim_manifest.proofs.check.has_unknown_key.Goals as goal
 
 pub returns : goal.returns

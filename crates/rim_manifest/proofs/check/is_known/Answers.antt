@@ -2,8 +2,8 @@ use Rattle.std.proofs.Common.{sym, ◌∙◌, rules, tests}
 use Rattle.std.specs.Str.{bytes_eq}
 use Rattle.std.proofs.lemmas.Iterator.{YieldsList-from_slice}
 use Rattle.std.proofs.lemmas.Iterator.Search.{any_from_yields_List}
-use Rattle.rim_manifest.specs.Rules.{rule_of}
-use Rattle.rim_manifest.proofs.FaultsInTurn.{list_any_map}
+use Rattle.rim_rules.specs.Rules.{rule_of}
+use Rattle.rim_rules.proofs.ListsOfValues.{list_any_map}
 use Rattle.rim_manifest.proofs.check.is_known.Goals as goal
 
 pub returns : goal.returns

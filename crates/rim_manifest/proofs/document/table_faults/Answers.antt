@@ -1,4 +1,4 @@
-use Rattle.std.proofs.Common.{◌≡◌, [], ap, ◌∙◌, sym}
+use Rattle.std.proofs.Common.{◌≡◌, [], ap, ◌∙◌}
 use Rattle.toml.specs.View.{table_view}
 use Rattle.rim_manifest.specs.Manifest.{manifest_faults}
 use Rattle.rim_manifest.specs.inside.Findings.{list_kept}

@@ -2,14 +2,14 @@ use Rattle.std.proofs.Common.{◌≡◌, List, Option, length, map, codes, ◌�
 use Rattle.toml.specs.View.{view}
 use Rattle.toml.specs.Data.{Data, get}
 use Rattle.rim_manifest.specs.StepTexts.{steps_in}
-use Rattle.rim_manifest.specs.Values.{array_at}
+use Rattle.rim_rules.specs.Values.{array_at}
 use Rattle.rim_launch.specs.declared.item.Item.{Item}
 use Rattle.rim_launch.specs.declared.item.Region.{Region}
 use Rattle.rim_launch.specs.declared.rec.Rec.{Rec}
 use Rattle.rim_manifest.specs.Items.{item_of}
 use Rattle.rim_manifest.specs.Launches.{launch_of, rec_of, region_in}
 use Rattle.rim_manifest.proofs.MadeWithoutFaults.{none_made, parts_read, some_made}
-use Rattle.rim_manifest.proofs.ListsOfValues.{map_of_views}
+use Rattle.rim_rules.proofs.ListsOfValues.{map_of_views}
 use Rattle.rim_manifest.proofs.launch.read_launch.Goals as goal
 
 steps_of : {ram ram' : List Region} {items items' : List Item} {recs recs' : List Rec} → ram ≡ ram' → items ≡ items' → recs ≡ recs'

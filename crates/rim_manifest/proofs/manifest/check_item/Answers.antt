@@ -5,7 +5,7 @@ use Rattle.rim_launch.specs.declared.item.Role.{Role}
 use Rattle.rim_launch.specs.declared.item.Role.TheVariants.{Kernel, Initrd, Dtb, Raw, Unknown}
 use Rattle.rim_manifest.specs.Checks.{ruled_faults}
 use Rattle.rim_manifest.specs.Manifest.{rules_of}
-use Rattle.rim_manifest.specs.Rules.{item_rules}
+use Rattle.rim_rules.specs.Rules.{item_rules}
 use Rattle.rim_manifest.specs.inside.Findings.{kept}
 use Rattle.rim_manifest.specs.inside.Kept.{with_faults}
 use Rattle.rim_manifest.proofs.manifest.check_item.Goals as goal

@@ -11,10 +11,10 @@ use Rattle.rim_manifest.specs.Checks.{ruled_faults, table_faults}
 use Rattle.rim_manifest.specs.Faults.{fault_if}
 use Rattle.rim_manifest.specs.Manifest.{item_faults, launch_faults}
 use Rattle.rim_manifest.specs.Names.{has_asked}
-use Rattle.rim_manifest.specs.Rules.{Rule, rec_rules}
-use Rattle.rim_manifest.specs.Versions.{lacks_rule, launch_rules_in}
-use Rattle.rim_manifest.specs.declared.version.FormatVersion.{FormatVersion}
-use Rattle.rim_manifest.specs.Values.{array_at}
+use Rattle.rim_rules.specs.Rules.{Rule, rec_rules}
+use Rattle.rim_rules.specs.Versions.{lacks_rule, launch_rules_in}
+use Rattle.rim_rules.specs.declared.version.FormatVersion.{FormatVersion}
+use Rattle.rim_rules.specs.Values.{array_at}
 use Rattle.rim_manifest.specs.inside.Findings.{kept}
 use Rattle.rim_manifest.specs.inside.Kept.{Kept, with_faults}
 use Rattle.rim_manifest.proofs.FaultsInTurn.{flat_map_map, noted_two}

@@ -9,9 +9,9 @@ use Rattle.rim_manifest.specs.declared.fault.ManifestFault.TheVariants.{Version}
 use Rattle.rim_manifest.specs.Checks.{ruled_faults, table_faults}
 use Rattle.rim_manifest.specs.Faults.{fault_if}
 use Rattle.rim_manifest.specs.Manifest.{files_at, launch_faults, launches_at, manifest_faults}
-use Rattle.rim_manifest.specs.Versions.{has_version, version_at}
-use Rattle.rim_manifest.specs.declared.version.FormatVersion.{FormatVersion}
-use Rattle.rim_manifest.specs.Rules.{file_rules, top_rules}
+use Rattle.rim_rules.specs.Versions.{has_version, version_at}
+use Rattle.rim_rules.specs.declared.version.FormatVersion.{FormatVersion}
+use Rattle.rim_rules.specs.Rules.{file_rules, top_rules}
 use Rattle.rim_manifest.specs.inside.Findings.{kept}
 use Rattle.rim_manifest.specs.inside.Kept.{Kept, with_faults}
 use Rattle.rim_manifest.proofs.FaultsInTurn.{flat_map_map, noted_two}

@@ -6,16 +6,16 @@ use Rattle.toml.specs.Data.{Data, Members}
 use Rattle.toml.specs.View.{table_view, view}
 use Rattle.toml.specs.declared.value.Value.{Value}
 use Rattle.rim_manifest.specs.Launches.{launches_from}
-use Rattle.rim_manifest.specs.Versions.{version_at}
-use Rattle.rim_manifest.specs.declared.version.FormatVersion.{FormatVersion}
+use Rattle.rim_rules.specs.Versions.{version_at}
+use Rattle.rim_rules.specs.declared.version.FormatVersion.{FormatVersion}
 use Rattle.rim_manifest.specs.Manifest.{all_made, files_at, has_no_file, has_two_names, launches_at, path_of}
 use Rattle.rim_manifest.specs.StepTexts.{has_bad_steps, is_miscounted, is_misnamed}
 use Rattle.rim_manifest.specs.Names.{lacks_file, repeats, share_names}
 use Rattle.rim_manifest.proofs.ReadStepByStep.{named, no_name_fault, refused_steps, refused_twice, refused_without}
 use Rattle.rim_manifest.proofs.MadeWithoutFaults.{all_read, all_refused}
-use Rattle.rim_manifest.proofs.FaultsInTurn.{list_any_map}
+use Rattle.rim_rules.proofs.ListsOfValues.{list_any_map}
 use Rattle.rim_manifest.proofs.LaunchesNumbered.{are_numbered}
-use Rattle.rim_manifest.proofs.ListsOfValues.{map_of_views}
+use Rattle.rim_rules.proofs.ListsOfValues.{map_of_views}
 use Rattle.rim_manifest.proofs.manifest.read_release.Goals as goal
 
 twice : (ms : Members) (files launches : List Value) (b : Bool) → map view files ≡ files_at ms → map view launches ≡ launches_at ms

@@ -1,6 +1,6 @@
 use Rattle.toml.specs.View.{view}
 use Rattle.rim_manifest.specs.Names.{is_named}
-use Rattle.rim_manifest.proofs.FaultsInTurn.{list_any_map}
+use Rattle.rim_rules.proofs.ListsOfValues.{list_any_map}
 use Rattle.rim_manifest.proofs.names.has_file.Goals as goal
 
 pub returns : goal.returns

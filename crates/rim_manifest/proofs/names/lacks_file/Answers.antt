@@ -1,7 +1,7 @@
 use Rattle.std.proofs.Common.{map}
 use Rattle.toml.specs.View.{view}
 use Rattle.rim_manifest.specs.Names.{lacks_its_file}
-use Rattle.rim_manifest.proofs.FaultsInTurn.{list_any_map}
+use Rattle.rim_rules.proofs.ListsOfValues.{list_any_map}
 use Rattle.rim_manifest.proofs.names.lacks_file.Goals as goal
 
 pub returns : goal.returns

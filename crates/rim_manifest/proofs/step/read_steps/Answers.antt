@@ -4,10 +4,10 @@ use Rattle.toml.specs.View.{view}
 use Rattle.toml.specs.declared.value.Value.{Value}
 use Rattle.rim_launch.specs.declared.item.Item.{Item}
 use Rattle.rim_launch.specs.declared.step.Step.{Step}
-use Rattle.rim_manifest.specs.Forms.{items_of}
+use Rattle.rim_rules.specs.Forms.{items_of}
 use Rattle.rim_manifest.specs.StepTexts.{step_in, steps_in}
-use Rattle.rim_manifest.specs.Values.{array_at}
-use Rattle.rim_manifest.proofs.ListsOfValues.{map_of_views}
+use Rattle.rim_rules.specs.Values.{array_at}
+use Rattle.rim_rules.proofs.ListsOfValues.{map_of_views}
 use Rattle.rim_manifest.proofs.step.read_steps.Goals as goal
 
 spelled : (tables texts : List Value) (launch d : Data) (o : Option Data) (regions : ℕ) (things : List Item) (recs : ℕ) (steps : List Step)

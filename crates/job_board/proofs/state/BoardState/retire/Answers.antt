@@ -1,4 +1,4 @@
-use Rattle.std.proofs.Common.{◌≡◌, Ok, arith, refl}
+use Rattle.std.proofs.Common.{◌≡◌, Ok, refl}
 use Rattle.job_board.specs.declared.job.Event.TheVariants.{Retire}
 use Rattle.job_board.specs.Board.{BoardView}
 use Rattle.job_board.specs.Step.{core_step}

@@ -1,14 +1,7 @@
-use Rattle.std.proofs.Common.{◌≡◌, ◌+◌, ◌*◌, ◌≤◌, ◌∙◌, List, None, ap, arith, false, length, replicate, rules, sym, ℕ}
-use Rattle.std.specs.Prelude.{vec_capacity}
-use Rattle.std.proofs.lemmas.List.{length-map, length-replicate}
+use Rattle.std.proofs.Common.{◌≡◌, ◌∙◌, List, None, ap, length, replicate, rules}
 use Rattle.std.specs.List.{slice_get}
-use Rattle.page_jobs.specs.Page.{page_view}
 use Rattle.rim_chain.specs.Links.{PlanView}
-use Rattle.job_board.specs.declared.job.JobState.TheVariants.{Free}
-use Rattle.job_board.specs.Jobs.{opening}
 use Rattle.job_board.specs.Tasks.{whole_table}
-use Rattle.job_board.specs.History.{most_events}
-use Rattle.job_board.specs.inside.Needs.{needs_of}
 use Rattle.job_board.proofs.NewBoards.{board_new, plan_fits, rows_new}
 use Rattle.job_board.proofs.CoreCounts.{core_fresh}
 use Rattle.job_board.proofs.state.BoardState.with_lanes.Goals as goal
@@ -24,7 +17,8 @@ invariant_of-result g c =
       rw (c.in_ok-core.ensures.core, c.in_ok-core.ensures.empty, none, c.open-book.ensures.total)
           (board_new c.args.workers c.args.table c.args.plans.now needs fresh c.in_ok-core.ensures.table c.requires.empty own),
       c.in_ok-core.ensures.room,
-      rw (c.in_ok-core.ensures.core, c.in_ok-rows.ensures) (rows_new c.args.workers size needs c.args.plans.now c.most_pages-room.result c.most_pages-room.ensures),
+      rw (c.in_ok-core.ensures.core, c.in_ok-rows.ensures)
+          (rows_new c.args.workers size needs c.args.plans.now c.most_pages-room.result c.most_pages-room.ensures),
       c.in_ok-prefixes.ensures (whole_table g.L.Run.pages) g.L.Run.plans,
       (c.requires.pages, c.requires.plans),
     )
