@@ -4,14 +4,15 @@ mod own_pages;
 mod runs;
 mod waiting;
 
-ghost use Rattle.std.specs.Prelude.{◌≡◌, ◌≤◌, length, map, replicate, IfOk, None};
+ghost use Rattle.std.specs.Prelude.{◌≡◌, ◌≤◌, ◌<◌, length, map, replicate, vec_len, IfOk, None};
 ghost use Rattle.std.specs.List.{All, Contains};
 ghost use Rattle.page_jobs.specs.Key.{IsRising};
 ghost use Rattle.page_jobs.specs.Page.{page_view};
 ghost use Rattle.page_jobs.specs.Table.{page_keys_of};
 ghost use Rattle.rim_chain.specs.Links.{keys_of as link_keys};
 
-use job_board::{BoardState, Run};
+use job_board::{BoardState, Run, Share};
+use job_board_tests::has_all_keys;
 use job_workers::{Board, Gate, run_workers_on};
 use page_jobs::{Blob, Page, PageKey, Table};
 use page_jobs_tests::distinct_pages;
@@ -19,6 +20,7 @@ use refusal::NoMemory;
 use rim_chain::{LaunchPlan, Link};
 use rim_desc::{Algo, Measurement, RealmParams, Source};
 use std::alloc::Global;
+use std::marker::Brand;
 use std::process::Abort;
 use std::sync::Wait;
 use std::sync::ledger::Blank;
@@ -88,28 +90,7 @@ fn plans_of(rt: &impl Abort, alloc: Global, launches: u64, count: u64) -> Vec<La
     plans
 }
 
-/// Runs two workers over the pages of a table and over plans, and answers the launches' values.
-fn run_two<'a, L: Run + Send + Sync, G: Gate + Sync, R: Threads + Wait + Sync>(
-    rt: &R,
-    alloc: Global,
-    blank: Blank,
-    table: Table<'a>,
-    plans: &'a [LaunchPlan],
-    gate: &mut G,
-) -> Result<Vec<Measurement>, NoMemory>
-    requires name { blank.name ≡ L.name }
-    requires parts { (blank.parts ≡ L.parts) × (blank.parts ≡ 2) }
-    requires pages { table.pages ≡ L.pages }
-    requires plans { plans.now ≡ L.plans }
-    requires keys { All
-        (λ p. All (Contains (page_keys_of table.pages)) (link_keys p.links))
-        plans.now }
-    requires empty { table.digests ≡ replicate (length table.pages) None }
-{
-    run_by::<L, G, R>(rt, alloc, blank, 2, table, plans, gate)
-}
-
-/// The same by this many workers.
+/// Runs this many workers over the pages of a table and over plans, and answers the launches' values.
 fn run_by<'a, L: Run + Send + Sync, G: Gate + Sync, R: Threads + Wait + Sync>(
     rt: &R,
     alloc: Global,
@@ -129,11 +110,46 @@ fn run_by<'a, L: Run + Send + Sync, G: Gate + Sync, R: Threads + Wait + Sync>(
         plans.now }
     requires empty { table.digests ≡ replicate (length table.pages) None }
 {
-    let mut counts = vec![in alloc; 0; workers]?;
-    let mut values = vec![in alloc; Measurement { bytes: [0; 64] }; plans.len()]?;
     let lanes = gate.lanes();
     let (state, shares) = BoardState::<L>::with_lanes(alloc, blank, workers, table, plans, lanes)?;
-    let board = Board::new(state);
-    run_workers_on(rt, gate, &board, shares, &mut counts, &mut values, STACK);
+    run_on(rt, alloc, &Board::new(state), shares, plans.len(), gate)
+}
+
+/// Runs as many workers as there are shares, and answers the values of this many launches.
+fn run_on<L: Run + Send + Sync, G: Gate + Sync, R: Threads + Wait + Sync>(
+    rt: &R,
+    alloc: Global,
+    board: &Board<'_, L>,
+    shares: Vec<Share<L>>,
+    launches: usize,
+    gate: &mut G,
+) -> Result<Vec<Measurement>, NoMemory>
+    requires whole { vec_len shares ≡ L.parts }
+    requires some { 0 < vec_len shares }
+    requires launches { launches ≡ length L.plans }
+{
+    let mut counts = vec![in alloc; 0; shares.len()]?;
+    let mut values = vec![in alloc; Measurement { bytes: [0; 64] }; launches]?;
+    run_workers_on(rt, gate, board, shares, &mut counts, &mut values, STACK);
     Ok(values)
+}
+
+/// The values of a run by this many workers over pages, which all pages of the plans are among.
+fn values_by<G: Gate + Sync, R: Threads + Wait + Abort + Sync>(
+    rt: &R,
+    alloc: Global,
+    workers: usize,
+    pages: &[Page<'_>],
+    plans: &[LaunchPlan],
+    gate: &mut G,
+) -> Result<Vec<Measurement>, NoMemory>
+    requires workers { (1 ≤ workers) × (workers ≤ 64) }
+    requires rising { IsRising (page_keys_of (map page_view pages.now)) }
+{
+    let table = Table::reserve(alloc, pages)?;
+    if !has_all_keys(&table, plans) {
+        panic!(rt; "the launches' pages exist");
+    }
+    let blank = Blank::new(workers as u64);
+    run_by::<Brand, G, R>(rt, alloc, blank, workers, table, plans, gate)
 }

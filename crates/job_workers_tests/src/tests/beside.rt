@@ -4,19 +4,16 @@ ghost use Rattle.page_jobs.specs.Key.{IsRising};
 ghost use Rattle.page_jobs.specs.Page.{page_view};
 ghost use Rattle.page_jobs.specs.Table.{page_keys_of};
 
-use super::{REALM, check, pages_of, plan_at, run_by};
+use super::{REALM, check, pages_of, plan_at, values_by};
 use job_board::JobId;
-use job_board_tests::has_all_keys;
 use job_workers::Gate;
-use page_jobs::{DigestRow, Page, PageJob, Table};
+use page_jobs::{DigestRow, Page, PageJob};
 use refusal::NoMemory;
 use rim_chain::{LaunchPlan, Link, chain};
 use rim_desc::{Lanes, Measurement};
 use std::alloc::Global;
-use std::marker::Brand;
 use std::process::Abort;
 use std::sync::Wait;
-use std::sync::ledger::Blank;
 use std::test::Fail;
 use std::thread::Threads;
 
@@ -56,18 +53,41 @@ fn plans(rt: &impl Abort, alloc: Global) -> Vec<LaunchPlan> {
     plans
 }
 
-/// What a launch chains to, with the digests of the first pages.
-fn chained(rt: &impl Abort, alloc: Global, plan: &LaunchPlan, pages: &[Page]) -> Measurement {
+/// Hashes a page into a row that has room for it.
+fn push_digest(row: &mut DigestRow, page: &Page) {
+    if row.digests().len() < row.room() {
+        row.push(PageJob::new(*page).run().digest);
+    }
+}
+
+/// A row with the digests of the first pages that a launch measures.
+fn row_of(rt: &impl Abort, alloc: Global, plan: &LaunchPlan, pages: &[Page]) -> DigestRow {
     let mut row = DigestRow::reserve(alloc, plan.pages()).expect(rt, "memory");
     for page in pages {
-        if row.digests().len() < row.room() {
-            row.push(PageJob::new(*page).run().digest);
-        }
+        push_digest(&mut row, page);
     }
+    row
+}
+
+/// What a launch chains to, with the digests of the first pages.
+fn chained(rt: &impl Abort, alloc: Global, plan: &LaunchPlan, pages: &[Page]) -> Measurement {
+    let row = row_of(rt, alloc, plan, pages);
     if row.digests().len() != plan.pages() {
         panic!(rt; "the row is filled");
     }
     chain(plan, &row)
+}
+
+/// A launch has the value that it chains to.
+fn check_value(
+    rt: &impl Abort,
+    alloc: Global,
+    plan: &LaunchPlan,
+    pages: &[Page],
+    value: &Measurement,
+) {
+    let want = chained(rt, alloc, plan, pages);
+    check(rt, want == *value, "the value");
 }
 
 fn check_values(
@@ -79,7 +99,7 @@ fn check_values(
 ) {
     check(rt, values.len() == plans.len(), "as many values");
     for (plan, value) in plans.iter().zip(values) {
-        assert!(rt; chained(rt, alloc, plan, pages) == *value);
+        check_value(rt, alloc, plan, pages, value);
     }
 }
 
@@ -95,21 +115,25 @@ fn check_run<R: Threads + Wait + Abort + Sync>(
     requires workers { (1 ≤ workers) × (workers ≤ 64) }
     requires rising { IsRising (page_keys_of (map page_view pages.now)) }
 {
-    let table = Table::reserve(alloc, pages)?;
-    if !has_all_keys(&table, plans) {
-        panic!(rt; "the launches' pages exist");
-    }
-    let values = run_by::<Brand, WidthGate, R>(
-        rt,
-        alloc,
-        Blank::new(workers as u64),
-        workers,
-        table,
-        plans,
-        &mut WidthGate { lanes },
-    )?;
-    check_values(rt, alloc, plans, pages, values.as_slice());
+    let mut gate = WidthGate { lanes };
+    let values = values_by(rt, alloc, workers, pages, plans, &mut gate)?;
+    check_values(rt, alloc, plans, pages, &values);
     Ok(())
+}
+
+/// The same, in four lanes and in eight.
+fn check_runs<R: Threads + Wait + Abort + Sync>(
+    rt: &R,
+    alloc: Global,
+    workers: usize,
+    pages: &[Page<'_>],
+    plans: &[LaunchPlan],
+) -> Result<(), NoMemory>
+    requires workers { (1 ≤ workers) × (workers ≤ 64) }
+    requires rising { IsRising (page_keys_of (map page_view pages.now)) }
+{
+    check_run(rt, alloc, Lanes::Four, workers, pages, plans)?;
+    check_run(rt, alloc, Lanes::Eight, workers, pages, plans)
 }
 
 /// One worker, or each of two, chains four or eight launches at a time as long as enough are left; of nineteen workers none is
@@ -119,10 +143,8 @@ fn launches_are_chained_beside_others(rt: HostRuntime) -> Result<(), Fail> {
     let alloc = rt.alloc();
     let pages = pages_of(alloc, &BYTES, 3)?;
     let plans = plans(&rt, alloc);
-    for lanes in [Lanes::Four, Lanes::Eight] {
-        for workers in [1, 2, 19] {
-            check_run(&rt, alloc, lanes, workers, &pages, &plans)?;
-        }
+    for workers in [1, 2, 19] {
+        check_runs(&rt, alloc, workers, &pages, &plans)?;
     }
     Ok(())
 }
@@ -151,10 +173,8 @@ fn launches_go_on_beside_others(rt: HostRuntime) -> Result<(), Fail> {
     let alloc = rt.alloc();
     let pages = pages_of(alloc, &BYTES, 3)?;
     let plans = plans_alike(&rt, alloc);
-    for lanes in [Lanes::Four, Lanes::Eight] {
-        for workers in [1, 2] {
-            check_run(&rt, alloc, lanes, workers, &pages, &plans)?;
-        }
+    for workers in [1, 2] {
+        check_runs(&rt, alloc, workers, &pages, &plans)?;
     }
     Ok(())
 }

@@ -1,16 +1,12 @@
 //! A run whose last page is late: launches are shared all the same.
-use super::{check, pages_of, plans_of, run_two};
+use super::{check, pages_of, plans_of, values_by};
 use job_board::JobId;
-use job_board_tests::has_all_keys;
 use job_workers::Gate;
-use page_jobs::Table;
 use refusal::NoMemory;
 use std::alloc::Global;
-use std::marker::Brand;
 use std::process::Abort;
 use std::sync::Wait;
 use std::sync::atomic::{AtomicU64, Ordering};
-use std::sync::ledger::Blank;
 use std::test::Fail;
 use std::thread;
 use std::thread::Threads;
@@ -111,14 +107,9 @@ fn share<R: Threads + Wait + Abort + Sync>(
     lets_wait: bool,
 ) -> Result<(), NoMemory> {
     let pages = pages_of(alloc, &BYTES, 2)?;
-    let table = Table::reserve(alloc, &pages)?;
     let plans = plans_of(rt, alloc, 2, 2);
-    let plans = plans.as_slice();
-    if !has_all_keys(&table, plans) {
-        panic!(rt; "the launches' pages exist");
-    }
     let mut gate = Late::new(lets_wait);
-    run_two::<Brand, Late, R>(rt, alloc, Blank::new(2), table, plans, &mut gate)?;
+    values_by(rt, alloc, 2, &pages, &plans, &mut gate)?;
     check(rt, gate.in_vain.load(Ordering::SeqCst) == 0, "in vain");
     Ok(())
 }

@@ -4,20 +4,17 @@ ghost use Rattle.page_jobs.specs.Key.{IsRising};
 ghost use Rattle.page_jobs.specs.Page.{page_view};
 ghost use Rattle.page_jobs.specs.Table.{page_keys_of};
 
-use super::{check, plan_of, run_two};
+use super::{check, plan_of, values_by};
 use job_board::JobId;
-use job_board_tests::has_all_keys;
 use job_workers::Gate;
-use page_jobs::{Blob, Page, Table};
+use page_jobs::{Blob, Page};
 use page_jobs_tests::distinct_pages;
 use refusal::NoMemory;
 use rim_desc::{Algo, Measurement, Source};
 use std::alloc::Global;
-use std::marker::Brand;
 use std::process::Abort;
 use std::sync::Wait;
 use std::sync::atomic::{AtomicU64, Ordering};
-use std::sync::ledger::Blank;
 use std::test::Fail;
 use std::thread;
 use std::thread::Threads;
@@ -99,19 +96,14 @@ fn run_held<R: Threads + Wait + Abort + Sync>(
     lets_wait: bool,
 ) -> Result<(), NoMemory> {
     let pages = pages_of_files(alloc)?;
-    let table = Table::reserve(alloc, &pages)?;
     let plans = [plan_of(rt, alloc, 0, 1), plan_of(rt, alloc, 1, 1)];
-    let plans = plans.as_slice();
-    if !has_all_keys(&table, plans) {
-        panic!(rt; "the launches' pages exist");
-    }
     let mut gate = Held {
         lets_wait,
         put: AtomicU64::new(0),
         in_vain: AtomicU64::new(0),
     };
-    let values = run_two::<Brand, Held, R>(rt, alloc, Blank::new(2), table, plans, &mut gate)?;
-    check_values(rt, values.as_slice());
+    let values = values_by(rt, alloc, 2, &pages, &plans, &mut gate)?;
+    check_values(rt, &values);
     check(rt, gate.in_vain.load(Ordering::SeqCst) == 0, "in vain");
     Ok(())
 }

@@ -170,6 +170,18 @@ fn no_worker_can_be_started(rt: HostRuntime) -> Result<(), Fail> {
     Ok(())
 }
 
+/// The page that a worker is given.
+fn page_taken<'a, L: Run>(
+    rt: &(impl Wait + Abort),
+    board: &Board<'a, L>,
+    worker: usize,
+) -> PageTask<'a, L> {
+    match board.take(rt, worker) {
+        Work::Page(task) => task,
+        _ => panic!(rt; "the page is free"),
+    }
+}
+
 /// Worker 1 has taken the one page before the run. In the run it is given no job, so it retires. Worker 0 sleeps until
 /// then, and puts the page.
 fn run_after_take<L: Run + Send + Sync, R: Threads + Wait + Abort + Sync>(
@@ -186,9 +198,7 @@ fn run_after_take<L: Run + Send + Sync, R: Threads + Wait + Abort + Sync>(
 {
     let (state, shares) = BoardState::<L>::new(alloc, blank, 2, table, &[])?;
     let board = Board::new(state);
-    let Work::Page(_task) = board.take(rt, 1) else {
-        panic!(rt; "the page is free");
-    };
+    let _task = page_taken(rt, &board, 1);
     let mut counts = [0; 2];
     run_workers_on(
         rt,
@@ -211,24 +221,56 @@ fn a_worker_that_holds_a_job_retires(rt: HostRuntime) -> Result<(), Fail> {
     Ok(())
 }
 
-/// The first page is offered under the lock; it is to be taken or handed back so, and then the share is to be this.
+/// A worker offers the first page under the lock; it is to be taken or handed back so, and then the worker's share is to be
+/// this.
 fn offer<L: Run>(
     rt: &(impl Wait + Abort),
     board: &Board<'_, L>,
+    shares: &mut [Share<L>],
     worker: usize,
-    share: &mut Share<L>,
     is_taken: bool,
     count: u64,
 ) {
     let Some(task) = PageTask::new(board.pages(rt), 0) else {
         panic!(rt; "the page exists");
     };
+    let share = shares.get_mut(worker).expect(rt, "a share");
     let answer = board.put_page(rt, worker, task.run(), share);
     check(rt, answer.is_ok() == is_taken, "whether it is taken");
     check(rt, share.count() == count, "the share");
 }
 
+/// Worker 0 takes the page, and is given no other job.
+fn take_page<L: Run>(rt: &(impl Wait + Abort), board: &Board<'_, L>) {
+    let task = page_taken(rt, board, 0);
+    check(rt, task.number() == 0, "page 0");
+    check(
+        rt,
+        matches!(board.take(rt, 0), Work::Busy),
+        "worker 0 is busy",
+    );
+}
+
+/// Worker 0 takes the launch and puts it.
+fn put_launch<L: Run>(rt: &(impl Wait + Abort), board: &Board<'_, L>) {
+    let Work::Launch(task) = board.take(rt, 0) else {
+        panic!(rt; "the launch has its page");
+    };
+    let answer = board.put_launch(rt, 0, task.run());
+    check(rt, answer.is_ok(), "the launch is taken");
+}
+
 /// Worker 0 puts a page and the launch that measures it. No other worker can put the page, and no page is put twice.
+fn put_once_on<L: Run>(rt: &(impl Wait + Abort), board: &Board<'_, L>, shares: &mut [Share<L>]) {
+    take_page(rt, board);
+    offer(rt, board, shares, 1, false, 0);
+    offer(rt, board, shares, 0, true, 1);
+    offer(rt, board, shares, 0, false, 1);
+    put_launch(rt, board);
+    check(rt, matches!(board.take(rt, 0), Work::Done), "all is done");
+}
+
+/// The same on a new board.
 fn put_once<'a, L: Run>(
     rt: &(impl Wait + Abort),
     alloc: Global,
@@ -246,31 +288,7 @@ fn put_once<'a, L: Run>(
     requires empty { table.digests ≡ replicate (length table.pages) None }
 {
     let (state, mut shares) = BoardState::<L>::new(alloc, blank, 2, table, plans)?;
-    let (Some(mut second), Some(mut first)) = (shares.pop(), shares.pop()) else {
-        panic!(rt; "there are two shares");
-    };
-    let board = Board::new(state);
-    let Work::Page(task) = board.take(rt, 0) else {
-        panic!(rt; "the page is free");
-    };
-    check(rt, task.number() == 0, "page 0");
-    check(
-        rt,
-        matches!(board.take(rt, 0), Work::Busy),
-        "worker 0 is busy",
-    );
-    offer(rt, &board, 1, &mut second, false, 0);
-    offer(rt, &board, 0, &mut first, true, 1);
-    offer(rt, &board, 0, &mut first, false, 1);
-    let Work::Launch(task) = board.take(rt, 0) else {
-        panic!(rt; "the launch has its page");
-    };
-    check(
-        rt,
-        board.put_launch(rt, 0, task.run()).is_ok(),
-        "the launch is taken",
-    );
-    check(rt, matches!(board.take(rt, 0), Work::Done), "all is done");
+    put_once_on(rt, &Board::new(state), &mut shares);
     Ok(())
 }
 

@@ -6,8 +6,8 @@ ghost use Rattle.page_jobs.specs.Page.{page_view};
 ghost use Rattle.page_jobs.specs.Table.{page_keys_of};
 ghost use Rattle.rim_chain.specs.Links.{keys_of as link_keys};
 
-use super::{REALM, check, pages_of, run_by};
-use job_board::{BoardState, LaunchTask, PageTask, Run, Work};
+use super::{REALM, check, pages_of, values_by};
+use job_board::{BoardState, LaunchTask, PageTask, Run, Share, Work};
 use job_board_tests::has_all_keys;
 use job_workers::FreeGate;
 use page_jobs::{DigestRow, Page, PageKey, Table};
@@ -74,6 +74,39 @@ fn values_of(rt: &impl Abort, alloc: Global, plans: &[LaunchPlan]) -> Vec<Measur
     values
 }
 
+/// A run by this many workers ends, with these values.
+fn check_run<R: Threads + Wait + Abort + Sync>(
+    rt: &R,
+    alloc: Global,
+    workers: usize,
+    pages: &[Page<'_>],
+    plans: &[LaunchPlan],
+    alone: &[Measurement],
+) -> Result<(), NoMemory>
+    requires workers { (1 ≤ workers) × (workers ≤ 64) }
+    requires rising { IsRising (page_keys_of (map page_view pages.now)) }
+{
+    let values = values_by(rt, alloc, workers, pages, plans, &mut FreeGate)?;
+    check(rt, values.as_slice() == alone, "the values");
+    Ok(())
+}
+
+/// Runs by few workers and by the most.
+fn check_runs<R: Threads + Wait + Abort + Sync>(
+    rt: &R,
+    alloc: Global,
+    pages: &[Page<'_>],
+    plans: &[LaunchPlan],
+    alone: &[Measurement],
+) -> Result<(), NoMemory>
+    requires rising { IsRising (page_keys_of (map page_view pages.now)) }
+{
+    for workers in [2, 4, 64] {
+        check_run(rt, alloc, workers, pages, plans, alone)?;
+    }
+    Ok(())
+}
+
 /// Each of many runs of workers ends, with the values of one thread; of 64 workers too, most of which find nothing to do.
 #[test]
 fn runs_end_with_the_same_values(rt: HostRuntime) -> Result<(), Fail> {
@@ -82,10 +115,7 @@ fn runs_end_with_the_same_values(rt: HostRuntime) -> Result<(), Fail> {
     let plans = plans_of(&rt, alloc, LAUNCHES);
     let alone = values_of(&rt, alloc, &plans);
     for _run in 0..RUNS {
-        for workers in [2, 4, 64] {
-            let values = values_by(&rt, alloc, workers, &pages, &plans)?;
-            check(&rt, values.as_slice() == alone.as_slice(), "the values");
-        }
+        check_runs(&rt, alloc, &pages, &plans, &alone)?;
     }
     Ok(())
 }
@@ -103,81 +133,56 @@ fn given<'a, L: Run>(
     }
 }
 
-/// Launch 1 goes on from launch 0, whose worker hands no prefix over. So it is given only when no worker holds a job.
-fn wait_for_first<'a, L: Run>(
+/// The launch of a number, which a worker is given.
+fn taken<'a, L: Run>(
     rt: &impl Abort,
-    alloc: Global,
-    blank: Blank,
-    table: Table<'a>,
-    plans: &'a [LaunchPlan],
-) -> Result<(), NoMemory>
-    requires name { blank.name ≡ L.name }
-    requires parts { (blank.parts ≡ L.parts) × (blank.parts ≡ 3) }
-    requires pages { table.pages ≡ L.pages }
-    requires plans { plans.now ≡ L.plans }
-    requires keys { All
-        (λ p. All (Contains (page_keys_of table.pages)) (link_keys p.links))
-        plans.now }
-    requires empty { table.digests ≡ replicate (length table.pages) None }
-{
-    let (mut board, _shares) = BoardState::<L>::new(alloc, blank, 3, table, plans)?;
-    let first = given(rt, &mut board, 1).expect(rt, "launch 0");
-    check(rt, first.number() == 0, "launch 0");
-    check(rt, given(rt, &mut board, 2).is_none(), "worker 2 waits");
+    board: &mut BoardState<'a, L>,
+    worker: usize,
+    number: usize,
+) -> LaunchTask<'a, L> {
+    let task = given(rt, board, worker).expect(rt, "a launch");
+    check(rt, task.number() == number, "the launch");
+    task
+}
+
+/// A worker waits for a launch.
+fn waits<L: Run>(rt: &impl Abort, board: &mut BoardState<'_, L>, worker: usize) {
+    check(rt, given(rt, board, worker).is_none(), "the worker waits");
+}
+
+/// A worker puts a launch.
+fn put<'a, L: Run>(
+    rt: &impl Abort,
+    board: &mut BoardState<'a, L>,
+    worker: usize,
+    task: LaunchTask<'a, L>,
+) {
+    let answer = board.put_launch(worker, task.run());
+    check(rt, answer.is_ok(), "the launch is taken");
+}
+
+/// Worker 1 holds launch 0 when it retires. Worker 2 waits before that.
+fn retire_with_launch<L: Run>(rt: &impl Abort, board: &mut BoardState<'_, L>) {
+    let _first = taken(rt, board, 1, 0);
+    waits(rt, board, 2);
     check(rt, board.retire(1), "worker 1 retires");
-    let first = given(rt, &mut board, 2).expect(rt, "launch 0 again");
-    check(rt, given(rt, &mut board, 0).is_none(), "worker 0 waits");
-    check(
-        rt,
-        board.put_launch(2, first.run()).is_ok(),
-        "launch 0 is taken",
-    );
-    let second = given(rt, &mut board, 0).expect(rt, "launch 1");
-    check(rt, second.number() == 1, "launch 1");
-    Ok(())
 }
 
-#[test]
-fn a_launch_waits_for_another(rt: HostRuntime) -> Result<(), Fail> {
-    let alloc = rt.alloc();
-    let pages = pages_of(alloc, &[], 0)?;
-    let plans = plans_of(&rt, alloc, 2);
-    let plans = plans.as_slice();
-    let table = Table::reserve(alloc, &pages)?;
-    if !has_all_keys(&table, plans) {
-        panic!(rt; "no launch has pages");
-    }
-    wait_for_first::<Brand>(&rt, alloc, Blank::new(3), table, plans)?;
-    Ok(())
+/// Launch 1 goes on from launch 0, whose worker hands no prefix over. So it is given only when no worker holds a job.
+fn wait_for_first<L: Run>(rt: &impl Abort, board: &mut BoardState<'_, L>) {
+    retire_with_launch(rt, board);
+    let first = taken(rt, board, 2, 0);
+    waits(rt, board, 0);
+    put(rt, board, 2, first);
+    let _second = taken(rt, board, 0, 1);
 }
 
-/// Launch 1 is given when the prefix that it goes on from is kept, while launch 0 is still being chained. Each chains to its own
-/// value.
-fn go_on_from_first<'a, L: Run>(
+/// Hands over the prefix of launch 0, which one launch goes on from, and chains no other's.
+fn hand_over<L: Run>(
     rt: &impl Abort,
-    alloc: Global,
-    blank: Blank,
-    table: Table<'a>,
-    plans: &'a [LaunchPlan],
-) -> Result<(), NoMemory>
-    requires name { blank.name ≡ L.name }
-    requires parts { (blank.parts ≡ L.parts) × (blank.parts ≡ 3) }
-    requires pages { table.pages ≡ L.pages }
-    requires plans { plans.now ≡ L.plans }
-    requires keys { All
-        (λ p. All (Contains (page_keys_of table.pages)) (link_keys p.links))
-        plans.now }
-    requires empty { table.digests ≡ replicate (length table.pages) None }
-{
-    let own = values_of(rt, alloc, plans);
-    let (mut board, _shares) = BoardState::<L>::new(alloc, blank, 3, table, plans)?;
-    let mut first = given(rt, &mut board, 1).expect(rt, "launch 0");
-    check(
-        rt,
-        !first.can_run_with_others(),
-        "it stops where launch 1 goes on",
-    );
-    check(rt, given(rt, &mut board, 2).is_none(), "worker 2 waits");
+    board: &mut BoardState<'_, L>,
+    first: &mut LaunchTask<'_, L>,
+) {
     let prefix = first.run_to_stop().expect(rt, "launch 1 goes on from it");
     check(rt, prefix.number() == 0, "the prefix is launch 0's");
     let kept = board.keep_prefix(prefix);
@@ -188,26 +193,23 @@ fn go_on_from_first<'a, L: Run>(
         first.run_to_stop().is_none(),
         "no other goes on from it",
     );
-    let second = given(rt, &mut board, 2).expect(rt, "launch 1");
-    check(rt, second.number() == 1, "launch 1");
-    check(rt, second.can_run_with_others(), "it does not stop");
-    let values = [first.run().value(), second.run().value()];
-    check(rt, values.as_slice() == own.as_slice(), "the values");
-    Ok(())
 }
 
-#[test]
-fn a_launch_goes_on_from_one_that_is_being_chained(rt: HostRuntime) -> Result<(), Fail> {
-    let alloc = rt.alloc();
-    let pages = pages_of(alloc, &[], 0)?;
-    let plans = plans_of(&rt, alloc, 2);
-    let plans = plans.as_slice();
-    let table = Table::reserve(alloc, &pages)?;
-    if !has_all_keys(&table, plans) {
-        panic!(rt; "no launch has pages");
-    }
-    go_on_from_first::<Brand>(&rt, alloc, Blank::new(3), table, plans)?;
-    Ok(())
+/// Launch 1 is given when the prefix that it goes on from is kept, while launch 0 is still being chained. Each chains to its own
+/// value.
+fn go_on_from_first<L: Run>(rt: &impl Abort, board: &mut BoardState<'_, L>, own: &[Measurement]) {
+    let mut first = taken(rt, board, 1, 0);
+    check(
+        rt,
+        !first.can_run_with_others(),
+        "it stops where launch 1 goes on",
+    );
+    waits(rt, board, 2);
+    hand_over(rt, board, &mut first);
+    let second = taken(rt, board, 2, 1);
+    check(rt, second.can_run_with_others(), "it does not stop");
+    let values = [first.run().value(), second.run().value()];
+    check(rt, values.as_slice() == own, "the values");
 }
 
 /// The bytes of four pages.
@@ -245,32 +247,6 @@ fn pages_link(pages: u16) -> Link {
     }
 }
 
-/// The values of a run by this many workers.
-fn values_by<R: Threads + Wait + Abort + Sync>(
-    rt: &R,
-    alloc: Global,
-    workers: usize,
-    pages: &[Page<'_>],
-    plans: &[LaunchPlan],
-) -> Result<Vec<Measurement>, NoMemory>
-    requires workers { (1 ≤ workers) × (workers ≤ 64) }
-    requires rising { IsRising (page_keys_of (map page_view pages.now)) }
-{
-    let table = Table::reserve(alloc, pages)?;
-    if !has_all_keys(&table, plans) {
-        panic!(rt; "the pages exist");
-    }
-    run_by::<Brand, FreeGate, R>(
-        rt,
-        alloc,
-        Blank::new(workers as u64),
-        workers,
-        table,
-        plans,
-        &mut FreeGate,
-    )
-}
-
 /// Each of many runs of workers ends, where workers wait for a launch whose pages another hashes. The values are those of one
 /// worker.
 #[test]
@@ -278,10 +254,9 @@ fn runs_end_where_pages_are_waited_for(rt: HostRuntime) -> Result<(), Fail> {
     let alloc = rt.alloc();
     let pages = pages_of(alloc, &BYTES, 4)?;
     let plans = plans_with_pages(&rt, alloc, LAUNCHES, 4);
-    let alone = values_by(&rt, alloc, 1, &pages, &plans)?;
+    let alone = values_by(&rt, alloc, 1, &pages, &plans, &mut FreeGate)?;
     for _run in 0..RUNS {
-        let values = values_by(&rt, alloc, 4, &pages, &plans)?;
-        check(&rt, values.as_slice() == alone.as_slice(), "the values");
+        check_run(&rt, alloc, 4, &pages, &plans, &alone)?;
     }
     Ok(())
 }
@@ -299,13 +274,67 @@ fn page_given<'a, L: Run>(
     }
 }
 
+/// The first page, which a worker is given.
+fn page_taken<'a, L: Run>(
+    rt: &impl Abort,
+    board: &mut BoardState<'a, L>,
+    worker: usize,
+) -> PageTask<'a, L> {
+    let task = page_given(rt, board, worker).expect(rt, "the page");
+    check(rt, task.number() == 0, "page 0");
+    task
+}
+
+/// A worker waits for a page.
+fn waits_for_page<L: Run>(rt: &impl Abort, board: &mut BoardState<'_, L>, worker: usize) {
+    check(
+        rt,
+        page_given(rt, board, worker).is_none(),
+        "the worker waits",
+    );
+}
+
+/// Worker 1 holds the page when it retires. Worker 2 waits before that.
+fn retire_with_page<L: Run>(rt: &impl Abort, board: &mut BoardState<'_, L>) {
+    let _page = page_taken(rt, board, 1);
+    waits_for_page(rt, board, 2);
+    check(rt, board.retire(1), "worker 1 retires");
+}
+
+/// Worker 2 is given the page, for which worker 0 waits, and puts it.
+fn put_page<L: Run>(rt: &impl Abort, board: &mut BoardState<'_, L>, share: &mut Share<L>) {
+    let page = page_taken(rt, board, 2);
+    waits_for_page(rt, board, 0);
+    let answer = board.put_page(2, page.run(), share);
+    check(rt, answer.is_ok(), "the page is taken");
+}
+
 /// Launch 1, which needs no page, is not given while a worker has the page of launch 0, from which it goes on.
-fn wait_for_page<'a, L: Run>(
+fn wait_for_page<L: Run>(rt: &impl Abort, board: &mut BoardState<'_, L>, share: &mut Share<L>) {
+    retire_with_page(rt, board);
+    put_page(rt, board, share);
+    let first = taken(rt, board, 0, 0);
+    waits(rt, board, 2);
+    put(rt, board, 0, first);
+    let _second = taken(rt, board, 2, 1);
+}
+
+/// What launch 1 waits for.
+#[derive(Clone, Copy, Debug)]
+enum Wanted {
+    Launch,
+    Prefix,
+    Page,
+}
+
+/// Asks a new board of three workers.
+fn ask<'a, L: Run>(
     rt: &impl Abort,
     alloc: Global,
     blank: Blank,
     table: Table<'a>,
     plans: &'a [LaunchPlan],
+    wanted: Wanted,
 ) -> Result<(), NoMemory>
     requires name { blank.name ≡ L.name }
     requires parts { (blank.parts ≡ L.parts) × (blank.parts ≡ 3) }
@@ -317,53 +346,62 @@ fn wait_for_page<'a, L: Run>(
     requires empty { table.digests ≡ replicate (length table.pages) None }
 {
     let (mut board, mut shares) = BoardState::<L>::new(alloc, blank, 3, table, plans)?;
-    let mut share = shares.pop().expect(rt, "a share");
-    let page = page_given(rt, &mut board, 1).expect(rt, "the page");
-    check(rt, page.number() == 0, "page 0");
-    check(
-        rt,
-        page_given(rt, &mut board, 2).is_none(),
-        "worker 2 waits",
-    );
-    check(rt, board.retire(1), "worker 1 retires");
-    let page = page_given(rt, &mut board, 2).expect(rt, "the page again");
-    check(
-        rt,
-        page_given(rt, &mut board, 0).is_none(),
-        "worker 0 waits",
-    );
-    check(
-        rt,
-        board.put_page(2, page.run(), &mut share).is_ok(),
-        "the page is taken",
-    );
-    let first = given(rt, &mut board, 0).expect(rt, "launch 0");
-    check(rt, first.number() == 0, "launch 0");
-    check(
-        rt,
-        given(rt, &mut board, 2).is_none(),
-        "worker 2 waits for it",
-    );
-    check(
-        rt,
-        board.put_launch(0, first.run()).is_ok(),
-        "launch 0 is taken",
-    );
-    let second = given(rt, &mut board, 2).expect(rt, "launch 1");
-    check(rt, second.number() == 1, "launch 1");
+    ask_for(rt, alloc, &mut board, &mut shares, plans, wanted);
+    Ok(())
+}
+
+fn ask_for<L: Run>(
+    rt: &impl Abort,
+    alloc: Global,
+    board: &mut BoardState<'_, L>,
+    shares: &mut [Share<L>],
+    plans: &[LaunchPlan],
+    wanted: Wanted,
+) {
+    match wanted {
+        Wanted::Launch => wait_for_first(rt, board),
+        Wanted::Prefix => go_on_from_first(rt, board, &values_of(rt, alloc, plans)),
+        Wanted::Page => wait_for_page(rt, board, shares.get_mut(2).expect(rt, "a share")),
+    }
+}
+
+/// The same of a board over pages, which all pages of the plans are among.
+fn ask_over(
+    rt: &impl Abort,
+    alloc: Global,
+    pages: &[Page<'_>],
+    plans: &[LaunchPlan],
+    wanted: Wanted,
+) -> Result<(), NoMemory>
+    requires rising { IsRising (page_keys_of (map page_view pages.now)) }
+{
+    let table = Table::reserve(alloc, pages)?;
+    if !has_all_keys(&table, plans) {
+        panic!(rt; "the launches' pages exist");
+    }
+    ask::<Brand>(rt, alloc, Blank::new(3), table, plans, wanted)
+}
+
+#[test]
+fn a_launch_waits_for_another(rt: HostRuntime) -> Result<(), Fail> {
+    let pages = pages_of(rt.alloc(), &[], 0)?;
+    let plans = plans_of(&rt, rt.alloc(), 2);
+    ask_over(&rt, rt.alloc(), &pages, &plans, Wanted::Launch)?;
+    Ok(())
+}
+
+#[test]
+fn a_launch_goes_on_from_one_that_is_being_chained(rt: HostRuntime) -> Result<(), Fail> {
+    let pages = pages_of(rt.alloc(), &[], 0)?;
+    let plans = plans_of(&rt, rt.alloc(), 2);
+    ask_over(&rt, rt.alloc(), &pages, &plans, Wanted::Prefix)?;
     Ok(())
 }
 
 #[test]
 fn a_launch_waits_for_the_page_of_another(rt: HostRuntime) -> Result<(), Fail> {
-    let alloc = rt.alloc();
-    let pages = pages_of(alloc, &BYTES, 1)?;
-    let plans = plans_with_pages(&rt, alloc, 2, 1);
-    let plans = plans.as_slice();
-    let table = Table::reserve(alloc, &pages)?;
-    if !has_all_keys(&table, plans) {
-        panic!(rt; "the page exists");
-    }
-    wait_for_page::<Brand>(&rt, alloc, Blank::new(3), table, plans)?;
+    let pages = pages_of(rt.alloc(), &BYTES, 1)?;
+    let plans = plans_with_pages(&rt, rt.alloc(), 2, 1);
+    ask_over(&rt, rt.alloc(), &pages, &plans, Wanted::Page)?;
     Ok(())
 }

@@ -1,4 +1,4 @@
-use Rattle.job_workers_tests.proofs.tests.beside.check_run.Given as goal
+use Rattle.job_workers_tests.proofs.tests.values_by.Given as goal
 
 abbrev pub ghosts-run_by-L-Run : goal.ghosts-run_by-L-Run
 ghosts-run_by-L-Run g a = record { pages = a.table.pages; plans = a.plans.now }

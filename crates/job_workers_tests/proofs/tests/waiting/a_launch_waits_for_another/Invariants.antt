@@ -1,7 +1,0 @@
-use Rattle.job_workers_tests.proofs.tests.waiting.a_launch_waits_for_another.Given as goal
-
-abbrev pub ghosts-wait_for_first-L-Run : goal.ghosts-wait_for_first-L-Run
-ghosts-wait_for_first-L-Run g a = record { pages = a.table.pages; plans = a.plans.now }
-
-abbrev pub ghosts-wait_for_first-L-Ledger : goal.ghosts-wait_for_first-L-Ledger
-ghosts-wait_for_first-L-Ledger g a = record { name = a.blank.name; parts = a.blank.parts }
