@@ -3,6 +3,13 @@ mod descriptors;
 mod pages;
 mod vectors;
 
+use std::process::Abort;
+
+/// One assertion for all tests, since each is proved. What is tried is said by a word and a number.
+fn check(rt: &impl Abort, holds: bool, what: &str, number: u64) {
+    assert!(rt; holds, "{what} {number}");
+}
+
 /// Fills bytes with the high bytes of a linear congruential generator's states after the seed.
 fn fill(bytes: &mut [u8], seed: u32) {
     let mut x = seed;

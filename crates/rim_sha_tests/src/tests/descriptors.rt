@@ -1,5 +1,5 @@
 //! Digests of descriptors.
-use super::{fill, front, wide_front};
+use super::{check, fill, front, wide_front};
 use rim_sha::{
     sha256_descriptor, sha256_eight_descriptors, sha256_four_descriptors, sha512_descriptor,
     sha512_four_descriptors,
@@ -39,14 +39,10 @@ const DIGESTS: [(u32, u8, u8, u64, u64); 7] = [
 
 fn check_front(rt: &impl Abort, seed: u32, place: u8, byte: u8, digest: u64, wide: u64) {
     let descriptor = descriptor(seed, place, byte);
-    assert!(rt;
-        front(&sha256_descriptor(&descriptor)) == digest,
-        "seed {seed}"
-    );
-    assert!(rt;
-        wide_front(&sha512_descriptor(&descriptor)) == wide,
-        "seed {seed}"
-    );
+    let found = front(&sha256_descriptor(&descriptor));
+    check(rt, found == digest, "SHA-256, seed", u64::from(seed));
+    let found = wide_front(&sha512_descriptor(&descriptor));
+    check(rt, found == wide, "SHA-512, seed", u64::from(seed));
 }
 
 #[test]
@@ -56,22 +52,25 @@ fn digests_of_another_program(rt: HostRuntime) {
     }
 }
 
-fn is_that_of_sha2(descriptor: &[u8; 256]) -> bool {
-    sha256_descriptor(descriptor) == Sha256::digest(descriptor)
-        && sha512_descriptor(descriptor) == Sha512::digest(descriptor)
+/// The digests of a descriptor are those of `sha2`.
+fn check_one(rt: &impl Abort, descriptor: &[u8; 256], what: &str, number: u64) {
+    let digest = sha256_descriptor(descriptor);
+    check(rt, digest == Sha256::digest(descriptor), what, number);
+    let wide = sha512_descriptor(descriptor);
+    check(rt, wide == Sha512::digest(descriptor), what, number);
 }
 
 #[test]
 fn tails_of_zeros(rt: HostRuntime) {
     for seed in 0..1000u32 {
-        assert!(rt; is_that_of_sha2(&descriptor(seed, 0, 1)), "seed {seed}");
+        check_one(&rt, &descriptor(seed, 0, 1), "seed", u64::from(seed));
     }
 }
 
 #[test]
 fn one_byte_of_the_tail(rt: HostRuntime) {
     for place in 128..=255u8 {
-        assert!(rt; is_that_of_sha2(&descriptor(7, place, 1)), "place {place}");
+        check_one(&rt, &descriptor(7, place, 1), "place", u64::from(place));
     }
 }
 
@@ -92,72 +91,79 @@ fn sha512_of_each<const N: usize>(descriptors: &[[u8; 256]; N]) -> [[u8; 64]; N]
     out
 }
 
-/// Whether the digests of four descriptors are those of `sha2`, each in its place.
-fn four_are_those_of_sha2(four: &[[u8; 256]; 4]) -> bool {
-    sha256_four_descriptors(four) == sha256_of_each(four)
-        && sha512_four_descriptors(four) == sha512_of_each(four)
+/// The digests of four descriptors are those of `sha2`, each in its place.
+fn check_four(rt: &impl Abort, four: &[[u8; 256]; 4], what: &str, number: u64) {
+    let digests = sha256_four_descriptors(four);
+    check(rt, digests == sha256_of_each(four), what, number);
+    let wide = sha512_four_descriptors(four);
+    check(rt, wide == sha512_of_each(four), what, number);
 }
 
-fn eight_are_those_of_sha2(eight: &[[u8; 256]; 8]) -> bool {
-    sha256_eight_descriptors(eight) == sha256_of_each(eight)
+fn check_eight(rt: &impl Abort, eight: &[[u8; 256]; 8], what: &str, number: u64) {
+    let digests = sha256_eight_descriptors(eight);
+    check(rt, digests == sha256_of_each(eight), what, number);
 }
 
 #[test]
 fn tails_of_zeros_side_by_side(rt: HostRuntime) {
     for seed in 0..1000u32 {
-        assert!(rt;
-            four_are_those_of_sha2(&descriptors(4 * seed)),
-            "seed {seed}"
-        );
-        assert!(rt;
-            eight_are_those_of_sha2(&descriptors(8 * seed)),
-            "seed {seed}"
-        );
+        check_four(&rt, &descriptors(4 * seed), "seed", u64::from(seed));
+        check_eight(&rt, &descriptors(8 * seed), "seed", u64::from(seed));
     }
+}
+
+/// Fills the last 128 bytes of each.
+fn fill_tails(descriptors: &mut [[u8; 256]], seed: u32) {
+    for bytes in descriptors.iter_mut() {
+        fill(&mut bytes[128..], seed);
+    }
+}
+
+fn check_filled(rt: &impl Abort, seed: u32) {
+    let mut four: [[u8; 256]; 4] = descriptors(seed);
+    fill_tails(&mut four, seed);
+    check_four(rt, &four, "seed", u64::from(seed));
+    let mut eight: [[u8; 256]; 8] = descriptors(seed);
+    fill_tails(&mut eight, seed);
+    check_eight(rt, &eight, "seed", u64::from(seed));
 }
 
 #[test]
 fn no_tail_of_zeros(rt: HostRuntime) {
     for seed in 0..100u32 {
-        let mut four = descriptors(seed);
-        let mut eight = descriptors(seed);
-        for bytes in four.iter_mut() {
-            fill(&mut bytes[128..], seed);
-        }
-        for bytes in eight.iter_mut() {
-            fill(&mut bytes[128..], seed);
-        }
-        assert!(rt; four_are_those_of_sha2(&four), "seed {seed}");
-        assert!(rt; eight_are_those_of_sha2(&eight), "seed {seed}");
+        check_filled(&rt, seed);
+    }
+}
+
+/// Each of four lanes in turn has another descriptor.
+fn check_other_of_four(rt: &impl Abort, same: &[[u8; 256]; 4], other: &[u8; 256]) {
+    for lane in 0..4usize {
+        let mut four = *same;
+        four[lane] = *other;
+        check_four(rt, &four, "lane", lane as u64);
+    }
+}
+
+fn check_other_of_eight(rt: &impl Abort, same: &[[u8; 256]; 8], other: &[u8; 256]) {
+    for lane in 0..8usize {
+        let mut eight = *same;
+        eight[lane] = *other;
+        check_eight(rt, &eight, "lane", lane as u64);
     }
 }
 
 /// One lane has a byte in its tail.
 #[test]
 fn a_byte_of_one_tail(rt: HostRuntime) {
-    for lane in 0..4usize {
-        let mut four = descriptors(11);
-        four[lane] = descriptor(11, 160, 9);
-        assert!(rt; four_are_those_of_sha2(&four), "lane {lane}");
-    }
-    for lane in 0..8usize {
-        let mut eight = descriptors(11);
-        eight[lane] = descriptor(11, 255, 9);
-        assert!(rt; eight_are_those_of_sha2(&eight), "lane {lane}");
-    }
+    check_other_of_four(&rt, &descriptors(11), &descriptor(11, 160, 9));
+    check_other_of_eight(&rt, &descriptors(11), &descriptor(11, 255, 9));
 }
 
 /// One lane has another head than the others.
 #[test]
 fn one_that_differs(rt: HostRuntime) {
-    for lane in 0..4usize {
-        let mut four = [descriptor(3, 0, 1); 4];
-        four[lane] = descriptor(4, 0, 1);
-        assert!(rt; four_are_those_of_sha2(&four), "lane {lane}");
-    }
-    for lane in 0..8usize {
-        let mut eight = [descriptor(3, 0, 1); 8];
-        eight[lane] = descriptor(4, 0, 1);
-        assert!(rt; eight_are_those_of_sha2(&eight), "lane {lane}");
-    }
+    let same = descriptor(3, 0, 1);
+    let other = descriptor(4, 0, 1);
+    check_other_of_four(&rt, &[same; 4], &other);
+    check_other_of_eight(&rt, &[same; 8], &other);
 }

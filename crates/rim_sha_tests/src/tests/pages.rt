@@ -1,7 +1,7 @@
 //! Digests of messages side by side, which are the first bytes of pages.
 ghost use Rattle.std.specs.Prelude.{◌≡◌, ◌%◌, ◌≤◌};
 
-use super::{fill, front, wide_front};
+use super::{check, fill, front, wide_front};
 use rim_sha::{sha256_eight, sha256_four, sha512_four};
 use sha2::{Digest, Sha256, Sha512};
 use std::process::Abort;
@@ -29,7 +29,7 @@ fn eight_pages(seed: u32) -> [[u8; 4096]; 8] {
     [a, b, c, d, e, f, g, h]
 }
 
-fn sha256_of_four(pages: &[[u8; 4096]; 4], size: usize) -> [[u8; 32]; 4]
+pub(super) fn sha256_of_four(pages: &[[u8; 4096]; 4], size: usize) -> [[u8; 32]; 4]
     requires room { size ≤ 4096 }
     requires whole { size % 64 ≡ 0 }
 {
@@ -37,7 +37,7 @@ fn sha256_of_four(pages: &[[u8; 4096]; 4], size: usize) -> [[u8; 32]; 4]
     sha256_four(&[&a[..size], &b[..size], &c[..size], &d[..size]], size)
 }
 
-fn sha256_of_eight(pages: &[[u8; 4096]; 8], size: usize) -> [[u8; 32]; 8]
+pub(super) fn sha256_of_eight(pages: &[[u8; 4096]; 8], size: usize) -> [[u8; 32]; 8]
     requires room { size ≤ 4096 }
     requires whole { size % 64 ≡ 0 }
 {
@@ -55,7 +55,7 @@ fn sha256_of_eight(pages: &[[u8; 4096]; 8], size: usize) -> [[u8; 32]; 8]
     sha256_eight(&messages, size)
 }
 
-fn sha512_of_four(pages: &[[u8; 4096]; 4], size: usize) -> [[u8; 64]; 4]
+pub(super) fn sha512_of_four(pages: &[[u8; 4096]; 4], size: usize) -> [[u8; 64]; 4]
     requires room { size ≤ 4096 }
     requires whole { size % 128 ≡ 0 }
 {
@@ -172,50 +172,76 @@ const SHA512: [(u8, u32, [u64; 4]); 4] = [
     ),
 ];
 
-fn check_fronts(rt: &impl Abort, blocks: u8, seed: u32, fronts: [u64; 4]) {
-    let [a, b, c, d] = sha256_of_four(&four_pages(seed), 64 * usize::from(blocks.min(64)));
-    let found = [front(&a), front(&b), front(&c), front(&d)];
-    assert!(rt; found == fronts, "{blocks} blocks");
+fn check_fronts(rt: &impl Abort, blocks: u8, seed: u32, fronts: &[u64; 4]) {
+    let digests = sha256_of_four(&four_pages(seed), 64 * usize::from(blocks.min(64)));
+    for lane in 0..4usize {
+        let found = front(&digests[lane]);
+        check(
+            rt,
+            found == fronts[lane],
+            "SHA-256, blocks",
+            u64::from(blocks),
+        );
+    }
 }
 
-fn check_wide_fronts(rt: &impl Abort, blocks: u8, seed: u32, fronts: [u64; 4]) {
-    let [a, b, c, d] = sha512_of_four(&four_pages(seed), 128 * usize::from(blocks.min(32)));
-    let found = [
-        wide_front(&a),
-        wide_front(&b),
-        wide_front(&c),
-        wide_front(&d),
-    ];
-    assert!(rt; found == fronts, "{blocks} blocks");
+fn check_wide_fronts(rt: &impl Abort, blocks: u8, seed: u32, fronts: &[u64; 4]) {
+    let digests = sha512_of_four(&four_pages(seed), 128 * usize::from(blocks.min(32)));
+    for lane in 0..4usize {
+        let found = wide_front(&digests[lane]);
+        check(
+            rt,
+            found == fronts[lane],
+            "SHA-512, blocks",
+            u64::from(blocks),
+        );
+    }
 }
 
 #[test]
 fn digests_of_another_program(rt: HostRuntime) {
     for (blocks, seed, fronts) in &SHA256 {
-        check_fronts(&rt, *blocks, *seed, *fronts);
+        check_fronts(&rt, *blocks, *seed, fronts);
     }
     for (blocks, seed, fronts) in &SHA512 {
-        check_wide_fronts(&rt, *blocks, *seed, *fronts);
+        check_wide_fronts(&rt, *blocks, *seed, fronts);
     }
+}
+
+/// The digests of four messages by SHA-256 are those of `sha2`.
+fn check_narrow(rt: &impl Abort, pages: &[[u8; 4096]; 4], size: usize)
+    requires room { size ≤ 4096 }
+    requires whole { size % 64 ≡ 0 }
+{
+    let digests = sha256_of_four(pages, size);
+    check(
+        rt,
+        digests == sha256_of_each(pages, size),
+        "SHA-256, bytes",
+        size as u64,
+    );
 }
 
 fn check_four(rt: &impl Abort, pages: &[[u8; 4096]; 4], blocks: u8) {
     let size = 128 * usize::from(blocks.min(32));
-    assert!(rt;
-        sha256_of_four(pages, size) == sha256_of_each(pages, size),
-        "{size} bytes"
-    );
-    assert!(rt;
-        sha512_of_four(pages, size) == sha512_of_each(pages, size),
-        "{size} bytes"
+    check_narrow(rt, pages, size);
+    let wide = sha512_of_four(pages, size);
+    check(
+        rt,
+        wide == sha512_of_each(pages, size),
+        "SHA-512, bytes",
+        size as u64,
     );
 }
 
 fn check_eight(rt: &impl Abort, pages: &[[u8; 4096]; 8], blocks: u8) {
     let size = 64 * usize::from(blocks.min(64));
-    assert!(rt;
-        sha256_of_eight(pages, size) == sha256_of_each(pages, size),
-        "{size} bytes"
+    let digests = sha256_of_eight(pages, size);
+    check(
+        rt,
+        digests == sha256_of_each(pages, size),
+        "eight, bytes",
+        size as u64,
     );
 }
 
@@ -242,11 +268,7 @@ fn fewer_blocks(rt: HostRuntime) {
 fn odd_blocks(rt: HostRuntime) {
     let pages = four_pages(9);
     for turn in 0..32u8 {
-        let size = 128 * usize::from(turn) + 64;
-        assert!(rt;
-            sha256_of_four(&pages, size) == sha256_of_each(&pages, size),
-            "{size} bytes"
-        );
+        check_narrow(&rt, &pages, 128 * usize::from(turn) + 64);
     }
 }
 

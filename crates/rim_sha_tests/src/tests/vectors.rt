@@ -1,5 +1,8 @@
 //! Messages of NIST's vectors for implementations of SHA-2 that are whole blocks, in each lane.
-use rim_sha::{sha256_eight, sha256_four, sha512_four};
+ghost use Rattle.std.specs.Prelude.{◌≤◌, length};
+
+use super::check;
+use super::pages::{sha256_of_eight, sha256_of_four, sha512_of_four};
 use std::process::Abort;
 
 /// SHA256ShortMsg, Len = 512.
@@ -34,32 +37,44 @@ const WIDE_DIGEST: [u8; 64] = [
     0x9d, 0x71, 0x0e, 0x02, 0x73, 0x87, 0xfc, 0x3e, 0x07, 0xd7, 0xc4, 0xd1, 0x4c, 0x60, 0x86, 0xcc,
 ];
 
-/// The message is in one lane, and another one in all others.
-fn check_lane(rt: &impl Abort, lane: usize) {
-    let mut messages = [[0; 64]; 8];
-    let mut wide_messages = [[0; 128]; 4];
-    messages[lane % 8] = MESSAGE;
-    wide_messages[lane % 4] = WIDE_MESSAGE;
-    let [a, b, c, d, e, f, g, h] = &messages;
-    let eight = sha256_eight(&[a, b, c, d, e, f, g, h], 64);
-    let four = if lane < 4 {
-        sha256_four(&[a, b, c, d], 64)
-    } else {
-        sha256_four(&[e, f, g, h], 64)
-    };
-    let [a, b, c, d] = &wide_messages;
-    let wide = sha512_four(&[a, b, c, d], 128);
-    assert!(rt; eight[lane % 8] == DIGEST, "lane {lane} of eight");
-    assert!(rt; four[lane % 4] == DIGEST, "lane {lane}, of four");
-    assert!(rt;
-        wide[lane % 4] == WIDE_DIGEST,
-        "lane {lane}, of four by SHA-512"
-    );
+/// A page that begins with a message, which alone is hashed.
+fn page_of(message: &[u8]) -> [u8; 4096]
+    requires { length message.now ≤ 4096 }
+{
+    let mut page = [0; 4096];
+    page[..message.len()].copy_from_slice(message);
+    page
+}
+
+/// The message is in one of eight lanes, and another one in all others.
+fn check_eight(rt: &impl Abort, lane: usize) {
+    let mut pages = [[0; 4096]; 8];
+    pages[lane % 8] = page_of(&MESSAGE);
+    let digests = sha256_of_eight(&pages, 64);
+    check(rt, digests[lane % 8] == DIGEST, "lane", lane as u64);
+}
+
+/// The same of four lanes.
+fn check_four(rt: &impl Abort, lane: usize) {
+    let mut pages = [[0; 4096]; 4];
+    pages[lane % 4] = page_of(&MESSAGE);
+    let digests = sha256_of_four(&pages, 64);
+    check(rt, digests[lane % 4] == DIGEST, "lane", lane as u64);
+}
+
+/// The same of SHA-512.
+fn check_wide(rt: &impl Abort, lane: usize) {
+    let mut pages = [[0; 4096]; 4];
+    pages[lane % 4] = page_of(&WIDE_MESSAGE);
+    let digests = sha512_of_four(&pages, 128);
+    check(rt, digests[lane % 4] == WIDE_DIGEST, "lane", lane as u64);
 }
 
 #[test]
 fn vectors_of_nist(rt: HostRuntime) {
     for lane in 0..8usize {
-        check_lane(&rt, lane);
+        check_eight(&rt, lane);
+        check_four(&rt, lane);
+        check_wide(&rt, lane);
     }
 }
