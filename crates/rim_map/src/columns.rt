@@ -28,13 +28,8 @@ impl Lines {
     }
 
     /// Adds a line and a line feed.
-    #[tactic(auto, using(crate::proofs::LastLine::ends_lines))]
     pub(crate) fn push(&mut self, line: &Line) -> Result<(), NoMemory> {
-        let bytes = line.as_slice();
-        self.text.reserve(bytes.len() + 1)?;
-        self.text.extend_from_slice(bytes)?;
-        self.text.push_reserved(b'\n');
-        Ok(())
+        push_whole(&mut self.text, line.as_slice())
     }
 
     /// Its bytes.
@@ -42,6 +37,25 @@ impl Lines {
         ensures { are_lines result.items ≡ true }
     {
         self.text
+    }
+}
+
+/// Adds bytes and a line feed to whole lines: both of them, or nothing.
+#[tactic(auto, using(crate::proofs::LastLine::ends_lines))]
+fn push_whole(text: &mut Vec<u8>, line: &[u8]) -> Result<(), NoMemory>
+    ensures { are_lines text.old.items ≡ true → are_lines text.new.items ≡ true }
+{
+    text.reserve(line.len() + 1)?;
+    text.extend_from_slice(line)?;
+    text.push_reserved(b'\n');
+    Ok(())
+}
+
+/// What came of writing to a line: that fails by want of memory alone.
+pub(crate) fn written(done: fmt::Result) -> Result<(), NoMemory> {
+    match done {
+        Ok(()) => Ok(()),
+        Err(_) => Err(NoMemory),
     }
 }
 
@@ -77,18 +91,32 @@ fn push_shown(
 ) -> Result<(), AllocError> {
     let mut whole = Line::new(alloc);
     let mut front = Line::new(alloc);
+    if push_both(&mut whole, &mut front, text, room, is_quoted)? {
+        return line.append(&whole);
+    }
+    line.append(&front)?;
+    line.push_text("..")
+}
+
+/// Adds the characters of a text to one line, and to another one those that have room beside `..`; and whether all have room.
+fn push_both(
+    whole: &mut Line,
+    front: &mut Line,
+    text: &str,
+    room: usize,
+    is_quoted: bool,
+) -> Result<bool, AllocError> {
     for c in text.chars() {
-        push_char(&mut whole, c, is_quoted)?;
+        push_char(whole, c, is_quoted)?;
         let len = whole.as_slice().len();
         if len > room {
-            line.append(&front)?;
-            return line.push_text("..");
+            return Ok(false);
         }
         if room - len >= 2 {
-            push_char(&mut front, c, is_quoted)?;
+            push_char(front, c, is_quoted)?;
         }
     }
-    line.append(&whole)
+    Ok(true)
 }
 
 /// Adds a character of a text.
@@ -96,6 +124,11 @@ fn push_char(line: &mut Line, c: char, is_quoted: bool) -> Result<(), AllocError
     if c == '\\' || (c == '"' && is_quoted) {
         line.push_text("\\")?;
     }
+    push_as_is(line, c)
+}
+
+/// Adds a character without a `\` before it.
+fn push_as_is(line: &mut Line, c: char) -> Result<(), AllocError> {
     let mut bytes = [0; 4];
     line.push_text(c.encode_utf8(&mut bytes))
 }

@@ -13,7 +13,7 @@ use rim_chain::{LaunchPlan, Link};
 use std::alloc::Global;
 
 /// How many parts extend a measurement, by what they are. The first part, the realm, sets it.
-#[derive(Clone, Copy, Debug, PartialEq, Eq)]
+#[derive(Clone, Copy)]
 pub struct Extensions {
     /// Pages with their contents.
     pub pages: u64,

@@ -14,7 +14,7 @@ use std::alloc::Global;
 const ANY_CONTENT: Measurement = Measurement { bytes: [0; 64] };
 
 /// How many granules some commands take from the pool, by what they become. Each is delegated before.
-#[derive(Clone, Copy, Debug, PartialEq, Eq)]
+#[derive(Clone, Copy)]
 pub struct Granules {
     /// Auxiliary granules of RECs.
     pub auxiliary: u64,

@@ -1,11 +1,12 @@
 //! The map of a launch as JSON.
-ghost use Rattle.std.specs.Prelude.{◌≡◌, ◌++◌, IfOk, codes, false, map};
+ghost use Rattle.std.specs.Prelude.{◌≡◌, ◌++◌, IfOk, OnOk, codes, false, map};
 ghost use Rattle.std.specs.Str.Lossy.{utf8_lossy};
-ghost use Rattle.serde_json.specs.Data.{string};
-ghost use Rattle.serde_json.specs.View.{view};
+ghost use Rattle.serde_json.specs.Data.{put as with_member, string};
+ghost use Rattle.serde_json.specs.View.{members_view, view};
 ghost use Rattle.serde_json.specs.Written.{compact_text, has_float};
 ghost use Rattle.ipa_layout.specs.Files.{bytes_of_files};
-ghost use Rattle.rim_map.specs.MapJson.{IsMap, map_data};
+ghost use Rattle.rim_map.specs.MapJson.{IsMap, count, extensions_json, granules_json, launch_json, map_data};
+ghost use Rattle.rim_map.specs.inside.Shared.{with_space};
 ghost use Rattle.rim_map.specs.inside.Spaces.{AreTexts, IsSpace, seen_space};
 
 use crate::extensions::{Extensions, count_extensions};
@@ -13,14 +14,15 @@ use crate::granules::{Granules, count_granules};
 use crate::json_parts::{
     extensions_value, granules_value, item_values, launch_value, region_values, stretch_values,
 };
+use crate::members::{Members, put_count, put_values};
 use crate::rows::{Row, item_rows};
 use crate::stretches::{between, taken};
 use crate::warnings::warnings;
 use refusal::NoMemory;
 use rim_accepted::AcceptedLaunch;
-use rim_launch::Launch;
+use rim_launch::{Config, Launch};
 use rim_line::{ItemNames, Line, Readable};
-use serde_json::{Value, json};
+use serde_json::{Map, Value, json, put};
 use std::alloc::{AllocError, Global};
 
 /// The map of a launch that is accepted, by its name: one JSON object without spaces, and a line feed. Its members are `extensions`,
@@ -41,12 +43,11 @@ pub fn map_json(
         readable,
         launch: launch.number(),
     };
-    let rows = item_rows(alloc, launch, accepted.files, &accepted.placed)?;
-    let space = placed_space(alloc, names, launch, &rows)?;
     let granules = count_granules(alloc, accepted)?;
     let extensions = count_extensions(alloc, accepted)?;
-    let lines = warnings(alloc, names, name, accepted)?;
-    let warnings = line_values(alloc, &lines)?;
+    let warnings = warning_values(alloc, names, name, accepted)?;
+    let rows = item_rows(alloc, launch, accepted.files, &accepted.placed)?;
+    let space = placed_space(alloc, names, launch, &rows)?;
     let value = map_value(alloc, name, launch, space, &granules, &extensions, warnings)?;
     text(alloc, &value)
 }
@@ -102,24 +103,80 @@ fn map_value(
     ensures { IfOk result (λ v. view v ≡ map_data name.now launch.now (seen_space space)
         granules.now extensions.now (map view warnings.items)) }
 {
-    let extensions = extensions_value(alloc, extensions)?;
-    let granules = granules_value(alloc, &launch.config(), granules)?;
-    let launch = launch_value(alloc, name, launch)?;
+    let mut members = Map::new(alloc);
+    put_values(alloc, &mut members, "warnings", warnings)?;
+    put_space(alloc, &mut members, space)?;
+    put_counts(alloc, &mut members, &launch.config(), granules, extensions)?;
+    put_head(alloc, &mut members, name, launch)?;
+    Ok(Value::Object(members))
+}
+
+/// Adds an address space.
+pub(crate) fn put_space(
+    alloc: Global,
+    members: &mut Members,
+    space: Space,
+) -> Result<(), AllocError>
+    ensures { OnOk result (members_view members.new.entries
+        ≡ with_space (seen_space space) (members_view members.old.entries)) }
+{
     let Space {
         gaps,
         items,
         regions,
     } = space;
-    json!(in alloc; {
-        "extensions": extensions,
-        "gaps": gaps,
-        "granules": granules,
-        "items": items,
-        "launch": launch,
-        "regions": regions,
-        "version": 1u64,
-        "warnings": warnings,
-    })
+    put_values(alloc, members, "gaps", gaps)?;
+    put_values(alloc, members, "items", items)?;
+    put_values(alloc, members, "regions", regions)
+}
+
+/// Adds granules and extensions.
+fn put_counts(
+    alloc: Global,
+    members: &mut Members,
+    config: &Config,
+    granules: &Granules,
+    extensions: &Extensions,
+) -> Result<(), AllocError>
+    ensures { OnOk result (members_view members.new.entries
+        ≡ with_member (codes "extensions") (extensions_json extensions.now)
+        (with_member (codes "granules") (granules_json config.now granules.now)
+        (members_view members.old.entries))) }
+{
+    let granules = granules_value(alloc, config, granules)?;
+    put(members, alloc, "granules", granules)?;
+    let extensions = extensions_value(alloc, extensions)?;
+    put(members, alloc, "extensions", extensions)
+}
+
+/// Adds what a launch is, and the version of the map.
+pub(crate) fn put_head(
+    alloc: Global,
+    members: &mut Members,
+    name: &str,
+    launch: &Launch,
+) -> Result<(), AllocError>
+    ensures { OnOk result (members_view members.new.entries
+        ≡ with_member (codes "version") (count 1)
+        (with_member (codes "launch") (launch_json name.now launch.now)
+        (members_view members.old.entries))) }
+{
+    let value = launch_value(alloc, name, launch)?;
+    put(members, alloc, "launch", value)?;
+    put_count(alloc, members, "version", 1)
+}
+
+/// The line of each warning of a launch as a text.
+fn warning_values(
+    alloc: Global,
+    names: ItemNames<'_>,
+    name: &str,
+    accepted: &AcceptedLaunch<'_>,
+) -> Result<Vec<Value>, NoMemory>
+    ensures { IfOk result (λ values. AreTexts (map view values.items)) }
+{
+    let lines = warnings(alloc, names, name, accepted)?;
+    Ok(line_values(alloc, &lines)?)
 }
 
 /// Lines as texts.

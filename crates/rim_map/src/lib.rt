@@ -8,6 +8,7 @@ mod granules;
 mod json;
 mod json_parts;
 mod laws;
+mod members;
 mod numbers;
 mod picture;
 mod refused;

@@ -1,12 +1,12 @@
 //! The address space of a launch in lines: its RAM, the items in it, and the addresses of none. What it says of the launch is tested alone.
-use crate::columns::{Lines, Size, push_name, push_path, room_after};
+use crate::columns::{Lines, Size, push_name, push_path, room_after, written};
 use crate::files::{kind_word, path_of};
 use crate::rows::Row;
 use crate::stretches::Stretch;
 use refusal::NoMemory;
 use rim_launch::{Item, Launch, Region};
 use rim_line::{ItemNames, Line};
-use std::alloc::Global;
+use std::alloc::{AllocError, Global};
 use std::fmt;
 use std::fmt::Write;
 
@@ -25,28 +25,66 @@ pub(crate) fn push_space(
     rows: &[Row],
 ) -> Result<(), NoMemory> {
     let rising = rising_rows(alloc, rows)?;
+    push_regions(alloc, text, shown, &rising)?;
+    push_outside(alloc, text, shown, &rising)
+}
+
+/// Adds the lines of the RAM of a launch, rising, with the items in it.
+fn push_regions(
+    alloc: Global,
+    text: &mut Lines,
+    shown: Shown<'_>,
+    rising: &[Row],
+) -> Result<(), NoMemory> {
+    let regions = rising_regions(alloc, shown.launch)?;
     let mut before = None;
-    for region in &rising_regions(alloc, shown.launch)? {
-        before = push_between(alloc, text, before, region)?;
-        push_region(alloc, text, region)?;
-        push_inside(alloc, text, shown, region, &rising)?;
+    for region in &regions {
+        before = push_next(alloc, text, before, region)?;
+        push_inside(alloc, text, shown, region, rising)?;
     }
-    for row in &rising {
-        if !shown.launch.ram().iter().any(|region| meets(region, row)) {
+    Ok(())
+}
+
+/// Adds the items that are in no region.
+fn push_outside(
+    alloc: Global,
+    text: &mut Lines,
+    shown: Shown<'_>,
+    rising: &[Row],
+) -> Result<(), NoMemory> {
+    for row in rising {
+        if !is_in_ram(shown.launch, row) {
             push_row(alloc, text, shown, row)?;
         }
     }
     Ok(())
 }
 
+/// Whether an item is in some region.
+fn is_in_ram(launch: &Launch, row: &Row) -> bool {
+    launch.ram().iter().any(|region| meets(region, row))
+}
+
 /// Adds the lines of the RAM of a launch, rising.
 pub(crate) fn push_ram(alloc: Global, text: &mut Lines, launch: &Launch) -> Result<(), NoMemory> {
+    let regions = rising_regions(alloc, launch)?;
     let mut before = None;
-    for region in &rising_regions(alloc, launch)? {
-        before = push_between(alloc, text, before, region)?;
-        push_region(alloc, text, region)?;
+    for region in &regions {
+        before = push_next(alloc, text, before, region)?;
     }
     Ok(())
+}
+
+/// Adds a region, after the addresses between it and those before it. It answers where all end.
+fn push_next(
+    alloc: Global,
+    text: &mut Lines,
+    before: Option<u64>,
+    region: &Region,
+) -> Result<Option<u64>, NoMemory> {
+    let end = push_between(alloc, text, before, region)?;
+    push_region(alloc, text, region)?;
+    Ok(end)
 }
 
 /// The rows by the addresses of their pages.
@@ -99,7 +137,7 @@ fn push_stretch(
     let Stretch { base, end } = stretch;
     let size = Size(end.saturating_sub(base));
     let mut line = Line::new(alloc);
-    write!(line, "{what} {base:#x} to {end:#x}: {size}").map_err(|_| NoMemory)?;
+    written(write!(line, "{what} {base:#x} to {end:#x}: {size}"))?;
     text.push(&line)
 }
 
@@ -120,14 +158,25 @@ fn push_inside(
     let mut at = region.base;
     for row in rising.iter().filter(|row| meets(region, row)) {
         push_no_item(alloc, text, at, row.base)?;
-        if row.base < region.base {
-            push_rest(alloc, text, shown, row)?;
-        } else {
-            push_row(alloc, text, shown, row)?;
-        }
+        push_part(alloc, text, shown, region, row)?;
         at = at.max(row.top);
     }
     push_no_item(alloc, text, at, region.end)
+}
+
+/// Adds an item that is in a region: its lines, or that its rest is here where it began in a region before.
+fn push_part(
+    alloc: Global,
+    text: &mut Lines,
+    shown: Shown<'_>,
+    region: &Region,
+    row: &Row,
+) -> Result<(), NoMemory> {
+    if row.base < region.base {
+        push_rest(alloc, text, shown, row)
+    } else {
+        push_row(alloc, text, shown, row)
+    }
 }
 
 /// Adds the addresses of no item from one on and below another, if there are any.
@@ -142,10 +191,20 @@ fn push_no_item(alloc: Global, text: &mut Lines, base: u64, end: u64) -> Result<
 fn push_rest(alloc: Global, text: &mut Lines, shown: Shown<'_>, row: &Row) -> Result<(), NoMemory> {
     let top = row.top;
     let mut line = Line::new(alloc);
-    write!(line, "  to {top:#x} the pages of ").map_err(|_| NoMemory)?;
-    let room = room_after(&line);
-    push_name(alloc, &mut line, shown.names.name(row.number), room)?;
-    text.push(&line)
+    written(write!(line, "  to {top:#x} the pages of "))?;
+    push_named(alloc, text, &mut line, shown.names.name(row.number))
+}
+
+/// Adds a line with a name at its end, as far as that has room.
+fn push_named(
+    alloc: Global,
+    text: &mut Lines,
+    line: &mut Line,
+    name: &str,
+) -> Result<(), NoMemory> {
+    let room = room_after(line);
+    push_name(alloc, line, name, room)?;
+    text.push(line)
 }
 
 /// Adds the two lines of an item.
@@ -153,17 +212,37 @@ fn push_row(alloc: Global, text: &mut Lines, shown: Shown<'_>, row: &Row) -> Res
     let Some(item) = shown.launch.items().get(row.number) else {
         return Ok(());
     };
+    push_bytes(alloc, text, shown.names, item, row)?;
+    push_numbers(alloc, text, shown.names, item, row)
+}
+
+/// Adds the line that says at which addresses the bytes of an item are.
+fn push_bytes(
+    alloc: Global,
+    text: &mut Lines,
+    names: ItemNames<'_>,
+    item: &Item,
+    row: &Row,
+) -> Result<(), NoMemory> {
     let kind = kind_word(item.kind.role());
     let address = row.item.address;
     let end = row.end;
     let mut line = Line::new(alloc);
-    write!(line, "  {address:#x} to {end:#x} {kind} ").map_err(|_| NoMemory)?;
-    let room = room_after(&line);
-    push_name(alloc, &mut line, shown.names.name(row.number), room)?;
-    text.push(&line)?;
+    written(write!(line, "  {address:#x} to {end:#x} {kind} "))?;
+    push_named(alloc, text, &mut line, names.name(row.number))
+}
+
+/// Adds the line that says how large an item is, and where its bytes come from.
+fn push_numbers(
+    alloc: Global,
+    text: &mut Lines,
+    names: ItemNames<'_>,
+    item: &Item,
+    row: &Row,
+) -> Result<(), NoMemory> {
     let mut rest = Line::new(alloc);
-    write_numbers(&mut rest, item, row).map_err(|_| NoMemory)?;
-    push_source(alloc, text, shown.names, item, &rest)
+    written(write_numbers(&mut rest, item, row))?;
+    push_source(alloc, text, names, item, &rest)
 }
 
 /// How many bytes and pages an item has, and what is measured of it.
@@ -171,14 +250,18 @@ fn write_numbers(line: &mut Line, item: &Item, row: &Row) -> fmt::Result {
     let bytes = row.bytes;
     let pages = row.item.pages;
     let lead = row.item.lead;
-    let ending = if bytes == 1 { "" } else { "s" };
-    write!(line, "{bytes} byte{ending}, ")?;
-    let ending = if pages == 1 { "" } else { "s" };
-    write!(line, "{pages} page{ending}")?;
+    let byte_ending = ending_of(bytes);
+    let page_ending = ending_of(pages);
+    write!(line, "{bytes} byte{byte_ending}, {pages} page{page_ending}")?;
     if lead > 0 {
         write!(line, ", lead {lead}")?;
     }
     line.write_str(measured_words(item))
+}
+
+/// How a word ends that says of what there are this many.
+fn ending_of(count: u64) -> &'static str {
+    if count == 1 { "" } else { "s" }
 }
 
 /// What is measured of an item.
@@ -199,6 +282,17 @@ fn push_source(
     rest: &Line,
 ) -> Result<(), NoMemory> {
     let mut line = Line::new(alloc);
+    write_source(alloc, &mut line, names, item, rest)?;
+    text.push(&line)
+}
+
+fn write_source(
+    alloc: Global,
+    line: &mut Line,
+    names: ItemNames<'_>,
+    item: &Item,
+    rest: &Line,
+) -> Result<(), AllocError> {
     line.push_text("    ")?;
     if let Some(path) = path_of(names.readable.release(), item) {
         let words = if item.kind.has_edits() {
@@ -206,13 +300,24 @@ fn push_source(
         } else {
             ": "
         };
-        let others = rest.as_slice().len() + words.len();
-        let room = room_after(&line).saturating_sub(others);
-        push_path(alloc, &mut line, path, room)?;
-        line.push_text(words)?;
+        write_path(alloc, line, path, words, rest.as_slice().len())?;
     }
-    line.append(rest)?;
-    text.push(&line)
+    line.append(rest)
+}
+
+/// Adds the path of an item and words after it, in a line with this many more bytes.
+fn write_path(
+    alloc: Global,
+    line: &mut Line,
+    path: &str,
+    words: &str,
+    more: usize,
+) -> Result<(), AllocError> {
+    let room = room_after(line)
+        .saturating_sub(more)
+        .saturating_sub(words.len());
+    push_path(alloc, line, path, room)?;
+    line.push_text(words)
 }
 
 /// Adds the items as the manifest states them, by their addresses there.
@@ -221,40 +326,75 @@ pub(crate) fn push_stated(
     text: &mut Lines,
     shown: Shown<'_>,
 ) -> Result<(), NoMemory> {
-    let mut rising = Vec::new(alloc);
-    for (number, item) in shown.launch.items().iter().enumerate() {
-        rising.push((item.at, number))?;
-    }
-    rising.sort_by_key(|place| place.0)?;
+    let rising = rising_stated(alloc, shown.launch)?;
     for (_, number) in &rising {
         if let Some(item) = shown.launch.items().get(*number) {
-            push_item(alloc, text, shown, *number, item)?;
+            push_item(alloc, text, shown.names, *number, item)?;
         }
     }
     Ok(())
+}
+
+/// The addresses and numbers of the items, by the addresses that the manifest states.
+fn rising_stated(alloc: Global, launch: &Launch) -> Result<Vec<(u64, usize)>, NoMemory> {
+    let mut rising = stated_places(alloc, launch)?;
+    rising.sort_by_key(|place| place.0)?;
+    Ok(rising)
+}
+
+/// The addresses and numbers of the items, in the launch's order.
+fn stated_places(alloc: Global, launch: &Launch) -> Result<Vec<(u64, usize)>, AllocError> {
+    let mut places = Vec::new(alloc);
+    for (number, item) in launch.items().iter().enumerate() {
+        places.push((item.at, number))?;
+    }
+    Ok(places)
 }
 
 /// Adds the two lines of an item as the manifest states it.
 fn push_item(
     alloc: Global,
     text: &mut Lines,
-    shown: Shown<'_>,
+    names: ItemNames<'_>,
+    number: usize,
+    item: &Item,
+) -> Result<(), NoMemory> {
+    push_address(alloc, text, names, number, item)?;
+    push_size(alloc, text, names, item)
+}
+
+/// Adds the line that says at which address an item is stated.
+fn push_address(
+    alloc: Global,
+    text: &mut Lines,
+    names: ItemNames<'_>,
     number: usize,
     item: &Item,
 ) -> Result<(), NoMemory> {
     let kind = kind_word(item.kind.role());
     let at = item.at;
     let mut line = Line::new(alloc);
-    write!(line, "  at {at:#x} {kind} ").map_err(|_| NoMemory)?;
-    let room = room_after(&line);
-    push_name(alloc, &mut line, shown.names.name(number), room)?;
-    text.push(&line)?;
+    written(write!(line, "  at {at:#x} {kind} "))?;
+    push_named(alloc, text, &mut line, names.name(number))
+}
+
+/// Adds the line that says which size is stated of an item, and where its bytes come from.
+fn push_size(
+    alloc: Global,
+    text: &mut Lines,
+    names: ItemNames<'_>,
+    item: &Item,
+) -> Result<(), NoMemory> {
     let mut rest = Line::new(alloc);
+    written(write_size(&mut rest, item))?;
+    push_source(alloc, text, names, item, &rest)
+}
+
+/// How many bytes of an item are stated, and what is measured of it.
+fn write_size(line: &mut Line, item: &Item) -> fmt::Result {
     match item.size {
-        Some(size) => write!(rest, "size {size}"),
-        None => rest.write_str("all of its bytes"),
+        Some(size) => write!(line, "size {size}")?,
+        None => line.write_str("all of its bytes")?,
     }
-    .map_err(|_| NoMemory)?;
-    rest.push_text(measured_words(item))?;
-    push_source(alloc, text, shown.names, item, &rest)
+    line.write_str(measured_words(item))
 }

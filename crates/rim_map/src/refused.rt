@@ -1,8 +1,9 @@
 //! The map of a launch that is refused, as far as it goes: the items at their places where its list is refused, and as the manifest
 //! states them where it cannot be laid out. What its lines show before the last one is tested alone.
-ghost use Rattle.std.specs.Prelude.{◌≡◌, ◌++◌, ℕ, List, IfOk, Ok, codes, length, map, true};
+ghost use Rattle.std.specs.Prelude.{◌≡◌, ◌++◌, ℕ, List, IfOk, Ok, OnOk, codes, length, map, true};
 ghost use Rattle.std.specs.Str.Lossy.{utf8_lossy};
-ghost use Rattle.serde_json.specs.View.{view};
+ghost use Rattle.serde_json.specs.Data.{put as with_member, string};
+ghost use Rattle.serde_json.specs.View.{members_view, view};
 ghost use Rattle.ipa_layout.specs.Files.{bytes_of_files};
 ghost use Rattle.ipa_layout.specs.Layout.{PlacedData, places};
 ghost use Rattle.rim_accepted.specs.AuditFaults.{audit_kind_of};
@@ -14,9 +15,9 @@ ghost use Rattle.rim_map.specs.Rows.{rows_of};
 ghost use Rattle.rim_map.specs.inside.Spaces.{IsStated, seen_space};
 
 use crate::columns::Lines;
-use crate::files::{kind_word, path_of};
-use crate::json::{Space, placed_space, text, text_value};
-use crate::json_parts::{launch_value, path_value, region_values, stretch_values};
+use crate::json::{Space, placed_space, put_head, put_space, text, text_value};
+use crate::json_parts::{put_item, region_values, stretch_values};
+use crate::members::{Members, put_count, put_text};
 use crate::picture::{Shown, push_ram, push_space, push_stated};
 use crate::rows::{Row, item_rows};
 use crate::stretches::between;
@@ -26,7 +27,7 @@ use refusal::NoMemory;
 use rim_accepted::LaunchReason;
 use rim_launch::{Item, Launch};
 use rim_line::{ItemNames, Readable};
-use serde_json::{Value, json};
+use serde_json::{Map, Value, put};
 use std::alloc::{AllocError, Global};
 
 /// A launch that is refused, with its name, the files of its release, why it is refused, and the line that says so, with its line
@@ -176,17 +177,11 @@ fn stated_value(
     ensures { IfOk result (λ v. view v ≡ stated_item_json (names_of names.entry)
         names.entry.readable.now.release.paths number item.now) }
 {
-    let file = path_value(alloc, path_of(names.readable.release(), item))?;
+    let mut members = Map::new(alloc);
+    put_item(alloc, &mut members, names, item, number, item.measured)?;
     let stated = stated_place(alloc, item)?;
-    let is_edited = item.kind.has_edits();
-    json!(in alloc; {
-        "edited": is_edited,
-        "file": file,
-        "kind": kind_word(item.kind.role()),
-        "measured": item.measured,
-        "name": names.name(number),
-        "stated": stated,
-    })
+    put(&mut members, alloc, "stated", stated)?;
+    Ok(Value::Object(members))
 }
 
 /// Where the manifest asks for an item, and how large it says that it is.
@@ -194,8 +189,10 @@ fn stated_value(
 fn stated_place(alloc: Global, item: &Item) -> Result<Value, AllocError>
     ensures { IfOk result (λ v. view v ≡ stated_json item.now) }
 {
-    let size = size_value(item.size);
-    json!(in alloc; {"at": item.at, "size": size})
+    let mut members = Map::new(alloc);
+    put_count(alloc, &mut members, "at", item.at)?;
+    put(&mut members, alloc, "size", size_value(item.size))?;
+    Ok(Value::Object(members))
 }
 
 /// A size, or null where none is stated.
@@ -219,22 +216,29 @@ fn refused_value(
         → view v ≡ refused_data refused.now.name.now refused.now.launch.now (seen_space space)
         (utf8_lossy line) (audit_kind_of (audit_fault_of refused.now.reason.now))) }
 {
-    let launch = launch_value(alloc, refused.name, refused.launch)?;
+    let mut members = Map::new(alloc);
+    put_space(alloc, &mut members, space)?;
+    put_head(alloc, &mut members, refused.name, refused.launch)?;
+    put_refusal(alloc, &mut members, refused)?;
+    Ok(Value::Object(members))
+}
+
+/// Adds the line that says why a launch is refused, and the word in it.
+fn put_refusal(
+    alloc: Global,
+    members: &mut Members,
+    refused: &RefusedLaunch<'_>,
+) -> Result<(), AllocError>
+    ensures { OnOk result ((line : List ℕ) → refused.now.line.now ≡ line ++ codes "\n"
+        → members_view members.new.entries
+        ≡ with_member (codes "refused")
+        (string (audit_kind_of (audit_fault_of refused.now.reason.now)))
+        (with_member (codes "refusal") (string (utf8_lossy line))
+        (members_view members.old.entries))) }
+{
     let refusal = text_value(alloc, without_feed(refused.line))?;
-    let Space {
-        gaps,
-        items,
-        regions,
-    } = space;
-    json!(in alloc; {
-        "gaps": gaps,
-        "items": items,
-        "launch": launch,
-        "refusal": refusal,
-        "refused": refused.reason.fault().kind(),
-        "regions": regions,
-        "version": 1u64,
-    })
+    put(members, alloc, "refusal", refusal)?;
+    put_text(alloc, members, "refused", refused.reason.fault().kind())
 }
 
 /// A line without the line feed at its end, if it has one.

@@ -11,7 +11,7 @@ use rim_launch::{Item, Launch};
 use std::alloc::Global;
 
 /// An item that has its place.
-#[derive(Clone, Copy, Debug, PartialEq, Eq)]
+#[derive(Clone, Copy)]
 pub struct Row {
     /// Its number in the launch.
     pub number: usize,

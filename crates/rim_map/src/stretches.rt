@@ -7,7 +7,7 @@ use rim_launch::Region;
 use std::alloc::{AllocError, Global};
 
 /// The addresses from `base` on and below `end`, in bytes.
-#[derive(Clone, Copy, Debug, PartialEq, Eq)]
+#[derive(Clone, Copy)]
 pub struct Stretch {
     pub base: u64,
     pub end: u64,

@@ -1,5 +1,5 @@
 //! The map of a launch as lines. That they show the launch is tested alone; the counts in them are proved where they are made.
-use crate::columns::{COLUMNS, Lines, push_name};
+use crate::columns::{COLUMNS, Lines, push_name, written};
 use crate::extensions::{Extensions, count_extensions};
 use crate::granules::{Granules, count_granules};
 use crate::picture::{Shown, push_space};
@@ -7,9 +7,10 @@ use crate::rows::item_rows;
 use crate::warnings::push_warnings;
 use refusal::NoMemory;
 use rim_accepted::AcceptedLaunch;
+use rim_desc::RecRule;
 use rim_launch::{Config, Launch};
 use rim_line::{ItemNames, Line, Readable};
-use std::alloc::Global;
+use std::alloc::{AllocError, Global};
 use std::fmt;
 use std::fmt::Write;
 
@@ -29,19 +30,46 @@ pub fn map_text(
         readable,
         launch: launch.number(),
     };
-    let rows = item_rows(alloc, launch, accepted.files, &accepted.placed)?;
     let mut text = Lines::new(alloc);
-    push_head(alloc, &mut text, name, launch)?;
-    push_space(alloc, &mut text, Shown { names, launch }, &rows)?;
-    push_granules(
-        alloc,
-        &mut text,
-        &launch.config(),
-        &count_granules(alloc, accepted)?,
-    )?;
-    push_extensions(alloc, &mut text, &count_extensions(alloc, accepted)?)?;
-    push_warnings(alloc, &mut text, names, name, accepted)?;
+    push_map(alloc, &mut text, names, name, accepted)?;
     Ok(text.into_bytes())
+}
+
+/// Adds the lines of the map.
+fn push_map(
+    alloc: Global,
+    text: &mut Lines,
+    names: ItemNames<'_>,
+    name: &str,
+    accepted: &AcceptedLaunch<'_>,
+) -> Result<(), NoMemory> {
+    push_head(alloc, text, name, accepted.launch)?;
+    push_placed(alloc, text, names, accepted)?;
+    push_counts(alloc, text, accepted)?;
+    push_warnings(alloc, text, names, name, accepted)
+}
+
+/// Adds the address space of a launch.
+fn push_placed(
+    alloc: Global,
+    text: &mut Lines,
+    names: ItemNames<'_>,
+    accepted: &AcceptedLaunch<'_>,
+) -> Result<(), NoMemory> {
+    let launch = accepted.launch;
+    let rows = item_rows(alloc, launch, accepted.files, &accepted.placed)?;
+    push_space(alloc, text, Shown { names, launch }, &rows)
+}
+
+/// Adds the lines of granules and of extensions.
+fn push_counts(
+    alloc: Global,
+    text: &mut Lines,
+    accepted: &AcceptedLaunch<'_>,
+) -> Result<(), NoMemory> {
+    let granules = count_granules(alloc, accepted)?;
+    push_granules(alloc, text, &accepted.launch.config(), &granules)?;
+    push_extensions(alloc, text, &count_extensions(alloc, accepted)?)
 }
 
 /// Adds the line that says what a launch is.
@@ -52,13 +80,22 @@ pub(crate) fn push_head(
     launch: &Launch,
 ) -> Result<(), NoMemory> {
     let mut rest = Line::new(alloc);
-    write_config(&mut rest, &launch.config(), launch.recs().len()).map_err(|_| NoMemory)?;
+    written(write_config(&mut rest, &launch.config(), launch.recs().len()))?;
+    push_front(alloc, text, name, &rest)
+}
+
+/// Adds that line, which ends so after the launch's name.
+fn push_front(alloc: Global, text: &mut Lines, name: &str, rest: &Line) -> Result<(), NoMemory> {
     let mut line = Line::new(alloc);
+    write_front(alloc, &mut line, name, rest)?;
+    text.push(&line)
+}
+
+fn write_front(alloc: Global, line: &mut Line, name: &str, rest: &Line) -> Result<(), AllocError> {
     line.push_text("launch ")?;
     let others = line.as_slice().len() + rest.as_slice().len();
-    push_name(alloc, &mut line, name, COLUMNS.saturating_sub(others))?;
-    line.append(&rest)?;
-    text.push(&line)
+    push_name(alloc, line, name, COLUMNS.saturating_sub(others))?;
+    line.append(rest)
 }
 
 /// What a launch is, after its name.
@@ -71,7 +108,12 @@ fn write_config(line: &mut Line, config: &Config, recs: usize) -> fmt::Result {
     if level != DEFAULT_LEVEL {
         write!(line, ", block_level {level}")?;
     }
-    match config.rec_rule {
+    write_rule(line, config.rec_rule)
+}
+
+/// The rule for RECs, if there is one.
+fn write_rule(line: &mut Line, rule: Option<RecRule>) -> fmt::Result {
+    match rule {
         Some(rule) => {
             let word = rule.word();
             write!(line, ", rec_rule {word}")
@@ -87,14 +129,34 @@ fn push_granules(
     config: &Config,
     granules: &Granules,
 ) -> Result<(), NoMemory> {
+    push_pool(alloc, text, config, granules)?;
+    push_tables(alloc, text, granules)?;
+    push_others(alloc, text, granules)
+}
+
+/// Adds the line of the pool.
+fn push_pool(
+    alloc: Global,
+    text: &mut Lines,
+    config: &Config,
+    granules: &Granules,
+) -> Result<(), NoMemory> {
     let mut line = Line::new(alloc);
-    write_pool(&mut line, config, granules).map_err(|_| NoMemory)?;
-    text.push(&line)?;
+    written(write_pool(&mut line, config, granules))?;
+    text.push(&line)
+}
+
+/// Adds the line of tables.
+fn push_tables(alloc: Global, text: &mut Lines, granules: &Granules) -> Result<(), NoMemory> {
     let mut line = Line::new(alloc);
-    write_tables(&mut line, granules).map_err(|_| NoMemory)?;
-    text.push(&line)?;
+    written(write_tables(&mut line, granules))?;
+    text.push(&line)
+}
+
+/// Adds the line of the others.
+fn push_others(alloc: Global, text: &mut Lines, granules: &Granules) -> Result<(), NoMemory> {
     let mut line = Line::new(alloc);
-    write_others(&mut line, granules).map_err(|_| NoMemory)?;
+    written(write_others(&mut line, granules))?;
     text.push(&line)
 }
 
@@ -137,11 +199,21 @@ fn push_extensions(
     text: &mut Lines,
     extensions: &Extensions,
 ) -> Result<(), NoMemory> {
+    push_total(alloc, text, extensions)?;
+    push_kinds(alloc, text, extensions)
+}
+
+/// Adds the line of all extensions.
+fn push_total(alloc: Global, text: &mut Lines, extensions: &Extensions) -> Result<(), NoMemory> {
     let mut line = Line::new(alloc);
-    write_total(&mut line, extensions).map_err(|_| NoMemory)?;
-    text.push(&line)?;
+    written(write_total(&mut line, extensions))?;
+    text.push(&line)
+}
+
+/// Adds the line of each kind.
+fn push_kinds(alloc: Global, text: &mut Lines, extensions: &Extensions) -> Result<(), NoMemory> {
     let mut line = Line::new(alloc);
-    write_kinds(&mut line, extensions).map_err(|_| NoMemory)?;
+    written(write_kinds(&mut line, extensions))?;
     text.push(&line)
 }
 

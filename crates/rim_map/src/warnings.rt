@@ -1,5 +1,5 @@
 //! The warnings of a launch, as `rim check` says them.
-use crate::columns::Lines;
+use crate::columns::{Lines, written};
 use refusal::NoMemory;
 use rim_accepted::AcceptedLaunch;
 use rim_line::{ItemNames, Line};
@@ -39,6 +39,6 @@ pub(crate) fn warnings(
 /// The line of a warning.
 fn warning(alloc: Global, name: &str, unusual: &Unusual<'_>) -> Result<Line, NoMemory> {
     let mut line = Line::new(alloc);
-    write!(line, "warning: launch \"{name}\": {unusual}").map_err(|_| NoMemory)?;
+    written(write!(line, "warning: launch \"{name}\": {unusual}"))?;
     Ok(line)
 }
