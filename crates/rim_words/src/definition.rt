@@ -142,27 +142,43 @@ fn with_file_commands<'a>(alloc: Global, command: Command<'a>) -> Result<Command
         fdt.top) }
     ensures globals { IfOk result (λ c. (out-Command c).has_globals ≡ false) }
 {
-    let replay = file_command(
+    let command = with_file_command(
         alloc,
+        command,
         "replay",
         "Says whether a listing is what it says, by giving its commands to a monitor",
         "The listing, as `rim list` prints it",
     )?;
-    let image = file_command(
+    let command = with_file_command(
         alloc,
+        command,
         "image",
         "Prints the header of an arm64 kernel Image",
         "The Image, as a kernel's build writes it",
     )?;
-    let fdt = file_command(
+    with_file_command(
         alloc,
+        command,
         "fdt",
         "Prints a flattened devicetree, node by node",
         "The devicetree, as dtc or QEMU writes it",
-    )?;
-    let command = with_subcommand(command, replay)?;
-    let command = with_subcommand(command, image)?;
-    with_subcommand(command, fdt)
+    )
+}
+
+/// A command with one more subcommand, about the file at a path.
+fn with_file_command<'a>(
+    alloc: Global,
+    command: Command<'a>,
+    name: &'a str,
+    about: &'a str,
+    file: &'a str,
+) -> Result<Command<'a>, AllocError>
+    requires { (out-Command command).has_globals ≡ false }
+    ensures shape { IfOk result (λ c. app_of c
+        ≡ with_subcommand (app_of command.entry) (with_operand name.entry.now (codes "file")).top) }
+    ensures globals { IfOk result (λ c. (out-Command c).has_globals ≡ false) }
+{
+    with_subcommand(command, file_command(alloc, name, about, file)?)
 }
 
 /// A command with one more subcommand. Neither passes an argument on to all of its subcommands.

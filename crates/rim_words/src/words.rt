@@ -68,7 +68,7 @@ pub enum Request<'a> {
 }
 
 /// The format of a report, of a map or of what a check finds.
-#[derive(Clone, Copy, Debug, PartialEq, Eq)]
+#[derive(Clone, Copy, Debug)]
 pub enum Format {
     /// Lines.
     Text,
