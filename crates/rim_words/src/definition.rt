@@ -9,7 +9,7 @@ use job_board::WORKER_LIMIT;
 use std::alloc::{AllocError, Global};
 
 /// The version, and the day of its sources' last commit: `tools/dist.py` asks that they are the same.
-pub const VERSION: &str = "0.2.0 (2026-11-28)";
+pub const VERSION: &str = "0.2.0 (2026-11-29)";
 
 const MANIFEST: &str = "The manifest, a TOML file";
 
