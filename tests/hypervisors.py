@@ -50,6 +50,7 @@ from vmm.lines import Reader  # noqa: E402, the path is set above
 from vmm.main import options_of  # noqa: E402
 from vmm.main import main as rim_manifest  # noqa: E402
 from vmm.qemu_words import MACHINE  # noqa: E402
+from vmm.rows import SHARED  # noqa: E402
 
 MIB = 1 << 20
 SECONDS = 60
@@ -333,21 +334,22 @@ WRONG = [
     ("a realm that no object says", replaced(WITH_TREE, "-M", "virt,confidential-guest-support=a"), "expected confidential-guest-support=ID"),
     *[(f"a realm's object: {words}", [*replaced(WITH_TREE, "-M", "virt,gic-version=3,confidential-guest-support=a"), *more, "--", "-object",
                                       f"rme-guest,id=a{words}"], why) for words, more, why in (
-        ("", [], "--algo: it is not given, expected one, since -object rme-guest says none"),
         (",measurement-algorithm=sha512", ["--algo", "sha256"], '--algo: "sha256", expected sha512, which -object rme-guest says'),
         (",measurement-algorithm=sha1", [], 'measurement-algorithm="sha1", expected sha256 or sha512'),
         (",measurement-algorithm=sha256,personalization-value=00", [], 'personalization-value="00", expected 64 bytes'))],
     ("kvmtool: a disk", [*without(KVMTOOL, "--dtb"), "--lkvm", "l", "--", "--disk", "live.img"], '"--disk live.img": in the devicetree, and making'),
     ("kvmtool: another algorithm", [*KVMTOOL, "--algo", "sha512", "--", "--realm", "--measurement-algo", "sha256"],
      '--algo: "sha512", expected sha256, which --measurement-algo says'),
-    ("kvmtool: a realm of no algorithm", [*KVMTOOL, "--", "--realm"], "--algo: it is not given, expected one, since --realm says none"),
     ("an order without RAM", [*WITH_TREE, "--order", "kernel,dtb,stub,rec"],
-     '--order: "kernel,dtb,stub,rec", expected address, or each of'),
+     '--order: "kernel,dtb,stub,rec", expected address or kind or ram, rec and the blobs'),
     ("an order with one twice", [*WITH_TREE, "--order", "ram,kernel,dtb,stub,rec,rec"], "--order: "),
-    ("another stub", [*WITH_TREE, "--stub", "some"], '--stub: "some", expected measured or none'),
+    ("another stub", [*WITH_TREE, "--stub", "some"], '--stub: "some", expected none or measured'),
     ("other pages of the kernel", [*WITH_TREE, "--kernel-pages", "all"], '--kernel-pages: "all", expected file or image_size'),
     ("other pages of the devicetree", [*WITH_TREE, "--dtb-pages", "all"], '--dtb-pages: "all", expected whole or used'),
-    ("a width", [*WITH_TREE, "--s2sz", "31"], '--s2sz: "31", expected a whole number from 32 to 48'),
+    ("a width", [*WITH_TREE, "--s2sz", "31"], '--s2sz: "31", expected one_more or guest or a number from 32 to 48'),
+    ("another row", [*WITH_TREE, "--row", "new=a"], '--row: "new=a", expected ROW=ALTERNATIVE, of one of ram, stub, order'),
+    ("another alternative", [*WITH_TREE, "--row", "ram=some"], '--row: "ram=some", expected ram=first or each'),
+    ("two alternatives", [*WITH_TREE, "--stub", "none", "--row", "stub=measured"], '--stub and --row: stub is "none" and "measured", expected one'),
     ("no folder", without(WITH_TREE, "--out"), "--out: it is not given"),
     ("a folder without a name", replaced(WITH_TREE, "--out", ""), '--out: "", expected the folder that is written'),
     ("no host", without(WITH_TREE, "--host"), "--host: it is not given, expected the file"),
@@ -378,13 +380,26 @@ FAULTS = [
     ("a host with a word for a number", WITH_TREE, changed_host(num_bps="true"), "num_bps = true, expected a whole number"),
     ("a host without breakpoints", WITH_TREE, changed_host(num_bps=None), "it has no num_bps, expected one since it is measured"),
     ("a host without watchpoints", WITH_TREE, changed_host(num_wps=None), "it has no num_wps"),
-    ("a host without block_level", WITH_TREE, changed_host(block_level=None), "it has no block_level"),
     ("a host without sve", WITH_TREE, changed_host(sve=None), "it has no sve"),
     ("a host without pmu", WITH_TREE, changed_host(pmu=None), "it has no pmu"),
     ("a host without sve_vl", WITH_TREE, changed_host(sve="true"), "it has no sve_vl, expected one since sve is true"),
     ("a host without counters", WITH_TREE, changed_host(pmu_num_ctrs=None), "it has no pmu_num_ctrs, expected one since pmu is true"),
     ("a host with counters of no PMU", WITH_TREE, changed_host(pmu="false"), "pmu_num_ctrs = 6 and pmu = false"),
-    ("a host without rec_rule", [*WITH_TREE, "-smp", "2"], changed_host(rec_rule=None), "it has no rec_rule, expected one since there are"),
+    ("a host with another row", WITH_TREE, {"host.toml": host() + b"[realm]\nnew = 1\n"}, "host.toml: [realm]: new = 1, expected one of ram, stub"),
+    ("a host with another alternative", WITH_TREE, {"host.toml": host() + b"[realm]\nstub = true\n"},
+     "host.toml: [realm]: stub = true, expected none or measured"),
+    ("a host with another width", WITH_TREE, {"host.toml": host() + b"[realm]\ns2sz = 31\n"},
+     "host.toml: [realm]: s2sz = 31, expected one_more or guest or a number from 32 to 48"),
+    ("a host with a row of another hypervisor", KVMTOOL, {"host.toml": host() + b"[realm]\nstub = 'none'\n"}, '[realm]: stub = "none", expected one of'),
+    ("a host with a row twice", WITH_TREE, {"host.toml": host() + b"[realm]\nblock_level = 0\n"}, "block_level: it is given twice, once in [realm]"),
+    ("a host of no table", WITH_TREE, {"host.toml": host() + b"realm = 'stub'\n"}, 'realm = "stub", expected a table of alternatives'),
+    ("a host that was settled at length", WITH_TREE, changed_host(settled_by='"' + "a" * 1001 + '"'), "expected a text of at most 1000"),
+    ("breakpoints that are too many", [*WITH_TREE, "--row", "num_bps=one_more"], changed_host(num_bps="255"), "come to 256, expected 0 to 255"),
+    ("an order without the stub", [*WITH_TREE, "--stub", "measured", "--order", "ram,kernel,dtb,rec"], {}, "has no stub, expected each blob"),
+    ("an order of RAM that is made for each", [*WITH_TREE, "--row", "ram=each", "--order", "ram,kernel,dtb,rec"], {},
+     "RAM is made before each blob then, expected order address or kind"),
+    ("blobs in one page of the host", [*replaced(WITH_TREE, "-m", "1G"), "-initrd", "initrd", "--row", "host_pages=64k"], {"Image": image(128 * MIB + 1),
+     "tree": tree([(LOW, LOW + 1024 * MIB)], initrd=(0x4820_1000, 0x4820_3329))}, "share a page of the host, by host_pages"),
     ("a host with another rec_rule", WITH_TREE, changed_host(rec_rule='"some"'), 'rec_rule = "some", expected runnable or all'),
     ("a host with a short rpv", WITH_TREE, changed_host(rpv='"00"'), 'rpv = "00", expected 128 hexadecimal digits'),
     ("cloud-hypervisor: a host without a width", CLOUD, changed_host(s2sz_max=None),
@@ -468,7 +483,7 @@ FAULTS = [
     ("a devicetree of another version", WITH_TREE, {"tree": FILES["tree"][:20] + struct.pack(">II", 16, 16) + FILES["tree"][28:]},
      "tree: dtb-bad-version"),
     ("a devicetree that is deep", WITH_TREE, {"tree": Writer().whole(deep(65), MIB)}, "tree: dtb-too-deep"),
-    ("another size of RAM", WITH_TREE, changed_tree(ram=[(LOW, LOW + 512 * MIB)]), "launch 256M-smp1-Image-no-initrd-sha256, tree: RAM: the devicetree has "
+    ("another size of RAM", WITH_TREE, changed_tree(ram=[(LOW, LOW + 512 * MIB)]), "launch 256M-smp1-Image-no-initrd-sha512, tree: RAM: the devicetree has "
      "0x40000000 to 0x60000000, expected 0x40000000 to 0x50000000"),
     ("another command line", [*WITH_TREE, "-append", "quiet"], changed_tree(bootargs="debug"),
      'boot words: the devicetree has bootargs "debug", expected "quiet"'),
@@ -505,7 +520,7 @@ FAULTS = [
      "tree: there is something after its blocks, expected zeros for --dtb-pages used"),
     ("kvmtool: an initrd in the kernel's last page", [*KVMTOOL, "-i", "initrd"], {"Image": image(0xFDF_DC00),
      "tree": tree([(2 * LOW, 2 * LOW + 256 * MIB)], initrd=(0x8FDF_DCD4, 0x8FDF_FFFD))}, "share a page"),
-    ("a value twice", [*WITH_TREE, "-m", "256"], {}, "launch 256M-smp1-Image-no-initrd-sha256: two combinations have this name"),
+    ("a value twice", [*WITH_TREE, "-m", "256"], {}, "launch 256M-smp1-Image-no-initrd-sha512: two combinations have this name"),
     ("too many launches", [*WITH_TREE, "--append-file", "a"], {"a": b"a\n" * 65537}, "the words have 65537 combinations, expected at most"),
     ("a devicetree that is long", WITH_TREE, {"tree": FILES["tree"].ljust(2 * MIB + 1, b"\0")}, "tree: it has more than 2097152 bytes"),
     ("two devicetrees that fit", [*WITH_TREE, "--dtb", "b"], {"b": tree([(LOW, LOW + 256 * MIB)], model=b"b\0")},
@@ -752,6 +767,7 @@ def placed(program: str, words: list[str], kernel: bytes, initrd: int | None, ra
                 **{"pcie@10000000": {}} if s2sz < 41 else {})
     with Folder({"Image": kernel, "i": bytes(initrd or 0), "tree": made}) as folder:
         words = (["qemu"] if is_qemu else []) + words + ["--kernel", "Image"] + (["--initrd", "i"] if initrd else [])
+        words += ["--stub", "measured"] if "stub" in at else []
         status, _, said = folder.run(*words, "--host", "host.toml", "--out", "out", "--dtb", "tree")
         if status or said:
             return [f"status {status}, {said!r}"]
@@ -888,6 +904,18 @@ def given_to_a_dump(folder: Folder) -> list[str]:
 
 NO_PCIE = {"pcie@10000000": None}
 TREES = {"trees/256M-1-none": FILES["tree"], "trees/256M-2-none": tree([(LOW, LOW + 256 * MIB)], count=2)}
+OF_LKVM = {"tree": tree([(2 * LOW, 2 * LOW + 256 * MIB)], initrd=(0x8FDF_DCD4, 0x8FDF_FFFD), length=65536, **NO_PCIE)}
+REALM_TABLE = b"""[realm]
+s2sz = "guest"
+block_level = 1
+rec_rule = "all"
+num_bps = "one_more"
+kernel_pages = "image_size"
+"""
+OF_ROWS = {"algo": "sha512", "s2sz": 40, "block_level": 1, "rec_rule": "all", "num_bps": 6, "num_wps": 3, "pmu_num_ctrs": 6}
+OF_HEAD = ["# What a realm changes. The alternatives that host.toml names were settled by: a machine\n",
+           "#   stub = none (85%, memory; the likeliest): it is no part of the realm",
+           "#   block_level = 1 (4%, memory; by host.toml): 1 GiB at most", "num_bps = 6                      # host, row num_bps\n"]
 FULL_HOST = host(sve="true", sve_vl="1", num_aux="2", rpv='"' + "0f" * 64 + '"', rec_rule='"all"', hypervisor_version='"10.0.2"')
 HOST_KEYS = {"num_bps": 5, "num_wps": 3, "sve": True, "sve_vl": 1, "pmu": True, "pmu_num_ctrs": 6, "block_level": 2, "num_aux": 2,
              "rec_rule": "all", "rpv": "0f" * 64}
@@ -895,13 +923,31 @@ OPTIONS = [
     ("the host's keys", WITH_TREE, lambda folder: differs("keys", {key: first(folder).get(key) for key in HOST_KEYS}, HOST_KEYS),
      {"host.toml": FULL_HOST}),
     ("processors that begin off", [*WITH_TREE, "-smp", "18,sockets=1"], lambda folder: differs("rec", first(folder)["rec"][1:],
-     [{"runnable": False}] * 17) + differs("name", names_of(folder), ["256M-smp18-Image-no-initrd-sha256"]), changed_tree(count=18)),
-    ("an order", [*WITH_TREE, "--order", "rec,ram,kernel,initrd,dtb,stub"], lambda folder: differs("steps", first(folder)["steps"],
-     ["rec 0", "ram 0", "item kernel", "item dtb", "item stub"])),
+     [{"runnable": False}] * 17) + differs("name", names_of(folder), ["256M-smp18-Image-no-initrd-sha512"]), changed_tree(count=18)),
+    ("an order", [*WITH_TREE, "--stub", "measured", "--order", "rec,ram,kernel,initrd,dtb,stub"], lambda folder: differs(
+     "steps", first(folder)["steps"], ["rec 0", "ram 0", "item kernel", "item dtb", "item stub"])),
+    ("an order by kind", [*WITH_TREE, "--stub", "measured", "--order", "kind"], lambda folder: differs(
+     "steps", first(folder)["steps"], ["ram 0", "item kernel", "item dtb", "item stub", "rec 0"])),
+    ("rows by the host's file", [*WITH_TREE, "-smp", "2"], lambda folder: differs("keys", {key: first(folder).get(key) for key in OF_ROWS}, OF_ROWS)
+     + differs("the head", [line in folder.read("out/manifest.toml").decode() for line in OF_HEAD], [True] * len(OF_HEAD)),
+     {"host.toml": host(block_level=None, rec_rule=None, settled_by='"a machine"') + REALM_TABLE} | changed_tree(count=2, **NO_PCIE)),
+    ("rows by options", [*WITH_TREE, "--row", "block_level=3", "--row", "pmu_num_ctrs=one_less", "--row", "s2sz=42", "--row=hash=sha256"],
+     lambda folder: differs("keys", [first(folder).get(key) for key in ("algo", "s2sz", "block_level", "pmu_num_ctrs")], ["sha256", 42, 3, 5]),
+     changed_host(block_level=None)),
+    ("RAM for each blob", [*WITH_TREE, "-initrd", "initrd", "--row", "ram=each"], lambda folder: differs("steps", first(folder)["steps"],
+     ["ram 0", "item kernel", "ram 1", "item initrd", "ram 2", "item dtb", "rec 0"]) + differs("ram", first(folder)["ram"], [
+         [0x4020_0000, 0x4040_0000], [0x4800_0000, 0x4800_3000], [0x4820_0000, 0x4830_0000]]), changed_tree(initrd=WITH_INITRD)),
+    ("RAM for each blob and the BSS", [*KVMTOOL, "-i", "initrd", "--row", "ram=each"], lambda folder: differs("steps", first(folder)["steps"],
+     ["ram 0", "item kernel", "ram 1", "ram 2", "item initrd", "ram 3", "item dtb", "rec 0"]) + differs("ram", first(folder)["ram"], [
+         [0x8000_0000, 0x8000_5000], [0x8000_5000, 0x8020_0000], [0x8FDF_D000, 0x8FE0_0000], [0x8FE0_0000, 0x8FE1_0000]]), OF_LKVM),
+    ("large pages of the host", [*KVMTOOL, "-i", "initrd", "--row", "host_pages=64k"], lambda folder: differs("items",
+     [[item["name"], item["at"], item.get("size")] for item in first(folder)["item"]],
+     [["kernel", 0x8000_0000, 0x1_0000], ["initrd_lead", 0x8FDF_0000, 0xD000], ["initrd", 0x8FDF_DCD4, None], ["dtb", 0x8FE0_0000, None]])
+     + differs("zeros", folder.read("out/zeros"), b"\0"), OF_LKVM),
     ("pages of the BSS", [*WITH_TREE, "--kernel-pages", "image_size"], lambda folder: differs("size",
-     [item.get("size") for item in first(folder)["item"]], [None, 2 * MIB, None])),
+     [item.get("size") for item in first(folder)["item"]], [2 * MIB, None])),
     ("pages of a kernel with little BSS", [*WITH_TREE, "--kernel-pages", "image_size"], lambda folder: differs("size",
-     [item.get("size") for item in first(folder)["item"]], [None, 20_000, None]), {"Image": image(4096)}),
+     [item.get("size") for item in first(folder)["item"]], [20_000, None]), {"Image": image(4096)}),
     ("pages that are used", [*WITH_TREE, "--dtb-pages", "used"],
      lambda folder: differs("bytes", folder.read("out/dtb-1"), FILES["tree"][:4096])),
     ("a width", [*WITH_TREE, "--s2sz", "48"], lambda folder: differs("s2sz", first(folder)["s2sz"], 48)),
@@ -926,22 +972,22 @@ OPTIONS = [
     ("words of no dump", [*WITH_TREE, "--", *OTHERS], lambda folder: differs("dropped", "-qmp" in recorded(folder)["dropped"], True)),
     ("kernels and initrds", [*WITH_TREE, "--dtb", "with-initrd", "-kernel", "b", "-initrd", "initrd", "--no-initrd"],
      lambda folder: differs(
-     "names", names_of(folder), [f"256M-smp1-{kernel}-{initrd}-sha256" for initrd in ("initrd", "no-initrd") for kernel in ("Image", "b")])
+     "names", names_of(folder), [f"256M-smp1-{kernel}-{initrd}-sha512" for initrd in ("initrd", "no-initrd") for kernel in ("Image", "b")])
      + differs("files", sorted(each["name"] for each in folder.toml()["file"]),
-               ["dtb-1", "dtb-2", "initrd", "kernel-Image", "kernel-b", "stub-1", "stub-2"]),
+               ["dtb-1", "dtb-2", "initrd", "kernel-Image", "kernel-b"]),
      {"b": OTHER_IMAGE, "with-initrd": tree([(LOW, LOW + 256 * MIB)], initrd=WITH_INITRD)}),
     ("kernels by their names", [*WITH_TREE, "--each-kernel", "old=other/Image"], lambda folder: differs("names", names_of(folder),
-     ["256M-smp1-Image-no-initrd-sha256", "256M-smp1-old-no-initrd-sha256"]) + differs("kernel", folder.read("out/kernel-old"), OTHER_IMAGE),
+     ["256M-smp1-Image-no-initrd-sha512", "256M-smp1-old-no-initrd-sha512"]) + differs("kernel", folder.read("out/kernel-old"), OTHER_IMAGE),
      {"other/Image": OTHER_IMAGE}),
     ("machines and models", [*QEMU, "-M", "virt-10.0", "-cpu", "cortex-a57,pmu=on", "--qemu", "./stand-in"], lambda folder: differs("names",
-     names_of(folder), [f"{names}-256M-smp1-Image-no-initrd-sha256" for names in ("virt_gic-version_3-max", "virt_070287_n_3-cort_241c6d__on",
+     names_of(folder), [f"{names}-256M-smp1-Image-no-initrd-sha512" for names in ("virt_gic-version_3-max", "virt_070287_n_3-cort_241c6d__on",
      "virt-10.0-max", "virt-10.0-cortex-a57_pmu_on")]), TREES, "-machine has 2 machines"),
     ("a kernel that moves the initrd", [*replaced(QEMU, "-m", "1G"), "-kernel", "big", "-initrd", "initrd", "--qemu", "./stand-in"],
-     lambda folder: differs("initrds", [item["at"] for launch in folder.toml()["launch"] for item in launch["item"][2:3]],
+     lambda folder: differs("initrds", [item["at"] for launch in folder.toml()["launch"] for item in launch["item"][1:2]],
      [0x4800_0000, 0x4820_0000]), {"big": image(128 * MIB)} | {f"trees/1G-1-none-kernel-{name}": tree(
          [(LOW, LOW + 1024 * MIB)], initrd=(at, at + len(INITRD))) for name, at in (("Image", 0x4800_0000), ("big", 0x4820_0000))}),
     ("models", [*QEMU, "-cpu", "cortex-a57", "--qemu", "./stand-in"], lambda folder: differs("names", names_of(folder),
-     ["max-256M-smp1-Image-no-initrd-sha256", "cortex-a57-256M-smp1-Image-no-initrd-sha256"]) + differs("devicetrees",
+     ["max-256M-smp1-Image-no-initrd-sha512", "cortex-a57-256M-smp1-Image-no-initrd-sha512"]) + differs("devicetrees",
                                                                         os.path.exists(os.path.join(folder.path, "out/dtb-2")), False),
      TREES),
     ("gzip", WITH_TREE, lambda folder: differs("kernel", folder.read("out/kernel"), image()), {"Image": gzip.compress(image()) + b"after"}),
@@ -960,7 +1006,7 @@ OPTIONS = [
      lambda folder: differs("length", len(folder.read("out/dtb-1")), 65536),
      {"tree": tree([(2 * LOW, 2 * LOW + 256 * MIB)], length=65536, **NO_PCIE)}),
     ("command lines in the place of a line's", ["qemu", "--host", "host.toml", "--out", "out", "--append-file", "lines", "--line", "l", "--dtb",
-     "tree"], lambda folder: differs("names", names_of(folder), ["256M-smp1-Image-no-initrd-a_b-sha256"]),
+     "tree"], lambda folder: differs("names", names_of(folder), ["256M-smp1-Image-no-initrd-a_b-sha512"]),
      {"l": (HAND + " -append other -M dtb-randomness=off").encode(), "lines": b"a=b\n"} | changed_tree(bootargs="a=b")),
     ("processors beside a list", [*QEMU, "-smp", "1,2", "--algo", "sha512,sha256", "--qemu", "./stand-in"], lambda folder: differs("names",
      names_of(folder), [f"256M-smp{n}-Image-no-initrd-sha{size}" for n in (1, 2) for size in (512, 256)]), TREES),
@@ -984,9 +1030,9 @@ def matrix(program: str):
             return [f"status {status}, {said!r}"]
         names = [[launch["name"] for launch in folder.toml(f"out/manifest-{n}.toml")["launch"]] for n in (1, 2)]
         wrong = differs("lines", len(out.splitlines()), 2)
-        wrong += differs("files", [len(folder.toml(f"out/manifest-{n}.toml")["file"]) for n in (1, 2)], [64, 16])
+        wrong += differs("files", [len(folder.toml(f"out/manifest-{n}.toml")["file"]) for n in (1, 2)], [64, 13])
         # launches of one devicetree are side by side, also where they are of two models
-        expected = [f"{cpu}-{m}M-smp{n}-Image-no-initrd-a{a}-sha256" for m in sizes for n in counts for a in range(5)
+        expected = [f"{cpu}-{m}M-smp{n}-Image-no-initrd-a{a}-sha512" for m in sizes for n in counts for a in range(5)
                     for cpu in ("max", "cortex-a57")]
         wrong += differs("names", names[0] + names[1], expected)
         os.rename(os.path.join(folder.path, "out"), os.path.join(folder.path, "moved"))
@@ -1010,7 +1056,7 @@ def measured(program: str):
         text = folder.read("out/manifest.toml").decode()
         folder.put("out/manifest.toml", text.replace("at = 0x48000000", "at = 0x40200000").encode())
         status, out, _ = folder.run(start=measure, RIM=program)
-        wrong += differs("refused", (status, out.splitlines()[1]), (1, "256M-smp1-Image-no-initrd-sha256 refused overlap"))
+        wrong += differs("refused", (status, out.splitlines()[1]), (1, "256M-smp1-Image-no-initrd-sha512 refused overlap"))
         folder.put("out/manifest.toml", text.replace("s2sz = 41", "s2sz = 49").encode())
         status, out, said = folder.run(start=measure, RIM=program)
         return wrong + differs("a fault", (status, out, "rim check manifest.toml" in said), (3, "", True))
@@ -1027,8 +1073,8 @@ def pasted(program: str):
     with Folder(TREES | {"b": OTHER_IMAGE}) as folder:
         folder.put(QEMU_NAME, STAND_IN.encode(), is_program=True)
         status, out, said = folder.run(*asked, "--", "A=b", "sudo", "-E", QEMU_NAME, *PASTED)
-        wrong = differs("status", (status, out, said), (0, "out/manifest.toml: 4 launches, 5 files\n", ""))
-        wrong += differs("names", names_of(folder), [f"256M-smp{n}-{kernel}-no-initrd-sha256" for n in (1, 2) for kernel in ("b", "new")])
+        wrong = differs("status", (status, out, said), (0, "out/manifest.toml: 4 launches, 4 files\n", ""))
+        wrong += differs("names", names_of(folder), [f"256M-smp{n}-{kernel}-no-initrd-sha512" for n in (1, 2) for kernel in ("b", "new")])
         record = json.loads(folder.read("out/record.json"))
         wrong += differs("line", record["line"], PASTED) + differs("rest", recorded(folder)["rest"], ["-serial", "null"])
         digests = {name: hashlib.sha256(data).hexdigest() for name, data in (("b", OTHER_IMAGE), ("Image", FILES["Image"]))}
@@ -1092,12 +1138,13 @@ def long_names(_program: str):
             status, _, said = folder.run(*replaced(without(WITH_TREE, "-kernel"), "--out", out), *kernels)
             wrong += differs(f"status of {out}", (status, said), (0, ""))
             names[out] = [launch["name"] for launch in folder.toml(f"{out}/manifest.toml")["launch"]]
-    wrong += differs("Debian's", names["a"], ["256M-smp1-vmlinuz-6.12.117_deb13-arm64-no-initrd-sha256"])
+    wrong += differs("Debian's", names["a"], ["256M-smp1-vmlinuz-6.12.117_deb13-arm64-no-initrd-sha512"])
     wrong += differs("the same parts", (names["b"][:1], names["c"][:2]), (names["a"], names["b"]))
     return wrong + differs("lengths", [len(name) for name in names["c"][1:]], [64, 64]) + differs("each another", len(set(names["c"])), 3)
 
 
 MADE = ["dtb-1", "kernel", "manifest.toml", "measure", "record.json", "stub-1"]
+WITH_STUB = [*WITH_TREE, "--stub", "measured"]
 
 
 def files_of(folder: Folder, out="out") -> dict[str, bytes]:
@@ -1108,11 +1155,11 @@ def files_of(folder: Folder, out="out") -> dict[str, bytes]:
 def forced(program: str):
     """--force replaces what rim-manifest has written, also where the kernel is among it, and keeps the rest, also where DIR is a link."""
     with Folder() as folder:
-        folder.run(*WITH_TREE)
+        folder.run(*WITH_STUB)
         for name in ("out/values.json", "out/history/a"):
             folder.put(name, b"mine")
         before = folder.names()
-        status, _, said = folder.run(*replaced(WITH_TREE, "-kernel", "out/kernel"), "--force")
+        status, _, said = folder.run(*replaced(WITH_STUB, "-kernel", "out/kernel"), "--force")
         wrong = differs("status", (status, said), (0, "")) + differs("names", folder.names(), before)
         wrong += differs("files", sorted(os.listdir(os.path.join(folder.path, "out"))), sorted([*MADE, "history", "values.json"]))
         wrong += differs("kept", (folder.read("out/values.json"), folder.read("out/history/a")), (b"mine", b"mine"))
@@ -1180,7 +1227,7 @@ def stopped_midway(program: str):
     with --force ends well. The stop is a kill before the Nth renaming or removal."""
     wrong = []
     with Folder() as folder:
-        folder.run(*WITH_TREE)
+        folder.run(*WITH_STUB)
         old = files_of(folder)
     for number in range(20):
         with Folder({"b": OTHER_IMAGE, "out/values.json": b"mine"} | {f"out/{name}": data for name, data in old.items()}) as folder:
@@ -1221,9 +1268,9 @@ sys.exit(main(sys.argv[2:]))
 BAD_PROGRAMS = [
     ("says much", "yes & sleep 0.1; yes", "it says more than 65536 bytes"),
     ("complains much", "yes >&2 & sleep 0.3; kill $!; exit 1", "has written no devicetree (status 1): y"),
-    ("writes much", 'head -c 300000000 /dev/zero >"$path"', "the devicetree of launch 256M-smp1-Image-no-initrd-sha256: "),
-    ("writes a FIFO", 'mkfifo "$path"', "the devicetree of launch 256M-smp1-Image-no-initrd-sha256: it is a FIFO, expected a devicetree"),
-    ("writes a folder", 'mkdir "$path"', "the devicetree of launch 256M-smp1-Image-no-initrd-sha256: it is a folder"),
+    ("writes much", 'head -c 300000000 /dev/zero >"$path"', "the devicetree of launch 256M-smp1-Image-no-initrd-sha512: "),
+    ("writes a FIFO", 'mkfifo "$path"', "the devicetree of launch 256M-smp1-Image-no-initrd-sha512: it is a FIFO, expected a devicetree"),
+    ("writes a folder", 'mkdir "$path"', "the devicetree of launch 256M-smp1-Image-no-initrd-sha512: it is a folder"),
     ("says escapes", r"printf 'a\033[2Jb\n' >&2; exit 1", "(status 1): a\\x1b[2Jb"),
     ("names a copy", 'while [ "$1" != -kernel ]; do shift; done; echo "no $2 here" >&2; exit 1', "(status 1): no Image here\n"),
     ("says nothing", "exit 9", "has written no devicetree (status 9): it says nothing"),
@@ -1382,14 +1429,13 @@ def texts(program: str):
         example = os.path.join(TOP, "vmm", "host-example.toml")
         status, _, said = folder.run(*replaced(WITH_TREE, "--host", example))
         wrong += differs("the example of a host", (status, said.removeprefix(f"rim-manifest: {example}: ")), (3, 'num_bps, num_wps, sve, pmu, '
-                         'block_level, s2sz_max: "?" as in the example, expected what holds for the machine, or no such line where it need '
+                         's2sz_max: "?" as in the example, expected what holds for the machine, or no such line where it need '
                          'not be given\n'))
         with open(example, encoding="utf-8") as file:
             keys = set(re.findall(r"^#?([a-z0-9_]+) = ", file.read(), re.M))
         wrong += differs("keys of the example", "one of " + ", ".join(sorted(keys)), "one of " + ", ".join(sorted(
-            ["num_bps", "num_wps", "sve", "sve_vl", "pmu", "pmu_num_ctrs", "block_level", "rec_rule", "s2sz_max", "hypervisor_version",
-             "num_aux", "rpv",
-             "pool_base", "pool_count"])))
+            ["num_bps", "num_wps", "sve", "sve_vl", "pmu", "pmu_num_ctrs", "s2sz_max", "hypervisor_version", "num_aux", "rpv", "pool_base",
+             "pool_count", "settled_by"])))
     return wrong
 
 
@@ -1409,14 +1455,23 @@ def types(_program: str):
 
 
 def documents(_program: str):
-    """The man page names each option and each key of the host; docs/VMM.md has each row of the tables."""
+    """The man page names each option, each key of the host and each alternative; docs/VMM.md has each row of the tables, and what is said
+    of its alternatives."""
     page, tables = (open(os.path.join(TOP, "docs", name), encoding="utf-8").read() for name in ("rim-manifest.1", "VMM.md"))
     named = set(re.split(r'[\s",()|]+', page.replace("\\-", "-").replace("\\fI", " ").replace("\\fR", " ")))
     wrong = []
     for vmm in HYPERVISORS.values():
         wrong += [f"docs/rim-manifest.1: {name} is not named" for option in options_of(vmm) for name in option.names if name not in named]
-        rows = [f"| {row.name} | {row.rule} | {row.sure} |" for row in vmm.TABLE]
-        wrong += [f"docs/VMM.md has not {row!r}" for row in rows if row not in tables]
+        every = [*vmm.TABLE, *vmm.FIRMWARE]
+        rows = [f"| {row.name} | {row.rule} | {row.sure} |" for row in every]
+        rows += [f"| {'all' if row in SHARED else vmm.NAME} | {row.name} | `{way.name}` | {way.does} | {way.likely}%, {way.sure} |"
+                 for row in every for way in row.ways]
+        wrong += [f"docs/VMM.md has not {row!r}" for row in dict.fromkeys(rows) if row not in tables]
+        wrong += [f"docs/rim-manifest.1: {name} of {row.name} is not named" for row in every for name in (row.name, *row.names)
+                  if row.ways and name not in named]
+        wrong += [f"{vmm.NAME}: {row.name}: its alternatives are not the likeliest first, or come to other than 100" for row in every if row.ways
+                  and ([way.likely for way in row.ways] != sorted((way.likely for way in row.ways), reverse=True)
+                       or sum(way.likely for way in row.ways) != 100)]
     words = {key for row in MACHINE if not row.instead or row.passes for key in row.keys}
     wrong += [f"docs/VMM.md: {key} of -M is not named" for key in sorted(words) if f"`{key}`" not in tables]
     keys = {*host_keys.NUMBERS, *host_keys.FLAGS, *host_keys.TEXTS}

@@ -97,7 +97,7 @@ RIM_MANIFEST = Program(
             Option(("-append", "--append", "--each-append"), "A command line of the kernel", TEXT),
             Option(("--libvirt",), "A domain of libvirt, as virsh dumpxml prints it", FILE),
             Option(("--qemu",), "QEMU itself, which makes the devicetrees", PROGRAM),
-            Option(("--stub",), "Whether the boot stub is part of the realm", ("measured", "none")),
+            Option(("--stub",), "Whether the boot stub is part of the realm", ("none", "measured")),
         )),
         Command("kvmtool", "A manifest from the words of kvmtool", (), (
             Option(("-c", "--cpus", "--smp", "--each-smp"), "Numbers of processors", TEXT),
@@ -125,7 +125,8 @@ RIM_MANIFEST = Program(
         Option(("--s2sz",), "The width of an IPA in bits", TEXT),
         Option(("--kernel-pages",), "Which pages of the kernel are measured", ("file", "image_size")),
         Option(("--dtb-pages",), "Which pages of the devicetree are measured", ("whole", "used")),
-        Option(("--order",), "The order in which the realm is built", ("address", "ram,kernel,initrd,dtb,rec")),
+        Option(("--order",), "The order in which the realm is built", ("address", "kind", "ram,kernel,initrd,dtb,rec")),
+        Option(("--row",), "The alternative of a row that a realm may change", TEXT),
         Option(("--out",), "The folder that is written", FOLDER),
         Option(("--force",), "Replace what was made before"),
         Option(("--short-names",), "Names of launches without what there is one of"),

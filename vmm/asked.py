@@ -11,6 +11,7 @@ from .guest import Word
 from .host import Host
 from .hypervisor import Hypervisor
 from .sorting import Realm, Sorted
+from .ways import Chosen
 
 # How long a file of command lines may be: each is a launch, of which a manifest takes 1,024.
 MOST_LINES = 4 << 20
@@ -76,17 +77,15 @@ def command_lines(what: Asked) -> list[str]:
     return texts or [""]
 
 
-def algorithms(said: dict, realm: Realm | None) -> list[str]:
-    """The hash algorithms: those of --algo, which the words of the realm may say too."""
-    if realm is None:
-        return words.algorithms(said.get("algo", ["sha256"]))
-    if realm.algorithm is None:
-        return words.algorithms(words.required(said, "algo", "--algo", f"one, since {realm.source} says none: what a realm then has is not "
-                                               "known"))
+def algorithms(said: dict, realm: Realm | None, row: Chosen) -> tuple[list[str], str]:
+    """The hash algorithms: those of --algo, which the words of the realm may say too, or else that of the row `hash`; and which of these
+    says it."""
+    if realm is None or realm.algorithm is None:
+        return (words.algorithms(said["algo"]), "--algo") if "algo" in said else ([row.name], "rule hash")
     given = words.algorithms(said.get("algo", [realm.algorithm]))
     if given != [realm.algorithm]:
         raise WrongWords(f"--algo: {shown(','.join(given))}, expected {realm.algorithm}, which {realm.source} says")
-    return given
+    return given, realm.source
 
 
 def of_realm(about_host: Host, realm: Realm | None) -> Host:

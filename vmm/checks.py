@@ -11,6 +11,7 @@ from .dumps import Dump
 from .guest import MIB, PAGE
 from .hypervisor import Hypervisor
 from .launches import Launch
+from .realm import granule_of
 
 
 @dataclass(frozen=True)
@@ -52,7 +53,7 @@ def boot_words(vmm: Hypervisor, launch: Launch, tree: Tree) -> Iterator[Differen
         other, own = command_lines_shown(args, text)
         yield Difference("boot words", f"the devicetree has bootargs {other}", own)
     values = [chosen.properties.get(f"linux,initrd-{end}") for end in ("start", "end")]
-    if launch.guest.initrd is None:
+    if launch.initrd is None:
         if any(value is not None for value in values):
             yield Difference("boot words", f"the devicetree has an initrd, {initrd_shown(values)}", "none")
         return
@@ -121,8 +122,12 @@ def same_bytes(vmm: Hypervisor, dump: Dump) -> Iterator[Difference]:
 def extents(launch: Launch, dump: Dump) -> list[tuple[str, int, int]]:
     """What takes RAM, by rising address: each with its first address and the one past its last byte."""
     guest, places = launch.guest, launch.places
-    found = [("kernel", places.entry, places.entry + guest.kernel.image.extent), ("dtb", places.dtb, places.dtb + dump.length)]
-    if guest.initrd:
+    found = [("dtb", places.dtb, places.dtb + dump.length)]
+    if guest.firmware:
+        found.append(("firmware", places.firmware, places.firmware + guest.firmware.length))
+    else:
+        found.append(("kernel", places.entry, places.entry + guest.kernel.image.extent))
+    if launch.initrd:
         found.append(("initrd", places.initrd, places.initrd + guest.initrd_length))
     if places.stub is not None:
         found.append(("stub", places.stub, places.stub + len(places.stub_bytes)))
@@ -133,13 +138,18 @@ def place(vmm: Hypervisor, launch: Launch, dump: Dump) -> Iterator[Difference]:
     """5. All is in RAM, nothing overlaps, the devicetree is where one may be, and all ends in the protected half."""
     places, taken = launch.places, extents(launch, dump)
     for name, base, end in taken:
-        if not any(low <= base and end <= high for low, high in places.ram):
-            yield Difference("place", f"{name} is at {span(base, end)}", f"all of it in RAM, {spans(places.ram)}")
+        if not any(low <= base and end <= high for low, high in places.all_ram):
+            yield Difference("place", f"{name} is at {span(base, end)}", f"all of it in RAM, {spans(places.all_ram)}")
+    granule = granule_of(launch.guest.ways)
     for (name, base, end), (other, other_base, other_end) in zip(taken, taken[1:]):
-        if end > other_base // PAGE * PAGE:
-            yield Difference("place", f"{name} {span(base, end)} and {other} {span(other_base, other_end)} share a page", "no such page")
+        if end > other_base // granule * granule:
+            of_host = " of the host, by host_pages" * (granule > PAGE)
+            yield Difference("place", f"{name} {span(base, end)} and {other} {span(other_base, other_end)} share a page{of_host}", "no such page")
     if places.dtb % vmm.FACTS.dtb_align or places.kernel % (2 * MIB):
         yield Difference("place", f"dtb at {places.dtb:#x} and kernel's base at {places.kernel:#x}", "multiples of 2 MiB")
+    if launch.guest.firmware:
+        yield from protected(launch, dump.tree)
+        return
     if vmm.FACTS.dtb_is_past_initrd and places.dtb < places.initrd + launch.guest.initrd_length:
         yield Difference("place", f"dtb at {places.dtb:#x}", "it past the initrd")
     if (places.pc == places.entry) != (places.stub is None) or places.stub not in (None, places.pc):
@@ -150,7 +160,7 @@ def place(vmm: Hypervisor, launch: Launch, dump: Dump) -> Iterator[Difference]:
 def protected(launch: Launch, tree: Tree) -> Iterator[Difference]:
     """5, the end. RAM and each window of the devicetree are in the protected half of the realm's addresses."""
     limit = 1 << (launch.places.s2sz - 1)
-    ranges = [("RAM", *each) for each in launch.places.ram] + devicetree.windows(tree)
+    ranges = [("RAM", *each) for each in launch.places.all_ram] + devicetree.windows(tree)
     for name, base, end in ranges:
         if end > limit:
             half = f"its end at most at {limit:#x}, half of what s2sz {launch.places.s2sz} has"

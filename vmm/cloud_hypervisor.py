@@ -1,11 +1,14 @@
 """cloud-hypervisor for arm64: the table of its layout, and the values of its words. Nothing of it was tried."""
+from collections.abc import Callable
+
 from outside.faults import WrongWords
 from outside.texts import shown
 
 from .cloud_hypervisor_words import GRAMMAR, refuse_before, sort, sort_rest  # noqa: F401, what a hypervisor has
-from .guest import MIB, PAGE, Guest, Memory, Processors, Word, up
+from .guest import MIB, PAGE, Blob, Guest, Memory, Processors, Word, up
 from .hypervisor import Facts
-from .layout import MEMORY, Places, Row
+from .layout import MEMORY, Places, Row, Way
+from .rows import SHARED, WIDTH_APART, WIDTH_MORE, dtb_pages_row, hash_row, kernel_pages_row, order_row, ram_ways
 from .sorting import Sorted
 from .words import Option, memories, number, processors, size
 
@@ -16,6 +19,7 @@ PROGRAM = r"cloud-hypervisor(-static)?(-aarch64)?(-v?[0-9.]+)?"
 BASE = 0x4000_0000
 LOW_END, HIGH = 0xFC00_0000, 0x1_0000_0000
 SOURCE = "cloud-hypervisor's sources"
+NOTHING = "nothing that was proposed is known; as QEMU and kvmtool do"
 EDK = "cloud-hypervisor's sources; EDK II 2025.02, ArmVirtPkg, agrees"
 FACTS = Facts(2 * MIB, dtb_is_past_initrd=False, host_needs={"s2sz_max": "since cloud-hypervisor takes the host's width"})
 
@@ -40,7 +44,8 @@ def ram(guest: Guest, places: Places) -> list[tuple[int, int]]:
 
 
 TABLE = [
-    Row("ram", "from 0x40000000 to 0xfc000000, and what is more from 0x100000000 on: two regions above 3,008 MiB", ram, EDK, MEMORY),
+    Row("ram", "from 0x40000000 to 0xfc000000, and what is more from 0x100000000 on: two regions above 3,008 MiB", ram, EDK, MEMORY,
+        ram_ways(75, "the kernel's with its BSS"), "each: what is made RAM is measured"),
     Row("dtb", "the start of RAM", lambda guest, places: BASE, EDK, MEMORY),
     Row("dtb length", "packed; 2 MiB are kept for it", None, SOURCE, MEMORY),
     Row("kernel", "the base is 4 MiB into RAM", lambda guest, places: BASE + 4 * MIB, SOURCE, MEMORY),
@@ -53,9 +58,15 @@ TABLE = [
     Row("pc", "the kernel's address; there is no stub", lambda guest, places: places.entry, SOURCE, MEMORY),
     Row("x", "x0 is the devicetree's address", lambda guest, places: [places.dtb], SOURCE, MEMORY),
     Row("recs", "the first processor is runnable; the others begin off and are turned on by PSCI", None, SOURCE, MEMORY),
-    Row("order", "RAM, then what is placed by rising address (the devicetree first), then the RECs", None, SOURCE, MEMORY),
-    Row("s2sz", "the host's: s2sz_max of the file about it", lambda guest, places: guest.most_bits, SOURCE, MEMORY),
+    order_row(" (the devicetree first)", 80, NOTHING),
+    Row("s2sz", "the host's: s2sz_max of the file about it", lambda guest, places: guest.most_bits, SOURCE, MEMORY,
+        (Way("host", "as wide as the host allows", 100),), WIDTH_APART, WIDTH_MORE),
+    kernel_pages_row(75, NOTHING),
+    dtb_pages_row(75, "all of the file", NOTHING),
+    hash_row(NOTHING, ("sha256", 60), ("sha512", 40)),
+    *SHARED,
 ]
+FIRMWARE: list[Row] = []
 
 
 def read_machine(said: dict) -> list[Word]:
@@ -110,8 +121,8 @@ def final_words(guest: Guest) -> list[str]:
     return ["--cpus", f"boot={guest.smp.words}", "--memory", f"size={guest.memory.words}"]
 
 
-def load_words(kernel_: str, initrd_: str, append: str) -> list[str]:
-    words = ["--kernel", kernel_]
-    if initrd_:
-        words += ["--initramfs", initrd_]
-    return words + (["--cmdline", append] if append else [])
+def load_words(guest: Guest, path: Callable[[Blob], str]) -> list[str]:
+    words = ["--kernel", path(guest.loaded)]
+    if guest.initrd:
+        words += ["--initramfs", path(guest.initrd)]
+    return words + (["--cmdline", guest.append.text] if guest.append.text else [])

@@ -80,7 +80,7 @@ def key_of(launch: Launch) -> tuple:
     """What a devicetree depends on of the words: all but the hash algorithm, and a kernel that moves nothing."""
     guest = launch.guest
     return (guest.machine.text, guest.cpu.text, guest.memory.words, guest.smp.words, guest.append.text,
-            guest.initrd and guest.initrd.file, launch.places.initrd, launch.places.dtb)
+            guest.initrd and guest.initrd.file, launch.places.initrd, launch.places.dtb, guest.firmware and guest.firmware.file)
 
 
 class Program:
@@ -91,9 +91,8 @@ class Program:
 
     def words(self, launch: Launch, path: str) -> list[str]:
         guest = launch.guest
-        initrd = os.path.join(self.folder, guest.initrd.file) if guest.initrd else ""
-        kernel = os.path.join(self.folder, guest.kernel.file)
-        return [self.path, *self.vmm.dump_words(guest, path), *self.vmm.load_words(kernel, initrd, guest.append.text), *self.kept]
+        loads = self.vmm.load_words(guest, lambda blob: os.path.join(self.folder, blob.file))
+        return [self.path, *self.vmm.dump_words(guest, path), *loads, *self.kept]
 
     def run(self, launch: Launch, path: str) -> bytes:
         """The devicetree that one run writes into a folder of its own. A program that goes on after that is stopped."""
@@ -112,7 +111,7 @@ class Program:
 
     def copies(self, launch: Launch) -> dict[str, str]:
         """The paths that the program was given of copies, each with the one that the user has given. A longer one comes first."""
-        blobs = [each for each in (launch.guest.kernel, launch.guest.initrd) if each]
+        blobs = [each for each in (launch.guest.loaded, launch.guest.initrd) if each]
         return {os.path.join(self.folder, each.file): each.path for each in sorted(blobs, key=lambda each: -len(each.file))}
 
     def both(self, launch: Launch, number: int) -> Written:

@@ -1,4 +1,5 @@
 """What a launch is made of, as the words say it."""
+from collections.abc import Mapping
 from dataclasses import dataclass, field
 
 from outside.rim import Image
@@ -59,19 +60,29 @@ class Processors:
 
 @dataclass(frozen=True)
 class Guest:
-    """A launch, before anything has a place. `has_stub`: whether a boot stub, where the hypervisor has one, is part of the realm;
-    `most_bits`: the greatest width of an IPA that the host allows a realm."""
+    """A launch, before anything has a place. It has a kernel, or firmware, which loads one. `ways`: by the names of rows, the alternative of
+    each that a realm may change; `most_bits`: the greatest width of an IPA that the host allows a realm."""
 
     machine: Word
     cpu: Word
     memory: Memory
     smp: Processors
-    kernel: Kernel
+    loaded: Blob
     initrd: Blob | None
     append: Word
     algo: str
-    has_stub: bool = True
+    ways: Mapping[str, str] = field(default_factory=dict)
     most_bits: int = 48
+
+    @property
+    def firmware(self) -> Blob | None:
+        return None if isinstance(self.loaded, Kernel) else self.loaded
+
+    @property
+    def kernel(self) -> Kernel:
+        """The kernel of a launch that has one, and no firmware."""
+        assert isinstance(self.loaded, Kernel)
+        return self.loaded
 
     @property
     def initrd_length(self) -> int:

@@ -7,14 +7,19 @@ from outside import files
 from outside.faults import Fault
 from outside.texts import shown, visible
 
-# Each number with its least and its greatest value.
+from .layout import Row
+from .ways import is_way
+
+# Each number with its least and its greatest value. `block_level` is a row too, and so is `rec_rule`: they may be here or in [realm].
 NUMBERS = {"num_bps": (0, 255), "num_wps": (0, 255), "sve_vl": (0, 255), "pmu_num_ctrs": (0, 255), "block_level": (0, 3),
            "s2sz_max": (32, 48), "num_aux": (0, 16), "pool_base": (0, (1 << 48) - 65536), "pool_count": (1, 1 << 24)}
 FLAGS = ("sve", "pmu")
 RULES = ("runnable", "all")
-TEXTS = ("rpv", "rec_rule", "hypervisor_version")
+TEXTS = ("rpv", "rec_rule", "hypervisor_version", "settled_by")
 # What is measured of each realm, and so has to be given.
-REQUIRED = ("num_bps", "num_wps", "sve", "pmu", "block_level")
+REQUIRED = ("num_bps", "num_wps", "sve", "pmu")
+# The table that names the alternative of each row that is not the likeliest, and the longest text of `settled_by`.
+REALM, MOST_SETTLED_BY = "realm", 1000
 # What the example has in the place of a number that only the machine knows.
 UNSAID = "?"
 MOST = 64 << 10
@@ -35,6 +40,7 @@ class Host:
     path: str
     values: dict[str, int | str]
     notes: dict[str, str] = field(default_factory=dict)     # where a value comes from that the file does not have
+    realm: dict[str, str] = field(default_factory=dict)     # the alternatives of rows, by their names
 
     def __getitem__(self, key: str) -> int | str | None:
         return self.values.get(key)
@@ -43,17 +49,26 @@ class Host:
     def name(self) -> str:
         return visible(self.path)
 
+    @property
+    def ways(self) -> dict[str, str]:
+        """The alternatives of rows that it names, in [realm] or, of two of them, beside it."""
+        return {key: str(self.values[key]) for key in ("block_level", "rec_rule") if key in self.values} | self.realm
+
     def require(self, key: str, why: str) -> int | str:
         if key not in self.values:
             raise Fault(f"{self.name}: it has no {key}, expected one {why} ({visible(example())} explains it)")
         return self.values[key]
 
 
-def read(path: str) -> Host:
+def read(path: str, rows: dict[str, Row], is_settled: bool = True) -> Host:
+    """What a file says; `rows` are those of which it may name an alternative. Before it is settled, numbers may be missing, or be "?"."""
     values: dict[str, int | str] = {}
     table = files.toml_of(path, files.read(path, MOST, "the file of --host"), "the file of --host")
+    realm = realm_of(path, table.pop(REALM, {}), rows)
     unsaid = [key for key, value in table.items() if value == UNSAID]
-    if unsaid and not set(unsaid) - {*NUMBERS, *FLAGS, *TEXTS}:
+    if not is_settled:
+        table = {key: value for key, value in table.items() if key not in unsaid or key not in (*NUMBERS, *FLAGS)}
+    elif unsaid and not set(unsaid) - {*NUMBERS, *FLAGS, *TEXTS}:
         raise Fault(f'{visible(path)}: {", ".join(unsaid)}: "{UNSAID}" as in the example, expected what holds for the machine, '
                     "or no such line where it need not be given")
     for key, value in table.items():
@@ -61,15 +76,32 @@ def read(path: str) -> Host:
             raise Fault(f"{visible(path)}: {key_shown(key)} = {value_shown(value)}, expected {expected}")
         if isinstance(value, int | str):
             values[key] = value
-    host = Host(path, values)
-    for key in REQUIRED:
+    for key in set(realm) & set(values) & {"block_level", "rec_rule"}:
+        raise Fault(f"{visible(path)}: {key}: it is given twice, once in [{REALM}], expected it there alone")
+    host = Host(path, values, realm=realm)
+    for key in REQUIRED if is_settled else ():
         host.require(key, "since it is measured")
     for flag, key in (("sve", "sve_vl"), ("pmu", "pmu_num_ctrs")):
-        if values[flag]:
+        if values.get(flag) and is_settled:
             host.require(key, f"since {flag} is true and it is measured")
-        elif values.get(key):
+        elif values.get(flag) is False and values.get(key):
             raise Fault(f"{visible(path)}: {key} = {values[key]} and {flag} = false, expected no {key} or {flag} = true")
     return host
+
+
+def realm_of(path: str, table: object, rows: dict[str, Row]) -> dict[str, str]:
+    """The alternatives that the table [realm] names. A number is as its text."""
+    if not isinstance(table, dict):
+        raise Fault(f"{visible(path)}: {REALM} = {value_shown(table)}, expected a table of alternatives")
+    found = {}
+    for name, value in table.items():
+        if name not in rows:
+            raise Fault(f"{visible(path)}: [{REALM}]: {key_shown(name)} = {value_shown(value)}, expected one of {', '.join(rows)}")
+        text = str(value) if isinstance(value, int) and not isinstance(value, bool) else value
+        if not isinstance(text, str) or not is_way(rows[name], text):
+            raise Fault(f"{visible(path)}: [{REALM}]: {name} = {value_shown(value)}, expected {rows[name].expected}")
+        found[name] = text
+    return found
 
 
 def key_shown(key: str) -> str:
@@ -99,9 +131,11 @@ def wrong(key: str, value: object) -> str | None:
         return None if isinstance(value, bool) else "true or false"
     if key == "rec_rule":
         return None if value in RULES else "runnable or all"
+    if key == "settled_by":
+        return None if isinstance(value, str) and len(value) <= MOST_SETTLED_BY else f"a text of at most {MOST_SETTLED_BY} characters"
     if key == "rpv":
         return None if isinstance(value, str) and re.fullmatch(r"[0-9a-fA-F]{128}", value) else "128 hexadecimal digits"
     if key == "hypervisor_version":
         is_version = isinstance(value, str) and re.fullmatch(r"[0-9]{1,6}(\.[0-9]{1,6})*([.+~_-][0-9A-Za-z.+~_-]{0,64})?", value)
         return None if is_version else "a version such as 10.0.2"
-    return "one of " + ", ".join([*NUMBERS, *FLAGS, *TEXTS])
+    return "one of " + ", ".join([*NUMBERS, *FLAGS, *TEXTS, f"[{REALM}]"])

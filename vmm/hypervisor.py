@@ -1,8 +1,9 @@
 """What a hypervisor is to rim-manifest: its layout, its words, and facts about it. A module of vmm is one where it has all of this."""
+from collections.abc import Callable
 from dataclasses import dataclass, field
 from typing import Protocol
 
-from .guest import Guest, Memory, Processors, Word
+from .guest import Blob, Guest, Memory, Processors, Word
 from .layout import Row
 from .sorting import Grammar, Sorted
 from .words import Option
@@ -19,6 +20,7 @@ class Facts:
     adds_boot_words: bool = False               # whether it puts words of its own beside the kernel's command line
     no_seeds: str = ""                          # the word without which each start has other seeds
     gic_3: str = ""                             # the word for GIC 3
+    bss_apart: bool = False                     # whether the kernel's BSS is made RAM by itself, where RAM is made for each blob
     unpacks_gzip: bool = False
     zboot: dict[str, tuple[int, int]] = field(default_factory=dict)     # by which packing, since which version it unpacks an EFI zboot
     host_needs: dict[str, str] = field(default_factory=dict)            # keys that the host's file has to have for it, and why
@@ -32,7 +34,8 @@ class Hypervisor(Protocol):
     USAGE: str                  # what comes after its options in a line of use
     PROGRAM: str                # a pattern of the names that its program has
     OPTIONS: list[Option]       # the options of rim-manifest that only it has
-    TABLE: list[Row]
+    TABLE: list[Row]            # where things are, with a kernel
+    FIRMWARE: list[Row]         # where things are, with firmware; empty where that is not known
     GRAMMAR: Grammar            # the table of its words, and how they are spelled
     FACTS: Facts
 
@@ -75,5 +78,5 @@ class Hypervisor(Protocol):
     def final_words(self, guest: Guest) -> list[str]:
         """The words of a launch; without kernel, initrd and command line."""
 
-    def load_words(self, kernel: str, initrd: str, append: str) -> list[str]:
-        """The words for kernel, initrd and command line."""
+    def load_words(self, guest: Guest, path: Callable[[Blob], str]) -> list[str]:
+        """The words for kernel or firmware, initrd and command line; `path` gives that of a file."""

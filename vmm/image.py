@@ -142,3 +142,11 @@ def from_zboot(path: str, data: bytes, vmm: Hypervisor, version: str) -> bytes:
         raise Fault(f"{visible(path)}: an EFI zboot file packed by {known}, which QEMU {version} may load packed, or stop at; "
                     f"expected QEMU {first} or later, or the unpacked Image")
     return gunzip(path, packed) if known == "gzip" else unzstd(path, packed)
+
+
+def firmware(made: Folder, path: str, label: str, name: str) -> Blob:
+    """Firmware, as it is copied into RAM."""
+    data = files.read(path, MOST, "firmware")
+    if not data:
+        raise Fault(f"{visible(path)}: it is empty, expected firmware")
+    return made.put(name, data, label, copied(path), path, hashlib.sha256(data).hexdigest())

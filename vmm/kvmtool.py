@@ -1,13 +1,15 @@
 """kvmtool (`lkvm run`) for arm64: the table of its layout, and the values of its words. All is remembered, and nothing was tried."""
 import re
+from collections.abc import Callable
 
 from outside.faults import WrongWords
 from outside.texts import shown
 
-from .guest import KIB, MIB, PAGE, Guest, Memory, Processors, Word, up
+from .guest import KIB, MIB, PAGE, Blob, Guest, Memory, Processors, Word, up
 from .hypervisor import Facts
 from .kvmtool_words import GRAMMAR, refuse_before, sort, sort_rest  # noqa: F401, what a hypervisor has
 from .layout import MEMORY, Places, Row
+from .rows import SHARED, WIDTH_APART, WIDTH_MORE, dtb_pages_row, hash_row, kernel_pages_row, order_row, ram_ways, width_ways
 from .sorting import Sorted
 from .words import Option, memories, processors, required, size
 
@@ -18,7 +20,7 @@ PROGRAM = r"lkvm(-static)?|kvmtool"
 BASE = 0x8000_0000
 DTB_ALIGN = 2 * MIB
 SOURCE = "kvmtool's sources"
-FACTS = Facts(DTB_ALIGN, adds_boot_words=True)
+FACTS = Facts(DTB_ALIGN, adds_boot_words=True, bss_apart=True)
 
 OPTIONS = [
     Option(("-c", "--cpus", "--smp", "--each-smp"), "smp", "LIST", "numbers of processors. Required: without it lkvm takes the host's", True),
@@ -46,11 +48,13 @@ def dtb(guest: Guest, places: Places) -> int:
 
 
 def s2sz(guest: Guest, places: Places) -> int:
-    return min(max(32, (places.ram[-1][1] - 1).bit_length()) + 1, guest.most_bits)
+    more = int(guest.ways.get("s2sz") != "guest")
+    return min(max(32, (places.ram[-1][1] - 1).bit_length()) + more, guest.most_bits)
 
 
 TABLE = [
-    Row("ram", "from 0x80000000 on, or from the address after `@`, as much as --mem says; one region", ram, SOURCE, MEMORY),
+    Row("ram", "from 0x80000000 on, or from the address after `@`, as much as --mem says; one region", ram, SOURCE, MEMORY,
+        ram_ways(55, "and the kernel's BSS after its pages"), "each: what is made RAM is measured"),
     Row("kernel", "the base is the start of RAM", lambda guest, places: base(guest), SOURCE, MEMORY),
     Row("entry", "the base and text_offset; the base and 0x80000 where image_size is 0",
         lambda guest, places: places.kernel + guest.kernel.image.load_offset, SOURCE, MEMORY),
@@ -59,15 +63,19 @@ TABLE = [
     Row("dtb", "64 KiB and 2 MiB below the end of RAM, or of its first 256 MiB, rounded up to 2 MiB", dtb, SOURCE, MEMORY),
     Row("initrd", "just below the devicetree: its address less the length rounded down to 4, less 4",
         lambda guest, places: places.dtb - guest.initrd_length // 4 * 4 - 4, SOURCE, MEMORY),
-    Row("dtb length", "a buffer of 64 KiB, in which the tree is packed; how much of it a realm measures is not known", None, SOURCE,
-        MEMORY),
+    Row("dtb length", "a buffer of 64 KiB, in which the tree is packed", None, SOURCE, MEMORY),
     Row("pc", "the kernel's address; there is no stub", lambda guest, places: places.entry, SOURCE, MEMORY),
     Row("x", "x0 is the devicetree's address", lambda guest, places: [places.dtb], SOURCE, MEMORY),
     Row("recs", "the first processor is runnable; the others begin off and are turned on by PSCI", None, SOURCE, MEMORY),
-    Row("order", "RAM, then what is placed by rising address, then the RECs", None, SOURCE, MEMORY),
+    order_row("", 100, SOURCE),
     Row("s2sz", "the bits of RAM's last address, at least 32, and one more for the shared half of a realm",
-        s2sz, "Linux, arm-cca.rst has the example of 33 bits", MEMORY),
+        s2sz, "Linux, arm-cca.rst has the example of 33 bits", MEMORY, width_ways(), WIDTH_APART, WIDTH_MORE),
+    kernel_pages_row(80, SOURCE),
+    dtb_pages_row(85, "all of its 64 KiB, also where it is zero", SOURCE),
+    hash_row(SOURCE, ("sha256", 80), ("sha512", 20)),
+    *SHARED,
 ]
+FIRMWARE: list[Row] = []
 
 
 def read_machine(said: dict) -> list[Word]:
@@ -119,8 +127,8 @@ def final_words(guest: Guest) -> list[str]:
     return ["run", "--cpus", guest.smp.words, "--mem", guest.memory.words]
 
 
-def load_words(kernel_: str, initrd_: str, append: str) -> list[str]:
-    words = ["--kernel", kernel_]
-    if initrd_:
-        words += ["--initrd", initrd_]
-    return words + (["--params", append] if append else [])
+def load_words(guest: Guest, path: Callable[[Blob], str]) -> list[str]:
+    words = ["--kernel", path(guest.loaded)]
+    if guest.initrd:
+        words += ["--initrd", path(guest.initrd)]
+    return words + (["--params", guest.append.text] if guest.append.text else [])

@@ -5,8 +5,9 @@ from dataclasses import dataclass
 from outside.faults import Fault
 
 from . import layout, names
-from .guest import PAGE, Blob, Guest, Kernel, up
+from .guest import PAGE, Blob, Guest, up
 from .layout import Places
+from .realm import Realm
 
 # What a manifest takes at most (docs/FORMATS.md): launches, files, and different pages that are measured.
 MOST_LAUNCHES, MOST_FILES, MOST_PAGES = 1024, 64, 1 << 20
@@ -19,24 +20,36 @@ class Launch:
     name: str
     guest: Guest
     places: Places
-    tree: "Blob | None" = None      # its devicetree, once it is made
-    stub: "Blob | None" = None
+    tree: Blob | None = None        # its devicetree, once it is made
+    stub: Blob | None = None
+    zeros: Blob | None = None       # a file of zeros, where some are measured before a blob
+    realm: Realm | None = None      # what a manifest says of it
 
     @property
     def processors(self) -> int:
         return self.guest.smp.count
 
     @property
+    def initrd(self) -> Blob | None:
+        """The initrd that is in RAM: firmware is given it otherwise."""
+        return None if self.guest.firmware else self.guest.initrd
+
+    @property
     def files(self) -> list[Blob]:
-        return [blob for blob in (self.guest.kernel, self.guest.initrd, self.tree, self.stub) if blob]
+        return [blob for blob in (self.guest.loaded, self.initrd, self.tree, self.stub, self.zeros) if blob]
+
+    @property
+    def made(self) -> Realm:
+        assert self.realm is not None
+        return self.realm
 
 
-def combinations(lists: dict, has_stub: bool, most_bits: int) -> list[Guest]:
+def combinations(lists: dict, ways: dict[str, str], most_bits: int) -> list[Guest]:
     """A guest for each combination. Those that share a devicetree are neighbours."""
     count = math.prod(len(values) for values in lists.values())
     if count > MOST_COMBINATIONS:
         raise Fault(f"the words have {count} combinations, expected at most {MOST_COMBINATIONS}")
-    return [Guest(machine, cpu, memory, smp, kernel, initrd, append, algo, has_stub, most_bits)
+    return [Guest(machine, cpu, memory, smp, kernel, initrd, append, algo, ways, most_bits)
             for machine in lists["machine"] for cpu in lists["cpu"] for memory in lists["memory"] for smp in lists["smp"]
             for append in lists["append"] for initrd in lists["initrd"] for kernel in lists["kernel"] for algo in lists["algo"]]
 
@@ -57,11 +70,8 @@ def named(guests: list[Guest], lists: dict, table: list, is_short: bool) -> list
 
 def pages_of(launch: Launch) -> dict[tuple[str, str, int], int]:
     """The pages that are measured, by algorithm, file and place in the first page: what `rim` hashes once."""
-    places = launch.places
-    starts = ((launch.guest.kernel, places.entry), (launch.guest.initrd, places.initrd), (launch.tree, places.dtb),
-              (launch.stub, places.stub))
-    lengths = ((blob, start % PAGE, blob.image.extent if isinstance(blob, Kernel) else blob.length) for blob, start in starts if blob)
-    return {(launch.guest.algo, blob.file, lead): up(lead + length, PAGE) // PAGE for blob, lead, length in lengths}
+    items = ((item, item.start % PAGE) for item in launch.made.items)
+    return {(launch.guest.algo, item.file, lead): up(item.end - item.start + lead, PAGE) // PAGE for item, lead in items}
 
 
 class Group:

@@ -10,13 +10,15 @@ from outside.faults import Fault, WrongWords
 from outside.rim import REPORT, Rim
 from outside.texts import shown, visible
 
-from . import asked, checks, dumps, host, image, launches, layout, manifest, measure, names, sorting, words
+from . import asked, checks, dumps, host, image, launches, layout, manifest, measure, names, realm, sorting, ways, words
 from .asked import Asked
 from .folder import Folder
 from .guest import PAGE, Blob, up
 from .hypervisor import Hypervisor
 from .hypervisors import ALL, HYPERVISORS
 from .launches import Launch
+from .layout import Row
+from .ways import Chosen
 
 VERSION = "0.2.0"
 COMMON_USE = "--host FILE (--out DIR | --measure) [OPTIONS..]"
@@ -53,13 +55,9 @@ def help_of(vmm: Hypervisor) -> str:
     return f"usage: rim-manifest {vmm.NAME} {COMMON_USE} {vmm.USAGE}\n\n{vmm.TITLE}\n\n{words.help_of(options_of(vmm))}\n{LISTS}"
 
 
-def choices(said: dict, has_stub: bool | None) -> manifest.Choices:
-    names = ["ram", "kernel", "initrd", "dtb", "rec"] + (["stub"] if has_stub else [])
-    order = said.get("order", "address").split(",")
-    if order != ["address"] and (sorted(set(order)) != sorted(order) or not set(names) - {"initrd"} <= set(order) <= set(names)):
-        raise WrongWords(f"--order: {shown(said['order'])}, expected address, or each of {', '.join(names)} once")
-    return manifest.Choices(order, words.choice(said, "kernel_pages", "--kernel-pages", ("file", "image_size")),
-                            words.choice(said, "dtb_pages", "--dtb-pages", ("whole", "used")), has_stub)
+def rows_of(vmm: Hypervisor) -> dict[str, Row]:
+    """The rows that a realm may change, of all tables of a hypervisor."""
+    return layout.rows_with_ways([vmm.TABLE, vmm.FIRMWARE])
 
 
 def blobs(made: Folder, rim: Rim, vmm: Hypervisor, paths: dict[str, list[tuple[str, str]]], version: str) -> dict[str, list]:
@@ -68,16 +66,20 @@ def blobs(made: Folder, rim: Rim, vmm: Hypervisor, paths: dict[str, list[tuple[s
         several = len(paths[key]) > 1
         return [(path, label, f"{key}-{names.short(label, names.MOST_FILE)}" if several else key) for label, path in paths[key]]
 
-    found: dict[str, list] = {"kernel": [image.kernel(made, rim, path, label, name, vmm, version) for path, label, name in named("kernel")]}
+    if paths.get("firmware"):
+        loaded = [image.firmware(made, path, label, name) for path, label, name in named("firmware")]
+    else:
+        loaded = [image.kernel(made, rim, path, label, name, vmm, version) for path, label, name in named("kernel")]
+    found: dict[str, list] = {"kernel": loaded}
     found["initrd"] = [image.initrd(made, path, label, name) for path, label, name in named("initrd")]
     return found
 
 
-def set_width(launch: Launch, said: dict, most: int, source: str):
+def set_width(launch: Launch, width: Chosen, most: int, source: str):
     """The width of an IPA: what is said, or what the rule gives for the host."""
     places = launch.places
-    if "s2sz" in said:
-        places.s2sz, places.width_from = words.number("--s2sz", said["s2sz"], 32, 48), "--s2sz"
+    if width.name.isdigit():
+        places.s2sz, places.width_from = int(width.name), width.source if width.source.startswith("--") else "row s2sz"
     if places.s2sz > most:
         raise Fault(f"{places.width_from}: {places.s2sz}, expected at most {most}, {source}")
 
@@ -108,12 +110,15 @@ def checked(vmm: Hypervisor, found: list[Launch], trees: dict[str, dumps.Dump], 
 def record_of(vmm: Hypervisor, groups: list[tuple[str, launches.Group]], program_line: str, what: Asked) -> dict[str, object]:
     """What the record says: the command line, where each file is of, and each launch."""
     blobs_ = {blob.file: blob for _, group in groups for launch in group.launches for blob in launch.files if blob.path}
+    def one(name: str, launch: Launch) -> dict[str, object]:
+        guest = launch.guest
+        loaded = {"kernel": None if guest.firmware else guest.loaded.file, "firmware": guest.firmware and guest.firmware.file}
+        return {"name": launch.name, "manifest": name, "words": vmm.final_words(guest)} | loaded | {
+            "initrd": guest.initrd and guest.initrd.file, "append": guest.append.text, "rest": what.others.kept, "dropped": what.others.dropped}
+
     return {"hypervisor": vmm.NAME, "program": program_line, "line": what.line and what.line.words,
-            "sources": {name: {"path": blob.path, "sha256": blob.source} for name, blob in blobs_.items()}, "launches": [
-                {"name": launch.name, "manifest": name, "words": vmm.final_words(launch.guest), "kernel": launch.guest.kernel.file,
-                 "initrd": launch.guest.initrd and launch.guest.initrd.file, "append": launch.guest.append.text, "rest": what.others.kept,
-                 "dropped": what.others.dropped}
-                for name, group in groups for launch in group.launches]}
+            "sources": {name: {"path": blob.path, "sha256": blob.source} for name, blob in blobs_.items()},
+            "launches": [one(name, launch) for name, group in groups for launch in group.launches]}
 
 
 def first_faults(*steps: Callable[[], object]):
@@ -131,21 +136,21 @@ def first_faults(*steps: Callable[[], object]):
 class Work:
     """One run: what is asked for, the host, and the folder that is being made."""
 
-    def __init__(self, vmm: Hypervisor, what: Asked, all_words: list[str]):
+    def __init__(self, vmm: Hypervisor, what: Asked, all_words: list[str], is_settled: bool = True):
         self.vmm, self.what, self.said, self.words = vmm, what, what.said, all_words
         self.lists: dict[str, list] = {}
         first_faults(what.others.raise_faults, self.read_values)
         self.paths = asked.paths(vmm, what)
         said, others = self.said, what.others
-        knows_stub = any(row.name == "stub" for row in vmm.TABLE)
-        self.choices = choices(said, words.choice(said, "stub", "--stub", ("measured", "none")) == "measured" if knows_stub else None)
-        self.lists["algo"] = asked.algorithms(said, others.realm)
+        rows = rows_of(vmm)
+        ways.said_by_options(said, rows)
+        asked.algorithms(said, others.realm, Chosen(rows["hash"], rows["hash"].names[0], ""))
         self.check_source()
-        if "s2sz" in said:
-            words.number("--s2sz", said["s2sz"], 32, 48)
         self.out = said["out"]
         path = words.required(said, "host", "--host", f"the file that says what only the machine knows: {host.example()}")
-        self.host = asked.of_realm(host.read(path), others.realm)
+        self.host = asked.of_realm(host.read(path, rows, is_settled), others.realm)
+        self.chosen = ways.chosen(rows, said, self.host.ways, self.host.name)
+        self.lists["algo"], self.algo_from = asked.algorithms(said, others.realm, self.chosen["hash"])
         asked.check_features(vmm, self.lists["cpu"], self.host)
         self.lists["append"] = words.appends("--append", asked.command_lines(what))
         self.program_line, self.version = "", str(self.host["hypervisor_version"] or "")
@@ -154,7 +159,8 @@ class Work:
 
     def read_values(self):
         """Reads the values of the words, and refuses those that do not fit."""
-        words.required(self.said, "kernel", option_names(self.vmm, "kernel"), "a kernel")
+        if "firmware" not in self.said:
+            words.required(self.said, "kernel", option_names(self.vmm, "kernel"), "a kernel")
         self.lists = asked.values(self.vmm, self.what)
         for machine in self.lists["machine"] if not self.what.others.faults else ():
             self.vmm.check_realm(machine.text, self.what.others)
@@ -187,17 +193,26 @@ class Work:
         self.lists |= blobs(made, self.rim, self.vmm, self.paths, self.version)
         if "no_initrd" in self.said or not self.lists["initrd"]:
             self.lists["initrd"].append(None)
-        if any(each.count > 1 for each in self.lists["smp"]):
-            self.host.require("rec_rule", "since there are processors that begin off, and it says whether they are measured")
         for key, why in self.vmm.FACTS.host_needs.items():
-            if "s2sz" not in self.said:
+            if not self.chosen["s2sz"].name.isdigit():
                 self.host.require(key, why)
         most = int(self.host["s2sz_max"] or 48)
-        guests = launches.combinations(self.lists, bool(self.choices.has_stub), most)
-        found = launches.named(guests, self.lists, self.vmm.TABLE, "short_names" in self.said)
+        guests = launches.combinations(self.lists, {name: each.name for name, each in self.chosen.items()}, most)
+        found = launches.named(guests, self.lists, self.table, "short_names" in self.said)
         for launch in found:
-            set_width(launch, self.said, most, f"s2sz_max of {self.host.name}")
+            set_width(launch, self.chosen["s2sz"], most, f"s2sz_max of {self.host.name}")
         return found
+
+    @property
+    def table(self) -> list[Row]:
+        """The table by which things have their places."""
+        return self.vmm.FIRMWARE if "firmware" in self.said else self.vmm.TABLE
+
+    def taken(self) -> dict[str, Chosen]:
+        """The rows that a realm may change, of these launches, with what is taken of them."""
+        names = {row.name for row in self.table}
+        without = {"sve_vl": not self.host["sve"], "pmu_num_ctrs": not self.host["pmu"], "hash": self.algo_from != "rule hash"}
+        return {name: each for name, each in self.chosen.items() if name in names and not without.get(name)}
 
     def trees(self, made: Folder, found: list[Launch]) -> dict[str, dumps.Dump]:
         def differences(launch: Launch, dump: dumps.Dump) -> list[checks.Difference]:
@@ -210,15 +225,21 @@ class Work:
             return dumps.handed_in(self.said["dtb"], reader, found, differences)
 
     def place_files(self, made: Folder, found: list[Launch], trees: dict[str, dumps.Dump]):
-        """Writes the devicetrees and the stubs."""
+        """Writes the devicetrees and the stubs, and makes of each launch what a manifest says of it."""
         known: dict[tuple, Blob] = {}
         stubs: dict[bytes, Blob] = {}
+        zeros: Blob | None = None
+        taken = {name: each.name for name, each in self.chosen.items()}
+        numbers = realm.numbers_of(self.host.values, taken, self.host.name)
         for launch in found:
-            launch.tree = tree_blob(made, launch, trees[launch.name], self.choices.dtb_pages, known, "dtb" in self.said)
+            launch.tree = tree_blob(made, launch, trees[launch.name], taken["dtb_pages"], known, "dtb" in self.said)
             data = launch.places.stub_bytes
             if launch.places.stub is not None:
                 launch.stub = stubs.get(data) or made.put(f"stub-{len(stubs) + 1}", data, "", "rule stub_bytes")
                 stubs[data] = launch.stub
+            launch.realm = realm.of_parts(self.vmm, realm.Parts(launch.guest, launch.places, launch.tree, launch.stub), numbers, taken)
+            if any(item.file == realm.ZEROS for item in launch.realm.items):
+                launch.zeros = zeros = zeros or made.put(realm.ZEROS, b"\0", "", "a zero: the pages of a host's page before a blob")
 
     def made_by(self) -> str:
         if "program" in self.said:
@@ -237,7 +258,7 @@ class Work:
         different = {(each.packed, each.length): each.tree for each in trees.values()}
         warnings = checks.warnings(list(different.values()))
         line = self.what.line.words if self.what.line and not self.what.line.program else []
-        about = manifest.About(self.vmm, self.words, line, self.host, self.choices, self.made_by(), warnings)
+        about = manifest.About(self.vmm, self.words, line, self.host, self.taken(), self.algo_from, self.table, self.made_by(), warnings)
         groups = launches.groups(found)
         manifests = ["manifest.toml"] if len(groups) == 1 else [f"manifest-{number}.toml" for number in range(1, len(groups) + 1)]
         for number, (name, group) in enumerate(zip(manifests, groups), 1):
@@ -259,6 +280,12 @@ class Work:
             statuses.append(ran.status)
         print(measure.joined(reports, "json" in self.said).decode(), end="", flush=True)
         return max(statuses)
+
+
+def rules_of(vmm: Hypervisor) -> str:
+    """The tables of a hypervisor: of its layout, with a kernel and with firmware, and of its words."""
+    firmware = layout.shown(vmm.FIRMWARE, "\n\nWith firmware:\n") if vmm.FIRMWARE else ""
+    return layout.SURE + layout.shown(vmm.TABLE) + firmware + "\n\n" + sorting.shown_table(vmm.GRAMMAR.table)
 
 
 def option_names(vmm: Hypervisor, key: str) -> str:
@@ -305,7 +332,7 @@ def do(vmm: Hypervisor, what: Asked, all_words: list[str]) -> int:
 def of_hypervisor(vmm: Hypervisor, all_words: list[str]) -> int:
     said = words.parse(options_of(vmm), all_words[1:], vmm.refuse_before)
     if "help" in said or "rules" in said:
-        print(help_of(vmm) if "help" in said else layout.shown(vmm.TABLE) + "\n\n" + sorting.shown_table(vmm.GRAMMAR.table))
+        print(help_of(vmm) if "help" in said else rules_of(vmm))
         return 0
     if "folder" in said:
         go_to(said["folder"])

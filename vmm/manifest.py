@@ -7,21 +7,14 @@ from .guest import Blob, Kernel
 from .host import Host
 from .hypervisor import Hypervisor
 from .launches import Group, Launch
+from .layout import Row
+from .realm import Item
+from .ways import LIKELIEST, Chosen
 
 WIDTH = 140
 # The keys of a launch that are the host's.
 OF_HOST = ("num_bps", "num_wps", "sve", "sve_vl", "pmu", "pmu_num_ctrs", "block_level", "num_aux", "rec_rule", "rpv", "pool_base",
            "pool_count")
-
-
-@dataclass(frozen=True)
-class Choices:
-    """What no source decides: what is said by options, or their defaults."""
-
-    order: list[str]        # "address", or items in their order
-    kernel_pages: str
-    dtb_pages: str
-    has_stub: bool | None   # None where the hypervisor has none
 
 
 @dataclass(frozen=True)
@@ -32,7 +25,9 @@ class About:
     words: list[str]
     line: list[str]         # the command line, where the words only name its file
     host: Host
-    choices: Choices
+    chosen: dict[str, Chosen]
+    algo_from: str          # what says the hash algorithm
+    rules: list[Row]        # the rows by which things have their places
     made_by: str            # where the devicetrees come from
     warnings: list[str]
 
@@ -68,24 +63,28 @@ def head(about: About, part: str) -> str:
     lines[2:2] = ["by the command line", "  " + shown(about.line)] if about.line else []
     lines += ["Warning: " + each for each in about.warnings]
     lines += ["A path is relative to this folder: start rim here, or the script `measure` beside this file from anywhere.", "",
-              "No realm that ran was yet compared with this table of places. What a realm may do otherwise is chosen here:"]
-    lines += chosen(about.choices) + ["", "The rules that lines below name. In brackets is how sure each is, seen, source or memory: "
-                                      f"`rim-manifest {vmm.NAME} --rules` explains this, and has the sources."]
-    lines += [f"  {row.name} ({row.sure}): {row.rule}" for row in vmm.TABLE]
+              *sure_lines(about.host), *chosen_lines(about.chosen), "",
+              "The rules that lines below name. In brackets is how sure each is, seen, source or memory: "
+              f"`rim-manifest {vmm.NAME} --rules` explains this, and has the sources."]
+    lines += [f"  {row.name} ({row.sure}): {row.rule}" for row in about.rules]
     return "".join(map(comment, lines)) + "\nrim_manifest = 2\n"
 
 
-def chosen(choices: Choices) -> list[str]:
-    """What no source decides, and by which option it is decided."""
-    stub = {True: "is part of the realm, and the first processor begins at it",
-            False: "is no part of the realm: the first processor begins at the kernel, with the devicetree's address in x0"}
-    order = "RAM, what is placed by rising address, RECs" if choices.order == ["address"] else ", ".join(choices.order)
-    kernel = {"file": "those of its file, and not those of its BSS", "image_size": "those that image_size says, with the BSS as zeros"}
-    dtb = {"whole": "all of its file, also where it is zero", "used": "those that its blocks use; the rest is RAM with zeros"}
-    found = [f"  --stub: the boot stub {stub[choices.has_stub]}"] if choices.has_stub is not None else []
-    return found + [f"  --order: the realm is built in this order: {order}",
-                    f"  --kernel-pages: measured pages of the kernel are {kernel[choices.kernel_pages]}",
-                    f"  --dtb-pages: measured pages of a devicetree are {dtb[choices.dtb_pages]}"]
+def sure_lines(host: Host) -> list[str]:
+    """How sure it is what a realm changes."""
+    if by := host["settled_by"]:
+        return [f"What a realm changes. The alternatives that {shown([host.path])} names were settled by: {' '.join(str(by).split())}"]
+    return ["What a realm changes. No machine has settled it for this host: it is from memory, and each row may be otherwise. `rim-manifest "
+            "settle` finds what holds, by one measurement of the machine."]
+
+
+def chosen_lines(chosen: dict[str, Chosen]) -> list[str]:
+    """What is taken of each row that a realm may change, how likely that is, and where the choice comes from."""
+    def one(each: Chosen) -> str:
+        likely = f"{each.way.likely}%, {each.way.sure}" if each.way.likely else "given"
+        return f"  {each.row.name} = {each.name} ({likely}; {LIKELIEST if each.source == LIKELIEST else 'by ' + each.source}): {each.way.does}"
+
+    return [one(each) for each in chosen.values()]
 
 
 def noted(line: str, note: str) -> str:
@@ -103,65 +102,52 @@ def file(blob: Blob) -> str:
     return f"\n[[file]]\n{comment(blob.origin)}{comment(about)}name = {text(blob.file)}\npath = {text(blob.file)}\n"
 
 
-def items(launch: Launch, about: About) -> dict[str, str]:
-    """The items by rising address: the line of each name."""
-    guest, places = launch.guest, launch.places
-    size = ""
-    if about.choices.kernel_pages == "image_size":
-        size = f", size = {guest.kernel.image.extent:#x}"
-    found = [("kernel", places.kernel, f'kind = "kernel", file = {text(guest.kernel.file)}, at = {places.kernel:#x}{size}'),
-             ("dtb", places.dtb, f'kind = "dtb", file = {text(launch.tree.file)}, at = {places.dtb:#x}')]
-    if guest.initrd:
-        found.append(("initrd", places.initrd, f'kind = "initrd", file = {text(guest.initrd.file)}, at = {places.initrd:#x}'))
-    if launch.stub:
-        found.append(("stub", places.stub, f'kind = "raw", file = {text(launch.stub.file)}, at = {places.stub:#x}'))
-    rising = sorted(found, key=lambda each: places.entry if each[0] == "kernel" else each[1])
-    return {name: noted(f'    {{ name = "{name}", {rest} }},', f"rule {name}") for name, _, rest in rising}
+def item_text(item: Item) -> str:
+    size = "" if item.size is None else f", size = {item.size:#x}"
+    return f'{{ name = "{item.name}", kind = "{item.kind}", file = {text(item.file)}, at = {item.at:#x}{size} }}'
 
 
-def steps(launch: Launch, names: list[str], order: list[str]) -> list[str]:
-    """The steps: in the order that was said, or RAM, the items as they are given, and the RECs."""
-    order = ["ram", *names, "rec"] if order == ["address"] else order
-    regions = [f"ram {number}" for number in range(len(launch.places.ram))]
-    recs = [f"rec {number}" for number in range(launch.processors)]
-    found: list[str] = []
-    for word in order:
-        found += regions if word == "ram" else recs if word == "rec" else [f"item {word}"] if word in names else []
-    return found
+def recs_text(count: int, pc: int, x: tuple[int, ...]) -> str:
+    first = f'{{ pc = "{pc:#x}", x = [{", ".join(chr(34) + hex(value) + chr(34) for value in x)}] }}'
+    return "[" + ", ".join([first] + ["{ runnable = false }"] * (count - 1)) + "]"
 
 
-def recs(launch: Launch) -> str:
-    places = launch.places
-    first = f'{{ pc = "{places.pc:#x}", x = [{", ".join(chr(34) + hex(value) + chr(34) for value in places.x)}] }}'
-    return "[" + ", ".join([first] + ["{ runnable = false }"] * (launch.processors - 1)) + "]"
+def ram_text(regions: tuple[tuple[int, int], ...]) -> str:
+    return "[" + ", ".join(f"[{base:#x}, {end:#x}]" for base, end in regions) + "]"
 
 
-def host_lines(host: Host) -> str:
-    """The keys of a launch that the host has, as it has them."""
-    given = {key: host[key] for key in OF_HOST if host[key] is not None}
-    lines = {key: text(value) if isinstance(value, str) else str(value).lower() for key, value in given.items()}
-    return "".join(noted(f"{key} = {value}", host.notes.get(key, "host")) for key, value in lines.items())
+def value_text(value: int | str) -> str:
+    return text(value) if isinstance(value, str) else str(value).lower()
+
+
+def number_lines(launch: Launch, about: About) -> str:
+    """The keys of a launch that are numbers of the host's, or of rows."""
+    lines, host = "", about.host
+    for key in OF_HOST:
+        row = about.chosen.get(key)
+        value = launch.made.numbers.get(key, host[key])
+        if value is None or (row and key not in launch.made.numbers):
+            continue
+        of_row = f"row {key}" if row and not row.is_likeliest or host[key] is None else ""
+        lines += noted(f"{key} = {value_text(value)}", host.notes.get(key) or ", ".join(filter(None, ["host" * (host[key] is not None), of_row])))
+    return lines
 
 
 def said(launch: Launch, vmm: Hypervisor) -> str:
     """The words of a launch, as a comment."""
-    guest = launch.guest
-    words = vmm.final_words(guest) + vmm.load_words(guest.kernel.path, guest.initrd.path if guest.initrd else "", guest.append.text)
-    return comment(shown(words))
+    return comment(shown(vmm.final_words(launch.guest) + vmm.load_words(launch.guest, lambda blob: blob.path)))
 
 
 def table_of(launch: Launch, about: About) -> str:
     """The table of a launch."""
-    places = launch.places
-    placed = items(launch, about)
-    order = ", ".join(text(step) for step in steps(launch, list(placed), about.choices.order))
-    region = ", ".join(f"[{base:#x}, {end:#x}]" for base, end in places.ram)
+    made, order = launch.made, about.chosen.get("order")
+    items = [noted(f"    {item_text(item)},", f"rule {item.name.removesuffix('_lead')}") for item in made.items]
     return "".join([
-        f"\n[[launch]]\n{said(launch, about.vmm)}name = {text(launch.name)}\n", noted(f"algo = {text(launch.guest.algo)}", "--algo"),
-        noted(f"s2sz = {places.s2sz}", places.width_from), host_lines(about.host),
-        noted(f"ram = [{region}]", f"rule ram: {shown([launch.guest.memory.words])}"), "item = [\n", *placed.values(), "]\n",
-        noted(f"rec = {recs(launch)}", f"rules pc, x and recs: {launch.processors} processor{'s' * (launch.processors > 1)}"),
-        noted(f"steps = [{order}]", "rule order" if about.choices.order == ["address"] else "--order")])
+        f"\n[[launch]]\n{said(launch, about.vmm)}name = {text(launch.name)}\n", noted(f"algo = {text(launch.guest.algo)}", about.algo_from),
+        noted(f"s2sz = {made.s2sz}", launch.places.width_from), number_lines(launch, about),
+        noted(f"ram = {ram_text(made.regions)}", f"rule ram: {shown([launch.guest.memory.words])}"), "item = [\n", *items, "]\n",
+        noted(f"rec = {recs_text(made.recs, made.pc, made.x)}", f"rules pc, x and recs: {made.recs} processor{'s' * (made.recs > 1)}"),
+        noted(f"steps = [{', '.join(map(text, made.steps))}]", "rule order" if order is None or order.source == LIKELIEST else order.source)])
 
 
 def manifest(group: Group, about: About, part: str) -> str:

@@ -64,8 +64,8 @@ def name_of(guest: Guest, several: set[str], is_short: bool) -> str:
     """The name of a launch: RAM, processors, kernel, initrd, command line, algorithm; machine and model where there are several of them.
     Long parts are cut where the whole would be too long."""
     labels = {"machine": guest.machine.label, "cpu": guest.cpu.label, "memory": guest.memory.label, "smp": guest.smp.label,
-              "kernel": guest.kernel.label, "initrd": guest.initrd.label if guest.initrd else "no-initrd", "append": guest.append.label,
-              "algo": guest.algo}
+              "kernel": guest.loaded.label, "initrd": guest.initrd.label if guest.initrd else "" if guest.firmware else "no-initrd",
+              "append": guest.append.label, "algo": guest.algo}
     always = ("memory", "smp", "algo") if is_short else ALWAYS
     parts = {key: label for key, label in labels.items() if label and (key in always or key in several)}
     room = MOST - len(parts) + 1 - sum(len(label) for key, label in parts.items() if key not in LONG)

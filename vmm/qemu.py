@@ -1,15 +1,17 @@
 """QEMU's machine `virt`, started with -kernel: the table of its layout, and the values of its words."""
 import math
 import re
+from collections.abc import Callable
 
 from outside.faults import Fault, WrongWords
 from outside.texts import shown
 
-from .guest import GIB, MIB, PAGE, Guest, Memory, Processors, Word, up
+from .guest import GIB, MIB, PAGE, Blob, Guest, Memory, Processors, Word, up
 from .hypervisor import Facts
-from .layout import MEMORY, SEEN, SOURCE, Places, Row
+from .layout import MEMORY, SEEN, SOURCE, Places, Row, Way
 from .names import labelled
 from .qemu_words import GRAMMAR, OFF, ON, parts, refuse_before, refuse_machine_words, sort, sort_rest  # noqa: F401, what a hypervisor has
+from .rows import SHARED, WIDTH_APART, WIDTH_MORE, dtb_pages_row, hash_row, kernel_pages_row, order_row, ram_ways, width_ways
 from .sorting import Sorted
 from .words import Option, memories, number, processors, required, size
 
@@ -47,8 +49,8 @@ OPTIONS = [
     Option(("--qemu",), "program", "PROGRAM", "QEMU itself, which makes the devicetrees: each by the final words with "
            "dumpdtb= and dtb-randomness=off, twice. Of other words it is given what changes a devicetree, and nothing that opens "
            "a file or a socket. Not needed where a whole line is after `--`: then it is the program of that line"),
-    Option(("--stub",), "stub", "WHICH", "whether QEMU's boot stub is part of the realm: `measured` (default), where the first processor "
-           "begins at it; or `none`, where it begins at the kernel"),
+    Option(("--stub",), "stub", "WHICH", "the row stub: whether QEMU's boot stub is part of the realm: `none`, where the first processor "
+           "begins at the kernel; or `measured`, where it begins at the stub"),
 ]
 
 
@@ -129,15 +131,18 @@ def highest(guest: Guest, bits: int) -> int:
 
 
 def s2sz(guest: Guest, places: Places) -> int:
-    """The width. What the host allows a realm is one bit more than what is left for QEMU's addresses."""
-    left = guest.most_bits - 1
+    """The width. What the host allows a realm is, where it has one bit more than a plain guest, that more than is left for addresses."""
+    more = int(guest.ways.get("s2sz") != "guest")
+    left = guest.most_bits - more
     if is_off(machine_words(guest.machine.text), "highmem"):
         left = min(left, 32)
-    return max(32, (highest(guest, left) - 1).bit_length()) + 1
+    return max(32, (highest(guest, left) - 1).bit_length()) + more
 
 
+REALM = "changes that were proposed to QEMU"
 TABLE = [
-    Row("ram", "from 0x40000000 on, as much as -m says, rounded up to 8 KiB; one region, never split at 4 GiB", ram, VIRT, SEEN),
+    Row("ram", "from 0x40000000 on, as much as -m says, rounded up to 8 KiB; one region, never split at 4 GiB", ram, VIRT, SEEN,
+        ram_ways(75, "the kernel's with its BSS"), "each: what is made RAM is measured"),
     Row("kernel", "the base is 0x40200000 where text_offset is below 4096, else 0x40000000; also 0x40000000 where image_size is 0",
         kernel, BOOT, SEEN),
     Row("entry", "the base and text_offset; the base and 0x80000 where image_size is 0",
@@ -148,21 +153,28 @@ TABLE = [
     Row("dtb", "the initrd's end, or its place where there is none, rounded up to 2 MiB",
         lambda guest, places: up(places.initrd + guest.initrd_length, DTB_ALIGN), BOOT, SEEN),
     Row("dtb length", "1,048,576 bytes always, also where few of them are used", None, "system/device_tree.c of QEMU 10.0 and 10.2", SEEN),
-    Row("stub", "40 bytes at 0x40000000", lambda guest, places: BASE if guest.has_stub else None, BOOT,
-        SEEN + "; whether a realm has it: " + MEMORY),
+    Row("stub", "40 bytes at 0x40000000", lambda guest, places: BASE if guest.ways.get("stub") == "measured" else None, BOOT,
+        SEEN + "; whether a realm has it: " + MEMORY,
+        (Way("none", "it is no part of the realm: the first processor begins at the kernel, with the devicetree's address in x0", 85),
+         Way("measured", "it is loaded like all else, and the first processor begins at it", 15)), "each: it is measured"),
     Row("stub_bytes", "ldr x0, dtb; mov x1, xzr; mov x2, xzr; mov x3, xzr; ldr x4, kernel; br x4; then the addresses of dtb and kernel, "
         "8 bytes each, little endian: " + " ".join(f"{word:#x}" for word in STUB), stub_bytes, BOOT, SEEN),
-    Row("pc", "the stub's address; the kernel's where the realm has no stub",
+    Row("pc", "the kernel's address; that of the stub where the realm has it",
         lambda guest, places: places.entry if places.stub is None else places.stub, BOOT, SEEN + "; without a stub: " + MEMORY),
-    Row("x", "all zero with a stub; else x0 is the devicetree's address",
+    Row("x", "x0 is the devicetree's address; all zero with a stub",
         lambda guest, places: [places.dtb] if places.stub is None else [], BOOT, SEEN + "; without a stub: " + MEMORY),
     Row("recs", "the first processor is runnable; the others begin off and are turned on by PSCI", None, BOOT,
         SEEN + "; that their RECs are not runnable: " + MEMORY),
-    Row("order", "RAM, then what is placed by rising address (the stub first), then the RECs", None, "changes that were proposed to QEMU",
-        MEMORY),
+    order_row(" (a stub first)", 80, REALM),
     Row("s2sz", "the bits of the last address of the windows after RAM, of those that the host's s2sz_max and highmem leave (40 up to 510 "
-        "GiB of RAM), at least 32, and one more for the shared half of a realm", s2sz, VIRT, SOURCE + "; the one more: " + MEMORY),
+        "GiB of RAM), at least 32, and one more for the shared half of a realm", s2sz, VIRT, SOURCE + "; the one more: " + MEMORY,
+        width_ways(), WIDTH_APART, WIDTH_MORE),
+    kernel_pages_row(75, REALM),
+    dtb_pages_row(75, "all of its 1 MiB, also where it is zero", REALM),
+    hash_row(REALM, ("sha512", 70), ("sha256", 30)),
+    *SHARED,
 ]
+FIRMWARE: list[Row] = []
 
 
 def is_machine(text: str) -> bool:
@@ -293,8 +305,8 @@ def with_machine(guest: Guest, more: str) -> list[str]:
     return ["-machine", guest.machine.text + more + seeds, "-cpu", guest.cpu.text, "-smp", guest.smp.words, "-m", guest.memory.words]
 
 
-def load_words(kernel_: str, initrd_: str, append: str) -> list[str]:
-    words = ["-kernel", kernel_]
-    if initrd_:
-        words += ["-initrd", initrd_]
-    return words + (["-append", append] if append else [])
+def load_words(guest: Guest, path: Callable[[Blob], str]) -> list[str]:
+    words = ["-kernel", path(guest.loaded)]
+    if guest.initrd:
+        words += ["-initrd", path(guest.initrd)]
+    return words + (["-append", guest.append.text] if guest.append.text else [])

@@ -34,17 +34,21 @@ COMMON = [
            "on. It is what else comes after `--`"),
     Option(("--append-file",), "append_file", "FILE", "command lines of the kernel, one a line; empty lines are passed over", True),
     Option(("--no-initrd",), "no_initrd", "", "a launch without initrd too, beside those with one"),
-    Option(("--algo",), "algo", "LIST", "hash algorithms: sha256 (default), sha512", True),
+    Option(("--algo",), "algo", "LIST", "hash algorithms, sha256 and sha512: that of the hypervisor's words where these say one, else that of "
+           "the row hash", True),
     Option(("--host",), "host", "FILE", f"what only the machine knows: {example()} explains it. Required"),
     Option(("--dtb",), "dtb", "FILE", "a devicetree as the hypervisor loads it, which is placed as it is. Of several, each launch takes "
            "the one that fits it", True),
-    Option(("--s2sz",), "s2sz", "N", "the width of an IPA in bits, in the place of what the rule of the table gives"),
-    Option(("--kernel-pages",), "kernel_pages", "WHICH", "pages of the kernel that are measured: those of its `file` (default), or those "
-           "of its `image_size` too, with the BSS as zeros"),
-    Option(("--dtb-pages",), "dtb_pages", "WHICH", "pages of the devicetree that are measured: the `whole` file (default), or those "
-           "that are `used`"),
-    Option(("--order",), "order", "ORDER", "in which order the realm is built: `address` (default: RAM, then what is placed by rising "
-           "address, then the RECs), or a list such as ram,kernel,initrd,dtb,rec"),
+    Option(("--row",), "row", "ROW=ALTERNATIVE", "the alternative of a row that a realm may change, such as ram=each; --rules prints the rows "
+           "with their alternatives. It takes the place of what the table [realm] of the host's file says, and without both it is the "
+           "likeliest", True),
+    Option(("--s2sz",), "s2sz", "N", "the row s2sz: the width of an IPA in bits, in the place of what the rule of the table gives"),
+    Option(("--kernel-pages",), "kernel_pages", "WHICH", "the row kernel_pages: measured are pages of the kernel's `file`, or those of its "
+           "`image_size` too, with the BSS as zeros"),
+    Option(("--dtb-pages",), "dtb_pages", "WHICH", "the row dtb_pages: measured are the pages of the `whole` devicetree, or those that are "
+           "`used`"),
+    Option(("--order",), "order", "ORDER", "the row order: in which order the realm is built, by rising `address`, by `kind`, or a list such "
+           "as ram,kernel,initrd,dtb,rec"),
     Option(("--out",), "out", "DIR", "the folder that is written. Required, but with --measure"),
     Option(("--force",), "force", "", "replace what rim-manifest has written into DIR before, as far as it is unchanged, and nothing else"),
     Option(("--short-names",), "short_names", "", "names of launches without kernel, initrd and command line, where there is one of them"),

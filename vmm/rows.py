@@ -1,0 +1,77 @@
+"""Rows that a realm may change, which hypervisors share. How likely an alternative is, is from memory of the changes that were proposed to
+Linux, QEMU and kvmtool: nothing that can be installed settles it, and one measurement of a machine does."""
+from .layout import MEMORY, Row, Way
+
+KVM = "changes that were proposed to Linux"
+
+HOST_PAGES = Row(
+    "host_pages", "each blob is measured in whole pages of the host", None, KVM, MEMORY,
+    (Way("4k", "pages of 4 KiB", 80), Way("64k", "pages of 64 KiB: zeros before and after a blob are measured up to whole ones", 15),
+     Way("16k", "the same with pages of 16 KiB", 5)), "one whose kernel and initrd have no whole number of 64 KiB")
+BLOCK_LEVEL = Row(
+    "block_level", "the level of the largest blocks by which RAM is made", None, KVM, MEMORY,
+    (Way("0", "as large as fits, down to the level at which the tables begin: Linux's find_map_level", 75), Way("2", "2 MiB at most", 15),
+     Way("3", "pages of 4 KiB", 6), Way("1", "1 GiB at most: as 0, but for a width of 44 or more and RAM of 512 GiB", 4)),
+    "one with more than 1 GiB of RAM, and no whole number of GiB")
+REC_RULE = Row(
+    "rec_rule", "whether the RECs of processors that begin off are measured", None, "the standard (DEN0137), RMI_REC_CREATE", MEMORY,
+    (Way("runnable", "they are not, as the standard says", 90), Way("all", "they are measured like any other", 10)), "one with two processors")
+COUNTED = "one of two, where the file about the host gives the number"
+
+
+def counted(name: str, rule: str, *ways: Way) -> Row:
+    """A row of a number that is read off the machine."""
+    return Row(name, rule, None, KVM, MEMORY, ways, COUNTED)
+
+
+NUM_BPS = counted("num_bps", "breakpoints, of num_bps in the file about the host: the field of ID_AA64DFR0_EL1",
+                  Way("as_read", "the field, which is one less than there are", 75), Way("one_more", "as many as there are", 25))
+NUM_WPS = counted("num_wps", "watchpoints, of num_wps in the file about the host: the field of ID_AA64DFR0_EL1",
+                  Way("as_read", "the field, which is one less than there are", 75), Way("one_more", "as many as there are", 25))
+PMU_NUM_CTRS = counted("pmu_num_ctrs", "event counters, of pmu_num_ctrs in the file about the host: N of PMCR_EL0",
+                       Way("as_read", "as many as N says", 80), Way("one_more", "the cycle counter too", 10), Way("one_less", "one less", 10))
+SVE_VL = counted("sve_vl", "the vector length, of sve_vl in the file about the host: units of 128 bits, less one",
+                 Way("as_read", "the same", 85), Way("one_more", "units of 128 bits", 15))
+# The numbers of the host's file that are measured, and what each alternative adds to them.
+NUMBERS = ("num_bps", "num_wps", "pmu_num_ctrs", "sve_vl")
+ADDS = {"as_read": 0, "one_more": 1, "one_less": -1}
+SHARED = [HOST_PAGES, BLOCK_LEVEL, REC_RULE, NUM_BPS, NUM_WPS, PMU_NUM_CTRS, SVE_VL]
+
+
+def hash_row(source: str, *ways: tuple[str, int]) -> Row:
+    return Row("hash", "the hash algorithm, where no word says it", None, source, MEMORY,
+               tuple(Way(name, f"SHA-{name[3:]}", likely) for name, likely in ways), "each: the value's length says it")
+
+
+def ram_ways(first: int, bss: str) -> tuple[Way, ...]:
+    """Whether all of RAM is made first."""
+    found = [Way("first", "all of it is made RAM, and then pages are measured", first),
+             Way("each", f"each blob's range is made RAM right before its pages, {bss}; the host makes no other RAM", 100 - first)]
+    return tuple(sorted(found, key=lambda each: -each.likely))
+
+
+def order_row(address: str, likely: int, source: str) -> Row:
+    """In which order blobs are measured."""
+    ways = (Way("address", "by rising address", likely), Way("kind", "kernel, initrd, devicetree, and what else there is", 100 - likely))
+    return Row("order", f"RAM, then what is placed by rising address{address}, then the RECs", None, source, MEMORY, ways if likely < 100 else ways[:1],
+               "one of which two blobs change places: with a stub, firmware or the devicetree first", "ram, rec and the blobs, parted by commas")
+
+
+def width_ways() -> tuple[Way, ...]:
+    """Whether a realm has one bit more than a plain guest."""
+    return Way("one_more", "one bit more than a plain guest has, since the upper half is shared", 85), Way("guest", "as a plain guest's", 15)
+
+
+WIDTH_APART = "each: the width is measured"
+WIDTH_MORE = "a number from 32 to 48, the width itself"
+
+
+def kernel_pages_row(likely: int, source: str) -> Row:
+    return Row("kernel_pages", "which pages of the kernel are measured", None, source, MEMORY,
+               (Way("file", "those of its file", likely), Way("image_size", "those that image_size says: the BSS as zeros", 100 - likely)),
+               "one whose kernel has a BSS of more than a page")
+
+
+def dtb_pages_row(likely: int, whole: str, source: str) -> Row:
+    return Row("dtb_pages", "which pages of the devicetree are measured", None, source, MEMORY,
+               (Way("whole", whole, likely), Way("used", "those that its blocks use", 100 - likely)), "one whose devicetree ends with a page of zeros")
