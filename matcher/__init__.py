@@ -2,7 +2,6 @@
 
 faults      what stops it: wrong words, a fault
 ending      how it ends then
-value       the measurement that is looked for, in the forms of tokens
 launch      a launch: its table, what of it is measured, its text
 files       the files of a manifest: their lengths, the headers of kernels
 lines       the lines of a manifest by which two launches differ

@@ -3,20 +3,20 @@ import sys
 from collections.abc import Callable
 from dataclasses import dataclass, replace
 
-from outside import ending, programs
+from outside import ending, measurement, programs
 from outside import files as outside_files
 from outside.faults import Fault, WrongWords
 from outside.programs import Ran
 from outside.rim import Rim
 from outside.stopping import Stopped
 from outside.texts import pasted, shown, visible
+from outside.measurement import Value
 
-from . import files, lines, nearest, program, value
+from . import files, lines, nearest, program
 from .axes import AXES
 from .launch import Launch, launch_of
 from .program import Runs
 from .search import Candidate, Search, show
-from .value import Value
 
 VERSION = "0.2.0"
 LIMIT = 300_000
@@ -214,7 +214,7 @@ def said_of_others(name: str, others: list[str]) -> str:
 def match(runs: Runs, said: Words) -> int:
     """Looks for the value: among the launches of the manifest, and then near one of them."""
     path, name, text = said.operands
-    wanted = value.read(text)
+    wanted = measurement.read(text)
     show(f"rim-match: the launches of {visible(path)} are measured")
     try:
         values, table = report_of(runs.rim, path)
@@ -291,7 +291,7 @@ def run(all_words: list[str], folder: str) -> int:
         return 0
     check_operands(said)
     if said.trace is None:
-        value.read(said.operands[2])
+        measurement.read(said.operands[2])
     rim = Rim(programs.found(folder))
     programs.check(rim.path)
     if said.trace is not None:

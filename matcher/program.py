@@ -7,10 +7,10 @@ from outside.faults import Fault
 from outside.programs import Ran
 from outside.rim import Rim
 from outside.texts import visible
+from outside.measurement import Value
 
 from .files import Blob
 from .launch import Launch, manifest_text
-from .value import Value
 
 # What `rim` says where it could not do what a run is for: no launch is refused for these.
 FAULTS = ("no-memory", "file-unreadable", "file-too-large", "output-failed", "status ")

@@ -8,10 +8,11 @@ from collections.abc import Iterator
 from concurrent.futures import Future, ThreadPoolExecutor
 from dataclasses import dataclass, field
 
+from outside.measurement import Value
+
 from .axes import AXES, Axis, Files
 from .launch import Launch, is_whole, measured_of, steps_of
 from .program import Outcome, Runs, outcome
-from .value import Value
 
 MOST_LAUNCHES = 1024
 # A launch of more steps than this, and than twice those of the one that is changed, is tried at the end of its round: RAM in blocks of

@@ -28,8 +28,8 @@ class Rim:
 
     path: str
 
-    def run(self, *words: str, limits: Limits = REPORT) -> Ran:
-        ran = programs.run([self.path, *words], limits)
+    def run(self, *words: str, limits: Limits = REPORT, folder: str | None = None) -> Ran:
+        ran = programs.run([self.path, *words], limits, folder)
         return replace(ran, err=ran.err if ran.err.strip() else f"rim: status {ran.status}".encode())
 
 

@@ -112,6 +112,14 @@ def tree(ram, bootargs="", initrd=None, count=1, length: int | None = MIB, metho
     return Writer().whole({key: value for key, value in root.items() if value is not None}, length)
 
 
+def strings_first(data: bytes) -> bytes:
+    """A devicetree that `tree` has made, with its block of strings before that of its structure."""
+    head = list(struct.unpack(">10I", data[:40]))
+    structure, strings = data[head[2]:head[3]], data[head[3]:head[3] + head[8]] + bytes(-head[8] % 4)
+    head[1:4] = 56 + len(strings) + len(structure), 56 + len(strings), 56
+    return struct.pack(">10I", *head) + data[40:56] + strings + structure
+
+
 def wide() -> dict:
     """A node of a long path whose children are many: megabytes of which `rim fdt` makes gigabytes."""
     name = "a" * 31
@@ -290,16 +298,16 @@ WRONG = [
     ("another word of a size", replaced(WITH_TREE, "-m", "1G,share=on"), '-m: "share=on": what it changes is not known'),
     ("another algorithm", [*WITH_TREE, "--algo", "sha256,sha384"], '--algo: "sha384", expected sha256 or sha512'),
     ("a control character", [*WITH_TREE, "-append", "a\tb"], '"a\\x09b" has a control character'),
-    ("no devicetree", QEMU, "--qemu and --dtb: neither is given"),
+    ("no devicetree", QEMU, "--qemu and -dtb and --dtb: none is given"),
+    ("a devicetree of two sources", [*WITH_TREE, "-dtb", "tree"], "-dtb and --dtb: both are given, expected one of them for the devicetrees"),
     ("two sources of devicetrees", [*WITH_TREE, "--qemu", "qemu"], "--qemu and --dtb: both are given"),
     ("firmware", [*QEMU, "--qemu", "q", "--", "-bios", "x"], "-bios x: QEMU then starts firmware and puts no kernel into RAM"),
-    ("an edited devicetree", [*QEMU, "--qemu", "q", "--", "--dtb", "x"],
-     "--dtb x: QEMU edits such a file and makes it longer; expected `--dtb FILE`, an option of rim-manifest's before `--`"),
+    ("a devicetree after --", [*QEMU, "--qemu", "q", "--", "--dtb", "x"], "--dtb x: it is of what the table places, expected it before `--`"),
     ("flash", [*QEMU, "--qemu", "q", "--", "-drive", "if=pflash,file=x"], "-drive if=pflash,file=x: QEMU then starts firmware"),
     ("a loader", [*QEMU, "--qemu", "q", "--", "-device", "loader,file=x"], "-device loader,file=x: it loads"),
     *[(f"-machine {word}", replaced(WITH_TREE, "-M", f"virt,gic-version=3,{word}"), f'-machine: "{word}": {why}') for word, why in (
         ("firmware=F", "QEMU then starts firmware"), ("pflash0=F", "QEMU then starts firmware"), ("pflash1=F", "QEMU then starts firmware"),
-        ("dtb=F", "QEMU edits such a file"), ("kernel=F", "rim-manifest reads no file of it, expected -kernel FILE"),
+        ("dtb=F", "rim-manifest reads no file of it, expected -dtb FILE"), ("kernel=F", "rim-manifest reads no file of it, expected -kernel FILE"),
         ("initrd=F", "rim-manifest reads no file of it, expected -initrd FILE"),
         ("append=a", "rim-manifest reads no text of it, expected -append TEXT"), ("smp.cpus=4", "other processors than those of -smp"),
         ("memory.size=2G", "other RAM than that of -m, expected -m"), ("memory.slots=1", "other RAM than that of -m"),
@@ -522,6 +530,10 @@ FAULTS = [
      "tree": tree([(2 * LOW, 2 * LOW + 256 * MIB)], initrd=(0x8FDF_DCD4, 0x8FDF_FFFD))}, "share a page"),
     ("a value twice", [*WITH_TREE, "-m", "256"], {}, "launch 256M-smp1-Image-no-initrd-sha512: two combinations have this name"),
     ("too many launches", [*WITH_TREE, "--append-file", "a"], {"a": b"a\n" * 65537}, "the words have 65537 combinations, expected at most"),
+    ("a devicetree of -dtb that is long", [*QEMU, "-dtb", "tree", "--row", "dtb_file=padded"], {},
+     "tree: it has 1048576 bytes, and 2117152 by dtb_file=padded, expected at most 2097152"),
+    ("a devicetree of -dtb of another order", [*QEMU, "-dtb", "tree", "--row", "dtb_file=padded"], {"tree": strings_first(FILES["tree"])},
+     "tree: its blocks are in another order than usual, and QEMU writes it anew then"),
     ("a devicetree that is long", WITH_TREE, {"tree": FILES["tree"].ljust(2 * MIB + 1, b"\0")}, "tree: it has more than 2097152 bytes"),
     ("two devicetrees that fit", [*WITH_TREE, "--dtb", "b"], {"b": tree([(LOW, LOW + 256 * MIB)], model=b"b\0")},
      "tree and b both fit and differ"),
@@ -612,7 +624,7 @@ DOMAIN_STOPS = [
     ("firmware", ("<kernel>", "<loader>a</loader><kernel>"), 2, "l: <loader>: firmware is started then, and the kernel is not in RAM"),
     ("firmware by itself", ("<os>", "<os firmware='efi'>"), 2, "l: <os>: its firmware is started"),
     ("no kernel", ("<kernel>Image</kernel>", ""), 2, "l: <os>: it has no <kernel>, so that firmware is started"),
-    ("a devicetree", ("<kernel>", "<dtb>a</dtb><kernel>"), 2, "l: <dtb>: QEMU edits such a file"),
+    ("two devicetrees", ("<kernel>", "<dtb>a</dtb><kernel>"), 2, "-dtb and --dtb: both are given"),
     ("another architecture", ("aarch64' m", "x86_64' m"), 2, "l: <type>: expected arch='aarch64' and a machine"),
     ("a TPM", ("<memballoon model='virtio'/>", "<tpm model='tpm-tis'/>"), 2, "l: <tpm>: what it changes is not known"),
     ("RAM that is plugged in", ("<memballoon model='virtio'/>", "<memory model='dimm'/>"), 2, "l: <memory>: what it changes is not known"),
@@ -904,6 +916,7 @@ def given_to_a_dump(folder: Folder) -> list[str]:
 
 NO_PCIE = {"pcie@10000000": None}
 TREES = {"trees/256M-1-none": FILES["tree"], "trees/256M-2-none": tree([(LOW, LOW + 256 * MIB)], count=2)}
+SHORT_TREE = tree([(LOW, LOW + 256 * MIB)], length=None)
 OF_LKVM = {"tree": tree([(2 * LOW, 2 * LOW + 256 * MIB)], initrd=(0x8FDF_DCD4, 0x8FDF_FFFD), length=65536, **NO_PCIE)}
 REALM_TABLE = b"""[realm]
 s2sz = "guest"
@@ -946,6 +959,12 @@ OPTIONS = [
      + differs("zeros", folder.read("out/zeros"), b"\0"), OF_LKVM),
     ("pages of the BSS", [*WITH_TREE, "--kernel-pages", "image_size"], lambda folder: differs("size",
      [item.get("size") for item in first(folder)["item"]], [2 * MIB, None])),
+    ("a devicetree of -dtb", [*QEMU, "-dtb", "tree"], lambda folder: differs("bytes", folder.read("out/dtb-1"), SHORT_TREE),
+     {"tree": SHORT_TREE}),
+    ("a devicetree of -dtb in a line", ["qemu", "--host", "host.toml", "--out", "out", "--row", "dtb_file=padded", "--", "qemu-system-aarch64",
+     "-M", "virt,gic-version=3,dtb-randomness=off", "-cpu", "max", "-m", "256M", "-kernel", "Image", "-dtb", "tree"], lambda folder: differs(
+     "bytes", folder.read("out/dtb-1"), (SHORT_TREE[:4] + struct.pack(">I", 2 * len(SHORT_TREE) + 20_000) + SHORT_TREE[8:]).ljust(
+         2 * len(SHORT_TREE) + 20_000, b"\0")), {"tree": SHORT_TREE}),
     ("pages of a kernel with little BSS", [*WITH_TREE, "--kernel-pages", "image_size"], lambda folder: differs("size",
      [item.get("size") for item in first(folder)["item"]], [20_000, None]), {"Image": image(4096)}),
     ("pages that are used", [*WITH_TREE, "--dtb-pages", "used"],
@@ -1403,7 +1422,7 @@ def started(program: str):
         os.symlink(START, os.path.join(folder.path, "link"))
         os.makedirs(os.path.join(folder.path, "usr", "bin"))
         shutil.copy(START, os.path.join(folder.path, "usr", "bin", "rim-manifest"))
-        for package in ("vmm", "outside"):
+        for package in ("vmm", "finder", "outside"):
             shutil.copytree(os.path.join(TOP, package), os.path.join(folder.path, "usr", "share", "rim", package))
         for start in ("./link", "usr/bin/rim-manifest"):
             shutil.rmtree(os.path.join(folder.path, "out"), ignore_errors=True)
@@ -1414,7 +1433,7 @@ def started(program: str):
         wrong += differs("the example", (status, os.path.exists(os.path.join(folder.path, example))), (2, True))
         os.remove(os.path.join(folder.path, "usr", "share", "rim", "vmm", "main.py"))
         status, _, said = folder.run("--help", start=os.path.join(folder.path, "usr/bin/rim-manifest"))
-        return wrong + differs("no modules", (status, "no folders vmm and outside" in said), (3, True))
+        return wrong + differs("no modules", (status, "no folders vmm, finder and outside" in said), (3, True))
 
 
 def texts(program: str):

@@ -34,8 +34,9 @@ class Command:
 
     name: str
     about: str
-    operands: tuple[str, ...] = ()
+    operands: tuple[str | tuple[str, ...], ...] = ()
     options: tuple[Option, ...] = ()
+    without: tuple[str, ...] = ()   # names of options of all subcommands that it has not, or has itself
 
 
 @dataclasses.dataclass(frozen=True)
@@ -49,7 +50,7 @@ class Program:
 
     def options_of(self, command):
         """The options that may come after a subcommand."""
-        return (*command.options, *self.common)
+        return (*command.options, *(option for option in self.common if not set(option.names) & set(command.without)))
 
     def options_before(self):
         """The options that may come where no subcommand is given yet."""
@@ -95,6 +96,7 @@ RIM_MANIFEST = Program(
             Option(("-kernel", "--kernel", "--each-kernel"), "A kernel", FILE),
             Option(("-initrd", "--initrd", "--each-initrd"), "An initrd", FILE),
             Option(("-append", "--append", "--each-append"), "A command line of the kernel", TEXT),
+            Option(("-dtb",), "The devicetree that QEMU itself is given", FILE),
             Option(("--libvirt",), "A domain of libvirt, as virsh dumpxml prints it", FILE),
             Option(("--qemu",), "QEMU itself, which makes the devicetrees", PROGRAM),
             Option(("--stub",), "Whether the boot stub is part of the realm", ("none", "measured")),
@@ -114,6 +116,18 @@ RIM_MANIFEST = Program(
             Option(("--initramfs", "--initrd", "--each-initrd"), "An initrd", FILE),
             Option(("--cmdline", "--append", "--each-append"), "A command line of the kernel", TEXT),
         )),
+        Command("settle", "Which alternatives give the measurement of a machine", (("qemu", "kvmtool", "cloud-hypervisor"),), (
+            Option(("--rim",), "The measurement that the machine gave", TEXT),
+            Option(("--rim-file",), "A file with that measurement", FILE),
+            Option(("--trace",), "The measurement after each step", FILE),
+            Option(("--guests",), "More guests of the machine with their measurements", FILE),
+            Option(("--limit",), "Stop after this many launches", TEXT),
+            Option(("--out",), "The file about the host that is written", FILE),
+            Option(("--libvirt",), "A domain of libvirt, as virsh dumpxml prints it", FILE),
+            Option(("--qemu",), "QEMU itself, which makes the devicetrees", PROGRAM),
+            Option(("--lkvm",), "lkvm itself, which makes the devicetrees", PROGRAM),
+        ), ("--append-file", "--no-initrd", "--algo", "--s2sz", "--kernel-pages", "--dtb-pages", "--order", "--out", "--short-names", "--measure",
+            "--json", "--explain", "--rules")),
     ),
     (
         Option(("--line",), "A file with the command line of the hypervisor", FILE),

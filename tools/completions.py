@@ -192,7 +192,7 @@ def bash_values(program):
 def bash_operands(program):
     rows = [(" 0", "'words " + " ".join(command.name for command in program.commands) + "'")]
     rows += [(f"{command.name} {at}", kind) for command in program.commands for at, kind in enumerate(command.operands)]
-    return "\n".join(f'    "{pattern}") kind={kind} ;;' for pattern, kind in rows)
+    return "\n".join(f'    "{pattern}") kind={kind if isinstance(kind, str) else bash_kind(kind)} ;;' for pattern, kind in rows)
 
 
 def bash_options(program):

@@ -50,7 +50,7 @@ put_programs() {
         [ ! -f "$script" ] || put 755 "$script" "bin/$script"
     done
     if [ -f rim-manifest ]; then
-        find outside vmm matcher comparer -type f | while read -r path; do
+        find outside finder vmm matcher comparer -type f | while read -r path; do
             mode=644
             [ ! -x "$path" ] || mode=755
             put "$mode" "$path" "share/rim/$path"

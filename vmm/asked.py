@@ -58,8 +58,9 @@ def asked(vmm: Hypervisor, said: dict) -> Asked:
         return Asked(said, vmm.sort_rest(said["rest"]))
     others = vmm.sort(line.words)
     of_line = set(others.said) - set(said)
-    said = others.said | said
-    if line.program and "program" not in said and "dtb" not in said and any(option.key == "program" for option in vmm.OPTIONS):
+    alone = {option.key for option in vmm.OPTIONS if not option.many}
+    said = {key: texts[-1] if key in alone else texts for key, texts in others.said.items()} | said
+    if line.program and not {"program", "dtb", "own_dtb"} & set(said) and any(option.key == "program" for option in vmm.OPTIONS):
         said["program"] = line.program
     return Asked(said, others, line, of_line)
 
@@ -98,12 +99,12 @@ def of_realm(about_host: Host, realm: Realm | None) -> Host:
     return replace(about_host, values=about_host.values | {"rpv": value}, notes={"rpv": realm.source})
 
 
-def check_features(vmm: Hypervisor, cpus: list[Word], about_host: Host):
-    """What the words of a processor say, the host's file has to say too."""
+def check_features(vmm: Hypervisor, cpus: list[Word], about_host: Host, is_settled: bool = True):
+    """What the words of a processor say, the host's file has to say too; one that is not settled yet may say nothing."""
     wrong = {}
     for cpu in cpus:
         for key, fitting in vmm.features(cpu.text).items():
-            if about_host[key] not in fitting:
+            if about_host[key] not in fitting and (is_settled or about_host[key] is not None):
                 has = f"has {key} = {host.value_shown(about_host[key])}" if about_host[key] is not None else f"has no {key}"
                 wrong[key] = (f"-cpu: {shown(cpu.text)}, and {about_host.name} {has}, "
                               f"expected {key} = {' or '.join(map(host.value_shown, fitting))} there, or another processor")

@@ -80,7 +80,7 @@ def command_lines_shown(*texts: str) -> list[str]:
     return [(f"{start} characters and " if start else "") + shown(text[start:]) for text in texts]
 
 
-def processors(vmm: Hypervisor, launch: Launch, tree: Tree, has_pmu: bool) -> Iterator[Difference]:
+def processors(vmm: Hypervisor, launch: Launch, tree: Tree, has_pmu: bool | None) -> Iterator[Difference]:
     """3. A node for each processor with its number and its model, and a PMU where the host says so."""
     has = devicetree.processors(tree)
     wanted = [number % 16 + 256 * (number // 16) for number in range(launch.processors)]
@@ -93,7 +93,7 @@ def processors(vmm: Hypervisor, launch: Launch, tree: Tree, has_pmu: bool) -> It
         seen = next(each for each in devicetree.processor_models(tree) if each != model)
         has_model = "one of no model" if seen is None else shown(seen)
         yield Difference("processors", f"the devicetree has {has_model}", f"{shown(model)} by -cpu")
-    if (tree.root.child("pmu") is not None) != has_pmu:
+    if has_pmu is not None and (tree.root.child("pmu") is not None) != has_pmu:
         has_node, wants_node = ("no", "one") if has_pmu else ("a", "none")
         yield Difference("processors", f"the devicetree has {has_node} node /pmu", f"{wants_node} by pmu of the host")
 
@@ -109,7 +109,9 @@ def controller(vmm: Hypervisor, launch: Launch, tree: Tree) -> Iterator[Differen
 
 
 def same_bytes(vmm: Hypervisor, dump: Dump) -> Iterator[Difference]:
-    """4. No seeds, and as many bytes as the hypervisor loads. That two dumps are equal is looked at where they are made."""
+    """4. No seeds, and as many bytes as the hypervisor loads, of one that it makes. That two dumps are equal is looked at there."""
+    if dump.is_own:
+        return
     for name in devicetree.seeds(dump.tree):
         yield Difference("same bytes twice", f"the devicetree has {name}, which differs at each start", f"none{in_brackets(vmm.FACTS.no_seeds)}")
     length = vmm.FACTS.dtb_length
@@ -148,13 +150,11 @@ def place(vmm: Hypervisor, launch: Launch, dump: Dump) -> Iterator[Difference]:
     if places.dtb % vmm.FACTS.dtb_align or places.kernel % (2 * MIB):
         yield Difference("place", f"dtb at {places.dtb:#x} and kernel's base at {places.kernel:#x}", "multiples of 2 MiB")
     if launch.guest.firmware:
-        yield from protected(launch, dump.tree)
         return
     if vmm.FACTS.dtb_is_past_initrd and places.dtb < places.initrd + launch.guest.initrd_length:
         yield Difference("place", f"dtb at {places.dtb:#x}", "it past the initrd")
     if (places.pc == places.entry) != (places.stub is None) or places.stub not in (None, places.pc):
         yield Difference("place", f"pc {places.pc:#x} and stub {places.stub}", "both or neither")
-    yield from protected(launch, dump.tree)
 
 
 def protected(launch: Launch, tree: Tree) -> Iterator[Difference]:
@@ -167,14 +167,19 @@ def protected(launch: Launch, tree: Tree) -> Iterator[Difference]:
             yield Difference("place", f"{name} is at {span(base, end)}", half)
 
 
-def of_tree(vmm: Hypervisor, launch: Launch, dump: Dump, has_pmu: bool) -> list[Difference]:
+def of_tree(vmm: Hypervisor, launch: Launch, dump: Dump, has_pmu: bool | None) -> list[Difference]:
     """What does not fit between the words and the devicetree: checks 1 to 3."""
     return [*ram(launch, dump.tree), *boot_words(vmm, launch, dump.tree), *processors(vmm, launch, dump.tree, has_pmu),
             *controller(vmm, launch, dump.tree)]
 
 
 def all_of(vmm: Hypervisor, launch: Launch, dump: Dump, has_pmu: bool) -> list[Difference]:
-    return [*of_tree(vmm, launch, dump, has_pmu), *same_bytes(vmm, dump), *place(vmm, launch, dump)]
+    return [*of_tree(vmm, launch, dump, has_pmu), *same_bytes(vmm, dump), *place(vmm, launch, dump), *protected(launch, dump.tree)]
+
+
+def of_unsettled(vmm: Hypervisor, launch: Launch, dump: Dump) -> list[Difference]:
+    """All but what only a settled host decides: whether there is a PMU, and how wide an IPA is."""
+    return [*of_tree(vmm, launch, dump, None), *same_bytes(vmm, dump), *place(vmm, launch, dump)]
 
 
 def faults(found: dict[str, list[Difference]], paths: dict[str, str]) -> list[str]:

@@ -5,10 +5,11 @@ import os
 import re
 import shutil
 import stat
+import struct
 import sys
 import time
 from collections.abc import Callable
-from dataclasses import dataclass
+from dataclasses import dataclass, replace
 
 from outside import files, programs
 from outside.faults import Fault
@@ -23,6 +24,8 @@ from .launches import Launch
 SECONDS, AT_A_TIME = 60, 2
 # No devicetree is longer (Linux, booting.rst).
 MOST = 2 << 20
+# What QEMU adds to a file of -dtb before it doubles its length.
+ROOM = 10_000
 # How long a file may be that a program writes: a devicetree that is too long is seen to be.
 MOST_WRITTEN = MOST + 4096
 
@@ -41,11 +44,13 @@ class Written:
 
 @dataclass(frozen=True)
 class Dump(Written):
-    """A devicetree as it is loaded, what a fault calls it, what it says, and the path or the words by which it is called."""
+    """A devicetree as it is loaded, what a fault calls it, what it says, and the path or the words by which it is called; `is_own`: whether
+    it is a file that the hypervisor is given, and no longer one that it makes."""
 
     path: str
     tree: Tree
     source: str
+    is_own: bool = False
 
 
 def written(data: bytes) -> Written:
@@ -180,6 +185,29 @@ def made(program: Program, reader: Reader, launches: list[Launch]) -> dict[str, 
             print("\r\033[K", end="", file=sys.stderr, flush=True)
     dumps = {key: reader.dump(f"the devicetree of launch {launch.name}", found[key]) for key, launch in firsts.items()}
     return {launch.name: dumps[key_of(launch)] for launch in launches}
+
+
+def padded(name: str, data: bytes) -> bytes:
+    """A file as QEMU makes it longer: its header says so, and zeros come after it. A file whose blocks are in another order than usual would
+    be written anew by libfdt."""
+    length, words = 2 * (len(data) + ROOM), struct.unpack(">10I", data[:40])
+    reserved, structure, strings, version = words[4], words[2], words[3], words[5]
+    if not 40 <= reserved < structure < strings or version < 17:
+        raise Fault(f"{visible(name)}: its blocks are in another order than usual, and QEMU writes it anew then, expected dtb_file=given, or "
+                    "a file that dtc has written")
+    if length > MOST:
+        raise Fault(f"{visible(name)}: it has {len(data)} bytes, and {length} by dtb_file=padded, expected at most {MOST}, which Linux takes")
+    return (data[:4] + length.to_bytes(4, "big") + data[8:20] + (17).to_bytes(4, "big") + data[24:]).ljust(length, b"\0")
+
+
+def own(path: str, is_padded: bool, reader: Reader, launches: list[Launch]) -> dict[str, Dump]:
+    """The file that the hypervisor is given, which is that of each launch."""
+    data = files.read(path, MOST, "a devicetree")
+    found = replace(reader.dump(path, written(data)), is_own=True)
+    if is_padded:
+        longer = written(padded(path, data))
+        found = replace(found, packed=longer.packed, length=longer.length)
+    return {launch.name: found for launch in launches}
 
 
 def handed_in(paths: list[str], reader: Reader, launches: list[Launch], differences: Callable[[Launch, Dump], list]) -> dict[str, Dump]:

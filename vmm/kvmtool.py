@@ -69,7 +69,7 @@ TABLE = [
     Row("recs", "the first processor is runnable; the others begin off and are turned on by PSCI", None, SOURCE, MEMORY),
     order_row("", 100, SOURCE),
     Row("s2sz", "the bits of RAM's last address, at least 32, and one more for the shared half of a realm",
-        s2sz, "Linux, arm-cca.rst has the example of 33 bits", MEMORY, width_ways(), WIDTH_APART, WIDTH_MORE),
+        s2sz, "Linux, arm-cca.rst has the example of 33 bits", MEMORY, width_ways(95), WIDTH_APART, WIDTH_MORE),
     kernel_pages_row(80, SOURCE),
     dtb_pages_row(85, "all of its 64 KiB, also where it is zero", SOURCE),
     hash_row(SOURCE, ("sha256", 80), ("sha512", 20)),

@@ -128,7 +128,7 @@ class Domain:
             self.refuse("type", "expected arch='aarch64' and a machine")
             return
         self.machine.insert(0, kind.get("machine", "").replace(",", ",,"))
-        words = {"kernel": "-kernel", "initrd": "-initrd", "cmdline": "-append"}
+        words = {"kernel": "-kernel", "initrd": "-initrd", "cmdline": "-append", "dtb": "-dtb"}
         if element.find("kernel") is None:
             self.refuse("os", "it has no <kernel>, so that firmware is started, expected <kernel>")
 
@@ -139,7 +139,7 @@ class Domain:
             self.refuse(each.tag, "firmware is started then, and the kernel is not in RAM, expected a domain without it")
 
         self.others(element, dict.fromkeys(words, load) | dict.fromkeys(("loader", "nvram", "firmware", "shim", "varstore"), firmware) | {
-            "type": lambda each: None, "dtb": lambda each: self.refuse("dtb", "QEMU edits such a file, expected --dtb FILE before `--`")})
+            "type": lambda each: None})
 
     def memory(self, element: Element):
         most = self.root.find("maxMemory")

@@ -30,6 +30,7 @@ class About:
     rules: list[Row]        # the rows by which things have their places
     made_by: str            # where the devicetrees come from
     warnings: list[str]
+    more: list[str]         # what the words of a launch have beside those of its machine and its files
 
 
 def shown(words: list[str]) -> str:
@@ -133,9 +134,9 @@ def number_lines(launch: Launch, about: About) -> str:
     return lines
 
 
-def said(launch: Launch, vmm: Hypervisor) -> str:
+def said(launch: Launch, about: About) -> str:
     """The words of a launch, as a comment."""
-    return comment(shown(vmm.final_words(launch.guest) + vmm.load_words(launch.guest, lambda blob: blob.path)))
+    return comment(shown(about.vmm.final_words(launch.guest) + about.vmm.load_words(launch.guest, lambda blob: blob.path) + about.more))
 
 
 def table_of(launch: Launch, about: About) -> str:
@@ -143,7 +144,7 @@ def table_of(launch: Launch, about: About) -> str:
     made, order = launch.made, about.chosen.get("order")
     items = [noted(f"    {item_text(item)},", f"rule {item.name.removesuffix('_lead')}") for item in made.items]
     return "".join([
-        f"\n[[launch]]\n{said(launch, about.vmm)}name = {text(launch.name)}\n", noted(f"algo = {text(launch.guest.algo)}", about.algo_from),
+        f"\n[[launch]]\n{said(launch, about)}name = {text(launch.name)}\n", noted(f"algo = {text(launch.guest.algo)}", about.algo_from),
         noted(f"s2sz = {made.s2sz}", launch.places.width_from), number_lines(launch, about),
         noted(f"ram = {ram_text(made.regions)}", f"rule ram: {shown([launch.guest.memory.words])}"), "item = [\n", *items, "]\n",
         noted(f"rec = {recs_text(made.recs, made.pc, made.x)}", f"rules pc, x and recs: {made.recs} processor{'s' * (made.recs > 1)}"),

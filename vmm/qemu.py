@@ -45,6 +45,8 @@ OPTIONS = [
     Option(("-kernel", "--kernel", "--each-kernel"), "kernel", "[NAME=]FILE", "an arm64 Image, or one packed by gzip. Required", True),
     Option(("-initrd", "--initrd", "--each-initrd"), "initrd", "[NAME=]FILE", "an initrd", True),
     Option(("-append", "--append", "--each-append"), "append", "TEXT", "a command line of the kernel", True),
+    Option(("-dtb",), "own_dtb", "FILE", "QEMU's own word: the devicetree that it is given, which it loads for a realm as the row dtb_file says. "
+           "It takes the place of --qemu and of --dtb"),
     Option(("--libvirt",), "libvirt", "FILE", "a domain of libvirt's, as `virsh dumpxml` prints it: QEMU's line is made of it"),
     Option(("--qemu",), "program", "PROGRAM", "QEMU itself, which makes the devicetrees: each by the final words with "
            "dumpdtb= and dtb-randomness=off, twice. Of other words it is given what changes a devicetree, and nothing that opens "
@@ -140,6 +142,10 @@ def s2sz(guest: Guest, places: Places) -> int:
 
 
 REALM = "changes that were proposed to QEMU"
+DTB_FILE = Row(
+    "dtb_file", "the devicetree of -dtb, where one is given: QEMU does not edit it for a realm", None, REALM, MEMORY,
+    (Way("given", "the file as it is, to its last byte", 50),
+     Way("padded", "2 x (file + 10,000) bytes: the file, whose header says that length, and zeros", 50)), "each with -dtb: its length is measured")
 TABLE = [
     Row("ram", "from 0x40000000 on, as much as -m says, rounded up to 8 KiB; one region, never split at 4 GiB", ram, VIRT, SEEN,
         ram_ways(75, "the kernel's with its BSS"), "each: what is made RAM is measured"),
@@ -152,7 +158,7 @@ TABLE = [
     Row("initrd", "the higher of 0x40000000 + min(RAM / 2, 128 MiB) and the kernel's end, rounded up to 4096", initrd, BOOT, SEEN),
     Row("dtb", "the initrd's end, or its place where there is none, rounded up to 2 MiB",
         lambda guest, places: up(places.initrd + guest.initrd_length, DTB_ALIGN), BOOT, SEEN),
-    Row("dtb length", "1,048,576 bytes always, also where few of them are used", None, "system/device_tree.c of QEMU 10.0 and 10.2", SEEN),
+    Row("dtb length", "1,048,576 bytes of one that QEMU makes, also where few of them are used", None, "system/device_tree.c of QEMU 10.0 and 10.2", SEEN),
     Row("stub", "40 bytes at 0x40000000", lambda guest, places: BASE if guest.ways.get("stub") == "measured" else None, BOOT,
         SEEN + "; whether a realm has it: " + MEMORY,
         (Way("none", "it is no part of the realm: the first processor begins at the kernel, with the devicetree's address in x0", 85),
@@ -168,7 +174,8 @@ TABLE = [
     order_row(" (a stub first)", 80, REALM),
     Row("s2sz", "the bits of the last address of the windows after RAM, of those that the host's s2sz_max and highmem leave (40 up to 510 "
         "GiB of RAM), at least 32, and one more for the shared half of a realm", s2sz, VIRT, SOURCE + "; the one more: " + MEMORY,
-        width_ways(), WIDTH_APART, WIDTH_MORE),
+        width_ways(85), WIDTH_APART, WIDTH_MORE),
+    DTB_FILE,
     kernel_pages_row(75, REALM),
     dtb_pages_row(75, "all of its 1 MiB, also where it is zero", REALM),
     hash_row(REALM, ("sha512", 70), ("sha256", 30)),

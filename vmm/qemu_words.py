@@ -19,8 +19,6 @@ OFF = ("off", "no", "false", "n")
 ON = ("on", "yes", "true", "y")
 FIRMWARE = "QEMU then starts firmware and puts no kernel into RAM, which is another layout that no table has"
 NO_FIRMWARE = "expected a line without it, by which QEMU itself loads the kernel of -kernel"
-OWN_TREE = "QEMU edits such a file and makes it longer"
-HAND_IN = "expected `--dtb FILE`, an option of rim-manifest's before `--`, with the devicetree as it is loaded"
 ELSEWHERE = "all of RAM comes from elsewhere then"
 NO_REALM = "no realm has it"
 
@@ -58,7 +56,7 @@ MACHINE = [
     MachineWord(("secure",), Effect.TREE, "a processor with TrustZone: " + NO_REALM, "{}=off", OFF),
     MachineWord(("mte",), Effect.TREE, "memory tagging: " + NO_REALM, "{}=off", OFF),
     MachineWord(("firmware", "pflash0", "pflash1"), Effect.REFUSED, FIRMWARE, "none, and -kernel"),
-    MachineWord(("dtb",), Effect.REFUSED, OWN_TREE, "--dtb of rim-manifest's with the file as it is loaded"),
+    MachineWord(("dtb",), Effect.REFUSED, "rim-manifest reads no file of it", "-dtb FILE"),
     MachineWord(("dumpdtb",), Effect.REFUSED, "rim-manifest adds it itself", "--qemu PROGRAM"),
     MachineWord(("kernel",), Effect.REFUSED, "rim-manifest reads no file of it", "-kernel FILE"),
     MachineWord(("initrd",), Effect.REFUSED, "rim-manifest reads no file of it", "-initrd FILE"),
@@ -319,6 +317,8 @@ WORDS = [
     Entry(spelled("kernel", "-"), Effect.LAYOUT, "the kernel; of several the last counts", key="kernel"),
     Entry(spelled("initrd", "-"), Effect.LAYOUT, "the initrd; of several the last counts", key="initrd"),
     Entry(spelled("append", "-"), Effect.LAYOUT, "the kernel's command line; of several the last counts", key="append"),
+    Entry(spelled("dtb", "-"), Effect.LAYOUT, "the devicetree, which a realm is given as the row dtb_file says; of several the last counts",
+          key="own_dtb"),
     Entry(spelled("accel", "-"), Effect.TREE, "what runs the processors, and so what -cpu host and gic-version=host are"),
     Entry(spelled("enable-kvm", "-"), Effect.TREE, "that KVM runs the processors", takes=Takes.NOTHING),
     Entry(spelled("numa", "-"), Effect.TREE, "nodes of memory and of processors"),
@@ -340,7 +340,6 @@ WORDS = [
               "semihosting-config tb-size trace rotate", "async-teardown S s snapshot nodefaults no-user-config daemonize no-reboot "
               "no-shutdown singlestep one-insn-per-tb only-migratable enable-sync-profile semihosting"),
     refused(FIRMWARE, "bios pflash", NO_FIRMWARE),
-    refused(OWN_TREE, "dtb", HAND_IN),
     refused("it loads what no table places", "shim", "expected no such word"),
     refused(ELSEWHERE, "incoming loadvm", "expected a guest that begins by itself"),
     refused("rim-manifest does not read that file", "readconfig", "expected its words one by one"),

@@ -57,9 +57,10 @@ def order_row(address: str, likely: int, source: str) -> Row:
                "one of which two blobs change places: with a stub, firmware or the devicetree first", "ram, rec and the blobs, parted by commas")
 
 
-def width_ways() -> tuple[Way, ...]:
+def width_ways(likely: int) -> tuple[Way, ...]:
     """Whether a realm has one bit more than a plain guest."""
-    return Way("one_more", "one bit more than a plain guest has, since the upper half is shared", 85), Way("guest", "as a plain guest's", 15)
+    return (Way("one_more", "one bit more than a plain guest has, since the upper half is shared", likely),
+            Way("guest", "as a plain guest's", 100 - likely))
 
 
 WIDTH_APART = "each: the width is measured"

@@ -28,6 +28,14 @@ class Chosen:
         return self.row.way(self.name) or Way(self.name, "as it is given", 0)
 
     @property
+    def is_of_option(self) -> bool:
+        return self.source.startswith("--")
+
+    @property
+    def is_of_file(self) -> bool:
+        return not self.is_of_option and self.source != LIKELIEST
+
+    @property
     def is_likeliest(self) -> bool:
         return self.name == self.row.names[0]
 

@@ -1,0 +1,67 @@
+"""Runs of `rim` over manifests that are written for it."""
+import os
+from collections.abc import Sequence
+from dataclasses import dataclass
+
+from outside import files
+from outside.faults import Fault
+from outside.rim import Rim
+from outside.texts import visible
+from outside.measurement import Value
+
+# The most launches of a manifest.
+MOST_LAUNCHES = 1024
+# What `rim` says where it could not do what a run is for: no launch is refused for these.
+FAULTS = ("no-memory", "file-unreadable", "file-too-large", "output-failed", "status ")
+
+
+@dataclass(frozen=True)
+class Candidate:
+    """A launch: what of it is measured, exactly; its table in a manifest, without its name; and about how many steps are measured."""
+
+    key: object
+    table: str
+    steps: int
+
+
+@dataclass(frozen=True)
+class Outcome:
+    """What came of some launches: the place of the one that has the value, and how many `rim` has refused."""
+
+    hit: int | None
+    refused: int
+
+
+@dataclass
+class Runs:
+    """The program, the text of the files that launches name, and a folder in which `rim` is started: paths of files are as from there."""
+
+    rim: Rim
+    head: str
+    folder: str
+    workers: int = 2
+    count: int = 0
+
+    def outcome(self, launches: Sequence[Candidate], value: Value) -> Outcome:
+        """Measures some launches. Where all of a run are refused for one of them, each half is tried by itself."""
+        self.count += 1
+        path = os.path.join(self.folder, f"search-{self.count}.toml")
+        tables = (f'[[launch]]\nname = "{number}"\n{each.table}' for number, each in enumerate(launches))
+        files.write(path, "".join([self.head, *tables]).encode())
+        try:
+            ran = self.rim.run("measure", "--workers", str(self.workers), path, folder=self.folder)
+        finally:
+            os.remove(path)
+        if ran.status in (0, 1):
+            before, line, _ = ran.out.decode("ascii", errors="replace").partition(f" {value.algo} {value.digits}\n")
+            return Outcome(int(before.rsplit("\n", 1)[-1]) if line else None, ran.out.count(b" refused "))
+        if ran.status < 0 or ran.status > 4 or any(word in ran.said for word in FAULTS):
+            raise Fault(f"{visible(self.rim.path)} measure: status {ran.status}: {ran.said}")
+        if len(launches) == 1:
+            return Outcome(None, 1)
+        half = len(launches) // 2
+        first = self.outcome(launches[:half], value)
+        if first.hit is not None:
+            return first
+        second = self.outcome(launches[half:], value)
+        return Outcome(None if second.hit is None else half + second.hit, first.refused + second.refused)

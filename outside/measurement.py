@@ -1,0 +1,66 @@
+"""A measurement that a machine has: hexadecimal digits or base64, as tokens and reports have it; or the bytes of a claim."""
+import base64
+import binascii
+import re
+from dataclasses import dataclass
+
+from outside.faults import WrongWords
+from outside.texts import shown
+
+# How many bytes a digest of each algorithm has.
+LENGTHS = {"sha256": 32, "sha512": 64}
+# What CBOR has before the bytes of the claim cca-realm-initial-measurement: its label, and how many bytes follow.
+CLAIM_HEADS = (b"\x19\xac\xce", b"\x58\x20", b"\x58\x40")
+EXPECTED = "expected 32 or 64 bytes, as hexadecimal digits or in base64"
+
+
+@dataclass(frozen=True)
+class Value:
+    """A measurement: the algorithm that its length is of, and its digits as a report has them."""
+
+    algo: str
+    digits: str
+
+
+def bytes_of(text: str, name: str) -> bytes:
+    """The bytes of a text. One of hexadecimal digits alone is no base64, where it has the length of a digest."""
+    plain = text.removeprefix("0x")
+    if re.fullmatch(r"[0-9a-fA-F]+", plain) and len(plain) in (64, 96, 128):
+        return bytes.fromhex(plain)
+    # tokens as JSON have the alphabet for addresses, often without the `=` at the end
+    padded = text.rstrip("=").replace("-", "+").replace("_", "/")
+    padded += "=" * (-len(padded) % 4)
+    try:
+        return base64.b64decode(padded, validate=True)
+    except (binascii.Error, ValueError):
+        raise WrongWords(f"{name}: {shown(text)}, {EXPECTED}") from None
+
+
+def read(text: str, name: str = "VALUE") -> Value:
+    """The measurement of a word, which `name` calls. One that is padded with zeros is the 32 bytes before them: a monitor keeps a SHA-256
+    digest so."""
+    data = bytes_of(text.strip(), name)
+    if len(data) not in (32, 48, 64):
+        raise WrongWords(f"{name}: {shown(text)} has {len(data)} byte{'s' * (len(data) != 1)}, {EXPECTED}")
+    return of_bytes(data, name)
+
+
+def of_bytes(data: bytes, name: str) -> Value:
+    """The measurement of 32, 48 or 64 bytes."""
+    if not any(data[32:]):
+        return Value("sha256", data[:32].hex())
+    if len(data) == 48:
+        raise WrongWords(f"{name}: it has 48 bytes, as SHA-384 has, which is the hash of no realm that rim measures: {EXPECTED}")
+    return Value("sha512", data.hex())
+
+
+def of_file(data: bytes, name: str) -> Value:
+    """The measurement of a file: a text as above, the bytes of the claim, or all of the claim as CBOR has it."""
+    for head in CLAIM_HEADS:
+        data = data.removeprefix(head)
+    if len(data) in (32, 64):
+        return of_bytes(data, name)
+    try:
+        return read(data.decode("ascii"), name)
+    except UnicodeDecodeError:
+        raise WrongWords(f"{name}: {len(data)} bytes, {EXPECTED}, or the claim as CBOR has it") from None

@@ -1,0 +1,440 @@
+#!/usr/bin/env python3
+"""Simulates machines that do this or that of what a realm may change, and has rim-manifest settle find it by the value that each gives.
+
+    tests/settling.py [--machines N] [--seed N] [PROGRAM]      by default the program that `rt ci` has built, and a few machines
+
+- Machines: each has an alternative of each row and numbers, drawn by their likelihoods or at random, of each hypervisor. Its manifest is
+  written here, by code apart from rim-manifest's, PROGRAM measures it, and rim-manifest settle is given the value. A file that it writes
+  has to give the same value again; where a value pins a row, the file has to name what the machine does.
+- Several guests, a trace, forms of the value, what is known, a machine that does what no row says, wrong words and faults, a terminal.
+
+With --machines only machines are simulated, N drawn by likelihoods, N at random, and a fifth of N of which no number is known, and what came
+of each kind is printed. The last line is 'N passed, M failed'.
+"""
+import argparse
+import base64
+import enum
+import os
+import random
+import re
+import subprocess
+import sys
+import time
+import tomllib
+from dataclasses import dataclass, field
+
+from hypervisors import TOP, Folder, differs, image, tree, tried
+
+sys.path.insert(0, TOP)
+
+from finder.axes import Axis, best_first, count_of  # noqa: E402, the path is set above
+from vmm.hypervisors import HYPERVISORS  # noqa: E402
+from vmm.layout import rows_with_ways  # noqa: E402
+from vmm.rows import ADDS, NUMBERS  # noqa: E402
+
+MIB, PAGE = 1 << 20, 1 << 12
+LOW, LKVM = 0x4000_0000, 0x8000_0000
+KERNEL, BSS = 70_000, 2 * MIB
+INITRD = bytes(n * 91 % 253 for n in range(9001))
+SIZE = 1153 * MIB
+SECONDS = 600
+GRANULES = {"4k": 4 << 10, "16k": 16 << 10, "64k": 64 << 10}
+
+
+# ---- a guest of each hypervisor: its words, and where its blobs are, by hand from docs/VMM.md
+
+
+@dataclass(frozen=True)
+class Layout:
+    """Where a guest's blobs are; `words` are its command line."""
+
+    words: list[str]
+    ram: list[tuple[int, int]]
+    kernel: int
+    initrd: int
+    dtb: int
+    width: int              # of a plain guest; of cloud-hypervisor none
+    length: int | None      # of its devicetree
+
+
+QEMU = ["qemu-system-aarch64", "-M", "virt,gic-version=3,dtb-randomness=off", "-cpu", "max", "-smp", "2", "-m", "1153M", "-kernel", "Image",
+        "-initrd", "initrd"]
+LAYOUTS = {
+    "qemu": Layout(QEMU, [(LOW, LOW + SIZE)], 0x4020_0000, 0x4800_0000, 0x4820_0000, 40, MIB),
+    "kvmtool": Layout(["lkvm", "run", "--realm", "-c", "2", "-m", "1153", "-k", "Image", "-i", "initrd"], [(LKVM, LKVM + SIZE)], LKVM,
+                      0x8FDF_DCD4, 0x8FE0_0000, 32, 65536),
+    "cloud-hypervisor": Layout(["cloud-hypervisor", "--cpus", "boot=2", "--memory", f"size={SIZE}", "--kernel", "Image", "--initramfs", "initrd"],
+                               [(LOW, LOW + SIZE)], 0x4040_0000, LOW + SIZE - 0x3000, LOW, 0, None)}
+FILES = {"Image": image(BSS, length=KERNEL), "initrd": INITRD}
+
+
+def tree_of(name: str) -> bytes:
+    about = LAYOUTS[name]
+    return tree(about.ram, initrd=(about.initrd, about.initrd + len(INITRD)), count=2, length=about.length, **{"pcie@10000000": None})
+
+
+# ---- a machine
+
+
+class Kind(enum.Enum):
+    """How a machine is drawn: by the likelihoods, with numbers of which most are known; at random; by the likelihoods, with no number known."""
+
+    LIKELY = "by likelihoods"
+    RANDOM = "at random"
+    BLIND = "with no number known"
+
+
+@dataclass
+class Machine:
+    """What a machine does: an alternative of each row, its width, and its numbers as they are read off it."""
+
+    vmm: str
+    ways: dict[str, str]
+    width: int
+    numbers: dict[str, int | bool]
+    recs_first: bool = False        # what no row says
+    values: dict[str, int | bool] = field(default_factory=dict)
+
+    def __post_init__(self):
+        self.values = dict(self.numbers)
+        for key in NUMBERS:
+            flag = {"sve_vl": "sve", "pmu_num_ctrs": "pmu"}.get(key)
+            self.values[key] = self.numbers[key] + ADDS[self.ways[key]] if not flag or self.numbers[flag] else 0
+
+
+def drawn(vmm: str, draw: random.Random, is_weighted: bool) -> Machine:
+    rows = rows_with_ways([HYPERVISORS[vmm].TABLE])
+    ways = {name: draw.choices(row.names, [way.likely if is_weighted else 1 for way in row.ways])[0] for name, row in rows.items() if name != "dtb_file"}
+    likely = is_weighted
+    numbers = {"num_bps": draw.choice((5, 15, 6)) if likely else draw.randrange(16), "num_wps": draw.choice((3, 15)) if likely else draw.randrange(16),
+               "pmu": True, "pmu_num_ctrs": draw.choice((6, 8)) if likely else draw.randrange(1, 32),
+               "sve": draw.random() < 0.5, "sve_vl": draw.choice((0, 1, 3)) if likely else draw.randrange(16)}
+    plain = LAYOUTS[vmm].width
+    width = plain + (ways["s2sz"] == "one_more") if plain else draw.choice((40, 48) if likely else range(36, 49))
+    return Machine(vmm, ways, width, numbers)
+
+
+def blob(name: str, kind: str, at: int, start: int, length: int, granule: int) -> list[tuple]:
+    """A blob in whole pages of the host: the zeros before it, and itself."""
+    low, high = start & -granule, (start + length + granule - 1) & -granule
+    page = start & -PAGE
+    lead = [(f"{name}-zeros", "raw", "zeros", low, page - low, low, page)] if low < page else []
+    return [*lead, (name, kind, name, at, high - start if granule > PAGE else length, page, high)]
+
+
+def manifest(machine: Machine) -> str:
+    """The manifest of a machine's guest."""
+    about, ways, granule = LAYOUTS[machine.vmm], machine.ways, GRANULES[machine.ways["host_pages"]]
+    data = tree_of(machine.vmm)
+    used = len(data.rstrip(b"\0")) if ways["dtb_pages"] == "used" else len(data)
+    blobs = {"kernel": blob("kernel", "kernel", about.kernel, about.kernel, BSS if ways["kernel_pages"] == "image_size" else KERNEL, granule),
+             "initrd": blob("initrd", "initrd", about.initrd, about.initrd, len(INITRD), granule),
+             "dtb": blob("dtb", "dtb", about.dtb, about.dtb, (used + PAGE - 1) & -PAGE, granule)}
+    has_stub = ways.get("stub") == "measured"
+    if has_stub:
+        blobs["stub"] = blob("stub", "raw", LOW, LOW, 40, granule)
+    names = list(blobs) if ways["order"] == "kind" else sorted(blobs, key=lambda each: blobs[each][-1][5])
+    steps, ram = [], []
+    for name in names:
+        first, last = blobs[name][0], blobs[name][-1]
+        if ways["ram"] == "each":
+            bss = (about.kernel + BSS + granule - 1) & -granule if name == "kernel" else 0
+            is_apart = machine.vmm == "kvmtool"
+            steps.append(f"ram {len(ram)}")
+            ram.append((first[5], last[6] if is_apart else max(last[6], bss)))
+            steps += [f"item {each[0]}" for each in blobs[name]]
+            if is_apart and bss > last[6]:
+                steps.append(f"ram {len(ram)}")
+                ram.append((last[6], bss))
+        else:
+            steps += [f"item {each[0]}" for each in blobs[name]]
+    if ways["ram"] == "first":
+        ram, steps = about.ram, [*(f"ram {number}" for number in range(len(about.ram))), *steps]
+    recs = ["rec 0", "rec 1"]
+    steps = recs + steps if machine.recs_first else steps + recs
+    items = ",\n".join(f'{{ name = "{name}", kind = "{kind}", file = "{file}", at = {at}, size = {size} }}'
+                       for some in blobs.values() for name, kind, file, at, size, _, _ in some)
+    pc, x = (LOW, "") if has_stub else (about.kernel, f'"{about.dtb:#x}"')
+    keys = "".join(f"{key} = {str(value).lower()}\n" for key, value in machine.values.items())
+    heads = "".join(f'[[file]]\nname = "{name}"\npath = "{path}"\n' for name, path in (
+        ("kernel", "Image"), ("initrd", "initrd"), ("dtb", "used" if ways["dtb_pages"] == "used" else "tree"), ("stub", "stub"), ("zeros", "zeros")))
+    return (f'rim_manifest = 2\n{heads}[[launch]]\nname = "a"\nalgo = "{ways["hash"]}"\ns2sz = {machine.width}\n{keys}'
+            f'block_level = {ways["block_level"]}\nrec_rule = "{ways["rec_rule"]}"\nram = {[list(each) for each in ram]}\nitem = [\n{items}]\n'
+            f'rec = [{{ pc = "{pc:#x}", x = [{x}] }}, {{ runnable = false }}]\nsteps = {steps}\n').replace("'", '"')
+
+
+def stub(machine: Machine) -> bytes:
+    about = LAYOUTS[machine.vmm]
+    code = bytes.fromhex("c0000058e1031faae2031faae3031faa8400005880001fd6")
+    return code + about.dtb.to_bytes(8, "little") + about.kernel.to_bytes(8, "little")
+
+
+def host_file(known: dict, realm: dict | None = None) -> bytes:
+    """A file about the host, with what is known; a `?` is not."""
+    def written(value) -> str:
+        return f'"{value}"' if isinstance(value, str) else str(value).lower()
+    return "".join([*(f"{key} = {written(value)}\n" for key, value in known.items()), "[realm]\n",
+                    *(f"{key} = {written(value)}\n" for key, value in (realm or {}).items())]).encode()
+
+
+def known_of(machine: Machine, draw: random.Random, is_known: bool) -> dict:
+    """What a user knows of a machine: its numbers, of which one in ten is one off; or nothing."""
+    if not is_known:
+        return dict.fromkeys(("num_bps", "num_wps", "sve", "pmu"), "?")
+    numbers = {key: max(0, value + draw.choice((-1, 1))) if key in NUMBERS and draw.random() < 0.1 else value for key, value in machine.numbers.items()}
+    for flag, key in (("sve", "sve_vl"), ("pmu", "pmu_num_ctrs")):
+        if not numbers[flag]:
+            numbers.pop(key)
+    return numbers | ({"s2sz_max": machine.width} if machine.vmm == "cloud-hypervisor" else {})
+
+
+def folder_of(machine: Machine) -> Folder:
+    data = tree_of(machine.vmm)
+    packed = data.rstrip(b"\0")
+    return Folder(FILES | {"tree": data, "used": packed.ljust((len(packed) + PAGE - 1) & -PAGE, b"\0"), "stub": stub(machine), "zeros": b"\0",
+                           "machine.toml": manifest(machine).encode()})
+
+
+def value_of(program: str, folder: Folder, name="machine.toml") -> str:
+    """The value that a machine gives; nothing where a monitor refuses it."""
+    ran = subprocess.run([program, "measure", name], cwd=folder.path, capture_output=True, text=True, timeout=SECONDS, check=False)
+    if ran.returncode > 1:
+        raise RuntimeError(f"{ran.stdout}{ran.stderr}")
+    line = ran.stdout.splitlines()[1].split(" ")
+    return "" if line[1] == "refused" else line[2]
+
+
+def settle(folder: Folder, machine: Machine, *words: str):
+    """What rim-manifest settle says of a machine's guest."""
+    return folder.run("settle", machine.vmm, "--host", "known.toml", "--dtb", "tree", *words, "--", *LAYOUTS[machine.vmm].words)
+
+
+def is_told(machine: Machine, has: dict, said: str) -> list[str]:
+    """How a settled file differs from what the machine does, where the value pins it."""
+    rows = rows_with_ways([HYPERVISORS[machine.vmm].TABLE])
+    unsettled = set(re.findall(r"^not settled: (\w+) = ", said, re.M))
+    realm = has.get("realm", {})
+    wrong = []
+    for name, way in machine.ways.items():
+        if name not in unsettled and name not in NUMBERS and name != "s2sz":
+            wrong += differs(name, str(realm.get(name, rows[name].names[0])), way)
+    for key in NUMBERS:
+        flag = {"sve_vl": "sve", "pmu_num_ctrs": "pmu"}.get(key)
+        if not flag or machine.numbers[flag]:
+            wrong += differs(key, has.get(key, 0) + ADDS[realm.get(key, "as_read")], machine.values[key])
+    return wrong + differs("sve", has["sve"], machine.numbers["sve"]) + differs("pmu", has["pmu"], machine.numbers["pmu"])
+
+
+def possible(program: str, vmm: str, draw: random.Random, is_weighted: bool) -> Machine:
+    """A machine that there can be: a monitor refuses others, such as one whose RAM is not in the protected half."""
+    while True:
+        machine = drawn(vmm, draw, is_weighted)
+        with folder_of(machine) as folder:
+            if value_of(program, folder):
+                return machine
+
+
+def simulated(program: str, vmm: str, seed: int, kind: Kind, limit=""):
+    """What comes of a machine: what is wrong, whether it was found, how many launches were tried, and seconds."""
+    draw = random.Random(f"{vmm} {seed} {kind.value}")
+    machine = possible(program, vmm, draw, kind is not Kind.RANDOM)
+    with folder_of(machine) as folder:
+        folder.put("known.toml", host_file(known_of(machine, draw, kind is not Kind.BLIND)))
+        begun = time.monotonic()
+        status, out, said = settle(folder, machine, "--rim", value_of(program, folder), "--out", "settled.toml", *([f"--limit={limit}"] if limit else []))
+        seconds = time.monotonic() - begun
+        count = re.search(r"(?:after|none of) ([0-9,]+) launches", out)
+        tried_ = int(count[1].replace(",", "")) if count else 0
+        if status == 1 and kind is not Kind.LIKELY:
+            return [], False, tried_, seconds
+        if status:
+            return [f"{machine}: status {status}, {out}{said}"], False, tried_, seconds
+        return is_told(machine, folder.toml("settled.toml"), out), True, tried_, seconds
+
+
+def machines(program: str, count: int, seed: int) -> int:
+    """Simulates many machines, and prints what came of them."""
+    passed = failed = 0
+    for kind, share in ((Kind.LIKELY, 1.0), (Kind.RANDOM, 1.0), (Kind.BLIND, 0.2)):
+        found, tries, times = 0, [], []
+        for number in range(round(count * share)):
+            vmm = list(LAYOUTS)[number % len(LAYOUTS)]
+            wrong, was_found, tried_, seconds = simulated(program, vmm, seed + number, kind, "300000")
+            found, failed, passed = found + was_found, failed + bool(wrong), passed + (not wrong)
+            if was_found:
+                tries.append(tried_)
+            times.append(seconds)
+            if wrong:
+                print(f"WRONG: {vmm} {seed + number} {kind.value}", *wrong, sep="\n  ", flush=True)
+            print(f"{number} {vmm} {kind.value} {was_found} {tried_} {seconds:.1f}", flush=True)
+        tries.sort()
+        times.sort()
+        middle = f"launches tried: half within {tries[len(tries) // 2]:,}, at most {tries[-1]:,}; " if tries else ""
+        print(f"{kind.value}: {found} of {len(times)} found; {middle}"
+              f"seconds: half within {times[len(times) // 2]:.1f}, at most {times[-1]:.1f}, {sum(times):.0f} in all", flush=True)
+    print(f"{passed} passed, {failed} failed")
+    return int(failed > 0)
+
+
+# ---- tests
+
+
+def best_first_is_right(_program: str):
+    """All combinations come, each once, by falling likelihood."""
+    wrong, draw = [], random.Random(3)
+    for _ in range(50):
+        axes = [Axis(str(n), tuple(sorted((draw.random() for _ in range(draw.randrange(1, 5))), reverse=True))) for n in range(draw.randrange(1, 6))]
+        found = list(best_first(axes))
+        likely = []
+        for at in found:
+            product = 1.0
+            for axis, place in zip(axes, at):
+                product *= axis.likely[place] / axis.likely[0]
+            likely.append(product)
+        wrong += differs("each once", (len(found), len(set(found))), (count_of(axes),) * 2)
+        wrong += [f"it rises: {earlier} {later}" for earlier, later in zip(likely, likely[1:]) if later > earlier * (1 + 1e-9)]
+    return wrong
+
+
+LIKELY = {"num_bps": 5, "num_wps": 3, "pmu": True, "pmu_num_ctrs": 6, "sve": False, "sve_vl": 0}
+
+
+def likeliest(vmm="qemu", **ways: str) -> Machine:
+    rows = rows_with_ways([HYPERVISORS[vmm].TABLE])
+    ways = {name: row.names[0] for name, row in rows.items() if name != "dtb_file"} | ways
+    plain = LAYOUTS[vmm].width
+    return Machine(vmm, ways, plain + (ways["s2sz"] == "one_more") if plain else 48, dict(LIKELY))
+
+
+KNOWN = {key: value for key, value in LIKELY.items() if key != "sve_vl"}
+EXPECTED = """\
+num_bps = 5
+num_wps = 3
+pmu_num_ctrs = 6
+sve = false
+pmu = true
+"""
+
+
+def the_file(program: str):
+    """What is printed and what the file has; that --out is not replaced; that the file is taken; and that a named row comes first."""
+    machine = likeliest(stub="measured", rec_rule="all")
+    wrong = []
+    with folder_of(machine) as folder:
+        folder.put("known.toml", host_file(KNOWN))
+        rim = value_of(program, folder)
+        status, out, said = settle(folder, machine, "--rim", rim, "--out", "settled.toml")
+        wrong += differs("status", (status, re.sub("[0-9][0-9,]*", "N", said)), (0, "rim-manifest: N combinations of N rows, the width and four "
+                         "numbers; N of the rows are measured in other ways\n"))
+        wrong += [line for line in ("  stub = measured: settled, and not the likeliest", "  rec_rule = all: settled, and not the likeliest",
+                                    "  num_bps = as_read, num_bps = 5 as it is read: settled", "  block_level = 0: not settled",
+                                    "not settled: block_level = 0: 1 gives the same; a guest that tells them apart: one with more than 1 GiB")
+                  if line not in out]
+        text = folder.read("settled.toml").decode()
+        wrong += differs("the file", EXPECTED in text and 'rec_rule = "all"\n' in text and "settled_by = \"rim-manifest settle: sha512 " in text, True)
+        wrong += differs("its rows", folder.toml("settled.toml")["realm"], {"stub": "measured", "rec_rule": "all"})
+        wrong += differs("again", settle(folder, machine, "--rim", rim, "--out", "settled.toml")[::2][0], 3)
+        status, report, _ = folder.run("qemu", "--host", "settled.toml", "--dtb", "tree", "--measure", "--", *QEMU)
+        wrong += differs("the file is taken", (status, report.splitlines()[1].split(" ")[1:]), (0, ["sha512", rim]))
+        folder.put("known.toml", folder.read("settled.toml"))
+        status, out, _ = settle(folder, machine, "--rim", rim, "--out", "settled.toml", "--force")
+        return wrong + differs("what is named comes first", (status, "after 64 launches" in out), (0, True))
+
+
+def forms(program: str):
+    """A value in each form; several guests; a trace; what --row says is sure."""
+    machine, wrong = likeliest(ram="each", hash="sha256", num_wps="one_more"), []
+    with folder_of(machine) as folder:
+        folder.put("known.toml", host_file(KNOWN))
+        rim = value_of(program, folder)
+        data = bytes.fromhex(rim)
+        trace = subprocess.run([program, "trace", "machine.toml", "a"], cwd=folder.path, capture_output=True, check=True).stdout
+        for name, data_ in (("bytes", data), ("cbor", b"\x19\xac\xce\x58\x20" + data), ("text", base64.b64encode(data) + b"\n"), ("trace", trace)):
+            folder.put(name, data_)
+        folder.put("line", " ".join(QEMU).encode())
+        folder.put("guests.toml", f'[[guest]]\nline = "line"\ndtb = "tree"\nrim = "{rim}"\n'.encode())
+        for name, words in (("base64", ["--rim", base64.b64encode(data).decode()]), ("bytes", ["--rim-file", "bytes"]), ("cbor", ["--rim-file", "cbor"]),
+                            ("text", ["--rim-file", "text"]), ("trace", ["--trace", "trace"]), ("a row", ["--rim", rim, "--row", "ram=each"]),
+                            ("two guests", ["--rim", rim, "--guests", "guests.toml"])):
+            status, out, said = settle(folder, machine, *words, "--out", f"{name}.toml")
+            wrong += differs(name, status, 0) + ([out + said] if status else [])
+            if not status:
+                wrong += differs(name, folder.toml(f"{name}.toml")["realm"], {"ram": "each", "hash": "sha256", "num_wps": "one_more"})
+        status, out, said = settle(folder, machine, "--rim", rim, "--row", "ram=first", "--limit", "200", "--out", "n.toml")
+        wrong += differs("another row", (status, "ram: first\n" in out, "each" in out), (1, True, False))
+        status, out, said = folder.run("settle", "qemu", "--host", "known.toml", "--guests", "guests.toml", "--out", "alone.toml")
+        return wrong + differs("a file of guests alone", status, 0)
+
+
+def none_found(program: str):
+    """A machine that does what no row says: what was tried, row by row, and no file."""
+    machine = likeliest()
+    machine.recs_first = True
+    with folder_of(machine) as folder:
+        folder.put("known.toml", host_file(KNOWN))
+        status, out, said = settle(folder, machine, "--rim", value_of(program, folder), "--out", "settled.toml", "--limit", "2000")
+        wrong = differs("status", (status, "settled.toml" in folder.names()), (1, False))
+        return wrong + [line for line in ("none of 2,000 launches has the value, the likeliest of ", "  stub: none, measured\n", "  rec_rule: runnable, all\n",
+                                          "  pmu: true and false", "what no row says may be: ") if line not in out]
+
+
+WRONG = [
+    ("no hypervisor", ["settle", "xen"], 2, 'settle: "xen", expected qemu, kvmtool, cloud-hypervisor or --help'),
+    ("no value", ["settle", "qemu", "--host", "known.toml", "--out", "o", "--dtb", "tree", "--", *QEMU], 2, "--rim: it is not given"),
+    ("a value of another length", ["settle", "qemu", "--host", "known.toml", "--out", "o", "--rim", "00ff", "--dtb", "tree", "--", *QEMU], 2, "--rim: "),
+    ("no line", ["settle", "qemu", "--host", "known.toml", "--out", "o", "--rim", "ab" * 32], 2, "no command line of the guest is given"),
+    ("no file", ["settle", "qemu", "--host", "known.toml", "--rim", "ab" * 32, "--", *QEMU], 2, "--out: it is not given"),
+    ("another word", ["settle", "qemu", "--measure", "--", *QEMU], 2, '"--measure": no word of this hypervisor\'s'),
+    ("a limit", ["settle", "qemu", "--host", "known.toml", "--out", "o", "--rim", "ab" * 32, "--limit", "0", "--", *QEMU], 2, '--limit: "0"'),
+    ("another algorithm", ["settle", "kvmtool", "--host", "known.toml", "--out", "o", "--rim", "ab" * 64, "--dtb", "tree", "--", "lkvm", "run", "--realm",
+                           "--measurement-algo", "sha256", "-c", "1", "-m", "256", "-k", "Image"], 2, "the value has the length of sha512"),
+    ("another devicetree", ["settle", "qemu", "--host", "known.toml", "--out", "o", "--rim", "ab" * 32, "--dtb", "tree", "--", *QEMU, "-m", "2G"], 3, "RAM: "),
+    ("no trace", ["settle", "qemu", "--host", "known.toml", "--out", "o", "--trace", "Image", "--dtb", "tree", "--", *QEMU], 3, "Image: it is no UTF-8"),
+    ("no guests", ["settle", "qemu", "--host", "known.toml", "--out", "o", "--guests", "known.toml"], 3, "expected an array of tables `guest`"),
+    ("another guest", ["settle", "qemu", "--host", "known.toml", "--out", "o", "--guests", "g"], 3, "g: guest 1: expected a table of line"),
+]
+
+
+def wrong_words(_program: str):
+    """Wrong words and faults are one line, and nothing is written."""
+    wrong = []
+    with Folder(FILES | {"tree": tree_of("qemu"), "known.toml": host_file(KNOWN), "g": b'[[guest]]\nlines = "a"\n'}) as folder:
+        before = folder.names()
+        for name, words, status, text in WRONG:
+            ended, out, said = folder.run(*words)
+            lines = [line for line in said.splitlines() if "warning: " not in line]
+            wrong += differs(name, (ended, out, len(lines), folder.names()), (status, "", 1, before)) + ([] if text in said else [f"{name}: {said}"])
+    return wrong
+
+
+def few(program: str):
+    """A few machines."""
+    wrong = []
+    for number, vmm in enumerate(LAYOUTS):
+        wrong += simulated(program, vmm, number, Kind.LIKELY)[0]
+    return wrong
+
+
+def main():
+    parser = argparse.ArgumentParser()
+    parser.add_argument("--machines", type=int)
+    parser.add_argument("--seed", type=int, default=1)
+    parser.add_argument("program", nargs="?", default=os.path.join(TOP, "crates", "rim", "out", "rim"))
+    said = parser.parse_args()
+    program = os.path.abspath(said.program)
+    if not os.path.exists(program):
+        raise SystemExit(f"{program} is not built")
+    os.environ["RIM"] = program
+    if said.machines:
+        return machines(program, said.machines, said.seed)
+    outcomes = [(each.__name__, tried(each, program)) for each in (best_first_is_right, the_file, forms, none_found, wrong_words, few)]
+    for name, wrong in outcomes:
+        if wrong:
+            print(f"WRONG: {name}", *wrong, sep="\n  ")
+    failed = sum(bool(wrong) for _, wrong in outcomes)
+    print(f"{len(outcomes) - failed} passed, {failed} failed")
+    return int(failed > 0)
+
+
+if __name__ == "__main__":
+    sys.exit(main())

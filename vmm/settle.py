@@ -1,0 +1,391 @@
+"""`rim-manifest settle`: which alternatives and which numbers give the measurement that a machine gave for a guest. They become a file about
+the host.
+
+The rows of which a blob, RAM or a step depends are one axis: all of their combinations, those that are measured alike as one. The width of
+an IPA and each number is an axis of its own. Of a trace the first line is of these alone, so they are found by it, and then the rest.
+"""
+import hashlib
+import itertools
+import math
+from collections.abc import Mapping, Sequence
+from dataclasses import dataclass, field, replace
+
+from finder.axes import At, Axis, count_of
+from finder.progress import Progress
+from finder.runs import Candidate, Runs
+from finder.search import Search
+from outside.faults import Fault
+from outside.measurement import Value
+
+from . import layout, numbers
+from .guest import Blob
+from .host import Host
+from .hypervisor import Hypervisor
+from .launches import Launch
+from .layout import Row
+from .manifest import item_text, ram_text, recs_text, text
+from .measured import WIDTHS, Content, body_of, level_at, steps_of
+from .numbers import Number
+from .realm import Parts, Realm, of_parts
+from .rows import NUMBERS
+from .ways import Chosen
+
+# How many launches are tried where nothing else is said.
+LIMIT = 1_000_000
+# How likely it is that what the file about the host names of a row holds; that a width is none of the rule's; that a flag is another one.
+NAMED, OTHER_WIDTH, OTHER_FLAG = 0.9, 0.03, 0.03
+# A launch of more steps than this, and than twice those of the likeliest, comes later: it takes as long as many others.
+COSTLY = 1 << 12
+WIDTHS_TRIED = (40, 48, 41, 36, 39, 42, 33, 34, *range(32, 49))
+# The rows that are no part of the one axis, and those that are no choice where the words leave none.
+APART = {"hash", "s2sz", *NUMBERS}
+Structure = tuple[str, ...]
+
+
+@dataclass(frozen=True)
+class Width:
+    """A width of an IPA: an alternative of the row `s2sz`, or a number."""
+
+    name: str
+    likely: float
+
+
+@dataclass(frozen=True)
+class Feature:
+    """A flag of the realm's, and the number that is beside it."""
+
+    has: bool
+    number: Number | None
+    likely: float
+
+
+@dataclass
+class Choices:
+    """What is tried: the rows of the one axis with their combinations, widths and numbers, each the likeliest first."""
+
+    rows: list[Row]
+    structures: list[tuple[Structure, float]]
+    widths: list[Width]
+    bps: list[Number]
+    wps: list[Number]
+    pmu: list[Feature]
+    sve: list[Feature]
+    count: int = 0          # of all combinations, also those that are measured alike
+
+    def axes(self) -> list[Axis]:
+        return [Axis("rows", tuple(likely for _, likely in self.structures)),
+                *(Axis(name, tuple(each.likely for each in some)) for name, some in (
+                    ("s2sz", self.widths), ("num_bps", self.bps), ("num_wps", self.wps), ("pmu", self.pmu), ("sve", self.sve)))]
+
+    def taken(self, structure: Structure) -> dict[str, str]:
+        return {row.name: name for row, name in zip(self.rows, structure)}
+
+    def at_numbers(self, at: At) -> "Choices":
+        """The same with the width and the numbers of a combination alone."""
+        _, width, bps, wps, pmu, sve = at
+        return replace(self, widths=[self.widths[width]], bps=[self.bps[bps]], wps=[self.wps[wps]], pmu=[self.pmu[pmu]], sve=[self.sve[sve]])
+
+
+# ---- a guest with its value
+
+
+@dataclass
+class Case:
+    """A guest, and the measurement that a machine gave for it."""
+
+    vmm: Hypervisor
+    table: list[Row]
+    launch: Launch
+    runs: Runs
+    value: Value
+    trace: list[str]                            # the measurement after each step, where that is given
+    trees: dict[tuple[str, str], Blob]          # devicetrees, by the alternatives of `dtb_file` and `dtb_pages`
+    stubs: dict[bytes, Blob]
+    contents: dict[str, Content]
+    choices: Choices | None = None
+    bodies: dict[tuple[Structure, int], tuple[int, str, int]] = field(default_factory=dict)
+    numbers_of_bodies: dict[tuple, int] = field(default_factory=dict)
+
+    def places(self, taken: Mapping[str, str]) -> layout.Places:
+        return layout.places(self.table, replace(self.launch.guest, ways=taken))
+
+    def names_of(self, row: str) -> list[str]:
+        """The alternatives of a row."""
+        return next(each.names for each in self.table if each.name == row)
+
+    def width(self, name: str) -> int:
+        return int(name) if name.isdigit() else self.places({"s2sz": name}).s2sz
+
+    def realm(self, taken: dict[str, str]) -> Realm:
+        places = self.places(taken)
+        tree = self.trees.get((taken.get("dtb_file", "given"), taken["dtb_pages"]))
+        if tree is None:
+            raise Fault("there is no such devicetree")
+        stub = self.stubs[places.stub_bytes] if places.stub is not None else None
+        counted: dict[str, int | bool | str] = {"block_level": int(taken["block_level"]), "rec_rule": taken["rec_rule"]}
+        return of_parts(self.vmm, Parts(self.launch.guest, places, tree, stub), counted, taken)
+
+    def body(self, taken: dict[str, str], structure: Structure, level: int) -> tuple[int, str, int]:
+        """What is measured of a combination of rows after the parameters, by its number; its lines in a manifest; and how many steps."""
+        key = structure, level
+        if key not in self.bodies:
+            realm = self.realm(taken)
+            body = body_of(realm, self.contents, level)
+            items = ", ".join(map(item_text, realm.items))
+            lines = (f"block_level = {level}\nrec_rule = {text(str(realm.numbers['rec_rule']))}\nram = {ram_text(realm.regions)}\n"
+                     f"item = [{items}]\nrec = {recs_text(realm.recs, realm.pc, realm.x)}\nsteps = [{', '.join(map(text, realm.steps))}]\n")
+            self.bodies[key] = self.numbers_of_bodies.setdefault(body, len(self.numbers_of_bodies)), lines, steps_of(body)
+        return self.bodies[key]
+
+    def whole_key(self, taken: dict[str, str], structure: Structure) -> tuple[int, ...]:
+        """What is measured of a combination of rows, at each width."""
+        level = int(taken["block_level"])
+        return tuple(self.body(taken, structure, each)[0] for each in sorted({level_at(level, width) for width in (*WIDTHS[:2], 32)}))
+
+    def parameters(self, at: At) -> tuple[tuple, str]:
+        """The parameters of the realm, and their lines in a manifest."""
+        choices = self.chosen
+        _, width, bps, wps, pmu, sve = at
+        counters, vector = choices.pmu[pmu], choices.sve[sve]
+        values = {"s2sz": self.width_of(width), "num_bps": choices.bps[bps].value, "num_wps": choices.wps[wps].value,
+                  "pmu": counters.has, "pmu_num_ctrs": counters.number.value if counters.number else 0,
+                  "sve": vector.has, "sve_vl": vector.number.value if vector.number else 0}
+        lines = "".join(f"{key} = {str(value).lower()}\n" for key, value in values.items())
+        return tuple(values.values()), f"algo = {text(self.value.algo)}\n{lines}"
+
+    def width_of(self, place: int) -> int:
+        return self.width(self.chosen.widths[place].name)
+
+    @property
+    def chosen(self) -> Choices:
+        assert self.choices is not None
+        return self.choices
+
+    def candidate(self, at: At) -> Candidate | None:
+        structure = self.chosen.structures[at[0]][0]
+        taken = self.chosen.taken(structure)
+        values, lines = self.parameters(at)
+        number, more, steps = self.body(taken, structure, level_at(int(taken["block_level"]), int(values[0])))
+        return Candidate((number, *values), lines + more, steps)
+
+
+@dataclass
+class Beginning:
+    """The beginning of a guest's trace: a launch of the realm's parameters alone, with the measurement after its first step."""
+
+    case: Case
+
+    @property
+    def runs(self) -> Runs:
+        return self.case.runs
+
+    @property
+    def value(self) -> Value:
+        return replace(self.case.value, digits=self.case.trace[0])
+
+    def candidate(self, at: At) -> Candidate | None:
+        values, lines = self.case.parameters(at)
+        return Candidate(values, lines, 1)
+
+
+# ---- what is tried
+
+
+def likely_ways(row: Row, chosen: Chosen) -> dict[str, float]:
+    """How likely each alternative of a row is: one that an option says is sure, and one that the file about the host names is likely."""
+    ways = {way.name: way.likely / 100 for way in row.ways}
+    if chosen.is_of_option:
+        return {chosen.name: 1.0}
+    if chosen.is_of_file:
+        rest = sum(likely for name, likely in ways.items() if name != chosen.name)
+        ways = {name: NAMED if name == chosen.name else (1 - NAMED) * likely / rest for name, likely in ways.items()} | {chosen.name: NAMED}
+    return dict(sorted(ways.items(), key=lambda each: -each[1]))
+
+
+def structures_of(cases: Sequence[Case], rows: list[Row], ways: list[dict[str, float]], likeliest: dict[str, str]) -> list[tuple[Structure, float]]:
+    """The combinations of rows, those that are measured alike in each guest as one, the likeliest first. One of many steps comes later."""
+    found: dict[tuple, tuple[Structure, float, float]] = {}
+    steps: dict[tuple, int] = {}
+    for names in itertools.product(*ways):
+        taken = dict(zip((row.name for row in rows), names))
+        likely = math.prod(way[name] for way, name in zip(ways, names))
+        try:
+            key = tuple(case.whole_key(likeliest | taken, names) for case in cases)
+        except Fault:
+            continue
+        had = found.get(key, (names, 0.0, 0.0))
+        best = (names, likely) if likely > had[1] else had[:2]
+        found[key] = (*best, had[2] + likely)
+        level = level_at(int(taken.get("block_level", likeliest["block_level"])), 40)
+        steps.setdefault(key, sum(case.body(likeliest | taken, names, level)[2] for case in cases))
+    usual = max(COSTLY, 2 * next(iter(steps.values()), 1))
+    weighed = [(names, total * min(1.0, usual / steps[key])) for key, (names, _, total) in found.items()]
+    return sorted(weighed, key=lambda each: -each[1])
+
+
+def widths_of(cases: Sequence[Case], ways: dict[str, float], chosen: Chosen, most: int | None) -> list[Width]:
+    """The widths: by the alternatives, and then all others. Where the host's is the rule and is not known, those that are usual first."""
+    if chosen.is_of_option:
+        return [Width(chosen.name, 1.0)]
+    is_of_host = "host" in ways
+    ruled = {} if is_of_host and most is None else ways
+    found = [Width(name, likely * (1 - OTHER_WIDTH)) for name, likely in ruled.items()]
+    taken = {tuple(case.width(name) for case in cases) for name in ruled}
+    others = [width for width in dict.fromkeys(WIDTHS_TRIED) if (width,) * len(cases) not in taken]
+    share = OTHER_WIDTH if found else 1.0
+    weights = [1 / (place + 1) for place in range(len(others))]
+    found += [Width(str(width), share * weight / sum(weights)) for width, weight in zip(others, weights)]
+    return sorted(found, key=lambda each: -each.likely)
+
+
+def features_of(host: Host, flag: str, key: str, ways: dict[str, float], is_seen: bool | None) -> list[Feature]:
+    """A flag with its number. `is_seen`: whether the devicetree shows it, where that is asked."""
+    given = host[flag] if is_seen is None else is_seen
+    share = 0.5 if given is None else 1 - OTHER_FLAG if given else OTHER_FLAG
+    read = host[key]
+    found = [Feature(False, None, 1 - share)]
+    some = numbers.options(key, ways, None if read is None else int(read))
+    total = sum(each.likely for each in some)
+    found += [Feature(True, each, share * each.likely / total) for each in some]
+    return sorted(found, key=lambda each: -each.likely)
+
+
+def choices_of(cases: Sequence[Case], host: Host, chosen: Mapping[str, Chosen], names: set[str], has_pmu: bool) -> Choices:
+    """What is tried of some guests: the rows of these names, and all numbers."""
+    rows = [each.row for name, each in chosen.items() if name in names and name not in APART]
+    ways = [likely_ways(row, chosen[row.name]) for row in rows]
+    likeliest = {name: each.name for name, each in chosen.items()}
+    most = host["s2sz_max"]
+
+    def numbers_of(key: str) -> list[Number]:
+        given = host[key]
+        return numbers.options(key, likely_ways(chosen[key].row, chosen[key]), None if given is None else int(given))
+
+    widths = widths_of(cases, likely_ways(chosen["s2sz"].row, chosen["s2sz"]), chosen["s2sz"], None if most is None else int(most))
+    made = Choices(rows, structures_of(cases, rows, ways, likeliest), widths, numbers_of("num_bps"), numbers_of("num_wps"),
+                   features_of(host, "pmu", "pmu_num_ctrs", likely_ways(chosen["pmu_num_ctrs"].row, chosen["pmu_num_ctrs"]), has_pmu),
+                   features_of(host, "sve", "sve_vl", likely_ways(chosen["sve_vl"].row, chosen["sve_vl"]), None))
+    if not made.structures:
+        raise Fault("no combination of the rows has a place for each blob, expected --row to leave some")
+    made.count = math.prod(len(each) for each in ways) * count_of(made.axes()[1:])
+    for case in cases:
+        case.choices = made
+    return made
+
+
+# ---- what came of it
+
+
+@dataclass(frozen=True)
+class Settled:
+    """What gives the values: the alternatives by the names of their rows, and the numbers by their keys. `open_rows`: rows whose value does
+    not pin them, each with the alternatives that give the same."""
+
+    ways: dict[str, str]
+    values: dict[str, int | bool]
+    open_rows: dict[str, list[str]]
+
+
+def settled_of(cases: Sequence[Case], choices: Choices, at: At, algo: str | None) -> Settled:
+    """What a combination says."""
+    structure, width, bps, wps, pmu, sve = at
+    taken = choices.taken(choices.structures[structure][0])
+    ways, values = dict(taken) | {"s2sz": choices.widths[width].name}, dict[str, int | bool]()
+    if algo:
+        ways["hash"] = algo
+    for key, number in (("num_bps", choices.bps[bps]), ("num_wps", choices.wps[wps]), ("pmu_num_ctrs", choices.pmu[pmu].number),
+                        ("sve_vl", choices.sve[sve].number)):
+        if number:
+            ways[key], values[key] = number.way, number.read
+    values |= {"pmu": choices.pmu[pmu].has, "sve": choices.sve[sve].has}
+    widths = [case.width_of(width) for case in cases]
+    found = open_of(cases, choices, taken, widths)
+    if same := [name for name in cases[0].names_of("s2sz") if name != ways["s2sz"] and [case.width(name) for case in cases] == widths]:
+        found["s2sz"] = same
+    return Settled(ways, values, found)
+
+
+def open_of(cases: Sequence[Case], choices: Choices, taken: dict[str, str], widths: Sequence[int]) -> dict[str, list[str]]:
+    """The rows whose other alternatives give the same, each by itself; and the alternatives."""
+    def key(ways: dict[str, str]) -> tuple | None:
+        try:
+            return tuple(body_of(case.realm(ways), case.contents, level_at(int(ways["block_level"]), width)) for case, width in zip(cases, widths))
+        except Fault:
+            return None
+
+    has = key(taken)
+    found = {row.name: [name for name in row.names if name != taken[row.name] and key(taken | {row.name: name}) == has] for row in choices.rows}
+    return {name: some for name, some in found.items() if some}
+
+
+def tried_lines(search_at: Choices, reached: list[set[int]]) -> list[str]:
+    """What was tried, row by row."""
+    tried = [search_at.structures[place][0] for place in sorted(reached[0])]
+    lines = [f"{row.name}: {', '.join(dict.fromkeys(structure[number] for structure in tried))}" for number, row in enumerate(search_at.rows)]
+    if len(tried) < len(search_at.structures):
+        lines.append(f"{len(tried)} of {len(search_at.structures)} combinations of these rows")
+    lines.append("s2sz: " + ", ".join(search_at.widths[place].name for place in sorted(reached[1])))
+    for name, some, places in (("num_bps", search_at.bps, reached[2]), ("num_wps", search_at.wps, reached[3])):
+        lines.append(f"{name}: {ranges(some[place].value for place in places)}")
+    for flag, key, features, places in (("pmu", "pmu_num_ctrs", search_at.pmu, reached[4]), ("sve", "sve_vl", search_at.sve, reached[5])):
+        some = [features[place] for place in places]
+        values = ranges(each.number.value for each in some if each.number)
+        lines.append(f"{flag}: {' and '.join(dict.fromkeys(str(each.has).lower() for each in some))}" + f"; {key}: {values}" * bool(values))
+    return lines
+
+
+def ranges(values) -> str:
+    """Whole numbers in words, those side by side as one range."""
+    found: list[list[int]] = []
+    for value in sorted(set(values)):
+        if found and value == found[-1][1] + 1:
+            found[-1][1] = value
+        else:
+            found.append([value, value])
+    return ", ".join(str(first) if first == last else f"{first} to {last}" for first, last in found)
+
+
+# ---- the search
+
+
+@dataclass
+class Outcome:
+    """What came of the search: what gives the values, or nothing; how many launches were tried, and what of each row."""
+
+    settled: Settled | None
+    tried: int
+    refused: int
+    count: int
+    lines: list[str]
+    is_whole: bool
+
+
+def search(cases: list[Case], choices: Choices, limit: int, algo: str | None) -> Outcome:
+    """Looks for what gives the value of each guest. A trace says the parameters first."""
+    before = 0
+    traced = next((case for case in cases if case.trace), None)
+    if traced:
+        first = Search([Axis("rows", (1.0,)), *choices.axes()[1:]], [Beginning(traced)], limit, Progress("rim-manifest"))
+        at = first.found()
+        before = first.tried
+        if at is None:
+            lines = ["the first step, realm_create, has another measurement by each of these", *tried_lines(choices, [set(), *first.reached[1:]])[-5:]]
+            return Outcome(None, first.tried, first.refused, choices.count, lines, first.is_whole)
+        choices = choices.at_numbers(at)
+        for case in cases:
+            case.choices = choices
+    main = Search(choices.axes(), cases, max(limit - before, 1), Progress("rim-manifest"))
+    found = main.found()
+    settled = settled_of(cases, choices, found, algo) if found else None
+    lines = [] if settled else ["the first step, realm_create, has the measurement of the trace; what comes after it has not"] * bool(traced)
+    return Outcome(settled, before + main.tried, main.refused, choices.count, lines + ([] if settled else tried_lines(choices, main.reached)), main.is_whole)
+
+
+def content_of(data: bytes) -> Content:
+    packed = data.rstrip(b"\0")
+    return Content(hashlib.sha256(packed).hexdigest(), len(packed))
+
+
+def head_of(files: Sequence[Blob]) -> str:
+    """The beginning of a manifest with some files, which are in the folder in which `rim` is started."""
+    return "rim_manifest = 2\n" + "".join(f"[[file]]\nname = {text(each.file)}\npath = {text(each.file)}\n" for each in files)
