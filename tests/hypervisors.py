@@ -301,12 +301,15 @@ WRONG = [
     ("no devicetree", QEMU, "--qemu and -dtb and --dtb: none is given"),
     ("a devicetree of two sources", [*WITH_TREE, "-dtb", "tree"], "-dtb and --dtb: both are given, expected one of them for the devicetrees"),
     ("two sources of devicetrees", [*WITH_TREE, "--qemu", "qemu"], "--qemu and --dtb: both are given"),
-    ("firmware", [*QEMU, "--qemu", "q", "--", "-bios", "x"], "-bios x: QEMU then starts firmware and puts no kernel into RAM"),
+    ("firmware after --", [*QEMU, "--qemu", "q", "--", "-bios", "x"], "-bios x: it is of what the table places, expected it before `--`"),
+    ("firmware and kernels", [*WITH_TREE, "-bios", "x", "-kernel", "b"], "-bios: it is given, and 2 kernels are, expected at most one"),
+    ("kvmtool: firmware and a kernel", [*KVMTOOL, "--firmware", "x"], "-f, --firmware: it is given, and so is kernel, expected firmware alone"),
     ("a devicetree after --", [*QEMU, "--qemu", "q", "--", "--dtb", "x"], "--dtb x: it is of what the table places, expected it before `--`"),
-    ("flash", [*QEMU, "--qemu", "q", "--", "-drive", "if=pflash,file=x"], "-drive if=pflash,file=x: QEMU then starts firmware"),
+    ("flash", [*QEMU, "--qemu", "q", "--", "-drive", "if=pflash,file=x"], 'flash of "x": it is of what the table places, expected -bios FILE'),
     ("a loader", [*QEMU, "--qemu", "q", "--", "-device", "loader,file=x"], "-device loader,file=x: it loads"),
     *[(f"-machine {word}", replaced(WITH_TREE, "-M", f"virt,gic-version=3,{word}"), f'-machine: "{word}": {why}') for word, why in (
-        ("firmware=F", "QEMU then starts firmware"), ("pflash0=F", "QEMU then starts firmware"), ("pflash1=F", "QEMU then starts firmware"),
+        ("firmware=F", "the firmware, which is copied into RAM, expected -bios FILE"), ("pflash0=F", "the firmware, which is copied into RAM"),
+        ("pflash1=F", "a flash for variables, expected none"),
         ("dtb=F", "rim-manifest reads no file of it, expected -dtb FILE"), ("kernel=F", "rim-manifest reads no file of it, expected -kernel FILE"),
         ("initrd=F", "rim-manifest reads no file of it, expected -initrd FILE"),
         ("append=a", "rim-manifest reads no text of it, expected -append TEXT"), ("smp.cpus=4", "other processors than those of -smp"),
@@ -322,7 +325,7 @@ WRONG = [
     ("words of no machine", replaced(WITH_TREE, "-M", "gic-version=3"), "words of one machine, and no machine is given"),
     ("words of two machines", [*WITH_TREE, "-M", "virt-10.0", "-M", "its=off"], "words of one machine, and 2 machines are given"),
     *[(f"before --: {' '.join(given)}", [*WITH_TREE, *given], why) for given, why in (
-        (["-bios", "F"], "-bios F: QEMU then starts firmware"), (["-incoming", "defer"], "-incoming defer: all of RAM comes from elsewhere"),
+        (["-pflash", "F"], "flash of \"F\": it is of what the table places"), (["-incoming", "defer"], "-incoming defer: all of RAM comes from elsewhere"),
         (["--device", "loader,file=F"], "--device loader,file=F: it loads what no table places"),
         (["-serial", "null"], '"-serial": rim-manifest makes no launch of it, expected it after `--`'),
         (["-nographic", "-m", "1G", "-drive", "file=x", "--algo", "sha256", "-enable-kvm"],
@@ -365,7 +368,7 @@ WRONG = [
     ("kvmtool: no memory", without(KVMTOOL, "-m"), "--mem: it is not given"),
     ("kvmtool: parts of pages", replaced(KVMTOOL, "-m", "3K"), '--mem: "3K", expected whole pages'),
     ("kvmtool: no address", replaced(KVMTOOL, "-m", "1G@2G"), '--mem: "1G@2G", expected SIZE@0xADDRESS'),
-    ("kvmtool: a word for the program", [*without(KVMTOOL, "--dtb"), "--lkvm", "l", "--", "--firmware", "x"], "--firmware x: lkvm then starts"),
+    ("kvmtool: a word for the program", [*without(KVMTOOL, "--dtb"), "--lkvm", "l", "--", "--flash", "x"], "--flash x: a flash for variables"),
     ("cloud-hypervisor: a word of processors", [*CLOUD, "--cpus", "boot=2,max_phys_bits=40"], '--cpus: "max_phys_bits=40": what'),
     ("cloud-hypervisor: a word of memory", [*CLOUD, "--memory", "size=1G,hotplug_size=1G"], '"hotplug_size=1G": what it changes'),
 ]
@@ -557,10 +560,17 @@ LINE_STOPS = [
      '"-new 1", "--other", "disk.img": no words of QEMU\'s that are known, so what they change is not known, expected no such words'),
     ("unknown words of -machine", "qemu", HAND + " -M new=1,other=2", 2, '-machine: "new=1", "other=2": what they change is not known'),
     ("very many unknown words", "qemu", HAND + " -x" * 5000, 2, '"-x": no word of QEMU\'s'),
-    ("firmware", "qemu", HAND + " -bios F", 2, "-bios F: QEMU then starts firmware and puts no kernel into RAM, which is another layout that "
-     "no table has; expected a line without it, by which QEMU itself loads the kernel of -kernel"),
+    ("firmware of cloud-hypervisor", "cloud-hypervisor", "cloud-hypervisor --kernel Image --firmware F", 2, "--firmware F: firmware is another layout, which no table"),
+    ("firmware twice", "qemu", HAND + " -bios F -M firmware=G", 2, "-bios and firmware of -machine: firmware is given twice, expected once"),
+    ("no file of firmware", "qemu", HAND + " -M dtb-randomness=off -bios F", 3, "F: No such file or directory, expected firmware"),
+    ("empty firmware", "qemu", HAND + " -M dtb-randomness=off -bios /dev/null", 3, "/dev/null: it is a device, expected firmware"),
+    ("a flash of two", "qemu", HAND + " -pflash F -pflash G", 2, 'flash "1", "G": a flash for variables: whether a realm has one is not known'),
+    ("a flash that is packed", "qemu", HAND + " -drive if=pflash,format=qcow2,file=F", 2, "expected format=raw and file= of a flash"),
+    ("a flash on a node that is packed", "qemu", HAND + " -M pflash0=a -blockdev driver=qcow2,node-name=a,file.filename=F", 2,
+     'no -blockdev of this name that is a file, raw'),
     ("a guest that the monitor changes", "qemu", HAND + " -preconfig -S", 2, "-preconfig: the monitor may change the guest before it is made"),
-    ("flash", "qemu", HAND + " -M pflash0=a", 2, '-machine: "pflash0=a": QEMU then starts firmware'),
+    ("flash of no node", "qemu", HAND + " -M pflash0=a", 2, '-machine: "pflash0=a": no -blockdev of this name that is a file, raw, is in the line'),
+    ("flash for variables", "qemu", HAND + " -M pflash1=a", 2, '-machine: "pflash1=a": a flash for variables'),
     ("an object", "qemu", HAND + " -object new,id=a", 2, "-object new,id=a: whether it changes what is measured is not known"),
     ("a member of JSON twice", "qemu", HAND + """ -device '{"driver":"virtio-rng-pci","driver":"loader"}'""", 2, "it begins as JSON and is none"),
     ("several numbers of processors", "qemu", HAND + " -smp 1,2", 2, '-smp: "1,2": "2" has no value, expected cpus and words with values'),
@@ -621,8 +631,9 @@ DOMAIN_STOPS = [
     ("a DOCTYPE", ("<domain ", '<!DOCTYPE domain [<!ENTITY a SYSTEM "/etc/passwd">]><domain '), 3, 'it has a DOCTYPE, "domain"'),
     ("no XML", ("</domain>", ""), 3, "l: it is no XML that is read here (no element found"),
     ("another element", ("<clock offset='utc'/>", "<new/><other/>"), 2, "l: <new>, <other>: what they change is not known, expected a domain without"),
-    ("firmware", ("<kernel>", "<loader>a</loader><kernel>"), 2, "l: <loader>: firmware is started then, and the kernel is not in RAM"),
-    ("firmware by itself", ("<os>", "<os firmware='efi'>"), 2, "l: <os>: its firmware is started"),
+    ("firmware with variables", ("<kernel>", "<loader>a</loader><nvram>b</nvram><kernel>"), 2, "l: <nvram>: a flash for variables"),
+    ("firmware that is packed", ("<kernel>", "<loader type='pflash' format='qcow2'>a</loader><kernel>"), 2, "l: <loader>: expected a file as it is"),
+    ("firmware by itself", ("<os>", "<os firmware='efi'>"), 2, "l: <os>: libvirt chooses its firmware, expected <loader> with the file"),
     ("no kernel", ("<kernel>Image</kernel>", ""), 2, "l: <os>: it has no <kernel>, so that firmware is started"),
     ("two devicetrees", ("<kernel>", "<dtb>a</dtb><kernel>"), 2, "-dtb and --dtb: both are given"),
     ("another architecture", ("aarch64' m", "x86_64' m"), 2, "l: <type>: expected arch='aarch64' and a machine"),
@@ -642,7 +653,7 @@ DOMAIN_STOPS = [
     ("a text of two lines", ("a='b c'", "a='b\n'"), 2, '--append: "console=ttyAMA0 a=\'b\\x0a\'" has a control character'),
     ("no number", (">1048576</memory>", ">many</memory>"), 2, 'l: <memory>: "many", expected a whole number'),
     ("another realm", ("<seclabel type='none'/>", "<launchSecurity type='sev'/>"), 2, "l: <launchSecurity>: expected type='cca' with"),
-    ("a word of QEMU's", ("'dtb-randomness=off'", "'firmware=a'"), 2, '-machine: "firmware=a": QEMU then starts firmware'),
+    ("a word of QEMU's", ("'dtb-randomness=off'", "'pflash1=a'"), 2, '-machine: "pflash1=a": a flash for variables'),
     ("another kind of guest", ("<domain type='kvm'", "<domain type='xen'"), 2, 'l: <domain>: its type is "xen", expected kvm or qemu'),
 ]
 
@@ -667,7 +678,8 @@ def stopped(words: list[str], files: dict, status: int, text: str) -> list[str]:
         wrong = [f"status {ended}, expected {status}"] if ended != status else []
         if text not in said:
             wrong.append(f"{text!r} is not in {said!r}")
-        if words and (not said.startswith("rim-manifest: ") or said.count("\n") != 1):
+        lines = [line for line in said.splitlines() if not line.startswith("rim-manifest: warning: firmware is started")]
+        if words and (not lines[0].startswith("rim-manifest: ") or len(lines) != 1):
             wrong.append(f"not one line: {said!r}")
         if out or folder.names() - before - {"count", "said"}:
             wrong.append(f"it writes {out!r} and {folder.names() - before}")
@@ -915,6 +927,18 @@ def given_to_a_dump(folder: Folder) -> list[str]:
 
 
 NO_PCIE = {"pcie@10000000": None}
+FIRMWARE = bytes(n * 7 % 251 for n in range(9001))
+
+
+def firmware_is(folder: Folder, top: int) -> list[str]:
+    """Firmware at 0 in RAM of its own, the devicetree at the start of the other, and no kernel."""
+    launch = first(folder)
+    wrong = differs("ram", launch["ram"], [[0, top], [LOW, LOW + 256 * MIB]]) + differs("rec", launch["rec"], [{"pc": "0x0", "x": []}])
+    wrong += differs("items", [[item["name"], item["kind"], item["at"]] for item in launch["item"]], [["firmware", "raw", 0], ["dtb", "dtb", LOW]])
+    wrong += differs("steps", launch["steps"], ["ram 0", "ram 1", "item firmware", "item dtb", "rec 0"])
+    return wrong + differs("file", folder.read("out/firmware"), FIRMWARE) + differs("record", recorded(folder)["firmware"], "firmware")
+
+
 TREES = {"trees/256M-1-none": FILES["tree"], "trees/256M-2-none": tree([(LOW, LOW + 256 * MIB)], count=2)}
 SHORT_TREE = tree([(LOW, LOW + 256 * MIB)], length=None)
 OF_LKVM = {"tree": tree([(2 * LOW, 2 * LOW + 256 * MIB)], initrd=(0x8FDF_DCD4, 0x8FDF_FFFD), length=65536, **NO_PCIE)}
@@ -965,6 +989,26 @@ OPTIONS = [
      "-M", "virt,gic-version=3,dtb-randomness=off", "-cpu", "max", "-m", "256M", "-kernel", "Image", "-dtb", "tree"], lambda folder: differs(
      "bytes", folder.read("out/dtb-1"), (SHORT_TREE[:4] + struct.pack(">I", 2 * len(SHORT_TREE) + 20_000) + SHORT_TREE[8:]).ljust(
          2 * len(SHORT_TREE) + 20_000, b"\0")), {"tree": SHORT_TREE}),
+    *[(f"firmware: {name}", words, lambda folder, top=top: firmware_is(folder, top), {"fw": FIRMWARE, "l": line.encode()}, "firmware is started: the")
+      for name, words, line, top in (
+        ("-bios", [*without(WITH_TREE, "-kernel"), "-bios", "fw"], "", 0x3000),
+        ("all of where flash was", [*without(WITH_TREE, "-kernel"), "-bios", "fw", "--row", "firmware_ram=whole"], "", 128 * MIB),
+        ("beside a kernel", [*WITH_TREE, "-bios", "fw", "-initrd", "initrd"], "", 0x3000),
+        ("-bios of a line", ["qemu", "--line", "l", *LINE_OF], "qemu-system-aarch64 -M virt -cpu max -m 256M -bios fw", 0x3000),
+        ("firmware= of a line", ["qemu", "--line", "l", *LINE_OF], HAND + " -M firmware=fw", 0x3000),
+        ("-pflash of a line", ["qemu", "--line", "l", *LINE_OF], HAND + " -pflash fw", 0x3000),
+        ("-drive of a line", ["qemu", "--line", "l", *LINE_OF], HAND + " -drive file=fw,if=pflash,format=raw,unit=0,readonly=on", 0x3000),
+        ("pflash0 of a line", ["qemu", "--line", "l", *LINE_OF], HAND + ",pflash0=b".replace(",", " -M ") + """ -blockdev '{"driver":"file",
+         "filename":"fw","node-name":"a","read-only":true}' -blockdev driver=raw,node-name=b,file=a""", 0x3000),
+        ("pflash0 of a line, nested", ["qemu", "--line", "l", *LINE_OF], HAND + """ -M pflash0=b -blockdev '{"driver":"raw","node-name":"b","file":{"driver":
+         "file","filename":"fw"}}'""", 0x3000))],
+    ("firmware of a domain", ["qemu", "--libvirt", "l", *LINE_OF], lambda folder: differs("firmware", folder.read("out/firmware"), FIRMWARE),
+     {"l": domain(a=("<kernel>", "<loader readonly='yes' type='pflash' stateless='yes'>fw</loader><kernel>")), "fw": FIRMWARE,
+      "tree": tree([(LOW, LOW + 1024 * MIB)], "console=ttyAMA0 a='b c'", count=2)}, "firmware is started"),
+    ("firmware of kvmtool", [*without(KVMTOOL, "-k"), "-f", "fw"], lambda folder: differs("launch", [first(folder)[key] for key in ("ram", "rec")],
+     [[[0x8000_0000, 0x9000_0000]], [{"pc": "0x80000000", "x": ["0x80200000"]}]]) + differs("items", {
+         item["name"]: item["at"] for item in first(folder)["item"]}, {"firmware": 0x8000_0000, "dtb": 0x8020_0000}),
+     {"fw": FIRMWARE, "tree": tree([(2 * LOW, 2 * LOW + 256 * MIB)], length=None, **NO_PCIE)}, "firmware is started"),
     ("pages of a kernel with little BSS", [*WITH_TREE, "--kernel-pages", "image_size"], lambda folder: differs("size",
      [item.get("size") for item in first(folder)["item"]], [20_000, None]), {"Image": image(4096)}),
     ("pages that are used", [*WITH_TREE, "--dtb-pages", "used"],
@@ -1128,7 +1172,9 @@ def one_step(program: str):
 EXPLAINED = """\
 layout    -M virt,secure=on
 refused     secure=on
-refused   -bios F
+refused   -preconfig
+layout    -bios F
+layout    -pflash G
 harmless  -nographic
 tree      -serial null
 harmless  -device virtio-rng-pci
@@ -1138,12 +1184,12 @@ unknown   -new 1
 
 def explained(_program: str):
     """--explain says what each word does, and refuses what a launch has none of, each on a line."""
-    words = ["-M", "virt,secure=on", "-bios", "F", "-nographic", "-serial", "null", "-device", "virtio-rng-pci", "-new", "1"]
+    words = ["-M", "virt,secure=on", "-preconfig", "-bios", "F", "-pflash", "G", "-nographic", "-serial", "null", "-device", "virtio-rng-pci", "-new", "1"]
     with Folder() as folder:
         status, out, said = folder.run("qemu", "--explain", "--", QEMU_NAME, *words)
         lines = "".join(line + "\n" for line in out.splitlines()[::2])
         wrong = differs("words", lines, EXPLAINED)
-        return wrong + differs("faults", (status, [line.split(":")[1] for line in said.splitlines()]), (2, [" -bios F", ' "-new 1"', " -machine"]))
+        return wrong + differs("faults", (status, [line.split(":")[1] for line in said.splitlines()]), (2, [" -preconfig", " -bios and a flash", ' "-new 1"', " -machine"]))
 
 
 def long_names(_program: str):

@@ -3,7 +3,8 @@
 
 usage: tools/qemu_memory.py [--qemu PROGRAM] [--only TEXT] DIR
 
-DIR is a folder that `rim-manifest qemu` has written; its record.json has the words of each launch. --only takes the launches whose name has
+DIR is a folder that `rim-manifest qemu --stub measured` has written: a plain guest has the stub, and its other rows are the likeliest
+alternatives. Its record.json has the words of each launch. --only takes the launches whose name has
 TEXT. QEMU is qemu-system-aarch64 where it is not given. It is started stopped (-S), and its monitor is asked for all of its RAM. The listing
 is that of `rim`: the program that the variable RIM names, or else the one at the top. Then
 
@@ -142,6 +143,8 @@ def compare(words: list[str], listing: Listing) -> list[str]:
 
 
 def words_of(launch: dict, program: str, folder: str) -> list[str]:
+    if launch["firmware"]:
+        raise SystemExit(f"{launch['name']}: it has firmware, which a plain guest has in flash and no realm has there, expected a kernel")
     words = [program, *launch["words"], "-kernel", os.path.join(folder, launch["kernel"])]
     if launch["initrd"]:
         words += ["-initrd", os.path.join(folder, launch["initrd"])]

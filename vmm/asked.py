@@ -125,9 +125,20 @@ def values(vmm: Hypervisor, what: Asked) -> dict[str, list]:
     return found
 
 
+def check_firmware(vmm: Hypervisor, said: dict):
+    """Refuses what does not go with firmware."""
+    names = next(", ".join(option.names) for option in vmm.OPTIONS if option.key == "firmware")
+    if len(said.get("kernel", [])) > 1:
+        raise WrongWords(f"{names}: it is given, and {len(said['kernel'])} kernels are, expected at most one: none of them is measured then")
+    if not vmm.FACTS.hands_over and (beside := [key for key in ("kernel", "initrd") if key in said]):
+        raise WrongWords(f"{names}: it is given, and so is {' and '.join(beside)}, expected firmware alone, or a kernel")
+
+
 def paths(vmm: Hypervisor, what: Asked) -> dict[str, list[tuple[str, str]]]:
-    """Names and paths of kernels and initrds."""
+    """Names and paths of kernels, initrds and firmware."""
     found = {}
+    if "firmware" in what.said:
+        found["firmware"] = names.files("firmware", [what.said["firmware"]], True)
     for key in ("kernel", "initrd"):
         option = next(option for option in vmm.OPTIONS if option.key == key)
         found[key] = names.files(option.names[0], what.said.get(key, []), key in what.of_line)
@@ -138,6 +149,10 @@ def warnings(vmm: Hypervisor, what: Asked, machines: list[Word]) -> list[str]:
     """What is done otherwise than the words say, or might be meant otherwise."""
     seeds = vmm.FACTS.no_seeds
     found = []
+    if "firmware" in what.said:
+        found.append("firmware is started: the measurement covers it, the devicetree, RAM and processors. Kernel, initrd and command line are "
+                     "of the extensible measurements, which are not computed here" + ("; those of the words are handed to the firmware, and no "
+                                                                                      "pages of them are measured" * ("kernel" in what.said)))
     if len(machines) > 1:
         found.append(f"-machine has {len(machines)} machines: there are launches for each, where QEMU would make one of them")
     if what.line and seeds and not any(word.partition("=")[0] in machines[0].text for word in (seeds, "dtb-kaslr-seed")):

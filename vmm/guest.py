@@ -73,6 +73,7 @@ class Guest:
     algo: str
     ways: Mapping[str, str] = field(default_factory=dict)
     most_bits: int = 48
+    handed: str = ""        # the path of a kernel that firmware is given
 
     @property
     def firmware(self) -> Blob | None:

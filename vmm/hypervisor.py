@@ -20,6 +20,7 @@ class Facts:
     adds_boot_words: bool = False               # whether it puts words of its own beside the kernel's command line
     no_seeds: str = ""                          # the word without which each start has other seeds
     gic_3: str = ""                             # the word for GIC 3
+    hands_over: bool = False                    # whether it hands a kernel and an initrd to firmware that it starts
     bss_apart: bool = False                     # whether the kernel's BSS is made RAM by itself, where RAM is made for each blob
     unpacks_gzip: bool = False
     zboot: dict[str, tuple[int, int]] = field(default_factory=dict)     # by which packing, since which version it unpacks an EFI zboot

@@ -26,7 +26,8 @@ OPTIONS = [
     Option(("-c", "--cpus", "--smp", "--each-smp"), "smp", "LIST", "numbers of processors. Required: without it lkvm takes the host's", True),
     Option(("-m", "--mem", "--memory", "--each-memory"), "memory", "LIST", "sizes of RAM, a bare number is MiB; or SIZE@ADDRESS, with the "
            "address where RAM begins. Required: lkvm's default depends on the host", True),
-    Option(("-k", "--kernel", "--each-kernel"), "kernel", "[NAME=]FILE", "an arm64 Image. Required", True),
+    Option(("-k", "--kernel", "--each-kernel"), "kernel", "[NAME=]FILE", "an arm64 Image. Required, but with --firmware", True),
+    Option(("-f", "--firmware"), "firmware", "FILE", "firmware, in the place of a kernel and an initrd"),
     Option(("-i", "--initrd", "--each-initrd"), "initrd", "[NAME=]FILE", "an initrd", True),
     Option(("-p", "--params", "--append", "--each-append"), "append", "TEXT", "a command line of the kernel", True),
     Option(("--lkvm",), "program", "PROGRAM", "lkvm itself, which makes the devicetrees: each by the final words with --dump-dtb, twice. "
@@ -75,7 +76,19 @@ TABLE = [
     hash_row(SOURCE, ("sha256", 80), ("sha512", 20)),
     *SHARED,
 ]
-FIRMWARE: list[Row] = []
+def row_of(name: str) -> Row:
+    return next(row for row in TABLE if row.name == name)
+
+
+FIRMWARE = [
+    row_of("ram"),
+    Row("firmware", "the start of RAM", lambda guest, places: base(guest), SOURCE, MEMORY),
+    Row("dtb", "the firmware's end, rounded up to 2 MiB", lambda guest, places: up(base(guest) + guest.loaded.length, DTB_ALIGN), SOURCE, MEMORY),
+    row_of("dtb length"),
+    Row("pc", "the firmware's address", lambda guest, places: base(guest), SOURCE, MEMORY),
+    *(row_of(name) for name in ("x", "recs", "order", "s2sz", "dtb_pages", "hash")),
+    *SHARED,
+]
 
 
 def read_machine(said: dict) -> list[Word]:
@@ -128,7 +141,7 @@ def final_words(guest: Guest) -> list[str]:
 
 
 def load_words(guest: Guest, path: Callable[[Blob], str]) -> list[str]:
-    words = ["--kernel", path(guest.loaded)]
+    words = ["--firmware" if guest.firmware else "--kernel", path(guest.loaded)]
     if guest.initrd:
         words += ["--initrd", path(guest.initrd)]
     return words + (["--params", guest.append.text] if guest.append.text else [])

@@ -122,24 +122,31 @@ class Domain:
 
     def os(self, element: Element):
         kind = element.find("type")
-        if element.get("firmware"):
-            self.refuse("os", "its firmware is started, and the kernel is not in RAM, expected <kernel> without firmware")
+        loader = element.find("loader")
+        if element.get("firmware") and loader is None:
+            self.refuse("os", "libvirt chooses its firmware, expected <loader> with the file, as a domain that runs has it")
         if kind is None or kind.get("arch") != "aarch64" or not kind.get("machine"):
             self.refuse("type", "expected arch='aarch64' and a machine")
             return
         self.machine.insert(0, kind.get("machine", "").replace(",", ",,"))
         words = {"kernel": "-kernel", "initrd": "-initrd", "cmdline": "-append", "dtb": "-dtb"}
-        if element.find("kernel") is None:
-            self.refuse("os", "it has no <kernel>, so that firmware is started, expected <kernel>")
+        if element.find("kernel") is None and loader is None:
+            self.refuse("os", "it has no <kernel>, so that firmware is started, expected <kernel> or <loader>")
 
         def load(each: Element):
             self.words += [words[each.tag], self.text(each)]
 
         def firmware(each: Element):
-            self.refuse(each.tag, "firmware is started then, and the kernel is not in RAM, expected a domain without it")
+            if each.get("format", "raw") != "raw" or each.get("type", "rom") not in ("rom", "pflash"):
+                self.refuse("loader", "expected a file as it is, of type rom or pflash")
+            self.words += ["-bios", self.text(each)]
 
-        self.others(element, dict.fromkeys(words, load) | dict.fromkeys(("loader", "nvram", "firmware", "shim", "varstore"), firmware) | {
-            "type": lambda each: None})
+        def variables(each: Element):
+            self.refuse(each.tag, "a flash for variables: whether a realm has one is not known, expected <loader stateless='yes'> without it")
+
+        self.others(element, dict.fromkeys(words, load) | dict.fromkeys(("nvram", "varstore"), variables) | {
+            "type": lambda each: None, "loader": firmware, "firmware": lambda each: None,
+            "shim": lambda each: self.refuse("shim", "it loads what no table places, expected a domain without it")})
 
     def memory(self, element: Element):
         most = self.root.find("maxMemory")

@@ -11,6 +11,7 @@ from .hypervisor import Facts
 from .layout import MEMORY, SEEN, SOURCE, Places, Row, Way
 from .names import labelled
 from .qemu_words import GRAMMAR, OFF, ON, parts, refuse_before, refuse_machine_words, sort, sort_rest  # noqa: F401, what a hypervisor has
+from .realm import granule_of
 from .rows import SHARED, WIDTH_APART, WIDTH_MORE, dtb_pages_row, hash_row, kernel_pages_row, order_row, ram_ways, width_ways
 from .sorting import Sorted
 from .words import Option, memories, number, processors, required, size
@@ -23,7 +24,7 @@ BASE = 0x4000_0000
 DTB_ALIGN = 2 * MIB
 BOOT = "hw/arm/boot.c of QEMU 7.2, 10.0 and 10.2"
 VIRT = "hw/arm/virt.c of QEMU 7.2, 10.0 and 10.2"
-FACTS = Facts(DTB_ALIGN, ends_after_dump=True, dtb_length=MIB, no_seeds="dtb-randomness=off", gic_3="gic-version=3", unpacks_gzip=True,
+FACTS = Facts(DTB_ALIGN, ends_after_dump=True, dtb_length=MIB, no_seeds="dtb-randomness=off", gic_3="gic-version=3", unpacks_gzip=True, hands_over=True,
               zboot={"gzip": (10, 0), "zstd": (11, 1)})
 # ldr x0, dtb; mov x1, xzr; mov x2, xzr; mov x3, xzr; ldr x4, kernel; br x4; then the two addresses
 STUB = (0x580000C0, 0xAA1F03E1, 0xAA1F03E2, 0xAA1F03E3, 0x58000084, 0xD61F0080)
@@ -42,7 +43,9 @@ OPTIONS = [
     Option(("-smp", "--smp", "--each-smp"), "smp", "LIST", "numbers of processors; 1 where it is not given. Words such as maxcpus= go "
            "beside them", True),
     Option(("-m", "--memory", "--each-memory"), "memory", "LIST", "sizes of RAM; 128M where it is not given, and a bare number is MiB", True),
-    Option(("-kernel", "--kernel", "--each-kernel"), "kernel", "[NAME=]FILE", "an arm64 Image, or one packed by gzip. Required", True),
+    Option(("-kernel", "--kernel", "--each-kernel"), "kernel", "[NAME=]FILE", "an arm64 Image, or one packed by gzip. Required, but with -bios",
+           True),
+    Option(("-bios",), "firmware", "FILE", "firmware, which a realm has in RAM: then a kernel and an initrd are not measured, and none is required"),
     Option(("-initrd", "--initrd", "--each-initrd"), "initrd", "[NAME=]FILE", "an initrd", True),
     Option(("-append", "--append", "--each-append"), "append", "TEXT", "a command line of the kernel", True),
     Option(("-dtb",), "own_dtb", "FILE", "QEMU's own word: the devicetree that it is given, which it loads for a realm as the row dtb_file says. "
@@ -181,7 +184,34 @@ TABLE = [
     hash_row(REALM, ("sha512", 70), ("sha256", 30)),
     *SHARED,
 ]
-FIRMWARE: list[Row] = []
+# Two flashes of 64 MiB are where a plain guest's firmware is.
+FLASH = 128 * MIB
+
+
+def firmware_ram(guest: Guest, places: Places) -> list[tuple[int, int]]:
+    length = guest.firmware.length if guest.firmware else 0
+    return [(0, FLASH if guest.ways.get("firmware_ram") == "whole" else up(length, granule_of(guest.ways)))]
+
+
+def row_of(name: str) -> Row:
+    return next(row for row in TABLE if row.name == name)
+
+
+FIRMWARE_BOOT = "hw/arm/virt.c and hw/arm/boot.c of QEMU 7.2, 10.0 and 10.2"
+FIRMWARE = [
+    row_of("ram"),
+    Row("firmware", "the address 0, where a plain guest has it in flash: it is copied into RAM there, and flash is gone", lambda guest, places: 0,
+        REALM, MEMORY),
+    Row("firmware_ram", "RAM at 0, beside that of -m", firmware_ram, REALM, MEMORY,
+        (Way("file", "as much as the firmware's file has, in whole pages of the host", 60), Way("whole", "all of the 128 MiB in which flash was", 40)),
+        "each with firmware: what is made RAM is measured"),
+    Row("dtb", "the start of RAM, 0x40000000", lambda guest, places: BASE, FIRMWARE_BOOT, SEEN),
+    Row("dtb length", "1,048,576 bytes of one that QEMU makes, which is what is loaded", None, FIRMWARE_BOOT, SEEN),
+    Row("pc", "0, where the firmware begins", lambda guest, places: 0, FIRMWARE_BOOT, SEEN),
+    Row("x", "all zero", lambda guest, places: [], FIRMWARE_BOOT, SEEN),
+    *(row_of(name) for name in ("recs", "order", "s2sz", "dtb_file", "dtb_pages", "hash")),
+    *SHARED,
+]
 
 
 def is_machine(text: str) -> bool:
@@ -313,6 +343,10 @@ def with_machine(guest: Guest, more: str) -> list[str]:
 
 
 def load_words(guest: Guest, path: Callable[[Blob], str]) -> list[str]:
+    if guest.firmware:
+        # QEMU takes a command line only beside a kernel, which it hands to the firmware
+        handed = ["-kernel", guest.handed] if guest.handed else []
+        return ["-bios", path(guest.firmware), *handed, *(["-append", guest.append.text] if guest.append.text else [])]
     words = ["-kernel", path(guest.loaded)]
     if guest.initrd:
         words += ["-initrd", path(guest.initrd)]

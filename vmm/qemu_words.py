@@ -12,13 +12,13 @@ from outside.faults import WrongWords
 from outside.files import once_each
 from outside.texts import MOST_SHOWN, shown, visible
 
+from . import qemu_firmware
 from .sorting import Effect, Entry, Explained, Given, Grammar, Realm, Sorted, Takes, one_dash, spelled
 from .words import ALGORITHMS, personalization
 
 OFF = ("off", "no", "false", "n")
 ON = ("on", "yes", "true", "y")
-FIRMWARE = "QEMU then starts firmware and puts no kernel into RAM, which is another layout that no table has"
-NO_FIRMWARE = "expected a line without it, by which QEMU itself loads the kernel of -kernel"
+FIRMWARE = "the firmware, which is copied into RAM"
 ELSEWHERE = "all of RAM comes from elsewhere then"
 NO_REALM = "no realm has it"
 
@@ -36,6 +36,7 @@ class MachineWord:
     does: str
     instead: str = ""
     passes: tuple[str, ...] = ()
+    is_of_line: bool = False        # whether it is taken in a line, and said otherwise by an option
 
 
 MACHINE = [
@@ -55,7 +56,8 @@ MACHINE = [
     MachineWord(("virtualization",), Effect.TREE, "a processor with EL2: " + NO_REALM, "{}=off", OFF),
     MachineWord(("secure",), Effect.TREE, "a processor with TrustZone: " + NO_REALM, "{}=off", OFF),
     MachineWord(("mte",), Effect.TREE, "memory tagging: " + NO_REALM, "{}=off", OFF),
-    MachineWord(("firmware", "pflash0", "pflash1"), Effect.REFUSED, FIRMWARE, "none, and -kernel"),
+    MachineWord(("firmware", "pflash0"), Effect.LAYOUT, FIRMWARE, "-bios FILE", is_of_line=True),
+    MachineWord(("pflash1",), Effect.REFUSED, "a flash for variables", "none"),
     MachineWord(("dtb",), Effect.REFUSED, "rim-manifest reads no file of it", "-dtb FILE"),
     MachineWord(("dumpdtb",), Effect.REFUSED, "rim-manifest adds it itself", "--qemu PROGRAM"),
     MachineWord(("kernel",), Effect.REFUSED, "rim-manifest reads no file of it", "-kernel FILE"),
@@ -115,7 +117,7 @@ def explain_machine(text: str) -> list[Explained]:
     for word in machine_texts("-machine", text):
         row = BY_KEY.get(word.partition("=")[0])
         if row and row.keys != ("type",):
-            effect = Effect.REFUSED if machine_fault(word) else row.effect
+            effect = Effect.REFUSED if machine_fault(word) and not row.is_of_line else row.effect
             found.append((f"  {visible(word[:MOST_SHOWN])}", effect, row.does))
     return found
 
@@ -280,10 +282,18 @@ def read_serial(found: Sorted, given: Given):
 
 
 def read_drive(found: Sorted, given: Given):
-    if properties(given.words[0], given.value, "file").get("if") == "pflash":
-        found.refuse(given, f"{FIRMWARE}; {NO_FIRMWARE}")
+    said = properties(given.words[0], given.value, "file")
+    if said.get("if") == "pflash":
+        qemu_firmware.take_drive(found, given, said)
     else:
         found.drop(given)
+
+
+def read_blockdev(found: Sorted, given: Given):
+    said = properties(given.words[0], given.value, "driver")
+    found.drop(given)
+    if "node-name" in said:
+        found.nodes[said["node-name"]] = said
 
 
 def read_global(found: Sorted, given: Given):
@@ -325,9 +335,12 @@ WORDS = [
     Entry(spelled("object", "-"), Effect.TREE, "RAM and the realm are such; others change nothing", read=read_object),
     Entry(spelled("device", "-"), Effect.TREE, "virtio-iommu-pci is in the devicetree; those on PCIe and other buses are not", read=read_device),
     Entry(spelled("serial", "-"), Effect.TREE, "from QEMU 10.0 on the devicetree has as many as there are", read=read_serial),
-    Entry(spelled("drive", "-"), Effect.HARMLESS, "a disk of the host's; one of flash is refused", read=read_drive),
+    Entry(spelled("drive", "-"), Effect.HARMLESS, "a disk of the host's; one of flash is the firmware", read=read_drive),
+    Entry(spelled("blockdev", "-"), Effect.HARMLESS, "a disk of the host's; one that is pflash0 is the firmware", read=read_blockdev),
+    Entry(spelled("pflash", "-"), Effect.HARMLESS, FIRMWARE, read=qemu_firmware.take_flash),
+    Entry(spelled("bios", "-"), Effect.LAYOUT, FIRMWARE + "; of several the last counts", key="firmware"),
     Entry(spelled("global", "-"), Effect.HARMLESS, "defaults of devices that are not in the devicetree", read=read_global),
-    *harmless("disks, files and folders of the host's", "blockdev cdrom fda fdb hda hdb hdc hdd sd mtdblock fsdev virtfs iscsi add-fd"),
+    *harmless("disks, files and folders of the host's", "cdrom fda fdb hda hdb hdc hdd sd mtdblock fsdev virtfs iscsi add-fd"),
     *harmless("networks of the host's", "net netdev nic"),
     *harmless("consoles, monitors and screens, and where they are", "chardev mon monitor qmp qmp-pretty parallel debugcon echr display vnc "
               "spice k usbdevice vga audio audiodev", "nographic curses portrait full-screen"),
@@ -339,7 +352,6 @@ WORDS = [
     *harmless("how QEMU itself runs", "action chroot compat d D dfilter dump-vmstate gdb L msg pidfile plugin runas run-with sandbox "
               "semihosting-config tb-size trace rotate", "async-teardown S s snapshot nodefaults no-user-config daemonize no-reboot "
               "no-shutdown singlestep one-insn-per-tb only-migratable enable-sync-profile semihosting"),
-    refused(FIRMWARE, "bios pflash", NO_FIRMWARE),
     refused("it loads what no table places", "shim", "expected no such word"),
     refused(ELSEWHERE, "incoming loadvm", "expected a guest that begins by itself"),
     refused("rim-manifest does not read that file", "readconfig", "expected its words one by one"),
@@ -351,7 +363,12 @@ GRAMMAR = Grammar("QEMU", WORDS, one_dash)
 
 
 def sort(words: list[str]) -> Sorted:
-    return GRAMMAR.sort(words, True)
+    found = GRAMMAR.sort(words, True)
+    machine = parts(found.said["machine"][0]) if "machine" in found.said else []
+    rest = qemu_firmware.of_line(found, machine)
+    if machine:
+        found.said["machine"] = [joined(rest)]
+    return found
 
 
 def sort_rest(words: list[str]) -> Sorted:

@@ -78,6 +78,8 @@ class Sorted:
     faults: list[str] = field(default_factory=list)
     unknown: list[Given] = field(default_factory=list)
     effects: list[Explained] = field(default_factory=list)
+    flash: dict[str, str] = field(default_factory=dict)             # files of flash, by their units
+    nodes: dict[str, dict[str, str]] = field(default_factory=dict)  # nodes of disks, by their names
 
     def keep(self, given: Given, instead: Iterable[str] | None = None):
         """Has a dump given a word, or others in its place."""
@@ -173,7 +175,7 @@ class Grammar:
             if entry is None:
                 found.unknown.append(given)
                 continue
-            before = len(found.faults), len(found.kept) + len(found.opens)
+            before = len(found.faults), len(found.kept) + len(found.opens), len(found.flash)
             if entry.effect is Effect.REFUSED:
                 found.refuse(given, f"{entry.why}; {entry.instead}")
             elif entry.effect is Effect.LAYOUT and not is_whole:
@@ -187,6 +189,8 @@ class Grammar:
             else:
                 found.drop(given)
             found.effects += [(str(given), effect_of(entry, found, before), entry.why), *entry.parts(given.value)]
+        for path in found.flash.values() if not is_whole else ():
+            found.faults.append(f"flash of {shown(path)}: it is of what the table places, expected -bios FILE before `--`, or all of the line there")
         for key, (entry, some) in layout.items():
             found.said[key] = [entry.joined(some[-1].words[0], [each.value for each in some])]
         return found
@@ -204,11 +208,13 @@ class Grammar:
                          "after `--`, or all of the line there, its program first")
 
 
-def effect_of(entry: Entry, found: Sorted, before: tuple[int, int]) -> Effect:
+def effect_of(entry: Entry, found: Sorted, before: tuple[int, int, int]) -> Effect:
     """What a word has done, where its value decides."""
     if not entry.read:
         return entry.effect
-    refused, kept = before
+    refused, kept, flash = before
+    if len(found.flash) > flash:
+        return Effect.LAYOUT
     return Effect.REFUSED if len(found.faults) > refused else Effect.TREE if len(found.kept) + len(found.opens) > kept else Effect.HARMLESS
 
 

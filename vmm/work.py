@@ -36,7 +36,7 @@ def blobs(made: Folder, rim: Rim, vmm: Hypervisor, paths: dict[str, list[tuple[s
     else:
         loaded = [image.kernel(made, rim, path, label, name, vmm, version) for path, label, name in named("kernel")]
     found: dict[str, list] = {"kernel": loaded}
-    found["initrd"] = [image.initrd(made, path, label, name) for path, label, name in named("initrd")]
+    found["initrd"] = [] if paths.get("firmware") else [image.initrd(made, path, label, name) for path, label, name in named("initrd")]
     return found
 
 
@@ -125,7 +125,9 @@ class Work:
 
     def read_values(self):
         """Reads the values of the words, and refuses those that do not fit."""
-        if "firmware" not in self.said:
+        if "firmware" in self.said:
+            asked.check_firmware(self.vmm, self.said)
+        else:
             words.required(self.said, "kernel", option_names(self.vmm, "kernel"), "a kernel")
         self.lists = asked.values(self.vmm, self.what)
         for machine in self.lists["machine"] if not self.what.others.faults else ():
@@ -166,11 +168,16 @@ class Work:
             if self.is_settled and not self.chosen["s2sz"].name.isdigit():
                 self.host.require(key, why)
         most = int(self.host["s2sz_max"] or 48)
-        guests = launches.combinations(self.lists, {name: each.name for name, each in self.chosen.items()}, most)
+        guests = launches.combinations(self.lists, {name: each.name for name, each in self.chosen.items()}, most, self.handed())
         found = launches.named(guests, self.lists, self.table, "short_names" in self.said)
         for launch in found:
             set_width(launch, self.chosen["s2sz"], most, f"s2sz_max of {self.host.name}")
         return found
+
+    def handed(self) -> str:
+        """The kernel that firmware is given, where that is started."""
+        paths = self.paths["kernel"] if "firmware" in self.said else []
+        return os.path.abspath(paths[0][1]) if paths else ""
 
     @property
     def table(self) -> list[Row]:
