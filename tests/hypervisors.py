@@ -1018,6 +1018,13 @@ OPTIONS = [
      changed_tree(**NO_PCIE) | changed_host(s2sz_max="39")),
     ("a plain guest", WITH_TREE, lambda folder: differs("warning", b"Warning: 1 of 1" in folder.read("out/manifest.toml"), True),
      changed_tree(method=b"hvc\0"), 'have the psci method "hvc", expected "smc": no realm has such a devicetree'),
+    *[(f"an early console: {text}", [*WITH_TREE, "-append", text], lambda folder, says=says: differs("warning", f"# Warning: {says}" in
+       folder.read("out/manifest.toml").decode() if says else b"Warning" in folder.read("out/manifest.toml"), bool(says)), changed_tree(bootargs=text), says)
+      for text, says in (("earlycon=pl011,0x9000000 quiet", "earlycon at 0x9000000, in the protected half"),
+                         ("a earlycon=uart8250,mmio32,0x1000000", "earlycon at 0x1000000, in the protected half"),
+                         ("earlycon=pl011,0x10009000000", ""), ("earlycon", ""), ("noearlycon=pl011,0x9000000", ""))],
+    ("a domain with seeds", ["qemu", "--libvirt", "l", *LINE_OF], lambda folder: [], {"l": domain(a=("'dtb-randomness=off'", "'usb=off'")), "tree": tree(
+        [(LOW, LOW + 1024 * MIB)], "console=ttyAMA0 a='b c'", WITH_INITRD, count=2)}, "libvirt has no element for it: put <qemu:commandline>"),
     ("PSCI of another place", WITH_TREE, lambda folder: [], changed_tree(psci=None, firmware={"p": {
         "compatible": b"arm,psci-1.0\0arm,psci-0.2\0", "method": b"smc\0"}})),
     ("a guest without PSCI", WITH_TREE, lambda folder: [], changed_tree(psci=None), 'warning: 1 of 1 devicetrees have no psci method, expected'),

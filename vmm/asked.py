@@ -15,6 +15,9 @@ from .ways import Chosen
 
 # How long a file of command lines may be: each is a launch, of which a manifest takes 1,024.
 MOST_LINES = 4 << 20
+# How a domain of libvirt's says what has no element.
+LIBVIRT_SEEDS = (". libvirt has no element for it: put <qemu:commandline> with <qemu:arg value='-machine'/> and <qemu:arg "
+                 "value='dtb-randomness=off'/> into the domain")
 ONE_OF = ("the words after `--`", "--line", "--libvirt")
 
 
@@ -156,5 +159,6 @@ def warnings(vmm: Hypervisor, what: Asked, machines: list[Word]) -> list[str]:
     if len(machines) > 1:
         found.append(f"-machine has {len(machines)} machines: there are launches for each, where QEMU would make one of them")
     if what.line and seeds and not any(word.partition("=")[0] in machines[0].text for word in (seeds, "dtb-kaslr-seed")):
-        found.append(f"the command line has no {seeds}, which is added: start the guest with it too, or each start has another devicetree")
+        where = LIBVIRT_SEEDS if "libvirt" in what.said else ""
+        found.append(f"the command line has no {seeds}, which is added: start the guest with it too, or each start has another devicetree{where}")
     return found

@@ -1,5 +1,6 @@
 """The five checks of a launch against its devicetree, and the layout's own. Each difference names both sides."""
 import os
+import re
 from collections.abc import Iterator
 from dataclasses import dataclass
 
@@ -196,6 +197,22 @@ def faults(found: dict[str, list[Difference]], paths: dict[str, str]) -> list[st
         path = paths.get(name, "")
         lines.append(f"launch {name}{', ' + path if path else ''}: {first}{more}")
     return lines
+
+
+# The address of an early console in a command line.
+EARLY = re.compile(r"(?:^|\s)earlycon=[a-z0-9_]+,(?:mmio(?:16|32)?,)?(0x[0-9a-fA-F]{1,16})")
+
+
+def of_console(launches: list[Launch]) -> list[str]:
+    """Early consoles in the protected half, where no realm has a device: Linux takes such an address as it is."""
+    found = {}
+    for launch in launches:
+        top = 1 << (launch.places.s2sz - 1)
+        for text in EARLY.findall(launch.guest.append.text):
+            if int(text, 16) < top:
+                found.setdefault(text, f"earlycon at {text}, in the protected half, where no realm has a device, expected "
+                                 f"{top | int(text, 16):#x}, with the top bit of an IPA of {launch.places.s2sz} bits (launch {launch.name})")
+    return list(found.values())
 
 
 def warnings(trees: list[Tree]) -> list[str]:

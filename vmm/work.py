@@ -237,7 +237,7 @@ class Work:
             checked(self.vmm, found, trees, self.host, "program" not in self.said)
         self.place_files(made, found, trees)
         different = {(each.packed, each.length): each.tree for each in trees.values()}
-        warnings = checks.warnings(list(different.values()))
+        warnings = [*checks.warnings(list(different.values())), *checks.of_console(found)]
         line = self.what.line.words if self.what.line and not self.what.line.program else []
         about = manifest.About(self.vmm, self.words, line, self.host, self.taken(), self.algo_from, self.table, self.made_by(), warnings,
                                ["-dtb", self.said["own_dtb"]] if "own_dtb" in self.said else [])
