@@ -1,6 +1,6 @@
 """Runs of `rim` over manifests that are written for it."""
 import os
-from collections.abc import Sequence
+from collections.abc import Callable, Sequence
 from dataclasses import dataclass
 
 from outside import files
@@ -8,6 +8,7 @@ from outside.faults import Fault
 from outside.rim import Rim
 from outside.texts import visible
 from outside.measurement import Value
+from outside.programs import Ran
 
 # The most launches of a manifest.
 MOST_LAUNCHES = 1024
@@ -42,16 +43,25 @@ class Runs:
     workers: int = 2
     count: int = 0
 
-    def outcome(self, launches: Sequence[Candidate], value: Value) -> Outcome:
-        """Measures some launches. Where all of a run are refused for one of them, each half is tried by itself."""
+    def run(self, launches: Sequence[Candidate], words: Callable[[str], list[str]]) -> Ran:
+        """What `rim` says by some words of a manifest of launches, which are named by their places; `words` is given its path."""
         self.count += 1
         path = os.path.join(self.folder, f"search-{self.count}.toml")
         tables = (f'[[launch]]\nname = "{number}"\n{each.table}' for number, each in enumerate(launches))
         files.write(path, "".join([self.head, *tables]).encode())
         try:
-            ran = self.rim.run("measure", "--workers", str(self.workers), path, folder=self.folder)
+            return self.rim.run(*words(path), folder=self.folder)
         finally:
             os.remove(path)
+
+    def trace(self, launch: Candidate) -> list[str]:
+        """The lines of a launch's trace; none where it is refused."""
+        ran = self.run([launch], lambda path: ["trace", path, "0"])
+        return ran.out.decode("ascii", errors="replace").splitlines() if ran.status == 0 else []
+
+    def outcome(self, launches: Sequence[Candidate], value: Value) -> Outcome:
+        """Measures some launches. Where all of a run are refused for one of them, each half is tried by itself."""
+        ran = self.run(launches, lambda path: ["measure", "--workers", str(self.workers), path])
         if ran.status in (0, 1):
             before, line, _ = ran.out.decode("ascii", errors="replace").partition(f" {value.algo} {value.digits}\n")
             return Outcome(int(before.rsplit("\n", 1)[-1]) if line else None, ran.out.count(b" refused "))

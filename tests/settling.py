@@ -327,7 +327,7 @@ def the_file(program: str):
         wrong += differs("status", (status, re.sub("[0-9][0-9,]*", "N", said)), (0, "rim-manifest: N combinations of N rows, the width and four "
                          "numbers; N of the rows are measured in other ways\n"))
         wrong += [line for line in ("  stub = measured: settled, and not the likeliest", "  rec_rule = all: settled, and not the likeliest",
-                                    "  num_bps = as_read, num_bps = 5 as it is read: settled", "  block_level = 0: not settled",
+                                    "  num_bps = 5 (as_read): settled", "  block_level = 0: not settled",
                                     "not settled: block_level = 0: 1 gives the same; a guest that tells them apart: one with more than 1 GiB")
                   if line not in out]
         text = folder.read("settled.toml").decode()
@@ -374,6 +374,15 @@ def none_found(program: str):
         folder.put("known.toml", host_file(KNOWN))
         status, out, said = settle(folder, machine, "--rim", value_of(program, folder), "--out", "settled.toml", "--limit", "2000")
         wrong = differs("status", (status, "settled.toml" in folder.names()), (1, False))
+        trace = subprocess.run([program, "trace", "machine.toml", "a"], cwd=folder.path, capture_output=True, check=True).stdout
+        folder.put("trace", trace)
+        status, traced, _ = settle(folder, machine, "--trace", "trace", "--out", "settled.toml")
+        wrong += differs("by its trace", (status, [line for line in ("  the first 1 of ", "  its next step, which is not the machine's: init_ripas ")
+                                                   if line not in traced]), (1, []))
+        folder.put("known.toml", host_file(KNOWN | {"num_bps": 3}))
+        folder.put("trace", b"0" * 128 + trace[128:])
+        status, traced, _ = settle(folder, machine, "--trace", "trace", "--row", "num_bps=as_read", "--limit", "500", "--out", "settled.toml")
+        wrong += differs("by its first step", (status, "  the first step, realm_create, has another measurement by each of these\n" in traced), (1, True))
         return wrong + [line for line in ("none of 2,000 launches has the value, the likeliest of ", "  stub: none, measured\n", "  rec_rule: runnable, all\n",
                                           "  pmu: true and false", "what no row says may be: ") if line not in out]
 
@@ -407,6 +416,19 @@ def wrong_words(_program: str):
     return wrong
 
 
+def rows(program: str):
+    """Machines with several rows that are not the likeliest: pages of the host, RAM for each blob, pages of blobs."""
+    wrong = []
+    for vmm, ways in (("qemu", {"host_pages": "64k", "ram": "each", "dtb_pages": "used"}), ("kvmtool", {"host_pages": "16k", "ram": "each"}),
+                      ("cloud-hypervisor", {"kernel_pages": "image_size", "host_pages": "64k", "order": "kind"})):
+        machine = likeliest(vmm, **ways)
+        with folder_of(machine) as folder:
+            folder.put("known.toml", host_file(KNOWN | ({"s2sz_max": 48} if vmm == "cloud-hypervisor" else {})))
+            status, out, said = settle(folder, machine, "--rim", value_of(program, folder), "--out", "settled.toml")
+            wrong += differs(vmm, status, 0) + ([out + said] if status else is_told(machine, folder.toml("settled.toml"), out))
+    return wrong
+
+
 def few(program: str):
     """A few machines."""
     wrong = []
@@ -427,7 +449,7 @@ def main():
     os.environ["RIM"] = program
     if said.machines:
         return machines(program, said.machines, said.seed)
-    outcomes = [(each.__name__, tried(each, program)) for each in (best_first_is_right, the_file, forms, none_found, wrong_words, few)]
+    outcomes = [(each.__name__, tried(each, program)) for each in (best_first_is_right, the_file, forms, none_found, wrong_words, rows, few)]
     for name, wrong in outcomes:
         if wrong:
             print(f"WRONG: {name}", *wrong, sep="\n  ")

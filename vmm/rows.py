@@ -12,7 +12,7 @@ BLOCK_LEVEL = Row(
     "block_level", "the level of the largest blocks by which RAM is made", None, KVM, MEMORY,
     (Way("0", "as large as fits, down to the level at which the tables begin: Linux's find_map_level", 75), Way("2", "2 MiB at most", 15),
      Way("3", "pages of 4 KiB", 6), Way("1", "1 GiB at most: as 0, but for a width of 44 or more and RAM of 512 GiB", 4)),
-    "one with more than 1 GiB of RAM, and no whole number of GiB")
+    "one with more than 1 GiB of RAM, and no whole number of GiB; of 0 and 1 one with 512 GiB")
 REC_RULE = Row(
     "rec_rule", "whether the RECs of processors that begin off are measured", None, "the standard (DEN0137), RMI_REC_CREATE", MEMORY,
     (Way("runnable", "they are not, as the standard says", 90), Way("all", "they are measured like any other", 10)), "one with two processors")
@@ -53,7 +53,8 @@ def ram_ways(first: int, bss: str) -> tuple[Way, ...]:
 def order_row(address: str, likely: int, source: str) -> Row:
     """In which order blobs are measured."""
     ways = (Way("address", "by rising address", likely), Way("kind", "kernel, initrd, devicetree, and what else there is", 100 - likely))
-    return Row("order", f"RAM, then what is placed by rising address{address}, then the RECs", None, source, MEMORY, ways if likely < 100 else ways[:1],
+    ways = ways if likely < 100 else ways[:1]
+    return Row("order", f"RAM, then what is placed by rising address{address}, then the RECs", None, source, MEMORY, ways,
                "one of which two blobs change places: with a stub, firmware or the devicetree first", "ram, rec and the blobs, parted by commas")
 
 

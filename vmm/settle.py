@@ -4,6 +4,7 @@ the host.
 The rows of which a blob, RAM or a step depends are one axis: all of their combinations, those that are measured alike as one. The width of
 an IPA and each number is an axis of its own. Of a trace the first line is of these alone, so they are found by it, and then the rest.
 """
+import functools
 import hashlib
 import itertools
 import math
@@ -36,10 +37,13 @@ LIMIT = 1_000_000
 NAMED, OTHER_WIDTH, OTHER_FLAG = 0.9, 0.03, 0.03
 # A launch of more steps than this, and than twice those of the likeliest, comes later: it takes as long as many others.
 COSTLY = 1 << 12
+# Of how many combinations of rows a trace is looked at, where none has the value.
+MOST_TRACED = 64
 WIDTHS_TRIED = (40, 48, 41, 36, 39, 42, 33, 34, *range(32, 49))
 # The rows that are no part of the one axis, and those that are no choice where the words leave none.
 APART = {"hash", "s2sz", *NUMBERS}
 Structure = tuple[str, ...]
+FLAGS = ("false", "true")
 
 
 @dataclass(frozen=True)
@@ -58,6 +62,10 @@ class Feature:
     number: Number | None
     likely: float
 
+    @property
+    def count(self) -> int:
+        return self.number.value if self.number else 0
+
 
 @dataclass
 class Choices:
@@ -71,6 +79,11 @@ class Choices:
     pmu: list[Feature]
     sve: list[Feature]
     count: int = 0          # of all combinations, also those that are measured alike
+
+    @functools.cached_property
+    def level_at(self) -> int:
+        """At which place of a combination the level of blocks is."""
+        return [row.name for row in self.rows].index("block_level")
 
     def axes(self) -> list[Axis]:
         return [Axis("rows", tuple(likely for _, likely in self.structures)),
@@ -103,6 +116,7 @@ class Case:
     stubs: dict[bytes, Blob]
     contents: dict[str, Content]
     choices: Choices | None = None
+    widths: dict[str, int] = field(default_factory=dict)
     bodies: dict[tuple[Structure, int], tuple[int, str, int]] = field(default_factory=dict)
     numbers_of_bodies: dict[tuple, int] = field(default_factory=dict)
 
@@ -114,7 +128,9 @@ class Case:
         return next(each.names for each in self.table if each.name == row)
 
     def width(self, name: str) -> int:
-        return int(name) if name.isdigit() else self.places({"s2sz": name}).s2sz
+        if name not in self.widths:
+            self.widths[name] = int(name) if name.isdigit() else self.places({"s2sz": name}).s2sz
+        return self.widths[name]
 
     def realm(self, taken: dict[str, str]) -> Realm:
         places = self.places(taken)
@@ -147,11 +163,9 @@ class Case:
         choices = self.chosen
         _, width, bps, wps, pmu, sve = at
         counters, vector = choices.pmu[pmu], choices.sve[sve]
-        values = {"s2sz": self.width_of(width), "num_bps": choices.bps[bps].value, "num_wps": choices.wps[wps].value,
-                  "pmu": counters.has, "pmu_num_ctrs": counters.number.value if counters.number else 0,
-                  "sve": vector.has, "sve_vl": vector.number.value if vector.number else 0}
-        lines = "".join(f"{key} = {str(value).lower()}\n" for key, value in values.items())
-        return tuple(values.values()), f"algo = {text(self.value.algo)}\n{lines}"
+        values = (self.width_of(width), choices.bps[bps].value, choices.wps[wps].value, counters.has, counters.count, vector.has, vector.count)
+        return values, (f'algo = "{self.value.algo}"\ns2sz = {values[0]}\nnum_bps = {values[1]}\nnum_wps = {values[2]}\npmu = {FLAGS[values[3]]}\n'
+                        f"pmu_num_ctrs = {values[4]}\nsve = {FLAGS[values[5]]}\nsve_vl = {values[6]}\n")
 
     def width_of(self, place: int) -> int:
         return self.width(self.chosen.widths[place].name)
@@ -163,9 +177,9 @@ class Case:
 
     def candidate(self, at: At) -> Candidate | None:
         structure = self.chosen.structures[at[0]][0]
-        taken = self.chosen.taken(structure)
         values, lines = self.parameters(at)
-        number, more, steps = self.body(taken, structure, level_at(int(taken["block_level"]), int(values[0])))
+        level = level_at(int(structure[self.chosen.level_at]), int(values[0]))
+        number, more, steps = self.bodies.get((structure, level)) or self.body(self.chosen.taken(structure), structure, level)
         return Candidate((number, *values), lines + more, steps)
 
 
@@ -369,7 +383,8 @@ def search(cases: list[Case], choices: Choices, limit: int, algo: str | None) ->
         at = first.found()
         before = first.tried
         if at is None:
-            lines = ["the first step, realm_create, has another measurement by each of these", *tried_lines(choices, [set(), *first.reached[1:]])[-5:]]
+            lines = ["the first step, realm_create, has another measurement by each of these",
+                     *tried_lines(choices, [set(), *first.reached[1:]])[-5:]]
             return Outcome(None, first.tried, first.refused, choices.count, lines, first.is_whole)
         choices = choices.at_numbers(at)
         for case in cases:
@@ -377,8 +392,23 @@ def search(cases: list[Case], choices: Choices, limit: int, algo: str | None) ->
     main = Search(choices.axes(), cases, max(limit - before, 1), Progress("rim-manifest"))
     found = main.found()
     settled = settled_of(cases, choices, found, algo) if found else None
-    lines = [] if settled else ["the first step, realm_create, has the measurement of the trace; what comes after it has not"] * bool(traced)
-    return Outcome(settled, before + main.tried, main.refused, choices.count, lines + ([] if settled else tried_lines(choices, main.reached)), main.is_whole)
+    lines = nearest_lines(traced, choices) if traced and not settled else []
+    lines += [] if settled else tried_lines(choices, main.reached)
+    return Outcome(settled, before + main.tried, main.refused, choices.count, lines, main.is_whole)
+
+
+def nearest_lines(case: Case, choices: Choices) -> list[str]:
+    """How far the trace of a machine goes with a launch of the rows' likeliest combinations, the parameters being found."""
+    best, here, by = 0, [], choices.structures[0][0]
+    for place, (structure, _) in enumerate(choices.structures[:MOST_TRACED]):
+        candidate = case.candidate((place, 0, 0, 0, 0, 0))
+        lines = case.runs.trace(candidate) if candidate else []
+        same = next((number for number, (line, rim) in enumerate(zip(lines, case.trace)) if not line.startswith(rim + " ")), min(len(lines), len(case.trace)))
+        if same > best:
+            best, here, by = same, lines, structure
+    taken = ", ".join(f"{name} = {way}" for name, way in choices.taken(by).items())
+    last = here[best].split(" ", 1)[1] if best < len(here) else "none"
+    return [f"the first {best} of {len(case.trace)} steps of the trace are those of the launch by {taken}", f"its next step, which is not the machine's: {last}"]
 
 
 def content_of(data: bytes) -> Content:

@@ -231,9 +231,9 @@ def realm_lines(rows: Mapping[str, layout.Row], settled: Settled, values: dict[s
     """The lines of [realm]: each row that is not at its likeliest alternative."""
     lines = []
     for name, way in settled.ways.items():
-        if name == "s2sz" and "host" in rows[name].names and way.isdigit():
+        if name == "s2sz" and way.isdigit() and ("host" in rows[name].names or int(way) > int(values.get("s2sz_max", way))):
             values["s2sz_max"] = int(way)
-        elif way != rows[name].names[0]:
+        if way != rows[name].names[0] and not (name == "s2sz" and "host" in rows[name].names):
             lines.append(f"{name} = {way if way.isdigit() else text(way)}")
     return lines
 
@@ -259,8 +259,8 @@ def found_lines(outcome: Outcome, settled: Settled, rows: Mapping[str, layout.Ro
     lines = [f"{guests}: {'the value is' if len(cases) == 1 else 'the values are'} given by these, after {outcome.tried:,} launches:"]
     for name, way in settled.ways.items():
         rest = "not settled" if name in settled.open_rows else "settled"
-        number = f", {name} = {settled.values[name]} as it is read" if name in settled.values else ""
-        lines.append(f"  {name} = {way}{number}: {rest}" + ("" if way == rows[name].names[0] else ", and not the likeliest"))
+        value = f"{settled.values[name]} ({way})" if name in settled.values else way
+        lines.append(f"  {name} = {value}: {rest}" + ("" if way == rows[name].names[0] else ", and not the likeliest"))
     lines += [f"  {flag} = {str(settled.values[flag]).lower()}: settled" for flag in ("sve", "pmu")]
     return lines + [f"not settled: {line}" for line in open_lines(rows, settled)]
 

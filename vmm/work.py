@@ -51,7 +51,7 @@ def set_width(launch: Launch, width: Chosen, most: int, source: str):
 
 def tree_blob(made: Folder, launch: Launch, dump: dumps.Dump, pages: str, known: dict[tuple, Blob], is_handed_in: bool) -> Blob:
     """The file of a devicetree; those of the same bytes are one file."""
-    data, key = dump.data, (dump.packed, dump.length)
+    data, key = dump.data, (dump.packed, dump.length, pages)
     if pages == "used":
         data = data[:up(dump.tree.used, PAGE)]
         if len(dump.packed) > len(data):
@@ -187,7 +187,8 @@ class Work:
     def taken(self) -> dict[str, Chosen]:
         """The rows that a realm may change, of these launches, with what is taken of them."""
         names = {row.name for row in self.table}
-        without = {"dtb_file": "own_dtb" not in self.said, "sve_vl": not self.host["sve"], "pmu_num_ctrs": not self.host["pmu"], "hash": self.algo_from != "rule hash"}
+        without = {"dtb_file": "own_dtb" not in self.said, "sve_vl": not self.host["sve"], "pmu_num_ctrs": not self.host["pmu"],
+                   "hash": self.algo_from != "rule hash"}
         return {name: each for name, each in self.chosen.items() if name in names and not without.get(name)}
 
     def trees(self, made: Folder, found: list[Launch]) -> dict[str, dumps.Dump]:
