@@ -23,7 +23,7 @@ import time
 import tomllib
 from dataclasses import dataclass, field
 
-from hypervisors import TOP, Folder, differs, image, tree, tried
+from hypervisors import START, TOP, Folder, differs, image, replaced, tree, tried
 
 sys.path.insert(0, TOP)
 
@@ -104,9 +104,10 @@ class Machine:
 
 def drawn(vmm: str, draw: random.Random, is_weighted: bool) -> Machine:
     rows = rows_with_ways([HYPERVISORS[vmm].TABLE])
-    ways = {name: draw.choices(row.names, [way.likely if is_weighted else 1 for way in row.ways])[0] for name, row in rows.items() if name != "dtb_file"}
     likely = is_weighted
-    numbers = {"num_bps": draw.choice((5, 15, 6)) if likely else draw.randrange(16), "num_wps": draw.choice((3, 15)) if likely else draw.randrange(16),
+    ways = {name: draw.choices(row.names, [way.likely if likely else 1 for way in row.ways])[0] for name, row in rows.items() if name != "dtb_file"}
+    numbers = {"num_bps": draw.choice((5, 15, 6)) if likely else draw.randrange(16),
+               "num_wps": draw.choice((3, 15)) if likely else draw.randrange(16),
                "pmu": True, "pmu_num_ctrs": draw.choice((6, 8)) if likely else draw.randrange(1, 32),
                "sve": draw.random() < 0.5, "sve_vl": draw.choice((0, 1, 3)) if likely else draw.randrange(16)}
     plain = LAYOUTS[vmm].width
@@ -181,7 +182,10 @@ def known_of(machine: Machine, draw: random.Random, is_known: bool) -> dict:
     """What a user knows of a machine: its numbers, of which one in ten is one off; or nothing."""
     if not is_known:
         return dict.fromkeys(("num_bps", "num_wps", "sve", "pmu"), "?")
-    numbers = {key: max(0, value + draw.choice((-1, 1))) if key in NUMBERS and draw.random() < 0.1 else value for key, value in machine.numbers.items()}
+    numbers = dict(machine.numbers)
+    for key in NUMBERS:
+        if draw.random() < 0.1:
+            numbers[key] = max(0, numbers[key] + draw.choice((-1, 1)))
     for flag, key in (("sve", "sve_vl"), ("pmu", "pmu_num_ctrs")):
         if not numbers[flag]:
             numbers.pop(key)
@@ -241,7 +245,8 @@ def simulated(program: str, vmm: str, seed: int, kind: Kind, limit=""):
     with folder_of(machine) as folder:
         folder.put("known.toml", host_file(known_of(machine, draw, kind is not Kind.BLIND)))
         begun = time.monotonic()
-        status, out, said = settle(folder, machine, "--rim", value_of(program, folder), "--out", "settled.toml", *([f"--limit={limit}"] if limit else []))
+        limits = [f"--limit={limit}"] if limit else []
+        status, out, said = settle(folder, machine, "--rim", value_of(program, folder), "--out", "settled.toml", *limits)
         seconds = time.monotonic() - begun
         count = re.search(r"(?:after|none of) ([0-9,]+) launches", out)
         tried_ = int(count[1].replace(",", "")) if count else 0
@@ -331,14 +336,16 @@ def the_file(program: str):
                                     "not settled: block_level = 0: 1 gives the same; a guest that tells them apart: one with more than 1 GiB")
                   if line not in out]
         text = folder.read("settled.toml").decode()
-        wrong += differs("the file", EXPECTED in text and 'rec_rule = "all"\n' in text and "settled_by = \"rim-manifest settle: sha512 " in text, True)
+        wrong += [line for line in (EXPECTED, 'rec_rule = "all"\n', 'settled_by = "rim-manifest settle: sha512 ') if line not in text]
         wrong += differs("its rows", folder.toml("settled.toml")["realm"], {"stub": "measured", "rec_rule": "all"})
         wrong += differs("again", settle(folder, machine, "--rim", rim, "--out", "settled.toml")[::2][0], 3)
         status, report, _ = folder.run("qemu", "--host", "settled.toml", "--dtb", "tree", "--measure", "--", *QEMU)
         wrong += differs("the file is taken", (status, report.splitlines()[1].split(" ")[1:]), (0, ["sha512", rim]))
-        folder.put("known.toml", folder.read("settled.toml"))
+        folder.put("known.toml", folder.read("settled.toml") + b'firmware_ram = "whole"\n')
         status, out, _ = settle(folder, machine, "--rim", rim, "--out", "settled.toml", "--force")
-        return wrong + differs("what is named comes first", (status, "after 64 launches" in out), (0, True))
+        wrong += differs("what is named comes first", (status, "after 64 launches" in out), (0, True))
+        return wrong + differs("what it says of other guests stays", folder.toml("settled.toml")["realm"], {
+            "stub": "measured", "rec_rule": "all", "firmware_ram": "whole"})
 
 
 def forms(program: str):
@@ -353,8 +360,8 @@ def forms(program: str):
             folder.put(name, data_)
         folder.put("line", " ".join(QEMU).encode())
         folder.put("guests.toml", f'[[guest]]\nline = "line"\ndtb = "tree"\nrim = "{rim}"\n'.encode())
-        for name, words in (("base64", ["--rim", base64.b64encode(data).decode()]), ("bytes", ["--rim-file", "bytes"]), ("cbor", ["--rim-file", "cbor"]),
-                            ("text", ["--rim-file", "text"]), ("trace", ["--trace", "trace"]), ("a row", ["--rim", rim, "--row", "ram=each"]),
+        for name, words in (("base64", ["--rim", base64.b64encode(data).decode()]), ("bytes", ["--rim-file", "bytes"]),
+                            ("cbor", ["--rim-file", "cbor"]), ("text", ["--rim-file", "text"]), ("trace", ["--trace", "trace"]), ("a row", ["--rim", rim, "--row", "ram=each"]),
                             ("two guests", ["--rim", rim, "--guests", "guests.toml"])):
             status, out, said = settle(folder, machine, *words, "--out", f"{name}.toml")
             wrong += differs(name, status, 0) + ([out + said] if status else [])
@@ -364,6 +371,47 @@ def forms(program: str):
         wrong += differs("another row", (status, "ram: first\n" in out, "each" in out), (1, True, False))
         status, out, said = folder.run("settle", "qemu", "--host", "known.toml", "--guests", "guests.toml", "--out", "alone.toml")
         return wrong + differs("a file of guests alone", status, 0)
+
+
+ALONE = [word if word not in ("2", "1153M") else {"2": "1", "1153M": "1024M"}[word] for word in QEMU]
+
+
+def narrowed(program: str):
+    """A guest of one processor leaves a row open, which another guest of the machine settles; the same with firmware. Their values are of
+    manifests that rim-manifest makes."""
+    wrong = []
+    at = LOW + 128 * MIB
+    trees = {"one": tree([(LOW, LOW + 1024 * MIB)], initrd=(at, at + len(INITRD)), **{"pcie@10000000": None}), "tree": tree_of("qemu"),
+             "fw": bytes(n * 7 % 251 for n in range(9001)), "firm": tree([(LOW, LOW + 1024 * MIB)], **{"pcie@10000000": None})}
+    firmware = ["qemu-system-aarch64", "-M", "virt,gic-version=3,dtb-randomness=off", "-cpu", "max", "-m", "1G", "-bios", "fw"]
+    truth = host_file(KNOWN | {"s2sz_max": 41}, {"stub": "measured", "rec_rule": "all", "firmware_ram": "whole"})
+    with Folder(FILES | trees | {"truth.toml": truth, "known.toml": host_file(KNOWN), "line": " ".join(QEMU).encode()}) as folder:
+        values = {}
+        for name, words in (("one", ALONE), ("tree", QEMU), ("firm", firmware)):
+            report = folder.run("qemu", "--host", "truth.toml", "--dtb", name, "--measure", "--", *words)[1]
+            values[name] = report.splitlines()[1].split(" ")[2]
+        folder.put("guests", f'[[guest]]\nline = "line"\ndtb = "tree"\nrim = "{values["tree"]}"\n'.encode())
+        for name, words, line, expected in (
+                ("one guest", ["--dtb", "one", "--rim", values["one"]], ALONE, {"stub": "measured"}),
+                ("two guests", ["--dtb", "one", "--rim", values["one"], "--guests", "guests"], ALONE, {"stub": "measured", "rec_rule": "all"}),
+                ("firmware", ["--dtb", "firm", "--rim", values["firm"]], firmware, {"firmware_ram": "whole"})):
+            status, out, said = folder.run("settle", "qemu", "--host", "known.toml", "--out", f"{name}.toml", *words, "--", *line)
+            wrong += differs(name, (status, folder.toml(f"{name}.toml")["realm"]) if not status else out + said, (0, expected))
+            wrong += differs(f"{name}: what is open", "not settled: rec_rule = runnable: all gives the same" in out, name != "two guests")
+    return wrong
+
+
+def terminal(program: str):
+    """Standard error is a terminal: it shows how far the search is, and the line is gone at the end."""
+    with Folder(FILES | {"tree": tree_of("qemu"), "known.toml": host_file(KNOWN)}) as folder:
+        ours, theirs = os.openpty()
+        ran = subprocess.run([START, *WITH_TREE, "--rim", "5a" * 32, "--limit", "3000", "--", *QEMU], cwd=folder.path, stdout=subprocess.PIPE,
+                             stderr=theirs, check=False, timeout=SECONDS)
+        os.close(theirs)
+        shown = os.read(ours, 1 << 16).decode()
+        os.close(ours)
+        return differs("what is shown", (ran.returncode, re.search(r"\r\x1b\[Krim-manifest: [0-9,]+ launches tried", shown) is not None,
+                                         shown.endswith("\r\x1b[K")), (1, True, True))
 
 
 def none_found(program: str):
@@ -382,25 +430,29 @@ def none_found(program: str):
         folder.put("known.toml", host_file(KNOWN | {"num_bps": 3}))
         folder.put("trace", b"0" * 128 + trace[128:])
         status, traced, _ = settle(folder, machine, "--trace", "trace", "--row", "num_bps=as_read", "--limit", "500", "--out", "settled.toml")
-        wrong += differs("by its first step", (status, "  the first step, realm_create, has another measurement by each of these\n" in traced), (1, True))
-        return wrong + [line for line in ("none of 2,000 launches has the value, the likeliest of ", "  stub: none, measured\n", "  rec_rule: runnable, all\n",
+        wrong += differs("by its first step", (status, "realm_create, has another measurement by each of these\n" in traced), (1, True))
+        return wrong + [line for line in ("none of 2,000 launches has the value, the likeliest of ", "  stub: none, measured\n",
+                                          "  rec_rule: runnable, all\n",
                                           "  pmu: true and false", "what no row says may be: ") if line not in out]
 
 
+GIVEN = ["settle", "qemu", "--host", "known.toml", "--out", "o"]
+WITH_TREE = [*GIVEN, "--dtb", "tree"]
 WRONG = [
     ("no hypervisor", ["settle", "xen"], 2, 'settle: "xen", expected qemu, kvmtool, cloud-hypervisor or --help'),
-    ("no value", ["settle", "qemu", "--host", "known.toml", "--out", "o", "--dtb", "tree", "--", *QEMU], 2, "--rim: it is not given"),
-    ("a value of another length", ["settle", "qemu", "--host", "known.toml", "--out", "o", "--rim", "00ff", "--dtb", "tree", "--", *QEMU], 2, "--rim: "),
-    ("no line", ["settle", "qemu", "--host", "known.toml", "--out", "o", "--rim", "ab" * 32], 2, "no command line of the guest is given"),
+    ("no value", [*WITH_TREE, "--", *QEMU], 2, "--rim: it is not given"),
+    ("a value of another length", [*WITH_TREE, "--rim", "00ff", "--", *QEMU], 2, "--rim: "),
+    ("no line", [*GIVEN, "--rim", "ab" * 32], 2, "no command line of the guest is given"),
     ("no file", ["settle", "qemu", "--host", "known.toml", "--rim", "ab" * 32, "--", *QEMU], 2, "--out: it is not given"),
+    ("a file in no folder", [*replaced(WITH_TREE, "--out", "none/o"), "--rim", "ab" * 32, "--", *QEMU], 3, "none/o: it cannot be made"),
     ("another word", ["settle", "qemu", "--measure", "--", *QEMU], 2, '"--measure": no word of this hypervisor\'s'),
-    ("a limit", ["settle", "qemu", "--host", "known.toml", "--out", "o", "--rim", "ab" * 32, "--limit", "0", "--", *QEMU], 2, '--limit: "0"'),
-    ("another algorithm", ["settle", "kvmtool", "--host", "known.toml", "--out", "o", "--rim", "ab" * 64, "--dtb", "tree", "--", "lkvm", "run", "--realm",
-                           "--measurement-algo", "sha256", "-c", "1", "-m", "256", "-k", "Image"], 2, "the value has the length of sha512"),
-    ("another devicetree", ["settle", "qemu", "--host", "known.toml", "--out", "o", "--rim", "ab" * 32, "--dtb", "tree", "--", *QEMU, "-m", "2G"], 3, "RAM: "),
-    ("no trace", ["settle", "qemu", "--host", "known.toml", "--out", "o", "--trace", "Image", "--dtb", "tree", "--", *QEMU], 3, "Image: it is no UTF-8"),
-    ("no guests", ["settle", "qemu", "--host", "known.toml", "--out", "o", "--guests", "known.toml"], 3, "expected an array of tables `guest`"),
-    ("another guest", ["settle", "qemu", "--host", "known.toml", "--out", "o", "--guests", "g"], 3, "g: guest 1: expected a table of line"),
+    ("a limit", [*GIVEN, "--rim", "ab" * 32, "--limit", "0", "--", *QEMU], 2, '--limit: "0"'),
+    ("another algorithm", [*replaced(WITH_TREE, "settle", "kvmtool"), "--rim", "ab" * 64, "--", "lkvm", "run", "--realm", "--measurement-algo", "sha256",
+                           "-c", "1", "-m", "256", "-k", "Image"], 2, "the value has the length of sha512"),
+    ("another devicetree", [*WITH_TREE, "--rim", "ab" * 32, "--", *QEMU, "-m", "2G"], 3, "RAM: "),
+    ("no trace", [*WITH_TREE, "--trace", "Image", "--", *QEMU], 3, "Image: it is no UTF-8"),
+    ("no guests", [*GIVEN, "--guests", "known.toml"], 3, "expected an array of tables `guest`"),
+    ("another guest", [*GIVEN, "--guests", "g"], 3, "g: guest 1: expected a table of line"),
 ]
 
 
@@ -449,7 +501,8 @@ def main():
     os.environ["RIM"] = program
     if said.machines:
         return machines(program, said.machines, said.seed)
-    outcomes = [(each.__name__, tried(each, program)) for each in (best_first_is_right, the_file, forms, none_found, wrong_words, rows, few)]
+    outcomes = [(each.__name__, tried(each, program)) for each in (
+        best_first_is_right, the_file, forms, narrowed, terminal, none_found, wrong_words, rows, few)]
     for name, wrong in outcomes:
         if wrong:
             print(f"WRONG: {name}", *wrong, sep="\n  ")

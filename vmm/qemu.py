@@ -24,8 +24,8 @@ BASE = 0x4000_0000
 DTB_ALIGN = 2 * MIB
 BOOT = "hw/arm/boot.c of QEMU 7.2, 10.0 and 10.2"
 VIRT = "hw/arm/virt.c of QEMU 7.2, 10.0 and 10.2"
-FACTS = Facts(DTB_ALIGN, ends_after_dump=True, dtb_length=MIB, no_seeds="dtb-randomness=off", gic_3="gic-version=3", unpacks_gzip=True, hands_over=True,
-              zboot={"gzip": (10, 0), "zstd": (11, 1)})
+FACTS = Facts(DTB_ALIGN, ends_after_dump=True, dtb_length=MIB, no_seeds="dtb-randomness=off", gic_3="gic-version=3", hands_over=True,
+              unpacks_gzip=True, zboot={"gzip": (10, 0), "zstd": (11, 1)})
 # ldr x0, dtb; mov x1, xzr; mov x2, xzr; mov x3, xzr; ldr x4, kernel; br x4; then the two addresses
 STUB = (0x580000C0, 0xAA1F03E1, 0xAA1F03E2, 0xAA1F03E3, 0x58000084, 0xD61F0080)
 # The windows after RAM, in their order: the word that has one off, and its size.
@@ -161,7 +161,8 @@ TABLE = [
     Row("initrd", "the higher of 0x40000000 + min(RAM / 2, 128 MiB) and the kernel's end, rounded up to 4096", initrd, BOOT, SEEN),
     Row("dtb", "the initrd's end, or its place where there is none, rounded up to 2 MiB",
         lambda guest, places: up(places.initrd + guest.initrd_length, DTB_ALIGN), BOOT, SEEN),
-    Row("dtb length", "1,048,576 bytes of one that QEMU makes, also where few of them are used", None, "system/device_tree.c of QEMU 10.0 and 10.2", SEEN),
+    Row("dtb length", "1,048,576 bytes of one that QEMU makes, also where few of them are used", None,
+        "system/device_tree.c of QEMU 10.0 and 10.2", SEEN),
     Row("stub", "40 bytes at 0x40000000", lambda guest, places: BASE if guest.ways.get("stub") == "measured" else None, BOOT,
         SEEN + "; whether a realm has it: " + MEMORY,
         (Way("none", "it is no part of the realm: the first processor begins at the kernel, with the devicetree's address in x0", 85),
@@ -203,7 +204,8 @@ FIRMWARE = [
     Row("firmware", "the address 0, where a plain guest has it in flash: it is copied into RAM there, and flash is gone", lambda guest, places: 0,
         REALM, MEMORY),
     Row("firmware_ram", "RAM at 0, beside that of -m", firmware_ram, REALM, MEMORY,
-        (Way("file", "as much as the firmware's file has, in whole pages of the host", 60), Way("whole", "all of the 128 MiB in which flash was", 40)),
+        (Way("file", "as much as the firmware's file has, in whole pages of the host", 60),
+         Way("whole", "all of the 128 MiB in which flash was", 40)),
         "each with firmware: what is made RAM is measured"),
     Row("dtb", "the start of RAM, 0x40000000", lambda guest, places: BASE, FIRMWARE_BOOT, SEEN),
     Row("dtb length", "1,048,576 bytes of one that QEMU makes, which is what is loaded", None, FIRMWARE_BOOT, SEEN),

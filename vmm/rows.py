@@ -76,4 +76,5 @@ def kernel_pages_row(likely: int, source: str) -> Row:
 
 def dtb_pages_row(likely: int, whole: str, source: str) -> Row:
     return Row("dtb_pages", "which pages of the devicetree are measured", None, source, MEMORY,
-               (Way("whole", whole, likely), Way("used", "those that its blocks use", 100 - likely)), "one whose devicetree ends with a page of zeros")
+               (Way("whole", whole, likely), Way("used", "those that its blocks use", 100 - likely)),
+               "one whose devicetree ends with a page of zeros")

@@ -403,12 +403,14 @@ def nearest_lines(case: Case, choices: Choices) -> list[str]:
     for place, (structure, _) in enumerate(choices.structures[:MOST_TRACED]):
         candidate = case.candidate((place, 0, 0, 0, 0, 0))
         lines = case.runs.trace(candidate) if candidate else []
-        same = next((number for number, (line, rim) in enumerate(zip(lines, case.trace)) if not line.startswith(rim + " ")), min(len(lines), len(case.trace)))
+        parts = (number for number, (line, rim) in enumerate(zip(lines, case.trace)) if not line.startswith(rim + " "))
+        same = next(parts, min(len(lines), len(case.trace)))
         if same > best:
             best, here, by = same, lines, structure
     taken = ", ".join(f"{name} = {way}" for name, way in choices.taken(by).items())
     last = here[best].split(" ", 1)[1] if best < len(here) else "none"
-    return [f"the first {best} of {len(case.trace)} steps of the trace are those of the launch by {taken}", f"its next step, which is not the machine's: {last}"]
+    return [f"the first {best} of {len(case.trace)} steps of the trace are those of the launch by {taken}",
+            f"its next step, which is not the machine's: {last}"]
 
 
 def content_of(data: bytes) -> Content:

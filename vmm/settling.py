@@ -169,6 +169,8 @@ class Maker:
         launch, = work.launches(made)
         dump = work.trees(made, [launch])[launch.name]
         self.has_pmu = self.has_pmu or dump.tree.root.child("pmu") is not None
+        warnings = [*checks.warnings([dump.tree]), *checks.of_console([launch])]
+        ending.say("rim-manifest", *(f"warning: {each}" for each in warnings))
         if wrong := checks.of_unsettled(self.vmm, launch, dump):
             raise Fault(*checks.faults({launch.name: wrong}, {}))
         return self.of_launch(work, made, launch, dump, given)
@@ -238,9 +240,14 @@ def realm_lines(rows: Mapping[str, layout.Row], settled: Settled, values: dict[s
     return lines
 
 
+def kept_lines(about: Host, settled: Settled) -> list[str]:
+    """The lines of [realm] that are of no row of these guests: what was said of others stays."""
+    return [f"{name} = {way if way.isdigit() else text(way)}" for name, way in about.realm.items() if name not in settled.ways]
+
+
 def file_text(about: Host, rows: Mapping[str, layout.Row], settled: Settled, by: str) -> str:
     values = values_of(about, settled)
-    realm = realm_lines(rows, settled, values)
+    realm = realm_lines(rows, settled, values) + kept_lines(about, settled)
     lines = ["# What holds on a machine: a file of `rim-manifest --host`, which `rim-manifest settle` has written."]
     lines += [f"{key} = {value_text(value)}" for key, value in values.items()] + [f"settled_by = {text(by)}", ""]
     lines += [f"# Not settled: {line}" for line in open_lines(rows, settled)]
@@ -280,7 +287,22 @@ def check_out(said: dict) -> str:
     path = words.required(said, "out", "--out", "the file about the host that is written")
     if os.path.lexists(path) and "force" not in said:
         raise Fault(f"{visible(path)}: it exists, expected a new file, or --force")
-    return path
+    folder = os.path.dirname(os.path.abspath(path))
+    if not os.access(folder, os.W_OK) or os.path.isdir(path):
+        raise Fault(f"{visible(path)}: it cannot be made, expected a file in a folder that can be written")
+    return os.path.realpath(path)
+
+
+def put(path: str, data: bytes):
+    """Writes the file whole, or not at all."""
+    meanwhile = f"{path}.{os.getpid()}"
+    try:
+        files.write(meanwhile, data, path)
+        with files.faults_of(path, "that it can be written"):
+            os.replace(meanwhile, path)
+    finally:
+        if os.path.lexists(meanwhile):
+            os.remove(meanwhile)
 
 
 def verify(maker: Maker, given: Sequence[Given], cases: Sequence[Case], path: str):
@@ -334,7 +356,7 @@ def search(maker: Maker, given: Sequence[Given], cases: list[Case], rows: Mappin
     files.write(path, made.encode())
     verify(maker, given, cases, path)
     print("\n".join(found_lines(outcome, outcome.settled, rows, cases)), flush=True)
-    files.write(out, made.encode())
+    put(out, made.encode())
     return 0
 
 

@@ -75,6 +75,7 @@ def checked(vmm: Hypervisor, found: list[Launch], trees: dict[str, dumps.Dump], 
 def record_of(vmm: Hypervisor, groups: list[tuple[str, launches.Group]], program_line: str, what: Asked) -> dict[str, object]:
     """What the record says: the command line, where each file is of, and each launch."""
     blobs_ = {blob.file: blob for _, group in groups for launch in group.launches for blob in launch.files if blob.path}
+
     def one(name: str, launch: Launch) -> dict[str, object]:
         guest = launch.guest
         loaded = {"kernel": None if guest.firmware else guest.loaded.file, "firmware": guest.firmware and guest.firmware.file}
