@@ -55,7 +55,7 @@ def order_row(address: str, likely: int, source: str) -> Row:
     ways = (Way("address", "by rising address", likely), Way("kind", "kernel, initrd, devicetree, and what else there is", 100 - likely))
     ways = ways if likely < 100 else ways[:1]
     return Row("order", f"RAM, then what is placed by rising address{address}, then the RECs", None, source, MEMORY, ways,
-               "one of which two blobs change places: with a stub, firmware or the devicetree first", "ram, rec and the blobs, parted by commas")
+               "one with a stub, with firmware, or whose devicetree comes first", "ram, rec and the blobs, parted by commas")
 
 
 def width_ways(likely: int) -> tuple[Way, ...]:

@@ -337,11 +337,20 @@ def do(vmm: Hypervisor, said: dict, all_words: list[str]) -> int:
             maker.drop()
 
 
+def with_features(work: Work) -> Host:
+    """What is known of the host, with what the words of the processor say."""
+    about = work.host
+    for cpu in work.lists["cpu"]:
+        said = {key: fitting[0] for key, fitting in work.vmm.features(cpu.text).items() if about[key] is None}
+        about = replace(about, values=about.values | said)
+    return about
+
+
 def search(maker: Maker, given: Sequence[Given], cases: list[Case], rows: Mapping[str, layout.Row], limit: int, out: str) -> int:
     work = maker.works[0]
     names = {row.name for each in maker.works for row in each.table if row.ways}
     names -= {"dtb_file"} if all("own_dtb" not in each.said for each in maker.works) else set()
-    choices = settle.choices_of(cases, work.host, work.chosen, names, maker.has_pmu)
+    choices = settle.choices_of(cases, with_features(work), work.chosen, names, maker.has_pmu)
     ending.say("rim-manifest", f"{choices.count:,} combinations of {len(choices.rows)} rows, the width and four numbers; "
                f"{len(choices.structures):,} of the rows are measured in other ways")
     algo = None if any(each.what.others.realm and each.what.others.realm.algorithm for each in maker.works) else cases[0].value.algo
