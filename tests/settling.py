@@ -17,6 +17,7 @@ import enum
 import os
 import random
 import re
+import signal
 import subprocess
 import sys
 import time
@@ -414,6 +415,19 @@ def terminal(program: str):
                                          shown.endswith("\r\x1b[K")), (1, True, True))
 
 
+def stopped(program: str):
+    """A signal stops the search, and what was tried is printed."""
+    with Folder(FILES | {"tree": tree_of("qemu"), "known.toml": host_file(KNOWN)}) as folder:
+        ran = subprocess.Popen([START, *WITH_TREE, "--rim", "5a" * 32, "--", *QEMU], cwd=folder.path, stdout=subprocess.PIPE, stderr=subprocess.PIPE,
+                               text=True)
+        first = ran.stderr.readline()
+        time.sleep(1)
+        ran.send_signal(signal.SIGINT)
+        out, said = ran.communicate(timeout=SECONDS)
+        wrong = differs("status", (ran.returncode, "combinations of 8 rows" in first, said), (130, True, ""))
+        return wrong + differs("what was tried", out.startswith("the search was stopped; none of ") and "  stub: none" in out, True)
+
+
 def none_found(program: str):
     """A machine that does what no row says: what was tried, row by row, and no file."""
     machine = likeliest()
@@ -502,7 +516,7 @@ def main():
     if said.machines:
         return machines(program, said.machines, said.seed)
     outcomes = [(each.__name__, tried(each, program)) for each in (
-        best_first_is_right, the_file, forms, narrowed, terminal, none_found, wrong_words, rows, few)]
+        best_first_is_right, the_file, forms, narrowed, terminal, stopped, none_found, wrong_words, rows, few)]
     for name, wrong in outcomes:
         if wrong:
             print(f"WRONG: {name}", *wrong, sep="\n  ")

@@ -17,6 +17,7 @@ from finder.runs import Candidate, Runs
 from finder.search import Search
 from outside.faults import Fault
 from outside.measurement import Value
+from outside.stopping import Stopped
 
 from . import layout, numbers
 from .guest import Blob
@@ -390,7 +391,12 @@ def search(cases: list[Case], choices: Choices, limit: int, algo: str | None) ->
         for case in cases:
             case.choices = choices
     main = Search(choices.axes(), cases, max(limit - before, 1), Progress("rim-manifest"))
-    found = main.found()
+    try:
+        found = main.found()
+    except Stopped:
+        print("\n".join([f"the search was stopped; none of {before + main.tried:,} launches has the value. Tried were",
+                         *(f"  {line}" for line in tried_lines(choices, main.reached))]), flush=True)
+        raise
     settled = settled_of(cases, choices, found, algo) if found else None
     lines = nearest_lines(traced, choices) if traced and not settled else []
     lines += [] if settled else tried_lines(choices, main.reached)

@@ -1,5 +1,6 @@
 """The words of `rim-manifest settle`, the guests that it is given, and the file about the host that it writes."""
 import os
+import sys
 from collections.abc import Mapping, Sequence
 from dataclasses import dataclass, replace
 
@@ -42,7 +43,8 @@ likeliest first, and writes the host's file with them. The guest is a hypervisor
 file of --host has what is known: numbers that it gives come first, then those beside them, then all others. A "?", or a key that is left
 out, is not known; a row that it names is likely, and one that --row names is sure.
 
-Status: 0 found and written, 1 not found, 2 wrong words, 3 a fault.
+Status: 0 found and written, 1 not found, 2 wrong words, 3 a fault; 130, 143 or 129 stopped by INT, TERM or HUP, once what was tried is
+printed.
 """
 GUEST_KEYS = ("line", "libvirt", "dtb", "rim", "rim_file", "trace")
 MOST_GUESTS, MOST_FILE, MOST_TRACE = 64, 1 << 20, 256 << 20
@@ -372,14 +374,14 @@ def search(maker: Maker, given: Sequence[Given], cases: list[Case], rows: Mappin
 def run(all_words: list[str]) -> int:
     """`rim-manifest settle` with its words after that one."""
     if not all_words or all_words[0] in ("-h", "--help"):
-        print(help_text(), end="")
+        print(help_text(), file=sys.stdout if all_words else sys.stderr)
         return 0 if all_words else 2
     if all_words[0] not in HYPERVISORS:
         raise WrongWords(f"settle: {shown(all_words[0])}, expected {', '.join(HYPERVISORS)} or --help")
     vmm = HYPERVISORS[all_words[0]]
     said = words.parse(options_of(vmm), all_words[1:], vmm.refuse_before)
     if "help" in said:
-        print(help_text(), end="")
+        print(help_text())
         return 0
     if "folder" in said:
         go_to(said["folder"])
