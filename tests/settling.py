@@ -378,27 +378,33 @@ ALONE = [word if word not in ("2", "1153M") else {"2": "1", "1153M": "1024M"}[wo
 
 
 def narrowed(program: str):
-    """A guest of one processor leaves a row open, which another guest of the machine settles; the same with firmware. Their values are of
-    manifests that rim-manifest makes."""
+    """A guest of one processor leaves a row open, which another guest of the machine settles; guests of firmware and of -dtb are settled too.
+    Their values are of manifests that rim-manifest makes."""
     wrong = []
     at = LOW + 128 * MIB
     trees = {"one": tree([(LOW, LOW + 1024 * MIB)], initrd=(at, at + len(INITRD)), **{"pcie@10000000": None}), "tree": tree_of("qemu"),
+             "short": tree([(LOW, LOW + SIZE)], initrd=(at, at + len(INITRD)), count=2, length=None, **{"pcie@10000000": None}),
              "fw": bytes(n * 7 % 251 for n in range(9001)), "firm": tree([(LOW, LOW + 1024 * MIB)], **{"pcie@10000000": None})}
     firmware = ["qemu-system-aarch64", "-M", "virt,gic-version=3,dtb-randomness=off", "-cpu", "max", "-m", "1G", "-bios", "fw"]
-    truth = host_file(KNOWN | {"s2sz_max": 41}, {"stub": "measured", "rec_rule": "all", "firmware_ram": "whole"})
+    truth = host_file(KNOWN | {"s2sz_max": 41}, {"stub": "measured", "rec_rule": "all", "firmware_ram": "whole",
+                                                                 "dtb_file": "padded"})
+    own = [*QEMU, "-dtb", "short"]
     with Folder(FILES | trees | {"truth.toml": truth, "known.toml": host_file(KNOWN), "line": " ".join(QEMU).encode()}) as folder:
         values = {}
-        for name, words in (("one", ALONE), ("tree", QEMU), ("firm", firmware)):
-            report = folder.run("qemu", "--host", "truth.toml", "--dtb", name, "--measure", "--", *words)[1]
+        for name, words in (("one", ALONE), ("tree", QEMU), ("firm", firmware), ("own", own)):
+            tree_words = [] if name == "own" else ["--dtb", name]
+            report = folder.run("qemu", "--host", "truth.toml", *tree_words, "--measure", "--", *words)[1]
             values[name] = report.splitlines()[1].split(" ")[2]
         folder.put("guests", f'[[guest]]\nline = "line"\ndtb = "tree"\nrim = "{values["tree"]}"\n'.encode())
         for name, words, line, expected in (
                 ("one guest", ["--dtb", "one", "--rim", values["one"]], ALONE, {"stub": "measured"}),
                 ("two guests", ["--dtb", "one", "--rim", values["one"], "--guests", "guests"], ALONE, {"stub": "measured", "rec_rule": "all"}),
-                ("firmware", ["--dtb", "firm", "--rim", values["firm"]], firmware, {"firmware_ram": "whole"})):
+                ("firmware", ["--dtb", "firm", "--rim", values["firm"]], firmware, {"firmware_ram": "whole"}),
+                ("-dtb", ["--rim", values["own"]], own, {"stub": "measured", "rec_rule": "all", "dtb_file": "padded"})):
             status, out, said = folder.run("settle", "qemu", "--host", "known.toml", "--out", f"{name}.toml", *words, "--", *line)
             wrong += differs(name, (status, folder.toml(f"{name}.toml")["realm"]) if not status else out + said, (0, expected))
-            wrong += differs(f"{name}: what is open", "not settled: rec_rule = runnable: all gives the same" in out, name != "two guests")
+            wrong += differs(f"{name}: what is open", "not settled: rec_rule = runnable: all gives the same" in out,
+                             name in ("one guest", "firmware"))
     return wrong
 
 
