@@ -268,6 +268,9 @@ def found_lines(outcome: Outcome, settled: Settled, rows: Mapping[str, layout.Ro
     lines = [f"{guests}: {'the value is' if len(cases) == 1 else 'the values are'} given by these, after {outcome.tried:,} launches:"]
     for name, way in settled.ways.items():
         rest = "not settled" if name in settled.open_rows else "settled"
+        if name == "s2sz" and "host" in rows[name].names and way.isdigit():
+            lines.append(f"  s2sz_max = {way}: {rest}")
+            continue
         value = f"{settled.values[name]} ({way})" if name in settled.values else way
         lines.append(f"  {name} = {value}: {rest}" + ("" if way == rows[name].names[0] else ", and not the likeliest"))
     lines += [f"  {flag} = {str(settled.values[flag]).lower()}: settled" for flag in ("sve", "pmu")]
