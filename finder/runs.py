@@ -18,11 +18,13 @@ FAULTS = ("no-memory", "file-unreadable", "file-too-large", "output-failed", "st
 
 @dataclass(frozen=True)
 class Candidate:
-    """A launch: what of it is measured, exactly; its table in a manifest, without its name; and about how many steps are measured."""
+    """A launch: what of it is measured, exactly; its table in a manifest, without its name; about how many steps are measured; and what its
+    first steps depend on, which `rim measure` does once for all launches of a run that begin alike."""
 
     key: object
     table: str
     steps: int
+    group: tuple = ()
 
 
 @dataclass(frozen=True)

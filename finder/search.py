@@ -12,6 +12,9 @@ from .runs import MOST_LAUNCHES, Candidate, Outcome, Runs
 
 # About how many steps the launches of a run have. The first runs are small: what is likely is found at once.
 MOST_STEPS, FIRST = 1 << 22, 64
+# A launch of more steps than this, and than twice those of the first one, is put aside until there are some such, so that those which begin
+# alike are in one run: RAM in pages of 4 KiB takes as long as hundreds of other launches. First there are FIRST, and later more.
+COSTLY = 1 << 12
 # How many combinations are looked at for each launch that may be tried: many are of a launch that was tried.
 LOOKED_AT = 20
 
@@ -34,6 +37,21 @@ class Tried:
     keys: set[object] = field(default_factory=set)
     found: object = None
     doubles: dict[object, list[At]] = field(default_factory=dict)   # other combinations of a launch, where more subjects part them
+
+
+def in_groups(late: list[tuple[At, Candidate]]) -> Iterator[list[tuple[At, Candidate]]]:
+    """Launches of many steps for a run each: those that begin alike side by side, whose first steps are counted once."""
+    batch: list[tuple[At, Candidate]] = []
+    steps = 0
+    for at, candidate in sorted(late, key=lambda each: each[1].group):
+        if not batch or candidate.group != batch[-1][1].group:
+            if steps > MOST_STEPS:
+                yield batch
+                batch, steps = [], 0
+            steps += candidate.steps
+        batch.append((at, candidate))
+    if batch:
+        yield batch
 
 
 @dataclass
@@ -72,7 +90,8 @@ class Search:
     def batches(self) -> Iterator[list[tuple[At, Candidate]] | At]:
         """Launches for a run each; or a combination by which each subject has its value, where that of the first is known."""
         batch: list[tuple[At, Candidate]] = []
-        steps, most, made = 0, FIRST, 0
+        late: list[tuple[At, Candidate]] = []
+        steps, most, most_late, made, costly = 0, FIRST, FIRST, 0, 0
         first = self.known[0]
         for at in best_first(self.axes):
             self.looked_at += 1
@@ -91,8 +110,15 @@ class Search:
                     first.doubles.setdefault(candidate.key, []).append(at)
                 continue
             first.keys.add(candidate.key)
+            made, costly = made + 1, costly or max(COSTLY, 2 * candidate.steps)
+            if candidate.steps > costly:
+                late.append((at, candidate))
+                if len(late) == most_late:
+                    yield from in_groups(late)
+                    late, most_late = [], min(4 * most_late, MOST_LAUNCHES)
+                continue
             batch.append((at, candidate))
-            made, steps = made + 1, steps + candidate.steps
+            steps += candidate.steps
             if len(batch) == most or steps > MOST_STEPS:
                 yield batch
                 batch, steps, most = [], 0, MOST_LAUNCHES
@@ -100,6 +126,7 @@ class Search:
             self.is_whole = True
         if batch:
             yield batch
+        yield from in_groups(late)
 
     def taken(self, waiting: tuple[list[tuple[At, Candidate]], Future[Outcome]]) -> At | None:
         """What came of a run: the combination that was looked for, where it is among these."""

@@ -1433,7 +1433,7 @@ def odd_names(program: str):
             os.rename(os.path.join(folder.path, name), os.path.join(folder.path, name + odd))
         words = ["qemu", "-M", "virt", "-cpu", "max", "-m", "256M", "-kernel", "Image" + odd, "--host", "host.toml" + odd, "--out", odd]
         status, out, said = folder.run(*words, "--dtb", "tree" + odd)
-        wrong = differs("status", (status, out, said), (0, "n\\x0a\\x1b[2J\\xff/manifest.toml: 1 launch, 3 files\n", ""))
+        wrong = differs("status", (status, out, said), (0, "n\\x0a\\x1b[2J\\xff/manifest.toml: 1 launch, 2 files\n", ""))
         return wrong + read_by(program, folder, out=odd, count=1)
 
 

@@ -1,15 +1,16 @@
 #!/usr/bin/env python3
 """Simulates machines that do this or that of what a realm may change, and has rim-manifest settle find it by the value that each gives.
 
-    tests/settling.py [--machines N] [--seed N] [PROGRAM]      by default the program that `rt ci` has built, and a few machines
+    tests/settling.py [PROGRAM]                                                 by default the program that `rt ci` has built
+    tests/settling.py --machines N [--seed N] [--limit N] [--kinds LIST] [PROGRAM]
 
 - Machines: each has an alternative of each row and numbers, drawn by their likelihoods or at random, of each hypervisor. Its manifest is
   written here, by code apart from rim-manifest's, PROGRAM measures it, and rim-manifest settle is given the value. A file that it writes
   has to give the same value again; where a value pins a row, the file has to name what the machine does.
 - Several guests, a trace, forms of the value, what is known, a machine that does what no row says, wrong words and faults, a terminal.
 
-With --machines only machines are simulated, N drawn by likelihoods, N at random, and a fifth of N of which no number is known, and what came
-of each kind is printed. The last line is 'N passed, M failed'.
+With --machines only machines are simulated, of which each may take --limit launches: N of each of these kinds: `likely`, drawn by the
+likelihoods; `random`, at random; `blind`, by the likelihoods with no number known. What came of each kind is printed. The last line is 'N passed, M failed'.
 """
 import argparse
 import base64
@@ -211,7 +212,9 @@ def value_of(program: str, folder: Folder, name="machine.toml") -> str:
 
 def settle(folder: Folder, machine: Machine, *words: str):
     """What rim-manifest settle says of a machine's guest."""
-    return folder.run("settle", machine.vmm, "--host", "known.toml", "--dtb", "tree", *words, "--", *LAYOUTS[machine.vmm].words)
+    all_words = [START, "settle", machine.vmm, "--host", "known.toml", "--dtb", "tree", *words, "--", *LAYOUTS[machine.vmm].words]
+    ran = subprocess.run(all_words, cwd=folder.path, capture_output=True, timeout=SECONDS, check=False, stdin=subprocess.DEVNULL, text=True)
+    return ran.returncode, ran.stdout, ran.stderr
 
 
 def is_told(machine: Machine, has: dict, said: str) -> list[str]:
@@ -251,21 +254,21 @@ def simulated(program: str, vmm: str, seed: int, kind: Kind, limit=""):
         seconds = time.monotonic() - begun
         count = re.search(r"(?:after|none of) ([0-9,]+) launches", out)
         tried_ = int(count[1].replace(",", "")) if count else 0
-        if status == 1 and kind is not Kind.LIKELY:
+        if status == 1 and (limit or kind is not Kind.LIKELY):
             return [], False, tried_, seconds
         if status:
             return [f"{machine}: status {status}, {out}{said}"], False, tried_, seconds
         return is_told(machine, folder.toml("settled.toml"), out), True, tried_, seconds
 
 
-def machines(program: str, count: int, seed: int) -> int:
+def machines(program: str, count: int, seed: int, limit: str, kinds: list[Kind]) -> int:
     """Simulates many machines, and prints what came of them."""
     passed = failed = 0
-    for kind, share in ((Kind.LIKELY, 1.0), (Kind.RANDOM, 1.0), (Kind.BLIND, 0.2)):
+    for kind in kinds:
         found, tries, times = 0, [], []
-        for number in range(round(count * share)):
+        for number in range(count):
             vmm = list(LAYOUTS)[number % len(LAYOUTS)]
-            wrong, was_found, tried_, seconds = simulated(program, vmm, seed + number, kind, "300000")
+            wrong, was_found, tried_, seconds = simulated(program, vmm, seed + number, kind, limit)
             found, failed, passed = found + was_found, failed + bool(wrong), passed + (not wrong)
             if was_found:
                 tries.append(tried_)
@@ -513,6 +516,8 @@ def main():
     parser = argparse.ArgumentParser()
     parser.add_argument("--machines", type=int)
     parser.add_argument("--seed", type=int, default=1)
+    parser.add_argument("--limit", default="100000")
+    parser.add_argument("--kinds", default="likely,random,blind")
     parser.add_argument("program", nargs="?", default=os.path.join(TOP, "crates", "rim", "out", "rim"))
     said = parser.parse_args()
     program = os.path.abspath(said.program)
@@ -520,7 +525,7 @@ def main():
         raise SystemExit(f"{program} is not built")
     os.environ["RIM"] = program
     if said.machines:
-        return machines(program, said.machines, said.seed)
+        return machines(program, said.machines, said.seed, said.limit, [Kind[each.upper()] for each in said.kinds.split(",")])
     outcomes = [(each.__name__, tried(each, program)) for each in (
         best_first_is_right, the_file, forms, narrowed, terminal, stopped, none_found, wrong_words, rows, few)]
     for name, wrong in outcomes:

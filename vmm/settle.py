@@ -14,7 +14,7 @@ from dataclasses import dataclass, field, replace
 from finder.axes import At, Axis, count_of
 from finder.progress import Progress
 from finder.runs import Candidate, Runs
-from finder.search import Search
+from finder.search import COSTLY, Search
 from outside.faults import Fault
 from outside.measurement import Value
 from outside.stopping import Stopped
@@ -36,8 +36,9 @@ from .ways import Chosen
 LIMIT = 1_000_000
 # How likely it is that what the file about the host names of a row holds; that a width is none of the rule's; that a flag is another one.
 NAMED, OTHER_WIDTH, OTHER_FLAG = 0.9, 0.03, 0.03
-# A launch of more steps than this, and than twice those of the likeliest, comes later: it takes as long as many others.
-COSTLY = 1 << 12
+# A launch of more steps than this times COSTLY, and than twice those of the likeliest, is less likely to be tried, as its steps are more: of
+# those that are tried, about as many share their first steps.
+SHARED = 8
 # Of how many combinations of rows a trace is looked at, where none has the value.
 MOST_TRACED = 64
 WIDTHS_TRIED = (40, 48, 41, 36, 39, 42, 33, 34, *range(32, 49))
@@ -181,7 +182,7 @@ class Case:
         values, lines = self.parameters(at)
         level = level_at(int(structure[self.chosen.level_at]), int(values[0]))
         number, more, steps = self.bodies.get((structure, level)) or self.body(self.chosen.taken(structure), structure, level)
-        return Candidate((number, *values), lines + more, steps)
+        return Candidate((number, *values), lines + more, steps, (values, level))
 
 
 @dataclass
@@ -233,7 +234,7 @@ def structures_of(cases: Sequence[Case], rows: list[Row], ways: list[dict[str, f
         found[key] = (*best, had[2] + likely)
         level = level_at(int(taken.get("block_level", likeliest["block_level"])), 40)
         steps.setdefault(key, sum(case.body(likeliest | taken, names, level)[2] for case in cases))
-    usual = max(COSTLY, 2 * next(iter(steps.values()), 1))
+    usual = SHARED * max(COSTLY, 2 * next(iter(steps.values()), 1))
     weighed = [(names, total * min(1.0, usual / steps[key])) for key, (names, _, total) in found.items()]
     return sorted(weighed, key=lambda each: -each[1])
 
