@@ -10,7 +10,8 @@
 - Several guests, a trace, forms of the value, what is known, a machine that does what no row says, wrong words and faults, a terminal.
 
 With --machines only machines are simulated, of which each may take --limit launches: N of each of these kinds: `likely`, drawn by the
-likelihoods; `random`, at random; `blind`, by the likelihoods with no number known. What came of each kind is printed. The last line is 'N passed, M failed'.
+likelihoods; `random`, at random; `blind`, by the likelihoods with no number known. What came of each kind is printed. The last line is 'N
+passed, M failed'.
 """
 import argparse
 import base64
@@ -365,7 +366,8 @@ def forms(program: str):
         folder.put("line", " ".join(QEMU).encode())
         folder.put("guests.toml", f'[[guest]]\nline = "line"\ndtb = "tree"\nrim = "{rim}"\n'.encode())
         for name, words in (("base64", ["--rim", base64.b64encode(data).decode()]), ("bytes", ["--rim-file", "bytes"]),
-                            ("cbor", ["--rim-file", "cbor"]), ("text", ["--rim-file", "text"]), ("trace", ["--trace", "trace"]), ("a row", ["--rim", rim, "--row", "ram=each"]),
+                            ("cbor", ["--rim-file", "cbor"]), ("text", ["--rim-file", "text"]), ("trace", ["--trace", "trace"]),
+                            ("a row", ["--rim", rim, "--row", "ram=each"]),
                             ("two guests", ["--rim", rim, "--guests", "guests.toml"])):
             status, out, said = settle(folder, machine, *words, "--out", f"{name}.toml")
             wrong += differs(name, status, 0) + ([out + said] if status else [])
