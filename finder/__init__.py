@@ -5,5 +5,6 @@ runs        runs of `rim` over manifests that are written for it
 search      the launches that are tried, in their order, each once
 progress    how far a search is, on a terminal and off it
 
-What is searched gives the axes, and makes a launch of a combination: its table in a manifest, and what of it is measured.
+`rim-manifest settle` and `rim-match` use it. What is searched gives the axes, and makes a launch of a combination: its table in a manifest,
+and what of it is measured.
 """

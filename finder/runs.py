@@ -10,21 +10,23 @@ from outside.texts import visible
 from outside.measurement import Value
 from outside.programs import Ran
 
-# The most launches of a manifest.
-MOST_LAUNCHES = 1024
+# The most launches and files of a manifest.
+MOST_LAUNCHES, MOST_FILES = 1024, 64
 # What `rim` says where it could not do what a run is for: no launch is refused for these.
 FAULTS = ("no-memory", "file-unreadable", "file-too-large", "output-failed", "status ")
 
 
 @dataclass(frozen=True)
 class Candidate:
-    """A launch: what of it is measured, exactly; its table in a manifest, without its name; about how many steps are measured; and what its
-    first steps depend on, which `rim measure` does once for all launches of a run that begin alike."""
+    """A launch: what of it is measured, exactly; its table in a manifest, without its name; about how many steps are measured; what its first
+    steps depend on, which `rim measure` does once for all launches of a run that begin alike; and the names of its files, where a manifest has
+    those of its launches alone."""
 
     key: object
     table: str
     steps: int
     group: tuple = ()
+    files: frozenset[str] = frozenset()
 
 
 @dataclass(frozen=True)
@@ -37,22 +39,28 @@ class Outcome:
 
 @dataclass
 class Runs:
-    """The program, the text of the files that launches name, and a folder in which `rim` is started: paths of files are as from there."""
+    """The program, the text of the files that launches name, and a folder for manifests. `rim` is started there, or in another one that is
+    named: paths of files are as from there."""
 
     rim: Rim
     head: str
     folder: str
     workers: int = 2
+    start: str = ""
     count: int = 0
+
+    def head_of(self, launches: Sequence[Candidate]) -> str:
+        """What is before the launches in a manifest."""
+        return self.head
 
     def run(self, launches: Sequence[Candidate], words: Callable[[str], list[str]]) -> Ran:
         """What `rim` says by some words of a manifest of launches, which are named by their places; `words` is given its path."""
         self.count += 1
         path = os.path.join(self.folder, f"search-{self.count}.toml")
         tables = (f'[[launch]]\nname = "{number}"\n{each.table}' for number, each in enumerate(launches))
-        files.write(path, "".join([self.head, *tables]).encode())
+        files.write(path, "".join([self.head_of(launches), *tables]).encode())
         try:
-            return self.rim.run(*words(path), folder=self.folder)
+            return self.rim.run(*words(path), folder=self.start or self.folder)
         finally:
             os.remove(path)
 

@@ -1,4 +1,6 @@
 """The launches that are tried: combinations of axes, the likeliest first, each launch once, and as many in a run of `rim` as a manifest has."""
+import math
+import time
 from collections.abc import Iterator, Sequence
 from concurrent.futures import Future, ThreadPoolExecutor
 from dataclasses import dataclass, field
@@ -8,7 +10,7 @@ from outside.measurement import Value
 
 from .axes import At, Axis, best_first
 from .progress import Progress
-from .runs import MOST_LAUNCHES, Candidate, Outcome, Runs
+from .runs import MOST_FILES, MOST_LAUNCHES, Candidate, Outcome, Runs
 
 # About how many steps the launches of a run have. The first runs are small: what is likely is found at once.
 MOST_STEPS, FIRST = 1 << 22, 64
@@ -42,13 +44,15 @@ class Tried:
 def in_groups(late: list[tuple[At, Candidate]]) -> Iterator[list[tuple[At, Candidate]]]:
     """Launches of many steps for a run each: those that begin alike side by side, whose first steps are counted once."""
     batch: list[tuple[At, Candidate]] = []
+    files: set[str] = set()
     steps = 0
     for at, candidate in sorted(late, key=lambda each: each[1].group):
-        if not batch or candidate.group != batch[-1][1].group:
-            if steps > MOST_STEPS:
-                yield batch
-                batch, steps = [], 0
-            steps += candidate.steps
+        is_new = not batch or candidate.group != batch[-1][1].group
+        if batch and (is_new and steps > MOST_STEPS or len(files | candidate.files) > MOST_FILES):
+            yield batch
+            batch, files, steps, is_new = [], set(), 0, True
+        steps += candidate.steps if is_new else 0
+        files |= candidate.files
         batch.append((at, candidate))
     if batch:
         yield batch
@@ -62,6 +66,7 @@ class Search:
     subjects: Sequence[Subject]
     limit: int
     progress: Progress
+    until: float = math.inf                                 # when it ends, by the clock of time.monotonic
     tried: int = 0
     refused: int = 0
     looked_at: int = 0
@@ -92,10 +97,11 @@ class Search:
         batch: list[tuple[At, Candidate]] = []
         late: list[tuple[At, Candidate]] = []
         steps, most, most_late, made, costly = 0, FIRST, FIRST, 0, 0
+        files: set[str] = set()
         first = self.known[0]
         for at in best_first(self.axes):
             self.looked_at += 1
-            if made >= self.limit or self.looked_at > self.limit * LOOKED_AT:
+            if made >= self.limit or self.looked_at > self.limit * LOOKED_AT or time.monotonic() >= self.until:
                 break
             candidate = self.subjects[0].candidate(at)
             if candidate is None:
@@ -117,11 +123,15 @@ class Search:
                     yield from in_groups(late)
                     late, most_late = [], min(4 * most_late, MOST_LAUNCHES)
                 continue
+            if len(files | candidate.files) > MOST_FILES:
+                yield batch
+                batch, steps, files = [], 0, set()
             batch.append((at, candidate))
+            files |= candidate.files
             steps += candidate.steps
             if len(batch) == most or steps > MOST_STEPS:
                 yield batch
-                batch, steps, most = [], 0, MOST_LAUNCHES
+                batch, steps, files, most = [], 0, set(), MOST_LAUNCHES
         else:
             self.is_whole = True
         if batch:
