@@ -5,14 +5,13 @@ nothing: the search tries no launch twice. A change that no manifest may have is
 axis is a function and a row of the table.
 """
 import itertools
-from collections.abc import Callable, Iterator
+from collections.abc import Callable
 from dataclasses import dataclass, replace
 
-from .files import Blob
+from . import people
+from .files import Files
 from .launch import KINDS, MIB, PAGE, Item, Launch, Rec, entry_of, first_rec, with_item, with_ram, with_recs, without_item
-
-Files = dict[str, Blob]
-Changes = Iterator[tuple[str, Launch]]
+from .people import USUAL_SIZES, Changes, more_recs
 
 
 def block_levels(launch: Launch, _files: Files) -> Changes:
@@ -22,14 +21,6 @@ def block_levels(launch: Launch, _files: Files) -> Changes:
 
 
 # ---- RECs
-
-
-def more_recs(launch: Launch, count: int, is_off: bool) -> tuple[Rec, ...]:
-    """RECs as those that exist; the first one runs, and the others run or are off."""
-    others = launch.rec[1:] or (Rec(),)
-    flag = False if is_off else None
-    new = tuple(replace(others[min(at, len(others) - 1)], runnable=flag) for at in range(count - 1))
-    return (*(replace(each, runnable=None if each.is_off else each.runnable) for each in launch.rec[:1] or (Rec(),)), *new)
 
 
 def recs(launch: Launch, _files: Files) -> Changes:
@@ -135,7 +126,7 @@ def sizes(launch: Launch, files: Files) -> Changes:
     some = [(each, files[each.file]) for each in launch.item if each.kind != "unknown"]
     several = [(each, "as far as its bytes", None) for each, _ in some if each.size is not None]
     several += [(each, "as far as its header's image_size", blob.image.extent) for each, blob in some if blob.image]
-    for unit in (2 * MIB, MIB, 64 << 10):
+    for unit in (2 * MIB, MIB, 64 << 10, 16 << 10):
         several += [(each, f"in whole {unit >> 10} KiB", -(-blob.length // unit) * unit) for each, blob in some]
     several += [(each, "a page more", (blob.length if each.size is None else each.size) + PAGE) for each, blob in some]
     for item, text, size in several:
@@ -249,10 +240,6 @@ def split(launch: Launch, places: set[int]) -> list[list[tuple[int, int]]]:
     return groups
 
 
-# Sizes of RAM that people give to a machine, in MiB.
-USUAL_SIZES = (256, 512, *(1024 * gib for gib in (1, 2, 3, 4, 6, 8, 12, 16)), 128, 64)
-
-
 def ends(base: int, end: int) -> dict[int, None]:
     """Other ends of a region, each once: of sizes near its own, and where a size was taken for an end or an end for a size."""
     size = end - base
@@ -283,16 +270,23 @@ def rams(launch: Launch, files: Files) -> Changes:
 
 @dataclass(frozen=True)
 class Axis:
-    """What may be wrong, and how many of its first changes are likely: three at once are tried of these first."""
+    """What may be wrong, and how many of its first changes are likely: three at once are tried of these first. Of what people change there are
+    many ways: where not all changes are likely, those of hosts alone are tried first."""
 
     name: str
     about: str
     changes: Callable[[Launch, Files], Changes]
     likely: int
+    is_peoples: bool = False
 
 
 # In the order in which they are tried.
 AXES = (
+    Axis("append", "the command line: those of --append-file, and those near it", people.command_lines, 4, True),
+    Axis("memory", "the size of RAM, with a devicetree that says so", people.memories, 4, True),
+    Axis("smp", "the number of processors, with a devicetree that says so", people.processors, 4, True),
+    Axis("place", "an item up or down, with the devicetree that says so", people.places, 4, True),
+    Axis("contents", "the contents of a file: those of --file", people.contents, 4, True),
     Axis("block_level", "the level of the largest blocks of RAM, 0 to 3", block_levels, 2),
     Axis("rec", "how many RECs, none to 16; which are off; rec_rule", recs, 8),
     Axis("entry", "pc and x0 of REC 0, and with what the others begin", entries, 5),
@@ -309,4 +303,6 @@ AXES = (
     Axis("num_wps", "watchpoints, 0 to 15", watchpoints, 2),
     Axis("counts", "num_bps, num_wps, pmu_num_ctrs and sve_vl one off at once", counts, 3),
     Axis("ram", "a region's end; regions joined, or split at items", rams, 7),
+    # each is a file of its own, and large: none is tried beside others before all else is
+    Axis("length", "a file unpacked, padded or cut short", people.lengths, 0),
 )

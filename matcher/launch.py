@@ -1,6 +1,7 @@
 """A launch: what its table in the manifest says, what of it is measured, and the text of its table."""
 import functools
 import json
+from collections.abc import Mapping
 from dataclasses import dataclass, fields, replace
 
 from outside.texts import is_hidden
@@ -147,7 +148,7 @@ def with_ram(launch: Launch, groups: list[list[Region]]) -> Launch:
 # ---- what is measured
 
 
-def entry_of(launch: Launch, files: dict[str, Blob]) -> int:
+def entry_of(launch: Launch, files: Mapping[str, Blob]) -> int:
     """The address of the kernel's first byte, with which REC 0 begins by default; zero without a kernel."""
     kernel = launch.of_kind("kernel")
     if kernel is None:
@@ -156,7 +157,7 @@ def entry_of(launch: Launch, files: dict[str, Blob]) -> int:
     return kernel.at + (image.load_offset if image else 0)
 
 
-def first_rec(launch: Launch, files: dict[str, Blob]) -> Rec:
+def first_rec(launch: Launch, files: Mapping[str, Blob]) -> Rec:
     """REC 0 with its values, also where they are the default ones."""
     first, dtb = launch.rec[0], launch.of_kind("dtb")
     default = (dtb.at,) if dtb else ()
@@ -178,13 +179,13 @@ def blocks_of(launch: Launch) -> int:
     return sum((end - base) // size + 1 for base, end in launch.ram)
 
 
-def steps_of(launch: Launch, files: dict[str, Blob]) -> int:
+def steps_of(launch: Launch, files: Mapping[str, Blob]) -> int:
     """About how many steps of it are measured: blocks of RAM, and pages of items."""
     sizes = (files[each.file].length if each.size is None else each.size for each in launch.item if each.file is not None)
     return blocks_of(launch) + sum(size // PAGE + 1 for size in sizes)
 
 
-def measured_of(launch: Launch, files: dict[str, Blob]) -> tuple:
+def measured_of(launch: Launch, files: Mapping[str, Blob]) -> tuple:
     """What is measured of a launch. Two launches that agree in it have one measurement, where `rim` takes both."""
     parts: list = []
     items = {each.name: each for each in launch.item}
@@ -271,9 +272,9 @@ def steps_text(steps: tuple[str, ...]) -> str:
     return "[" + ", ".join(map(text, steps)) + "]"
 
 
-def table_text(launch: Launch, name: str) -> str:
-    """The table of a launch, by another name."""
-    lines = ["[[launch]]", f'name = "{name}"']
+def table_text(launch: Launch) -> str:
+    """The table of a launch, without its name."""
+    lines = []
     for key in SCALARS:
         value = getattr(launch, key)
         if value is not None:
@@ -284,8 +285,7 @@ def table_text(launch: Launch, name: str) -> str:
     return "\n".join(lines) + "\n"
 
 
-def manifest_text(launches: list[Launch], files: dict[str, Blob]) -> str:
-    """A manifest of launches, by their numbers, with the files that they name."""
-    named = {each.file for launch in launches for each in launch.item}
-    heads = [f"[[file]]\nname = {text(name)}\npath = {text(blob.path)}\n" for name, blob in files.items() if name in named]
-    return "".join(["rim_manifest = 2\n", *heads, *(table_text(launch, str(number)) for number, launch in enumerate(launches))])
+def manifest_head(names: set[str], files: Mapping[str, Blob]) -> str:
+    """What is before the launches in a manifest: these files."""
+    heads = [f"[[file]]\nname = {text(name)}\npath = {text(blob.path)}\n" for name, blob in files.items() if name in names]
+    return "".join(["rim_manifest = 2\n", *heads])

@@ -1,22 +1,16 @@
-"""Which launch of a manifest shares the longest beginning with the trace of a machine, and where it parts from it."""
+"""Which launch of a manifest shares the longest beginning with what a machine has logged, and where it parts from it."""
 import itertools
 from collections import Counter
+from collections.abc import Sequence
 from dataclasses import dataclass, field
 
-from outside import files
 from outside.faults import Fault
 from outside.rim import Rim
-from outside.texts import pasted, plain, shown, visible
+from outside.texts import pasted, plain, visible
 
-# The longest trace that is read, as long as the longest file that `rim` reads.
-MOST = 256 << 20
-# The words of a line after the RIM and the command, as docs/FORMATS.md names them.
-WORDS = {
-    "realm_create": ("rtt_level_start", "rtt_num_start", "s2sz", "algo", "flags", "sve_vl", "num_bps", "num_wps", "pmu_num_ctrs", "rpv"),
-    "init_ripas": ("base", "top"),
-    "data_create": ("ipa", "measured", "contents"),
-    "rec_create": ("flags", "mpidr", "pc", *(f"x{number}" for number in range(8))),
-}
+from . import explain
+from .explain import Content, Known
+from .logs import WORDS, Log, Step, same, text
 
 
 @dataclass(frozen=True)
@@ -42,50 +36,47 @@ class Found:
     all: list[Near] = field(default_factory=list)
     best: Near | None = None
     trace: list[str] = field(default_factory=list)
+    steps: list[Step] = field(default_factory=list)
     refused: list[str] = field(default_factory=list)
 
-    def take(self, near: Near, trace: list[str]):
+    def take(self, near: Near, trace: list[str], steps: list[Step]):
         self.all.append(near)
         if self.best is None or near.rank > self.best.rank:
-            self.best, self.trace = near, trace
+            self.best, self.trace, self.steps = near, trace, steps
 
 
-def lines_of(path: str) -> list[str]:
-    """The lines of a trace."""
-    what = "lines as `rim trace` prints them"
-    lines = [line.rstrip() for line in files.text_of(path, files.read(path, MOST, what), what).rstrip().split("\n")]
-    if lines == [""] or len(lines[0].split(" ")) < 2 or lines[0].split(" ")[1] not in WORDS:
-        raise Fault(f"{visible(path)}: its first line is {shown(lines[0])}, expected {what}")
-    return lines
+def shared(one: Sequence[Step], other: Sequence[Step]) -> int:
+    return sum(1 for _ in itertools.takewhile(lambda pair: same(*pair), zip(one, other)))
 
 
-def shared(one: list[str], other: list[str]) -> int:
-    return sum(1 for _ in itertools.takewhile(lambda pair: pair[0] == pair[1], zip(one, other)))
+def bare(step: Step, log: Log) -> Step:
+    """A step without its RIM, which is another one in all steps after the first difference."""
+    return step[1:] if log.rims else step
 
 
-def steps_of(trace: list[str]) -> Counter[str]:
-    """The lines without the RIM: it is another one in all lines after the first difference."""
-    return Counter(line.partition(" ")[2] for line in trace)
+def counted(steps: Sequence[Step], log: Log) -> Counter[Step]:
+    return Counter(bare(step, log) for step in steps)
 
 
-def differing(one: str, other: str) -> list[str]:
-    """The names of the words in which two lines of one command differ."""
-    (rim, command, *words), (other_rim, other_command, *others) = one.split(" "), other.split(" ")
-    if command != other_command or command not in WORDS or len(words) != len(others):
+def differing(one: Step, other: Step, log: Log) -> list[str]:
+    """The names of the words in which two steps of one command differ."""
+    mine, theirs = bare(one, log), bare(other, log)
+    if mine[0] != theirs[0] or mine[0] not in WORDS or len(mine) != len(theirs):
         return ["the command"]
-    names = [name for name, here, there in zip(WORDS[command], words, others) if here != there]
-    return names or ["the RIM"] * (rim != other_rim)
+    names = [name for name, here, there in zip(WORDS[mine[0] or ""], mine[1:], theirs[1:]) if None not in (here, there) and here != there]
+    return names or ["the RIM"] * (one != other)
 
 
-def of_launches(rim: Rim, manifest: str, names: list[str], there: list[str]) -> Found:
+def of_launches(rim: Rim, manifest: str, names: list[str], there: Log) -> Found:
     """How near each launch is."""
-    found, steps = Found(), steps_of(there)
+    found, steps = Found(), counted(there.steps, there)
     for name in names:
         ran = rim.run("trace", "--", manifest, name)
         out = ran.out.decode("ascii", errors="replace")
         if ran.status == 0:
-            here = out.splitlines()
-            found.take(Near(name, shared(here, there), (steps_of(here) & steps).total()), here)
+            lines = out.splitlines()
+            here = there.of_trace(lines)
+            found.take(Near(name, shared(here, there.steps), (counted(here, there) & steps).total()), lines, here)
         elif ran.status == 1:
             found.refused.append(out.strip())
         else:
@@ -93,17 +84,48 @@ def of_launches(rim: Rim, manifest: str, names: list[str], there: list[str]) -> 
     return found
 
 
-def said_of(near: Near, here: list[str], path: str, there: list[str]) -> list[str]:
-    """What is said of the nearest launch, with its trace, and of the machine's trace at a path."""
-    count, path = near.shared, visible(path)
-    if here == there:
-        return [f'launch "{near.name}": all {count} lines are those of {path}']
-    lines = [f'launch "{near.name}": the first {count} of its {len(here)} lines are those of {path}, which has {len(there)}']
+def is_all(found: Found, there: Log) -> bool:
+    """Whether the nearest launch has all steps of the log, and no more, and the RIM at its end, where it has one."""
+    return has_all(found, there) and there.rim in (None, last_rim(found))
+
+
+def has_all(found: Found, there: Log) -> bool:
+    return found.best is not None and len(found.steps) == len(there.steps) == found.best.shared
+
+
+def last_rim(found: Found) -> str:
+    return found.trace[-1].split(" ")[0]
+
+
+def said_of(found: Found, near: Near, path: str, log: Log) -> list[str]:
+    """What is said of the nearest launch, with its steps, and of the machine's log at a path."""
+    here, there, count, path = found.steps, log.steps, near.shared, visible(path)
+    what = "steps" if log.joins else "lines"
+    lacks = [f"{path} is {log.about}: {log.lacks}"] * bool(log.lacks)
+    if has_all(found, log):
+        known = "" if log.is_known and not log.lacks else ", if what it does not hold is as in the launch"
+        rim = [f"the RIM after them is {last_rim(found)}{known}"] * (not log.rims)
+        if log.rim not in (None, last_rim(found)):
+            rim = [f"the RIM after them is {last_rim(found)}, and {log.rim} there: the tables have other levels, or the rule of RECs is another"]
+        return [f'launch "{near.name}": all {count} {what} are those of {path}', *rim, *lacks]
+    lines = [f'launch "{near.name}": the first {count} of its {len(here)} {what} are those of {path}, which has {len(there)}']
+    word = what[:-1]
     if min(len(here), len(there)) == count:
-        return [*lines, f"line {count + 1}: {'the launch' if count == len(here) else path} has none"] + [
-            f"{where}: {plain(trace[count])}" for where, trace in ((near.name, here), (path, there)) if count < len(trace)]
-    names = ", ".join(differing(here[count], there[count]))
-    return [*lines, f"line {count + 1} differs in {names}", f"{near.name}: {here[count]}", f"{path}: {plain(there[count])}"]
+        return [*lines, f"{word} {count + 1}: {'the launch' if count == len(here) else path} has none"] + [
+            f"{where}: {plain(text(steps[count]))}" for where, steps in ((near.name, here), (path, there)) if count < len(steps)] + lacks
+    names = ", ".join(differing(here[count], there[count], log))
+    return [*lines, f"{word} {count + 1} differs in {names}", f"{near.name}: {text(here[count])}", f"{path}: {plain(text(there[count]))}", *lacks]
+
+
+def explained(rim: Rim, folder: str, manifest: str, found: Found, log: Log, contents: list[Content]) -> list[str]:
+    """What the first step that differs is, by the names of the launch, and where the machine's pages are in files."""
+    if found.best is None or has_all(found, log):
+        return []
+    known, count = Known(rim, folder, manifest, found.best.name, contents), found.best.shared
+    here, there = ([bare(step, log) for step in steps[count:]] for steps in (found.steps, log.steps))
+    recs = sum(1 for step in found.steps[:count] if bare(step, log)[0] == "rec_create")
+    first, other = (here or [None])[0], (there or [None])[0]
+    return [*explain.of_step(known, first, other, recs), *explain.of_tree(known, first), *explain.where_found(known, there, here)]
 
 
 def about_others(best: Near, found: list[Near]) -> list[str]:

@@ -32,10 +32,12 @@ from hypervisors import TOP, Folder, differs, image, tree, tried
 
 sys.path.insert(0, TOP)
 
-from matcher import files, lines, main, search  # noqa: E402, the path is set by hypervisors
+from finder.progress import Progress  # noqa: E402, the path is set by hypervisors
+from matcher import files, lines, manifests, search  # noqa: E402
 from matcher.axes import AXES  # noqa: E402
-from matcher.launch import Rec, blocks_of, is_whole, manifest_text, measured_of  # noqa: E402
+from matcher.launch import Launch, Rec, blocks_of, is_whole, manifest_head, measured_of, table_text  # noqa: E402
 from matcher.launch import text as launch_text  # noqa: E402
+from matcher.words import LIMIT, TAKES  # noqa: E402
 from outside.rim import Rim  # noqa: E402
 
 START = os.path.join(TOP, "rim-match")
@@ -116,14 +118,18 @@ def of_name(launch: dict, name: str) -> dict:
     return next(each for each in launch["item"] if each["name"] == name)
 
 
-def applied(table: dict, name: str, changes: list[str]):
-    """Puts lines that rim-match prints into a manifest."""
+def applied(table: dict, name: str, changes: list[str], blobs: files.Files | None = None):
+    """Puts lines that rim-match prints into a manifest; a file that it has made is that of the same words."""
     launch = launch_of(table, name)
     for line in changes:
         place, target = re.match(r'(?:item "([^"]+)": )?', line), launch
         if place[1]:
             target = of_name(launch, place[1])
         rest = line[place.end():]
+        made = [each for each, blob in (blobs or {}).items() if blob.is_made and rest.startswith(f"{blob.about} ")]
+        if made:
+            target["file"] = made[-1]
+            continue
         if gone := re.match(r'leave out item "([^"]+)"', rest):
             launch["item"].remove(of_name(launch, gone[1]))
         elif gone := re.match(r"leave out (\w+) ", rest):
@@ -248,12 +254,30 @@ SEVERAL = [
 ]
 
 
+def blobs_of(program: str, here: Folder, table: dict) -> files.Files:
+    found = files.Files(Rim(program), here.path)
+    found |= {each["name"]: measures(program, here, each["path"]) for each in table["file"]}
+    return found
+
+
+def manifest_text(launches: list[Launch], blobs: files.Files) -> str:
+    """A manifest of launches by their numbers, as rim-match writes it."""
+    named = {each.file for launch in launches for each in launch.item if each.file is not None}
+    tables = (f'[[launch]]\nname = "{number}"\n{table_text(launch)}' for number, launch in enumerate(launches))
+    return "".join([manifest_head(named, blobs), *tables])
+
+
 def file_of(name: str) -> str:
     return "old.toml" if name == "old" else "m.toml"
 
 
 def base_table(name: str) -> dict:
     return tomllib.loads(OLD if name == "old" else MANIFEST)
+
+
+def without_progress(said: str) -> str:
+    """Standard error without the lines that say how far a search is."""
+    return re.sub(r"rim-match: [\d,]+ launches tried.*\n", "", said)
 
 
 def change(program: str, name: str, changed, count: int, is_far: bool = False) -> list[str]:
@@ -264,7 +288,7 @@ def change(program: str, name: str, changed, count: int, is_far: bool = False) -
     if len(value) < 64:
         return [f"the changed launch is refused: {value}"]
     status, out, said = here.run(*["--far"] * is_far, file_of(name), name, value, start=START, RIM=program)
-    said = re.sub(r"rim-match: [\d,]+ launches tried, .*\n", "", said) if is_far else said
+    said = without_progress(said)
     wrong = differs("status, standard error", (status, said), (0, ""))
     if status:
         return wrong + [out]
@@ -280,45 +304,53 @@ def change(program: str, name: str, changed, count: int, is_far: bool = False) -
 def lines_of(program: str, axis, name: str) -> list[str]:
     """Each change of an axis, as it is measured and as its lines change the manifest."""
     here, table = folder(), base_table(name)
-    blobs = {each["name"]: measures(program, here, each["path"]) for each in table["file"]}
+    blobs = blobs_of(program, here, table)
     launch = launch_in(table, name)
     some = [(text, new) for text, new in axis.changes(launch, blobs) if is_whole(new)]
     if not some:
-        return [] if axis.name == "devicetree" else ["no change"]
-    here.put("theirs.toml", manifest_text([new for _, new in some], blobs).encode())
-    ran = subprocess.run([program, "measure", "theirs.toml"], cwd=here.path, capture_output=True, text=True, check=False)
-    if ran.returncode > 1:
-        return [ran.stderr.strip()]
-    theirs = [line.split(" ")[2] for line in ran.stdout.splitlines()[1:-1]]
-    ours = []
+        return [] if axis.name in ("append", "memory", "smp", "place", "contents", "devicetree") else ["no change"]
+    theirs: list[str] = []
+    for first in range(0, len(some), 32):
+        here.put("theirs.toml", manifest_text([new for _, new in some[first:first + 32]], blobs).encode())
+        ran = subprocess.run([program, "measure", "theirs.toml"], cwd=here.path, capture_output=True, text=True, check=False)
+        if ran.returncode > 1:
+            return [ran.stderr.strip()]
+        theirs += [line.split(" ")[2] for line in ran.stdout.splitlines()[1:-1]]
+    ours: list[dict] = []
+    found: dict[str, str] = {}
     for number, (_, new) in enumerate(some):
         again = copy.deepcopy(table)
-        applied(again, name, lines.between(launch, new, table["rim_manifest"]))
+        applied(again, name, lines.between(launch, new, table["rim_manifest"], blobs), blobs)
         ours.append(launch_of(again, name) | {"name": str(number)})
-    found = measured(program, here, {"rim_manifest": 2, "file": table["file"], "launch": ours})
+    listed = [{"name": each, "path": blob.path} for each, blob in blobs.items()]
+    for first in range(0, len(ours), 32):
+        part = ours[first:first + 32]
+        named = {each.get("file") for one in part for each in one["item"]}
+        found |= measured(program, here, {"rim_manifest": 2, "file": [each for each in listed if each["name"] in named], "launch": part})
     rows = zip(some, found.values(), theirs, strict=True)
     return [f"{text}: {mine}, expected {their}" for (text, _), mine, their in rows if mine != their]
 
 
 def launch_in(table: dict, name: str):
-    return next(each for each in main.launches_of("m.toml", table) if each.name == name)
+    return next(each for each in manifests.launches_of("m.toml", table) if each.name == name)
 
 
 def measures(program: str, here: Folder, path: str) -> files.Blob:
-    return replace(files.read(Rim(program), os.path.join(here.path, path)), path=path)
+    return files.read(Rim(program), os.path.join(here.path, path))
 
 
 def same_measured(program: str, name: str) -> list[str]:
     """Launches of which rim-match takes the same to be measured have one measurement, so that trying one of them is enough."""
     here, table = folder(), base_table(name)
-    blobs = {each["name"]: measures(program, here, each["path"]) for each in table["file"]}
+    blobs = blobs_of(program, here, table)
     launch = launch_in(table, name)
     some = [each.launch for others in (1, 0) for each in search.combined((), launch, blobs, AXES, 2 - others, others)]
     some = [each for each in some if is_whole(each) and blocks_of(each) < 10_000]
     found: dict[tuple, str] = {}
     wrong = []
-    for at in range(0, len(some), 1024):
-        part = some[at:at + 1024]
+    # a manifest has 64 files at most, and each devicetree that is written anew is one
+    for at in range(0, len(some), 60):
+        part = some[at:at + 60]
         here.put("part.toml", manifest_text(part, blobs).encode())
         ran = subprocess.run([program, "measure", "part.toml"], cwd=here.path, capture_output=True, text=True, check=False)
         for each, line in zip(part, ran.stdout.splitlines()[1:-1], strict=True):
@@ -331,7 +363,7 @@ def same_measured(program: str, name: str) -> list[str]:
 def many_steps(program: str) -> list[str]:
     """Launches of many steps come at the end of a round, or in the last one: their places among all, and what is left."""
     here, table = folder(), base_table("plain")
-    blobs = {each["name"]: measures(program, here, each["path"]) for each in table["file"]}
+    blobs = blobs_of(program, here, table)
     launch = launch_in(table, "plain")
     axes = tuple(axis for axis in AXES if axis.name in ("block_level", "num_bps", "num_wps"))
     some = search.Search(None, blobs, None, 10_000, axes=axes)
@@ -388,7 +420,7 @@ def others(program: str) -> list[str]:
 def alike(program: str) -> list[str]:
     """Launches that differ in a number whose hash in Python is that of the other are tried both; what is tried already is not."""
     here, table = folder(), base_table("plain")
-    blobs = {each["name"]: measures(program, here, each["path"]) for each in table["file"]}
+    blobs = blobs_of(program, here, table)
     launch, some = launch_in(table, "plain"), search.Search(None, blobs, None, 10)
     tried_anew = [some.is_new(replace(launch, rec=(Rec(0, (number,)),))) for number in (0, (1 << 61) - 1, 0, 1)]
     return differs("launches that are new", tried_anew, [True, True, False, True])
@@ -404,12 +436,13 @@ def stopped(program: str) -> list[str]:
         ran = subprocess.Popen([START, "--far", "m.toml", "plain", NEVER], cwd=here.path, stdout=subprocess.PIPE, stderr=subprocess.PIPE,
                                text=True, env=os.environ | {"RIM": program, "TMPDIR": made})
         until = time.monotonic() + 30
-        while not any("3.toml" in names for _, _, names in os.walk(made)) and time.monotonic() < until:
+        while not any("search-3.toml" in names for _, _, names in os.walk(made)) and time.monotonic() < until:
             time.sleep(0.001)
         ran.send_signal(number)
         out, said = ran.communicate(timeout=30)
-        has = re.match(r'launch "plain" does not have the value, and none of [\d,]+ launches near it has\n  no launch of the manifest has it as it is\n  one change: ', out) is not None
-        came = ran.returncode, said, has, out.endswith("\n  the search was stopped\n"), os.listdir(made)
+        has = re.match(r'launch "plain" does not have the value, and none of [\d,]+ launches near it has\n'
+                       r'  no launch of the manifest has it as it is\n  parts of other launches: \d+', out) is not None
+        came = ran.returncode, without_progress(said), has, out.endswith("\n  the search was stopped\n"), os.listdir(made)
         wrong += differs(number.name, came, (128 + number, "", True, True, []))
     return wrong
 
@@ -429,24 +462,27 @@ def hidden(program: str) -> list[str]:
 
 def lines_said(_program: str) -> list[str]:
     """Where standard error is no terminal, a line every ten seconds."""
-    some, said = search.Search(None, {}, None, 10), io.StringIO()
-    some.rounds.append(search.Round("one change", 1234))
+    some, said = Progress("rim-match"), io.StringIO()
     with contextlib.redirect_stderr(said):
         for since in (9, 11, 0):
             some.started -= since
-            some.progress()
-        some.progress(done=True)
+            some.show("1,234 launches tried, one change")
+        some.end()
     return differs("what is said", said.getvalue(), "rim-match: 1,234 launches tried, one change\n")
 
 
 def not_found(program: str) -> list[str]:
     here = folder()
     status, out, said = here.run("m.toml", "stub", NEVER, start=START, RIM=program)
-    wrong = differs("the likely ones", (status, said, out.endswith("\n  --far tries more: two and three changes of all kinds, for minutes\n"),
-                                       re.search(r"\n  one change: [\d,]+; two likely changes: [\d,]+\n", out) is not None), (1, "", True, True))
-    status, out, said = here.run("--limit", "300", "m.toml", "plain", NEVER, start=START, RIM=program)
+    rounds = r"\n  parts of other launches: [\d,]+; one change: [\d,]+; two likely changes: [\d,]+; what people change together: [\d,]+(, not all)?\n"
+    wrong = differs("the likely ones", (status, without_progress(said), "\n  --far tries more: two and three changes of all kinds, for minutes\n" in out,
+                                       re.search(rounds, out) is not None,
+                                       out.endswith("--also for another manifest, --kept for a report\n")), (1, "", True, True, True))
+    status, out, said = here.run("--seconds", "1", "--far", "m.toml", "plain", NEVER, start=START, RIM=program)
+    wrong += differs("a second", (status, without_progress(said), "\n  it has ended after 1 second: --seconds 10 looks for longer\n" in out), (1, "", True))
+    status, out, said = here.run("--limit", "700", "m.toml", "plain", NEVER, start=START, RIM=program)
     wrong += differs("status, standard error", (status, said, "--far" in out), (1, "", False))
-    for part in ('launch "plain" does not have the value, and none of 300 launches near it has\n', "one change: ",
+    for part in ('launch "plain" does not have the value, and none of 700 launches near it has\n', "one change: ",
                  "two likely changes: ", ", not all", "of them are refused", ", ".join(axis.name for axis in AXES)):
         wrong += differs(f"{part!r} in {out!r}", part in out, True)
     status, out, said = here.run("--limit=1", "m.toml", "plain", "5a" * 64, start=START, RIM=program)
@@ -461,6 +497,15 @@ MORE = {"key.toml": KEY, "a $(b).toml": KEY, "range.toml": MANIFEST.replace("s2s
         "deep.toml": "rim_manifest = " + "[" * 100_000}
 WORDS = [
     ([], 2, "usage: rim-match"),
+    (["--seconds", "x", "m.toml", "plain", NEVER], 2, '--seconds: "x", expected a whole number from 1'),
+    (["--file", "k", "m.toml", "plain", NEVER], 2, '--file: "k", expected NAME=OTHER'),
+    (["--file", "none=Image", "m.toml", "plain", NEVER], 2, '--file: "none" is no file of m.toml, expected one of "k", "i", "t", "s"'),
+    (["--file", "k=gone", "m.toml", "plain", NEVER], 3, "gone: No such file or directory"),
+    (["--append-file", "fifo", "m.toml", "plain", NEVER], 3, "fifo: it is a FIFO, expected command lines, one a line"),
+    (["--also", "key.toml", "m.toml", "plain", NEVER], 3, "rim: unknown-key; `rim check key.toml` says where"),
+    (["--kept", "trace", "--limit", "9", "m.toml", "plain", NEVER], 3, "trace: it is no JSON that is read here"),
+    (["--contents", "Image", "m.toml", "plain", NEVER], 2, "--contents: it is of --nearest, expected both"),
+    (["--nearest", "trace", "--also", "m.toml", "m.toml"], 2, "--also: it is of a search, expected no --nearest beside it"),
     (["m.toml", "plain"], 2, "2 operands, expected MANIFEST LAUNCH VALUE"),
     (["m.toml", "plain", NEVER, "x"], 2, "4 operands, expected"),
     (["m.toml", "plain", NEVER[:-2]], 2, "VALUE: \"5a5a5a"),
@@ -507,7 +552,7 @@ def words(program: str) -> list[str]:
             wrong.append(f"{given[:2]}: {status} {out!r} {said!r}, expected {expected} {text!r}")
         if given and (not said.startswith("rim-match: ") or said.count("\n") != 1):
             wrong.append(f"{given[:2]}: {said!r} is not one line")
-    for given, text in ((["--help"], "usage: rim-match [--far] [--limit N] MANIFEST LAUNCH VALUE"), (["-V"], "rim-match 0."),
+    for given, text in ((["--help"], "usage: rim-match [OPTIONS..] MANIFEST LAUNCH VALUE"), (["-V"], "rim-match 0."),
                         (["--axes"], "block_level  ")):
         status, out, said = here.run(*given, start=START, RIM=program)
         wrong += differs(given[0], (status, text in out, said), (0, True, ""))
@@ -614,7 +659,7 @@ def installed(program: str) -> list[str]:
     value = measured(program, here, base_table("plain"))["plain"]
     os.makedirs(os.path.join(here.path, "usr/bin"))
     shutil.copy(START, os.path.join(here.path, "usr/bin/rim-match"))
-    for name in ("outside", "matcher"):
+    for name in ("outside", "matcher", "finder", "comparer"):
         shutil.copytree(os.path.join(TOP, name), os.path.join(here.path, "usr/share/rim", name),
                         ignore=shutil.ignore_patterns("__pycache__"))
     os.symlink(program, os.path.join(here.path, "usr/bin/rim"))
@@ -629,18 +674,18 @@ def installed(program: str) -> list[str]:
     wrong += differs("the temporary folder", os.listdir(os.path.join(here.path, "temporary")), [])
     os.remove(os.path.join(here.path, "usr/share/rim/matcher/main.py"))
     status, _, said = here.run("--help", start=start)
-    return wrong + differs("no modules", (status, "no folders matcher and outside" in said), (3, True))
+    return wrong + differs("no modules", (status, "no folders matcher, finder, comparer and outside" in said), (3, True))
 
 
 def documents(_program: str) -> list[str]:
     """The man page has each option, and the axes in their order."""
     with open(os.path.join(TOP, "docs", "rim-match.1"), encoding="utf-8") as file:
         page = file.read().replace("\\-", "-")
-    options = ("--far", "--limit", "--nearest", "--axes", "--help", "--version")
+    options = (*TAKES, "--far", "--axes", "--help", "--version")
     wrong = [f"docs/rim-match.1: {name} is not named" for name in options if name not in page]
     named = [name for name in re.findall(r"^\.B ([a-z0-9_]+)$", page, re.M) if name in {axis.name for axis in AXES}]
     wrong += differs("the axes of docs/rim-match.1", named, [axis.name for axis in AXES])
-    return wrong + differs("the limit", f"{main.LIMIT:,} by default" in page, True)
+    return wrong + differs("the limit", f"{LIMIT:,} by default" in page, True)
 
 
 def example(program: str) -> list[str]:
