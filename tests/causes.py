@@ -296,7 +296,7 @@ def near_things(program: str) -> list[str]:
                                                       "says what is another one since\n", ""))
 
 
-# It stands in for QEMU: it copies a devicetree of the folder `trees`, one for each -m, -smp and -append.
+# It is run in the place of QEMU, and copies a devicetree of the folder `trees`, one for each -m, -smp and -append.
 QEMU = r"""#!/bin/sh
 while [ $# -gt 0 ]; do
     case $1 in

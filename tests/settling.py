@@ -338,7 +338,7 @@ def the_file(program: str):
                          "numbers; N of the rows are measured in other ways\n"))
         wrong += [line for line in ("  stub = measured: settled, and not the likeliest", "  rec_rule = all: settled, and not the likeliest",
                                     "  num_bps = 5 (as_read): settled", "  block_level = 0: not settled",
-                                    "not settled: block_level = 0: 1 gives the same; a guest that tells them apart: one with more than 1 GiB")
+                                    "not settled: block_level = 0: 1 gives the same; a guest for which they differ: one with more than 1 GiB")
                   if line not in out]
         text = folder.read("settled.toml").decode()
         wrong += [line for line in (EXPECTED, 'rec_rule = "all"\n', 'settled_by = "rim-manifest settle: sha512 ') if line not in text]

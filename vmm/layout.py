@@ -32,7 +32,7 @@ class Row:
     source: str
     sure: str
     ways: tuple[Way, ...] = ()               # what a realm may have, the likeliest first; nothing where that is not asked
-    apart: str = ""                          # the guest whose measurement tells the alternatives apart
+    apart: str = ""                          # a guest for which the alternatives give different measurements
     more: str = ""                           # what a file may have in the place of an alternative's name
 
     @property

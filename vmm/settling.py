@@ -258,8 +258,8 @@ def file_text(about: Host, rows: Mapping[str, layout.Row], settled: Settled, by:
 
 def open_lines(rows: Mapping[str, layout.Row], settled: Settled) -> list[str]:
     """The rows that the values do not pin, with the guest that would."""
-    return [f"{name} = {settled.ways[name]}: {' and '.join(some)} {'gives' if len(some) == 1 else 'give'} the same; a guest that tells them "
-            f"apart: {rows[name].apart}" for name, some in settled.open_rows.items()]
+    return [f"{name} = {settled.ways[name]}: {' and '.join(some)} {'gives' if len(some) == 1 else 'give'} the same; a guest for which "
+            f"they differ: {rows[name].apart}" for name, some in settled.open_rows.items()]
 
 
 def found_lines(outcome: Outcome, settled: Settled, rows: Mapping[str, layout.Row], cases: Sequence[Case]) -> list[str]:
