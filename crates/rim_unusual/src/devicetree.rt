@@ -1,5 +1,6 @@
 //! A devicetree that does not go with its launch, or is none of a realm.
 use crate::chosen::{InitrdPlace, Seed};
+use crate::firmware::firmware_region;
 use crate::items::placed_bytes;
 use crate::memory::ram_ranges;
 use crate::ranges::{Difference, first_difference, merged};
@@ -27,7 +28,7 @@ pub struct UnusualTree<'a> {
 pub enum TreeFault {
     /// It cannot be read.
     Unreadable(FdtFault),
-    /// Its memory nodes have other addresses than the launch has RAM.
+    /// Its memory nodes have other addresses than the launch has RAM, but for a region that is there for firmware alone.
     Memory(Difference),
     /// It has another place of the initrd than the launch.
     Initrd {
@@ -173,7 +174,7 @@ fn push_facts<'a>(
     facts: &TreeFacts,
 ) -> Result<(), NoMemory> {
     let compared = [
-        memory_fault(alloc, accepted.launch, facts)?,
+        memory_fault(alloc, accepted, facts)?,
         initrd_fault(accepted, facts.initrd),
         processors_fault(accepted.launch, facts.processors),
     ];
@@ -183,16 +184,17 @@ fn push_facts<'a>(
     Ok(())
 }
 
-/// Where its memory nodes have other addresses than the launch has RAM.
+/// Where its memory nodes have other addresses than the launch has RAM. A region that is there for firmware alone does not count.
 fn memory_fault(
     alloc: Global,
-    launch: &Launch,
+    accepted: &AcceptedLaunch<'_>,
     facts: &TreeFacts,
 ) -> Result<Option<TreeFault>, NoMemory> {
     let Some(found) = &facts.memory else {
         return Ok(None);
     };
-    let expected = merged(alloc, ram_ranges(alloc, launch.ram())?)?;
+    let apart = firmware_region(accepted);
+    let expected = merged(alloc, ram_ranges(alloc, accepted.launch.ram(), apart)?)?;
     Ok(first_difference(found, &expected).map(|difference| TreeFault::Memory(difference)))
 }
 

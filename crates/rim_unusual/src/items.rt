@@ -1,4 +1,5 @@
 //! Items that are rarely meant: those that are missing, those whose bytes are of another kind, and a file that two have.
+use crate::firmware::firmware;
 use crate::initrd::{Front, is_initrd};
 use crate::unusual::Unusual;
 use refusal::NoMemory;
@@ -13,7 +14,7 @@ const DEVICETREE_MAGIC: [u8; 4] = [0xd0, 0x0d, 0xfe, 0xed];
 /// What is rarely meant of a launch's items.
 #[derive(Clone, Copy)]
 pub enum UnusualItem<'a> {
-    /// None is a kernel.
+    /// None is a kernel, and REC 0 enters no firmware.
     NoKernel,
     /// None is a devicetree.
     NoDevicetree,
@@ -92,7 +93,7 @@ pub(crate) fn find_in_items<'a>(
     accepted: &'a AcceptedLaunch<'_>,
 ) -> Result<(), NoMemory> {
     let items = accepted.launch.items();
-    if !has_role(items, Role::Kernel) {
+    if !has_role(items, Role::Kernel) && firmware(accepted).is_none() {
         found.push(Unusual::Item(UnusualItem::NoKernel))?;
     }
     if !has_role(items, Role::Dtb) {
@@ -111,7 +112,7 @@ pub(crate) fn find_in_items<'a>(
 }
 
 /// Whether some item has a role.
-fn has_role(items: &[Item], role: Role) -> bool {
+pub(crate) fn has_role(items: &[Item], role: Role) -> bool {
     items.iter().any(|item| item.has_role(role))
 }
 

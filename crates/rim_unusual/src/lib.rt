@@ -4,6 +4,7 @@
 mod cells;
 mod chosen;
 mod devicetree;
+mod firmware;
 mod initrd;
 mod items;
 mod memory;

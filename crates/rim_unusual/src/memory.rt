@@ -8,9 +8,14 @@ use refusal::NoMemory;
 use rim_launch::Region;
 use std::alloc::{AllocError, Global};
 
-/// The regions as ranges.
-pub(crate) fn ram_ranges(alloc: Global, ram: &[Region]) -> Result<Vec<IpaRange>, AllocError> {
+/// The regions as ranges, without one of them.
+pub(crate) fn ram_ranges(
+    alloc: Global,
+    ram: &[Region],
+    without: Option<Region>,
+) -> Result<Vec<IpaRange>, AllocError> {
     ram.iter()
+        .filter(|region| Some(**region) != without)
         .map(|region| IpaRange {
             base: u128::from(region.base),
             end: u128::from(region.end),

@@ -1,6 +1,8 @@
 //! RAM that is rarely meant: a region that is not of whole MiB, and an end where a size was meant.
+use crate::firmware::firmware_region;
 use crate::unusual::Unusual;
 use refusal::NoMemory;
+use rim_accepted::AcceptedLaunch;
 use rim_launch::{Launch, Region};
 use rmm_model::protected_end;
 use std::fmt;
@@ -15,7 +17,7 @@ const LEAST_SIZE: u64 = 2 * GIB;
 /// What is rarely meant of a region of RAM.
 #[derive(Clone, Copy)]
 pub enum UnusualRam {
-    /// Its size is not a whole number of MiB.
+    /// Its size is not a whole number of MiB, and it is not there for firmware alone.
     Uneven { number: usize, region: Region },
     /// The end of the first one is as a size would be, and from its base on that size ends at `expected`.
     SizeAsEnd { region: Region, expected: u64 },
@@ -69,14 +71,15 @@ impl fmt::Display for Size {
 /// Adds what is rarely meant of the regions of a launch.
 pub(crate) fn find_in_ram<'a>(
     found: &mut Vec<Unusual<'a>>,
-    launch: &Launch,
+    accepted: &AcceptedLaunch<'_>,
 ) -> Result<(), NoMemory> {
-    for (number, region) in launch.ram().iter().copied().enumerate() {
-        if size_of(&region) % MIB != 0 {
+    let apart = firmware_region(accepted);
+    for (number, region) in accepted.launch.ram().iter().copied().enumerate() {
+        if size_of(&region) % MIB != 0 && apart != Some(region) {
             found.push(Unusual::Ram(UnusualRam::Uneven { number, region }))?;
         }
     }
-    if let Some(unusual) = size_as_end(launch) {
+    if let Some(unusual) = size_as_end(accepted.launch) {
         found.push(Unusual::Ram(unusual))?;
     }
     Ok(())

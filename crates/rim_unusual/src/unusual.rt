@@ -51,7 +51,7 @@ pub fn find_unusual<'a>(
     }
     find_in_recs(&mut found, accepted.placed.recs())?;
     find_in_items(&mut found, names, accepted)?;
-    find_in_ram(&mut found, accepted.launch)?;
+    find_in_ram(&mut found, accepted)?;
     find_in_tree(alloc, &mut found, seen, names, accepted)?;
     Ok(found)
 }
