@@ -7,7 +7,7 @@ An audit of many launches hashes what they share once, and gives it to a monitor
 of its own, which hashes each page for its command:
 
 - of each release of tests/cases and tests/rows, by `rim list`, whose last line has the measurement. `rim replay` says yes to it, and
-  `rim trace` prints what tools/replay.py makes of it;
+  `rim trace` prints what tools/oracles/replay.py makes of it;
 - of releases that are made at random from the numbers of SEEDS, by `rim audit` of a manifest that has the one launch alone. Two of
   three are of version 2, in which launches that begin alike have other rules for RECs that are not runnable.
 
@@ -22,7 +22,9 @@ import subprocess
 import sys
 import tempfile
 
-import run
+from helpers import SECONDS, TOP
+from helpers.rows import all_runs, contents, write
+from helpers.tries import PROCESSORS, program_of, told
 
 import replay
 
@@ -35,7 +37,7 @@ LARGE = 600 * PAGE
 
 def output(program, folder, *words):
     """What a run prints, as lines."""
-    ran = subprocess.run([program, *words], cwd=folder, stdin=subprocess.DEVNULL, capture_output=True, timeout=run.SECONDS, check=False)
+    ran = subprocess.run([program, *words], cwd=folder, stdin=subprocess.DEVNULL, capture_output=True, timeout=SECONDS, check=False)
     return ran.stdout.decode(errors="replace").splitlines()
 
 
@@ -45,7 +47,7 @@ def output(program, folder, *words):
 def releases(program):
     """The files of each release of the tests that is measured or audited: those that make up one release come once."""
     found = {}
-    for each in run.all_runs(program):
+    for each in all_runs(program):
         is_measured = each["words"][:1] in (["measure"], ["audit"]) and each.get("status", 0) in (0, 1)
         # what comes through a pipe can be read once
         if is_measured and "manifest.toml" in each["files"] and "stdin" not in each:
@@ -62,10 +64,10 @@ def replayed(program, folder, listing):
 
 def by_listings(program, each):
     """How the audit of a release of the tests differs from the listings of its launches, as lines."""
-    files = {path: run.contents(said) for path, said in each["files"].items()}
+    files = {path: contents(said) for path, said in each["files"].items()}
     wrong = []
     with tempfile.TemporaryDirectory() as folder:
-        run.write(folder, files)
+        write(folder, files)
         for line in output(program, folder, "audit", "manifest.toml")[1:]:
             name, *said = line.split(" ")
             listed = output(program, folder, "list", "manifest.toml", name)
@@ -80,7 +82,7 @@ def by_listings(program, each):
                 wrong.append(f"the replay of the listing of {name} says {answer}")
             if (made := replay.trace(listed)) != traced:
                 first = next((pair for pair in itertools.zip_longest(made, traced) if pair[0] != pair[1]), None)
-                wrong.append(f"the trace of {name} parts from that of tools/replay.py: {first}")
+                wrong.append(f"the trace of {name} parts from that of tools/oracles/replay.py: {first}")
     return each["name"], wrong
 
 
@@ -147,8 +149,8 @@ def by_itself(program, seed):
     sizes = {name: len(data) for name, data in files.items()}
     launches = [launch(dice, number, sizes, version) for number in range(24)]
     with tempfile.TemporaryDirectory() as folder:
-        run.write(folder, files | {"all.toml": (head + "".join(launches)).encode()})
-        shutil.copy(os.path.join(run.TOP, "bench", "virt.dtb"), os.path.join(folder, "tree"))
+        write(folder, files | {"all.toml": (head + "".join(launches)).encode()})
+        shutil.copy(os.path.join(TOP, "bench", "virt.dtb"), os.path.join(folder, "tree"))
         together = output(program, folder, "audit", "all.toml")[1:]
         alone = []
         for text in launches:
@@ -165,20 +167,12 @@ def by_itself(program, seed):
 
 
 def main():
-    program = os.path.abspath(sys.argv[1] if len(sys.argv) > 1 else os.path.join(run.TOP, "crates", "rim", "out", "rim"))
-    if not os.path.exists(program):
-        raise SystemExit(f"{program} is not built")
-    with concurrent.futures.ProcessPoolExecutor(len(os.sched_getaffinity(0))) as pool:
+    program = program_of(sys.argv[1:])
+    with concurrent.futures.ProcessPoolExecutor(PROCESSORS) as pool:
         waiting = [pool.submit(by_listings, program, each) for each in releases(program)]
         waiting += [pool.submit(by_itself, program, seed) for seed in SEEDS]
-        outcomes = [each.result() for each in waiting]
-    for name, wrong in outcomes:
-        if wrong:
-            print(f"WRONG: {name}", *wrong, sep="\n  ")
-    failed = sum(bool(wrong) for _, wrong in outcomes)
-    print(f"{len(outcomes) - failed} passed, {failed} failed")
-    sys.exit(1 if failed or not outcomes else 0)
+        return told([each.result() for each in waiting])
 
 
 if __name__ == "__main__":
-    main()
+    sys.exit(main())

@@ -13,7 +13,6 @@
 
 PROGRAM measures. The last line is 'N passed, M failed'.
 """
-import concurrent.futures
 import json
 import os
 import re
@@ -21,7 +20,10 @@ import struct
 import subprocess
 import sys
 
-from hypervisors import TOP, Folder, differs, image, tried
+from helpers import TOP
+from helpers.files import image
+from helpers.folders import Folder
+from helpers.tries import at_a_time, differs, program_of, told
 
 START = os.path.join(TOP, "rim-match")
 LOW, MIB, PAGE = 0x4000_0000, 1 << 20, 4096
@@ -424,18 +426,7 @@ def all_tries(program: str):
 
 
 def run_all() -> int:
-    program = os.path.abspath(sys.argv[1] if len(sys.argv) > 1 else os.path.join(TOP, "crates", "rim", "out", "rim"))
-    if not os.path.exists(program):
-        raise SystemExit(f"{program} is not built")
-    with concurrent.futures.ThreadPoolExecutor(len(os.sched_getaffinity(0))) as pool:
-        waiting = [(name, pool.submit(tried, look)) for name, look in all_tries(program)]
-        outcomes = [(name, done.result()) for name, done in waiting]
-    for name, wrong in outcomes:
-        if wrong:
-            print(f"WRONG: {name}", *wrong, sep="\n  ")
-    failed = sum(bool(wrong) for _, wrong in outcomes)
-    print(f"{len(outcomes) - failed} passed, {failed} failed")
-    return int(failed > 0)
+    return told(at_a_time(all_tries(program_of(sys.argv[1:]))))
 
 
 if __name__ == "__main__":

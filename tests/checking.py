@@ -12,7 +12,6 @@
 
 The files are made here. The last line is 'N passed, M failed'.
 """
-import concurrent.futures
 import json
 import os
 import pty
@@ -22,7 +21,9 @@ import struct
 import subprocess
 import sys
 
-from hypervisors import TOP, Folder, Writer, differs, tried
+from helpers.files import Writer
+from helpers.folders import Folder
+from helpers.tries import at_a_time, differs, program_of, told
 
 SMALL = "[[launch]]\nname = '%s'\nalgo = 'sha256'\ns2sz = 33\n"
 NONE = "m.toml:2:1: launch 0: name: missing-key: not given, expected a name of 1 to 64 letters, digits, '.', '_' and '-'"
@@ -257,19 +258,9 @@ def all_tries(program: str):
 
 
 def run_all() -> int:
-    program = os.path.abspath(sys.argv[1] if len(sys.argv) > 1 else os.path.join(TOP, "crates", "rim", "out", "rim"))
-    if not os.path.exists(program):
-        raise SystemExit(f"{program} is not built")
+    program = program_of(sys.argv[1:])
     resource.setrlimit(resource.RLIMIT_CORE, (0, 0))
-    with concurrent.futures.ThreadPoolExecutor(2) as pool:
-        waiting = [(name, pool.submit(tried, look)) for name, look in all_tries(program)]
-        outcomes = [(name, done.result()) for name, done in waiting]
-    for name, wrong in outcomes:
-        if wrong:
-            print(f"WRONG: {name}", *wrong, sep="\n  ")
-    failed = sum(bool(wrong) for _, wrong in outcomes)
-    print(f"{len(outcomes) - failed} passed, {failed} failed")
-    return int(failed > 0)
+    return told(at_a_time(all_tries(program), 2))
 
 
 if __name__ == "__main__":

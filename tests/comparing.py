@@ -11,7 +11,6 @@
 
 The files are made here, and PROGRAM measures. The last line is 'N passed, M failed'.
 """
-import concurrent.futures
 import copy
 import hashlib
 import json
@@ -23,7 +22,9 @@ import subprocess
 import sys
 import time
 
-from hypervisors import TOP, Folder, differs, tried
+from helpers import SCRIPTS, TOP
+from helpers.folders import Folder
+from helpers.tries import at_a_time, differs, program_of, told
 
 START = os.path.join(TOP, "rim-compare")
 ODD = 'a "b"\n'
@@ -235,7 +236,7 @@ def malformed(program: str) -> list[str]:
     return wrong
 
 
-# ---- several manifests, whose reports vmm/measure.py joins
+# ---- several manifests, whose reports scripts/vmm/measure.py joins
 
 MEASURE = "realms/measure"
 
@@ -243,7 +244,7 @@ MEASURE = "realms/measure"
 def several(more: dict[str, bytes] | None = None) -> Folder:
     """Three manifests, of which each has a file of its own and one that all have."""
     found = {f"realms/manifest-{n}.toml": manifest([launch(f"l{n}", RAM, ITEM % ("own", ""))], {"all": "all", "own": f"own-{n}"}) for n in (1, 2, 3)}
-    with open(os.path.join(TOP, "vmm", "measure.py"), "rb") as file:
+    with open(os.path.join(SCRIPTS, "vmm", "measure.py"), "rb") as file:
         found[MEASURE] = file.read()
     here = Folder(found | {"realms/all": b"all"} | {f"realms/own-{n}": bytes([n]) for n in (1, 2, 3)} | (more or {}))
     os.chmod(os.path.join(here.path, MEASURE), 0o755)
@@ -441,7 +442,7 @@ def installed(program: str) -> list[str]:
     os.makedirs(os.path.join(here.path, "usr/bin"))
     start = shutil.copy(START, os.path.join(here.path, "usr/bin/rim-compare"))
     for name in ("outside", "comparer"):
-        shutil.copytree(os.path.join(TOP, name), os.path.join(here.path, "usr/share/rim", name), ignore=shutil.ignore_patterns("__pycache__"))
+        shutil.copytree(os.path.join(SCRIPTS, name), os.path.join(here.path, "usr/share/rim", name), ignore=shutil.ignore_patterns("__pycache__"))
     os.symlink(program, os.path.join(here.path, "usr/bin/rim"))
     os.symlink(START, os.path.join(here.path, "link"))
     wrong = differs("beside it", here.run("kept.json", "m.toml", start=start, RIM=""), (0, "", ""))
@@ -478,7 +479,7 @@ def documents(_program: str) -> list[str]:
     """The man page has each option and each kind of line."""
     with open(os.path.join(TOP, "docs", "rim-compare.1"), encoding="utf-8") as file:
         page = re.sub(r"\s+", " ", file.read().replace("\\-", "-"))
-    with open(os.path.join(TOP, "comparer", "differ.py"), encoding="utf-8") as file:
+    with open(os.path.join(SCRIPTS, "comparer", "differ.py"), encoding="utf-8") as file:
         kinds = re.findall(r'f"((?:is|has) [^:{"]+):', file.read())
     wrong = differs("kinds of lines", len(kinds), 7)
     return wrong + [f"docs/rim-compare.1: {name!r} is not there" for name in ("--help", "--version", *kinds) if name not in page]
@@ -492,18 +493,7 @@ def all_tries(program: str):
 
 
 def run_all() -> int:
-    program = os.path.abspath(sys.argv[1] if len(sys.argv) > 1 else os.path.join(TOP, "crates", "rim", "out", "rim"))
-    if not os.path.exists(program):
-        raise SystemExit(f"{program} is not built")
-    with concurrent.futures.ThreadPoolExecutor(len(os.sched_getaffinity(0))) as pool:
-        waiting = [(name, pool.submit(tried, look)) for name, look in all_tries(program)]
-        outcomes = [(name, done.result()) for name, done in waiting]
-    for name, wrong in outcomes:
-        if wrong:
-            print(f"WRONG: {name}", *wrong, sep="\n  ")
-    failed = sum(bool(wrong) for _, wrong in outcomes)
-    print(f"{len(outcomes) - failed} passed, {failed} failed")
-    return int(failed > 0)
+    return told(at_a_time(all_tries(program_of(sys.argv[1:]))))
 
 
 if __name__ == "__main__":

@@ -1,5 +1,5 @@
 #!/usr/bin/env python3
-"""Asks the shells of this machine what they complete by the files that tools/completions.py writes.
+"""Asks the shells of this machine what they complete by the files that tools/package/completions.py writes.
 
     tests/completions.py
 
@@ -14,7 +14,7 @@ import subprocess
 import sys
 import tempfile
 
-sys.path.insert(0, str(pathlib.Path(__file__).resolve().parent.parent / "tools"))
+sys.path.insert(0, str(pathlib.Path(__file__).resolve().parent.parent / "tools" / "package"))
 import completions
 
 SECONDS = 60

@@ -1,6 +1,6 @@
 #!/usr/bin/env python3
-"""Tries tools/edits.py and tools/gate_times.py over a kit that is made here: what the first says of each answer of a prover, what it
-keeps, and how it ends; and what the second says that each part of `rt ci` took.
+"""Tries tools/checks/edits.py and tools/trials/gate_times.py over a kit that is made here: what the first says of each answer of a prover,
+what it keeps, and how it ends; and what the second says that each part of `rt ci` took.
 
     tests/editing.py
 
@@ -138,7 +138,7 @@ class Tree:
             shutil.rmtree(self.root / f"crates/{crate}/out/rlib", ignore_errors=True)
             self.write(f"tree/crates/{crate}/out/rlib/{crate}.rlib/format", "rattle rlib\n")
 
-    def start(self, *words: str, out: int = subprocess.PIPE, script: str = "edits.py") -> subprocess.Popen[str]:
+    def start(self, *words: str, out: int = subprocess.PIPE, script: str = "checks/edits.py") -> subprocess.Popen[str]:
         return subprocess.Popen([sys.executable, f"tools/{script}", *words], cwd=self.root, env=self.environment, stdout=out,
                                 stderr=subprocess.PIPE, text=True)
 
@@ -159,8 +159,8 @@ class Tree:
 def tree(*bodies: str) -> Iterator[Tree]:
     with tempfile.TemporaryDirectory() as folder:
         made = Tree(pathlib.Path(folder))
-        shutil.copytree(TOP / "outside", made.root / "outside", ignore=shutil.ignore_patterns("__pycache__"))
-        for script in ("edits.py", "gate_times.py"):
+        shutil.copytree(TOP / "scripts" / "outside", made.root / "scripts" / "outside", ignore=shutil.ignore_patterns("__pycache__"))
+        for script in ("checks/edits.py", "trials/gate_times.py"):
             made.write(f"tree/tools/{script}", (TOP / "tools" / script).read_text())
         made.write("tree/crates.txt", "# NAME: libraries\nlow:\nhigh may_wait=1: low hex\n")
         made.write("tree/crates/low/src/lib.rt", "body low\n")
@@ -388,7 +388,7 @@ def times() -> list[str]:
     with tree() as made:
         for body in ("first_edit", "second_edit"):
             made.edit(body, "must-fail")
-        ran = made.start("--lanes", "3", script="gate_times.py")
+        ran = made.start("--lanes", "3", script="trials/gate_times.py")
         out, said = ran.communicate(timeout=60)
     wrong = differs("end", (ran.returncode, said), (1, "ci --anew by 3\n"))
     rows = {line.split()[0]: line.split()[1:] for line in out.splitlines() if line[:4] in ("high", "low ")}

@@ -5,7 +5,7 @@ status, and nothing on standard error.
     tests/listings.py [PROGRAM]        by default the program that `rt ci` has built
 
 Four listings are changed in each of their places: bytes, words, lines. Others are made of commands at random. What is expected of
-each is the answer of tools/replay.py, a replay of its own. Each kind of change of one listing is a test.
+each is the answer of tools/oracles/replay.py, a replay of its own. Each kind of change of one listing is a test.
 
 Each large listing is a test too. Its answer is known, and its run has limits on processor time and memory.
 
@@ -20,7 +20,9 @@ import subprocess
 import sys
 import tempfile
 
-import run
+from helpers import SECONDS
+from helpers.rows import difference, write as write_files
+from helpers.tries import program_of
 
 import reference
 import replay
@@ -409,11 +411,11 @@ OTHERS = {
 
 
 def write(folder, launch, text=b""):
-    run.write(folder, {"one": b"*", "manifest.toml": (FILE + launch).encode(), "listing": text})
+    write_files(folder, {"one": b"*", "manifest.toml": (FILE + launch).encode(), "listing": text})
 
 
 def listing(launch):
-    """The listing of a launch, by tools/reference.py."""
+    """The listing of a launch, by tools/oracles/reference.py."""
     with tempfile.TemporaryDirectory() as folder:
         write(folder, launch)
         manifest, files = reference.read_manifest("manifest.toml", folder)
@@ -423,7 +425,7 @@ def listing(launch):
 def outcome(words, folder):
     """The status, the output and the faults of a run."""
     try:
-        ran = subprocess.run(words, cwd=folder, stdin=subprocess.DEVNULL, capture_output=True, timeout=run.SECONDS, check=False)
+        ran = subprocess.run(words, cwd=folder, stdin=subprocess.DEVNULL, capture_output=True, timeout=SECONDS, check=False)
     except subprocess.TimeoutExpired:
         return None, b"", b"no end in time"
     return ran.returncode, ran.stdout, ran.stderr
@@ -442,13 +444,13 @@ def compare_printed(program, launch, text):
     """How what `rim list` prints of a launch differs from this listing, and the answer of its replay from `yes`, as lines."""
     with tempfile.TemporaryDirectory() as folder:
         write(folder, launch, text)
-        wrong = run.difference("what `rim list` prints", text, outcome([program, "list", "manifest.toml", "a"], folder)[1])
+        wrong = difference("what `rim list` prints", text, outcome([program, "list", "manifest.toml", "a"], folder)[1])
         wrong += differences(expected("yes"), outcome([program, "replay", "listing"], folder))
     return wrong + differences("yes", replay.replay(text))
 
 
 def compare(program, kind, listings):
-    """How the answers of listings differ from those of tools/replay.py, as lines."""
+    """How the answers of listings differ from those of tools/oracles/replay.py, as lines."""
     wrong = []
     with tempfile.TemporaryDirectory() as folder:
         for what, text in listings:
@@ -457,7 +459,7 @@ def compare(program, kind, listings):
             answer = replay.replay(text)
             each = differences(expected(answer), outcome([program, "replay", "listing"], folder))
             if kind in ANSWERS:
-                each += [f"tools/replay.py: {line}" for line in differences(ANSWERS[kind](text), answer)]
+                each += [f"tools/oracles/replay.py: {line}" for line in differences(ANSWERS[kind](text), answer)]
             wrong += [f"{what}: {line}" for line in each]
     return wrong
 
@@ -519,7 +521,7 @@ def cost(words, folder, output):
     """The outcome of a run, whose output is also a file of that name, its seconds of processor time, and its most bytes of memory.
 
     A run begins with the memory of this process, so this one holds no large listing."""
-    limit = lambda: resource.setrlimit(resource.RLIMIT_CPU, (run.SECONDS, run.SECONDS))
+    limit = lambda: resource.setrlimit(resource.RLIMIT_CPU, (SECONDS, SECONDS))
     with open(os.path.join(folder, output), "w+b") as out, tempfile.TemporaryFile() as faults:
         child = subprocess.Popen(words, cwd=folder, stdin=subprocess.DEVNULL, stdout=out, stderr=faults, preexec_fn=limit)
         _, status, usage = os.wait4(child.pid, 0)
@@ -584,9 +586,7 @@ def pages_tests(program):
 
 
 def main():
-    program = os.path.abspath(sys.argv[1] if len(sys.argv) > 1 else os.path.join(run.TOP, "crates", "rim", "out", "rim"))
-    if not os.path.exists(program):
-        raise SystemExit(f"{program} is not built")
+    program = program_of(sys.argv[1:])
     passed, failed = 0, 0
     for tests in (small_listings, large_tests, pages_tests):
         for name, wrong in tests(program):

@@ -13,7 +13,6 @@
 The files are made here, and PROGRAM measures. The last line is 'N passed, M failed'.
 """
 import base64
-import concurrent.futures
 import contextlib
 import copy
 import io
@@ -28,17 +27,18 @@ import time
 import tomllib
 from dataclasses import replace
 
-from hypervisors import TOP, Folder, differs, image, tree, tried
+from helpers import SCRIPTS, TOP
+from helpers.files import image, tree
+from helpers.folders import Folder
+from helpers.tries import at_a_time, differs, program_of, told
 
-sys.path.insert(0, TOP)
-
-from finder.progress import Progress  # noqa: E402, the path is set by hypervisors
-from matcher import files, lines, manifests, search  # noqa: E402
-from matcher.axes import AXES  # noqa: E402
-from matcher.launch import Launch, Rec, blocks_of, is_whole, manifest_head, measured_of, table_text  # noqa: E402
-from matcher.launch import text as launch_text  # noqa: E402
-from matcher.words import LIMIT, TAKES  # noqa: E402
-from outside.rim import Rim  # noqa: E402
+from finder.progress import Progress
+from matcher import files, lines, manifests, search
+from matcher.axes import AXES
+from matcher.launch import Launch, Rec, blocks_of, is_whole, manifest_head, measured_of, table_text
+from matcher.launch import text as launch_text
+from matcher.words import LIMIT, TAKES
+from outside.rim import Rim
 
 START = os.path.join(TOP, "rim-match")
 LOW, MIB = 0x4000_0000, 1 << 20
@@ -660,7 +660,7 @@ def installed(program: str) -> list[str]:
     os.makedirs(os.path.join(here.path, "usr/bin"))
     shutil.copy(START, os.path.join(here.path, "usr/bin/rim-match"))
     for name in ("outside", "matcher", "finder", "comparer"):
-        shutil.copytree(os.path.join(TOP, name), os.path.join(here.path, "usr/share/rim", name),
+        shutil.copytree(os.path.join(SCRIPTS, name), os.path.join(here.path, "usr/share/rim", name),
                         ignore=shutil.ignore_patterns("__pycache__"))
     os.symlink(program, os.path.join(here.path, "usr/bin/rim"))
     os.symlink(START, os.path.join(here.path, "link"))
@@ -717,18 +717,7 @@ def all_tries(program: str):
 
 
 def run_all() -> int:
-    program = os.path.abspath(sys.argv[1] if len(sys.argv) > 1 else os.path.join(TOP, "crates", "rim", "out", "rim"))
-    if not os.path.exists(program):
-        raise SystemExit(f"{program} is not built")
-    with concurrent.futures.ThreadPoolExecutor(len(os.sched_getaffinity(0))) as pool:
-        waiting = [(name, pool.submit(tried, look)) for name, look in all_tries(program)]
-        outcomes = [(name, done.result()) for name, done in waiting]
-    for name, wrong in outcomes:
-        if wrong:
-            print(f"WRONG: {name}", *wrong, sep="\n  ")
-    failed = sum(bool(wrong) for _, wrong in outcomes)
-    print(f"{len(outcomes) - failed} passed, {failed} failed")
-    return int(failed > 0)
+    return told(at_a_time(all_tries(program_of(sys.argv[1:]))))
 
 
 if __name__ == "__main__":

@@ -1,5 +1,5 @@
 #!/usr/bin/env python3
-"""Has tools/deb.sh make the package and the archive twice, of the last commit, and compares both.
+"""Has tools/package/deb.sh make the package and the archive twice, of the last commit, and compares both.
 
     tests/packaging.py
 
@@ -26,7 +26,7 @@ GITCONFIG = "[core]\n\tautocrlf = true\n\tattributesFile = {0}/attributes\n[tar]
 def made(here: str, name: str, mask: int, **environment: str) -> tuple[str, str, dict[str, bytes]]:
     """What deb.sh prints, and the files that it makes."""
     out = os.path.join(here, name)
-    ran = subprocess.run([os.path.join(TOP, "tools", "deb.sh"), out], capture_output=True, text=True, check=False, umask=mask, cwd=here,
+    ran = subprocess.run([os.path.join(TOP, "tools", "package", "deb.sh"), out], capture_output=True, text=True, check=False, umask=mask, cwd=here,
                          env=os.environ | {"HOME": here} | environment)
     files = {}
     for each in os.listdir(out):

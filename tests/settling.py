@@ -23,17 +23,17 @@ import signal
 import subprocess
 import sys
 import time
-import tomllib
 from dataclasses import dataclass, field
 
-from hypervisors import START, TOP, Folder, differs, image, replaced, tree, tried
+from helpers.files import image, tree
+from helpers.folders import Folder
+from helpers.guests import START, replaced
+from helpers.tries import differs, program_of, told, tried
 
-sys.path.insert(0, TOP)
-
-from finder.axes import Axis, best_first, count_of  # noqa: E402, the path is set above
-from vmm.hypervisors import HYPERVISORS  # noqa: E402
-from vmm.layout import rows_with_ways  # noqa: E402
-from vmm.rows import ADDS, NUMBERS  # noqa: E402
+from finder.axes import Axis, best_first, count_of
+from vmm.hypervisors import HYPERVISORS
+from vmm.layout import rows_with_ways
+from vmm.rows import ADDS, NUMBERS
 
 MIB, PAGE = 1 << 20, 1 << 12
 LOW, LKVM = 0x4000_0000, 0x8000_0000
@@ -520,22 +520,15 @@ def main():
     parser.add_argument("--seed", type=int, default=1)
     parser.add_argument("--limit", default="100000")
     parser.add_argument("--kinds", default="likely,random,blind")
-    parser.add_argument("program", nargs="?", default=os.path.join(TOP, "crates", "rim", "out", "rim"))
+    parser.add_argument("program", nargs="*")
     said = parser.parse_args()
-    program = os.path.abspath(said.program)
-    if not os.path.exists(program):
-        raise SystemExit(f"{program} is not built")
+    program = program_of(said.program)
     os.environ["RIM"] = program
     if said.machines:
         return machines(program, said.machines, said.seed, said.limit, [Kind[each.upper()] for each in said.kinds.split(",")])
     outcomes = [(each.__name__, tried(each, program)) for each in (
         best_first_is_right, the_file, forms, narrowed, terminal, stopped, none_found, wrong_words, rows, few)]
-    for name, wrong in outcomes:
-        if wrong:
-            print(f"WRONG: {name}", *wrong, sep="\n  ")
-    failed = sum(bool(wrong) for _, wrong in outcomes)
-    print(f"{len(outcomes) - failed} passed, {failed} failed")
-    return int(failed > 0)
+    return told(outcomes)
 
 
 if __name__ == "__main__":

@@ -23,15 +23,14 @@ import unicodedata
 from collections.abc import Callable
 from functools import partial
 
-TOP = os.path.dirname(os.path.dirname(os.path.realpath(__file__)))
-sys.path.insert(0, TOP)
+from helpers import SCRIPTS, TOP
+from helpers.files import deep, image, tree
+from helpers.tries import program_of, told
 
-from hypervisors import deep, image, tree  # noqa: E402, the path is set above
-
-from outside import files, programs, texts  # noqa: E402
-from outside.faults import Fault  # noqa: E402
-from outside.programs import Limits  # noqa: E402
-from outside.rim import Image, Rim, image_of, tree_of  # noqa: E402
+from outside import files, programs, texts
+from outside.faults import Fault
+from outside.programs import Limits
+from outside.rim import Image, Rim, image_of, tree_of
 
 # ---- texts
 
@@ -171,7 +170,7 @@ sys.exit(ending.status_of("outside", work))
 
 def limited() -> list[str]:
     words = ["/bin/sh", "-c", 'ulimit -f 64; exec "$0" -c "$1"', sys.executable, LIMITED]
-    ran = subprocess.run(words, cwd=TOP, capture_output=True, text=True, check=False)
+    ran = subprocess.run(words, cwd=SCRIPTS, capture_output=True, text=True, check=False)
     return [f"{ran}"] * ((ran.returncode, ran.stdout, ran.stderr) != (0, "Ran(status=5, out=b'64\\n', err=b'', is_cut=False)\n", ""))
 
 
@@ -219,7 +218,7 @@ def stopped() -> list[str]:
     for number in (signal.SIGINT, signal.SIGTERM, signal.SIGHUP):
         for where in ("main", "thread"):
             mark = f"1001.{os.getpid()}{int(number)}{len(where)}"
-            ran = subprocess.Popen([sys.executable, "-c", SCRIPT, mark, where], cwd=TOP, stdout=subprocess.PIPE, stderr=subprocess.PIPE, text=True)
+            ran = subprocess.Popen([sys.executable, "-c", SCRIPT, mark, where], cwd=SCRIPTS, stdout=subprocess.PIPE, stderr=subprocess.PIPE, text=True)
             folder = ran.stdout.readline().strip()
             while not runs(f"sleep {mark} & echo x; sleep {mark}"):
                 time.sleep(0.01)
@@ -251,18 +250,18 @@ def ends() -> list[str]:
         lines = "".join(f"    {line}\n" for line in body.split("\n"))
         script = f"import sys\nfrom outside import ending\nfrom outside.faults import *\ndef run():\n{lines}sys.exit(ending.status_of('name', run))"
         with open(output, "w", encoding="utf-8") as file:
-            ran = subprocess.run([sys.executable, "-c", script], cwd=TOP, stdout=file, stderr=subprocess.PIPE, text=True, check=False,
+            ran = subprocess.run([sys.executable, "-c", script], cwd=SCRIPTS, stdout=file, stderr=subprocess.PIPE, text=True, check=False,
                                  env=os.environ | {"PYTHONUNBUFFERED": ""})
         wrong += [f"{body}: {ran.returncode} {ran.stderr!r}"] * ((ran.returncode, ran.stderr) != (status, said))
     script = "import sys\nfrom outside import ending\nsys.exit(ending.status_of('name', lambda: 0))"
-    ran = subprocess.run(["/bin/sh", "-c", 'exec "$0" -c "$1" >&-', sys.executable, script], cwd=TOP, stderr=subprocess.PIPE, text=True, check=False)
+    ran = subprocess.run(["/bin/sh", "-c", 'exec "$0" -c "$1" >&-', sys.executable, script], cwd=SCRIPTS, stderr=subprocess.PIPE, text=True, check=False)
     came = ran.returncode, ran.stderr
     return wrong + [f"closed: {came}"] * (came != (3, "name: output: it is closed, expected one that can be written to\n"))
 
 
 # ---- older versions of Python
 
-STARTS = ("rim-manifest", "rim-match", "rim-compare", "vmm/measure.py")
+STARTS = ("rim-manifest", "rim-match", "rim-compare", "scripts/vmm/measure.py")
 OLD = "import runpy, sys; sys.version_info = (3, 9, 2, 'final', 0); sys.argv = sys.argv[1:]; runpy.run_path(sys.argv[0], run_name='__main__')"
 
 
@@ -342,16 +341,10 @@ def trees(program: str) -> list[str]:
 
 
 def run_all() -> int:
-    program = os.path.abspath(sys.argv[1] if len(sys.argv) > 1 else os.path.join(TOP, "crates", "rim", "out", "rim"))
+    program = program_of(sys.argv[1:])
     looks = {look.__name__: look for look in (shown_texts, read_files, read_data, run_programs, stopped, ends, versions)}
     looks |= {look.__name__: partial(look, program) for look in (images, trees)}
-    failed = 0
-    for name, look in looks.items():
-        if wrong := look():
-            failed += 1
-            print(f"WRONG: {name}", *wrong, sep="\n  ")
-    print(f"{len(looks) - failed} passed, {failed} failed")
-    return int(failed > 0)
+    return told([(name, look()) for name, look in looks.items()])
 
 
 if __name__ == "__main__":

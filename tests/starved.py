@@ -8,7 +8,7 @@
   answers as before, no job of a run was begun, and the same call then answers as with ample memory.
 - A run of three workers, with the start of each refused in turn, and of both: the same report, by fewer workers.
 - `rim measure` of a release with a file: with each request for memory refused, each file not opened, and each read and each write
-  failed; and each read interrupted 1,023 and 1,024 times in a row. How it has to end is said in tools/failing.py.
+  failed; and each read interrupted 1,023 and 1,024 times in a row. How it has to end is said in tools/oracles/failing.py.
 
 For each call a line has how many requests were refused, and what came of them. The last line is 'N passed, M failed' over these.
 """
@@ -18,7 +18,7 @@ import os
 import sys
 import tempfile
 
-import run
+from helpers import TOP
 
 import failing
 from refusing import Refused, Refuser
@@ -201,8 +201,8 @@ def measured(refuser, program, where, kind, count):
 
 def main():
     program, calls = (sys.argv[1:] + [None] * 2)[:2]
-    program = os.path.abspath(program or os.path.join(run.TOP, "crates/rim/out/rim"))
-    calls = os.path.abspath(calls or os.path.join(run.TOP, "crates/rim_starved/out/rim_starved"))
+    program = os.path.abspath(program or os.path.join(TOP, "crates/rim/out/rim"))
+    calls = os.path.abspath(calls or os.path.join(TOP, "crates/rim_starved/out/rim_starved"))
     passed = failed = 0
     with tempfile.TemporaryDirectory() as folder, concurrent.futures.ThreadPoolExecutor(os.cpu_count()) as pool:
         refuser = Refuser(folder)

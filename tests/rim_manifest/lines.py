@@ -1,0 +1,79 @@
+"""Command lines as people have them: those of tests/lines, each with the launch that was worked out by hand beside it; and texts as a shell
+reads them."""
+import os
+import random
+import shutil
+import subprocess
+import tomllib
+
+from helpers import MIB, SECONDS
+from helpers.files import tree
+from helpers.folders import Folder
+from helpers.guests import INITRD, LINES, NO_PCIE, host
+from helpers.tries import differs
+from outside.faults import Fault
+from vmm.lines import Reader
+
+from .written import first, read_by, recorded
+
+# Prints the words of each command `f`, and how its end is known.
+SHELL = "f() { for w; do printf '%s\\001' \"$w\"; done; printf '\\002'; }\n"
+PIECES = ["a", "b", " ", "'", '"', "\\", "\n", "#", "\t", "\\\n", "-x", "é", "=", "%", "!", "^", "]", "}", ",", "f ", ";"]
+
+
+def read_by_shell(text: str, folder: str) -> list[list[str]] | None:
+    """The words of each command `f` of a text as the shell of this machine reads them; None where it takes no such text."""
+    ran = subprocess.run(["sh", "-c", SHELL + text], capture_output=True, check=False, cwd=folder, timeout=SECONDS)
+    found = [words.split("\1")[:-1] for words in ran.stdout.decode().split("\2")[:-1]]
+    return None if b"yntax error" in ran.stderr or b"nterminated" in ran.stderr else found
+
+
+def as_a_shell(_program: str):
+    """Texts are read as the shell of this machine reads them, in which other commands are unknown."""
+    wrong, draw, read = [], random.Random(1), 0
+    with Folder() as folder:
+        for _ in range(300):
+            text = "f " + "".join(draw.choice(PIECES) for _ in range(draw.randrange(1, 14)))
+            try:
+                has = [each.words[1:] for each in Reader("text", text).read() if each.words[0] == "f"]
+            except Fault:
+                continue
+            expected = read_by_shell(text, folder.path)
+            if expected is not None:
+                wrong += differs(ascii(text), has, expected)
+                read += 1
+    return wrong + differs("many are read", read > 50, True)
+
+
+def line(program: str, name: str):
+    """How the launch of a command line of tests/lines differs from what is beside it, which was worked out by hand."""
+    with open(os.path.join(LINES, name + ".toml"), "rb") as file:
+        expected = tomllib.load(file)
+    at, length = expected["at"], len(INITRD)
+    is_qemu = expected["hypervisor"] == "qemu"
+    made = tree(expected["ram"], expected["bootargs"], (at["initrd"], at["initrd"] + length) if "initrd" in at else None, expected["recs"],
+                MIB if is_qemu else None, **NO_PCIE if expected["s2sz"] < 41 else {},
+                **{} if expected.get("host", {}).get("pmu", True) else {"pmu": None})
+    about = host(**{} if expected.get("host", {}).get("pmu", True) else {"pmu": "false", "pmu_num_ctrs": None})
+    with Folder({"tree": made, "host.toml": about}) as folder:
+        for path in os.listdir(LINES):
+            shutil.copy(os.path.join(LINES, path), folder.path)
+        status, _, said = folder.run(expected["hypervisor"], *expected["options"], "--host", "host.toml", "--out", "out", "--dtb", "tree")
+        if status or ("has no dtb-randomness=off, which is added" in said) != expected.get("warns", False) or said.count("\n") > 1:
+            return [f"status {status}, {said!r}"]
+        launch, record = first(folder), recorded(folder)
+        wrong = differs("launches", len(folder.toml()["launch"]), 1)
+        for key in ("name", "algo", "rpv", "s2sz", "ram"):
+            wrong += differs(key, launch.get(key), expected.get(key))
+        wrong += differs("items", {item["name"]: item["at"] for item in launch["item"]}, at)
+        recs = [{"pc": hex(expected["pc"]), "x": [hex(each) for each in expected.get("x", [])]}]
+        wrong += differs("rec", launch["rec"], recs + [{"runnable": False}] * (expected["recs"] - 1))
+        wrong += differs("words", record["words"], expected["words"]) + differs("rest", record["rest"], expected["rest"])
+        wrong += differs("append", record["append"], expected["bootargs"])
+        return wrong + read_by(program, folder, count=1)
+
+
+def lines(program: str):
+    for name in sorted(os.listdir(LINES)):
+        if name.endswith(".toml"):
+            yield f"line of {name.removesuffix('.toml')}", lambda name=name: line(program, name.removesuffix(".toml"))

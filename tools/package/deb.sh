@@ -1,0 +1,211 @@
+#!/bin/sh
+# Makes a package for Debian and an archive with the same tree, which runs where it is unpacked:
+#
+#   tools/package/deb.sh [FOLDER]       rim_VERSION_amd64.deb and rim-VERSION-x86_64-linux.tar.gz in FOLDER, by default out/
+#
+# They are made of the last commit, so what is not committed is not in them; dist/ has to be of its sources. The same commit gives the
+# same bytes again, where dpkg-deb, xz, tar and gzip are of the same versions: each time is that of the commit, or SOURCE_DATE_EPOCH.
+# The maintainer is who made that commit, or DEBFULLNAME and DEBEMAIL. It is made on x86-64, since the version is asked of the program.
+# Nothing else of the environment changes it: tar, gzip, xz, dpkg-deb and git each take options from there, by which modes and bytes differ.
+set -eu
+for name in $(env | sed -n 's/^\([A-Za-z_][A-Za-z0-9_]*\)=.*/\1/p'); do
+    case $name in
+    PATH | HOME | TMPDIR | SOURCE_DATE_EPOCH | DEBFULLNAME | DEBEMAIL | SHELLOPTS | BASHOPTS) ;;
+    *) unset "$name" ;;
+    esac
+done
+umask 022
+export LC_ALL=C
+
+fail() {
+    echo "deb.sh: $1" >&2
+    exit 1
+}
+
+# Whether the programs of dist/ are of the sources of this commit: each checksum holds, and there is no other source.
+is_dist_of_sources() {
+    grep -E '^[0-9a-f]{64}  ' dist/SOURCE >"$work/sums"
+    # shellcheck disable=SC2046 # the folders are words
+    find crates.txt dist/rim-* $(sed -n 's/^folders //p' dist/SOURCE) -type f | sort >"$work/files"
+    cut -c 67- "$work/sums" | sort >"$work/named"
+    diff "$work/named" "$work/files" >&2 && b2sum --check --quiet "$work/sums" >&2
+}
+
+# Puts a file of the commit into the tree, with a mode and at a path.
+put() {
+    install -D -m "$1" "$2" "$tree/$3"
+}
+
+# A file packed into the tree, without its name and time.
+put_packed() {
+    mkdir -p "$tree/$(dirname "$2")"
+    gzip -9n <"$1" >"$tree/$2.gz"
+}
+
+put_programs() {
+    put 755 tools/package/rim bin/rim
+    put 755 dist/rim-x86_64-v2 libexec/rim/x86-64-v2/rim
+    put 755 dist/rim-x86_64-v3 libexec/rim/x86-64-v3/rim
+    for script in rim-manifest rim-match rim-compare; do
+        [ ! -f "$script" ] || put 755 "$script" "bin/$script"
+    done
+    if [ -f rim-manifest ]; then
+        (cd scripts && find . -mindepth 2 -type f) | while read -r path; do
+            mode=644
+            [ ! -x "scripts/$path" ] || mode=755
+            put "$mode" "scripts/$path" "share/rim/${path#./}"
+        done
+    fi
+}
+
+# What a user reads. The links of the README that lead into docs/ and examples/ hold there too. Examples that build something need the
+# repository around them.
+put_documents() {
+    for page in docs/*.1; do
+        put_packed "$page" "share/man/man1/${page##*/}"
+    done
+    put 644 README.md share/doc/rim/README.md
+    for page in DEFINITIONS.md FORMATS.md PROMISES.md VERIFIER.md VMM.md check.schema.json map.schema.json report.schema.json; do
+        [ ! -f "docs/$page" ] || put 644 "docs/$page" "share/doc/rim/docs/$page"
+    done
+    find examples -type f ! -path 'examples/debian/*' | while read -r path; do
+        put 644 "$path" "share/doc/rim/$path"
+    done
+    packaged_copyright >"$tree/share/doc/rim/copyright"
+    packaged_changes >"$work/changelog"
+    put_packed "$work/changelog" share/doc/rim/changelog
+}
+
+put_completions() {
+    tools/package/completions.py "$work/completions"
+    for program in rim rim-manifest; do
+        [ "$program" = rim ] || [ -f "$program" ] || continue
+        put 644 "$work/completions/$program.bash" "share/bash-completion/completions/$program"
+        put 644 "$work/completions/_$program" "share/zsh/vendor-completions/_$program"
+        put 644 "$work/completions/$program.fish" "share/fish/vendor_completions.d/$program.fish"
+    done
+}
+
+packaged_copyright() {
+    echo "Format: https://www.debian.org/doc/packaging-manuals/copyright-format/1.0/"
+    echo "Upstream-Name: rim"
+    echo
+    echo "Files: *"
+    sed -n 's/^Copyright (c) /Copyright: /p' LICENSE-MIT
+    echo "License: Apache-2.0 or MIT"
+    echo
+    echo "License: Apache-2.0"
+    echo " The whole text is in /usr/share/common-licenses/Apache-2.0."
+    echo
+    echo "License: MIT"
+    sed -n '/^Permission/,$p' LICENSE-MIT | sed 's/^$/./; s/^/ /'
+}
+
+packaged_changes() {
+    echo "rim ($version) unstable; urgency=medium"
+    echo
+    echo "  * The commit $commit."
+    echo
+    echo " -- $maintainer  $(date -u -R -d "@$SOURCE_DATE_EPOCH")"
+}
+
+control() {
+    needs="libc6 (>= $(cat dist/rim-* | grep -ao 'GLIBC_[0-9.]*' | sort -uV | sed -n '$s/GLIBC_//p'))"
+    [ ! -f rim-manifest ] || needs="$needs, python3 (>= 3.11)"
+    size=$(find "$package/usr" -printf '%y %s\n' | awk '{ kib += $1 == "f" ? int(($2 + 1023) / 1024) : 1 } END { print kib }')
+    cat <<END
+Package: rim
+Version: $version
+Architecture: amd64
+Maintainer: $maintainer
+Installed-Size: $size
+Depends: $needs
+Section: utils
+Priority: optional
+Description: expected measurements of Arm CCA realms
+ An Arm CCA realm is a confidential VM, which is measured while it is built. A
+ verifier compares its Realm Initial Measurement with an expected value. rim
+ computes that value from kernel, initrd, devicetree and VM layout, before
+ anything runs.
+END
+}
+
+# Modes that no umask, no list of access and no bit of the folder for temporary files changes. Five digits take such a bit away.
+set_modes() {
+    find "$1" -type d -exec chmod 00755 {} +
+    find "$1" -type f -perm -u+x -exec chmod 755 {} +
+    find "$1" -type f ! -perm -u+x -exec chmod 644 {} +
+}
+
+set_times() {
+    find "$1" -exec touch -h -d "@$SOURCE_DATE_EPOCH" {} +
+}
+
+# The tree as it is installed in /usr. There an interpreter has the path of the system's.
+make_package() {
+    mkdir -p "$package/DEBIAN"
+    cp -R "$tree" "$package/usr"
+    find "$package/usr" -type f -perm -u+x -exec sed -i '1s|^#!/usr/bin/env python3$|#!/usr/bin/python3|' {} +
+    control >"$package/DEBIAN/control"
+    (cd "$package" && find usr -type f | sort | xargs md5sum) >"$package/DEBIAN/md5sums"
+    set_modes "$package"
+    set_times "$package"
+    # xz by one thread: by more its bytes are others
+    DPKG_DEB_THREADS_MAX=1 dpkg-deb --root-owner-group -Zxz -z6 --build "$package" "$work/$deb" >/dev/null
+}
+
+make_archive() {
+    put 644 LICENSE-APACHE LICENSE-APACHE
+    put 644 LICENSE-MIT LICENSE-MIT
+    set_modes "$tree"
+    set_times "$tree"
+    tar -C "$work" --sort=name --owner=0 --group=0 --numeric-owner --format=gnu -cf "$work/archive.tar" "${tree##*/}"
+    gzip -9n <"$work/archive.tar" >"$work/$archive"
+}
+
+# Puts a file in its place, whole or not at all.
+place() {
+    cp "$work/$1" "$out/.rim.$$.new"
+    mv "$out/.rim.$$.new" "$out/$1"
+}
+
+# A git that no configuration has change what is in the archive.
+plain_git() {
+    git -C "$top" -c core.autocrlf=false -c core.eol=lf -c core.attributesFile=/dev/null -c tar.umask=0022 -c log.showSignature=false "$@"
+}
+
+top=$(cd "$(dirname "$0")/../.." && pwd)
+mkdir -p "${1:-$top/out}"
+out=$(cd "${1:-$top/out}" && pwd)
+work=$(mktemp -d)
+work=$(cd "$work" && pwd)
+export TMPDIR="$work"
+trap 'rm -rf "$work" "$out/.rim.$$.new"' EXIT
+trap 'exit 1' HUP INT TERM
+
+commit=$(plain_git rev-parse HEAD)
+SOURCE_DATE_EPOCH=${SOURCE_DATE_EPOCH:-$(plain_git log -1 --format=%ct)}
+export SOURCE_DATE_EPOCH
+maintainer="${DEBFULLNAME:-$(plain_git log -1 --format=%an)} <${DEBEMAIL:-$(plain_git log -1 --format=%ae)}>"
+mkdir "$work/source"
+plain_git archive --format=tar -o "$work/source.tar" "$commit"
+tar -C "$work/source" --no-same-owner --no-same-permissions -xf "$work/source.tar"
+cd "$work/source"
+
+is_dist_of_sources || fail "dist/ is not of the sources of this commit: tools/package/dist.py brings it up to date"
+version=$(dist/rim-x86_64-v2 --version | cut -d ' ' -f 2)
+expr "$version" : '[0-9][0-9.]*$' >/dev/null || fail "the program's version is $version, expected a number"
+
+tree=$work/rim-$version-x86_64-linux
+package=$work/package
+deb=rim_${version}_amd64.deb
+archive=${tree##*/}.tar.gz
+put_programs
+put_documents
+put_completions
+make_package
+make_archive
+place "$deb"
+place "$archive"
+cd "$out"
+sha256sum "$deb" "$archive"
