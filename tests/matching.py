@@ -7,7 +7,7 @@
   measurement. It has to find one change, and the lines that it prints, put into the manifest here, have to give that measurement. The
   same for pairs, and one of three.
 - Lines: each single change of each axis, of several launches, measured as rim-match writes it and as its lines change the manifest.
-- Launches that rim-match takes for the same have the same measurement.
+- REC 0's values and the steps that axes write out are the default ones. Launches that begin alike are in one run.
 - What no launch has, forms of the value, wrong words and faults, traces, what a terminal shows, an installed rim-match, its man page.
 
 The files are made here, and PROGRAM measures. The last line is 'N passed, M failed'.
@@ -16,6 +16,7 @@ import base64
 import contextlib
 import copy
 import io
+import itertools
 import json
 import os
 import re
@@ -35,7 +36,7 @@ from helpers.tries import at_a_time, differs, program_of, told
 from finder.progress import Progress
 from matcher import files, lines, manifests, search
 from matcher.axes import AXES
-from matcher.launch import Launch, Rec, blocks_of, is_whole, manifest_head, measured_of, table_text
+from matcher.launch import KINDS, Launch, Rec, first_rec, is_whole, manifest_head, table_text
 from matcher.launch import text as launch_text
 from matcher.words import LIMIT, TAKES
 from outside.rim import Rim
@@ -339,25 +340,35 @@ def measures(program: str, here: Folder, path: str) -> files.Blob:
     return files.read(Rim(program), os.path.join(here.path, path))
 
 
-def same_measured(program: str, name: str) -> list[str]:
-    """Launches of which rim-match takes the same to be measured have one measurement, so that trying one of them is enough."""
+def begins(program: str, name: str) -> list[str]:
+    """With REC 0's values and the steps written out, as the axes have them, the same is measured as without."""
     here, table = folder(), base_table(name)
     blobs = blobs_of(program, here, table)
     launch = launch_in(table, name)
-    some = [each.launch for others in (1, 0) for each in search.combined((), launch, blobs, AXES, 2 - others, others)]
-    some = [each for each in some if is_whole(each) and blocks_of(each) < 10_000]
-    found: dict[tuple, str] = {}
-    wrong = []
-    # a manifest has 64 files at most, and each devicetree that is written anew is one
-    for at in range(0, len(some), 60):
-        part = some[at:at + 60]
-        here.put("part.toml", manifest_text(part, blobs).encode())
-        ran = subprocess.run([program, "measure", "part.toml"], cwd=here.path, capture_output=True, text=True, check=False)
-        for each, line in zip(part, ran.stdout.splitlines()[1:-1], strict=True):
-            value = line.split(" ", 1)[1]
-            if found.setdefault(measured_of(each, blobs), value) != value:
-                wrong.append(f"{each}: {value}")
-    return wrong[:8] + differs("launches that are the same", len(found) < len(some), True)
+    by_kind = [f"item {each.name}" for each in sorted(launch.item, key=lambda each: KINDS.index(each.kind))]
+    steps = (*(f"ram {number}" for number in range(len(launch.ram))), *by_kind, *(f"rec {number}" for number in range(len(launch.rec))))
+    bare = replace(launch, steps=None, rec=(Rec(runnable=launch.rec[0].runnable), *launch.rec[1:]) if launch.rec else ())
+    full = replace(bare, steps=steps, rec=(first_rec(bare, blobs), *bare.rec[1:]) if bare.rec else ())
+    here.put("both.toml", manifest_text([bare, full], blobs).encode())
+    ran = subprocess.run([program, "measure", "both.toml"], cwd=here.path, capture_output=True, text=True, check=False)
+    values = {line.split(" ", 1)[1] for line in ran.stdout.splitlines()[1:-1]}
+    return differs("values", (len(values), all(is_whole(each) for each in (bare, full))), (1, True))
+
+
+def in_runs(program: str) -> list[str]:
+    """Launches that begin alike are in one run, in their order; a run has no more launches and files than a manifest may."""
+    here, table = folder(), base_table("plain")
+    blobs = blobs_of(program, here, table)
+    rounds = search.Search(None, blobs, None, 3000).rounds_of(launch_in(table, "plain"))
+    given = list(itertools.islice((each for _, launches in rounds for each in launches), 3000))
+    place = {each.table: number for number, each in enumerate(given)}
+    several = list(search.in_runs(given, blobs, 256))
+    wrong = differs("all, once", sorted(place[each.table] for run in several for each in run), list(range(len(given))))
+    for run in several:
+        names = {item.file for each in run for item in each.launch.item}
+        wrong += differs("a run", (len(run) <= 256, len(names) <= 64, sorted(run, key=lambda each: place[each.table]) == run), (True, True, True))
+    alike = [sum(each.launch.s2sz == 48 for each in run) for run in several]
+    return wrong + differs(f"those of one width are together: {alike}", sum(count > 0 for count in alike) <= 3, True)
 
 
 def many_steps(program: str) -> list[str]:
@@ -422,7 +433,7 @@ def alike(program: str) -> list[str]:
     here, table = folder(), base_table("plain")
     blobs = blobs_of(program, here, table)
     launch, some = launch_in(table, "plain"), search.Search(None, blobs, None, 10)
-    tried_anew = [some.is_new(replace(launch, rec=(Rec(0, (number,)),))) for number in (0, (1 << 61) - 1, 0, 1)]
+    tried_anew = [bool(some.new_table(replace(launch, rec=(Rec(0, (number,)),)))) for number in (0, (1 << 61) - 1, 0, 1)]
     return differs("launches that are new", tried_anew, [True, True, False, True])
 
 
@@ -711,8 +722,8 @@ def all_tries(program: str):
         for name in ("plain", "stub", "old"):
             yield f"lines of {axis.name} of {name}", lambda axis=axis, name=name: lines_of(program, axis, name)
     for name in ("plain", "stub", "old"):
-        yield f"what is measured of {name}", lambda name=name: same_measured(program, name)
-    for look in (many_steps, forms, others, alike, stopped, hidden, lines_said, not_found, words, refused, traces, terminal, installed, documents, example):
+        yield f"with what {name} begins", lambda name=name: begins(program, name)
+    for look in (in_runs, many_steps, forms, others, alike, stopped, hidden, lines_said, not_found, words, refused, traces, terminal, installed, documents, example):
         yield look.__name__, lambda look=look: look(program)
 
 

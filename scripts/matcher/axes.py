@@ -87,7 +87,8 @@ def regions_before(launch: Launch, files: Files, items: list[Item]) -> list[str]
 def orders(launch: Launch, files: Files) -> Changes:
     ram, last = [f"ram {number}" for number in range(len(launch.ram))], [f"rec {number}" for number in range(len(launch.rec))]
     rising = [f"ram {number}" for number in sorted(range(len(launch.ram)), key=lambda number: launch.ram[number])]
-    different: dict[tuple[str, ...], str] = {launch.order: ""}
+    by_kind = [f"item {each.name}" for each in sorted(launch.item, key=lambda each: KINDS.index(each.kind))]
+    different: dict[tuple[str, ...], str] = {launch.steps or (*ram, *by_kind, *last): ""}
     named = [(f"items by {text}" if "," not in text else f"items {text}", order) for text, order in item_orders(launch)]
     for text, order in named:
         items = [f"item {each.name}" for each in order]

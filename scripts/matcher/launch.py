@@ -1,7 +1,8 @@
-"""A launch: what its table in the manifest says, what of it is measured, and the text of its table."""
+"""A launch: what its table in the manifest says, and the text of its table. What of it is measured, `rim` says."""
 import functools
+import itertools
 import json
-from collections.abc import Mapping
+from collections.abc import Iterable, Mapping
 from dataclasses import dataclass, fields, replace
 
 from outside.texts import is_hidden
@@ -68,25 +69,11 @@ class Launch:
     def of_kind(self, kind: str) -> Item | None:
         return next((each for each in self.item if each.kind == kind), None)
 
-    @property
-    def order(self) -> tuple[str, ...]:
-        """Its steps: those of its table, or the default ones."""
-        if self.steps is not None:
-            return self.steps
-        return default_steps(len(self.ram), tuple((each.kind, each.name) for each in self.item), len(self.rec))
-
 
 # The keys of a launch that have one value each, and what docs/FORMATS.md says where a table has not the key.
 SCALARS = ("algo", "s2sz", "sve", "sve_vl", "num_bps", "num_wps", "pmu", "pmu_num_ctrs", "rpv", "block_level", "num_aux", "pool_base",
            "pool_count", "rec_rule")
 DEFAULTS = {"sve": False, "sve_vl": 0, "num_bps": 0, "num_wps": 0, "pmu": False, "pmu_num_ctrs": 0, "block_level": 2}
-
-
-@functools.lru_cache(maxsize=4096)
-def default_steps(regions: int, items: tuple[tuple[str, str], ...], recs: int) -> tuple[str, ...]:
-    by_kind = sorted(items, key=lambda each: KINDS.index(each[0]))
-    return (*(f"ram {number}" for number in range(regions)), *(f"item {name}" for _, name in by_kind),
-            *(f"rec {number}" for number in range(recs)))
 
 
 # ---- reading
@@ -145,7 +132,7 @@ def with_ram(launch: Launch, groups: list[list[Region]]) -> Launch:
     return replace(launch, ram=tuple(region for group in groups for region in group), steps=steps)
 
 
-# ---- what is measured
+# ---- where it begins, and how much it is
 
 
 def entry_of(launch: Launch, files: Mapping[str, Blob]) -> int:
@@ -164,47 +151,29 @@ def first_rec(launch: Launch, files: Mapping[str, Blob]) -> Rec:
     return replace(first, pc=entry_of(launch, files) if first.pc is None else first.pc, x=default if first.x is None else first.x)
 
 
-def block_level_of(launch: Launch) -> int:
-    """The level that its blocks have: 0 and 1 are as a higher one where no region has such a block (docs/FORMATS.md)."""
-    level = 2 if launch.block_level is None else launch.block_level
-    for at, size, bits in ((0, 512 * GIB, 44), (1, GIB, 35)):
-        if level == at and (launch.s2sz < bits or not any(-(-base // size) * size + size <= end for base, end in launch.ram)):
-            level += 1
-    return level
-
-
 def blocks_of(launch: Launch) -> int:
-    """About how many blocks of RAM are measured."""
-    size = (512 * GIB, GIB, 2 * MIB, PAGE)[block_level_of(launch)]
+    """About how many blocks of RAM are measured: those at the ends of a region may be many smaller ones."""
+    size = (512 * GIB, GIB, 2 * MIB, PAGE)[2 if launch.block_level is None else launch.block_level]
     return sum((end - base) // size + 1 for base, end in launch.ram)
+
+
+def pages_of(items: Iterable[Item], files: Mapping[str, Blob]) -> int:
+    """About how many pages some items have."""
+    sizes = (files[each.file].length if each.size is None else each.size for each in items if each.file is not None)
+    return sum(size // PAGE + 1 for size in sizes)
 
 
 def steps_of(launch: Launch, files: Mapping[str, Blob]) -> int:
     """About how many steps of it are measured: blocks of RAM, and pages of items."""
-    sizes = (files[each.file].length if each.size is None else each.size for each in launch.item if each.file is not None)
-    return blocks_of(launch) + sum(size // PAGE + 1 for size in sizes)
+    return blocks_of(launch) + pages_of(launch.item, files)
 
 
-def measured_of(launch: Launch, files: Mapping[str, Blob]) -> tuple:
-    """What is measured of a launch. Two launches that agree in it have one measurement, where `rim` takes both."""
-    parts: list = []
-    items = {each.name: each for each in launch.item}
-    for step in launch.order:
-        what, _, which = step.partition(" ")
-        if what == "ram":
-            parts.append(launch.ram[int(which)])
-        elif what == "item":
-            item = items[which]
-            parts.append((item.kind, item.file, item.at, item.size, item.measured is not False, item.bootargs, bool(item.initrd),
-                          bool(item.memory)))
-        elif not (launch.rec[int(which)].is_off and launch.rec_rule == "runnable"):
-            rec = first_rec(launch, files) if which == "0" else launch.rec[int(which)]
-            x = rec.x or ()
-            parts.append((rec.is_off, rec.pc or 0, x + (0,) * (8 - len(x))))
-    # where the granules of the pool are counted, it matters how many RECs there are
-    taken = len(launch.rec) if launch.pool_count is not None else 0
-    return (launch.algo, launch.s2sz, bool(launch.sve), launch.sve_vl or 0, launch.num_bps or 0, launch.num_wps or 0, bool(launch.pmu),
-            launch.pmu_num_ctrs or 0, block_level_of(launch), launch.ram, taken, tuple(parts))
+def steps_after(launch: Launch, other: Launch, files: Mapping[str, Blob]) -> int:
+    """About how many steps of it come after those with which another launch begins too: all, where not the items alone are others."""
+    if replace(other, item=launch.item, rec=launch.rec) != launch:
+        return steps_of(launch, files)
+    shared = sum(1 for _ in itertools.takewhile(lambda pair: pair[0] == pair[1], zip(launch.item, other.item)))
+    return pages_of(launch.item[shared:], files)
 
 
 def is_whole(launch: Launch) -> bool:

@@ -8,7 +8,7 @@ from outside.measurement import Value
 from outside.rim import Rim
 
 from .files import Files
-from .launch import Launch, manifest_head, measured_of, steps_of, table_text
+from .launch import Launch, manifest_head, steps_of, table_text
 
 
 @dataclass
@@ -18,10 +18,13 @@ class Runs(runs.Runs):
     def head_of(self, launches: Sequence[Candidate]) -> str:
         return manifest_head({name for each in launches for name in each.files}, self.files)
 
-    def candidate(self, launch: Launch) -> Candidate:
+    def candidate(self, launch: Launch, table: str = "") -> Candidate:
+        """A launch for a run. Its table, which is made here where it is not given, tells it apart from others: what is measured of a launch,
+        `rim` alone says."""
+        table = table or table_text(launch)
         named = frozenset(each.file for each in launch.item if each.file is not None)
         begins = repr((launch.algo, launch.s2sz, launch.sve, launch.sve_vl, launch.num_bps, launch.num_wps, launch.block_level, launch.ram))
-        return Candidate(measured_of(launch, self.files), table_text(launch), steps_of(launch, self.files), (begins,), named)
+        return Candidate(table, table, steps_of(launch, self.files), (begins,), named)
 
     def has(self, launch: Launch, value: Value) -> bool:
         """Whether a launch has the value, measured by itself."""

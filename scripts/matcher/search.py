@@ -6,7 +6,7 @@ import time
 from collections import deque
 from collections.abc import Iterator
 from concurrent.futures import Future, ThreadPoolExecutor
-from dataclasses import dataclass, field
+from dataclasses import dataclass, field, replace
 
 from finder.progress import Progress
 from finder.runs import MOST_FILES, MOST_LAUNCHES, Outcome
@@ -14,12 +14,13 @@ from outside.measurement import Value
 
 from .axes import AXES, Axis
 from .files import Files
-from .launch import Launch, is_whole, measured_of, steps_of
+from .launch import Launch, is_whole, steps_after, steps_of, table_text
 from .program import Runs
 
 # A launch of more steps than this, and than twice those of the one that is changed, is tried at the end of its round: RAM in blocks of
-# 4 KiB takes as long as hundreds of other changes. The launches of a run have about MOST_STEPS.
-COSTLY_STEPS, MOST_STEPS = 1 << 12, 1 << 23
+# 4 KiB takes as long as hundreds of other changes. The launches of a run have about MOST_STEPS, where those that they share count once. Which
+# launches share their first steps is looked for among those of WINDOW runs.
+COSTLY_STEPS, MOST_STEPS, WINDOW = 1 << 12, 1 << 23, 4
 # A launch of more steps than this is left for the last round where more than one thing is changed: gigabytes of RAM in blocks of 4 KiB.
 VAST_STEPS = 1 << 20
 # How many axes are changed at once, and how many of the changes need not be likely ones; what is said of a round. The first NEAR rounds
@@ -32,10 +33,11 @@ LAST_ROUND = "changes of many steps"
 
 @dataclass(frozen=True)
 class Candidate:
-    """A launch, and the changes that lead to it."""
+    """A launch, the changes that lead to it, and its table, once it is made."""
 
     texts: tuple[str, ...]
     launch: Launch
+    table: str = ""
 
 
 def combined(texts: tuple[str, ...], launch: Launch, files: Files, axes: tuple[Axis, ...], count: int, others: int,
@@ -49,6 +51,23 @@ def combined(texts: tuple[str, ...], launch: Launch, files: Files, axes: tuple[A
                 yield Candidate((*texts, text), changed)
             else:
                 yield from combined((*texts, text), changed, files, axes[at + 1:], count - 1, others - (number >= axis.likely))
+
+
+def in_runs(some: list[Candidate], files: Files, most: int) -> Iterator[list[Candidate]]:
+    """Launches for a run each, at most so many. `rim measure` takes the steps once with which launches of a run begin, and each run reads and
+    hashes the files anew: so a run has those whose tables begin alike. It has them in their order, the likeliest first."""
+    runs, names, steps = list[list[int]](), set[str](), 0
+    for place in sorted(range(len(some)), key=lambda place: some[place].table):
+        launch = some[place].launch
+        more = {item.file for item in launch.item if item.file is not None}
+        if not runs or len(runs[-1]) == most or steps > MOST_STEPS or len(names | more) > MOST_FILES:
+            names, steps = set(), steps_of(launch, files)
+            runs.append([])
+        else:
+            steps += steps_after(launch, some[runs[-1][-1]].launch, files)
+        names |= more
+        runs[-1].append(place)
+    yield from ([some[place] for place in places] for places in sorted(map(sorted, runs)))
 
 
 @dataclass
@@ -87,16 +106,18 @@ class Search:
         self.rounds.append(Round(about))
         return self.rounds[-1]
 
-    def is_new(self, launch: Launch) -> bool:
-        """Whether no launch was tried of which the same is measured."""
+    def new_table(self, launch: Launch) -> str:
+        """The table of a launch; nothing where a launch with that table was tried, or no manifest may have it. Of two launches with other
+        tables the same may be measured: that `rim` says, and takes no step of both in a run twice."""
         if not is_whole(launch):
-            return False
+            return ""
+        table = table_text(launch)
         # a digest takes less room than what it is of, and no two of them are alike; Python's hash of 0 is that of 2 ** 61 - 1
-        key = hashlib.blake2b(repr(measured_of(launch, self.files)).encode(), digest_size=16).digest()
+        key = hashlib.blake2b(table.encode(errors="surrogateescape"), digest_size=16).digest()
         if key in self.seen:
-            return False
+            return ""
         self.seen.add(key)
-        return True
+        return table
 
     def launches(self, base: Launch, count: int, others: int) -> Iterator[Candidate]:
         """The launches of a round. Those of many steps come last, unless all are such. They are left for the last round where three things
@@ -104,7 +125,8 @@ class Search:
         costly, late = max(COSTLY_STEPS, 2 * steps_of(base, self.files)), []
         left = {2: max(costly, VAST_STEPS), 3: costly}.get(count if others else 1)
         for each in self.changed(base, count, others):
-            if self.is_new(each.launch):
+            if table := self.new_table(each.launch):
+                each = replace(each, table=table)
                 steps = steps_of(each.launch, self.files)
                 if left is not None and steps > left:
                     self.late.append(each)
@@ -135,20 +157,13 @@ class Search:
             yield LAST_ROUND, self.left()
 
     def batches(self, launches: Iterator[Candidate], limit: int) -> Iterator[list[Candidate]]:
-        batch: list[Candidate] = []
-        steps, names = 0, set[str]()
-        for each in itertools.islice(launches, limit):
-            more = {item.file for item in each.launch.item if item.file is not None}
-            if batch and (len(batch) == self.most or steps > MOST_STEPS or len(names | more) > MOST_FILES):
+        """Launches for a run each, as long as there is time."""
+        left = itertools.takewhile(lambda _: not self.is_over, itertools.islice(launches, limit))
+        while some := list(itertools.islice(left, self.window)):
+            for batch in in_runs(some, self.files, self.most):
+                if self.is_over:
+                    return
                 yield batch
-                batch, steps, names = [], 0, set()
-            if self.is_over:
-                return
-            batch.append(each)
-            names |= more
-            steps += steps_of(each.launch, self.files)
-        if batch:
-            yield batch
 
     @property
     def is_over(self) -> bool:
@@ -158,6 +173,11 @@ class Search:
     def most(self) -> int:
         """How many launches a run has: few at first, and where time is short, so that it ends in time."""
         return MOST_LAUNCHES if math.isinf(self.until) else min(MOST_LAUNCHES, max(64, self.tried))
+
+    @property
+    def window(self) -> int:
+        """Among how many launches those that begin alike are looked for: the first ones are tried in their order."""
+        return self.most if self.tried < MOST_LAUNCHES else WINDOW * self.most
 
     def taken(self, waiting: tuple[list[Candidate], Future[Outcome]]) -> Candidate | None:
         """What came of a batch, once it is measured."""
@@ -169,7 +189,7 @@ class Search:
         return None if came.hit is None else batch[came.hit]
 
     def measured(self, batch: list[Candidate], pool: ThreadPoolExecutor) -> Future[Outcome]:
-        return pool.submit(self.runs.outcome, [self.runs.candidate(each.launch) for each in batch], self.value)
+        return pool.submit(self.runs.outcome, [self.runs.candidate(each.launch, each.table) for each in batch], self.value)
 
     def round(self, launches: Iterator[Candidate], pool: ThreadPoolExecutor) -> Candidate | None:
         """One round. While a batch is measured, the next one is made."""
@@ -187,13 +207,11 @@ class Search:
         """The first launch that has the value: the one as it is, and then round after round."""
         pool = ThreadPoolExecutor(1)
         try:
-            first = self.begun("")
+            self.begun("")
             hit = None
-            if self.is_new(base):
-                hit = self.taken(([Candidate((), base)], self.measured([Candidate((), base)], pool)))
-                if first.refused:
-                    # another launch of which the same is measured may be one that is not refused
-                    self.seen.clear()
+            if table := self.new_table(base):
+                own = [Candidate((), base, table)]
+                hit = self.taken((own, self.measured(own, pool)))
             for about, launches in self.rounds_of(base):
                 if hit or self.tried >= self.limit or self.is_over:
                     break
