@@ -7,6 +7,7 @@
   measurement. It has to find one change, and the lines that it prints, put into the manifest here, have to give that measurement. The
   same for pairs, and one of three.
 - Lines: each single change of each axis, of several launches, measured as rim-match writes it and as its lines change the manifest.
+- Changes of base launches: of examples, and of an installer as rim-manifest writes them.
 - REC 0's values and the steps that axes write out are the default ones. Launches that begin alike are in one run.
 - What no launch has, forms of the value, wrong words and faults, traces, what a terminal shows, an installed rim-match, its man page.
 
@@ -26,11 +27,13 @@ import subprocess
 import sys
 import time
 import tomllib
+from collections.abc import Callable, Iterator
 from dataclasses import replace
 
-from helpers import SCRIPTS, TOP
+from helpers import MIB, SCRIPTS, TOP
 from helpers.files import image, tree
 from helpers.folders import Folder
+from helpers.guests import LOW, QEMU, STAND_IN, WITH_INITRD, replaced
 from helpers.tries import at_a_time, differs, program_of, told
 
 from finder.progress import Progress
@@ -42,7 +45,6 @@ from matcher.words import LIMIT, TAKES
 from outside.rim import Rim
 
 START = os.path.join(TOP, "rim-match")
-LOW, MIB = 0x4000_0000, 1 << 20
 FILES = {"Image": image(text_offset=0x1000, length=9_000), "initrd": bytes(n * 91 % 253 for n in range(5001)), "stub": bytes(range(1, 41)),
          "tree": tree([(LOW, LOW + 64 * MIB)], "quiet", (LOW, LOW + MIB), length=6000)}
 MANIFEST = """\
@@ -300,6 +302,61 @@ def change(program: str, name: str, changed, count: int, is_far: bool = False) -
     again = base_table(name)
     applied(again, name, [line[2:] for line in rest])
     return wrong + differs("with the lines: " + "; ".join(rest), measured(program, here, again)[name], value)
+
+
+# ---- base launches: those of examples, and of an installer as rim-manifest writes them
+
+
+EXAMPLES = (("vm", "one-vcpu"), ("vm", "two-vcpus"), ("vm", "two-vcpus-sha512"), ("kernel", "vm"))
+SIZES = [(memory, count) for memory in (256, 1024) for count in (1, 4)]
+CHANGED = ((lambda launch: launch.update(num_bps=launch.get("num_bps", 0) + 1), "num_bps "), (lambda launch: launch.update(s2sz=39), "s2sz 39"),
+           (lambda launch: launch.update(block_level=3), "block_level 3"))
+
+
+def of_example(name: str) -> tuple[Folder, dict]:
+    here = Folder({})
+    os.symlink(os.path.join(TOP, "examples"), os.path.join(here.path, "examples"))
+    return here, tomllib.loads(here.read(f"examples/{name}/manifest.toml").decode())
+
+
+def of_installer() -> tuple[Folder, dict]:
+    """Four launches of one kernel, initrd and command line."""
+    trees = {f"trees/{memory}M-{count}-console=ttyAMA0": tree([(LOW, LOW + memory * MIB)], "console=ttyAMA0", WITH_INITRD, count)
+             for memory, count in SIZES}
+    here = Folder(trees)
+    here.put("stand-in", STAND_IN.encode(), is_program=True)
+    status, out, said = here.run(*replaced(QEMU, "-m", "256M,1024M"), "-smp", "1,4", "-initrd", "initrd", "-append", "console=ttyAMA0", "--algo",
+                                 "sha256", "--qemu", "./stand-in")
+    if status:
+        raise ValueError(f"{out}{said}")
+    table = here.toml()
+    for each in table["file"]:
+        each["path"] = f"out/{each['path']}"
+    return here, table
+
+
+def base(program: str, here: Folder, table: dict, name: str) -> list[str]:
+    """What is changed in a base launch is found."""
+    here.put("base.toml", whole(table).encode())
+    wrong = []
+    for changed, text in CHANGED:
+        again = copy.deepcopy(table)
+        changed(launch_of(again, name))
+        value = measured(program, here, again)[name]
+        status, out, said = here.run("base.toml", name, value, start=START, RIM=program)
+        first = f'launch "{name}" has the value by 1 change: {text}'
+        wrong += differs(f"{text}: {out!r}", (status, without_progress(said), out.startswith(first)), (0, "", True))
+    return wrong
+
+
+def bases(program: str) -> Iterator[tuple[str, Callable[[], list[str]]]]:
+    for folder_, name in EXAMPLES:
+        yield f"launch {name} of examples/{folder_}", lambda folder_=folder_, name=name: base(program, *of_example(folder_), name)
+    for number, (memory, count) in enumerate(SIZES):
+        def look(number=number) -> list[str]:
+            here, table = of_installer()
+            return base(program, here, table, table["launch"][number]["name"])
+        yield f"an installer of {memory} MiB and {count} processors", look
 
 
 def lines_of(program: str, axis, name: str) -> list[str]:
@@ -723,6 +780,7 @@ def all_tries(program: str):
             yield f"lines of {axis.name} of {name}", lambda axis=axis, name=name: lines_of(program, axis, name)
     for name in ("plain", "stub", "old"):
         yield f"with what {name} begins", lambda name=name: begins(program, name)
+    yield from bases(program)
     for look in (in_runs, many_steps, forms, others, alike, stopped, hidden, lines_said, not_found, words, refused, traces, terminal, installed, documents, example):
         yield look.__name__, lambda look=look: look(program)
 
