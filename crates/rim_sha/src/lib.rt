@@ -5,20 +5,20 @@
 //! has words take little longer than one.
 #![tactic(auto)]
 
-ghost use Rattle.std.specs.Prelude.{◌≡◌, ◌%◌, ◌++◌, length, map, take, replicate, true};
+ghost use Rattle.std.specs.Prelude.{◌≡◌, ◌%◌, ◌≤◌, ◌++◌, length, map, take, replicate, true};
 ghost use Rattle.std.specs.List.{All};
 ghost use Rattle.sha2.specs.Sha256.{sha256};
 ghost use Rattle.sha2.specs.Sha512.{sha512};
 
 mod constants;
-mod eight;
-mod four;
+mod lanes;
 mod one;
 mod vectors;
 mod wide;
 mod wide_four;
 mod words;
 
+use lanes::messages::{digests, final_hashes, headed_hashes};
 use one::headed::sha256_headed;
 use sha2::{Digest, Sha256};
 use wide::messages::{sha512_headed, sha512_of_two};
@@ -31,7 +31,7 @@ pub fn sha256_four(messages: &[&[u8]; 4], size: usize) -> [[u8; 32]; 4]
     requires whole { size % 64 ≡ 0 }
     ensures { result ≡ map (λ m. sha256 m.now) messages.now }
 {
-    four::messages::digests(&four::messages::final_hashes(messages, size))
+    sha256_side_by_side(messages, size)
 }
 
 /// The SHA-256 digests of eight messages of one size in bytes, which is a whole number of blocks of 64, side by side.
@@ -40,7 +40,7 @@ pub fn sha256_eight(messages: &[&[u8]; 8], size: usize) -> [[u8; 32]; 8]
     requires whole { size % 64 ≡ 0 }
     ensures { result ≡ map (λ m. sha256 m.now) messages.now }
 {
-    eight::messages::digests(&eight::messages::final_hashes(messages, size))
+    sha256_side_by_side(messages, size)
 }
 
 /// The SHA-256 digest of a descriptor (FIPS 180-4, 6.2). It is quicker where the last 128 bytes are zero, and else
@@ -59,19 +59,35 @@ pub fn sha256_descriptor(descriptor: &[u8; 256]) -> [u8; 32]
 pub fn sha256_four_descriptors(descriptors: &[[u8; 256]; 4]) -> [[u8; 32]; 4]
     ensures { result ≡ map sha256 descriptors.now }
 {
-    if have_zero_tails(descriptors) {
-        four::messages::digests(&four::messages::headed_hashes(descriptors))
-    } else {
-        one_by_one(descriptors)
-    }
+    sha256_descriptors_side_by_side(descriptors)
 }
 
 /// The SHA-256 digests of eight descriptors, side by side where the last 128 bytes of each are zero.
 pub fn sha256_eight_descriptors(descriptors: &[[u8; 256]; 8]) -> [[u8; 32]; 8]
     ensures { result ≡ map sha256 descriptors.now }
 {
+    sha256_descriptors_side_by_side(descriptors)
+}
+
+/// The SHA-256 digests of messages of one size in bytes, which is a whole number of blocks of 64, side by side.
+#[inline(always)]
+fn sha256_side_by_side<const N: usize>(messages: &[&[u8]], size: usize) -> [[u8; 32]; N]
+    requires lanes { N ≤ 64 }
+    requires count { length messages.now ≡ N }
+    requires size { All (λ m. length m.now ≡ size) messages.now }
+    requires whole { size % 64 ≡ 0 }
+    ensures { result ≡ map (λ m. sha256 m.now) messages.now }
+{
+    digests(&final_hashes(messages, size))
+}
+
+/// The SHA-256 digests of descriptors, side by side where the last 128 bytes of each are zero.
+#[inline(always)]
+fn sha256_descriptors_side_by_side<const N: usize>(descriptors: &[[u8; 256]; N]) -> [[u8; 32]; N]
+    ensures { result ≡ map sha256 descriptors.now }
+{
     if have_zero_tails(descriptors) {
-        eight::messages::digests(&eight::messages::headed_hashes(descriptors))
+        digests(&headed_hashes(descriptors))
     } else {
         one_by_one(descriptors)
     }

@@ -1,5 +1,0 @@
-//! SHA-256 of four messages side by side, each in a lane of vectors.
-mod known_blocks;
-mod loading;
-pub(crate) mod messages;
-mod rounds;
