@@ -1,10 +1,10 @@
 pub mod Rotations
 pub mod ChMaj
-pub mod KnownBlocks
-pub mod Messages
+pub mod KnownBlocks256
+pub mod Messages256
 pub mod LaneByLane
 pub mod Pairs
 pub mod WideSchedule
-pub mod WideMessages
-pub mod WideKnownBlocks
+pub mod Messages512
+pub mod KnownBlocks512
 pub mod TwoBlocks

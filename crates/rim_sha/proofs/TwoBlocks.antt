@@ -6,7 +6,7 @@ use Rattle.std.proofs.lemmas.List.{get_or-set_same, get_or-set_other, length-set
 use Rattle.std.proofs.lemmas.Simd.{get_or-zip2, length-zip2}
 use Rattle.sha2.specs.Sha256.{IsWindow, add32, round_constants, schedule, small_sigma0, small_sigma1, window_word}
 use Rattle.sha2.proofs.Schedule256.{IsWindow_next, length-schedule, window_word_at}
-use Rattle.rim_sha.specs.Sums.{AreSums}
+use Rattle.rim_sha.specs.Sums.{AreSums256}
 use Rattle.rim_sha.specs.inside.Lanes.{lane_at}
 use Rattle.rim_sha.specs.inside.Pairs.{flat}
 use Rattle.rim_sha.specs.inside.TwoBlocks.{AreSumsBelow, IsScheduledTo}
@@ -61,7 +61,7 @@ sums_more sums b t x y high held ex ey =
     )
 
 -- all sums
-pub sums_all : (sums b : List ℕ) → AreSumsBelow sums b 64 → AreSums sums b
+pub sums_all : (sums b : List ℕ) → AreSumsBelow sums b 64 → AreSums256 sums b
 sums_all sums b held =
     let words : length (schedule b 48) ≡ 64 = length-schedule b 48 in
     let constants : length round_constants ≡ 64 = refl in

@@ -6,7 +6,7 @@ use Rattle.std.proofs.lemmas.List.{get_or-set_same, get_or-set_other, length-set
 use Rattle.std.proofs.lemmas.Simd.{get_or-zip2, length-zip2}
 use Rattle.sha2.specs.Sha512.{IsWindow, add64, round_constants, schedule, small_sigma0, small_sigma1, window_word}
 use Rattle.sha2.proofs.Schedule512.{IsWindow_next, length-schedule, window_word_at}
-use Rattle.rim_sha.specs.Sums.{AreWideSums}
+use Rattle.rim_sha.specs.Sums.{AreSums512}
 use Rattle.rim_sha.specs.inside.Lanes.{lane_at}
 use Rattle.rim_sha.specs.inside.Pairs.{AreSumsBelow, IsScheduledTo, flat}
 use Rattle.rim_sha.proofs.Pairs.{flat_first, flat_second}
@@ -60,7 +60,7 @@ sums_more sums b t x y high held ex ey =
     )
 
 -- all sums
-pub sums_all : (sums b : List ℕ) → AreSumsBelow sums b 80 → AreWideSums sums b
+pub sums_all : (sums b : List ℕ) → AreSumsBelow sums b 80 → AreSums512 sums b
 sums_all sums b held =
     let words : length (schedule b 64) ≡ 80 = length-schedule b 64 in
     let constants : length round_constants ≡ 80 = refl in
@@ -68,7 +68,7 @@ sums_all sums b held =
     same_number_lists sums _ (held.0 ∙ sym long) (λ k lt.
     held.1 k (omega (arith, held.0)) ∙ sym (get_or-zip2 add64 round_constants (schedule b 64) k 0 0 0 (omega (arith, held.0)) (omega (arith, held.0))))
 
-pub sum_at : (sums b : List ℕ) (t : ℕ) → AreWideSums sums b → t < 80
+pub sum_at : (sums b : List ℕ) (t : ℕ) → AreSums512 sums b → t < 80
     → slice_index sums t ≡ add64 (slice_index round_constants t) (slice_index (schedule b 64) t)
 sum_at sums b t e h =
     let long : length (schedule b 64) ≡ 80 = length-schedule b 64 in

@@ -6,9 +6,9 @@ use Rattle.sha2.specs.Sha256.{add32, round_constants, schedule}
 use Rattle.sha2.specs.Sha512 as S512
 
 -- each word of a block's schedule with its round's constant
-abbrev pub AreSums : List ℕ → List ℕ → Type 0
-AreSums sums block = sums ≡ zip2 add32 round_constants (schedule block 48)
+abbrev pub AreSums256 : List ℕ → List ℕ → Type 0
+AreSums256 sums block = sums ≡ zip2 add32 round_constants (schedule block 48)
 
 -- the same of SHA-512
-abbrev pub AreWideSums : List ℕ → List ℕ → Type 0
-AreWideSums sums block = sums ≡ zip2 S512.add64 S512.round_constants (S512.schedule block 64)
+abbrev pub AreSums512 : List ℕ → List ℕ → Type 0
+AreSums512 sums block = sums ≡ zip2 S512.add64 S512.round_constants (S512.schedule block 64)

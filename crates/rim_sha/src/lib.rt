@@ -10,18 +10,14 @@ ghost use Rattle.std.specs.List.{All};
 ghost use Rattle.sha2.specs.Sha256.{sha256};
 ghost use Rattle.sha2.specs.Sha512.{sha512};
 
-mod constants;
-mod lanes;
-mod one;
-mod vectors;
-mod wide;
-mod wide_four;
-mod words;
+mod sha256;
+mod sha512;
+mod side_by_side;
 
-use lanes::messages::{digests, final_hashes, headed_hashes};
-use one::headed::sha256_headed;
 use sha2::{Digest, Sha256};
-use wide::messages::{sha512_headed, sha512_of_two};
+use sha256::lanes::messages::{digests, final_hashes, headed_hashes};
+use sha256::one::headed::sha256_headed;
+use sha512::messages::{sha512_headed, sha512_of_two};
 
 const ZEROS: [u8; 128] = [0; 128];
 
@@ -142,7 +138,7 @@ pub fn sha512_four(messages: &[&[u8]; 4], size: usize) -> [[u8; 64]; 4]
     requires whole { size % 128 ≡ 0 }
     ensures { result ≡ map (λ m. sha512 m.now) messages.now }
 {
-    wide_four::messages::digests(&wide_four::messages::final_hashes(messages, size))
+    sha512::lanes::messages::digests(&sha512::lanes::messages::final_hashes(messages, size))
 }
 
 /// The SHA-512 digests of four descriptors, side by side. They are quickest where the last 128 bytes of each are zero.
@@ -152,8 +148,8 @@ pub fn sha512_four_descriptors(descriptors: &[[u8; 256]; 4]) -> [[u8; 64]; 4]
     let [a, b, c, d] = descriptors;
     let messages = [&a[..], &b[..], &c[..], &d[..]];
     if have_zero_tails(descriptors) {
-        wide_four::messages::digests(&wide_four::messages::headed_hashes(&messages))
+        sha512::lanes::messages::digests(&sha512::lanes::messages::headed_hashes(&messages))
     } else {
-        wide_four::messages::digests(&wide_four::messages::hashes_of_two(&messages))
+        sha512::lanes::messages::digests(&sha512::lanes::messages::hashes_of_two(&messages))
     }
 }

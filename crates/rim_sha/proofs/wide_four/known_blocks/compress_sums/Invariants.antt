@@ -1,8 +1,0 @@
-use Rattle.std.proofs.Common.{◌≡◌, ℕ, List, ◌*◌, ◌<◌}
-use Rattle.sha2.specs.Sha512.{rounds, schedule}
-use Rattle.rim_sha.specs.Sums.{AreWideSums}
-use Rattle.rim_sha.specs.inside.Lanes.{lane}
-use Rattle.rim_sha.proofs.wide_four.known_blocks.compress_sums.Given as goal
-
-abbrev pub invariant-turns : goal.invariant-turns
-invariant-turns l = (j : ℕ) (b : List ℕ) → j < 4 → AreWideSums l.sums b → lane j l.v ≡ rounds (lane j l.state) (schedule b 64) (8 * l.turn)

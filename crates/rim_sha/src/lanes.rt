@@ -1,6 +1,0 @@
-//! SHA-256 of `N` messages side by side, each in a lane of vectors.
-mod arrays;
-mod known_blocks;
-mod loading;
-pub(crate) mod messages;
-mod rounds;

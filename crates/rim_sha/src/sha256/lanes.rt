@@ -1,0 +1,5 @@
+//! SHA-256 of `N` messages side by side, each in a lane of vectors.
+mod known_blocks;
+mod loading;
+pub(crate) mod messages;
+mod rounds;
