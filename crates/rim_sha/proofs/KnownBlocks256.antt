@@ -1,9 +1,10 @@
 -- Rounds over known blocks.
-use Rattle.std.proofs.Common.{◌≡◌, ℕ, ◌+◌, ◌<◌, List, length, replicate, slice_index, refl, arith}
-use Rattle.std.proofs.lemmas.Simd.{get_or-zip2}
+use Rattle.std.proofs.Common.{◌≡◌, ℕ, ◌+◌, ◌<◌, List, replicate, slice_index, refl, arith}
 use Rattle.sha2.specs.Sha256.{add32, big_sigma1, ch, first_words, round, rounds, round_constants, schedule, temp1}
 use Rattle.sha2.proofs.Schedule256.{length-schedule, rounds_next}
 use Rattle.rim_sha.specs.Sums.{AreSums256}
+use Rattle.rim_sha.specs.inside.Pairs.{AreSumsBelow256}
+use Rattle.rim_sha.proofs.Sums
 
 add_sum : (x k w sum : ℕ) → sum ≡ add32 k w → add32 (add32 x sum) 0 ≡ add32 (add32 x k) w
 add_sum x k w sum e = rw e (omega arith)
@@ -16,10 +17,10 @@ round_known v k w sum e =
     rw same refl
 
 pub sum_at : (sums b : List ℕ) (t : ℕ) → AreSums256 sums b → t < 64 → slice_index sums t ≡ add32 (slice_index round_constants t) (slice_index (schedule b 48) t)
-sum_at sums b t e h =
-    let long : length (schedule b 48) ≡ 64 = length-schedule b 48 in
-    let all : length round_constants ≡ 64 = refl in
-    rw e (get_or-zip2 add32 round_constants (schedule b 48) t 0 0 0 (omega arith) (omega arith))
+sum_at sums b = Sums.sum_at 64 add32 round_constants (schedule b 48) refl (length-schedule b 48) sums
+
+pub sums_all : (sums b : List ℕ) → AreSumsBelow256 sums b 64 → AreSums256 sums b
+sums_all sums b = Sums.sums_all 64 add32 round_constants (schedule b 48) refl (length-schedule b 48) sums
 
 -- one round more over a known block
 pub rounds_known : (b h v next : List ℕ) (t : ℕ) → v ≡ rounds h (schedule b 48) t

@@ -2,9 +2,11 @@ pub mod Rotations
 pub mod ChMaj
 pub mod KnownBlocks256
 pub mod Messages256
+pub mod Descriptors256
 pub mod LaneByLane
 pub mod Pairs
-pub mod WideSchedule
 pub mod Messages512
+pub mod Descriptors512
 pub mod KnownBlocks512
-pub mod TwoBlocks
+pub mod Sums
+pub mod TwoWords

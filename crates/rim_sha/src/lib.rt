@@ -5,7 +5,7 @@
 //! has words take little longer than one.
 #![tactic(auto)]
 
-ghost use Rattle.std.specs.Prelude.{◌≡◌, ◌%◌, ◌≤◌, ◌++◌, length, map, take, replicate, true};
+ghost use Rattle.std.specs.Prelude.{◌≡◌, ◌%◌, ◌++◌, length, map, take, replicate, true};
 ghost use Rattle.std.specs.List.{All};
 ghost use Rattle.sha2.specs.Sha256.{sha256};
 ghost use Rattle.sha2.specs.Sha512.{sha512};
@@ -15,7 +15,6 @@ mod sha512;
 mod side_by_side;
 
 use sha2::{Digest, Sha256};
-use sha256::lanes::messages::{digests, final_hashes, headed_hashes};
 use sha256::one::headed::sha256_headed;
 use sha512::messages::{sha512_headed, sha512_of_two};
 
@@ -27,7 +26,7 @@ pub fn sha256_four(messages: &[&[u8]; 4], size: usize) -> [[u8; 32]; 4]
     requires whole { size % 64 ≡ 0 }
     ensures { result ≡ map (λ m. sha256 m.now) messages.now }
 {
-    sha256_side_by_side(messages, size)
+    sha256::lanes::messages::digests_of(messages, size)
 }
 
 /// The SHA-256 digests of eight messages of one size in bytes, which is a whole number of blocks of 64, side by side.
@@ -36,7 +35,7 @@ pub fn sha256_eight(messages: &[&[u8]; 8], size: usize) -> [[u8; 32]; 8]
     requires whole { size % 64 ≡ 0 }
     ensures { result ≡ map (λ m. sha256 m.now) messages.now }
 {
-    sha256_side_by_side(messages, size)
+    sha256::lanes::messages::digests_of(messages, size)
 }
 
 /// The SHA-256 digest of a descriptor (FIPS 180-4, 6.2). It is quicker where the last 128 bytes are zero, and else
@@ -65,25 +64,13 @@ pub fn sha256_eight_descriptors(descriptors: &[[u8; 256]; 8]) -> [[u8; 32]; 8]
     sha256_descriptors_side_by_side(descriptors)
 }
 
-/// The SHA-256 digests of messages of one size in bytes, which is a whole number of blocks of 64, side by side.
-#[inline(always)]
-fn sha256_side_by_side<const N: usize>(messages: &[&[u8]], size: usize) -> [[u8; 32]; N]
-    requires lanes { N ≤ 64 }
-    requires count { length messages.now ≡ N }
-    requires size { All (λ m. length m.now ≡ size) messages.now }
-    requires whole { size % 64 ≡ 0 }
-    ensures { result ≡ map (λ m. sha256 m.now) messages.now }
-{
-    digests(&final_hashes(messages, size))
-}
-
 /// The SHA-256 digests of descriptors, side by side where the last 128 bytes of each are zero.
 #[inline(always)]
 fn sha256_descriptors_side_by_side<const N: usize>(descriptors: &[[u8; 256]; N]) -> [[u8; 32]; N]
     ensures { result ≡ map sha256 descriptors.now }
 {
     if have_zero_tails(descriptors) {
-        digests(&headed_hashes(descriptors))
+        sha256::lanes::messages::digests(&sha256::lanes::descriptors::headed_hashes(descriptors))
     } else {
         one_by_one(descriptors)
     }
@@ -138,18 +125,18 @@ pub fn sha512_four(messages: &[&[u8]; 4], size: usize) -> [[u8; 64]; 4]
     requires whole { size % 128 ≡ 0 }
     ensures { result ≡ map (λ m. sha512 m.now) messages.now }
 {
-    sha512::lanes::messages::digests(&sha512::lanes::messages::final_hashes(messages, size))
+    sha512::lanes::messages::digests_of(messages, size)
 }
 
 /// The SHA-512 digests of four descriptors, side by side. They are quickest where the last 128 bytes of each are zero.
 pub fn sha512_four_descriptors(descriptors: &[[u8; 256]; 4]) -> [[u8; 64]; 4]
     ensures { result ≡ map sha512 descriptors.now }
 {
-    let [a, b, c, d] = descriptors;
-    let messages = [&a[..], &b[..], &c[..], &d[..]];
     if have_zero_tails(descriptors) {
-        sha512::lanes::messages::digests(&sha512::lanes::messages::headed_hashes(&messages))
+        sha512::lanes::messages::digests(&sha512::lanes::descriptors::headed_hashes(descriptors))
     } else {
-        sha512::lanes::messages::digests(&sha512::lanes::messages::hashes_of_two(&messages))
+        let [a, b, c, d] = descriptors;
+        let messages = [&a[..], &b[..], &c[..], &d[..]];
+        sha512::lanes::messages::digests(&sha512::lanes::descriptors::hashes_of_two(&messages))
     }
 }

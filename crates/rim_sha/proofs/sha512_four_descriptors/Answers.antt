@@ -1,4 +1,4 @@
-use Rattle.std.proofs.Common.{◌≡◌, ℕ, List, [], ◌++◌, slice_index_or, take, replicate, ap, sym, subst, ◌∙◌, arith}
+use Rattle.std.proofs.Common.{ℕ, List, [], slice_index_or, ap, ◌∙◌, arith}
 use Rattle.sha2.specs.Sha512.{digest_bytes, sha512}
 use Rattle.rim_sha.proofs.LaneByLane.{four_places, is_map}
 use Rattle.rim_sha.proofs.sha512_four_descriptors.Goals as goal
@@ -6,10 +6,9 @@ use Rattle.rim_sha.proofs.sha512_four_descriptors.Goals as goal
 pub returns-then-have_zero_tails : goal.returns-then-have_zero_tails
 unfolding sha512
 returns-then-have_zero_tails c =
-    is_map [] sha512 c.args.descriptors.now c.digests.result (omega arith) (λ k lt.
-    let same = ap (λ (ds : List (List ℕ)). slice_index_or ds k []) (four_places [] c.args.descriptors.now c.told-descriptors) in
-    let headed = subst (λ (d : List ℕ). d ≡ take 128 d ++ replicate 128 0) (sym same) (c.have_zero_tails.ensures c.if-have_zero_tails.true k [] lt) in
-    c.digests.ensures k (omega arith) ∙ ap (λ (h : List ℕ). digest_bytes h 8) (c.headed_hashes.ensures k (omega arith) headed) ∙ ap sha512 same)
+    is_map [] sha512 c.args.descriptors.now c.digests.result (omega arith)
+    (λ k lt. c.digests.ensures k (omega arith)
+    ∙ ap (λ (h : List ℕ). digest_bytes h 8) (c.headed_hashes.ensures k (omega arith) (c.have_zero_tails.ensures c.if-have_zero_tails.true k [] lt)))
 
 pub returns-else-have_zero_tails : goal.returns-else-have_zero_tails
 unfolding sha512

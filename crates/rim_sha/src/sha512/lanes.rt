@@ -1,5 +1,9 @@
-//! SHA-512 of four messages side by side, each in a lane of vectors.
+//! SHA-512 of `N` messages side by side, each in a lane of vectors. Rust has no vector of more lanes than clauses let `N` be;
+//! by this bound arrays of vectors are smaller than memory.
+//! tools/checks/widths.py makes this text from that for SHA-256.
+pub(crate) mod descriptors;
 mod known_blocks;
 mod loading;
 pub(crate) mod messages;
+mod padding;
 mod rounds;

@@ -3,7 +3,7 @@
 ghost use Rattle.std.specs.Prelude.{◌≡◌, ℕ, List, ◌+◌, ◌*◌, ◌<◌, ◌≤◌, length, slice_index, slice_set};
 ghost use Rattle.sha2.specs.Sha512.{IsWindow, schedule, window_word};
 ghost use Rattle.rim_sha.specs.Sums.{AreSums512};
-ghost use Rattle.rim_sha.specs.inside.Pairs.{AreSumsBelow, IsScheduledTo, flat};
+ghost use Rattle.rim_sha.specs.inside.Pairs.{AreSumsBelow512, IsScheduledTo512, flat};
 
 use crate::sha512::constants::ROUND_CONSTANTS;
 use crate::sha512::pairs::{between, pair_at};
@@ -46,7 +46,7 @@ fn load(block: &[u8]) -> [u64x2; 8]
 #[inline(always)]
 fn first_sums(sums: &mut [u64; 80], w: &[u64x2; 8])
     ensures { (b : List ℕ) → IsWindow (flat 0 1 w.now) (schedule b 64) 16
-        → AreSumsBelow sums.new b 16 }
+        → AreSumsBelow512 sums.new b 16 }
 {
     'pairs: for i in 0..8 {
         put_sums(sums, 2 * i, w[i]);
@@ -59,8 +59,8 @@ fn four_steps(w: &mut [u64x2; 8], sums: &mut [u64; 80], turn: usize, place: usiz
     requires low { 1 ≤ turn }
     requires high { turn < 5 }
     requires place { place + 4 ≤ 8 }
-    ensures { (b : List ℕ) → IsScheduledTo b w.old sums.old (16 * turn + 2 * place)
-        → IsScheduledTo b w.new sums.new (16 * turn + 2 * (place + 4)) }
+    ensures { (b : List ℕ) → IsScheduledTo512 b w.old sums.old (16 * turn + 2 * place)
+        → IsScheduledTo512 b w.new sums.new (16 * turn + 2 * (place + 4)) }
 {
     step(w, sums, turn, place);
     step(w, sums, turn, place + 1);
@@ -74,8 +74,8 @@ fn step(w: &mut [u64x2; 8], sums: &mut [u64; 80], turn: usize, place: usize)
     requires low { 1 ≤ turn }
     requires high { turn < 5 }
     requires place { place < 8 }
-    ensures { (b : List ℕ) → IsScheduledTo b w.old sums.old (16 * turn + 2 * place)
-        → IsScheduledTo b w.new sums.new (16 * turn + 2 * (place + 1)) }
+    ensures { (b : List ℕ) → IsScheduledTo512 b w.old sums.old (16 * turn + 2 * place)
+        → IsScheduledTo512 b w.new sums.new (16 * turn + 2 * (place + 1)) }
 {
     let pair = next_pair(w, place);
     put_sums(sums, 16 * turn + 2 * place, pair);
@@ -103,10 +103,10 @@ fn next_pair(w: &mut [u64x2; 8], place: usize) -> u64x2
 #[inline(always)]
 fn put_sums(sums: &mut [u64; 80], t: usize, pair: u64x2)
     requires { t + 2 ≤ 80 }
-    ensures { (b : List ℕ) → AreSumsBelow sums.old b t
+    ensures { (b : List ℕ) → AreSumsBelow512 sums.old b t
         → slice_index pair 0 ≡ slice_index (schedule b 64) t
         → slice_index pair 1 ≡ slice_index (schedule b 64) (t + 1)
-        → AreSumsBelow sums.new b (t + 2) }
+        → AreSumsBelow512 sums.new b (t + 2) }
 {
     let constants = u64x2::from_array([ROUND_CONSTANTS[t], ROUND_CONSTANTS[t + 1]]);
     let [first, second] = add(constants, pair).to_array();

@@ -1,5 +1,6 @@
-//! Vectors of words of 64 bits, lane by lane: what the schedule and the rounds (FIPS 180-4, 6.4.2) make of them, and the
+//! Vectors of words, lane by lane: what the schedule and the rounds (FIPS 180-4, 6.4.2) make of them, and the
 //! functions of 4.1.3.
+//! tools/checks/widths.py makes this text from that for SHA-256.
 ghost use Rattle.std.specs.Prelude.{◌+◌, ◌<◌, slice_index};
 ghost use Rattle.std.specs.Int.{w64, rotate_right};
 ghost use Rattle.sha2.specs.Sha512.{add64, big_sigma0, big_sigma1, ch, maj, small_sigma0, small_sigma1};
@@ -8,7 +9,7 @@ ghost use Rattle.rim_sha.specs.inside.Lanes.{IsLanes};
 use crate::sha512::sigmas::{big_sigma0, big_sigma1, small_sigma0, small_sigma1};
 use std::simd::Simd;
 
-/// Words of as many messages, or of one that follow one another.
+/// A word of each of some messages.
 pub(crate) type Words<const N: usize> = Simd<u64, N>;
 
 /// The next word of the schedule, from the words 2, 7, 15 and 16 before it.

@@ -13,7 +13,8 @@ pub(crate) fn load<const N: usize>(messages: &[&[u8]], at: usize) -> [Words<N>; 
     requires count { length messages.now ≡ N }
     requires room { (j : ℕ) → j < N → at + 64 ≤ length (message messages.now j) }
     ensures { (j : ℕ) → j < N
-        → IsWindow (window j result) (schedule (take 64 (drop at (message messages.now j))) 48) 16 }
+        → IsWindow (window j result)
+        (schedule (take 64 (drop at (message messages.now j))) 48) 16 }
 {
     let mut w = repeated(Words::splat(0));
     'words: for i in 0..16 {
@@ -28,7 +29,8 @@ fn words_of<const N: usize>(messages: &[&[u8]], at: usize, i: usize) -> Words<N>
     requires count { length messages.now ≡ N }
     requires room { (j : ℕ) → j < N → at + 64 ≤ length (message messages.now j) }
     requires word { i < 16 }
-    ensures { IsLanes N result (λ j. word_at (take 64 (drop at (message messages.now j))) (4 * i)) }
+    ensures { IsLanes N result
+        (λ j. word_at (take 64 (drop at (message messages.now j))) (4 * i)) }
 {
     let mut words = [0; N];
     'lanes: for j in 0..N {
@@ -39,21 +41,28 @@ fn words_of<const N: usize>(messages: &[&[u8]], at: usize, i: usize) -> Words<N>
 
 /// The words of the blocks that begin at a byte of the descriptors.
 #[inline(always)]
-pub(crate) fn load_heads<const N: usize>(descriptors: &[[u8; 256]; N], at: usize) -> [Words<N>; 16]
+pub(crate) fn load_descriptors<const N: usize>(
+    descriptors: &[[u8; 256]; N],
+    at: usize,
+) -> [Words<N>; 16]
     requires { at + 64 ≤ 256 }
     ensures { (j : ℕ) → j < N → IsWindow (window j result)
         (schedule (take 64 (drop at (slice_index_or descriptors.now j []))) 48) 16 }
 {
     let mut w = repeated(Words::splat(0));
     'words: for i in 0..16 {
-        w[i] = words_of_heads(descriptors, at, i);
+        w[i] = words_of_descriptors(descriptors, at, i);
     }
     w
 }
 
 /// Word i of each of these blocks.
 #[inline(always)]
-fn words_of_heads<const N: usize>(descriptors: &[[u8; 256]; N], at: usize, i: usize) -> Words<N>
+fn words_of_descriptors<const N: usize>(
+    descriptors: &[[u8; 256]; N],
+    at: usize,
+    i: usize,
+) -> Words<N>
     requires room { at + 64 ≤ 256 }
     requires word { i < 16 }
     ensures { IsLanes N result

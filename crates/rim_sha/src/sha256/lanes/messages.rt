@@ -1,20 +1,33 @@
 //! Messages, block by block.
-ghost use Rattle.std.specs.Prelude.{◌≡◌, ℕ, ◌+◌, ◌%◌, ◌<◌, ◌≤◌, ◌++◌, length, take, replicate, slice_index_or, []};
-ghost use Rattle.sha2.specs.Sha256.{digest_bytes, final_hash, initial_hash_256, padding};
+ghost use Rattle.std.specs.Prelude.{◌≡◌, ℕ, ◌+◌, ◌%◌, ◌<◌, ◌≤◌, length, map, slice_index_or, []};
+ghost use Rattle.std.specs.List.{All};
+ghost use Rattle.sha2.specs.Sha256.{digest_bytes, final_hash, initial_hash_256, sha256};
 ghost use Rattle.rim_sha.specs.inside.Lanes.{IsLanes, lane, message};
 
-use crate::sha256::constants::{INITIAL, PADDING_SUMS, ZEROS_SUMS};
-use crate::sha256::lanes::known_blocks::compress_sums;
-use crate::sha256::lanes::loading::{load, load_heads, load_same};
+use crate::sha256::constants::INITIAL;
+use crate::sha256::lanes::loading::{load, load_same};
+use crate::sha256::lanes::padding::padding;
 use crate::sha256::lanes::rounds::compress;
 use crate::sha256::vectors::Words;
 use crate::sha256::words::digest;
 use crate::side_by_side::eight;
 
-const BLOCK_SIZE: usize = 64;
+pub(crate) const BLOCK_SIZE: usize = 64;
+
+/// The SHA-256 digest of each message. The messages are of one size in bytes, which is a whole number of blocks.
+#[inline(always)]
+pub(crate) fn digests_of<const N: usize>(messages: &[&[u8]], size: usize) -> [[u8; 32]; N]
+    requires lanes { N ≤ 64 }
+    requires count { length messages.now ≡ N }
+    requires size { All (λ m. length m.now ≡ size) messages.now }
+    requires whole { size % 64 ≡ 0 }
+    ensures { result ≡ map (λ m. sha256 m.now) messages.now }
+{
+    digests(&final_hashes(messages, size))
+}
 
 /// The hash value of each message, after its padding. The messages are of one size in bytes.
-pub(crate) fn final_hashes<const N: usize>(messages: &[&[u8]], size: usize) -> [Words<N>; 8]
+fn final_hashes<const N: usize>(messages: &[&[u8]], size: usize) -> [Words<N>; 8]
     requires lanes { N ≤ 64 }
     requires count { length messages.now ≡ N }
     requires size { (j : ℕ) → j < N → length (message messages.now j) ≡ size }
@@ -31,23 +44,6 @@ pub(crate) fn final_hashes<const N: usize>(messages: &[&[u8]], size: usize) -> [
     state
 }
 
-/// The hash value of each descriptor whose last 128 bytes are zero. Two blocks are given, two are zero, and the last is the
-/// padding of 256 bytes (FIPS 180-4, 5.1.1).
-pub(crate) fn headed_hashes<const N: usize>(descriptors: &[[u8; 256]; N]) -> [Words<N>; 8]
-    ensures { (j : ℕ) → j < N
-        → (slice_index_or descriptors.now j []
-        ≡ take 128 (slice_index_or descriptors.now j []) ++ replicate 128 0)
-        → lane j result ≡ final_hash initial_hash_256 (slice_index_or descriptors.now j []) }
-{
-    let mut state = initial();
-    compress(&mut state, &load_heads(descriptors, 0));
-    compress(&mut state, &load_heads(descriptors, BLOCK_SIZE));
-    compress_sums(&mut state, &ZEROS_SUMS);
-    compress_sums(&mut state, &ZEROS_SUMS);
-    compress_sums(&mut state, &PADDING_SUMS);
-    state
-}
-
 /// A word in each lane.
 fn same<const N: usize>(word: u32) -> Words<N>
     ensures { IsLanes N result (λ _. word) }
@@ -56,7 +52,7 @@ fn same<const N: usize>(word: u32) -> Words<N>
 }
 
 /// The initial hash value in each lane (FIPS 180-4, 5.3.3).
-fn initial<const N: usize>() -> [Words<N>; 8]
+pub(crate) fn initial<const N: usize>() -> [Words<N>; 8]
     ensures { (j : ℕ) → j < N → lane j result ≡ initial_hash_256 }
 {
     eight(
@@ -69,20 +65,6 @@ fn initial<const N: usize>() -> [Words<N>; 8]
         same(INITIAL[6]),
         same(INITIAL[7]),
     )
-}
-
-/// The padding of a message of whole blocks: a bit 1, zeros, and the length in bits (5.1.1).
-fn padding(len: usize) -> [u8; BLOCK_SIZE]
-    requires { len % 64 ≡ 0 }
-    ensures { result ≡ padding len }
-{
-    let bits = (len as u64).wrapping_mul(8).to_be_bytes();
-    let [b0, b1, b2, b3, b4, b5, b6, b7] = bits;
-    [
-        0x80, 0, 0, 0, 0, 0, 0, 0, 0, 0, 0, 0, 0, 0, 0, 0, 0, 0, 0, 0, 0, 0, 0, 0, 0, 0, 0, 0, 0,
-        0, 0, 0, 0, 0, 0, 0, 0, 0, 0, 0, 0, 0, 0, 0, 0, 0, 0, 0, 0, 0, 0, 0, 0, 0, 0, 0, b0, b1,
-        b2, b3, b4, b5, b6, b7,
-    ]
 }
 
 /// The bytes of each lane's hash value.

@@ -3,8 +3,7 @@
 ghost use Rattle.std.specs.Prelude.{◌≡◌, ℕ, List, ◌+◌, ◌*◌, ◌<◌, ◌≤◌, [], ◌∷◌, length, slice_index, slice_set};
 ghost use Rattle.sha2.specs.Sha256.{IsWindow, schedule, window_word, word_at};
 ghost use Rattle.rim_sha.specs.Sums.{AreSums256};
-ghost use Rattle.rim_sha.specs.inside.Pairs.{flat};
-ghost use Rattle.rim_sha.specs.inside.TwoBlocks.{AreSumsBelow, IsScheduledTo};
+ghost use Rattle.rim_sha.specs.inside.Pairs.{AreSumsBelow256, IsScheduledTo256, flat};
 
 use crate::sha256::constants::ROUND_CONSTANTS;
 use crate::sha256::vectors::{add, next};
@@ -63,9 +62,9 @@ fn pairs_at(a: &[u8], b: &[u8], at: usize) -> u32x4
 #[inline(always)]
 fn first_sums(s: &mut [u32; 64], u: &mut [u32; 64], w: &[u32x4; 8])
     ensures first { (b : List ℕ) → IsWindow (flat 0 1 w.now) (schedule b 48) 16
-        → AreSumsBelow s.new b 16 }
+        → AreSumsBelow256 s.new b 16 }
     ensures second { (b : List ℕ) → IsWindow (flat 2 3 w.now) (schedule b 48) 16
-        → AreSumsBelow u.new b 16 }
+        → AreSumsBelow256 u.new b 16 }
 {
     'pairs: for i in 0..8 {
         put_sums(s, u, 2 * i, w[i]);
@@ -78,10 +77,10 @@ fn four_steps(w: &mut [u32x4; 8], s: &mut [u32; 64], u: &mut [u32; 64], turn: us
     requires low { 1 ≤ turn }
     requires high { turn < 4 }
     requires place { place + 4 ≤ 8 }
-    ensures first { (b : List ℕ) → IsScheduledTo 0 1 b w.old s.old (16 * turn + 2 * place)
-        → IsScheduledTo 0 1 b w.new s.new (16 * turn + 2 * (place + 4)) }
-    ensures second { (b : List ℕ) → IsScheduledTo 2 3 b w.old u.old (16 * turn + 2 * place)
-        → IsScheduledTo 2 3 b w.new u.new (16 * turn + 2 * (place + 4)) }
+    ensures first { (b : List ℕ) → IsScheduledTo256 0 1 b w.old s.old (16 * turn + 2 * place)
+        → IsScheduledTo256 0 1 b w.new s.new (16 * turn + 2 * (place + 4)) }
+    ensures second { (b : List ℕ) → IsScheduledTo256 2 3 b w.old u.old (16 * turn + 2 * place)
+        → IsScheduledTo256 2 3 b w.new u.new (16 * turn + 2 * (place + 4)) }
 {
     step(w, s, u, turn, place);
     step(w, s, u, turn, place + 1);
@@ -95,10 +94,10 @@ fn step(w: &mut [u32x4; 8], s: &mut [u32; 64], u: &mut [u32; 64], turn: usize, p
     requires low { 1 ≤ turn }
     requires high { turn < 4 }
     requires place { place < 8 }
-    ensures first { (b : List ℕ) → IsScheduledTo 0 1 b w.old s.old (16 * turn + 2 * place)
-        → IsScheduledTo 0 1 b w.new s.new (16 * turn + 2 * (place + 1)) }
-    ensures second { (b : List ℕ) → IsScheduledTo 2 3 b w.old u.old (16 * turn + 2 * place)
-        → IsScheduledTo 2 3 b w.new u.new (16 * turn + 2 * (place + 1)) }
+    ensures first { (b : List ℕ) → IsScheduledTo256 0 1 b w.old s.old (16 * turn + 2 * place)
+        → IsScheduledTo256 0 1 b w.new s.new (16 * turn + 2 * (place + 1)) }
+    ensures second { (b : List ℕ) → IsScheduledTo256 2 3 b w.old u.old (16 * turn + 2 * place)
+        → IsScheduledTo256 2 3 b w.new u.new (16 * turn + 2 * (place + 1)) }
 {
     let pairs = next_pairs(w, place);
     put_sums(s, u, 16 * turn + 2 * place, pairs);
@@ -138,14 +137,14 @@ fn between(x: u32x4, y: u32x4) -> u32x4
 #[inline(always)]
 fn put_sums(s: &mut [u32; 64], u: &mut [u32; 64], t: usize, pairs: u32x4)
     requires { t + 2 ≤ 64 }
-    ensures first { (b : List ℕ) → AreSumsBelow s.old b t
+    ensures first { (b : List ℕ) → AreSumsBelow256 s.old b t
         → slice_index pairs 0 ≡ slice_index (schedule b 48) t
         → slice_index pairs 1 ≡ slice_index (schedule b 48) (t + 1)
-        → AreSumsBelow s.new b (t + 2) }
-    ensures second { (b : List ℕ) → AreSumsBelow u.old b t
+        → AreSumsBelow256 s.new b (t + 2) }
+    ensures second { (b : List ℕ) → AreSumsBelow256 u.old b t
         → slice_index pairs 2 ≡ slice_index (schedule b 48) t
         → slice_index pairs 3 ≡ slice_index (schedule b 48) (t + 1)
-        → AreSumsBelow u.new b (t + 2) }
+        → AreSumsBelow256 u.new b (t + 2) }
 {
     let k = ROUND_CONSTANTS[t];
     let l = ROUND_CONSTANTS[t + 1];

@@ -1,16 +1,17 @@
 //! A block that is known beforehand, in each lane. No schedule is computed for it: a table has each word with its
 //! round's constant.
+//! tools/checks/widths.py makes this text from that for SHA-256.
 ghost use Rattle.std.specs.Prelude.{◌≡◌, ℕ, List, ◌+◌, ◌<◌, ◌≤◌};
 ghost use Rattle.sha2.specs.Sha512.{compress, rounds, schedule};
 ghost use Rattle.rim_sha.specs.Sums.{AreSums512};
 ghost use Rattle.rim_sha.specs.inside.Lanes.{lane};
 
 use crate::sha512::lanes::rounds::{added, round};
-use std::simd::u64x4;
+use crate::sha512::vectors::Words;
 
 /// Adds a known block to each hash value (FIPS 180-4, 6.4.2).
-pub(crate) fn compress_sums(state: &mut [u64x4; 8], sums: &[u64; 80])
-    ensures { (j : ℕ) (b : List ℕ) → j < 4 → AreSums512 sums.now b
+pub(crate) fn compress_sums<const N: usize>(state: &mut [Words<N>; 8], sums: &[u64; 80])
+    ensures { (j : ℕ) (b : List ℕ) → j < N → AreSums512 sums.now b
         → lane j state.new ≡ compress (lane j state.old) b }
 {
     let mut v = *state;
@@ -24,10 +25,10 @@ pub(crate) fn compress_sums(state: &mut [u64x4; 8], sums: &[u64; 80])
 
 /// Round t and the three after it.
 #[inline(always)]
-fn four_steps(sums: &[u64; 80], v: [u64x4; 8], t: usize) -> [u64x4; 8]
+fn four_steps<const N: usize>(sums: &[u64; 80], v: [Words<N>; 8], t: usize) -> [Words<N>; 8]
     requires { t + 4 ≤ 80 }
-    ensures { (j : ℕ) (b h : List ℕ) → j < 4 → AreSums512 sums.now b
-        → lane j v ≡ rounds h (schedule b 64) t
+    ensures { (j : ℕ) (b h : List ℕ) → j < N → AreSums512 sums.now b
+        → lane j v.entry ≡ rounds h (schedule b 64) t
         → lane j result ≡ rounds h (schedule b 64) (t + 4) }
 {
     let v = step(sums, v, t);
@@ -38,11 +39,11 @@ fn four_steps(sums: &[u64; 80], v: [u64x4; 8], t: usize) -> [u64x4; 8]
 
 /// Round t.
 #[inline(always)]
-fn step(sums: &[u64; 80], v: [u64x4; 8], t: usize) -> [u64x4; 8]
+fn step<const N: usize>(sums: &[u64; 80], v: [Words<N>; 8], t: usize) -> [Words<N>; 8]
     requires { t < 80 }
-    ensures { (j : ℕ) (b h : List ℕ) → j < 4 → AreSums512 sums.now b
-        → lane j v ≡ rounds h (schedule b 64) t
+    ensures { (j : ℕ) (b h : List ℕ) → j < N → AreSums512 sums.now b
+        → lane j v.entry ≡ rounds h (schedule b 64) t
         → lane j result ≡ rounds h (schedule b 64) (t + 1) }
 {
-    round(v, sums[t], u64x4::splat(0))
+    round(v, sums[t], Words::splat(0))
 }

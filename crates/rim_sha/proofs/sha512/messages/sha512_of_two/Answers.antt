@@ -1,6 +1,6 @@
 use Rattle.std.proofs.Common.{ℕ, List, refl, ap, ◌∙◌}
 use Rattle.sha2.specs.Sha512.{compress, digest_bytes, first_words, initial_hash_512, padding, schedule, sha512}
-use Rattle.rim_sha.proofs.Messages512.{hash_of_two}
+use Rattle.rim_sha.proofs.Descriptors512.{hash_of_two}
 use Rattle.rim_sha.proofs.sha512.messages.sha512_of_two.Goals as goal
 
 pub returns : goal.returns

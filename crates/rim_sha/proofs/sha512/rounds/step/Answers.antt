@@ -1,6 +1,6 @@
 use Rattle.std.proofs.Common.{slice_index}
 use Rattle.sha2.specs.Sha512.{round_constants, schedule}
-use Rattle.rim_sha.proofs.WideSchedule.{sum_at}
+use Rattle.rim_sha.proofs.KnownBlocks512.{sum_at}
 use Rattle.sha2.proofs.Schedule512.{rounds_next}
 use Rattle.rim_sha.proofs.sha512.rounds.step.Goals as goal
 

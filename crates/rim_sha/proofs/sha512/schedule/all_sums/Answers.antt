@@ -1,5 +1,6 @@
 use Rattle.std.proofs.Common.{◌≡◌, ◌*◌, arith}
-use Rattle.rim_sha.proofs.WideSchedule.{IsScheduledTo_at, sums_all}
+use Rattle.rim_sha.proofs.KnownBlocks512.{sums_all}
+use Rattle.rim_sha.proofs.Pairs.{at_place512}
 use Rattle.rim_sha.proofs.sha512.schedule.all_sums.Goals as goal
 
 pub schedule-init : goal.schedule-init
@@ -8,9 +9,9 @@ schedule-init c = (c.load-w.ensures, c.first_sums.ensures c.args.block.now c.loa
 pub schedule-preserved : goal.schedule-preserved
 schedule-preserved c =
     let b = c.args.block.now in
-    let s1 = c.four_steps.ensures b (IsScheduledTo_at b _ _ _ _ (omega arith) c.schedule.invariant) in
+    let s1 = c.four_steps.ensures b (at_place512 b _ _ _ _ (omega arith) c.schedule.invariant) in
     let s2 = c.four_steps-in-schedule.ensures b s1 in
-    IsScheduledTo_at b _ _ _ _ (omega arith) s2
+    at_place512 b _ _ _ _ (omega arith) s2
 
 pub returns : goal.returns
 returns c =

@@ -1,7 +1,7 @@
 use Rattle.std.proofs.Common.{◌≡◌, ◌+◌, ◌*◌, ◌∙◌, sym, arith}
 use Rattle.rim_sha.specs.inside.Pairs.{flat}
 use Rattle.rim_sha.proofs.Pairs.{flat_first, flat_second}
-use Rattle.rim_sha.proofs.WideSchedule.{window_start}
+use Rattle.rim_sha.proofs.TwoWords.{window_start}
 use Rattle.rim_sha.proofs.sha512.schedule.first_sums.Goals as goal
 
 pub pairs-init : goal.pairs-init
@@ -11,8 +11,8 @@ pub pairs-preserved : goal.pairs-preserved
 pairs-preserved c b window =
     let i = c.pairs.i in
     let w = c.args.w.now in
-    let first = sym (flat_first 0 1 w i) ∙ window_start b (flat 0 1 w) (2 * i) (omega arith) window in
-    let second = sym (flat_second 0 1 w i) ∙ window_start b (flat 0 1 w) (2 * i + 1) (omega arith) window in
+    let first = sym (flat_first 0 1 w i) ∙ window_start _ (flat 0 1 w) (2 * i) (omega arith) window in
+    let second = sym (flat_second 0 1 w i) ∙ window_start _ (flat 0 1 w) (2 * i + 1) (omega arith) window in
     let more : 2 * i + 2 ≡ 2 * (i + 1) = omega arith in
     rw more at (c.put_sums.ensures b (c.pairs.invariant b window) first second)
 

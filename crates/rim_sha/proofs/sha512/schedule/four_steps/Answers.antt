@@ -1,11 +1,11 @@
 use Rattle.std.proofs.Common.{arith}
-use Rattle.rim_sha.proofs.WideSchedule.{IsScheduledTo_at}
+use Rattle.rim_sha.proofs.Pairs.{at_place512}
 use Rattle.rim_sha.proofs.sha512.schedule.four_steps.Goals as goal
 
 pub returns : goal.returns
 returns c b held =
     let s1 = c.step.ensures b held in
     let s2 = c.step-2.ensures b s1 in
-    let s3 = c.step-3.ensures b (IsScheduledTo_at b _ _ _ _ (omega arith) s2) in
-    let s4 = c.step-4.ensures b (IsScheduledTo_at b _ _ _ _ (omega arith) s3) in
-    IsScheduledTo_at b _ _ _ _ (omega arith) s4
+    let s3 = c.step-3.ensures b (at_place512 b _ _ _ _ (omega arith) s2) in
+    let s4 = c.step-4.ensures b (at_place512 b _ _ _ _ (omega arith) s3) in
+    at_place512 b _ _ _ _ (omega arith) s4

@@ -1,5 +1,5 @@
-use Rattle.std.proofs.Common.{◌∙◌, sym, refl, arith}
-use Rattle.rim_sha.proofs.WideSchedule.{window_first, window_second}
+use Rattle.std.proofs.Common.{◌∙◌, refl, arith}
+use Rattle.rim_sha.proofs.TwoWords.{next512, word_first, word_second}
 use Rattle.rim_sha.proofs.sha512.schedule.next_pair.Goals as goal
 
 pub returns : goal.returns
@@ -7,7 +7,7 @@ returns c =
     let w = c.args.w.now in
     let p = c.args.place in
     record {
-      first = rw (c.between.ensures, c.between-2.ensures) at (c.next-pair.ensures.1 0 (omega arith)) ∙ sym (window_first w p c.requires);
-      second = rw (c.between.ensures, c.between-2.ensures) at (c.next-pair.ensures.1 1 (omega arith)) ∙ sym (window_second w p c.requires);
+      first = rw (c.between.ensures, c.between-2.ensures) at (c.next-pair.ensures.1 0 (omega arith)) ∙ word_first next512 0 1 w p c.requires;
+      second = rw (c.between.ensures, c.between-2.ensures) at (c.next-pair.ensures.1 1 (omega arith)) ∙ word_second next512 0 1 w p c.requires;
       window = refl;
     }

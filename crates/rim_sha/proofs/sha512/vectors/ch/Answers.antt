@@ -1,3 +1,4 @@
+-- tools/checks/widths.py makes this text from that for SHA-256.
 use Rattle.std.proofs.Common.{bit_and, bit_xor}
 use Rattle.std.specs.Int.{w64, bit_not}
 use Rattle.rim_sha.proofs.LaneByLane.{both, itself, one}

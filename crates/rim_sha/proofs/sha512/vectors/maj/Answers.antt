@@ -1,3 +1,4 @@
+-- tools/checks/widths.py makes this text from that for SHA-256.
 use Rattle.std.proofs.Common.{bit_and, bit_xor, slice_index, ◌∙◌}
 use Rattle.rim_sha.proofs.ChMaj.{maj_short}
 use Rattle.rim_sha.proofs.LaneByLane.{both, itself}

@@ -1,3 +1,4 @@
+-- tools/checks/widths.py makes this text from that for SHA-256.
 use Rattle.std.proofs.Common.{ℕ, ◌*◌, ◌/◌, ◌%◌, ◌^◌, bit_or, ◌∙◌, ◌-◌, arith}
 use Rattle.std.proofs.lemmas.Simd.{shifts_fit_splat}
 use Rattle.std.specs.Int.{w64}

@@ -1,3 +1,4 @@
+-- tools/checks/widths.py makes this text from that for SHA-256.
 use Rattle.sha2.specs.Sha512.{add64}
 use Rattle.rim_sha.proofs.LaneByLane.{both, itself, splat}
 use Rattle.rim_sha.proofs.sha512.vectors.temp1.Goals as goal

@@ -1,7 +1,7 @@
 use Rattle.std.proofs.Common.{◌≡◌, ℕ, List, take, drop, replicate, refl, ap, ◌∙◌}
 use Rattle.sha2.specs.Sha256.{compress, digest_bytes, first_words, initial_hash_256, padding, schedule, sha256}
 use Rattle.rim_sha.proofs.KnownBlocks256.{zeros_sums}
-use Rattle.rim_sha.proofs.Messages256.{hash_headed}
+use Rattle.rim_sha.proofs.Descriptors256.{hash_headed}
 use Rattle.rim_sha.proofs.sha256.one.headed.sha256_headed.Goals as goal
 
 pub returns : goal.returns

@@ -1,5 +1,6 @@
 use Rattle.std.proofs.Common.{◌≡◌, ◌*◌, arith}
-use Rattle.rim_sha.proofs.TwoBlocks.{IsScheduledTo_at, sums_all}
+use Rattle.rim_sha.proofs.KnownBlocks256.{sums_all}
+use Rattle.rim_sha.proofs.Pairs.{at_place256}
 use Rattle.rim_sha.proofs.sha256.one.schedule.all_sums.Goals as goal
 
 pub schedule-init : goal.schedule-init
@@ -10,12 +11,12 @@ schedule-init c = (
 
 pub schedule-preserved : goal.schedule-preserved
 schedule-preserved c = (
-  IsScheduledTo_at 0 1 c.args.a.now _ _ _ _ (omega arith)
+  at_place256 0 1 c.args.a.now _ _ _ _ (omega arith)
       (c.four_steps-in-schedule.ensures.first c.args.a.now
-      (c.four_steps.ensures.first c.args.a.now (IsScheduledTo_at 0 1 c.args.a.now _ _ _ _ (omega arith) c.schedule.invariant.0))),
-  IsScheduledTo_at 2 3 c.args.b.now _ _ _ _ (omega arith)
+      (c.four_steps.ensures.first c.args.a.now (at_place256 0 1 c.args.a.now _ _ _ _ (omega arith) c.schedule.invariant.0))),
+  at_place256 2 3 c.args.b.now _ _ _ _ (omega arith)
       (c.four_steps-in-schedule.ensures.second c.args.b.now
-      (c.four_steps.ensures.second c.args.b.now (IsScheduledTo_at 2 3 c.args.b.now _ _ _ _ (omega arith) c.schedule.invariant.1))),
+      (c.four_steps.ensures.second c.args.b.now (at_place256 2 3 c.args.b.now _ _ _ _ (omega arith) c.schedule.invariant.1))),
 )
 
 pub returns : goal.returns

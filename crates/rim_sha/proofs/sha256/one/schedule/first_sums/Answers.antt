@@ -1,7 +1,7 @@
 use Rattle.std.proofs.Common.{◌≡◌, ◌+◌, ◌*◌, ◌∙◌, sym, arith}
 use Rattle.rim_sha.specs.inside.Pairs.{flat}
 use Rattle.rim_sha.proofs.Pairs.{flat_first, flat_second}
-use Rattle.rim_sha.proofs.TwoBlocks.{window_start}
+use Rattle.rim_sha.proofs.TwoWords.{window_start}
 use Rattle.rim_sha.proofs.sha256.one.schedule.first_sums.Goals as goal
 
 pub pairs-init : goal.pairs-init
@@ -13,12 +13,12 @@ pairs-preserved c =
     let w = c.args.w.now in
     let more : 2 * i + 2 ≡ 2 * (i + 1) = omega arith in (
       λ b window.
-          let x = sym (flat_first 0 1 w i) ∙ window_start b (flat 0 1 w) (2 * i) (omega arith) window in
-          let y = sym (flat_second 0 1 w i) ∙ window_start b (flat 0 1 w) (2 * i + 1) (omega arith) window in
+          let x = sym (flat_first 0 1 w i) ∙ window_start _ (flat 0 1 w) (2 * i) (omega arith) window in
+          let y = sym (flat_second 0 1 w i) ∙ window_start _ (flat 0 1 w) (2 * i + 1) (omega arith) window in
           rw more at (c.put_sums.ensures.first b (c.pairs.invariant.0 b window) x y),
       λ b window.
-          let x = sym (flat_first 2 3 w i) ∙ window_start b (flat 2 3 w) (2 * i) (omega arith) window in
-          let y = sym (flat_second 2 3 w i) ∙ window_start b (flat 2 3 w) (2 * i + 1) (omega arith) window in
+          let x = sym (flat_first 2 3 w i) ∙ window_start _ (flat 2 3 w) (2 * i) (omega arith) window in
+          let y = sym (flat_second 2 3 w i) ∙ window_start _ (flat 2 3 w) (2 * i + 1) (omega arith) window in
           rw more at (c.put_sums.ensures.second b (c.pairs.invariant.1 b window) x y),
     )
 

@@ -1,3 +1,4 @@
+-- tools/checks/widths.py makes this text from that for SHA-256.
 use Rattle.std.proofs.Common.{◌≡◌, refl, ap, ◌*◌, ◌∙◌, arith}
 use Rattle.sha2.specs.Sha512.{add_state, compress, rounds, schedule}
 use Rattle.rim_sha.specs.inside.Lanes.{lane}
@@ -5,10 +6,10 @@ use Rattle.rim_sha.proofs.sha512.lanes.known_blocks.compress_sums.Goals as goal
 
 pub turns-init : goal.turns-init
 unfolding rounds
-turns-init c j b low known = refl
+turns-init g c j b low known = refl
 
 pub turns-preserved : goal.turns-preserved
-turns-preserved c j b low known =
+turns-preserved g c j b low known =
     let h = lane j c.args.state.now in
     let after = rounds h (schedule b 64) in
     let s1 = c.four_steps-v.ensures j b h low known (c.turns.invariant j b low known) in
@@ -16,6 +17,6 @@ turns-preserved c j b low known =
 
 pub returns : goal.returns
 unfolding compress
-returns c j b low known =
+returns g c j b low known =
     let done : 8 * c.turns.turn ≡ 80 = omega arith in
     c.added.ensures j low ∙ ap (add_state (lane j c.args.state.now)) (rw done at (c.turns.invariant j b low known))

@@ -1,13 +1,13 @@
+-- tools/checks/widths.py makes this text from that for SHA-256.
 use Rattle.std.proofs.Common.{slice_index, ap, ◌∙◌}
 use Rattle.sha2.specs.Sha512.{round, round_constants, schedule}
-use Rattle.rim_sha.proofs.KnownBlocks512.{round_known, rounds_known}
-use Rattle.rim_sha.proofs.WideSchedule.{sum_at}
+use Rattle.rim_sha.proofs.KnownBlocks512.{round_known, rounds_known, sum_at}
 use Rattle.rim_sha.specs.inside.Lanes.{lane}
 use Rattle.rim_sha.proofs.LaneByLane.{splat}
 use Rattle.rim_sha.proofs.sha512.lanes.known_blocks.step.Goals as goal
 
 pub returns : goal.returns
-returns c j b h low known held =
+returns g c j b h low known held =
     let t = c.args.t in
     let v = lane j c.args.v in
     let sum = slice_index c.args.sums.now t in

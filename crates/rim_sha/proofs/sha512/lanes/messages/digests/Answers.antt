@@ -1,3 +1,4 @@
+-- tools/checks/widths.py makes this text from that for SHA-256.
 use Rattle.std.proofs.Common.{rules, ℕ, [], arith}
 use Rattle.sha2.specs.Sha512.{digest_bytes}
 use Rattle.rim_sha.specs.inside.Lanes.{lane}
@@ -5,7 +6,7 @@ use Rattle.rim_sha.proofs.LaneByLane.{set_next}
 use Rattle.rim_sha.proofs.sha512.lanes.messages.digests.Goals as goal
 
 pub lanes-preserved : goal.lanes-preserved
-lanes-preserved c = (
+lanes-preserved g c = (
   search rules,
   set_next [] (λ (k : ℕ). digest_bytes (lane k c.args.hashes.now) 8) c.lanes.out c.lanes.j c.digest.result
       (omega (arith, c.lanes.invariant.0)) c.digest.ensures c.lanes.invariant.1,

@@ -1,3 +1,4 @@
+-- tools/checks/widths.py makes this text from that for SHA-256.
 use Rattle.std.proofs.Common.{◌≡◌, ℕ, List, ◌*◌, ◌/◌, length, take, drop, sym, ap, ◌∙◌, arith}
 use Rattle.sha2.specs.Sha512.{compress, hash_after, initial_hash_512, padding}
 use Rattle.rim_sha.specs.inside.Lanes.{lane, message}
@@ -6,10 +7,10 @@ use Rattle.rim_sha.proofs.sha512.lanes.messages.final_hashes.Goals as goal
 
 pub each-init : goal.each-init
 unfolding hash_after
-each-init c j low = c.initial-state.ensures j low
+each-init g c j low = c.initial-state.ensures j low
 
 pub each-preserved : goal.each-preserved
-each-preserved c j low =
+each-preserved g c j low =
     let i = c.each.i in
     let m = message c.args.messages.now j in
     c.compress.ensures j _ low (c.load.ensures j low)
@@ -17,7 +18,7 @@ each-preserved c j low =
     ∙ hash_next initial_hash_512 m i
 
 pub returns : goal.returns
-returns c j low =
+returns g c j low =
     let m = message c.args.messages.now j in
     let size : length m ≡ c.args.size = c.requires.size j low in
     let done : c.each.i ≡ length m / 128 = omega arith in

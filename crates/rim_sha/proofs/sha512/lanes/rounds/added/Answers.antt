@@ -1,9 +1,11 @@
+-- tools/checks/widths.py makes this text from that for SHA-256.
 use Rattle.std.proofs.Common.{refl}
 use Rattle.rim_sha.proofs.sha512.lanes.rounds.added.Goals as goal
 
 pub returns : goal.returns
-returns c j low =
+returns g c j low =
     rw (
+      c.eight.ensures,
       c.add.ensures.1 j low,
       c.add-2.ensures.1 j low,
       c.add-3.ensures.1 j low,

@@ -1,3 +1,4 @@
+-- tools/checks/widths.py makes this text from that for SHA-256.
 use Rattle.std.proofs.Common.{◌≡◌, refl, ap, ◌*◌, ◌∙◌, arith}
 use Rattle.sha2.specs.Sha512.{add_state, compress, rounds}
 use Rattle.rim_sha.specs.inside.Lanes.{lane}
@@ -6,7 +7,7 @@ use Rattle.rim_sha.proofs.sha512.lanes.rounds.compress.Goals as goal
 
 pub schedule-init : goal.schedule-init
 unfolding rounds
-schedule-init c j b low first =
+schedule-init g c j b low first =
     let h = lane j c.args.state.now in
     let s1 = c.first_four_steps-v.ensures j b h low first refl in
     let s2 = c.first_four_steps-v-2.ensures j b h low first s1 in
@@ -14,7 +15,7 @@ schedule-init c j b low first =
     (first, c.first_four_steps-v-4.ensures j b h low first s3)
 
 pub schedule-preserved : goal.schedule-preserved
-schedule-preserved c j b low first =
+schedule-preserved g c j b low first =
     let h = lane j c.args.state.now in
     let s1 = c.four_steps-v.ensures j b h low (IsRoundsAt_at b h _ _ _ _ (omega arith) (c.schedule.invariant j b low first)) in
     let s2 = c.four_steps-v-in-schedule.ensures j b h low s1 in
@@ -24,6 +25,6 @@ schedule-preserved c j b low first =
 
 pub returns : goal.returns
 unfolding compress
-returns c j b low first =
+returns g c j b low first =
     let done : 16 * c.schedule.turn ≡ 80 = omega (arith, c.schedule.auto.turn-end (omega arith)) in
     c.added.ensures j low ∙ ap (add_state (lane j c.args.state.now)) (rw done at (c.schedule.invariant j b low first).1)

@@ -1,3 +1,4 @@
+-- tools/checks/widths.py makes this text from that for SHA-256.
 use Rattle.std.proofs.Common.{refl, sym}
 use Rattle.rim_sha.specs.inside.Lanes.{lane, window}
 use Rattle.sha2.proofs.Schedule512.{rounds_first}
@@ -5,6 +6,6 @@ use Rattle.rim_sha.proofs.LaneByLane.{window_at}
 use Rattle.rim_sha.proofs.sha512.lanes.rounds.first_step.Goals as goal
 
 pub returns : goal.returns
-returns c j b h low first held =
+returns g c j b h low first held =
     rounds_first b h (window j c.args.w.now) (lane j c.args.v) c.args.t _ _ _ c.requires first held refl
     (sym (window_at c.args.w.now c.args.t j)) (c.round.ensures j low)

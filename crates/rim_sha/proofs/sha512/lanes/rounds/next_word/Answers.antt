@@ -1,9 +1,10 @@
+-- tools/checks/widths.py makes this text from that for SHA-256.
 use Rattle.std.proofs.Common.{◌≡◌, ◌+◌, ◌%◌, arith}
 use Rattle.rim_sha.proofs.LaneByLane.{window_at}
 use Rattle.rim_sha.proofs.sha512.lanes.rounds.next_word.Goals as goal
 
 pub returns-clause-value : goal.returns-clause-value
-returns-clause-value c j h =
+returns-clause-value g c j h =
     let w = c.args.w.now in
     let p = c.args.place in
     let at : p % 16 ≡ p = omega arith in

@@ -1,3 +1,4 @@
+-- tools/checks/widths.py makes this text from that for SHA-256.
 use Rattle.std.proofs.Common.{◌≡◌, ◌+◌, ◌*◌, ◌%◌, ◌∙◌, arith, ap, refl}
 use Rattle.rim_sha.specs.inside.Lanes.{lane, window}
 use Rattle.sha2.proofs.Schedule512.{IsRoundsAt_at, rounds_window, window_word_place}
@@ -5,7 +6,7 @@ use Rattle.rim_sha.proofs.LaneByLane.{window_set}
 use Rattle.rim_sha.proofs.sha512.lanes.rounds.step.Goals as goal
 
 pub returns : goal.returns
-returns c j b h low held =
+returns g c j b h low held =
     let w = c.args.w.now in
     let t = 16 * c.args.turn + c.args.place in
     let at : t % 16 ≡ c.args.place = omega arith in

@@ -1,6 +1,6 @@
 use Rattle.std.proofs.Common.{◌≡◌, ℕ, ◌*◌, ◌<◌, [], length, slice_index, slice_index_or, take, drop}
 use Rattle.sha2.specs.Sha256.{word_at}
-use Rattle.rim_sha.proofs.sha256.lanes.loading.words_of_heads.Given as goal
+use Rattle.rim_sha.proofs.sha256.lanes.loading.words_of_descriptors.Given as goal
 
 abbrev pub invariant-lanes : goal.invariant-lanes
 invariant-lanes g l = (length l.words ≡ g.row.N)

@@ -3,13 +3,13 @@ use Rattle.sha2.specs.Sha256.{word_at}
 use Rattle.sha2.proofs.Schedule256.{IsWindow_first}
 use Rattle.rim_sha.specs.inside.Lanes.{window}
 use Rattle.rim_sha.proofs.LaneByLane.{window_length, window_next}
-use Rattle.rim_sha.proofs.sha256.lanes.loading.load_heads.Goals as goal
+use Rattle.rim_sha.proofs.sha256.lanes.loading.load_descriptors.Goals as goal
 
 pub words-preserved : goal.words-preserved
 words-preserved g c = (
   search rules,
-  window_next (λ (j k : ℕ). word_at (take 64 (drop c.args.at (slice_index_or c.args.descriptors.now j []))) (4 * k)) c.words.w c.words.i c.words_of_heads.result
-      (omega (arith, c.words.invariant.0)) c.words_of_heads.ensures c.words.invariant.1,
+  window_next (λ (j k : ℕ). word_at (take 64 (drop c.args.at (slice_index_or c.args.descriptors.now j []))) (4 * k))
+      c.words.w c.words.i c.words_of_descriptors.result (omega (arith, c.words.invariant.0)) c.words_of_descriptors.ensures c.words.invariant.1,
 )
 
 pub returns : goal.returns

@@ -4,7 +4,7 @@ use Rattle.std.proofs.lemmas.Simd.{map-map}
 use Rattle.std.specs.Borrow.{Bor}
 use Rattle.sha2.specs.Sha256.{digest_bytes, sha256}
 use Rattle.rim_sha.proofs.LaneByLane.{is_map, of_message}
-use Rattle.rim_sha.proofs.sha256_side_by_side.Goals as goal
+use Rattle.rim_sha.proofs.sha256.lanes.messages.digests_of.Goals as goal
 
 pub final_hashes-requires : goal.final_hashes-requires
 final_hashes-requires g c =

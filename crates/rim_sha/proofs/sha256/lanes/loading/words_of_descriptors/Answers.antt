@@ -1,7 +1,7 @@
 use Rattle.std.proofs.Common.{rules, ℕ, ◌*◌, [], slice_index_or, take, drop, arith}
 use Rattle.sha2.specs.Sha256.{word_at}
 use Rattle.rim_sha.proofs.LaneByLane.{set_next}
-use Rattle.rim_sha.proofs.sha256.lanes.loading.words_of_heads.Goals as goal
+use Rattle.rim_sha.proofs.sha256.lanes.loading.words_of_descriptors.Goals as goal
 
 pub lanes-preserved : goal.lanes-preserved
 lanes-preserved g c = (

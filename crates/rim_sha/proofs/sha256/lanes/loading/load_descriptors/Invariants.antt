@@ -1,7 +1,7 @@
 use Rattle.std.proofs.Common.{◌≡◌, ℕ, ◌*◌, ◌<◌, [], length, slice_index, slice_index_or, take, drop}
 use Rattle.sha2.specs.Sha256.{word_at}
 use Rattle.rim_sha.specs.inside.Lanes.{window}
-use Rattle.rim_sha.proofs.sha256.lanes.loading.load_heads.Given as goal
+use Rattle.rim_sha.proofs.sha256.lanes.loading.load_descriptors.Given as goal
 
 abbrev pub invariant-words : goal.invariant-words
 invariant-words g l = (length l.w ≡ 16)
