@@ -158,13 +158,13 @@ pub parts_read : (v : FormatVersion) (files : List Data) (n : ℕ) (d : Data) (c
     → o ≡ cond (is_launch (launch_of v files n d).launch) (Some (launch_of v files n d).launch) None
 parts_read v files n d config ram items recs steps o config_is ram_is items_is recs_is steps_is e = rw (steps_is, config_is, ram_is, items_is, recs_is) at e
 
-pub some_made : (l : NamedData) (name : List ℕ) (x : LaunchData) (o : Option LaunchData) → name ≡ l.name
+pub some_made : (l : NamedData) (name : List ℕ) (names : List (List ℕ)) (x : LaunchData) (o : Option LaunchData) → name ≡ l.name → names ≡ l.item_names
     → o ≡ cond (is_launch l.launch) (Some l.launch) None → o ≡ Some x
-    → made l ≡ Ok (record { name = name; launch = x })
-some_made l name x o named e there = go (is_launch l.launch) (sym there ∙ e)
+    → made l ≡ Ok (record { name = name; launch = x; item_names = names })
+some_made l name names x o named items e there = go (is_launch l.launch) (sym there ∙ e)
   where
-    go : (b : Bool) → Some x ≡ cond b (Some l.launch) None → cond b (Ok l) (Err BadStep) ≡ Ok (record { name = name; launch = x })
-    go true same = let launch : x ≡ l.launch = cc in ap Ok (sym (λ i. record { name = named i; launch = launch i }))
+    go : (b : Bool) → Some x ≡ cond b (Some l.launch) None → cond b (Ok l) (Err BadStep) ≡ Ok (record { name = name; launch = x; item_names = names })
+    go true same = let launch : x ≡ l.launch = cc in ap Ok (sym (λ i. record { name = named i; launch = launch i; item_names = items i }))
     go false same = cc
 
 pub none_made : (l : NamedData) (o : Option LaunchData) → o ≡ cond (is_launch l.launch) (Some l.launch) None → o ≡ None → made l ≡ Err BadStep

@@ -14,7 +14,7 @@ use Rattle.rim_rules.specs.declared.form.Form.TheVariants as form
 use Rattle.rim_rules.specs.declared.form.Presence.TheVariants.{Optional}
 use Rattle.rim_manifest.specs.Faults.{fault_if, lowest}
 use Rattle.rim_rules.specs.Forms.{is_table, items_list}
-use Rattle.rim_manifest.specs.Given.{EachGives, GivesBootargs, GivesBytes, GivesFile, GivesItem, GivesKind, GivesMeasured, GivesNumber, GivesPath, GivesRec}
+use Rattle.rim_manifest.specs.Given.{EachGives, GivesBootargs, GivesBytes, GivesFile, GivesItem, GivesKind, GivesMeasured, GivesNumber, GivesName, GivesPath, GivesRec}
 use Rattle.rim_manifest.specs.Given.{GivesRule, GivesSize, GivesSteps, GivesWord, GivesWords, HasItsRule, IsGiven, role_text}
 use Rattle.rim_manifest.specs.Launches.{ReleaseData, config_of, items_of, ram_of, recs_of, launch_of, launches_from, rec_of}
 use Rattle.rim_rules.specs.Values.{algorithm_in, array_at, base_in, digits_in, number_in, text_in, word_in, words_in}
@@ -97,6 +97,18 @@ tables_given Gives f faults each (d ∷ ds) tables e =
 path_given : (d : Data) → is_table d ≡ true → ruled_faults file_rules d ≡ [] → GivesPath d (path_of d)
 path_given (table ms) t e = text_there form.Text (λ d. refl) _ (each_value file_rules ms e).1.0
 path_given _ t e = cc
+
+-- an item of each kind has a name
+name_given : (d : Data) → is_table d ≡ true → item_faults d ≡ [] → GivesName d (name_of d)
+name_given (table ms) t e = named (role_at (table ms)) e
+  where
+    named : (r : Role) → table_faults (rules_of r) ms ≡ [] → GivesName (table ms) (name_of (table ms))
+    named Kernel e = name_there _ (each_value item_rules ms e).0
+    named Initrd e = name_there _ (each_value item_rules ms e).0
+    named Raw e = name_there _ (each_value item_rules ms e).0
+    named Dtb e = name_there _ (each_value dtb_rules ms e).0
+    named Unknown e = name_there _ (each_value unknown_rules ms e).0
+name_given _ t e = cc
 
 first_of_four : (a b c d : Bool) → (a && b && c && d) ≡ true → a ≡ true
 first_of_four true b c d e = refl
@@ -248,6 +260,7 @@ module _ (files : List Data) (tables : list_all is_table files ≡ true) (good :
         recs = tables_given GivesRec rec_of (ruled_faults rec_rules) rec_given (array_at (codes "rec") (table ms)) recs whole.recs;
         ruled = none_without v files n ms whole.own whole.ruled;
         steps = steps_given v (table ms) n (get_member (codes "steps") ms) few rest.1.1.1.1.1.0 fits;
+        item_names = tables_given GivesName name_of item_faults name_given (array_at (codes "item") (table ms)) items whole.items;
       }
   launch_given v n _ t e found fits = cc
 

@@ -93,6 +93,9 @@ pub record GivesRec (d : Data) (r : Rec) : Type 0 where
 
 -- ---- files and items
 
+abbrev pub GivesName : Data → List ℕ → Type 0
+GivesName d name = get (codes "name") d ≡ Some (string name)
+
 abbrev pub GivesPath : Data → List ℕ → Type 0
 GivesPath d path = get (codes "path") d ≡ Some (string path)
 
@@ -181,7 +184,7 @@ HasItsRule Two l = list_any (λ r. not r.runnable) l.recs ≡ true → IsSome l.
 
 -- the launch has what its table gives, in a manifest of this version
 pub record IsGiven (v : FormatVersion) (files : List Data) (d : Data) (l : NamedData) : Type 0 where
-  pub name : get (codes "name") d ≡ Some (string l.name)
+  pub name : GivesName d l.name
   pub algo : get (codes "algo") d ≡ Some (string (algo_word l.launch.config.algo))
   pub s2sz : get (codes "s2sz") d ≡ Some (integer (pos l.launch.config.s2sz))
   pub sve : GivesTruth false (get (codes "sve") d) l.launch.config.sve
@@ -201,3 +204,4 @@ pub record IsGiven (v : FormatVersion) (files : List Data) (d : Data) (l : Named
   pub recs : EachGives GivesRec (array_at (codes "rec") d) l.launch.recs
   pub ruled : HasItsRule v l.launch
   pub steps : GivesSteps (array_at (codes "item") d) (get (codes "steps") d) l.launch
+  pub item_names : EachGives GivesName (array_at (codes "item") d) l.item_names

@@ -1,5 +1,5 @@
 -- What a launch's table says, as its values at the keys read. This project's choice.
-use Rattle.std.specs.Prelude.{◌≡◌, ℕ, true, false, List, length, map, Some, codes, refl, slice_get}
+use Rattle.std.specs.Prelude.{◌≡◌, ℕ, true, false, List, [], length, map, Some, codes, refl, slice_get, unwrap_or}
 use Rattle.std.specs.List.{enumerate_from}
 use Rattle.toml.specs.Data.{Data, at, get}
 use Rattle.rim_launch.specs.LaunchData.{LaunchData, has_files}
@@ -9,6 +9,7 @@ use Rattle.rim_launch.specs.declared.item.Region.{Region}
 use Rattle.rim_launch.specs.declared.rec.Rec.{Rec}
 use Rattle.rim_rules.specs.Forms.{is_region}
 use Rattle.rim_manifest.specs.Items.{item_of}
+use Rattle.rim_manifest.specs.Names.{name_of}
 use Rattle.rim_manifest.specs.StepTexts.{steps_in}
 use Rattle.rim_rules.specs.declared.version.FormatVersion.{FormatVersion}
 use Rattle.rim_rules.specs.Versions.{rule_for}
@@ -18,10 +19,15 @@ use Rattle.rim_desc.specs.declared.rec.TheConstants.{AUX_LIMIT}
 use Rattle.rim_launch.specs.declared.config.TheConstants.{POOL_LIMIT}
 use Rattle.rmm_model.specs.declared.start.TheConstants.{LEAST_WIDTH, MOST_WIDTH}
 
--- a launch and its name, as clauses see them
+-- a launch, its name and the names of its items, as clauses see them
 pub record NamedData : Type 0 where
   pub name : List ℕ
   pub launch : LaunchData
+  pub item_names : List (List ℕ)
+
+-- the name of the item of this number; no text where there is none
+abbrev pub item_name : NamedData → ℕ → List ℕ
+item_name l number = unwrap_or (slice_get l.item_names number) []
 
 -- a release, as clauses see it: the paths of its files, and its launches
 pub record ReleaseData : Type 0 where
@@ -93,6 +99,7 @@ launch_of v files number d = record {
     recs = recs_of d;
     steps = steps_in (length (ram_of d)) (array_at (codes "item") d) (items_of files d) (length (recs_of d)) (get (codes "steps") d);
   };
+  item_names = map name_of (array_at (codes "item") d);
 }
 
 -- launches of such a manifest, of which the first has the number n

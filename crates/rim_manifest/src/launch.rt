@@ -2,7 +2,7 @@
 ghost use Rattle.std.specs.Prelude.{◌≡◌, map, string_bytes};
 ghost use Rattle.refusal.specs.Answer.{Answers};
 ghost use Rattle.toml.specs.View.{view};
-ghost use Rattle.rim_manifest.specs.Launches.{NamedData, config_of, launch_of};
+ghost use Rattle.rim_manifest.specs.Launches.{NamedData, config_of, item_name, launch_of};
 ghost use Rattle.rim_manifest.specs.Manifest.{made};
 
 use crate::fault::ManifestFault;
@@ -10,6 +10,7 @@ use crate::item::read_items;
 use crate::rec::read_recs;
 use crate::region::read_regions;
 use crate::step::read_steps;
+use crate::texts::read_texts;
 use rim_desc::AUX_LIMIT;
 use rim_launch::{Config, Launch, POOL_LIMIT};
 use rim_rules::value::{algorithm, array, byte, digits, number, pool_base, text, truth};
@@ -19,17 +20,23 @@ use std::alloc::Global;
 use std::marker::Model;
 use toml::Value;
 
-/// A launch of a release, with the name that the manifest gives it.
+/// A launch of a release, with the names that the manifest gives it and its items. A name decides nothing of what is measured: where two
+/// launches are compared for that, [`NamedLaunch::launch`] of each is compared.
 #[derive(Drop)]
 pub struct NamedLaunch {
     name: String,
     launch: Launch,
+    item_names: Vec<String>,
 }
 
 impl Model for NamedLaunch {
     ghost Value = { NamedData };
 
-    ghost view = { λ l. record { name = string_bytes l.name; launch = l.launch } };
+    ghost view = { λ l. record {
+      name = string_bytes l.name;
+      launch = l.launch;
+      item_names = map string_bytes l.item_names.items;
+    } };
 }
 
 impl NamedLaunch {
@@ -45,6 +52,16 @@ impl NamedLaunch {
         ensures { result.now ≡ self.now.launch }
     {
         &self.launch
+    }
+
+    /// The name of the item of this number; no text where there is none.
+    pub fn item_name(&self, number: usize) -> &str
+        ensures { result.now ≡ item_name self.now number }
+    {
+        match self.item_names.get(number) {
+            Some(name) => name.as_str(),
+            None => "",
+        }
     }
 }
 
@@ -63,11 +80,16 @@ pub fn read_launch(
     let name = String::from_str(alloc, text(table, "name"))?;
     let config = read_config(version, table);
     let ram = read_regions(alloc, array(table, "ram"))?;
+    let item_names = read_texts(alloc, array(table, "item"), "name")?;
     let items = read_items(alloc, files, array(table, "item"))?;
     let recs = read_recs(alloc, array(table, "rec"))?;
     let steps = read_steps(alloc, table, &ram, &items, &recs)?;
     match Launch::new(number, config, ram, items, recs, steps) {
-        Some(launch) => Ok(NamedLaunch { name, launch }),
+        Some(launch) => Ok(NamedLaunch {
+            name,
+            launch,
+            item_names,
+        }),
         None => Err(ManifestFault::BadStep),
     }
 }

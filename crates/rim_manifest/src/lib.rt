@@ -6,7 +6,6 @@ mod check;
 mod document;
 mod fault;
 mod fault_list;
-mod file;
 mod finding;
 mod item;
 mod launch;
@@ -17,6 +16,7 @@ mod naming;
 mod rec;
 mod region;
 mod step;
+mod texts;
 
 pub use document::{Checked, Document};
 pub use fault::{ManifestFault, is_lower};

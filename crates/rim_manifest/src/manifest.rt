@@ -15,11 +15,11 @@ ghost use Rattle.rim_manifest.specs.inside.Kept.{with_faults};
 
 use crate::check::{at_key, check_ruled, check_table, check_tables};
 use crate::fault::ManifestFault;
-use crate::file::read_paths;
 use crate::finding::{Array, Finding, Findings, Place, Subject, note_if};
 use crate::launch::{NamedLaunch, read_launch};
 use crate::names::{has_asked, lacks_file, repeats, role, share_names};
 use crate::step::is_miscounted;
+use crate::texts::read_texts;
 use refusal::NoMemory;
 use rim_launch::Role;
 use rim_rules::form::Form;
@@ -239,7 +239,7 @@ pub fn read_release(alloc: Global, table: &Table) -> Result<Release, ManifestFau
     if any_miscounted(launches) {
         return Err(ManifestFault::BadStep);
     }
-    let paths = read_paths(alloc, files)?;
+    let paths = read_texts(alloc, files, "path")?;
     let launches = read_launches(alloc, version(table), files, launches)?;
     Ok(Release { paths, launches })
 }
