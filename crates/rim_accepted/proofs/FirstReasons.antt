@@ -60,11 +60,11 @@ unfolding rim_for commands_for
 found-layout l files why is = record { refused = rw is (ap (λ (f : AuditFault). Err f) (layout-own why)); reason = is }
 
 pub found-list : (l : LaunchData) (files : List (List ℕ)) (p : PlacedData) (why : ListReason) → laid_out l files ≡ Ok p → IsReason l p why
-    → IsRefusedFor l files (launch.List why)
+    → IsRefusedFor l files (launch.List p why)
 unfolding rim_for commands_for
 found-list l files p why placed is = record {
   refused = rw placed (rw is.refused (ap (λ (f : AuditFault). Err f) (list-own why)));
-  reason = (p, ap (result_map_both (λ (q : PlacedData). q) fault_of) placed, is);
+  reason = (ap (result_map_both (λ (q : PlacedData). q) fault_of) placed, is);
 }
 
 -- ---- no refusal

@@ -5,7 +5,6 @@ use Rattle.std.proofs.Math.Seq.{take-suc}
 use Rattle.std.specs.Prelude.{Result, Ok, Err, IfOk, IsOk, is_err}
 use Rattle.std.specs.List.{list_any}
 use Rattle.refusal.specs.Answer.{Answers}
-use Rattle.rim_launch.specs.LaunchData.{LaunchData}
 use Rattle.list_model.specs.Entries.{Entry}
 use Rattle.ipa_layout.specs.Files.{bytes_of_files}
 use Rattle.ipa_layout.specs.Layout.{PlacedData}
@@ -39,35 +38,35 @@ outcomes-next files ls i d rs rs' r inside is added are =
     (subst (AreOutcomes files (take i ls ++ get_or ls i d ∷ [])) (sym added) (outcomes-append files (take i ls) (get_or ls i d) rs r is are))
 
 -- what a launch was found to come to, unless it is want of memory
-pub outcome-is : (files : List (Vec ℕ Global)) (l : NamedData) (launch : LaunchData) (found outcome : Result AcceptedLaunch AuditFault)
-    → launch ≡ l.launch → Answers NoMemory (λ a. a.placed) found (accepted_of launch (bytes_of_files files))
-    → IfOk found (λ a. (a.launch.now ≡ launch) × (a.files.now ≡ files)) → outcome ≡ found → outcome ≢ Err NoMemory
+pub outcome-is : (files : List (Vec ℕ Global)) (l launch : NamedData) (found outcome : Result AcceptedLaunch AuditFault)
+    → launch ≡ l → Answers NoMemory (λ a. a.placed) found (accepted_of launch.launch (bytes_of_files files))
+    → IfOk found (λ a. (a.named.now ≡ launch) × (a.files.now ≡ files)) → outcome ≡ found → outcome ≢ Err NoMemory
     → IsOutcome (bytes_of_files files) l outcome
 outcome-is files l launch (Ok a) outcome same answers own is not_memory =
     subst (IsOutcome (bytes_of_files files) l) (sym is) (own.0 ∙ same, ap bytes_of_files own.1)
 outcome-is files l launch (Err fault) outcome same answers own is not_memory = at answers
   where
-    at : (fault ≡ NoMemory) ⊎ (accepted_of launch (bytes_of_files files) ≡ Err fault) → IsOutcome (bytes_of_files files) l outcome
+    at : (fault ≡ NoMemory) ⊎ (accepted_of launch.launch (bytes_of_files files) ≡ Err fault) → IsOutcome (bytes_of_files files) l outcome
     at (inl memory) = absurd (not_memory (is ∙ ap (λ (f : AuditFault). Err f) memory))
     at (inr refused) =
         subst (IsOutcome (bytes_of_files files) l) (sym is)
-        (subst (λ (x : LaunchData). accepted_of x (bytes_of_files files) ≡ Err fault) same refused)
+        (subst (λ (x : NamedData). accepted_of x.launch (bytes_of_files files) ≡ Err fault) same refused)
 
 -- a launch that is accepted has the place that its definition gives it
-pub accepted-place : (a : AcceptedLaunch) → accepted_of a.launch.now (bytes_of_files a.files.now) ≡ Ok a.placed
+pub accepted-place : (a : AcceptedLaunch) → accepted_of a.named.now.launch (bytes_of_files a.files.now) ≡ Ok a.placed
 unfolding accepted_of
-accepted-place a = by_list (listed a.launch.now a.placed) refl a.is_listed
+accepted-place a = by_list (listed a.named.now.launch a.placed) refl a.is_listed
   where
-    by_list : (found : Result (List Entry) ListFault) → listed a.launch.now a.placed ≡ found → IsOk found
-        → accepted_of a.launch.now (bytes_of_files a.files.now) ≡ Ok a.placed
+    by_list : (found : Result (List Entry) ListFault) → listed a.named.now.launch a.placed ≡ found → IsOk found
+        → accepted_of a.named.now.launch (bytes_of_files a.files.now) ≡ Ok a.placed
     by_list (Err fault) is ok = absurd (cc)
     by_list (Ok entries) is ok = rw (a.is_placed.placed, is) refl
 
 -- and so has the launch that it is
 pub own-place : (files : List (List ℕ)) (l : NamedData) (a : AcceptedLaunch) → IsOutcome files l (Ok a) → accepted_of l.launch files ≡ Ok a.placed
 own-place files l a is =
-    sym (ap (λ (x : LaunchData). accepted_of x files) is.0)
-    ∙ sym (ap (accepted_of a.launch.now) is.1)
+    sym (ap (λ (x : NamedData). accepted_of x.launch files) is.0)
+    ∙ sym (ap (accepted_of a.named.now.launch) is.1)
     ∙ accepted-place a
 
 pub place-is : (files : List (List ℕ)) (l : NamedData) (r : Result AcceptedLaunch AuditFault) → IsOutcome files l r → place_of r ≡ accepted_of l.launch files

@@ -10,7 +10,7 @@ use Rattle.rim_accepted.specs.declared.audit_fault.AuditFault.{AuditFault}
 
 -- what a launch comes to: it is accepted, with these files, or refused so
 abbrev pub IsOutcome : List (List ℕ) → NamedData → Result AcceptedLaunch AuditFault → Type 0
-IsOutcome files l (Ok a) = (a.launch.now ≡ l.launch) × (bytes_of_files a.files.now ≡ files)
+IsOutcome files l (Ok a) = (a.named.now ≡ l) × (bytes_of_files a.files.now ≡ files)
 IsOutcome files l (Err fault) = accepted_of l.launch files ≡ Err fault
 
 -- the place of a launch that is accepted

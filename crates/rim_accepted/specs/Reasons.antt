@@ -1,6 +1,6 @@
 -- Why a launch is refused, with what the refusing check looked at. This project's choice.
 use Rattle.std.specs.Prelude.{◌≡◌, ℕ, List, Result, Ok, Err}
-use Rattle.ipa_layout.specs.Layout.{PlacedData, laid_out, places}
+use Rattle.ipa_layout.specs.Layout.{laid_out, places}
 use Rattle.ipa_layout.specs.Reason.{fault_of}
 use Rattle.rim_launch.specs.LaunchData.{LaunchData}
 use Rattle.rmi_list.specs.Reason.{IsReason, list_fault_of}
@@ -14,12 +14,12 @@ use Rattle.rim_accepted.specs.declared.reason.LaunchReason.TheVariants.{Layout, 
 -- the fault that a reason is one of
 abbrev pub audit_fault_of : LaunchReason → AuditFault
 audit_fault_of (Layout why) = fault.Layout (fault_of why)
-audit_fault_of (Lists why) = fault.List (list_fault_of why)
+audit_fault_of (Lists placed why) = fault.List (list_fault_of why)
 
--- the launch has this reason: it cannot be laid out, or it has its place and no list
+-- the launch has this reason: it cannot be laid out, or it has this place and no list
 abbrev pub HasReason : LaunchData → List (List ℕ) → LaunchReason → Type 0
 HasReason l files (Layout why) = laid_out l files ≡ Err why
-HasReason l files (Lists why) = (p : PlacedData) × (places l files ≡ Ok p) × IsReason l p why
+HasReason l files (Lists p why) = (places l files ≡ Ok p) × IsReason l p why
 
 -- the launch is refused for this reason, whose fault is the one that the report has
 pub record IsRefusedFor (l : LaunchData) (files : List (List ℕ)) (why : LaunchReason) : Type 0 where

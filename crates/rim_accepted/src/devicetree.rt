@@ -1,49 +1,29 @@
 //! The devicetree of a launch as it is placed.
-ghost use Rattle.std.specs.Prelude.{◌≡◌, ◌<◌, length, option_map, vec_len, true, IfOk, IfSome};
+ghost use Rattle.std.specs.Prelude.{◌≡◌, option_map, IfOk};
 ghost use Rattle.std.specs.List.{slice_get};
 ghost use Rattle.refusal.specs.Answer.{Answers};
 ghost use Rattle.rim_launch.specs.Kinds.{has_role};
-ghost use Rattle.rim_launch.specs.LaunchData.{has_files};
 ghost use Rattle.ipa_layout.specs.Files.{bytes_of_files};
 ghost use Rattle.rim_accepted.specs.Devicetree.{devicetree_in, devicetree_number, devicetree_of};
 
 use crate::accepted::{AcceptedLaunch, accept};
 use crate::audit_fault::AuditFault;
-use crate::text::Files;
+use crate::loaded::LoadedLaunch;
 use refusal::NoMemory;
 use rim_launch::{Launch, Role};
-use rim_manifest::Release;
 use std::alloc::Global;
 
-/// The devicetree of the launch of this number, as it is placed: the bytes of its file, or the edited ones. `None` where
-/// the launch has no devicetree. A launch that is refused has none to give: its first refusal is the answer.
+/// The devicetree of a launch, as it is placed: the bytes of its file, or the edited ones. `None` where the launch has no devicetree.
+/// A launch that is refused has none to give: its first refusal is the answer.
+#[tactic(auto, unfolding(crate::specs::Devicetree::devicetree_of))]
 pub fn placed_devicetree(
     alloc: Global,
-    release: &Release,
-    files: &Files,
-    i: usize,
+    loaded: LoadedLaunch<'_>,
 ) -> Result<Option<Vec<u8>>, AuditFault>
-    requires files { vec_len files.now ≡ length release.now.paths }
-    requires launch { i < length release.now.launches }
-    ensures { IfSome (slice_get release.now.launches i) (λ l. Answers AuditFault.NoMemory
-        (option_map (λ bytes. bytes.items)) result
-        (devicetree_of l.launch (bytes_of_files files.now.items))) }
-{
-    devicetree_of(alloc, release.all_launches()[i].launch(), files)
-}
-
-/// The devicetree of a launch, or why the launch is refused.
-#[tactic(auto, unfolding(crate::specs::Devicetree::devicetree_of))]
-fn devicetree_of(
-    alloc: Global,
-    launch: &Launch,
-    files: &[Vec<u8>],
-) -> Result<Option<Vec<u8>>, AuditFault>
-    requires { has_files launch.now (length files.now) ≡ true }
     ensures { Answers AuditFault.NoMemory (option_map (λ bytes. bytes.items)) result
-        (devicetree_of launch.now (bytes_of_files files.now)) }
+        (devicetree_of loaded.entry.launch.now.launch (bytes_of_files loaded.entry.files.now)) }
 {
-    let accepted = accept(alloc, launch, files)?;
+    let accepted = accept(alloc, loaded)?;
     match devicetree_bytes(&accepted) {
         Some(bytes) => Ok(Some(copied(alloc, bytes)?)),
         None => Ok(None),
@@ -52,10 +32,10 @@ fn devicetree_of(
 
 /// The bytes of the devicetree of a launch that is accepted, if it has one.
 fn devicetree_bytes<'a>(accepted: &'a AcceptedLaunch<'_>) -> Option<&'a [u8]>
-    ensures { option_map (λ bytes. bytes.now) result ≡ devicetree_in accepted.entry.now.launch.now
+    ensures { option_map (λ bytes. bytes.now) result ≡ devicetree_in accepted.entry.now.named.now.launch
         (bytes_of_files accepted.entry.now.files.now) accepted.entry.now.placed }
 {
-    let number = number_of(accepted.launch)?;
+    let number = number_of(accepted.launch())?;
     let source = accepted.placed.items().get(number)?.source?;
     Some(accepted.placed.bytes(accepted.files, source))
 }

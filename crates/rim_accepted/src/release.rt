@@ -4,6 +4,7 @@ ghost use Rattle.ipa_layout.specs.Files.{bytes_of_files};
 
 use crate::accepted::{AcceptedLaunch, accept};
 use crate::audit_fault::AuditFault;
+use crate::loaded::{LoadedLaunch, LoadedRelease};
 use refusal::NoMemory;
 use rim_manifest::{NamedLaunch, Release};
 use std::alloc::Global;
@@ -67,16 +68,15 @@ impl<'a> AcceptedRelease<'a> {
 /// Lays out all launches of a release. No page is hashed.
 pub fn accept_all<'a>(
     alloc: Global,
-    release: &'a Release,
-    files: &'a [Vec<u8>],
+    loaded: LoadedRelease<'a>,
 ) -> Result<AcceptedRelease<'a>, NoMemory>
-    requires { length files.now ≡ length release.now.paths }
-    ensures release { IfOk result (λ a. a.release ≡ release.now) }
-    ensures files { IfOk result (λ a. a.files ≡ bytes_of_files files.now) }
+    ensures release { IfOk result (λ a. a.release ≡ loaded.entry.release.now) }
+    ensures files { IfOk result (λ a. a.files ≡ bytes_of_files loaded.entry.files.now) }
 {
+    let LoadedRelease { release, files } = loaded;
     let mut launches = Vec::with_capacity(alloc, release.launches())?;
     for launch in release.all_launches() {
-        let outcome = own_outcome(accept(alloc, launch.launch(), files))?;
+        let outcome = own_outcome(accept(alloc, LoadedLaunch { launch, files }))?;
         launches.push(outcome)?;
     }
     Ok(AcceptedRelease {

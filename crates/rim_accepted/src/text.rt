@@ -1,4 +1,4 @@
-//! The files of a release, and texts about its launches.
+//! Texts about the launches of a release.
 ghost use Rattle.std.specs.Prelude.{◌≡◌, ◌≢◌, Err, IfOk, is_err, true};
 ghost use Rattle.std.specs.List.{list_any};
 ghost use Rattle.rim_accepted.specs.Lines.{line_with};
@@ -8,9 +8,6 @@ use crate::lines::push_line;
 use refusal::NoMemory;
 use rim_manifest::NamedLaunch;
 use std::alloc::Global;
-
-/// The bytes of a release's files, in the manifest's order.
-pub type Files = Vec<Vec<u8>>;
 
 /// A text about the launches of a release, and whether it says of some launch that it is refused.
 #[derive(Drop)]

@@ -313,11 +313,11 @@ module _ (algo : Algo) (num_aux : ℕ) (rule : Option RecRule) (cs : List Comman
 
 -- what is added for a command that was given
 pub line-next : (l : LaunchCommands) (i : ℕ) (c : Command) (now new : List ℕ) → slice_get (commands_in l) i ≡ Some c
-    → now ≡ trace_with l.accepted.launch.now (take i (commands_in l))
-    → new ≡ now ++ line_if_held l.accepted.launch.now.config.algo (rim_held (state_after l (i + 1)) c) c
-    → new ≡ trace_with l.accepted.launch.now (take (i + 1) (commands_in l))
+    → now ≡ trace_with l.accepted.named.now.launch (take i (commands_in l))
+    → new ≡ now ++ line_if_held l.accepted.named.now.launch.config.algo (rim_held (state_after l (i + 1)) c) c
+    → new ≡ trace_with l.accepted.named.now.launch (take (i + 1) (commands_in l))
 line-next l i c now new at so_far added =
-    let config = l.accepted.launch.now.config in
+    let config = l.accepted.named.now.launch.config in
     added ∙ ap (λ (text : List ℕ). text ++ line_if_held config.algo (rim_held (state_after l (i + 1)) c) c) so_far
     ∙ sym (one-more-line config.algo config.num_aux config.rec_rule (commands_in l) _ (followed l) i c at)
 

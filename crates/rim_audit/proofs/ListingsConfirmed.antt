@@ -13,12 +13,12 @@ use Rattle.rim_audit.specs.declared.commands.LaunchCommands.{LaunchCommands}
 use Rattle.rim_audit.specs.inside.Commands.{commands_in}
 use Rattle.rim_audit.proofs.MonitorFollows.{followed}
 
-pub says-yes : (l : LaunchCommands) → All IsTyped (commands_in l) → Are64Bytes (rim_after l.accepted.launch.now (commands_in l))
-    → ReplayAnswer (listing_with l.accepted.launch.now (commands_in l)) (Ok tt)
+pub says-yes : (l : LaunchCommands) → All IsTyped (commands_in l) → Are64Bytes (rim_after l.accepted.named.now.launch (commands_in l))
+    → ReplayAnswer (listing_with l.accepted.named.now.launch (commands_in l)) (Ok tt)
 says-yes l typed fit =
-    let config = l.accepted.launch.now.config in
+    let config = l.accepted.named.now.launch.config in
     let own = followed l in
-    let held : (run (empty_state config.num_aux config.rec_rule) (commands_in l)).rim ≡ Some (rim_after l.accepted.launch.now (commands_in l)) =
+    let held : (run (empty_state config.num_aux config.rec_rule) (commands_in l)).rim ≡ Some (rim_after l.accepted.named.now.launch (commands_in l)) =
     own.rim ∙ ap Some (sym (ap (λ o. unwrap_or o []) own.rim)) in
     true-listing config.num_aux config.rec_rule (commands_in l) config.algo
-    (rim_after l.accepted.launch.now (commands_in l)) config.aux typed fit own.accepted own.by_algo held
+    (rim_after l.accepted.named.now.launch (commands_in l)) config.aux typed fit own.accepted own.by_algo held

@@ -1,8 +1,7 @@
 //! The audit of a release: a monitor is given the commands of each launch.
-ghost use Rattle.std.specs.Prelude.{◌≡◌, ◌<◌, length, map, vec_len, true, IfOk, IfSome};
+ghost use Rattle.std.specs.Prelude.{◌≡◌, ◌<◌, length, map, vec_len, IfOk, IfSome};
 ghost use Rattle.std.specs.List.{All, slice_get};
 ghost use Rattle.refusal.specs.Answer.{Answers};
-ghost use Rattle.rim_launch.specs.LaunchData.{has_files};
 ghost use Rattle.ipa_layout.specs.Files.{bytes_of_files};
 ghost use Rattle.rim_accepted.specs.Accepted.{rim_after, rim_for};
 ghost use Rattle.rim_accepted.specs.Lines.{has_refused, seen};
@@ -17,9 +16,10 @@ use crate::laying_out::lay_out;
 use job_board::JobId;
 use job_workers::{FreeGate, Gate};
 use refusal::NoMemory;
-use rim_accepted::{AuditFault, Files, Report, has_refused, push_lines};
+use rim_accepted::{
+    AuditFault, Files, LoadedLaunch, LoadedRelease, Report, has_refused, push_lines,
+};
 use rim_desc::{Lanes, Measurement};
-use rim_launch::Launch;
 use rim_manifest::Release;
 use std::alloc::Global;
 
@@ -38,8 +38,8 @@ pub fn audit(
         (λ m. m.bytes) result (rim_for l.launch (bytes_of_files files.now.items))) }
 {
     let mut kept = Kept::nothing(alloc, files);
-    let launch = release.all_launches()[i].launch();
-    audit_launch(alloc, launch, files, &mut kept, Lanes::Four)
+    let launch = LoadedRelease::new(release, files).launch(i);
+    audit_launch(alloc, launch, &mut kept, Lanes::Four)
 }
 
 /// The audit of all launches: a line `rim-audit 1`; and a line `NAME ALGO HEX` for each launch in the manifest's order, or
@@ -49,19 +49,18 @@ pub fn audit_report(alloc: Global, release: &Release, files: &Files) -> Result<V
     ensures { IfOk result
         (λ text. text.items ≡ audit_text_of (bytes_of_files files.now.items) release.now.launches) }
 {
-    let report = audit_launches(alloc, release, files)?;
+    let report = audit_launches(alloc, LoadedRelease::new(release, files))?;
     Ok(report.text)
 }
 
 /// The same audit, and whether some launch in it is refused.
-pub fn audit_launches(alloc: Global, release: &Release, files: &Files) -> Result<Report, NoMemory>
-    requires { vec_len files.now ≡ length release.now.paths }
-    ensures text { IfOk result
-        (λ r. r.text.items ≡ audit_text_of (bytes_of_files files.now.items) release.now.launches) }
-    ensures refused { IfOk result
-        (λ r. r.has_refused ≡ has_refused (bytes_of_files files.now.items) release.now.launches) }
+pub fn audit_launches(alloc: Global, loaded: LoadedRelease<'_>) -> Result<Report, NoMemory>
+    ensures text { IfOk result (λ r. r.text.items ≡ audit_text_of
+        (bytes_of_files loaded.entry.files.now) loaded.entry.release.now.launches) }
+    ensures refused { IfOk result (λ r. r.has_refused ≡ has_refused
+        (bytes_of_files loaded.entry.files.now) loaded.entry.release.now.launches) }
 {
-    audit_with_gate(alloc, &FreeGate, release, files)
+    audit_with_gate(alloc, &FreeGate, loaded)
 }
 
 /// The same, where a gate is called around the audit of each launch, as by worker 0, and no page is counted. No clause speaks of
@@ -69,19 +68,17 @@ pub fn audit_launches(alloc: Global, release: &Release, files: &Files) -> Result
 pub fn audit_with_gate<G: Gate>(
     alloc: Global,
     gate: &G,
-    release: &Release,
-    files: &Files,
+    loaded: LoadedRelease<'_>,
 ) -> Result<Report, NoMemory>
-    requires { vec_len files.now ≡ length release.now.paths }
-    ensures text { IfOk result
-        (λ r. r.text.items ≡ audit_text_of (bytes_of_files files.now.items) release.now.launches) }
-    ensures refused { IfOk result
-        (λ r. r.has_refused ≡ has_refused (bytes_of_files files.now.items) release.now.launches) }
+    ensures text { IfOk result (λ r. r.text.items ≡ audit_text_of
+        (bytes_of_files loaded.entry.files.now) loaded.entry.release.now.launches) }
+    ensures refused { IfOk result (λ r. r.has_refused ≡ has_refused
+        (bytes_of_files loaded.entry.files.now) loaded.entry.release.now.launches) }
 {
-    let outcomes = outcomes(alloc, gate, release, files)?;
+    let outcomes = outcomes(alloc, gate, loaded)?;
     let mut text = Vec::new(alloc);
     text.extend_from_slice(b"rim-audit 1\n")?;
-    push_lines(&mut text, release.all_launches(), &outcomes)?;
+    push_lines(&mut text, loaded.release.all_launches(), &outcomes)?;
     Ok(Report {
         text,
         has_refused: has_refused(&outcomes),
@@ -93,13 +90,13 @@ pub fn audit_with_gate<G: Gate>(
 fn outcomes<G: Gate>(
     alloc: Global,
     gate: &G,
-    release: &Release,
-    files: &[Vec<u8>],
+    loaded: LoadedRelease<'_>,
 ) -> Result<Vec<Result<Measurement, AuditFault>>, NoMemory>
-    requires { length files.now ≡ length release.now.paths }
     ensures { IfOk result (λ found. map seen found.items
-        ≡ map (λ l. rim_for l.launch (bytes_of_files files.now)) release.now.launches) }
+        ≡ map (λ l. rim_for l.launch (bytes_of_files loaded.entry.files.now))
+        loaded.entry.release.now.launches) }
 {
+    let LoadedRelease { release, files } = loaded;
     let mut kept = Kept::new(alloc, files);
     let mut found = Vec::with_capacity(alloc, release.launches())?;
     gate.begin(0, release.launches());
@@ -107,7 +104,8 @@ fn outcomes<G: Gate>(
         let job = JobId::Launch(number);
         gate.before(0, job);
         kept.close_at_last(number.saturating_add(1) >= release.launches());
-        found.push(outcome(alloc, launch.launch(), files, &mut kept, gate.lanes())?)?;
+        let launch = LoadedLaunch { launch, files };
+        found.push(outcome(alloc, launch, &mut kept, gate.lanes())?)?;
         gate.after(0, job);
     }
     Ok(found)
@@ -117,22 +115,20 @@ fn outcomes<G: Gate>(
 /// and this launch alone is audited again.
 fn outcome<'a>(
     alloc: Global,
-    launch: &'a Launch,
-    files: &'a [Vec<u8>],
+    launch: LoadedLaunch<'a>,
     kept: &mut Kept<'a>,
     lanes: Lanes,
 ) -> Result<Result<Measurement, AuditFault>, NoMemory>
-    requires there { has_files launch.now (length files.now) ≡ true }
-    requires kept { AreKept (bytes_of_files files.now) kept.old }
+    requires { AreKept (bytes_of_files launch.files.now) kept.old }
     ensures outcome { IfOk result
-        (λ outcome. seen outcome ≡ rim_for launch.now (bytes_of_files files.now)) }
-    ensures kept { AreKept (bytes_of_files files.now) kept.new }
+        (λ outcome. seen outcome ≡ rim_for launch.entry.launch.now.launch (bytes_of_files launch.entry.files.now)) }
+    ensures kept { AreKept (bytes_of_files launch.entry.files.now) kept.new }
 {
-    match audit_launch(alloc, launch, files, kept, lanes) {
+    match audit_launch(alloc, launch, kept, lanes) {
         Ok(rim) => Ok(Ok(rim)),
         Err(AuditFault::NoMemory) => {
-            kept.free(files);
-            outcome_again(alloc, launch, files, kept, lanes)
+            kept.free(launch.files);
+            outcome_again(alloc, launch, kept, lanes)
         }
         Err(fault) => Ok(Err(fault)),
     }
@@ -141,18 +137,16 @@ fn outcome<'a>(
 /// The same, where nothing is kept that could be freed.
 fn outcome_again<'a>(
     alloc: Global,
-    launch: &'a Launch,
-    files: &'a [Vec<u8>],
+    launch: LoadedLaunch<'a>,
     kept: &mut Kept<'a>,
     lanes: Lanes,
 ) -> Result<Result<Measurement, AuditFault>, NoMemory>
-    requires there { has_files launch.now (length files.now) ≡ true }
-    requires kept { AreKept (bytes_of_files files.now) kept.old }
+    requires { AreKept (bytes_of_files launch.files.now) kept.old }
     ensures outcome { IfOk result
-        (λ outcome. seen outcome ≡ rim_for launch.now (bytes_of_files files.now)) }
-    ensures kept { AreKept (bytes_of_files files.now) kept.new }
+        (λ outcome. seen outcome ≡ rim_for launch.entry.launch.now.launch (bytes_of_files launch.entry.files.now)) }
+    ensures kept { AreKept (bytes_of_files launch.entry.files.now) kept.new }
 {
-    match audit_launch(alloc, launch, files, kept, lanes) {
+    match audit_launch(alloc, launch, kept, lanes) {
         Ok(rim) => Ok(Ok(rim)),
         Err(fault) => Ok(Err(fault.own_fault()?)),
     }
@@ -163,18 +157,16 @@ fn outcome_again<'a>(
 #[tactic(auto, unfolding(rim_accepted::specs::Accepted::rim_for))]
 fn audit_launch<'a>(
     alloc: Global,
-    launch: &'a Launch,
-    files: &'a [Vec<u8>],
+    launch: LoadedLaunch<'a>,
     kept: &mut Kept<'a>,
     lanes: Lanes,
 ) -> Result<Measurement, AuditFault>
-    requires there { has_files launch.now (length files.now) ≡ true }
-    requires kept { AreKept (bytes_of_files files.now) kept.old }
+    requires { AreKept (bytes_of_files launch.files.now) kept.old }
     ensures rim { Answers AuditFault.NoMemory (λ m. m.bytes) result
-        (rim_for launch.now (bytes_of_files files.now)) }
-    ensures kept { AreKept (bytes_of_files files.now) kept.new }
+        (rim_for launch.entry.launch.now.launch (bytes_of_files launch.entry.files.now)) }
+    ensures kept { AreKept (bytes_of_files launch.entry.files.now) kept.new }
 {
-    let commands = lay_out(alloc, launch, files, lanes)?;
+    let commands = lay_out(alloc, launch, lanes)?;
     let (rim, copies) = followed(alloc, &commands, kept)?;
     kept.keep(commands, copies);
     Ok(rim)
@@ -189,7 +181,7 @@ fn followed(
 ) -> Result<(Measurement, Vec<MonitorCopy>), NoMemory>
     requires { AreKept (bytes_of_files commands.now.accepted.files.now) kept.old }
     ensures rim { IfOk result (λ found. found.0.bytes
-        ≡ rim_after commands.now.accepted.launch.now (commands_in commands.now)) }
+        ≡ rim_after commands.now.accepted.named.now.launch (commands_in commands.now)) }
     ensures copies { IfOk result (λ found. All (IsCopyIn commands.now) found.1.items) }
     ensures kept { AreKept (bytes_of_files commands.now.accepted.files.now) kept.new }
 {

@@ -20,7 +20,7 @@ pub struct LaunchCommands<'a> {
     pub plan: Plan,
     /// How many of its pages are hashed side by side.
     pub lanes: Lanes,
-    pub ghost is_listed: { listed accepted.launch.now accepted.placed ≡ Ok plan },
+    pub ghost is_listed: { listed accepted.named.now.launch accepted.placed ≡ Ok plan },
 }
 
 /// What a command is given for its page where it creates no measured one. It does not use it.
@@ -48,7 +48,7 @@ impl<'a> LaunchCommands<'a> {
     pub fn monitor(&self, alloc: Global) -> Monitor
         ensures { result ≡ state_after self.now 0 }
     {
-        let config = self.accepted.launch.config();
+        let config = self.accepted.launch().config();
         Monitor::new(alloc, config.num_aux, config.rec_rule)
     }
 
@@ -77,7 +77,7 @@ impl<'a> LaunchCommands<'a> {
     /// The Realm Initial Measurement that a monitor holds after all commands.
     pub fn rim(&self, monitor: &Monitor) -> Measurement
         requires { monitor.now ≡ state_after self.now (length (commands_in self.now)) }
-        ensures { result.bytes ≡ rim_after self.now.accepted.launch.now (commands_in self.now) }
+        ensures { result.bytes ≡ rim_after self.now.accepted.named.now.launch (commands_in self.now) }
     {
         match monitor.rim() {
             Some(rim) => rim,
@@ -170,7 +170,7 @@ impl<'a> LaunchCommands<'a> {
         let item = self.accepted.placed.items().get(item)?;
         match item.source {
             Some(Source::File(file)) => Some(FileKey {
-                algo: self.accepted.launch.config().algo,
+                algo: self.accepted.launch().config().algo,
                 file,
                 lead: item.lead,
             }),
@@ -232,7 +232,7 @@ impl<'a> LaunchCommands<'a> {
             unreachable!()
         };
         let bytes = self.accepted.placed.bytes(self.accepted.files, source);
-        let algo = self.accepted.launch.config().algo;
+        let algo = self.accepted.launch().config().algo;
         Blob::new(source, item.lead, bytes).page(algo, page)
     }
 }

@@ -120,7 +120,7 @@ fn shared_with(
 {
     if !has_same_settings(
         &of_launch.launch.config(),
-        &commands.accepted.launch.config(),
+        &commands.accepted.launch().config(),
     ) {
         return None;
     }

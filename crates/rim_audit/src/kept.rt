@@ -126,7 +126,7 @@ impl<'a> Kept<'a> {
             return;
         };
         let LaunchCommands { accepted, plan, .. } = commands;
-        let launch = accepted.launch;
+        let launch = accepted.launch();
         let _ = self.launches.push(LaunchCopies {
             launch,
             items,

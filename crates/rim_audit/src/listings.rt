@@ -2,7 +2,6 @@
 ghost use Rattle.std.specs.Prelude.{◌≡◌, ◌≢◌, ◌++◌, ◌<◌, length, is_err, vec_len, false, true, Err, Ok, IfOk, IfSome, OnOk};
 ghost use Rattle.std.specs.List.{All, flat_map, slice_get};
 ghost use Rattle.refusal.specs.Answer.{Answers};
-ghost use Rattle.rim_launch.specs.LaunchData.{has_files};
 ghost use Rattle.ipa_layout.specs.Files.{bytes_of_files};
 ghost use Rattle.rim_accepted.specs.Accepted.{rim_after};
 ghost use Rattle.rmi_line.specs.Ends.{command_line, first_line, last_line, with_newline};
@@ -18,10 +17,11 @@ use crate::known_pages::KnownPages;
 use crate::laying_out::lay_out;
 use itoa::Buffer;
 use refusal::NoMemory;
-use rim_accepted::{AuditFault, Files, Report, push_line, push_rim, refused_report};
+use rim_accepted::{
+    AuditFault, Files, LoadedLaunch, LoadedRelease, Report, push_line, push_rim, refused_report,
+};
 use rim_desc::{Algo, Command, Lanes, Measurement, RecRule};
-use rim_launch::Launch;
-use rim_manifest::{NamedLaunch, Release};
+use rim_manifest::Release;
 use rmi_line::print_line;
 use std::alloc::Global;
 
@@ -40,69 +40,43 @@ pub fn listing(
         (λ text. text.items) result (listing_of l.launch (bytes_of_files files.now.items))) }
     ensures confirmed { IfOk result (λ text. ReplayAnswer text.items (Ok tt)) }
 {
-    let launch = release.all_launches()[i].launch();
-    list_launch(alloc, launch, files, Lanes::Four)
+    list_launch(
+        alloc,
+        LoadedRelease::new(release, files).launch(i),
+        Lanes::Four,
+    )
 }
 
-/// The listing of the launch of this number; or, where the launch is refused, its line of a report: `NAME refused KIND`. Pages
-/// are hashed in as many lanes.
+/// The listing of a launch; or, where it is refused, its line of a report: `NAME refused KIND`. Pages are hashed in as many lanes.
 pub fn listing_or_refusal(
     alloc: Global,
     lanes: Lanes,
-    release: &Release,
-    files: &Files,
-    i: usize,
+    loaded: LoadedLaunch<'_>,
 ) -> Result<Report, NoMemory>
-    requires files { vec_len files.now ≡ length release.now.paths }
-    requires launch { i < length release.now.launches }
-    ensures text { IfSome (slice_get release.now.launches i)
-        (λ l. IfOk result (λ r. r.text.items ≡ shown_of (bytes_of_files files.now.items) l)) }
-    ensures refused { IfSome (slice_get release.now.launches i) (λ l. IfOk result
-        (λ r. r.has_refused ≡ is_err (listing_of l.launch (bytes_of_files files.now.items)))) }
+    ensures text { IfOk result (λ r. r.text.items ≡ shown_of (bytes_of_files loaded.entry.files.now)
+        loaded.entry.launch.now) }
+    ensures refused { IfOk result (λ r. r.has_refused ≡ is_err
+        (listing_of loaded.entry.launch.now.launch (bytes_of_files loaded.entry.files.now))) }
     ensures confirmed { IfOk result
         (λ r. r.has_refused ≡ false → ReplayAnswer r.text.items (Ok tt)) }
 {
-    list_or_refuse(alloc, &release.all_launches()[i], files, lanes)
-}
-
-/// The listing of a launch, or its line of a report where it is refused.
-fn list_or_refuse(
-    alloc: Global,
-    launch: &NamedLaunch,
-    files: &[Vec<u8>],
-    lanes: Lanes,
-) -> Result<Report, NoMemory>
-    requires { has_files launch.now.launch (length files.now) ≡ true }
-    ensures text { IfOk result
-        (λ r. r.text.items ≡ shown_of (bytes_of_files files.now) launch.now) }
-    ensures refused { IfOk result
-        (λ r. r.has_refused ≡ is_err (listing_of launch.now.launch (bytes_of_files files.now))) }
-    ensures confirmed { IfOk result
-        (λ r. r.has_refused ≡ false → ReplayAnswer r.text.items (Ok tt)) }
-{
-    match list_launch(alloc, launch.launch(), files, lanes) {
+    match list_launch(alloc, loaded, lanes) {
         Ok(text) => Ok(Report {
             text,
             has_refused: false,
         }),
-        Err(fault) => refused_report(alloc, launch, fault),
+        Err(fault) => refused_report(alloc, loaded.launch, fault),
     }
 }
 
 /// The listing of a launch, or why it is refused.
 #[tactic(auto, unfolding(crate::specs::Listing::listing_of))]
-fn list_launch(
-    alloc: Global,
-    launch: &Launch,
-    files: &[Vec<u8>],
-    lanes: Lanes,
-) -> Result<Vec<u8>, AuditFault>
-    requires { has_files launch.now (length files.now) ≡ true }
+fn list_launch(alloc: Global, loaded: LoadedLaunch<'_>, lanes: Lanes) -> Result<Vec<u8>, AuditFault>
     ensures text { Answers AuditFault.NoMemory (λ text. text.items) result
-        (listing_of launch.now (bytes_of_files files.now)) }
+        (listing_of loaded.entry.launch.now.launch (bytes_of_files loaded.entry.files.now)) }
     ensures confirmed { IfOk result (λ text. ReplayAnswer text.items (Ok tt)) }
 {
-    let commands = lay_out(alloc, launch, files, lanes)?;
+    let commands = lay_out(alloc, loaded, lanes)?;
     let text = print(alloc, &commands)?;
     Ok(text)
 }
@@ -110,10 +84,10 @@ fn list_launch(
 /// The lines of a launch that is accepted.
 fn print(alloc: Global, commands: &LaunchCommands) -> Result<Vec<u8>, NoMemory>
     ensures text { IfOk result (λ text. text.items
-        ≡ listing_with commands.now.accepted.launch.now (commands_in commands.now)) }
+        ≡ listing_with commands.now.accepted.named.now.launch (commands_in commands.now)) }
     ensures confirmed { IfOk result (λ text. ReplayAnswer text.items (Ok tt)) }
 {
-    let config = commands.accepted.launch.config();
+    let config = commands.accepted.launch().config();
     let mut text = Vec::new(alloc);
     push_first(&mut text, config.num_aux, config.rec_rule)?;
     let rim = push_commands(alloc, &mut text, commands)?;
@@ -152,7 +126,7 @@ fn push_commands(
         (text.new.items ≡ text.old.items ++ flat_map command_line (commands_in commands.now)) }
     ensures typed { IfOk result (λ m. All IsTyped (commands_in commands.now)) }
     ensures rim { IfOk result
-        (λ m. m.bytes ≡ rim_after commands.now.accepted.launch.now (commands_in commands.now)) }
+        (λ m. m.bytes ≡ rim_after commands.now.accepted.named.now.launch (commands_in commands.now)) }
 {
     let mut monitor = commands.monitor(alloc);
     let mut beside = Beside::new(KnownPages::new(alloc, commands.accepted.files, 0));

@@ -1,8 +1,6 @@
 //! The trace of a launch: its measurement after each command that creates or extends it.
-ghost use Rattle.std.specs.Prelude.{◌≡◌, ◌++◌, ◌<◌, length, is_err, option_map, vec_len, true, IfOk, IfSome, OnOk};
-ghost use Rattle.std.specs.List.{slice_get};
+ghost use Rattle.std.specs.Prelude.{◌≡◌, ◌++◌, is_err, option_map, IfOk, OnOk};
 ghost use Rattle.refusal.specs.Answer.{Answers};
-ghost use Rattle.rim_launch.specs.LaunchData.{has_files};
 ghost use Rattle.ipa_layout.specs.Files.{bytes_of_files};
 ghost use Rattle.rim_audit.specs.Trace.{line_if_held, rim_held, rim_line, shown_trace_of, trace_of, trace_with};
 ghost use Rattle.rim_audit.specs.inside.Commands.{commands_in};
@@ -12,54 +10,32 @@ use crate::commands::LaunchCommands;
 use crate::known_pages::KnownPages;
 use crate::laying_out::lay_out;
 use refusal::NoMemory;
-use rim_accepted::{AuditFault, Files, Report, push_digest, refused_report};
+use rim_accepted::{AuditFault, LoadedLaunch, Report, push_digest, refused_report};
 use rim_desc::{Algo, Command, Lanes, Measurement, extends};
-use rim_launch::Launch;
-use rim_manifest::{NamedLaunch, Release};
 use rmi_line::print_traced;
 use rmm_monitor::{Monitor, is_runnable};
 use std::alloc::Global;
 
-/// The trace of the launch of this number: a line for each command that creates or extends the Realm Initial Measurement, with
+/// The trace of a launch: a line for each command that creates or extends the Realm Initial Measurement, with
 /// the measurement that a monitor holds after it (64 or 128 hexadecimal digits), a space, and the command's words but for the
 /// granules that the host chooses. Or, where the launch is refused, its line of a report: `NAME refused KIND`.
 /// Pages are hashed in as many lanes.
 pub fn trace_or_refusal(
     alloc: Global,
     lanes: Lanes,
-    release: &Release,
-    files: &Files,
-    i: usize,
+    loaded: LoadedLaunch<'_>,
 ) -> Result<Report, NoMemory>
-    requires files { vec_len files.now ≡ length release.now.paths }
-    requires launch { i < length release.now.launches }
-    ensures text { IfSome (slice_get release.now.launches i) (λ l. IfOk result
-        (λ r. r.text.items ≡ shown_trace_of (bytes_of_files files.now.items) l)) }
-    ensures refused { IfSome (slice_get release.now.launches i) (λ l. IfOk result
-        (λ r. r.has_refused ≡ is_err (trace_of l.launch (bytes_of_files files.now.items)))) }
+    ensures text { IfOk result (λ r. r.text.items ≡ shown_trace_of
+        (bytes_of_files loaded.entry.files.now) loaded.entry.launch.now) }
+    ensures refused { IfOk result (λ r. r.has_refused ≡ is_err
+        (trace_of loaded.entry.launch.now.launch (bytes_of_files loaded.entry.files.now))) }
 {
-    trace_or_refuse(alloc, &release.all_launches()[i], files, lanes)
-}
-
-/// The trace of a launch, or its line of a report where it is refused.
-fn trace_or_refuse(
-    alloc: Global,
-    launch: &NamedLaunch,
-    files: &[Vec<u8>],
-    lanes: Lanes,
-) -> Result<Report, NoMemory>
-    requires { has_files launch.now.launch (length files.now) ≡ true }
-    ensures text { IfOk result
-        (λ r. r.text.items ≡ shown_trace_of (bytes_of_files files.now) launch.now) }
-    ensures refused { IfOk result
-        (λ r. r.has_refused ≡ is_err (trace_of launch.now.launch (bytes_of_files files.now))) }
-{
-    match trace_launch(alloc, launch.launch(), files, lanes) {
+    match trace_launch(alloc, loaded, lanes) {
         Ok(text) => Ok(Report {
             text,
             has_refused: false,
         }),
-        Err(fault) => refused_report(alloc, launch, fault),
+        Err(fault) => refused_report(alloc, loaded.launch, fault),
     }
 }
 
@@ -67,15 +43,13 @@ fn trace_or_refuse(
 #[tactic(auto, unfolding(crate::specs::Trace::trace_of))]
 fn trace_launch(
     alloc: Global,
-    launch: &Launch,
-    files: &[Vec<u8>],
+    loaded: LoadedLaunch<'_>,
     lanes: Lanes,
 ) -> Result<Vec<u8>, AuditFault>
-    requires { has_files launch.now (length files.now) ≡ true }
     ensures { Answers AuditFault.NoMemory (λ text. text.items) result
-        (trace_of launch.now (bytes_of_files files.now)) }
+        (trace_of loaded.entry.launch.now.launch (bytes_of_files loaded.entry.files.now)) }
 {
-    let commands = lay_out(alloc, launch, files, lanes)?;
+    let commands = lay_out(alloc, loaded, lanes)?;
     let text = trace(alloc, &commands)?;
     Ok(text)
 }
@@ -83,9 +57,9 @@ fn trace_launch(
 /// The lines of a launch that is accepted. A monitor takes each command before its line is added.
 fn trace(alloc: Global, commands: &LaunchCommands) -> Result<Vec<u8>, NoMemory>
     ensures { IfOk result (λ text. text.items
-        ≡ trace_with commands.now.accepted.launch.now (commands_in commands.now)) }
+        ≡ trace_with commands.now.accepted.named.now.launch (commands_in commands.now)) }
 {
-    let algo = commands.accepted.launch.config().algo;
+    let algo = commands.accepted.launch().config().algo;
     let mut text = Vec::new(alloc);
     let mut monitor = commands.monitor(alloc);
     let mut beside = Beside::new(KnownPages::new(alloc, commands.accepted.files, 0));

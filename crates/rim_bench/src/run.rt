@@ -6,7 +6,7 @@ use crate::digest::Digest;
 use crate::job::{Job, Shape, Size};
 use crate::manifest::manifest;
 use rim_release::{
-    Files, Gate, JobId, Lanes, Release, audit_with_gate, listing_or_refusal, measure_release,
+    Files, Gate, JobId, Lanes, LoadedRelease, Release, audit_with_gate, listing_or_refusal, measure_release,
     read_manifest, replay, report_alone,
 };
 use std::alloc::{AllocError, Global};
@@ -70,10 +70,11 @@ pub fn run<R: Threads + Wait + Sync>(
     }
     let mut gate = LanesGate { lanes };
     let mut found = Digest::EMPTY;
+    let loaded = LoadedRelease::new(&release, &files);
     match job {
-        Job::Audit => audited(alloc, &gate, &release, &files, &mut found)?,
-        Job::List => listed(alloc, lanes, &release, &files, &mut found)?,
-        Job::Guest => alone(alloc, lanes, &release, &files, &mut found)?,
+        Job::Audit => audited(alloc, &gate, loaded, &mut found)?,
+        Job::List => listed(alloc, lanes, loaded, &mut found)?,
+        Job::Guest => alone(alloc, lanes, loaded, &mut found)?,
         Job::Release | Job::Recs | Job::Alike => {
             measured(rt, alloc, &mut gate, &release, &files, &mut found)?
         }
@@ -101,13 +102,10 @@ fn files(alloc: Global, shape: &Shape, seed: u32, devicetree: &[u8]) -> Result<F
 fn audited(
     alloc: Global,
     gate: &LanesGate,
-    release: &Release,
-    files: &Files,
+    loaded: LoadedRelease<'_>,
     found: &mut Digest,
-) -> Result<(), Fault>
-    requires { vec_len files.now ≡ length release.now.paths }
-{
-    let report = audit_with_gate(alloc, gate, release, files).map_err(|_| Fault::NoMemory)?;
+) -> Result<(), Fault> {
+    let report = audit_with_gate(alloc, gate, loaded).map_err(|_| Fault::NoMemory)?;
     found.add(report.text.as_slice());
     Ok(())
 }
@@ -116,14 +114,11 @@ fn audited(
 fn listed(
     alloc: Global,
     lanes: Lanes,
-    release: &Release,
-    files: &Files,
+    loaded: LoadedRelease<'_>,
     found: &mut Digest,
-) -> Result<(), Fault>
-    requires { vec_len files.now ≡ length release.now.paths }
-{
-    for i in 0..release.launches() {
-        let shown = listing_or_refusal(alloc, lanes, release, files, i).map_err(
+) -> Result<(), Fault> {
+    for i in 0..loaded.release.launches() {
+        let shown = listing_or_refusal(alloc, lanes, loaded.launch(i)).map_err(
             |_| Fault::NoMemory,
         )?;
         found.add(shown.text.as_slice());
@@ -138,13 +133,10 @@ fn listed(
 fn alone(
     alloc: Global,
     lanes: Lanes,
-    release: &Release,
-    files: &Files,
+    loaded: LoadedRelease<'_>,
     found: &mut Digest,
-) -> Result<(), Fault>
-    requires { vec_len files.now ≡ length release.now.paths }
-{
-    let report = report_alone(alloc, lanes, release, files).map_err(|_| Fault::Refused)?;
+) -> Result<(), Fault> {
+    let report = report_alone(alloc, lanes, loaded).map_err(|_| Fault::Refused)?;
     found.add(report.text.as_slice());
     Ok(())
 }

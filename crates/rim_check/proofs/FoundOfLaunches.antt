@@ -30,42 +30,42 @@ or-true true = refl
 or-true false = refl
 
 -- a launch that is accepted adds its pages and its warnings
-accepted-found : (names : List (List (List ℕ))) (files : List (List ℕ)) (l : NamedData) (a : AcceptedLaunch) (old new : Found)
-    → accepted_of l.launch files ≡ Ok a.placed → a.launch.now ≡ l.launch
+accepted-found : (files : List (List ℕ)) (l : NamedData) (a : AcceptedLaunch) (old new : Found)
+    → accepted_of l.launch files ≡ Ok a.placed → a.named.now ≡ l
     → (new.refusals.items ≡ old.refusals.items) × (new.has_refused ≡ old.has_refused)
-    → new.pages ≡ old.pages ++ keys_at a.launch.now (Ok a.placed)
-    → AddsNumber l.launch.number (numbers_of old.warnings) (numbers_of new.warnings) → AddsFound names files l old new
-accepted-found names files l a old new accepted own same pages warned = record {
-  said = subst (λ (text : List ℕ). AddsSaid names files l old.refusals.items text) (sym same.0)
-      (says-nothing names files l a.placed old.refusals.items accepted);
+    → new.pages ≡ old.pages ++ keys_at a.named.now.launch (Ok a.placed)
+    → AddsNumber a.named.now.launch.number (numbers_of old.warnings) (numbers_of new.warnings) → AddsFound files l old new
+accepted-found files l a old new accepted own same pages warned = record {
+  said = subst (λ (text : List ℕ). AddsSaid files l old.refusals.items text) (sym same.0)
+      (says-nothing files l a.placed old.refusals.items accepted);
   refused = same.1 ∙ or-false old.has_refused ∙ ap (λ (r : Result PlacedData AuditFault). old.has_refused || is_err r) (sym accepted);
-  pages = pages ∙ ap (λ (x : LaunchData). old.pages ++ keys_at x (Ok a.placed)) own
+  pages = pages ∙ ap (λ (x : NamedData). old.pages ++ keys_at x.launch (Ok a.placed)) own
       ∙ ap (λ (r : Result PlacedData AuditFault). old.pages ++ keys_at l.launch r) (sym accepted);
   warned = λ (ls : List NamedData) (there : slice_get ls l.launch.number ≡ Some l).
-      warned files ls (record { launch = l; there = there; accepted = subst (λ (r : Result PlacedData AuditFault). IsOk r) (sym accepted) refl });
+      subst (λ (x : NamedData). AddsNumber x.launch.number (numbers_of old.warnings) (numbers_of new.warnings)) own warned files ls (record { launch = l; there = there; accepted = subst (λ (r : Result PlacedData AuditFault). IsOk r) (sym accepted) refl });
 }
 
-pub accepted-all : (names : List (List (List ℕ))) (files : List (List ℕ)) (l : NamedData) (a : AcceptedLaunch) (old new : Found) (answer : Result
+pub accepted-all : (files : List (List ℕ)) (l : NamedData) (a : AcceptedLaunch) (old new : Found) (answer : Result
     (Unit {0}) NoMemory)
-    → accepted_of l.launch files ≡ Ok a.placed → a.launch.now ≡ l.launch
+    → accepted_of l.launch files ≡ Ok a.placed → a.named.now ≡ l
     → OnOk answer ((new.refusals.items ≡ old.refusals.items) × (new.has_refused ≡ old.has_refused))
-    → OnOk answer (new.pages ≡ old.pages ++ keys_at a.launch.now (Ok a.placed))
-    → OnOk answer (AddsNumber l.launch.number (numbers_of old.warnings) (numbers_of new.warnings)) → OnOk answer (AddsFound names files l old new)
-accepted-all names files l a old new (Ok done) accepted own same pages warned = accepted-found names files l a old new accepted own same pages warned
-accepted-all names files l a old new (Err e) accepted own same pages warned = tt
+    → OnOk answer (new.pages ≡ old.pages ++ keys_at a.named.now.launch (Ok a.placed))
+    → OnOk answer (AddsNumber a.named.now.launch.number (numbers_of old.warnings) (numbers_of new.warnings)) → OnOk answer (AddsFound files l old new)
+accepted-all files l a old new (Ok done) accepted own same pages warned = accepted-found files l a old new accepted own same pages warned
+accepted-all files l a old new (Err e) accepted own same pages warned = tt
 
 no-keys : (l : LaunchData) (r : Result PlacedData AuditFault) → is_err r ≡ true → keys_at l r ≡ []
 no-keys l (Ok p) e = absurd cc
 no-keys l (Err fault) e = refl
 
 -- one that is refused adds its line
-pub refused-found : (names : List (List (List ℕ))) (files : List (List ℕ)) (l : NamedData) (why : LaunchReason) (hint : List ℕ) (old new : Found)
-    → IsRefusedFor l.launch files why → AddsLine (refusal_said names l why hint) old.refusals.items new.refusals.items
-    → new.has_refused ≡ true → new.pages ≡ old.pages → new.warnings ≡ old.warnings → AddsFound names files l old new
-refused-found names files l why hint old new refused adds is_refused pages warnings =
+pub refused-found : (files : List (List ℕ)) (l : NamedData) (why : LaunchReason) (hint : List ℕ) (old new : Found)
+    → IsRefusedFor l.launch files why → AddsLine (refusal_said l why hint) old.refusals.items new.refusals.items
+    → new.has_refused ≡ true → new.pages ≡ old.pages → new.warnings ≡ old.warnings → AddsFound files l old new
+refused-found files l why hint old new refused adds is_refused pages warnings =
     let is = is-refused l.launch files why refused in
     record {
-      said = says-why names files l why hint old.refusals.items new.refusals.items refused adds;
+      said = says-why files l why hint old.refusals.items new.refusals.items refused adds;
       refused = is_refused ∙ or-true old.has_refused ∙ ap (λ (b : Bool). old.has_refused || b) (sym is);
       pages = pages ∙ sym (append-nil old.pages) ∙ ap (λ (ks : List PageKey). old.pages ++ ks) (sym (no-keys l.launch (accepted_of l.launch files) is));
       warned = λ (ls : List NamedData) (there : slice_get ls l.launch.number ≡ Some l) are. subst (λ w. AreWarned files ls (numbers_of w)) (sym warnings) are;

@@ -5,7 +5,7 @@ use Rattle.std.proofs.lemmas.List.{append-nil}
 use Rattle.rim_launch.specs.LaunchData.{LaunchData}
 use Rattle.rim_launch.specs.declared.config.Config.{Config}
 use Rattle.ipa_layout.specs.Layout.{PlacedData}
-use Rattle.rim_manifest.specs.Launches.{NamedData}
+use Rattle.rim_manifest.specs.Launches.{NamedData, item_name}
 use Rattle.rim_accepted.specs.Accepted.{accepted_of, rim_for}
 use Rattle.rim_accepted.specs.AuditFaults.{audit_kind_of}
 use Rattle.rim_accepted.specs.Reasons.{IsRefusedFor, audit_fault_of}
@@ -15,51 +15,50 @@ use Rattle.rim_accepted.proofs.RefusedLaunches.{same_refusal}
 use Rattle.rim_check.specs.Details.{reason_detail}
 use Rattle.rim_check.specs.Explained.{launch_front, refusal_said}
 use Rattle.rim_line.specs.Lines.{AddsLine, IsKnown, Saying, SayInTurn}
-use Rattle.rim_line.specs.Readables.{item_name}
 use Rattle.rim_check.specs.inside.Refused.{AddsSaid}
 
 -- a line that is made of these parts is the line of a launch's refusal
-pub says-refusal : (names : List (List (List ℕ))) (l : NamedData) (why : LaunchReason) (hint name kind before after old new : List ℕ) (fault : AuditFault)
-    (number : ℕ) (config : Config)
-    → name ≡ l.name → number ≡ l.launch.number → config ≡ l.launch.config → fault ≡ audit_fault_of why → kind ≡ audit_kind_of fault
-    → IsKnown (Some (launch_front name)) before → IsKnown (Some ((codes ": " ++ reason_detail (item_name names number) config why) ++ hint)) after
+pub says-refusal : (l : NamedData) (why : LaunchReason) (hint name kind before after old new : List ℕ) (fault : AuditFault)
+    (config : Config)
+    → name ≡ l.name → config ≡ l.launch.config → fault ≡ audit_fault_of why → kind ≡ audit_kind_of fault
+    → IsKnown (Some (launch_front name)) before → IsKnown (Some ((codes ": " ++ reason_detail (item_name l) config why) ++ hint)) after
     → ((front detail : Option (List ℕ)) → IsKnown front before → IsKnown detail after
     → AddsLine (record { front = front; word = kind; detail = detail }) old new)
-    → AddsLine (refusal_said names l why hint) old new
-says-refusal names l why hint name kind before after old new fault number config named numbered configured faulty word begins ends adds =
+    → AddsLine (refusal_said l why hint) old new
+says-refusal l why hint name kind before after old new fault config named configured faulty word begins ends adds =
     subst (λ (x : Saying). AddsLine x old new) same (adds s.front s.detail begins ends)
   where
     s : Saying
-    s = record { front = Some (launch_front name); word = kind; detail = Some ((codes ": " ++ reason_detail (item_name names number) config why) ++ hint) }
+    s = record { front = Some (launch_front name); word = kind; detail = Some ((codes ": " ++ reason_detail (item_name l) config why) ++ hint) }
 
     told : List ℕ → Saying
     told detail = record { front = Some (launch_front l.name); word = audit_kind_of (audit_fault_of why); detail = Some detail }
 
-    detail_of : ℕ → Config → List ℕ
-    detail_of n c = (codes ": " ++ reason_detail (item_name names n) c why) ++ hint
+    detail_of : Config → List ℕ
+    detail_of c = (codes ": " ++ reason_detail (item_name l) c why) ++ hint
 
-    same : s ≡ refusal_said names l why hint
+    same : s ≡ refusal_said l why hint
     same =
         rw (named, word, faulty)
-        (ap (λ (n : ℕ). told (detail_of n config)) numbered ∙ ap (λ (c : Config). told (detail_of l.launch.number c)) configured)
+        (ap (λ (c : Config). told (detail_of c)) configured)
 
 not-refused : (r : Result (List ℕ) AuditFault) → is_err r ≡ false → IsOk r
 not-refused (Ok rim) off = refl
 not-refused (Err fault) off = absurd cc
 
 -- nothing is said of a launch that is accepted
-pub says-nothing : (names : List (List (List ℕ))) (files : List (List ℕ)) (l : NamedData) (p : PlacedData) (text : List ℕ)
-    → accepted_of l.launch files ≡ Ok p → AddsSaid names files l text text
-says-nothing names files l p text accepted = record {
+pub says-nothing : (files : List (List ℕ)) (l : NamedData) (p : PlacedData) (text : List ℕ)
+    → accepted_of l.launch files ≡ Ok p → AddsSaid files l text text
+says-nothing files l p text accepted = record {
   own = [];
   are = inl (not-refused (rim_for l.launch files) (same_refusal l.launch files ∙ ap (λ (r : Result PlacedData AuditFault). is_err r) accepted), refl);
   adds = λ (said : List Saying) (says : SayInTurn said text). subst (λ (ss : List Saying). SayInTurn ss text) (sym (append-nil said)) says;
 }
 
-pub says-why : (names : List (List (List ℕ))) (files : List (List ℕ)) (l : NamedData) (why : LaunchReason) (hint old new : List ℕ)
-    → IsRefusedFor l.launch files why → AddsLine (refusal_said names l why hint) old new → AddsSaid names files l old new
-says-why names files l why hint old new refused adds =
-    record { own = refusal_said names l why hint ∷ []; are = inr (why, hint, refused, refl); adds = adds }
+pub says-why : (files : List (List ℕ)) (l : NamedData) (why : LaunchReason) (hint old new : List ℕ)
+    → IsRefusedFor l.launch files why → AddsLine (refusal_said l why hint) old new → AddsSaid files l old new
+says-why files l why hint old new refused adds =
+    record { own = refusal_said l why hint ∷ []; are = inr (why, hint, refused, refl); adds = adds }
 
 pub is-refused : (l : LaunchData) (files : List (List ℕ)) (why : LaunchReason) → IsRefusedFor l files why → is_err (accepted_of l files) ≡ true
 is-refused l files why found = sym (same_refusal l files) ∙ ap (λ (r : Result (List ℕ) AuditFault). is_err r) found.refused

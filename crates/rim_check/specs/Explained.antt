@@ -3,7 +3,7 @@ use Rattle.std.specs.Prelude.{◌≡◌, ◌⊎◌, ◌≤◌, ◌+◌, ℕ, Boo
 use Rattle.rim_manifest.specs.declared.fault.ManifestFault.{ManifestFault}
 use Rattle.rim_manifest.specs.Faults.{kind_of, lowest}
 use Rattle.rim_manifest.specs.Found.{AreFound}
-use Rattle.rim_manifest.specs.Launches.{NamedData}
+use Rattle.rim_manifest.specs.Launches.{NamedData, item_name}
 use Rattle.rim_manifest.specs.Manifest.{Answer, document_of}
 use Rattle.rim_manifest.specs.declared.finding.Place.{Place}
 use Rattle.rim_manifest.specs.declared.finding.Subject.{Subject}
@@ -21,7 +21,6 @@ use Rattle.rim_pages.specs.declared.different.TheConstants.{DISTINCT_LIMIT}
 use Rattle.rim_check.specs.Details.{reason_detail}
 use Rattle.rim_check.specs.Fronts.{place_text, spot_text}
 use Rattle.rim_line.specs.Lines.{AddsLine, Saying, SayInTurn}
-use Rattle.rim_line.specs.Readables.{item_name, item_names_in}
 use Rattle.rim_check.specs.Warned.{ShowsWarnings}
 use Rattle.rim_check.specs.declared.found.LaunchCheck.{LaunchCheck}
 use Rattle.rim_check.specs.declared.found.ReleaseFault.{ReleaseFault}
@@ -74,13 +73,8 @@ pub record Explains (path bytes : List ℕ) (fault : ManifestFault) (text : List
 -- a manifest is explained as faulty exactly where it is refused
 abbrev pub IsCheckOf : List ℕ → List ℕ → Answer → ManifestCheck → Type 0
 IsCheckOf path bytes (Err fault) (Faulty text) = Explains path bytes fault text.items
-IsCheckOf path bytes (Ok release) (Readable readable) = readable.release ≡ release
+IsCheckOf path bytes (Ok release) (Readable read) = read ≡ release
 IsCheckOf path bytes _ _ = ⊥
-
--- a manifest that is not faulty has the names of its text's items
-abbrev pub HasNames : List ℕ → ManifestCheck → Type 0
-HasNames bytes (Faulty text) = Unit {0}
-HasNames bytes (Readable readable) = readable.names ≡ item_names_in bytes
 
 -- ---- launches
 
@@ -89,27 +83,27 @@ abbrev pub launch_front : List ℕ → List ℕ
 launch_front name = codes "launch \"" ++ (name ++ codes "\": ")
 
 -- what is said of a launch that is refused for this reason: its name, the word of its refusal, the reason's detail, and a hint
-abbrev pub refusal_said : List (List (List ℕ)) → NamedData → LaunchReason → List ℕ → Saying
-refusal_said names l why hint = record {
+abbrev pub refusal_said : NamedData → LaunchReason → List ℕ → Saying
+refusal_said l why hint = record {
   front = Some (launch_front l.name);
   word = audit_kind_of (audit_fault_of why);
-  detail = Some ((codes ": " ++ reason_detail (item_name names l.launch.number) l.launch.config why) ++ hint);
+  detail = Some ((codes ": " ++ reason_detail (item_name l) l.launch.config why) ++ hint);
 }
 
 -- a text has that line more, with a hint of which nothing is known
-pub record AddsRefusal (names : List (List (List ℕ))) (l : NamedData) (why : LaunchReason) (old new : List ℕ) : Type 0 where
+pub record AddsRefusal (l : NamedData) (why : LaunchReason) (old new : List ℕ) : Type 0 where
   pub hint : List ℕ
-  pub adds : AddsLine (refusal_said names l why hint) old new
+  pub adds : AddsLine (refusal_said l why hint) old new
 
 -- what is said of a launch: nothing where it is accepted, else its refusal, with a hint of which nothing is known
-abbrev pub IsSaidOf : List (List (List ℕ)) → List (List ℕ) → NamedData → List Saying → Type 0
-IsSaidOf names files l said = (IsOk (rim_for l.launch files) × (said ≡ []))
-    ⊎ ((why : LaunchReason) × (hint : List ℕ) × IsRefusedFor l.launch files why × (said ≡ refusal_said names l why hint ∷ []))
+abbrev pub IsSaidOf : List (List ℕ) → NamedData → List Saying → Type 0
+IsSaidOf files l said = (IsOk (rim_for l.launch files) × (said ≡ []))
+    ⊎ ((why : LaunchReason) × (hint : List ℕ) × IsRefusedFor l.launch files why × (said ≡ refusal_said l why hint ∷ []))
 
 -- what is said of the launches of a manifest, in their order
-abbrev pub AreSaidOf : List (List (List ℕ)) → List (List ℕ) → List NamedData → List Saying → Type 0
-AreSaidOf names files [] said = said ≡ []
-AreSaidOf names files (l ∷ ls) said = (own others : List Saying) × IsSaidOf names files l own × AreSaidOf names files ls others × (said ≡ own ++ others)
+abbrev pub AreSaidOf : List (List ℕ) → List NamedData → List Saying → Type 0
+AreSaidOf files [] said = said ≡ []
+AreSaidOf files (l ∷ ls) said = (own others : List Saying) × IsSaidOf files l own × AreSaidOf files ls others × (said ≡ own ++ others)
 
 -- how many different measured pages a release has, and how many it may have
 abbrev pub pages_detail : ℕ → List ℕ
@@ -124,9 +118,9 @@ pages_said count = if nat_lt DISTINCT_LIMIT count then record {
 } ∷ [] else []
 
 -- a text is one line for each launch that is refused, and then one where there are too many pages
-pub record ShowsFaults (names : List (List (List ℕ))) (files : List (List ℕ)) (ls : List NamedData) (text : List ℕ) : Type 0 where
+pub record ShowsFaults (files : List (List ℕ)) (ls : List NamedData) (text : List ℕ) : Type 0 where
   pub said : List Saying
-  pub are : AreSaidOf names files ls said
+  pub are : AreSaidOf files ls said
   pub lines : SayInTurn (said ++ pages_said (length (page_keys files ls))) text
 
 -- what is at fault where there are this many of these pages, and some launch is refused or none is
@@ -138,7 +132,7 @@ abbrev pub fault_in : List (List ℕ) → List NamedData → Option ReleaseFault
 fault_in files ls = fault_of (length (page_keys files ls)) (has_refused files ls)
 
 -- what a check of launches finds
-pub record IsLaunchCheck (names : List (List (List ℕ))) (files : List (List ℕ)) (ls : List NamedData) (check : LaunchCheck) : Type 0 where
+pub record IsLaunchCheck (files : List (List ℕ)) (ls : List NamedData) (check : LaunchCheck) : Type 0 where
   pub fault : check.fault ≡ fault_in files ls
-  pub faults : ShowsFaults names files ls check.faults.items
+  pub faults : ShowsFaults files ls check.faults.items
   pub warnings : ShowsWarnings files ls check.warnings.items

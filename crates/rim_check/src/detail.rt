@@ -2,7 +2,7 @@
 ghost use Rattle.std.specs.Prelude.{◌≡◌, ◌+◌, ◌++◌, IfOk, codes, false, string_bytes};
 ghost use Rattle.std.specs.Fmt.{digits};
 ghost use Rattle.rim_check.specs.Details.{hexadecimal, item_detail, layout_detail, list_detail, pair_text, plan_detail, pool_text, range_text, reason_detail, step_detail, step_text};
-ghost use Rattle.rim_line.specs.Names.{names_of};
+ghost use Rattle.rim_manifest.specs.Launches.{item_name};
 ghost use Rattle.ipa_layout.specs.declared.reason.ItemReason.TheVariants as ItemReason;
 
 use arm64_image::ImageFault;
@@ -11,7 +11,7 @@ use ipa_layout::{Extent, IpaRange, ItemExtent, ItemReason, LayoutReason, PAGE_LI
 use rim_accepted::LaunchReason;
 use rim_desc::{GRANULE_SIZE, REC_LIMIT};
 use rim_launch::{Config, Step};
-use rim_line::ItemNames;
+use rim_manifest::NamedLaunch;
 use rmi_list::{ListReason, StepReason};
 use rmm_model::protected_end;
 use rtt_plan::{ENTRY_LIMIT, PlanFault};
@@ -139,15 +139,15 @@ fn extent_text(alloc: Global, extent: Extent) -> Result<String, AllocError>
 /// Two items with their addresses.
 fn pair_text(
     alloc: Global,
-    names: ItemNames,
+    launch: &NamedLaunch,
     first: ItemExtent,
     second: ItemExtent,
 ) -> Result<String, AllocError>
-    ensures { IfOk result (λ s. string_bytes s ≡ pair_text (names_of names.entry) first second) }
+    ensures { IfOk result (λ s. string_bytes s ≡ pair_text (item_name launch.now) first second) }
 {
-    let first_name = names.name(first.item);
+    let first_name = launch.item_name(first.item);
     let first_extent = extent_text(alloc, first.extent)?;
-    let second_name = names.name(second.item);
+    let second_name = launch.item_name(second.item);
     let second_extent = extent_text(alloc, second.extent)?;
     format!(in alloc; "items \"{first_name}\" {first_extent} and \"{second_name}\" {second_extent}")
 }
@@ -155,16 +155,16 @@ fn pair_text(
 /// Why a launch cannot be laid out.
 fn layout_detail(
     alloc: Global,
-    names: ItemNames,
+    launch: &NamedLaunch,
     reason: &LayoutReason,
 ) -> Result<String, AllocError>
-    ensures { IfOk result (λ s. string_bytes s ≡ layout_detail (names_of names.entry) reason.now) }
+    ensures { IfOk result (λ s. string_bytes s ≡ layout_detail (item_name launch.now) reason.now) }
 {
     match reason {
-        LayoutReason::Item { item, reason } => item_detail(alloc, names.name(*item), reason),
-        LayoutReason::Overlap { first, second } => pair_text(alloc, names, *first, *second),
+        LayoutReason::Item { item, reason } => item_detail(alloc, launch.item_name(*item), reason),
+        LayoutReason::Overlap { first, second } => pair_text(alloc, launch, *first, *second),
         LayoutReason::InitrdWindow { kernel, initrd } => {
-            let pair = pair_text(alloc, names, *kernel, *initrd)?;
+            let pair = pair_text(alloc, launch, *kernel, *initrd)?;
             format!(in alloc; "{pair}, expected within 32 GiB")
         }
     }
@@ -200,13 +200,13 @@ fn plan_detail(alloc: Global, config: &Config, fault: PlanFault) -> Result<Strin
 }
 
 /// A step as a manifest spells it, with a colon.
-fn step_text(alloc: Global, names: ItemNames, step: &Step) -> Result<String, AllocError>
-    ensures { IfOk result (λ s. string_bytes s ≡ step_text (names_of names.entry) step.now) }
+fn step_text(alloc: Global, launch: &NamedLaunch, step: &Step) -> Result<String, AllocError>
+    ensures { IfOk result (λ s. string_bytes s ≡ step_text (item_name launch.now) step.now) }
 {
     match step {
         Step::Ram(number) => format!(in alloc; "step \"ram {number}\": "),
         Step::Item(number) => {
-            let name = names.name(*number);
+            let name = launch.item_name(*number);
             format!(in alloc; "step \"item {name}\": ")
         }
         Step::Rec(number) => format!(in alloc; "step \"rec {number}\": "),
@@ -236,12 +236,12 @@ fn step_detail(alloc: Global, config: &Config, reason: &StepReason) -> Result<St
 /// Why a launch has no list of commands.
 fn list_detail(
     alloc: Global,
-    names: ItemNames,
+    launch: &NamedLaunch,
     config: &Config,
     reason: &ListReason,
 ) -> Result<String, AllocError>
     ensures { IfOk result
-        (λ s. string_bytes s ≡ list_detail (names_of names.entry) config.now reason.now) }
+        (λ s. string_bytes s ≡ list_detail (item_name launch.now) config.now reason.now) }
 {
     match reason {
         ListReason::TooManyRecs { count } => {
@@ -252,7 +252,7 @@ fn list_detail(
             format!(in alloc; "the start tables and the realm descriptor: {pool}")
         }
         ListReason::Step { step, reason, .. } => {
-            let step = step_text(alloc, names, step)?;
+            let step = step_text(alloc, launch, step)?;
             let detail = step_detail(alloc, config, reason)?;
             format!(in alloc; "{step}{detail}")
         }
@@ -262,16 +262,16 @@ fn list_detail(
 /// Why a launch is refused, with a colon before it.
 pub(crate) fn reason_detail(
     alloc: Global,
-    names: ItemNames,
+    launch: &NamedLaunch,
     config: &Config,
     reason: &LaunchReason,
 ) -> Result<String, AllocError>
     ensures { IfOk result (λ s. string_bytes s
-        ≡ codes ": " ++ reason_detail (names_of names.entry) config.now reason.now) }
+        ≡ codes ": " ++ reason_detail (item_name launch.now) config.now reason.now) }
 {
     let detail = match reason {
-        LaunchReason::Layout(reason) => layout_detail(alloc, names, reason)?,
-        LaunchReason::List(reason) => list_detail(alloc, names, config, reason)?,
+        LaunchReason::Layout(reason) => layout_detail(alloc, launch, reason)?,
+        LaunchReason::List { reason, .. } => list_detail(alloc, launch, config, reason)?,
     };
     format!(in alloc; ": {detail}")
 }

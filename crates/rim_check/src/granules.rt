@@ -1,8 +1,5 @@
 //! How many granules of its pool a launch takes, where the pool has fewer.
-ghost use Rattle.std.specs.Prelude.{◌≡◌, length, true};
-ghost use Rattle.rim_launch.specs.LaunchData.{has_files};
-
-use ipa_layout::{Placed, place};
+use ipa_layout::Placed;
 use refusal::NoMemory;
 use rim_desc::GRANULE_SIZE;
 use rim_launch::{Launch, Region, Step};
@@ -15,18 +12,13 @@ use std::alloc::Global;
 pub(crate) fn granules_needed(
     alloc: Global,
     launch: &Launch,
-    files: &[Vec<u8>],
-) -> Result<Option<u64>, NoMemory>
-    requires { has_files launch.now (length files.now) ≡ true }
-{
-    let Ok(placed) = place(alloc, launch, files) else {
-        return Ok(None);
-    };
+    placed: &Placed,
+) -> Result<Option<u64>, NoMemory> {
     let config = launch.config();
     let mut tables = Tables::new(alloc, config.s2sz, config.block_level);
     let mut count = start_count(config.s2sz) + 1;
     for step in launch.steps() {
-        match granules_of(&mut tables, launch, &placed, step) {
+        match granules_of(&mut tables, launch, placed, step) {
             Ok(more) => count = count.saturating_add(more),
             Err(PlanFault::NoMemory) => return Err(NoMemory),
             Err(_) => return Ok(None),

@@ -3,7 +3,7 @@ ghost use Rattle.std.specs.Prelude.{◌≡◌, ◌<◌, [], ◌∷◌, IfOk, Non
 ghost use Rattle.toml.specs.View.{table_view};
 ghost use Rattle.rim_manifest.specs.Manifest.{manifest_of};
 ghost use Rattle.rim_manifest.specs.inside.Kept.{faults_in};
-ghost use Rattle.rim_check.specs.Explained.{HasNames, IsCheckOf, fault_said, others_said};
+ghost use Rattle.rim_check.specs.Explained.{IsCheckOf, fault_said, others_said};
 ghost use Rattle.rim_spot.specs.declared.spot.Spot.{Spot};
 ghost use Rattle.rim_check.specs.inside.Listed.{ShowsFindings, ShowsList, located, no_document};
 ghost use Rattle.rim_line.specs.Lines.{AddsAll, AddsLine, SayInTurn};
@@ -15,8 +15,8 @@ use crate::spots::{Manifest, finding_spots};
 use crate::syntax::{error_spot, write_message};
 use itoa::Buffer;
 use refusal::NoMemory;
-use rim_line::{Line, Readable, push_line};
-use rim_manifest::{Checked, Document, FaultList, Finding, ManifestFault};
+use rim_line::{Line, push_line};
+use rim_manifest::{Checked, Document, FaultList, Finding, ManifestFault, Release};
 use rim_spot::Spot;
 use std::alloc::Global;
 use toml::de::Error;
@@ -26,16 +26,15 @@ use toml::de::Error;
 pub enum ManifestCheck {
     /// It has faults: a line for each.
     Faulty(Vec<u8>),
-    /// It describes a release.
-    Readable(Readable),
+    /// It describes this release.
+    Readable(Release),
 }
 
 /// Checks the manifest at a path: a line for each of its faults, which is proved of the lowest alone, and how many there are beside
 /// these; or the release that it describes. A line has the path, the line and the column of the fault in the text, its table and its key, its word, what is given and
 /// what is expected.
 pub fn check_manifest(alloc: Global, path: &str, text: &[u8]) -> Result<ManifestCheck, NoMemory>
-    ensures check { IfOk result (IsCheckOf path.now text.now (manifest_of text.now)) }
-    ensures names { IfOk result (HasNames text.now) }
+    ensures { IfOk result (IsCheckOf path.now text.now (manifest_of text.now)) }
 {
     let document = match Document::read(alloc, text) {
         Ok(document) => document,
@@ -47,9 +46,7 @@ pub fn check_manifest(alloc: Global, path: &str, text: &[u8]) -> Result<Manifest
         }
     };
     match document.check(alloc)? {
-        Checked::Accepted(release) => {
-            Ok(ManifestCheck::Readable(Readable::new(document, release)))
-        }
+        Checked::Accepted(release) => Ok(ManifestCheck::Readable(release)),
         Checked::Refused(list) => {
             let manifest = Manifest {
                 path,

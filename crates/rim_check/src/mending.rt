@@ -1,11 +1,9 @@
 //! What helps to mend a launch that is refused, beside the reason. That it is true of the launch is tested alone.
-ghost use Rattle.std.specs.Prelude.{◌≡◌, length, true};
-ghost use Rattle.rim_launch.specs.LaunchData.{has_files};
 
 use crate::granules::granules_needed;
 use crate::kernel_front::{KernelFront, front_of};
 use fdt_tree::FdtFault;
-use ipa_layout::{Extent, IpaRange, ItemReason, LayoutReason};
+use ipa_layout::{Extent, IpaRange, ItemReason, LayoutReason, Placed};
 use refusal::NoMemory;
 use rim_accepted::LaunchReason;
 use rim_desc::GRANULE_SIZE;
@@ -126,22 +124,37 @@ pub(crate) fn mending_of<'a>(
     launch: &'a Launch,
     files: &'a [Vec<u8>],
     reason: &LaunchReason,
-) -> Result<Mending<'a>, NoMemory>
-    requires { has_files launch.now (length files.now) ≡ true }
-{
+) -> Result<Mending<'a>, NoMemory> {
     match reason {
-        LaunchReason::Layout(LayoutReason::Item { item, reason }) => {
-            Ok(item_mending(launch, files, *item, reason))
-        }
-        LaunchReason::Layout(LayoutReason::Overlap { first, second }) => {
-            Ok(page_mending(first.extent, second.extent))
-        }
-        LaunchReason::Layout(_) => Ok(Mending::Nothing),
-        LaunchReason::List(ListReason::Step { reason, .. }) => {
-            step_mending(alloc, launch, files, reason)
-        }
-        LaunchReason::List(ListReason::Opening) => pool_mending(alloc, launch, files),
-        LaunchReason::List(ListReason::TooManyRecs { .. }) => Ok(Mending::Nothing),
+        LaunchReason::Layout(reason) => Ok(layout_mending(launch, files, reason)),
+        LaunchReason::List { placed, reason } => list_mending(alloc, launch, placed, reason),
+    }
+}
+
+/// What helps to mend a launch that cannot be laid out.
+fn layout_mending<'a>(
+    launch: &'a Launch,
+    files: &'a [Vec<u8>],
+    reason: &LayoutReason,
+) -> Mending<'a> {
+    match reason {
+        LayoutReason::Item { item, reason } => item_mending(launch, files, *item, reason),
+        LayoutReason::Overlap { first, second } => page_mending(first.extent, second.extent),
+        LayoutReason::InitrdWindow { .. } => Mending::Nothing,
+    }
+}
+
+/// What helps to mend a launch that has no list of commands.
+fn list_mending<'a>(
+    alloc: Global,
+    launch: &'a Launch,
+    placed: &Placed,
+    reason: &ListReason,
+) -> Result<Mending<'a>, NoMemory> {
+    match reason {
+        ListReason::Step { reason, .. } => step_mending(alloc, launch, placed, reason),
+        ListReason::Opening => pool_mending(alloc, launch, placed),
+        ListReason::TooManyRecs { .. } => Ok(Mending::Nothing),
     }
 }
 
@@ -193,11 +206,9 @@ fn file_of<'a>(launch: &Launch, files: &'a [Vec<u8>], item: usize) -> &'a [u8] {
 fn step_mending<'a>(
     alloc: Global,
     launch: &'a Launch,
-    files: &'a [Vec<u8>],
+    placed: &Placed,
     reason: &StepReason,
-) -> Result<Mending<'a>, NoMemory>
-    requires { has_files launch.now (length files.now) ≡ true }
-{
+) -> Result<Mending<'a>, NoMemory> {
     match reason {
         StepReason::Plan {
             fault: PlanFault::OutsideProtected,
@@ -215,7 +226,7 @@ fn step_mending<'a>(
             ..
         } => Ok(Mending::WholePages),
         StepReason::RecOrder { listed } => Ok(Mending::NextRec(*listed)),
-        StepReason::PoolEnd => pool_mending(alloc, launch, files),
+        StepReason::PoolEnd => pool_mending(alloc, launch, placed),
         _ => Ok(Mending::Nothing),
     }
 }
@@ -244,11 +255,9 @@ fn least_width(regions: &[Region]) -> Option<u8> {
 fn pool_mending<'a>(
     alloc: Global,
     launch: &Launch,
-    files: &[Vec<u8>],
-) -> Result<Mending<'a>, NoMemory>
-    requires { has_files launch.now (length files.now) ≡ true }
-{
-    match granules_needed(alloc, launch, files)? {
+    placed: &Placed,
+) -> Result<Mending<'a>, NoMemory> {
+    match granules_needed(alloc, launch, placed)? {
         Some(count) => Ok(Mending::Granules(count)),
         None => Ok(Mending::Nothing),
     }

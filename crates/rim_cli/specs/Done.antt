@@ -25,7 +25,6 @@ use Rattle.rim_check.specs.Warned.{ShowsWarnings}
 use Rattle.rim_check.specs.declared.found.ReleaseFault.{ReleaseFault}
 use Rattle.rim_check.specs.declared.found.ReleaseFault.TheVariants as release
 use Rattle.rim_line.specs.Lines.{Saying, SayInTurn}
-use Rattle.rim_line.specs.Readables.{ReadableData, item_names_in}
 use Rattle.rim_words.specs.declared.definition.TheConstants.{VERSION}
 use Rattle.rim_words.specs.declared.words.Format.{Format}
 use Rattle.rim_words.specs.declared.words.Format.TheVariants as format
@@ -102,27 +101,27 @@ check_status (Some release.Refused) = 1
 check_status (Some release.TooManyPages) = 3
 
 -- one is checked whose files are read: what is at fault, and the warnings unless the check is quiet
-pub record ChecksLaunches (held : List ℕ → Known) (quiet : Bool) (m : ReadableData) (found : Findings) (answer : ℕ) : Type 0 where
+pub record ChecksLaunches (held : List ℕ → Known) (quiet : Bool) (r : ReleaseData) (found : Findings) (answer : ℕ) : Type 0 where
   pub files : List (List ℕ)
-  pub read : AreRead held m.release.paths files
+  pub read : AreRead held r.paths files
   pub warnings : List ℕ
   pub shown : found.warnings ≡ (if quiet then [] else warnings)
-  pub faulty : ShowsFaults m.names files m.release.launches found.faults
-  pub warned : ShowsWarnings files m.release.launches warnings
-  pub status : answer ≡ check_status (fault_in files m.release.launches)
+  pub faulty : ShowsFaults files r.launches found.faults
+  pub warned : ShowsWarnings files r.launches warnings
+  pub status : answer ≡ check_status (fault_in files r.launches)
 
 -- a release is checked: its files, or its launches where all files are read
-abbrev pub IsReleaseCheck : (List ℕ → Known) → Bool → ReadableData → Findings → ℕ → Type 0
-IsReleaseCheck held quiet m found status = ChecksFiles held m.release found status ⊎ ChecksLaunches held quiet m found status
+abbrev pub IsReleaseCheck : (List ℕ → Known) → Bool → ReleaseData → Findings → ℕ → Type 0
+IsReleaseCheck held quiet r found status = ChecksFiles held r found status ⊎ ChecksLaunches held quiet r found status
 
--- a manifest with this path, these bytes and these names of its items is checked: a line for each of some faults, the lowest of its faults
--- among them, and the status is 3; or else the release that it describes is
-abbrev pub FindsOf : (List ℕ → Known) → Bool → List ℕ → List ℕ → List (List (List ℕ)) → Answer → Findings → ℕ → Type 0
-FindsOf held quiet path bytes names (Err fault) found status = Explains path bytes fault found.faults × (found.warnings ≡ []) × (status ≡ 3)
-FindsOf held quiet path bytes names (Ok r) found status = IsReleaseCheck held quiet (record { names = names; release = r }) found status
+-- a manifest with this path and these bytes is checked: a line for each of some faults, the lowest of its faults among them, and the status
+-- is 3; or else the release that it describes is
+abbrev pub FindsOf : (List ℕ → Known) → Bool → List ℕ → List ℕ → Answer → Findings → ℕ → Type 0
+FindsOf held quiet path bytes (Err fault) found status = Explains path bytes fault found.faults × (found.warnings ≡ []) × (status ≡ 3)
+FindsOf held quiet path bytes (Ok r) found status = IsReleaseCheck held quiet r found status
 
 abbrev pub Finds : (List ℕ → Known) → Bool → List ℕ → List ℕ → Findings → ℕ → Type 0
-Finds held quiet path bytes found status = FindsOf held quiet path bytes (item_names_in bytes) (manifest_of bytes) found status
+Finds held quiet path bytes found status = FindsOf held quiet path bytes (manifest_of bytes) found status
 
 -- what is found, in a format: the lines of the faults and then those of the warnings; or the same lines as JSON, with the status
 abbrev pub shown_in : Format → Findings → ℕ → List ℕ
@@ -159,10 +158,9 @@ IsListing held r name text status = IsTextOf (λ l. listing_of l.launch) held r 
 abbrev pub IsTrace : (List ℕ → Known) → ReleaseData → List ℕ → List ℕ → ℕ → Type 0
 IsTrace held r name text status = IsTextOf (λ l. trace_of l.launch) held r name text status
 
--- the map of the launch of a name, where the items of the manifest have these names
-abbrev pub IsMapped : (List ℕ → Known) → Format → List (List (List ℕ)) → ReleaseData → List ℕ → List ℕ → ℕ → Type 0
-IsMapped held format names r name text status =
-    OfLaunch held r name (λ l files. IsMapOf format (record { names = names; release = r }) l files text status)
+-- the map of the launch of a name
+abbrev pub IsMapped : (List ℕ → Known) → Format → ReleaseData → List ℕ → List ℕ → ℕ → Type 0
+IsMapped held format r name text status = OfLaunch held r name (λ l files. IsMapOf format r.paths l files text status)
 
 -- the devicetree of the launch of a name, as it is placed
 abbrev pub IsDevicetree : (List ℕ → Known) → ReleaseData → List ℕ → List ℕ → ℕ → Type 0
@@ -173,8 +171,7 @@ abbrev pub IsAnswer : (List ℕ → Known) → Request → List ℕ → List ℕ
 IsAnswer held (Measure path workers format) bytes text status = IsOkAnd (manifest_of bytes) (λ r. IsReport format held r text status)
 IsAnswer held (Lists path launch) bytes text status = IsOkAnd (manifest_of bytes) (λ r. IsListing held r launch.now text status)
 IsAnswer held (Trace path launch) bytes text status = IsOkAnd (manifest_of bytes) (λ r. IsTrace held r launch.now text status)
-IsAnswer held (Map path launch format) bytes text status =
-    IsOkAnd (manifest_of bytes) (λ r. IsMapped held format (item_names_in bytes) r launch.now text status)
+IsAnswer held (Map path launch format) bytes text status = IsOkAnd (manifest_of bytes) (λ r. IsMapped held format r launch.now text status)
 IsAnswer held (Audit path) bytes text status = IsOkAnd (manifest_of bytes) (λ r. IsAudit held r text status)
 IsAnswer held (Check path quiet format) bytes text status = IsCheckIn format held quiet path.now bytes text status
 IsAnswer held (Dtb path launch) bytes text status = IsOkAnd (manifest_of bytes) (λ r. IsDevicetree held r launch.now text status)

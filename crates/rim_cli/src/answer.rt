@@ -3,7 +3,7 @@ ghost use Rattle.std.specs.Prelude.{◌≡◌, ◌⊎◌, ◌<◌, ◌≤◌, Er
 ghost use Rattle.rim_accepted.specs.Lines.{has_refused};
 ghost use Rattle.rim_report.specs.Report.{measured_of};
 ghost use Rattle.rim_words.specs.Command.{HasCrew, IsCrew};
-ghost use Rattle.rim_manifest.specs.Manifest.{manifest_of, name_in};
+ghost use Rattle.rim_manifest.specs.Manifest.{manifest_of};
 ghost use Rattle.rim_show.specs.ShownDevicetree.{ShowsDevicetree};
 ghost use Rattle.rim_show.specs.ShownImage.{image_answer_of};
 ghost use Rattle.rim_cli.specs.Done.{IsAnswer, IsAudit, IsDevicetree, IsListing, IsManifestFault, IsReport, IsReportOf, IsTrace, Refuses, RefusesAudit, RefusesDtb, RefusesFdt, RefusesImage, RefusesListing, RefusesManifest, RefusesReport, path_of};
@@ -12,12 +12,13 @@ ghost use Rattle.rim_cli.specs.Files.{AreRead, IfFile};
 use crate::checking::check;
 use crate::fault::Fault;
 use crate::file::{Opener, read_file, read_files};
+use crate::found::{read_launch, read_release};
 use crate::freed::keep_freed_memory;
 use crate::mapping::map;
 use crate::replaying::replay;
 use rim_release::{
-    Files, Gate, Lanes, Outcome, Release, Report, StartFault, audit_with_gate, json_report,
-    listing_or_refusal, measure_release, placed_devicetree, read_manifest, show_fdt, show_image,
+    Files, Gate, Lanes, LoadedRelease, Outcome, Release, Report, StartFault, audit_with_gate,
+    json_report, listing_or_refusal, measure_release, placed_devicetree, show_fdt, show_image,
     trace_or_refusal,
 };
 use rim_words::{Format, Request, VERSION};
@@ -131,7 +132,13 @@ fn report<R: Threads + Wait + Sync, G: Gate + Sync>(
         Format::Text => report,
         Format::Json => {
             let program = format!(in alloc; "rim {VERSION}")?;
-            json_report(alloc, &program, release, files, &launches, pages)?
+            json_report(
+                alloc,
+                &program,
+                LoadedRelease::new(release, files),
+                &launches,
+                pages,
+            )?
         }
     };
     Ok(Report { text, has_refused })
@@ -153,7 +160,7 @@ fn list<O: Opener>(
     ensures status { IfOk result (λ a. a.status ≤ 1) }
 {
     let found = read_launch(alloc, opener, path, launch)?;
-    match listing_or_refusal(alloc, lanes, &found.release, &found.files, found.number) {
+    match listing_or_refusal(alloc, lanes, found.loaded()) {
         Ok(report) => Ok(answer_of(report)),
         Err(_) => Err(Fault::NoMemory),
     }
@@ -175,7 +182,7 @@ fn trace<O: Opener>(
     ensures status { IfOk result (λ a. a.status ≤ 1) }
 {
     let found = read_launch(alloc, opener, path, launch)?;
-    match trace_or_refusal(alloc, lanes, &found.release, &found.files, found.number) {
+    match trace_or_refusal(alloc, lanes, found.loaded()) {
         Ok(report) => Ok(answer_of(report)),
         Err(_) => Err(Fault::NoMemory),
     }
@@ -191,49 +198,11 @@ fn dtb<O: Opener>(alloc: Global, opener: &mut O, path: &str, launch: &str) -> Re
     ensures status { IfOk result (λ a. a.status ≤ 1) }
 {
     let found = read_launch(alloc, opener, path, launch)?;
-    match placed_devicetree(alloc, &found.release, &found.files, found.number) {
+    match placed_devicetree(alloc, found.loaded()) {
         Ok(Some(text)) => Ok(Answer { text, status: 0 }),
         Ok(None) => Err(Fault::NoDevicetree),
         Err(fault) => Err(Fault::Refused(fault)),
     }
-}
-
-/// A launch of a manifest: its release, its number there, and the files of the release.
-#[derive(Drop)]
-struct FoundLaunch {
-    release: Release,
-    number: usize,
-    files: Files,
-    ghost there: { number < length release.launches },
-    ghost each: { vec_len files ≡ length release.paths },
-}
-
-/// The launch of this name of the manifest at a path.
-fn read_launch<O: Opener>(
-    alloc: Global,
-    opener: &mut O,
-    path: &str,
-    launch: &str,
-) -> Result<FoundLaunch, Fault>
-    ensures release { IfOk result
-        (λ f. IfFile (O.held opener.old path.now) (λ bytes. manifest_of bytes ≡ Ok f.release)) }
-    ensures number { IfOk result
-        (λ f. position (name_in launch.now) f.release.launches ≡ Some f.number) }
-    ensures files { IfOk result (λ f. AreRead (O.held opener.old) f.release.paths
-        (map (λ file. file.items) f.files.items)) }
-    ensures refused { IfErr result (RefusesManifest (RefusesListing (O.held opener.old) launch.now)
-        (O.held opener.old path.now)) }
-{
-    let release = read_release(alloc, opener, path)?;
-    let Some(number) = release.launch_named(launch) else {
-        return Err(Fault::NoSuchLaunch);
-    };
-    let files = read_files(alloc, opener, &release)?;
-    Ok(FoundLaunch {
-        release,
-        number,
-        files,
-    })
 }
 
 /// The audit of a manifest's launches.
@@ -252,22 +221,10 @@ fn audit<G: Gate, O: Opener>(
     let release = read_release(alloc, opener, path)?;
     let files = read_files(alloc, opener, &release)?;
     keep_freed_memory(alloc);
-    let report = audit_with_gate(alloc, gate, &release, &files).map_err(|_| Fault::NoMemory)?;
+    let report = audit_with_gate(alloc, gate, LoadedRelease::new(&release, &files)).map_err(
+        |_| Fault::NoMemory,
+    )?;
     Ok(answer_of(report))
-}
-
-/// The release that the manifest at a path describes.
-fn read_release<O: Opener>(alloc: Global, opener: &mut O, path: &str) -> Result<Release, Fault>
-    ensures read { IfOk result
-        (λ r. IfFile (O.held opener.old path.now) (λ bytes. manifest_of bytes ≡ Ok r)) }
-    ensures fault { IfErr result (IsManifestFault (O.held opener.old path.now)) }
-    ensures stays { O.held opener.new ≡ O.held opener.old }
-{
-    let text = read_file(alloc, opener, path)?;
-    match read_manifest(alloc, text.as_slice()) {
-        Ok(release) => Ok(release),
-        Err(fault) => Err(Fault::Manifest(fault)),
-    }
 }
 
 /// A text about launches as an answer.

@@ -9,10 +9,9 @@ use crate::fault::Fault;
 use crate::file::{FILE_LIMIT, Opener, Unread, read_file, read_or_why};
 use refusal::NoMemory;
 use rim_check::{
-    LaunchCheck, ManifestCheck, Readable, ReleaseFault, check_json, check_launches, check_manifest,
-    push_file,
+    LaunchCheck, ManifestCheck, ReleaseFault, check_json, check_launches, check_manifest, push_file,
 };
-use rim_release::{Files, Release};
+use rim_release::{Files, LoadedRelease, Release};
 use rim_words::Format;
 use std::alloc::{AllocError, Global};
 use std::io::ErrorKind;
@@ -90,7 +89,7 @@ fn check_path<O: Opener>(
     let bytes = read_file(alloc, opener, path)?;
     match check_manifest(alloc, path, bytes.as_slice()) {
         Ok(ManifestCheck::Faulty(faults)) => Ok(at_fault(alloc, faults)),
-        Ok(ManifestCheck::Readable(readable)) => check_release(alloc, opener, &readable, quiet),
+        Ok(ManifestCheck::Readable(release)) => check_release(alloc, opener, &release, quiet),
         Err(_) => Err(Fault::NoMemory),
     }
 }
@@ -112,19 +111,19 @@ fn at_fault(alloc: Global, faults: Vec<u8>) -> Checked
 fn check_release<O: Opener>(
     alloc: Global,
     opener: &mut O,
-    readable: &Readable,
+    release: &Release,
     quiet: bool,
 ) -> Result<Checked, Fault>
     ensures found { IfOk result
-        (λ c. IsReleaseCheck (O.held opener.old) quiet readable.now (findings_of c) c.status) }
+        (λ c. IsReleaseCheck (O.held opener.old) quiet release.now (findings_of c) c.status) }
     ensures refused { IfErr result (λ e. e ≡ Fault.NoMemory) }
     ensures status { IfOk result (λ c. (c.status ≤ 1) ⊎ (c.status ≡ 3)) }
 {
-    let found = find_files(alloc, opener, readable.release())?;
+    let found = find_files(alloc, opener, release)?;
     if !found.unread.is_empty() {
         return Ok(at_fault(alloc, found.unread));
     }
-    match check_launches(alloc, readable, &found.files, quiet) {
+    match check_launches(alloc, LoadedRelease::new(release, &found.files), quiet) {
         Ok(check) => Ok(release_check(alloc, check, quiet)),
         Err(_) => Err(Fault::NoMemory),
     }

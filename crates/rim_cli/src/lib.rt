@@ -6,6 +6,7 @@ mod answer;
 mod checking;
 mod fault;
 mod file;
+mod found;
 mod freed;
 mod in_memory;
 mod laws;

@@ -3,5 +3,3 @@
 pub mod AddedLines
 -- bytes that are shown as they are end no line, so a name or a path stays inside its line
 pub mod PlainBytes
--- An item has the name of its table
-pub mod NamesOfItems

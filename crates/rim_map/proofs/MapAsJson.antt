@@ -6,13 +6,11 @@ use Rattle.serde_json.specs.Data.{Data, string}
 use Rattle.serde_json.specs.View.{items_of}
 use Rattle.serde_json.specs.Written.{compact_text, has_float, items_have_float}
 use Rattle.rim_desc.specs.declared.rule.RecRule.{RecRule}
-use Rattle.rim_launch.specs.LaunchData.{LaunchData}
 use Rattle.rim_launch.specs.declared.item.Item.{Item}
 use Rattle.rim_launch.specs.declared.item.Region.{Region}
 use Rattle.ipa_layout.specs.Layout.{PlacedData}
 use Rattle.rmi_list.specs.Measured.{measured, page_contents}
-use Rattle.rim_line.specs.Readables.{item_name}
-use Rattle.rim_line.specs.declared.names.ItemNames.{ItemNames}
+use Rattle.rim_manifest.specs.Launches.{NamedData, item_name}
 use Rattle.rim_map.specs.Extensions.{extensions_of}
 use Rattle.rim_map.specs.Granules.{HasGranules}
 use Rattle.rim_map.specs.Rows.{rows_of}
@@ -65,12 +63,13 @@ texts-float [] = refl
 texts-float (text ∷ texts) = texts-float texts
 
 -- and no map
-pub no-float : (own : List ℕ) (l : LaunchData) (name : ℕ → List ℕ) (paths : List (List ℕ)) (rows : List Row) (taken between : List Stretch)
-    (granules : Granules) (extensions : Extensions) (texts : List (List ℕ))
-    → has_float (map_data own l (space_of name paths l rows taken between) granules extensions (map string texts)) ≡ false
+pub no-float : (paths : List (List ℕ)) (l : NamedData) (rows : List Row) (taken between : List Stretch) (granules : Granules) (extensions : Extensions)
+    (texts : List (List ℕ))
+    → has_float (map_data l (space_of paths l rows taken between) granules extensions (map string texts)) ≡ false
 unfolding map_data granules_json extensions_json launch_json
-no-float own l name paths rows taken between granules extensions texts =
-    rw (stretches-float between, items-float name paths l.items rows, rule-float l.config.rec_rule, regions-float taken l.ram, texts-float texts) refl
+no-float paths l rows taken between granules extensions texts =
+    rw (stretches-float between, items-float (item_name l) paths l.launch.items rows, rule-float l.launch.config.rec_rule,
+    regions-float taken l.launch.ram, texts-float texts) refl
 
 -- ---- the whole text
 
@@ -83,13 +82,13 @@ texts-more ds d text all is = record {
 }
 
 -- the text of a value that was made of a launch's parts is the launch's map
-pub shown-map : (own : List ℕ) (l : LaunchData) (files : List (List ℕ)) (p : PlacedData) (n : ItemNames) (rows : List Row) (space : SpaceView)
+pub shown-map : (paths : List (List ℕ)) (l : NamedData) (files : List (List ℕ)) (p : PlacedData) (rows : List Row) (space : SpaceView)
     (granules : Granules) (extensions : Extensions) (warnings : List Data) (value : Data) (text : List ℕ)
-    → n.launch ≡ l.number → rows ≡ rows_of l files p → IsSpace n l rows space → HasGranules l p granules
-    → extensions ≡ extensions_of (measured l p (page_contents l files p)) → AreTexts warnings
-    → value ≡ map_data own l space granules extensions warnings → (has_float value ≡ false → text ≡ compact_text value ++ codes "\n")
-    → IsMap n.readable.now own l files p text
-shown-map own l files p n rows space granules extensions warnings value text number placed is_space has counted all made shown =
+    → rows ≡ rows_of l.launch files p → IsSpace paths l rows space → HasGranules l.launch p granules
+    → extensions ≡ extensions_of (measured l.launch p (page_contents l.launch files p)) → AreTexts warnings
+    → value ≡ map_data l space granules extensions warnings → (has_float value ≡ false → text ≡ compact_text value ++ codes "\n")
+    → IsMap paths l files p text
+shown-map paths l files p rows space granules extensions warnings value text placed is_space has counted all made shown =
     record {
       taken = is_space.taken;
       between = is_space.between;
@@ -98,29 +97,17 @@ shown-map own l files p n rows space granules extensions warnings value text num
       rising = subst (λ (rs : List Row). AreRising (map row_pages rs) is_space.taken) placed is_space.rising;
       around = is_space.around;
       counted = has;
-      shown = shown (ap has_float whole ∙ no-float own l name n.readable.now.release.paths (rows_of l files p) is_space.taken is_space.between granules
-          parts all.texts)
+      shown = shown (ap has_float whole ∙ no-float paths l (rows_of l.launch files p) is_space.taken is_space.between granules parts all.texts)
           ∙ ap (λ (v : Data). compact_text v ++ codes "\n") whole;
     }
   where
-    name : ℕ → List ℕ
-    name = item_name n.readable.now.names l.number
-
     parts : Extensions
-    parts = extensions_of (measured l p (page_contents l files p))
+    parts = extensions_of (measured l.launch p (page_contents l.launch files p))
 
-    same : space ≡ space_of name n.readable.now.release.paths l (rows_of l files p) is_space.taken is_space.between
-    same =
-        is_space.is
-        ∙ ap (λ (k : ℕ). space_of (item_name n.readable.now.names k) n.readable.now.release.paths l rows is_space.taken is_space.between) number
-        ∙ ap (λ (rs : List Row). space_of name n.readable.now.release.paths l rs is_space.taken is_space.between) placed
-
-    whole : value ≡ map_data own l (space_of name n.readable.now.release.paths l (rows_of l files p) is_space.taken is_space.between) granules parts (map
-        string all.texts)
+    whole : value ≡ map_data l (space_of paths l (rows_of l.launch files p) is_space.taken is_space.between) granules parts (map string all.texts)
     whole =
         made
-        ∙ ap (λ (s : SpaceView). map_data own l s granules extensions warnings) same
-        ∙ ap (λ (e : Extensions). map_data own l (space_of name n.readable.now.release.paths l (rows_of l files p) is_space.taken is_space.between) granules
-        e warnings) counted
-        ∙ ap (λ (ds : List Data). map_data own l (space_of name n.readable.now.release.paths l (rows_of l files p) is_space.taken is_space.between) granules
-        parts ds) all.are
+        ∙ ap (λ (s : SpaceView). map_data l s granules extensions warnings)
+        (is_space.is ∙ ap (λ (rs : List Row). space_of paths l rs is_space.taken is_space.between) placed)
+        ∙ ap (λ (e : Extensions). map_data l (space_of paths l (rows_of l.launch files p) is_space.taken is_space.between) granules e warnings) counted
+        ∙ ap (λ (ds : List Data). map_data l (space_of paths l (rows_of l.launch files p) is_space.taken is_space.between) granules parts ds) all.are

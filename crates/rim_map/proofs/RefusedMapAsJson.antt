@@ -6,17 +6,15 @@ use Rattle.std.specs.Str.Lossy.{utf8_lossy}
 use Rattle.serde_json.specs.Data.{Data}
 use Rattle.serde_json.specs.View.{items_of}
 use Rattle.serde_json.specs.Written.{compact_text, has_float, items_have_float}
-use Rattle.rim_launch.specs.LaunchData.{LaunchData}
 use Rattle.rim_launch.specs.declared.item.Item.{Item}
-use Rattle.ipa_layout.specs.Layout.{PlacedData, places}
+use Rattle.ipa_layout.specs.Layout.{PlacedData}
 use Rattle.ipa_layout.specs.declared.reason.LayoutReason.{LayoutReason}
 use Rattle.rmi_list.specs.declared.reason.ListReason.{ListReason}
 use Rattle.rim_accepted.specs.AuditFaults.{audit_kind_of}
 use Rattle.rim_accepted.specs.Reasons.{audit_fault_of}
 use Rattle.rim_accepted.specs.declared.reason.LaunchReason.{LaunchReason}
 use Rattle.rim_accepted.specs.declared.reason.LaunchReason.TheVariants.{Layout, List as Lists}
-use Rattle.rim_line.specs.Readables.{ReadableData, item_name}
-use Rattle.rim_line.specs.declared.names.ItemNames.{ItemNames}
+use Rattle.rim_manifest.specs.Launches.{NamedData, item_name}
 use Rattle.rim_map.specs.MapJson.{SpaceView, launch_json, space_of}
 use Rattle.rim_map.specs.RefusedMap.{IsRefusedMap, ShowsSpace, refused_data, size_json, stated_item_json, stated_items_json, stated_json, stated_of}
 use Rattle.rim_map.specs.Rows.{rows_of}
@@ -65,60 +63,50 @@ abbrev NoFloats : SpaceView → Type 0
 NoFloats space = (items_have_float (items_of space.gaps) ≡ false) × (items_have_float (items_of space.items) ≡ false)
     × (items_have_float (items_of space.regions) ≡ false)
 
-space-float : (m : ReadableData) (l : LaunchData) (files : List (List ℕ)) (why : LaunchReason) (space : SpaceView)
-    → ShowsSpace m l files why space → NoFloats space
-space-float m l files (Layout why) space shows =
-    subst NoFloats (sym shows.2) (stretches-float shows.0, stated-float (item_name m.names l.number) m.release.paths 0 l.items, regions-float [] l.ram)
-space-float m l files (Lists why) space shows =
-    subst NoFloats (sym shows.6) (
-      stretches-float shows.2,
-      items-float (item_name m.names l.number) m.release.paths l.items (rows_of l files shows.0),
-      regions-float shows.1 l.ram,
+space-float : (paths : List (List ℕ)) (l : NamedData) (files : List (List ℕ)) (why : LaunchReason) (space : SpaceView)
+    → ShowsSpace paths l files why space → NoFloats space
+space-float paths l files (Layout why) space shows =
+    subst NoFloats (sym shows.2) (stretches-float shows.0, stated-float (item_name l) paths 0 l.launch.items, regions-float [] l.launch.ram)
+space-float paths l files (Lists p why) space shows =
+    subst NoFloats (sym shows.4) (
+      stretches-float shows.1,
+      items-float (item_name l) paths l.launch.items (rows_of l.launch files p),
+      regions-float shows.0 l.launch.ram,
     )
 
-refused-float : (own : List ℕ) (l : LaunchData) (space : SpaceView) (line word : List ℕ) → NoFloats space
-    → has_float (refused_data own l space line word) ≡ false
+refused-float : (l : NamedData) (space : SpaceView) (line word : List ℕ) → NoFloats space
+    → has_float (refused_data l space line word) ≡ false
 unfolding refused_data launch_json
-refused-float own l space line word none = rw (none.0, none.1, rule-float l.config.rec_rule, none.2) refl
+refused-float l space line word none = rw (none.0, none.1, rule-float l.launch.config.rec_rule, none.2) refl
 
 -- ---- the address space that is shown
 
 -- of a launch that has its place
-pub shows-placed : (n : ItemNames) (l : LaunchData) (files : List (List ℕ)) (why : ListReason) (rows : List Row) (space : SpaceView)
-    → n.launch ≡ l.number → ((p : PlacedData) × (places l files ≡ Ok p) × (rows ≡ rows_of l files p)) → IsSpace n l rows space
-    → ShowsSpace n.readable.now l files (Lists why) space
-shows-placed n l files why rows space number placed is_space = (
-  placed.0,
+pub shows-placed : (paths : List (List ℕ)) (l : NamedData) (files : List (List ℕ)) (p : PlacedData) (why : ListReason) (rows : List Row)
+    (space : SpaceView) → rows ≡ rows_of l.launch files p → IsSpace paths l rows space → ShowsSpace paths l files (Lists p why) space
+shows-placed paths l files p why rows space placed is_space = (
   is_space.taken,
   is_space.between,
-  placed.1,
-  subst (λ (rs : List Row). AreRising (map row_pages rs) is_space.taken) placed.2 is_space.rising,
+  subst (λ (rs : List Row). AreRising (map row_pages rs) is_space.taken) placed is_space.rising,
   is_space.around,
-  is_space.is
-      ∙ ap (λ (k : ℕ). space_of (item_name n.readable.now.names k) n.readable.now.release.paths l rows is_space.taken is_space.between) number
-      ∙ ap (λ (rs : List Row). space_of (item_name n.readable.now.names l.number) n.readable.now.release.paths l rs is_space.taken is_space.between)
-      placed.2,
+  is_space.is ∙ ap (λ (rs : List Row). space_of paths l rs is_space.taken is_space.between) placed,
 )
 
 -- and of one that cannot be laid out
-pub shows-stated : (n : ItemNames) (l : LaunchData) (files : List (List ℕ)) (why : LayoutReason) (space : SpaceView)
-    → n.launch ≡ l.number → IsStated n l space → ShowsSpace n.readable.now l files (Layout why) space
-shows-stated n l files why space number is_stated = (
-  is_stated.between,
-  is_stated.around,
-  is_stated.is ∙ ap (λ (k : ℕ). stated_of (item_name n.readable.now.names k) n.readable.now.release.paths l is_stated.between) number,
-)
+pub shows-stated : (paths : List (List ℕ)) (l : NamedData) (files : List (List ℕ)) (why : LayoutReason) (space : SpaceView)
+    → IsStated paths l space → ShowsSpace paths l files (Layout why) space
+shows-stated paths l files why space is_stated = (is_stated.between, is_stated.around, is_stated.is)
 
 -- ---- the whole text
 
 -- the text of a value that was made of a launch's parts is the launch's map
-pub shown-refused : (m : ReadableData) (own : List ℕ) (l : LaunchData) (files : List (List ℕ)) (why : LaunchReason) (space : SpaceView) (value : Data)
-    (line text : List ℕ) → ShowsSpace m l files why space
-    → value ≡ refused_data own l space (utf8_lossy line) (audit_kind_of (audit_fault_of why))
-    → (has_float value ≡ false → text ≡ compact_text value ++ codes "\n") → IsRefusedMap m own l files why line text
-shown-refused m own l files why space value line text shows made shown = record {
+pub shown-refused : (paths : List (List ℕ)) (l : NamedData) (files : List (List ℕ)) (why : LaunchReason) (space : SpaceView) (value : Data)
+    (line text : List ℕ) → ShowsSpace paths l files why space
+    → value ≡ refused_data l space (utf8_lossy line) (audit_kind_of (audit_fault_of why))
+    → (has_float value ≡ false → text ≡ compact_text value ++ codes "\n") → IsRefusedMap paths l files why line text
+shown-refused paths l files why space value line text shows made shown = record {
   space = space;
   seen = shows;
-  shown = shown (ap has_float made ∙ refused-float own l space (utf8_lossy line) (audit_kind_of (audit_fault_of why)) (space-float m l files why space shows))
+  shown = shown (ap has_float made ∙ refused-float l space (utf8_lossy line) (audit_kind_of (audit_fault_of why)) (space-float paths l files why space shows))
       ∙ ap (λ (v : Data). compact_text v ++ codes "\n") made;
 }

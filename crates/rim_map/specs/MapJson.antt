@@ -9,7 +9,6 @@ use Rattle.rim_desc.specs.Rule.{rule_word}
 use Rattle.rim_desc.specs.declared.page.TheConstants.{PAGE_SIZE}
 use Rattle.rim_desc.specs.declared.rule.RecRule.{RecRule}
 use Rattle.rim_launch.specs.Kinds.{file_of, has_edits, role_of}
-use Rattle.rim_launch.specs.LaunchData.{LaunchData}
 use Rattle.rim_launch.specs.declared.config.Config.{Config}
 use Rattle.rim_launch.specs.declared.item.Item.{Item}
 use Rattle.rim_launch.specs.declared.item.Region.{Region}
@@ -17,7 +16,7 @@ use Rattle.rim_launch.specs.declared.item.Role.{Role}
 use Rattle.rim_launch.specs.declared.item.Role.TheVariants as role
 use Rattle.ipa_layout.specs.Layout.{PlacedData}
 use Rattle.rmi_list.specs.Measured.{measured, page_contents}
-use Rattle.rim_line.specs.Readables.{ReadableData, item_name}
+use Rattle.rim_manifest.specs.Launches.{NamedData, item_name}
 use Rattle.rim_map.specs.Extensions.{extensions_of}
 use Rattle.rim_map.specs.Granules.{HasGranules}
 use Rattle.rim_map.specs.Rows.{rows_of}
@@ -100,41 +99,37 @@ pub record SpaceView : Type 0 where
   pub regions : List Data
 
 -- what a launch is
-unfoldable pub launch_json : List ℕ → LaunchData → Data
-launch_json name l =
-    object (member (codes "algorithm") (string (algo_word l.config.algo)) (member (codes "block_level") (count l.config.block_level)
-    (member (codes "name") (string name) (member (codes "rec_rule") (rule_json l.config.rec_rule) (member (codes "recs") (count (length l.recs))
-    (member (codes "s2sz") (count l.config.s2sz) no_members))))))
+unfoldable pub launch_json : NamedData → Data
+launch_json l =
+    object (member (codes "algorithm") (string (algo_word l.launch.config.algo)) (member (codes "block_level") (count l.launch.config.block_level)
+    (member (codes "name") (string l.name) (member (codes "rec_rule") (rule_json l.launch.config.rec_rule)
+    (member (codes "recs") (count (length l.launch.recs)) (member (codes "s2sz") (count l.launch.config.s2sz) no_members))))))
 
 -- the map of a launch that is accepted, with its warnings
-unfoldable pub map_data : List ℕ → LaunchData → SpaceView → Granules → Extensions → List Data → Data
-map_data name l space granules extensions warnings =
+unfoldable pub map_data : NamedData → SpaceView → Granules → Extensions → List Data → Data
+map_data l space granules extensions warnings =
     object (member (codes "extensions") (extensions_json extensions) (member (codes "gaps") (array (items_of space.gaps))
-    (member (codes "granules") (granules_json l.config granules) (member (codes "items") (array (items_of space.items))
-    (member (codes "launch") (launch_json name l) (member (codes "regions") (array (items_of space.regions)) (member (codes "version") (count 1)
+    (member (codes "granules") (granules_json l.launch.config granules) (member (codes "items") (array (items_of space.items))
+    (member (codes "launch") (launch_json l) (member (codes "regions") (array (items_of space.regions)) (member (codes "version") (count 1)
     (member (codes "warnings") (array (items_of warnings)) no_members))))))))
 
--- the address space of a launch whose items have these names, files these paths and items these places; their pages take
--- these stretches, and these gaps are between its regions
-abbrev pub space_of : (ℕ → List ℕ) → List (List ℕ) → LaunchData → List Row → List Stretch → List Stretch → SpaceView
-space_of name paths l rows taken between = record {
+-- the address space of a launch whose items have these places, where files have these paths; their pages take these stretches, and
+-- these gaps are between its regions
+abbrev pub space_of : List (List ℕ) → NamedData → List Row → List Stretch → List Stretch → SpaceView
+space_of paths l rows taken between = record {
   gaps = map stretch_json between;
-  items = items_json name paths l.items rows;
-  regions = regions_json taken l.ram;
+  items = items_json (item_name l) paths l.launch.items rows;
+  regions = regions_json taken l.launch.ram;
 }
 
--- the same of a launch of a manifest, at its places
-abbrev pub own_space : ReadableData → LaunchData → List (List ℕ) → PlacedData → List Stretch → List Stretch → SpaceView
-own_space m l files p taken between = space_of (item_name m.names l.number) m.release.paths l (rows_of l files p) taken between
-
--- A text is the map of a launch that is accepted, with its place and its name. Its warnings are some lines.
-pub record IsMap (m : ReadableData) (name : List ℕ) (l : LaunchData) (files : List (List ℕ)) (p : PlacedData) (text : List ℕ) : Type 0 where
+-- A text is the map of a launch that is accepted, with its place, where files have these paths. Its warnings are some lines.
+pub record IsMap (paths : List (List ℕ)) (l : NamedData) (files : List (List ℕ)) (p : PlacedData) (text : List ℕ) : Type 0 where
   pub taken : List Stretch
   pub between : List Stretch
   pub granules : Granules
   pub warnings : List (List ℕ)
-  pub rising : AreRising (map row_pages (rows_of l files p)) taken
-  pub around : IsBetween l.ram between
-  pub counted : HasGranules l p granules
-  pub shown : text ≡ compact_text (map_data name l (own_space m l files p taken between) granules
-      (extensions_of (measured l p (page_contents l files p))) (map string warnings)) ++ codes "\n"
+  pub rising : AreRising (map row_pages (rows_of l.launch files p)) taken
+  pub around : IsBetween l.launch.ram between
+  pub counted : HasGranules l.launch p granules
+  pub shown : text ≡ compact_text (map_data l (space_of paths l (rows_of l.launch files p) taken between) granules
+      (extensions_of (measured l.launch p (page_contents l.launch files p))) (map string warnings)) ++ codes "\n"

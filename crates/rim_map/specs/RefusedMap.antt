@@ -1,20 +1,18 @@
 -- The map of a launch that is refused, as lines and as JSON. Members are in the order of their keys. This project's choice.
-use Rattle.std.specs.Prelude.{◌≡◌, ℕ, ◌+◌, Bool, true, ◌==◌, List, [], ◌∷◌, ◌++◌, codes, map, Option, Some, None, Ok, option_and_then}
+use Rattle.std.specs.Prelude.{◌≡◌, ℕ, ◌+◌, Bool, true, ◌==◌, List, [], ◌∷◌, ◌++◌, codes, map, Option, Some, None, option_and_then}
 use Rattle.std.specs.List.{slice_get}
 use Rattle.std.specs.Str.Lossy.{utf8_lossy}
 use Rattle.serde_json.specs.Data.{Data, array, boolean, member, no_members, null, object, string}
 use Rattle.serde_json.specs.View.{items_of}
 use Rattle.serde_json.specs.Written.{compact_text}
 use Rattle.rim_launch.specs.Kinds.{file_of, has_edits, role_of}
-use Rattle.rim_launch.specs.LaunchData.{LaunchData}
 use Rattle.rim_launch.specs.declared.item.Item.{Item}
-use Rattle.ipa_layout.specs.Layout.{PlacedData, places}
 use Rattle.rim_accepted.specs.AuditFaults.{audit_kind_of}
 use Rattle.rim_accepted.specs.Reasons.{audit_fault_of}
 use Rattle.rim_accepted.specs.declared.reason.LaunchReason.{LaunchReason}
 use Rattle.rim_accepted.specs.declared.reason.LaunchReason.TheVariants.{Layout, List as Lists}
-use Rattle.rim_line.specs.Readables.{ReadableData, item_name}
-use Rattle.rim_map.specs.MapJson.{SpaceView, count, kind_word, launch_json, own_space, path_json, regions_json, stretch_json}
+use Rattle.rim_manifest.specs.Launches.{NamedData, item_name}
+use Rattle.rim_map.specs.MapJson.{SpaceView, count, kind_word, launch_json, path_json, regions_json, space_of, stretch_json}
 use Rattle.rim_map.specs.Rows.{rows_of}
 use Rattle.rim_map.specs.Stretches.{AreRising, IsBetween, row_pages}
 use Rattle.rim_map.specs.declared.stretches.Stretch.{Stretch}
@@ -57,35 +55,32 @@ abbrev pub stated_items_json : (ℕ → List ℕ) → List (List ℕ) → ℕ �
 stated_items_json name paths number [] = []
 stated_items_json name paths number (item ∷ items) = stated_item_json name paths number item ∷ stated_items_json name paths (number + 1) items
 
--- the address space of a launch whose items have these names and files these paths, but no places: they take nothing of its RAM
-abbrev pub stated_of : (ℕ → List ℕ) → List (List ℕ) → LaunchData → List Stretch → SpaceView
-stated_of name paths l between = record {
+-- the address space of a launch where files have these paths, but its items no places: they take nothing of its RAM
+abbrev pub stated_of : List (List ℕ) → NamedData → List Stretch → SpaceView
+stated_of paths l between = record {
   gaps = map stretch_json between;
-  items = stated_items_json name paths 0 l.items;
-  regions = regions_json [] l.ram;
+  items = stated_items_json (item_name l) paths 0 l.launch.items;
+  regions = regions_json [] l.launch.ram;
 }
-
--- the same of a launch of a manifest
-abbrev pub stated_space : ReadableData → LaunchData → List Stretch → SpaceView
-stated_space m l between = stated_of (item_name m.names l.number) m.release.paths l between
 
 -- the address space that is shown: with the items as they are stated where the launch cannot be laid out, and at their places where
 -- it has its place and no list
-abbrev pub ShowsSpace : ReadableData → LaunchData → List (List ℕ) → LaunchReason → SpaceView → Type 0
-ShowsSpace m l files (Layout why) space = (between : List Stretch) × IsBetween l.ram between × (space ≡ stated_space m l between)
-ShowsSpace m l files (Lists why) space = (p : PlacedData) × (taken : List Stretch) × (between : List Stretch) × (places l files ≡ Ok p)
-    × AreRising (map row_pages (rows_of l files p)) taken × IsBetween l.ram between × (space ≡ own_space m l files p taken between)
+abbrev pub ShowsSpace : List (List ℕ) → NamedData → List (List ℕ) → LaunchReason → SpaceView → Type 0
+ShowsSpace paths l files (Layout why) space = (between : List Stretch) × IsBetween l.launch.ram between × (space ≡ stated_of paths l between)
+ShowsSpace paths l files (Lists p why) space = (taken : List Stretch) × (between : List Stretch)
+    × AreRising (map row_pages (rows_of l.launch files p)) taken × IsBetween l.launch.ram between
+    × (space ≡ space_of paths l (rows_of l.launch files p) taken between)
 
 -- the map of a launch that is refused, with the line that says why, and the word of its refusal
-unfoldable pub refused_data : List ℕ → LaunchData → SpaceView → List ℕ → List ℕ → Data
-refused_data name l space line word =
+unfoldable pub refused_data : NamedData → SpaceView → List ℕ → List ℕ → Data
+refused_data l space line word =
     object (member (codes "gaps") (array (items_of space.gaps)) (member (codes "items") (array (items_of space.items))
-    (member (codes "launch") (launch_json name l) (member (codes "refusal") (string line) (member (codes "refused") (string word)
+    (member (codes "launch") (launch_json l) (member (codes "refusal") (string line) (member (codes "refused") (string word)
     (member (codes "regions") (array (items_of space.regions)) (member (codes "version") (count 1) no_members)))))))
 
--- A text is the map of a launch of a name that is refused for this reason, with this line, which has no line feed here. What is no UTF-8 in
--- it is shown as the replacement character.
-pub record IsRefusedMap (m : ReadableData) (name : List ℕ) (l : LaunchData) (files : List (List ℕ)) (why : LaunchReason) (line text : List ℕ) : Type 0 where
+-- A text is the map of a launch that is refused for this reason, where files have these paths, with this line, which has no line feed here.
+-- What is no UTF-8 in it is shown as the replacement character.
+pub record IsRefusedMap (paths : List (List ℕ)) (l : NamedData) (files : List (List ℕ)) (why : LaunchReason) (line text : List ℕ) : Type 0 where
   pub space : SpaceView
-  pub seen : ShowsSpace m l files why space
-  pub shown : text ≡ compact_text (refused_data name l space (utf8_lossy line) (audit_kind_of (audit_fault_of why))) ++ codes "\n"
+  pub seen : ShowsSpace paths l files why space
+  pub shown : text ≡ compact_text (refused_data l space (utf8_lossy line) (audit_kind_of (audit_fault_of why))) ++ codes "\n"

@@ -101,13 +101,13 @@ pub fn count_extensions(
     alloc: Global,
     accepted: &AcceptedLaunch<'_>,
 ) -> Result<Extensions, NoMemory>
-    ensures { IfOk result (λ e. e ≡ extensions_of (measured accepted.now.launch.now
+    ensures { IfOk result (λ e. e ≡ extensions_of (measured accepted.now.named.now.launch
         accepted.now.placed
-        (page_contents accepted.now.launch.now (bytes_of_files accepted.now.files.now)
+        (page_contents accepted.now.named.now.launch (bytes_of_files accepted.now.files.now)
         accepted.now.placed))) }
 {
-    let AcceptedLaunch { launch, placed, .. } = accepted;
-    let plan = LaunchPlan::of_launch(alloc, launch.config().algo, launch, placed)?;
+    let launch = accepted.launch();
+    let plan = LaunchPlan::of_launch(alloc, launch.config().algo, launch, &accepted.placed)?;
     counted(plan.links())
 }
 

@@ -122,9 +122,9 @@ impl Granules {
 /// The granules that the commands of a launch take, which is accepted. The launch is listed for it; no page is hashed.
 pub fn count_granules(alloc: Global, accepted: &AcceptedLaunch<'_>) -> Result<Granules, NoMemory>
     ensures { IfOk result
-        (HasGranules accepted.now.launch.now accepted.now.placed) }
+        (HasGranules accepted.now.named.now.launch accepted.now.placed) }
 {
-    match list(alloc, accepted.launch, &accepted.placed) {
+    match list(alloc, accepted.launch(), &accepted.placed) {
         Ok(plan) => counted(&plan),
         Err(_) => Err(NoMemory),
     }

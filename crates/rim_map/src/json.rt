@@ -16,39 +16,37 @@ use crate::json_parts::{
 };
 use crate::members::{Members, put_count, put_values};
 use crate::rows::{Row, item_rows};
+use crate::shown::Shown;
 use crate::stretches::{between, taken};
 use crate::warnings::warnings;
 use refusal::NoMemory;
 use rim_accepted::AcceptedLaunch;
-use rim_launch::{Config, Launch};
-use rim_line::{ItemNames, Line, Readable};
+use rim_launch::Config;
+use rim_line::Line;
+use rim_manifest::{NamedLaunch, Release};
 use serde_json::{Map, Value, json, put};
 use std::alloc::{AllocError, Global};
 
-/// The map of a launch that is accepted, by its name: one JSON object without spaces, and a line feed. Its members are `extensions`,
+/// The map of a launch that is accepted: one JSON object without spaces, and a line feed. Its members are `extensions`,
 /// `gaps` (the addresses between regions of RAM), `granules`, `items` in the manifest's order, `launch` (what it is), `regions` in the
 /// manifest's order, each with the `gaps` between its items, `version`, which is 1, and `warnings`. Addresses and sizes are numbers, in
 /// bytes.
 pub fn map_json(
     alloc: Global,
-    readable: &Readable,
-    name: &str,
+    release: &Release,
     accepted: &AcceptedLaunch<'_>,
 ) -> Result<Vec<u8>, NoMemory>
-    ensures { IfOk result (λ text. IsMap readable.now name.now accepted.now.launch.now
+    ensures { IfOk result (λ text. IsMap release.now.paths accepted.now.named.now
         (bytes_of_files accepted.now.files.now) accepted.now.placed text.items) }
 {
-    let launch = accepted.launch;
-    let names = ItemNames {
-        readable,
-        launch: launch.number(),
-    };
+    let launch = accepted.named;
+    let shown = Shown { release, launch };
     let granules = count_granules(alloc, accepted)?;
     let extensions = count_extensions(alloc, accepted)?;
-    let warnings = warning_values(alloc, names, name, accepted)?;
-    let rows = item_rows(alloc, launch, accepted.files, &accepted.placed)?;
-    let space = placed_space(alloc, names, launch, &rows)?;
-    let value = map_value(alloc, name, launch, space, &granules, &extensions, warnings)?;
+    let warnings = warning_values(alloc, accepted)?;
+    let rows = item_rows(alloc, launch.launch(), accepted.files, &accepted.placed)?;
+    let space = placed_space(alloc, shown, &rows)?;
+    let value = map_value(alloc, launch, space, &granules, &extensions, warnings)?;
     text(alloc, &value)
 }
 
@@ -71,20 +69,16 @@ pub(crate) struct Space {
 }
 
 /// The address space of a launch whose items have these places.
-pub(crate) fn placed_space(
-    alloc: Global,
-    names: ItemNames<'_>,
-    launch: &Launch,
-    rows: &[Row],
-) -> Result<Space, NoMemory>
-    ensures { IfOk result
-        (λ space. IsSpace names.entry launch.now rows.now (seen_space space)) }
+pub(crate) fn placed_space(alloc: Global, shown: Shown<'_>, rows: &[Row]) -> Result<Space, NoMemory>
+    ensures { IfOk result (λ space. IsSpace shown.entry.release.now.paths shown.entry.launch.now
+        rows.now (seen_space space)) }
 {
+    let launch = shown.launch.launch();
     let taken = taken(alloc, rows)?;
     let gaps = between(alloc, launch.ram())?;
     Ok(Space {
         gaps: stretch_values(alloc, &gaps)?,
-        items: item_values(alloc, names, launch.items(), rows)?,
+        items: item_values(alloc, shown, launch.items(), rows)?,
         regions: region_values(alloc, launch.ram(), &taken)?,
     })
 }
@@ -93,21 +87,26 @@ pub(crate) fn placed_space(
 #[tactic(auto, unfolding(crate::specs::MapJson::map_data))]
 fn map_value(
     alloc: Global,
-    name: &str,
-    launch: &Launch,
+    launch: &NamedLaunch,
     space: Space,
     granules: &Granules,
     extensions: &Extensions,
     warnings: Vec<Value>,
 ) -> Result<Value, AllocError>
-    ensures { IfOk result (λ v. view v ≡ map_data name.now launch.now (seen_space space)
-        granules.now extensions.now (map view warnings.items)) }
+    ensures { IfOk result (λ v. view v ≡ map_data launch.now (seen_space space) granules.now
+        extensions.now (map view warnings.items)) }
 {
     let mut members = Map::new(alloc);
     put_values(alloc, &mut members, "warnings", warnings)?;
     put_space(alloc, &mut members, space)?;
-    put_counts(alloc, &mut members, &launch.config(), granules, extensions)?;
-    put_head(alloc, &mut members, name, launch)?;
+    put_counts(
+        alloc,
+        &mut members,
+        &launch.launch().config(),
+        granules,
+        extensions,
+    )?;
+    put_head(alloc, &mut members, launch)?;
     Ok(Value::Object(members))
 }
 
@@ -153,29 +152,23 @@ fn put_counts(
 pub(crate) fn put_head(
     alloc: Global,
     members: &mut Members,
-    name: &str,
-    launch: &Launch,
+    launch: &NamedLaunch,
 ) -> Result<(), AllocError>
     ensures { OnOk result (members_view members.new.entries
         ≡ with_member (codes "version") (count 1)
-        (with_member (codes "launch") (launch_json name.now launch.now)
+        (with_member (codes "launch") (launch_json launch.now)
         (members_view members.old.entries))) }
 {
-    let value = launch_value(alloc, name, launch)?;
+    let value = launch_value(alloc, launch)?;
     put(members, alloc, "launch", value)?;
     put_count(alloc, members, "version", 1)
 }
 
 /// The line of each warning of a launch as a text.
-fn warning_values(
-    alloc: Global,
-    names: ItemNames<'_>,
-    name: &str,
-    accepted: &AcceptedLaunch<'_>,
-) -> Result<Vec<Value>, NoMemory>
+fn warning_values(alloc: Global, accepted: &AcceptedLaunch<'_>) -> Result<Vec<Value>, NoMemory>
     ensures { IfOk result (λ values. AreTexts (map view values.items)) }
 {
-    let lines = warnings(alloc, names, name, accepted)?;
+    let lines = warnings(alloc, accepted)?;
     Ok(line_values(alloc, &lines)?)
 }
 

@@ -2,7 +2,7 @@
 ghost use Rattle.std.specs.Prelude.{◌≡◌, ◌<◌, [], ◌∷◌, IfOk, OnOk, codes, map, option_map};
 ghost use Rattle.serde_json.specs.Data.{array, no_members, object, put as with_member};
 ghost use Rattle.serde_json.specs.View.{items_of, members_view, view};
-ghost use Rattle.rim_line.specs.Names.{names_of};
+ghost use Rattle.rim_manifest.specs.Launches.{item_name};
 ghost use Rattle.rim_map.specs.Stretches.{gaps_of};
 ghost use Rattle.rim_map.specs.inside.Shared.{item_members};
 ghost use Rattle.rim_map.specs.MapJson.{count, extensions_json, granules_json, item_json, items_json, launch_json, path_json, place_json, region_json, regions_json, rule_json, stretch_json};
@@ -12,10 +12,11 @@ use crate::files::{kind_word, path_of};
 use crate::granules::Granules;
 use crate::members::{Members, put_count, put_flag, put_text, put_values};
 use crate::rows::Row;
+use crate::shown::Shown;
 use crate::stretches::{Stretch, gaps};
 use rim_desc::{GRANULE_SIZE, RecRule};
-use rim_launch::{Config, Item, Launch, Region};
-use rim_line::ItemNames;
+use rim_launch::{Config, Item, Region};
+use rim_manifest::NamedLaunch;
 use serde_json::{Map, Value, json, put};
 use std::alloc::{AllocError, Global};
 
@@ -103,38 +104,33 @@ fn put_gaps(
 /// The items of a launch at their places.
 pub(crate) fn item_values(
     alloc: Global,
-    names: ItemNames<'_>,
+    shown: Shown<'_>,
     items: &[Item],
     rows: &[Row],
 ) -> Result<Vec<Value>, AllocError>
     ensures { IfOk result
-        (λ values. map view values.items ≡ items_json (names_of names.entry)
-        names.entry.readable.now.release.paths items.now rows.now) }
+        (λ values. map view values.items ≡ items_json (item_name shown.entry.launch.now)
+        shown.entry.release.now.paths items.now rows.now) }
 {
     let mut values = Vec::with_capacity(alloc, rows.len())?;
     for (item, row) in items.iter().zip(rows.iter()) {
-        values.push(item_value(alloc, names, item, row)?)?;
+        values.push(item_value(alloc, shown, item, row)?)?;
     }
     Ok(values)
 }
 
 /// An item at its place.
 #[tactic(auto, unfolding(crate::specs::MapJson::item_json))]
-fn item_value(
-    alloc: Global,
-    names: ItemNames<'_>,
-    item: &Item,
-    row: &Row,
-) -> Result<Value, AllocError>
+fn item_value(alloc: Global, shown: Shown<'_>, item: &Item, row: &Row) -> Result<Value, AllocError>
     ensures { IfOk result (λ v. view v
-        ≡ item_json (names_of names.entry) names.entry.readable.now.release.paths
+        ≡ item_json (item_name shown.entry.launch.now) shown.entry.release.now.paths
         item.now row.now) }
 {
     let mut members = Map::new(alloc);
     put_item(
         alloc,
         &mut members,
-        names,
+        shown,
         item,
         row.number,
         row.item.measured,
@@ -148,21 +144,21 @@ fn item_value(
 pub(crate) fn put_item(
     alloc: Global,
     members: &mut Members,
-    names: ItemNames<'_>,
+    shown: Shown<'_>,
     item: &Item,
     number: usize,
     is_measured: bool,
 ) -> Result<(), AllocError>
     requires { members_view members.old.entries ≡ no_members }
     ensures { OnOk result (members_view members.new.entries
-        ≡ item_members (names_of names.entry) names.entry.readable.now.release.paths number
+        ≡ item_members (item_name shown.entry.launch.now) shown.entry.release.now.paths number
         item.now is_measured) }
 {
     put_flag(alloc, members, "edited", item.kind.has_edits())?;
-    put_path(alloc, members, path_of(names.readable.release(), item))?;
+    put_path(alloc, members, path_of(shown.release, item))?;
     put_text(alloc, members, "kind", kind_word(item.kind.role()))?;
     put_flag(alloc, members, "measured", is_measured)?;
-    put_text(alloc, members, "name", names.name(number))
+    put_text(alloc, members, "name", shown.launch.item_name(number))
 }
 
 /// Adds the path of an item's file.
@@ -197,26 +193,22 @@ fn put_place(alloc: Global, members: &mut Members, row: &Row) -> Result<(), Allo
 }
 
 /// What a launch is.
-pub(crate) fn launch_value(alloc: Global, name: &str, launch: &Launch) -> Result<Value, AllocError>
-    ensures { IfOk result (λ v. view v ≡ launch_json name.now launch.now) }
+pub(crate) fn launch_value(alloc: Global, launch: &NamedLaunch) -> Result<Value, AllocError>
+    ensures { IfOk result (λ v. view v ≡ launch_json launch.now) }
 {
     let mut members = Map::new(alloc);
-    put_facts(alloc, &mut members, name, launch)?;
+    put_facts(alloc, &mut members, launch)?;
     Ok(Value::Object(members))
 }
 
 /// Adds what a launch is.
 #[tactic(auto, unfolding(crate::specs::MapJson::launch_json))]
-fn put_facts(
-    alloc: Global,
-    members: &mut Members,
-    name: &str,
-    launch: &Launch,
-) -> Result<(), AllocError>
+fn put_facts(alloc: Global, members: &mut Members, launch: &NamedLaunch) -> Result<(), AllocError>
     requires { members_view members.old.entries ≡ no_members }
-    ensures { OnOk result
-        (object (members_view members.new.entries) ≡ launch_json name.now launch.now) }
+    ensures { OnOk result (object (members_view members.new.entries) ≡ launch_json launch.now) }
 {
+    let name = launch.name();
+    let launch = launch.launch();
     let config = launch.config();
     put_text(alloc, members, "algorithm", config.algo.word())?;
     put_count(alloc, members, "block_level", u64::from(config.block_level))?;

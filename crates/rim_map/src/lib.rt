@@ -13,6 +13,7 @@ mod numbers;
 mod picture;
 mod refused;
 mod rows;
+mod shown;
 mod stretches;
 mod text;
 mod warnings;

@@ -2,20 +2,14 @@
 use crate::columns::{Lines, Size, push_name, push_path, room_after, written};
 use crate::files::{kind_word, path_of};
 use crate::rows::Row;
+use crate::shown::Shown;
 use crate::stretches::Stretch;
 use refusal::NoMemory;
 use rim_launch::{Item, Launch, Region};
-use rim_line::{ItemNames, Line};
+use rim_line::Line;
 use std::alloc::{AllocError, Global};
 use std::fmt;
 use std::fmt::Write;
-
-/// A launch whose space is shown, with the names of its items.
-#[derive(Clone, Copy)]
-pub(crate) struct Shown<'a> {
-    pub names: ItemNames<'a>,
-    pub launch: &'a Launch,
-}
 
 /// Adds the lines of a launch whose items have these places.
 pub(crate) fn push_space(
@@ -36,7 +30,7 @@ fn push_regions(
     shown: Shown<'_>,
     rising: &[Row],
 ) -> Result<(), NoMemory> {
-    let regions = rising_regions(alloc, shown.launch)?;
+    let regions = rising_regions(alloc, shown.launch.launch())?;
     let mut before = None;
     for region in &regions {
         before = push_next(alloc, text, before, region)?;
@@ -53,7 +47,7 @@ fn push_outside(
     rising: &[Row],
 ) -> Result<(), NoMemory> {
     for row in rising {
-        if !is_in_ram(shown.launch, row) {
+        if !is_in_ram(shown.launch.launch(), row) {
             push_row(alloc, text, shown, row)?;
         }
     }
@@ -192,7 +186,7 @@ fn push_rest(alloc: Global, text: &mut Lines, shown: Shown<'_>, row: &Row) -> Re
     let top = row.top;
     let mut line = Line::new(alloc);
     written(write!(line, "  to {top:#x} the pages of "))?;
-    push_named(alloc, text, &mut line, shown.names.name(row.number))
+    push_named(alloc, text, &mut line, shown.launch.item_name(row.number))
 }
 
 /// Adds a line with a name at its end, as far as that has room.
@@ -209,18 +203,18 @@ fn push_named(
 
 /// Adds the two lines of an item.
 fn push_row(alloc: Global, text: &mut Lines, shown: Shown<'_>, row: &Row) -> Result<(), NoMemory> {
-    let Some(item) = shown.launch.items().get(row.number) else {
+    let Some(item) = shown.launch.launch().items().get(row.number) else {
         return Ok(());
     };
-    push_bytes(alloc, text, shown.names, item, row)?;
-    push_numbers(alloc, text, shown.names, item, row)
+    push_bytes(alloc, text, shown, item, row)?;
+    push_numbers(alloc, text, shown, item, row)
 }
 
 /// Adds the line that says at which addresses the bytes of an item are.
 fn push_bytes(
     alloc: Global,
     text: &mut Lines,
-    names: ItemNames<'_>,
+    shown: Shown<'_>,
     item: &Item,
     row: &Row,
 ) -> Result<(), NoMemory> {
@@ -229,20 +223,20 @@ fn push_bytes(
     let end = row.end;
     let mut line = Line::new(alloc);
     written(write!(line, "  {address:#x} to {end:#x} {kind} "))?;
-    push_named(alloc, text, &mut line, names.name(row.number))
+    push_named(alloc, text, &mut line, shown.launch.item_name(row.number))
 }
 
 /// Adds the line that says how large an item is, and where its bytes come from.
 fn push_numbers(
     alloc: Global,
     text: &mut Lines,
-    names: ItemNames<'_>,
+    shown: Shown<'_>,
     item: &Item,
     row: &Row,
 ) -> Result<(), NoMemory> {
     let mut rest = Line::new(alloc);
     written(write_numbers(&mut rest, item, row))?;
-    push_source(alloc, text, names, item, &rest)
+    push_source(alloc, text, shown, item, &rest)
 }
 
 /// How many bytes and pages an item has, and what is measured of it.
@@ -277,24 +271,24 @@ fn measured_words(item: &Item) -> &'static str {
 fn push_source(
     alloc: Global,
     text: &mut Lines,
-    names: ItemNames<'_>,
+    shown: Shown<'_>,
     item: &Item,
     rest: &Line,
 ) -> Result<(), NoMemory> {
     let mut line = Line::new(alloc);
-    write_source(alloc, &mut line, names, item, rest)?;
+    write_source(alloc, &mut line, shown, item, rest)?;
     text.push(&line)
 }
 
 fn write_source(
     alloc: Global,
     line: &mut Line,
-    names: ItemNames<'_>,
+    shown: Shown<'_>,
     item: &Item,
     rest: &Line,
 ) -> Result<(), AllocError> {
     line.push_text("    ")?;
-    if let Some(path) = path_of(names.readable.release(), item) {
+    if let Some(path) = path_of(shown.release, item) {
         let words = if item.kind.has_edits() {
             ", edited: "
         } else {
@@ -326,10 +320,10 @@ pub(crate) fn push_stated(
     text: &mut Lines,
     shown: Shown<'_>,
 ) -> Result<(), NoMemory> {
-    let rising = rising_stated(alloc, shown.launch)?;
+    let rising = rising_stated(alloc, shown.launch.launch())?;
     for (_, number) in &rising {
-        if let Some(item) = shown.launch.items().get(*number) {
-            push_item(alloc, text, shown.names, *number, item)?;
+        if let Some(item) = shown.launch.launch().items().get(*number) {
+            push_item(alloc, text, shown, *number, item)?;
         }
     }
     Ok(())
@@ -355,19 +349,19 @@ fn stated_places(alloc: Global, launch: &Launch) -> Result<Vec<(u64, usize)>, Al
 fn push_item(
     alloc: Global,
     text: &mut Lines,
-    names: ItemNames<'_>,
+    shown: Shown<'_>,
     number: usize,
     item: &Item,
 ) -> Result<(), NoMemory> {
-    push_address(alloc, text, names, number, item)?;
-    push_size(alloc, text, names, item)
+    push_address(alloc, text, shown, number, item)?;
+    push_size(alloc, text, shown, item)
 }
 
 /// Adds the line that says at which address an item is stated.
 fn push_address(
     alloc: Global,
     text: &mut Lines,
-    names: ItemNames<'_>,
+    shown: Shown<'_>,
     number: usize,
     item: &Item,
 ) -> Result<(), NoMemory> {
@@ -375,19 +369,19 @@ fn push_address(
     let at = item.at;
     let mut line = Line::new(alloc);
     written(write!(line, "  at {at:#x} {kind} "))?;
-    push_named(alloc, text, &mut line, names.name(number))
+    push_named(alloc, text, &mut line, shown.launch.item_name(number))
 }
 
 /// Adds the line that says which size is stated of an item, and where its bytes come from.
 fn push_size(
     alloc: Global,
     text: &mut Lines,
-    names: ItemNames<'_>,
+    shown: Shown<'_>,
     item: &Item,
 ) -> Result<(), NoMemory> {
     let mut rest = Line::new(alloc);
     written(write_size(&mut rest, item))?;
-    push_source(alloc, text, names, item, &rest)
+    push_source(alloc, text, shown, item, &rest)
 }
 
 /// How many bytes of an item are stated, and what is measured of it.

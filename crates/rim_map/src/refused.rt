@@ -1,57 +1,51 @@
 //! The map of a launch that is refused, as far as it goes: the items at their places where its list is refused, and as the manifest
 //! states them where it cannot be laid out. What its lines show before the last one is tested alone.
-ghost use Rattle.std.specs.Prelude.{◌≡◌, ◌++◌, ℕ, List, IfOk, Ok, OnOk, codes, length, map, true};
+ghost use Rattle.std.specs.Prelude.{◌≡◌, ◌++◌, ℕ, List, IfOk, OnOk, codes, map};
 ghost use Rattle.std.specs.Str.Lossy.{utf8_lossy};
 ghost use Rattle.serde_json.specs.Data.{put as with_member, string};
 ghost use Rattle.serde_json.specs.View.{members_view, view};
 ghost use Rattle.ipa_layout.specs.Files.{bytes_of_files};
-ghost use Rattle.ipa_layout.specs.Layout.{PlacedData, places};
 ghost use Rattle.rim_accepted.specs.AuditFaults.{audit_kind_of};
 ghost use Rattle.rim_accepted.specs.Reasons.{audit_fault_of};
-ghost use Rattle.rim_launch.specs.LaunchData.{has_files};
-ghost use Rattle.rim_line.specs.Names.{names_of};
+ghost use Rattle.rim_manifest.specs.Launches.{item_name};
 ghost use Rattle.rim_map.specs.RefusedMap.{EndsWithLine, IsRefusedMap, ShowsSpace, refused_data, size_json, stated_item_json, stated_items_json, stated_json};
-ghost use Rattle.rim_map.specs.Rows.{rows_of};
 ghost use Rattle.rim_map.specs.inside.Spaces.{IsStated, seen_space};
 
 use crate::columns::Lines;
 use crate::json::{Space, placed_space, put_head, put_space, text, text_value};
 use crate::json_parts::{put_item, region_values, stretch_values};
 use crate::members::{Members, put_count, put_text};
-use crate::picture::{Shown, push_ram, push_space, push_stated};
-use crate::rows::{Row, item_rows};
+use crate::picture::{push_ram, push_space, push_stated};
+use crate::rows::item_rows;
+use crate::shown::Shown;
 use crate::stretches::between;
 use crate::text::push_head;
-use ipa_layout::place;
 use refusal::NoMemory;
 use rim_accepted::LaunchReason;
-use rim_launch::{Item, Launch};
-use rim_line::{ItemNames, Readable};
+use rim_launch::Item;
+use rim_manifest::{NamedLaunch, Release};
 use serde_json::{Map, Value, put};
 use std::alloc::{AllocError, Global};
 
-/// A launch that is refused, with its name, the files of its release, why it is refused, and the line that says so, with its line
-/// feed.
+/// A launch that is refused, why it is refused, and the line that says so, with its line feed.
 #[derive(Clone, Copy)]
 pub struct RefusedLaunch<'a> {
-    pub name: &'a str,
-    pub launch: &'a Launch,
+    pub launch: &'a NamedLaunch,
     pub files: &'a [Vec<u8>],
     pub reason: &'a LaunchReason,
     pub line: &'a [u8],
-    pub ghost there: { has_files launch.now (length files.now) ≡ true },
 }
 
 /// The map of a launch that is refused: a line with what it is, its address space as far as it is known, and the line that says why
 /// it is refused. No line but that one has more than 100 columns.
 pub fn refused_text(
     alloc: Global,
-    readable: &Readable,
+    release: &Release,
     refused: &RefusedLaunch<'_>,
 ) -> Result<Vec<u8>, NoMemory>
     ensures { IfOk result (λ text. EndsWithLine refused.now.line.now text.items) }
 {
-    let mut text = lines_before(alloc, readable, refused)?.into_bytes();
+    let mut text = lines_before(alloc, release, refused)?.into_bytes();
     text.extend_from_slice(refused.line)?;
     Ok(text)
 }
@@ -59,20 +53,20 @@ pub fn refused_text(
 /// The lines of the map before the last one.
 fn lines_before(
     alloc: Global,
-    readable: &Readable,
+    release: &Release,
     refused: &RefusedLaunch<'_>,
 ) -> Result<Lines, NoMemory> {
     let launch = refused.launch;
-    let names = names_in(readable, launch);
-    let shown = Shown { names, launch };
+    let shown = Shown { release, launch };
     let mut text = Lines::new(alloc);
-    push_head(alloc, &mut text, refused.name, launch)?;
+    push_head(alloc, &mut text, launch)?;
     match refused.reason {
-        LaunchReason::List(_) => {
-            push_space(alloc, &mut text, shown, &placed_rows(alloc, refused)?)?;
+        LaunchReason::List { placed, .. } => {
+            let rows = item_rows(alloc, launch.launch(), refused.files, placed)?;
+            push_space(alloc, &mut text, shown, &rows)?;
         }
         LaunchReason::Layout(_) => {
-            push_ram(alloc, &mut text, launch)?;
+            push_ram(alloc, &mut text, launch.launch())?;
             push_stated(alloc, &mut text, shown)?;
         }
     }
@@ -84,84 +78,61 @@ fn lines_before(
 /// have no places have `stated`, their `at` and `size` as the manifest states them, in the place of `place`.
 pub fn refused_json(
     alloc: Global,
-    readable: &Readable,
+    release: &Release,
     refused: &RefusedLaunch<'_>,
 ) -> Result<Vec<u8>, NoMemory>
     ensures { IfOk result (λ text. (line : List ℕ) → refused.now.line.now ≡ line ++ codes "\n"
-        → IsRefusedMap readable.now refused.now.name.now refused.now.launch.now
+        → IsRefusedMap release.now.paths refused.now.launch.now
         (bytes_of_files refused.now.files.now) refused.now.reason.now line text.items) }
 {
-    let space = shown_space(alloc, names_in(readable, refused.launch), refused)?;
+    let space = shown_space(alloc, release, refused)?;
     let value = refused_value(alloc, refused, space)?;
     text(alloc, &value)
 }
 
-/// The items of a launch, by their names.
-fn names_in<'a>(readable: &'a Readable, launch: &Launch) -> ItemNames<'a>
-    ensures { (result.readable.now ≡ readable.entry.now) × (result.launch ≡ launch.now.number) }
-{
-    ItemNames {
-        readable,
-        launch: launch.number(),
-    }
-}
-
-/// The items at their places, where it is the launch's list that is refused.
-fn placed_rows(alloc: Global, refused: &RefusedLaunch<'_>) -> Result<Vec<Row>, NoMemory>
-    ensures { IfOk result (λ rows. (p : PlacedData)
-        × (places refused.now.launch.now (bytes_of_files refused.now.files.now) ≡ Ok p)
-        × (rows.items ≡ rows_of refused.now.launch.now (bytes_of_files refused.now.files.now) p)) }
-{
-    match place(alloc, refused.launch, refused.files) {
-        Ok(placed) => item_rows(alloc, refused.launch, refused.files, &placed),
-        Err(_) => Err(NoMemory),
-    }
-}
-
-/// The address space of a launch with the items of these names, as far as it is known.
+/// The address space of a launch, as far as it is known.
 fn shown_space(
     alloc: Global,
-    names: ItemNames<'_>,
+    release: &Release,
     refused: &RefusedLaunch<'_>,
 ) -> Result<Space, NoMemory>
-    requires { names.launch ≡ refused.now.launch.now.number }
-    ensures { IfOk result (λ space. ShowsSpace names.entry.readable.now refused.now.launch.now
+    ensures { IfOk result (λ space. ShowsSpace release.now.paths refused.now.launch.now
         (bytes_of_files refused.now.files.now) refused.now.reason.now (seen_space space)) }
 {
     let launch = refused.launch;
+    let shown = Shown { release, launch };
     match refused.reason {
-        LaunchReason::List(_) => {
-            placed_space(alloc, names, launch, &placed_rows(alloc, refused)?)
+        LaunchReason::List { placed, .. } => {
+            let rows = item_rows(alloc, launch.launch(), refused.files, placed)?;
+            placed_space(alloc, shown, &rows)
         }
-        LaunchReason::Layout(_) => space_as_stated(alloc, names, launch),
+        LaunchReason::Layout(_) => space_as_stated(alloc, shown),
     }
 }
 
 /// The RAM of a launch, and its items as the manifest states them.
-fn space_as_stated(alloc: Global, names: ItemNames<'_>, launch: &Launch) -> Result<Space, NoMemory>
-    ensures { IfOk result (λ space. IsStated names.entry launch.now (seen_space space)) }
+fn space_as_stated(alloc: Global, shown: Shown<'_>) -> Result<Space, NoMemory>
+    ensures { IfOk result (λ space. IsStated shown.entry.release.now.paths shown.entry.launch.now
+        (seen_space space)) }
 {
+    let launch = shown.launch.launch();
     let gaps = between(alloc, launch.ram())?;
     Ok(Space {
         gaps: stretch_values(alloc, &gaps)?,
-        items: stated_values(alloc, names, launch.items())?,
+        items: stated_values(alloc, shown, launch.items())?,
         regions: region_values(alloc, launch.ram(), &[])?,
     })
 }
 
 /// Items as the manifest states them.
-fn stated_values(
-    alloc: Global,
-    names: ItemNames<'_>,
-    items: &[Item],
-) -> Result<Vec<Value>, AllocError>
+fn stated_values(alloc: Global, shown: Shown<'_>, items: &[Item]) -> Result<Vec<Value>, AllocError>
     ensures { IfOk result (λ values. map view values.items
-        ≡ stated_items_json (names_of names.entry) names.entry.readable.now.release.paths
+        ≡ stated_items_json (item_name shown.entry.launch.now) shown.entry.release.now.paths
         0 items.now) }
 {
     let mut values = Vec::with_capacity(alloc, items.len())?;
     for item in items {
-        values.push(stated_value(alloc, names, values.len(), item)?)?;
+        values.push(stated_value(alloc, shown, values.len(), item)?)?;
     }
     Ok(values)
 }
@@ -170,15 +141,15 @@ fn stated_values(
 #[tactic(auto, unfolding(crate::specs::RefusedMap::stated_item_json))]
 fn stated_value(
     alloc: Global,
-    names: ItemNames<'_>,
+    shown: Shown<'_>,
     number: usize,
     item: &Item,
 ) -> Result<Value, AllocError>
-    ensures { IfOk result (λ v. view v ≡ stated_item_json (names_of names.entry)
-        names.entry.readable.now.release.paths number item.now) }
+    ensures { IfOk result (λ v. view v ≡ stated_item_json (item_name shown.entry.launch.now)
+        shown.entry.release.now.paths number item.now) }
 {
     let mut members = Map::new(alloc);
-    put_item(alloc, &mut members, names, item, number, item.measured)?;
+    put_item(alloc, &mut members, shown, item, number, item.measured)?;
     let stated = stated_place(alloc, item)?;
     put(&mut members, alloc, "stated", stated)?;
     Ok(Value::Object(members))
@@ -213,12 +184,12 @@ fn refused_value(
     space: Space,
 ) -> Result<Value, AllocError>
     ensures { IfOk result (λ v. (line : List ℕ) → refused.now.line.now ≡ line ++ codes "\n"
-        → view v ≡ refused_data refused.now.name.now refused.now.launch.now (seen_space space)
+        → view v ≡ refused_data refused.now.launch.now (seen_space space)
         (utf8_lossy line) (audit_kind_of (audit_fault_of refused.now.reason.now))) }
 {
     let mut members = Map::new(alloc);
     put_space(alloc, &mut members, space)?;
-    put_head(alloc, &mut members, refused.name, refused.launch)?;
+    put_head(alloc, &mut members, refused.launch)?;
     put_refusal(alloc, &mut members, refused)?;
     Ok(Value::Object(members))
 }

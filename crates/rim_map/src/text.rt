@@ -2,14 +2,16 @@
 use crate::columns::{COLUMNS, Lines, push_name, written};
 use crate::extensions::{Extensions, count_extensions};
 use crate::granules::{Granules, count_granules};
-use crate::picture::{Shown, push_space};
+use crate::picture::push_space;
 use crate::rows::item_rows;
+use crate::shown::Shown;
 use crate::warnings::push_warnings;
 use refusal::NoMemory;
 use rim_accepted::AcceptedLaunch;
 use rim_desc::RecRule;
-use rim_launch::{Config, Launch};
-use rim_line::{ItemNames, Line, Readable};
+use rim_launch::Config;
+use rim_line::Line;
+use rim_manifest::{NamedLaunch, Release};
 use std::alloc::{AllocError, Global};
 use std::fmt;
 use std::fmt::Write;
@@ -17,48 +19,31 @@ use std::fmt::Write;
 /// The level of the largest blocks of RAM where a manifest states none.
 const DEFAULT_LEVEL: u8 = 2;
 
-/// The map of a launch that is accepted, by its name: a line with what it is; its address space, rising; the granules of the pool
-/// that its list takes; the extensions of its measurement; and its warnings. No line but a warning has more than 100 columns.
+/// The map of a launch that is accepted: a line with what it is; its address space, rising; the granules of the pool that its list
+/// takes; the extensions of its measurement; and its warnings. No line but a warning has more than 100 columns.
 pub fn map_text(
     alloc: Global,
-    readable: &Readable,
-    name: &str,
+    release: &Release,
     accepted: &AcceptedLaunch<'_>,
 ) -> Result<Vec<u8>, NoMemory> {
-    let launch = accepted.launch;
-    let names = ItemNames {
-        readable,
-        launch: launch.number(),
-    };
+    let launch = accepted.named;
     let mut text = Lines::new(alloc);
-    push_map(alloc, &mut text, names, name, accepted)?;
+    push_head(alloc, &mut text, launch)?;
+    push_placed(alloc, &mut text, Shown { release, launch }, accepted)?;
+    push_counts(alloc, &mut text, accepted)?;
+    push_warnings(alloc, &mut text, accepted)?;
     Ok(text.into_bytes())
-}
-
-/// Adds the lines of the map.
-fn push_map(
-    alloc: Global,
-    text: &mut Lines,
-    names: ItemNames<'_>,
-    name: &str,
-    accepted: &AcceptedLaunch<'_>,
-) -> Result<(), NoMemory> {
-    push_head(alloc, text, name, accepted.launch)?;
-    push_placed(alloc, text, names, accepted)?;
-    push_counts(alloc, text, accepted)?;
-    push_warnings(alloc, text, names, name, accepted)
 }
 
 /// Adds the address space of a launch.
 fn push_placed(
     alloc: Global,
     text: &mut Lines,
-    names: ItemNames<'_>,
+    shown: Shown<'_>,
     accepted: &AcceptedLaunch<'_>,
 ) -> Result<(), NoMemory> {
-    let launch = accepted.launch;
-    let rows = item_rows(alloc, launch, accepted.files, &accepted.placed)?;
-    push_space(alloc, text, Shown { names, launch }, &rows)
+    let rows = item_rows(alloc, accepted.launch(), accepted.files, &accepted.placed)?;
+    push_space(alloc, text, shown, &rows)
 }
 
 /// Adds the lines of granules and of extensions.
@@ -68,7 +53,7 @@ fn push_counts(
     accepted: &AcceptedLaunch<'_>,
 ) -> Result<(), NoMemory> {
     let granules = count_granules(alloc, accepted)?;
-    push_granules(alloc, text, &accepted.launch.config(), &granules)?;
+    push_granules(alloc, text, &accepted.launch().config(), &granules)?;
     push_extensions(alloc, text, &count_extensions(alloc, accepted)?)
 }
 
@@ -76,12 +61,12 @@ fn push_counts(
 pub(crate) fn push_head(
     alloc: Global,
     text: &mut Lines,
-    name: &str,
-    launch: &Launch,
+    launch: &NamedLaunch,
 ) -> Result<(), NoMemory> {
+    let recs = launch.launch().recs().len();
     let mut rest = Line::new(alloc);
-    written(write_config(&mut rest, &launch.config(), launch.recs().len()))?;
-    push_front(alloc, text, name, &rest)
+    written(write_config(&mut rest, &launch.launch().config(), recs))?;
+    push_front(alloc, text, launch.name(), &rest)
 }
 
 /// Adds that line, which ends so after the launch's name.

@@ -2,20 +2,18 @@
 use crate::columns::{Lines, written};
 use refusal::NoMemory;
 use rim_accepted::AcceptedLaunch;
-use rim_line::{ItemNames, Line};
+use rim_line::Line;
 use rim_unusual::{SeenTrees, Unusual, find_unusual};
 use std::alloc::Global;
 use std::fmt::Write;
 
-/// Adds the line of each warning of a launch, which has this name and is accepted.
+/// Adds the line of each warning of a launch that is accepted.
 pub(crate) fn push_warnings(
     alloc: Global,
     text: &mut Lines,
-    names: ItemNames<'_>,
-    name: &str,
     accepted: &AcceptedLaunch<'_>,
 ) -> Result<(), NoMemory> {
-    for line in &warnings(alloc, names, name, accepted)? {
+    for line in &warnings(alloc, accepted)? {
         text.push(line)?;
     }
     Ok(())
@@ -24,14 +22,12 @@ pub(crate) fn push_warnings(
 /// The line of each warning of a launch.
 pub(crate) fn warnings(
     alloc: Global,
-    names: ItemNames<'_>,
-    name: &str,
     accepted: &AcceptedLaunch<'_>,
 ) -> Result<Vec<Line>, NoMemory> {
     let mut lines = Vec::new(alloc);
     let mut seen = SeenTrees::new(alloc);
-    for one in &find_unusual(alloc, &mut seen, names, accepted)? {
-        lines.push(warning(alloc, name, one)?)?;
+    for one in &find_unusual(alloc, &mut seen, accepted)? {
+        lines.push(warning(alloc, accepted.named.name(), one)?)?;
     }
     Ok(lines)
 }

@@ -122,11 +122,11 @@ steps-keys-before l p (s ∷ ss) =
     ∙ ap (λ (ks : List PageKey). step_keys l p s ++ ks) (steps-keys-before l p ss)
 
 -- those of a launch
-launch-keys-before : (a : AcceptedLaunch) → flat_map keys_before (launch_ends a) ≡ measured_keys a.launch.now a.placed
-launch-keys-before a = steps-keys-before a.launch.now a.placed a.launch.now.steps
+launch-keys-before : (a : AcceptedLaunch) → flat_map keys_before (launch_ends a) ≡ measured_keys a.named.now.launch a.placed
+launch-keys-before a = steps-keys-before a.named.now.launch a.placed a.named.now.launch.steps
 
 pub added-keys : (a : AcceptedLaunch) (old new : List PageKey) → new ≡ old ++ launch_ends a
-    → flat_map keys_before new ≡ flat_map keys_before old ++ measured_keys a.launch.now a.placed
+    → flat_map keys_before new ≡ flat_map keys_before old ++ measured_keys a.named.now.launch a.placed
 added-keys a old new is =
     ap (flat_map keys_before) is ∙ flat_map-append keys_before old (launch_ends a)
     ∙ ap (λ (ks : List PageKey). flat_map keys_before old ++ ks) (launch-keys-before a)
@@ -135,7 +135,7 @@ outcome-keys-before : (files : List (List ℕ)) (l : NamedData) (r : Result Acce
     → flat_map keys_before (outcome_ends r) ≡ launch_keys files l
 outcome-keys-before files l (Ok a) is =
     launch-keys-before a
-    ∙ ap (λ (x : LaunchData). measured_keys x a.placed) is.0
+    ∙ ap (λ (x : NamedData). measured_keys x.launch a.placed) is.0
     ∙ sym (ap (keys_at l.launch) (own-place files l a is))
 outcome-keys-before files l (Err fault) is = sym (ap (keys_at l.launch) is)
 

@@ -47,7 +47,7 @@ impl MeasuredPages {
     /// Adds those of a launch that is accepted.
     pub fn add(&mut self, accepted: &AcceptedLaunch<'_>) -> Result<(), AllocError>
         ensures { OnOk result (self.new
-            ≡ self.old ++ keys_at accepted.now.launch.now (Ok accepted.now.placed)) }
+            ≡ self.old ++ keys_at accepted.now.named.now.launch (Ok accepted.now.placed)) }
     {
         push_launch(&mut self.ends, accepted)
     }
@@ -68,7 +68,7 @@ pub(crate) fn push_launch(
 ) -> Result<(), AllocError>
     ensures { OnOk result (ends.new.items ≡ ends.old.items ++ launch_ends accepted.now) }
 {
-    for step in accepted.launch.steps() {
+    for step in accepted.launch().steps() {
         push_step(ends, accepted, *step)?;
     }
     Ok(())
@@ -81,13 +81,13 @@ fn push_step(
     step: Step,
 ) -> Result<(), AllocError>
     ensures { OnOk result (ends.new.items
-        ≡ ends.old.items ++ step_ends accepted.now.launch.now accepted.now.placed step) }
+        ≡ ends.old.items ++ step_ends accepted.now.named.now.launch accepted.now.placed step) }
 {
     let Step::Item(number) = step else {
         return Ok(());
     };
     match item_at(accepted.placed.items(), number) {
-        Some(item) => push_item(ends, accepted.launch.config().algo, &item),
+        Some(item) => push_item(ends, accepted.launch().config().algo, &item),
         None => Ok(()),
     }
 }

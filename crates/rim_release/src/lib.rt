@@ -4,8 +4,8 @@
 pub use job_board::JobId;
 pub use job_workers::{FreeGate, Gate};
 pub use rim_accepted::{
-    AuditFault, Files, Report, a_line_says_what_a_monitor_holds, devicetrees_are_measured,
-    placed_devicetree,
+    AuditFault, Files, LoadedLaunch, LoadedRelease, Report, a_line_says_what_a_monitor_holds,
+    devicetrees_are_measured, placed_devicetree,
 };
 pub use rim_audit::{
     a_trace_shows_what_a_monitor_holds, audit, audit_launches, audit_report, audit_with_gate,

@@ -49,13 +49,13 @@ as-many files (l ∷ ls) (r ∷ rs) are = ap suc (as-many files ls rs are.1)
 module _ (files : List (List ℕ)) (ls : List NamedData) (rs : List (Result AcceptedLaunch AuditFault)) (are : AreOutcomes files ls rs) where
   -- a launch that is accepted adds its plan
   pub plan-added : (i : ℕ) (d : Result AcceptedLaunch AuditFault) (a : AcceptedLaunch) (v : PlanView) (plans plans' : List PlanView)
-      → i < length rs → get_or rs i d ≡ Ok a → IsReadOf a.launch.now a.placed v → plans' ≡ plans ++ v ∷ []
+      → i < length rs → get_or rs i d ≡ Ok a → IsReadOf a.named.now.launch a.placed v → plans' ≡ plans ++ v ∷ []
       → ArePlans files (take i ls) plans → ArePlans files (take (i + 1) ls) plans'
   plan-added i d a v plans plans' inside is read added so_far =
       let own = own-at files ls rs i d are inside in
       let l : NamedData = own.0 in
       let outcome : IsOutcome files l (Ok a) = subst (IsOutcome files l) is own.1.1 in
-      let reads : IsReadOf l.launch a.placed v = subst (λ (x : LaunchData). IsReadOf x a.placed v) outcome.0 read in
+      let reads : IsReadOf l.launch a.placed v = subst (λ (x : NamedData). IsReadOf x.launch a.placed v) outcome.0 read in
       let last : BeginsWith l.launch (accepted_of l.launch files) (λ vs. vs ≡ []) (v ∷ [])
       = subst (λ (place : Result PlacedData AuditFault). BeginsWith l.launch place (λ vs. vs ≡ []) (v ∷ []))
       (sym (own-place files l a outcome)) (reads, refl) in

@@ -1,5 +1,5 @@
 //! The report of a release as JSON.
-ghost use Rattle.std.specs.Prelude.{◌≡◌, IfOk, length, map, vec_len};
+ghost use Rattle.std.specs.Prelude.{◌≡◌, IfOk, map};
 ghost use Rattle.serde_json.specs.View.{view};
 ghost use Rattle.ipa_layout.specs.Files.{bytes_of_files};
 ghost use Rattle.rim_report.specs.Json.{file_json, files_json, json_with, launch_json, launches_json, report_data};
@@ -7,9 +7,9 @@ ghost use Rattle.rim_accepted.specs.Lines.{seen};
 
 use base64::engine::general_purpose::STANDARD;
 use refusal::NoMemory;
-use rim_accepted::{AuditFault, Files};
+use rim_accepted::{AuditFault, LoadedRelease};
 use rim_desc::Measurement;
-use rim_manifest::{NamedLaunch, Release};
+use rim_manifest::NamedLaunch;
 use rmi_line::digest;
 use serde_json::{Value, json};
 use sha2::{Digest, Sha256};
@@ -25,17 +25,15 @@ use std::alloc::{AllocError, Global};
 pub fn json_report(
     alloc: Global,
     program: &str,
-    release: &Release,
-    files: &Files,
+    loaded: LoadedRelease<'_>,
     outcomes: &[Result<Measurement, AuditFault>],
     count: u64,
 ) -> Result<Vec<u8>, NoMemory>
-    requires { vec_len files.now ≡ length release.now.paths }
     ensures { IfOk result (λ text. text.items ≡ json_with program.now
-        (files_json release.now.paths (bytes_of_files files.now.items))
-        (launches_json release.now.launches (map seen outcomes.now)) count) }
+        (files_json loaded.entry.release.now.paths (bytes_of_files loaded.entry.files.now))
+        (launches_json loaded.entry.release.now.launches (map seen outcomes.now)) count) }
 {
-    let report = report_value(alloc, program, release, files, outcomes, count)?;
+    let report = report_value(alloc, program, loaded, outcomes, count)?;
     let mut text = report.to_string(alloc)?.into_bytes();
     text.push(b'\n')?;
     Ok(text)
@@ -46,18 +44,16 @@ pub fn json_report(
 fn report_value(
     alloc: Global,
     program: &str,
-    release: &Release,
-    files: &Files,
+    loaded: LoadedRelease<'_>,
     outcomes: &[Result<Measurement, AuditFault>],
     count: u64,
 ) -> Result<Value, AllocError>
-    requires { vec_len files.now ≡ length release.now.paths }
     ensures { IfOk result (λ v. view v ≡ report_data program.now
-        (files_json release.now.paths (bytes_of_files files.now.items))
-        (launches_json release.now.launches (map seen outcomes.now)) count) }
+        (files_json loaded.entry.release.now.paths (bytes_of_files loaded.entry.files.now))
+        (launches_json loaded.entry.release.now.launches (map seen outcomes.now)) count) }
 {
-    let files = file_values(alloc, release, files)?;
-    let launches = launch_values(alloc, release.all_launches(), outcomes)?;
+    let files = file_values(alloc, loaded)?;
+    let launches = launch_values(alloc, loaded.release.all_launches(), outcomes)?;
     json!(in alloc; {
         "files": files,
         "launches": launches,
@@ -68,11 +64,11 @@ fn report_value(
 }
 
 /// Each file of a release.
-fn file_values(alloc: Global, release: &Release, files: &Files) -> Result<Vec<Value>, AllocError>
-    requires { vec_len files.now ≡ length release.now.paths }
+fn file_values(alloc: Global, loaded: LoadedRelease<'_>) -> Result<Vec<Value>, AllocError>
     ensures { IfOk result (λ values. map view values.items
-        ≡ files_json release.now.paths (bytes_of_files files.now.items)) }
+        ≡ files_json loaded.entry.release.now.paths (bytes_of_files loaded.entry.files.now)) }
 {
+    let LoadedRelease { release, files } = loaded;
     let mut values = Vec::with_capacity(alloc, files.len())?;
     for i in 0..files.len() {
         values.push(file_value(alloc, release.path(i), files[i].as_slice())?)?;

@@ -10,7 +10,7 @@ use crate::hashing::hashed;
 use crate::outcomes::{set_rims, unknown_outcomes};
 use crate::plans::accepted_plans;
 use crate::report::report;
-use rim_accepted::{Files, Report, accept_all, has_refused};
+use rim_accepted::{Files, LoadedRelease, Report, accept_all, has_refused};
 use rim_desc::Lanes;
 use rim_manifest::Release;
 use rim_pages::{StartFault, pages};
@@ -24,7 +24,7 @@ pub fn measure_alone(alloc: Global, release: &Release, files: &Files) -> Result<
     ensures { Answers StartFault.NoMemory (λ text. text.items) result
         (measured_of (bytes_of_files files.now.items) release.now.launches) }
 {
-    let report = report_alone(alloc, Lanes::Four, release, files)?;
+    let report = report_alone(alloc, Lanes::Four, LoadedRelease::new(release, files))?;
     Ok(report.text)
 }
 
@@ -32,16 +32,14 @@ pub fn measure_alone(alloc: Global, release: &Release, files: &Files) -> Result<
 pub fn report_alone(
     alloc: Global,
     lanes: Lanes,
-    release: &Release,
-    files: &Files,
+    loaded: LoadedRelease<'_>,
 ) -> Result<Report, StartFault>
-    requires { vec_len files.now ≡ length release.now.paths }
-    ensures text { Answers StartFault.NoMemory (λ r. r.text.items) result
-        (measured_of (bytes_of_files files.now.items) release.now.launches) }
-    ensures refused { IfOk result
-        (λ r. r.has_refused ≡ has_refused (bytes_of_files files.now.items) release.now.launches) }
+    ensures text { Answers StartFault.NoMemory (λ r. r.text.items) result (measured_of
+        (bytes_of_files loaded.entry.files.now) loaded.entry.release.now.launches) }
+    ensures refused { IfOk result (λ r. r.has_refused ≡ has_refused
+        (bytes_of_files loaded.entry.files.now) loaded.entry.release.now.launches) }
 {
-    let accepted = accept_all(alloc, release, files)?;
+    let accepted = accept_all(alloc, loaded)?;
     let plans = accepted_plans(alloc, &accepted)?;
     let pages = pages(alloc, &accepted)?;
     let table = hashed(alloc, lanes, &pages)?;

@@ -27,8 +27,8 @@ pub fn accepted_plans(
 
 /// The plan of a launch.
 fn plan(alloc: Global, accepted: &AcceptedLaunch<'_>) -> Result<LaunchPlan, NoMemory>
-    ensures { IfOk result (IsReadOf accepted.now.launch.now accepted.now.placed) }
+    ensures { IfOk result (IsReadOf accepted.now.named.now.launch accepted.now.placed) }
 {
-    let AcceptedLaunch { launch, placed, .. } = accepted;
-    LaunchPlan::of_launch(alloc, launch.config().algo, launch, placed)
+    let launch = accepted.launch();
+    LaunchPlan::of_launch(alloc, launch.config().algo, launch, &accepted.placed)
 }

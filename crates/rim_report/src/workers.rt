@@ -20,7 +20,7 @@ use job_board::{BoardState, Run, WORKER_LIMIT};
 use job_workers::{Board, Gate, run_workers};
 use page_jobs::{Page, Table};
 use refusal::NoMemory;
-use rim_accepted::{AuditFault, Files, accept_all, has_refused};
+use rim_accepted::{AuditFault, Files, LoadedRelease, accept_all, has_refused};
 use rim_chain::LaunchPlan;
 use rim_desc::Measurement;
 use rim_manifest::Release;
@@ -85,7 +85,7 @@ pub fn measure_release<G: Gate + Sync, R: Threads + Wait + Sync>(
     if !(1..=WORKER_LIMIT).contains(&workers) {
         return Err(StartFault::Workers);
     }
-    let accepted = accept_all(alloc, release, files)?;
+    let accepted = accept_all(alloc, LoadedRelease::new(release, files))?;
     let plans = accepted_plans(alloc, &accepted)?;
     let pages = pages(alloc, &accepted)?;
     let mut rims = vec![in alloc; UNKNOWN; plans.len()]?;

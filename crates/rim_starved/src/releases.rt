@@ -6,10 +6,10 @@ use crate::inputs::{files_of, split};
 use crate::maps;
 use crate::trial::{Fault, Seen, begin, digest, end, seen, text_digest};
 use refusal::NoMemory;
-use rim_check::{LaunchCheck, ManifestCheck, Readable, check_launches, check_manifest};
+use rim_check::{LaunchCheck, check_launches};
 use rim_desc::{Lanes, Measurement};
 use rim_release::{
-    AuditFault, Files, Gate, JobId, Outcome, Release, Report, StartFault, audit, audit_report,
+    AuditFault, Files, Gate, JobId, LoadedLaunch, LoadedRelease, Outcome, Release, Report, StartFault, audit, audit_report,
     json_report, listing, measure_alone, measure_release, placed_devicetree, read_manifest,
     trace_or_refusal,
 };
@@ -33,8 +33,15 @@ pub fn seen<R: Threads + Wait + Sync + Print + AllocGlobal>(
             rt, &release, &files, lets_wait, is_tried,
         ),
         ReleaseCall::JsonReport => as_json(rt, &release, &files, is_tried),
-        ReleaseCall::CheckLaunches => checked(rt, text, &files, is_tried),
-        ReleaseCall::Map { is_json } => maps::seen(rt, text, &files, is_json, is_tried),
+        ReleaseCall::CheckLaunches => {
+            launches_checked(rt, LoadedRelease::new(&release, &files), is_tried)
+        }
+        ReleaseCall::Map { is_json } => maps::seen(
+            rt,
+            LoadedRelease::new(&release, &files),
+            is_json,
+            is_tried,
+        ),
         ReleaseCall::MeasureAlone => alone(rt, &release, &files, is_tried),
         ReleaseCall::AuditReport => all_audited(rt, &release, &files, is_tried),
         _ => first_launch(rt, call, &release, &files, is_tried),
@@ -86,8 +93,10 @@ fn first_launch<R: Print + AllocGlobal>(
     match call {
         ReleaseCall::Audit => audited(rt, release, files, is_tried),
         ReleaseCall::Listing => listed(rt, release, files, is_tried),
-        ReleaseCall::Trace => traced(rt, release, files, is_tried),
-        _ => devicetree(rt, release, files, is_tried),
+        ReleaseCall::Trace => {
+            traced(rt, LoadedRelease::new(release, files).launch(0), is_tried)
+        }
+        _ => devicetree(rt, LoadedRelease::new(release, files).launch(0), is_tried),
     }
 }
 
@@ -123,30 +132,24 @@ fn listed<R: Print + AllocGlobal>(
 
 fn traced<R: Print + AllocGlobal>(
     rt: &R,
-    release: &Release,
-    files: &Files,
+    loaded: LoadedLaunch<'_>,
     is_tried: bool,
-) -> Result<Seen, Fault>
-    requires { (vec_len files.now ≡ length release.now.paths) × (0 < length release.now.launches) }
-{
+) -> Result<Seen, Fault> {
     let alloc = rt.alloc();
     begin(rt, is_tried)?;
-    let answer = trace_or_refusal(alloc, Lanes::Four, release, files, 0);
+    let answer = trace_or_refusal(alloc, Lanes::Four, loaded);
     end(rt, is_tried)?;
     Ok(seen!(alloc, answer, report_digest, NoMemory))
 }
 
 fn devicetree<R: Print + AllocGlobal>(
     rt: &R,
-    release: &Release,
-    files: &Files,
+    loaded: LoadedLaunch<'_>,
     is_tried: bool,
-) -> Result<Seen, Fault>
-    requires { (vec_len files.now ≡ length release.now.paths) × (0 < length release.now.launches) }
-{
+) -> Result<Seen, Fault> {
     let alloc = rt.alloc();
     begin(rt, is_tried)?;
-    let answer = placed_devicetree(alloc, release, files, 0);
+    let answer = placed_devicetree(alloc, loaded);
     end(rt, is_tried)?;
     Ok(seen!(alloc, answer, devicetree_digest, AuditFault::NoMemory))
 }
@@ -164,53 +167,31 @@ fn as_json<R: Threads + Wait + Sync + Print + AllocGlobal>(
     let Ok(outcome) = measure_release(rt, rt.alloc(), gate, release, files, 1) else {
         return Err(Fault::Input);
     };
-    json_made(rt, release, files, &outcome, is_tried)
+    json_made(rt, LoadedRelease::new(release, files), &outcome, is_tried)
 }
 
 fn json_made<R: Print + AllocGlobal>(
     rt: &R,
-    release: &Release,
-    files: &Files,
+    loaded: LoadedRelease<'_>,
     outcome: &Outcome,
     is_tried: bool,
-) -> Result<Seen, Fault>
-    requires { vec_len files.now ≡ length release.now.paths }
-{
+) -> Result<Seen, Fault> {
     let alloc = rt.alloc();
     begin(rt, is_tried)?;
     let launches = outcome.launches.as_slice();
-    let answer = json_report(alloc, "rim", release, files, launches, outcome.pages);
+    let answer = json_report(alloc, "rim", loaded, launches, outcome.pages);
     end(rt, is_tried)?;
     Ok(seen!(alloc, answer, text_digest, NoMemory))
 }
 
-fn checked<R: Print + AllocGlobal>(
-    rt: &R,
-    text: &[u8],
-    files: &Files,
-    is_tried: bool,
-) -> Result<Seen, Fault> {
-    let Ok(ManifestCheck::Readable(readable)) = check_manifest(rt.alloc(), "manifest.toml", text)
-    else {
-        return Err(Fault::Input);
-    };
-    if files.len() != readable.release().file_count() {
-        return Err(Fault::Input);
-    }
-    launches_checked(rt, &readable, files, is_tried)
-}
-
 fn launches_checked<R: Print + AllocGlobal>(
     rt: &R,
-    readable: &Readable,
-    files: &Files,
+    loaded: LoadedRelease<'_>,
     is_tried: bool,
-) -> Result<Seen, Fault>
-    requires { vec_len files.now ≡ length readable.now.release.paths }
-{
+) -> Result<Seen, Fault> {
     let alloc = rt.alloc();
     begin(rt, is_tried)?;
-    let answer = check_launches(alloc, readable, files, false);
+    let answer = check_launches(alloc, loaded, false);
     end(rt, is_tried)?;
     Ok(seen!(alloc, answer, check_digest, NoMemory))
 }

@@ -138,7 +138,7 @@ fn release_digest(alloc: Global, release: &Release) -> Result<u64, AllocError> {
 fn check_digest(alloc: Global, check: &ManifestCheck) -> Result<u64, AllocError> {
     match check {
         ManifestCheck::Faulty(lines) => Ok(digest(lines.as_slice())),
-        ManifestCheck::Readable(readable) => release_digest(alloc, readable.release()),
+        ManifestCheck::Readable(release) => release_digest(alloc, release),
     }
 }
 

@@ -11,7 +11,7 @@ use refusal::NoMemory;
 use rim_accepted::AcceptedLaunch;
 use rim_desc::Source;
 use rim_launch::{Launch, Role};
-use rim_line::{ItemNames, Quoted};
+use rim_line::Quoted;
 use rim_show::devicetree_kind;
 use std::alloc::Global;
 use std::fmt;
@@ -115,13 +115,12 @@ pub(crate) fn find_in_tree<'a>(
     alloc: Global,
     found: &mut Vec<Unusual<'a>>,
     seen: &mut SeenTrees,
-    names: ItemNames<'a>,
     accepted: &'a AcceptedLaunch<'_>,
 ) -> Result<(), NoMemory> {
-    let Some(number) = number_of(accepted.launch, Role::Dtb) else {
+    let Some(number) = number_of(accepted.launch(), Role::Dtb) else {
         return Ok(());
     };
-    let item = names.name(number);
+    let item = accepted.named.item_name(number);
     let bytes = placed_bytes(accepted, number);
     match accepted
         .placed
@@ -176,7 +175,7 @@ fn push_facts<'a>(
     let compared = [
         memory_fault(alloc, accepted, facts)?,
         initrd_fault(accepted, facts.initrd),
-        processors_fault(accepted.launch, facts.processors),
+        processors_fault(accepted.launch(), facts.processors),
     ];
     for what in compared.iter().flatten().chain(facts.own.iter()) {
         found.push(Unusual::Tree(UnusualTree { item, what: *what }))?;
@@ -194,7 +193,7 @@ fn memory_fault(
         return Ok(None);
     };
     let apart = firmware_region(accepted);
-    let expected = merged(alloc, ram_ranges(alloc, accepted.launch.ram(), apart)?)?;
+    let expected = merged(alloc, ram_ranges(alloc, accepted.launch().ram(), apart)?)?;
     Ok(first_difference(found, &expected).map(|difference| TreeFault::Memory(difference)))
 }
 
@@ -210,7 +209,7 @@ fn initrd_fault(accepted: &AcceptedLaunch<'_>, found: InitrdPlace) -> Option<Tre
 
 /// The place of a launch's initrd, as an edit writes it: its address, and the end of its file's bytes.
 fn initrd_place(accepted: &AcceptedLaunch<'_>) -> InitrdPlace {
-    let Some(number) = number_of(accepted.launch, Role::Initrd) else {
+    let Some(number) = number_of(accepted.launch(), Role::Initrd) else {
         return InitrdPlace::NONE;
     };
     match accepted.placed.items().get(number) {

@@ -10,12 +10,12 @@ const PAGE: u64 = 4096;
 
 /// The firmware of a launch, as it is placed, if the launch has some: it has no kernel, and REC 0 enters measured bytes of a raw item.
 pub(crate) fn firmware(accepted: &AcceptedLaunch<'_>) -> Option<PlacedItem> {
-    if has_role(accepted.launch.items(), Role::Kernel) {
+    if has_role(accepted.launch().items(), Role::Kernel) {
         return None;
     }
     let entry = accepted.placed.recs().first()?.pc;
     let (_, placed) = accepted
-        .launch
+        .launch()
         .items()
         .iter()
         .zip(accepted.placed.items().iter())
@@ -30,14 +30,14 @@ pub(crate) fn firmware(accepted: &AcceptedLaunch<'_>) -> Option<PlacedItem> {
 pub(crate) fn firmware_region(accepted: &AcceptedLaunch<'_>) -> Option<Region> {
     let firmware = firmware(accepted)?;
     let tree = placed_tree(accepted);
-    accepted.launch.ram().iter().copied().find(|region| is_in(region, firmware.address)
+    accepted.launch().ram().iter().copied().find(|region| is_in(region, firmware.address)
         && !tree.is_some_and(|tree| is_in(region, tree)))
 }
 
 /// The address of a launch's devicetree, if it has one.
 fn placed_tree(accepted: &AcceptedLaunch<'_>) -> Option<u64> {
     let number = accepted
-        .launch
+        .launch()
         .items()
         .iter()
         .position(|item| item.has_role(Role::Dtb))?;

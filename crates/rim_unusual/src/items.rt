@@ -5,7 +5,8 @@ use crate::unusual::Unusual;
 use refusal::NoMemory;
 use rim_accepted::AcceptedLaunch;
 use rim_launch::{Item, Role};
-use rim_line::{ItemNames, Quoted};
+use rim_line::Quoted;
+use rim_manifest::NamedLaunch;
 use std::fmt;
 
 /// How a flattened devicetree begins.
@@ -89,10 +90,9 @@ fn write_other_initrd<W: fmt::Write>(
 /// Adds what is rarely meant of the items of a launch.
 pub(crate) fn find_in_items<'a>(
     found: &mut Vec<Unusual<'a>>,
-    names: ItemNames<'a>,
     accepted: &'a AcceptedLaunch<'_>,
 ) -> Result<(), NoMemory> {
-    let items = accepted.launch.items();
+    let items = accepted.launch().items();
     if !has_role(items, Role::Kernel) && firmware(accepted).is_none() {
         found.push(Unusual::Item(UnusualItem::NoKernel))?;
     }
@@ -101,10 +101,14 @@ pub(crate) fn find_in_items<'a>(
     }
     for (number, item) in items.iter().enumerate() {
         let bytes = placed_bytes(accepted, number);
-        if let Some(unusual) = unusual_bytes(item.kind.role(), names.name(number), bytes) {
+        if let Some(unusual) = unusual_bytes(
+            item.kind.role(),
+            accepted.named.item_name(number),
+            bytes,
+        ) {
             found.push(Unusual::Item(unusual))?;
         }
-        if let Some(unusual) = same_file(names, items, number) {
+        if let Some(unusual) = same_file(accepted.named, number) {
             found.push(Unusual::Item(unusual))?;
         }
     }
@@ -142,14 +146,15 @@ fn unusual_bytes<'a>(role: Role, item: &'a str, bytes: &'a [u8]) -> Option<Unusu
 }
 
 /// Whether an earlier item has the file of this one.
-fn same_file<'a>(names: ItemNames<'a>, items: &[Item], number: usize) -> Option<UnusualItem<'a>> {
+fn same_file<'a>(launch: &'a NamedLaunch, number: usize) -> Option<UnusualItem<'a>> {
+    let items = launch.launch().items();
     let file = items.get(number)?.kind.file()?;
     let first = items
         .iter()
         .take(number)
         .position(|earlier| earlier.kind.file() == Some(file))?;
     Some(UnusualItem::SameFile {
-        first: names.name(first),
-        second: names.name(number),
+        first: launch.item_name(first),
+        second: launch.item_name(number),
     })
 }

@@ -74,12 +74,12 @@ pub(crate) fn find_in_ram<'a>(
     accepted: &AcceptedLaunch<'_>,
 ) -> Result<(), NoMemory> {
     let apart = firmware_region(accepted);
-    for (number, region) in accepted.launch.ram().iter().copied().enumerate() {
+    for (number, region) in accepted.launch().ram().iter().copied().enumerate() {
         if size_of(&region) % MIB != 0 && apart != Some(region) {
             found.push(Unusual::Ram(UnusualRam::Uneven { number, region }))?;
         }
     }
-    if let Some(unusual) = size_as_end(accepted.launch) {
+    if let Some(unusual) = size_as_end(accepted.launch()) {
         found.push(Unusual::Ram(unusual))?;
     }
     Ok(())

@@ -7,7 +7,6 @@ use crate::seen::SeenTrees;
 use refusal::NoMemory;
 use rim_accepted::AcceptedLaunch;
 use rim_launch::Launch;
-use rim_line::ItemNames;
 use std::alloc::Global;
 use std::fmt;
 
@@ -41,18 +40,17 @@ impl fmt::Display for Unusual<'_> {
 pub fn find_unusual<'a>(
     alloc: Global,
     seen: &mut SeenTrees,
-    names: ItemNames<'a>,
     accepted: &'a AcceptedLaunch<'_>,
 ) -> Result<Vec<Unusual<'a>>, NoMemory> {
     let mut found = Vec::new(alloc);
-    if is_empty(accepted.launch) {
+    if is_empty(accepted.launch()) {
         found.push(Unusual::Empty)?;
         return Ok(found);
     }
     find_in_recs(&mut found, accepted.placed.recs())?;
-    find_in_items(&mut found, names, accepted)?;
+    find_in_items(&mut found, accepted)?;
     find_in_ram(&mut found, accepted)?;
-    find_in_tree(alloc, &mut found, seen, names, accepted)?;
+    find_in_tree(alloc, &mut found, seen, accepted)?;
     Ok(found)
 }
 

@@ -11,7 +11,7 @@ use Rattle.rim_audit.specs.declared.commands.LaunchCommands.{LaunchCommands}
 
 -- the measurement of a page of the launch's item
 abbrev pub content_in : LaunchCommands → ℕ → ℕ → Measurement
-content_in c item page = page_contents c.accepted.launch.now (bytes_of_files c.accepted.files.now) c.accepted.placed item page
+content_in c item page = page_contents c.accepted.named.now.launch (bytes_of_files c.accepted.files.now) c.accepted.placed item page
 
 -- whatever is the digest of a page is the measurement of that page of the launch's item
 abbrev pub DigestIsContent : LaunchCommands → ℕ → ℕ → PageView → Type 0

@@ -14,11 +14,11 @@ use Rattle.rim_audit.specs.declared.commands.LaunchCommands.{LaunchCommands}
 
 -- the commands, with the measurement of each measured page
 abbrev pub commands_in : LaunchCommands → List Command
-commands_in c = commands_of (page_contents c.accepted.launch.now (bytes_of_files c.accepted.files.now) c.accepted.placed) c.plan
+commands_in c = commands_of (page_contents c.accepted.named.now.launch (bytes_of_files c.accepted.files.now) c.accepted.placed) c.plan
 
 -- where a monitor is after the first of them
 abbrev pub state_after : LaunchCommands → ℕ → State
-state_after c count = run (empty_state c.accepted.launch.now.config.num_aux c.accepted.launch.now.config.rec_rule) (take count (commands_in c))
+state_after c count = run (empty_state c.accepted.named.now.launch.config.num_aux c.accepted.named.now.launch.config.rec_rule) (take count (commands_in c))
 
 -- the launch has an item of this number, which has a source, and the item has a page of this number
 pub record HasPage (p : PlacedData) (number page : ℕ) : Type 0 where

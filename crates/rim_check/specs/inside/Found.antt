@@ -26,8 +26,8 @@ abbrev pub AddsNumber : ℕ → List ℕ → List ℕ → Type 0
 AddsNumber number old new = (files : List (List ℕ)) (ls : List NamedData) → IsAcceptedAt files ls number → AreWarned files ls old → AreWarned files ls new
 
 -- what is found of launches has what is found of one more
-pub record AddsFound (names : List (List (List ℕ))) (files : List (List ℕ)) (l : NamedData) (old new : Found) : Type 0 where
-  pub said : AddsSaid names files l old.refusals.items new.refusals.items
+pub record AddsFound (files : List (List ℕ)) (l : NamedData) (old new : Found) : Type 0 where
+  pub said : AddsSaid files l old.refusals.items new.refusals.items
   pub refused : new.has_refused ≡ (old.has_refused || is_err (accepted_of l.launch files))
   pub pages : new.pages ≡ old.pages ++ launch_keys files l
   pub warned : (ls : List NamedData) → slice_get ls l.launch.number ≡ Some l → AreWarned files ls (numbers_of old.warnings) → AreWarned files ls (numbers_of new.warnings)

@@ -5,7 +5,7 @@ use Rattle.rim_check.specs.Explained.{IsSaidOf}
 use Rattle.rim_line.specs.Lines.{AddsAll, Saying}
 
 -- a text has the lines that it had, and what is said of a launch
-pub record AddsSaid (names : List (List (List ℕ))) (files : List (List ℕ)) (l : NamedData) (old new : List ℕ) : Type 0 where
+pub record AddsSaid (files : List (List ℕ)) (l : NamedData) (old new : List ℕ) : Type 0 where
   pub own : List Saying
-  pub are : IsSaidOf names files l own
+  pub are : IsSaidOf files l own
   pub adds : AddsAll own old new

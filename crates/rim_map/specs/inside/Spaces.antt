@@ -2,9 +2,7 @@
 use Rattle.std.specs.Prelude.{◌≡◌, ℕ, List, map}
 use Rattle.serde_json.specs.Data.{Data, string}
 use Rattle.serde_json.specs.View.{view}
-use Rattle.rim_launch.specs.LaunchData.{LaunchData}
-use Rattle.rim_line.specs.Names.{names_of}
-use Rattle.rim_line.specs.declared.names.ItemNames.{ItemNames}
+use Rattle.rim_manifest.specs.Launches.{NamedData}
 use Rattle.rim_map.specs.MapJson.{SpaceView, space_of}
 use Rattle.rim_map.specs.RefusedMap.{stated_of}
 use Rattle.rim_map.specs.Stretches.{AreRising, IsBetween, row_pages}
@@ -15,19 +13,19 @@ use Rattle.rim_map.specs.declared.stretches.Stretch.{Stretch}
 abbrev pub seen_space : Space → SpaceView
 seen_space s = record { gaps = map view s.gaps.items; items = map view s.items.items; regions = map view s.regions.items }
 
--- a space is that of a launch whose items have these names and places
-pub record IsSpace (n : ItemNames) (l : LaunchData) (rows : List Row) (space : SpaceView) : Type 0 where
+-- a space is that of a launch whose items have these places, where files have these paths
+pub record IsSpace (paths : List (List ℕ)) (l : NamedData) (rows : List Row) (space : SpaceView) : Type 0 where
   pub taken : List Stretch
   pub between : List Stretch
   pub rising : AreRising (map row_pages rows) taken
-  pub around : IsBetween l.ram between
-  pub is : space ≡ space_of (names_of n) n.readable.now.release.paths l rows taken between
+  pub around : IsBetween l.launch.ram between
+  pub is : space ≡ space_of paths l rows taken between
 
--- a space is that of a launch whose items have these names and no places
-pub record IsStated (n : ItemNames) (l : LaunchData) (space : SpaceView) : Type 0 where
+-- a space is that of a launch whose items have no places
+pub record IsStated (paths : List (List ℕ)) (l : NamedData) (space : SpaceView) : Type 0 where
   pub between : List Stretch
-  pub around : IsBetween l.ram between
-  pub is : space ≡ stated_of (names_of n) n.readable.now.release.paths l between
+  pub around : IsBetween l.launch.ram between
+  pub is : space ≡ stated_of paths l between
 
 -- values are some texts
 pub record AreTexts (ds : List Data) : Type 0 where

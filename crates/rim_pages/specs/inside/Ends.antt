@@ -28,7 +28,7 @@ step_ends l p (step.Rec n) = []
 
 -- of a launch that is accepted
 abbrev pub launch_ends : AcceptedLaunch → List PageKey
-launch_ends a = flat_map (step_ends a.launch.now a.placed) a.launch.now.steps
+launch_ends a = flat_map (step_ends a.named.now.launch a.placed) a.named.now.launch.steps
 
 -- a launch that is refused has no measured items
 abbrev pub outcome_ends : Result AcceptedLaunch AuditFault → List PageKey

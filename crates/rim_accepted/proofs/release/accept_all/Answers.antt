@@ -7,7 +7,7 @@ pub loop-launch-preserved : goal.loop-launch-preserved
 loop-launch-preserved c =
     outcomes-next _ c.all_launches-launch-items.result.now c.loop-launch.launch-index c.launch-item.result _ _ c.in_ok-outcome.outcome
     c.loop-launch-test.true
-    (outcome-is _ (get_or c.all_launches-launch-items.result.now c.loop-launch.launch-index c.launch-item.result) c.launch.result.now c.accept.result _
-    (c.launch.ensures ∙ ap (λ (x : NamedData). x.launch) c.launch-item.is) c.accept.ensures.place c.accept.ensures.own c.in_ok-outcome.ensures.same
+    (outcome-is _ (get_or c.all_launches-launch-items.result.now c.loop-launch.launch-index c.launch-item.result) _ c.accept.result _
+    c.launch-item.is c.accept.ensures.place c.accept.ensures.own c.in_ok-outcome.ensures.same
     c.in_ok-outcome.ensures.own)
     c.in_ok-push.ensures.items c.loop-launch.invariant

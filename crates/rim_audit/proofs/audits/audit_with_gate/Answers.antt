@@ -12,21 +12,19 @@ use Rattle.rim_audit.proofs.audits.audit_with_gate.Goals as goal
 
 pub returns-clause-text : goal.returns-clause-text
 returns-clause-text g c =
-    let files : List (List ℕ) = bytes_of_files c.args.files.now.items in
-    let launches : List NamedData = c.args.release.now.launches in
-    let came = ap (map seen) c.deref-2.ensures.value ∙ c.in_ok-outcomes.ensures
-    ∙ ap (λ (fs : List (Vec ℕ Global)). map (λ (l : NamedData). rim_for l.launch (bytes_of_files fs)) launches) c.deref.ensures.value in
-    let lines : lines_with c.all_launches.result.now c.deref-2.result.now ≡ lines_of files launches
-    = ap (λ (ls : List NamedData). lines_with ls c.deref-2.result.now) c.all_launches.ensures.value ∙ own-lines files launches c.deref-2.result.now came in
+    let files : List (List ℕ) = bytes_of_files c.args.loaded.files.now in
+    let launches : List NamedData = c.args.loaded.release.now.launches in
+    let came = ap (map seen) c.deref.ensures.value ∙ c.in_ok-outcomes.ensures in
+    let lines : lines_with c.all_launches.result.now c.deref.result.now ≡ lines_of files launches
+    = ap (λ (ls : List NamedData). lines_with ls c.deref.result.now) c.all_launches.ensures.value ∙ own-lines files launches c.deref.result.now came in
     c.in_ok-push_lines.ensures.text
-    ∙ ap (λ (text : List ℕ). text ++ lines_with c.all_launches.result.now c.deref-2.result.now)
+    ∙ ap (λ (text : List ℕ). text ++ lines_with c.all_launches.result.now c.deref.result.now)
     (c.in_ok-extend_from_slice.ensures.items ∙ ap (λ (text : List ℕ). text ++ codes "rim-audit 1\n") c.new-text.ensures.items)
     ∙ ap (λ (text : List ℕ). codes "rim-audit 1\n" ++ text) lines
 
 pub returns-clause-refused : goal.returns-clause-refused
 returns-clause-refused g c =
-    let files : List (List ℕ) = bytes_of_files c.args.files.now.items in
-    let launches : List NamedData = c.args.release.now.launches in
-    let came = c.in_ok-outcomes.ensures
-    ∙ ap (λ (fs : List (Vec ℕ Global)). map (λ (l : NamedData). rim_for l.launch (bytes_of_files fs)) launches) c.deref.ensures.value in
-    c.has_refused.ensures ∙ ap (list_any is_err) c.deref-3.ensures.value ∙ any-refused files launches _ came
+    let files : List (List ℕ) = bytes_of_files c.args.loaded.files.now in
+    let launches : List NamedData = c.args.loaded.release.now.launches in
+    let came = c.in_ok-outcomes.ensures in
+    c.has_refused.ensures ∙ ap (list_any is_err) c.deref-2.ensures.value ∙ any-refused files launches _ came

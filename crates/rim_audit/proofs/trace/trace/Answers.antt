@@ -1,5 +1,6 @@
 use Rattle.std.proofs.Common.{ℕ, ◌+◌, ◌++◌, ◌∙◌, List, ap, rules}
 use Rattle.std.specs.Prelude.{Option}
+use Rattle.rim_launch.specs.LaunchData.{LaunchData}
 use Rattle.rim_launch.specs.declared.config.Config.{Config}
 use Rattle.rmm_model.specs.State.{State}
 use Rattle.rim_audit.specs.Trace.{line_if_held, rim_held, trace_lines}
@@ -22,6 +23,7 @@ loop-index-preserved c =
           (c.in_ok-push_step.ensures
           ∙ ap (λ (rim : Option (List ℕ)). text ++ line_if_held c.config-algo.result.algo rim command)
           (c.rim_held-rim.ensures ∙ ap (λ (s : State). rim_held s command) c.in_ok-command.ensures.after)
-          ∙ ap (λ (x : Config). text ++ line_if_held x.algo held command) c.config-algo.ensures.value);
+          ∙ ap (λ (x : Config). text ++ line_if_held x.algo held command)
+          (c.config-algo.ensures.value ∙ ap (λ (l : LaunchData). l.config) c.launch.ensures));
       own = c.in_ok-command.ensures.own;
     }

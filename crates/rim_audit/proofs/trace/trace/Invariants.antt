@@ -8,6 +8,6 @@ use Rattle.rim_audit.proofs.trace.trace.Given as goal
 abbrev pub invariant-loop-index : goal.invariant-loop-index
 invariant-loop-index l = record {
   monitor : l.monitor ≡ state_after l.commands l.index;
-  text : l.text.items ≡ trace_with l.commands.accepted.launch.now (take l.index (commands_in l.commands));
+  text : l.text.items ≡ trace_with l.commands.accepted.named.now.launch (take l.index (commands_in l.commands));
   own : IsOwn l.commands l.beside;
 }

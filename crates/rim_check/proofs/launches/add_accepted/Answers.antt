@@ -6,4 +6,4 @@ use Rattle.rim_check.proofs.launches.add_accepted.Goals as goal
 pub returns-clause-warnings : goal.returns-clause-warnings
 returns-clause-warnings c =
     subst (λ (number : ℕ). OnOk c.add_all.result (AddsNumber number (numbers_of c.args.found.now.warnings) (numbers_of c.add_all.new.self)))
-    (c.number-number.ensures ∙ ap (λ (l : LaunchData). l.number) c.launch.ensures) c.add_all.ensures
+    (c.number.ensures ∙ ap (λ (l : LaunchData). l.number) c.launch.ensures) c.add_all.ensures

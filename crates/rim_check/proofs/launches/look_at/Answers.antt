@@ -7,16 +7,15 @@ use Rattle.rim_check.proofs.launches.look_at.Goals as goal
 
 pub returns-in-Ok : goal.returns-in-Ok
 returns-in-Ok c =
-    let reasoned = rw (c.in-Ok.is, c.launch.ensures) at c.in_ok-accepted.ensures.reason in
-    let own = rw (c.in-Ok.is, c.launch.ensures) at c.in_ok-accepted.ensures.own in
-    accepted-all c.args.readable.now.names (bytes_of_files c.args.files.now) c.args.launch.now c.in-Ok.accepted c.args.found.now c.add_accepted.new.found
+    let reasoned = rw c.in-Ok.is at c.in_ok-accepted.ensures.reason in
+    let own = rw c.in-Ok.is at c.in_ok-accepted.ensures.own in
+    accepted-all (bytes_of_files c.args.loaded.files.now) c.args.loaded.launch.now c.in-Ok.accepted c.args.found.now c.add_accepted.new.found
     c.add_accepted.result reasoned own.0 c.add_accepted.ensures.refusals c.add_accepted.ensures.pages c.add_accepted.ensures.warnings
 
 pub returns-in-Err : goal.returns-in-Err
 returns-in-Err c =
-    let names = c.args.readable.now.names in
-    let refused = rw (c.in-Err.is, c.launch.ensures) at c.in_ok-accepted.ensures.reason in
+    let refused = rw c.in-Err.is at c.in_ok-accepted.ensures.reason in
     on_ok_weaker _
-    (λ (line : AddsRefusal names c.args.launch.now c.in-Err.reason c.args.found.now.refusals.items c.push_refusal.new.text.items).
-    refused-found names (bytes_of_files c.args.files.now) c.args.launch.now c.in-Err.reason line.hint c.args.found.now _ refused line.adds refl refl refl)
+    (λ (line : AddsRefusal c.args.loaded.launch.now c.in-Err.reason c.args.found.now.refusals.items c.push_refusal.new.text.items).
+    refused-found (bytes_of_files c.args.loaded.files.now) c.args.loaded.launch.now c.in-Err.reason line.hint c.args.found.now _ refused line.adds refl refl refl)
     c.push_refusal.ensures

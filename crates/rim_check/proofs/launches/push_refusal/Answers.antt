@@ -6,6 +6,6 @@ use Rattle.rim_check.proofs.launches.push_refusal.Goals as goal
 pub returns : goal.returns
 returns c =
     on_ok_weaker _
-    (λ (adds : AddsLine (refusal_said c.args.readable.now.names c.args.launch.now c.args.reason.now c.as_str.result.now)
+    (λ (adds : AddsLine (refusal_said c.args.launch.now c.args.reason.now c.as_str.result.now)
     c.args.text.now.items c.push_refused.new.text.items). record { hint = c.as_str.result.now; adds = adds })
     c.push_refused.ensures

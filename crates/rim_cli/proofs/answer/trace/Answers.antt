@@ -1,5 +1,4 @@
 use Rattle.std.proofs.Common.{ℕ, List, map}
-use Rattle.std.specs.List.{slice_get}
 use Rattle.rim_audit.specs.Trace.{trace_of}
 use Rattle.rim_cli.specs.Done.{IsShown, IsTrace}
 use Rattle.rim_cli.specs.Files.{Known}
@@ -10,10 +9,13 @@ pub returns-in-Ok-clause-answered : goal.returns-in-Ok-clause-answered
 returns-in-Ok-clause-answered g c =
     let held : List ℕ → Known = g.O.Opener.held c.args.opener.now in
     let found = c.in_ok-found.found in
+    let own = c.loaded.result.launch.now in
     let files : List (List ℕ) = map (λ file. file.items) found.files.items in
     let text = c.answer_of.result.text.items in
     let status = c.answer_of.result.status in
-    let own = shown (λ l. trace_of l.launch) (slice_get found.release.launches found.number) files text c.in-Ok.report.has_refused status (rw c.answer_of.ensures.text c.in-Ok.ensures.text) c.in-Ok.ensures.refused c.answer_of.ensures.status in
     of_release (held c.args.path.now) found.release (λ r. IsTrace held r c.args.launch.now text status) c.in_ok-found.ensures.release
-    (found_launch held c.args.launch.now found.release found.number files (λ l fs. IsShown l (trace_of l.launch fs) text status)
-    c.in_ok-found.ensures.number found.there c.in_ok-found.ensures.files own)
+    (found_launch held c.args.launch.now found.release found.number own files (λ l fs. IsShown l (trace_of l.launch fs) text status)
+    c.in_ok-found.ensures.number c.loaded.ensures.launch c.in_ok-found.ensures.files
+    (shown (λ l. trace_of l.launch) own files text c.in-Ok.report.has_refused status
+    (rw (c.answer_of.ensures.text, ← c.loaded.ensures.files) c.in-Ok.ensures.text) (rw (← c.loaded.ensures.files) c.in-Ok.ensures.refused)
+    c.answer_of.ensures.status))

@@ -11,5 +11,5 @@ returns-in-Text c =
 pub returns : goal.returns
 returns c =
     IfOk-weaker c.refused_json.result _ _
-    (λ text shows. json-shows _ _ _ _ _ _ text.items c.in-Json.is c.in_ok-line.ensures (rw (c.deref.ensures.value, c.name.ensures, c.launch.ensures) at shows))
+    (λ text shows. json-shows _ _ _ _ _ _ text.items c.in-Json.is c.in_ok-line.ensures (rw c.deref.ensures.value at shows))
     c.refused_json.ensures

@@ -7,5 +7,6 @@ use Rattle.rim_map.proofs.extensions.count_extensions.Goals as goal
 pub returns : goal.returns
 returns c =
     IfOk-weaker c.counted.result _ _
-    (λ e is. is ∙ ap links_extensions c.links.ensures.links ∙ own-extensions _ _ _ _ c.args.accepted.now.is_placed c.in_ok-plan.ensures.read)
+    (λ e is. is ∙ ap links_extensions c.links.ensures.links ∙ own-extensions _ _ _ _ c.args.accepted.now.is_placed
+    (rw c.launch-launch.ensures at c.in_ok-plan.ensures.read))
     c.counted.ensures

@@ -7,9 +7,8 @@ use Rattle.rim_map.proofs.refused.refused_json.Goals as goal
 
 pub returns : goal.returns
 returns c =
-    let shows = rw c.names_in.ensures.0 at c.in_ok-space.ensures in
     IfOk-weaker c.text.result _ _
-    (λ text shown. λ line ends. shown-refused c.args.readable.now c.args.refused.now.name.now c.args.refused.now.launch.now
+    (λ text shown. λ line ends. shown-refused c.args.release.now.paths c.args.refused.now.launch.now
     (bytes_of_files c.args.refused.now.files.now) c.args.refused.now.reason.now (seen_space c.in_ok-space.space) (view c.in_ok-value.value) line
-    text.items shows (c.in_ok-value.ensures line ends) shown)
+    text.items c.in_ok-space.ensures (c.in_ok-value.ensures line ends) shown)
     c.text.ensures

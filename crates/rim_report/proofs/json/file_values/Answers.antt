@@ -8,17 +8,14 @@ use Rattle.rim_report.proofs.json.file_values.Goals as goal
 
 pub loop-i-preserved : goal.loop-i-preserved
 loop-i-preserved c =
-    let items = c.args.files.now.items in
-    let count : c.len-i-end.result ≡ length items = c.len-i-end.ensures ∙ c.args.files.now.ok.0 in
-    let inside : c.loop-i.i < length items = omega (arith, c.loop-i-test.true, count) in
+    let items = c.args.loaded.files.now in
     let added = ap (map view) c.in_ok-push.ensures.items ∙ map-append view c.loop-i.values.items (c.in_ok-file_value.field-0 ∷ []) in
-    let bytes = c.as_slice.ensures.value ∙ ap (λ file. file.items) c.index.ensures in
+    let bytes = c.as_slice.ensures.value ∙ ap (λ file. file.items) c.index-files-i.is in
     let made = c.in_ok-file_value.ensures ∙ ap (file_json c.path.result.now) bytes in
     added ∙ ap₂ (λ (xs : List Data) (x : Data). xs ++ x ∷ []) c.loop-i.invariant made
-    ∙ sym (one-file-more c.args.release.now.paths items c.loop-i.i c.path.result.now c.index.result.now c.path.ensures inside)
+    ∙ sym (one-file-more c.args.loaded.release.now.paths items c.loop-i.i c.path.result.now c.index-files-i.result c.path.ensures c.loop-i-test.true)
 
 pub returns : goal.returns
 returns c =
-    let count : c.len-i-end.result ≡ length c.args.files.now.items = c.len-i-end.ensures ∙ c.args.files.now.ok.0 in
-    let over : length c.args.files.now.items ≤ c.loop-i.i = omega (arith, c.loop-i-test.false, count) in
-    c.loop-i.invariant ∙ all-files c.args.release.now.paths c.args.files.now.items c.loop-i.i over (sym c.args.files.now.ok.0 ∙ c.requires)
+    let over : length c.args.loaded.files.now ≤ c.loop-i.i = omega (arith, c.loop-i-test.false) in
+    c.loop-i.invariant ∙ all-files c.args.loaded.release.now.paths c.args.loaded.files.now c.loop-i.i over c.args.loaded.each

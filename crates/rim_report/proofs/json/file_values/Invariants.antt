@@ -5,4 +5,4 @@ use Rattle.rim_report.specs.Json.{files_json}
 use Rattle.rim_report.proofs.json.file_values.Given as goal
 
 abbrev pub invariant-loop-i : goal.invariant-loop-i
-invariant-loop-i l = map view l.values.items ≡ files_json (take l.i l.release.paths) (take l.i (bytes_of_files l.files.items))
+invariant-loop-i l = map view l.values.items ≡ files_json (take l.i l.release.paths) (take l.i (bytes_of_files l.files))

@@ -9,8 +9,8 @@ pub returns : goal.returns
 returns c =
     let outcomes = map seen c.args.outcomes.now in
     let made = c.in_ok-report.ensures in
-    let files = bytes_of_files c.args.files.now.items in
-    let r = c.args.release.now in
+    let files = bytes_of_files c.args.loaded.files.now in
+    let r = c.args.loaded.release.now in
     let whole = ap has_float made ∙ no-float c.args.program.now r.paths files r.launches outcomes c.args.count in
     c.in_ok-push.ensures.items
     ∙ ap (λ (text : List ℕ). text ++ codes "\n")

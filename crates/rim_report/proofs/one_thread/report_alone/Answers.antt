@@ -23,7 +23,7 @@ use Rattle.rim_report.proofs.one_thread.report_alone.Goals as goal
 pub hashed-requires : goal.hashed-requires
 hashed-requires c =
     let v : OutcomesView = c.in_ok-accepted.accepted in
-    subst (λ (pages : List Page). IsRising (table.page_keys_of (map page_view pages))) (sym c.deref-2.ensures.value)
+    subst (λ (pages : List Page). IsRising (table.page_keys_of (map page_view pages))) (sym c.deref.ensures.value)
     (rising-pages v.files v.release.launches _ c.in_ok-pages.ensures)
 
 pub chains-requires : goal.chains-requires
@@ -31,26 +31,26 @@ chains-requires c =
     let v : OutcomesView = c.in_ok-accepted.accepted in
     let whole : IsLaidOut v = subst IsLaidOut c.accepted.view_is c.accepted.invariant in
     let own = subst table.IsTable c.table.view_is c.table.invariant in
-    let pages = c.in_ok-table.ensures.pages ∙ ap (map page_view) c.deref-2.ensures.value
+    let pages = c.in_ok-table.ensures.pages ∙ ap (map page_view) c.deref.ensures.value
     ∙ (found-pages v.files v.release.launches _ c.in_ok-pages.ensures).0 in
-    subst (λ (plans : List PlanView). All (λ p. has_all c.in_ok-table.table (keys_of p.links) ≡ true) plans) (sym c.deref-3.ensures.value)
+    subst (λ (plans : List PlanView). All (λ p. has_all c.in_ok-table.table (keys_of p.links) ≡ true) plans) (sym c.deref-2.ensures.value)
     (all-have v.files v.release c.in_ok-table.table whole.0 whole.1 own pages c.in_ok-table.ensures.full _ c.in_ok-plans.ensures)
 
 pub returns-clause-text : goal.returns-clause-text
 returns-clause-text c =
     let v : OutcomesView = c.in_ok-accepted.accepted in
     let rims : List Measurement = c.in_ok-rims.rims.items in
-    let files : v.files ≡ bytes_of_files c.args.files.now.items = c.in_ok-accepted.ensures.files ∙ ap bytes_of_files c.deref.ensures.value in
-    let launches : v.release.launches ≡ c.args.release.now.launches = ap (λ (r : ReleaseData). r.launches) c.in_ok-accepted.ensures.release in
+    let files : v.files ≡ bytes_of_files c.args.loaded.files.now = c.in_ok-accepted.ensures.files in
+    let launches : v.release.launches ≡ c.args.loaded.release.now.launches = ap (λ (r : ReleaseData). r.launches) c.in_ok-accepted.ensures.release in
     let whole : IsLaidOut v = subst IsLaidOut c.accepted.view_is c.accepted.invariant in
     let own = subst table.IsTable c.table.view_is c.table.invariant in
-    let values = c.in_ok-rims.ensures ∙ ap (map (value_in c.in_ok-table.table)) c.deref-3.ensures.value in
-    let pages = c.in_ok-table.ensures.pages ∙ ap (map page_view) c.deref-2.ensures.value in
-    let outcomes : c.deref-5.result.now ≡ with_rims (map unknown_outcome v.launches) rims
-    = c.deref-5.ensures.value ∙ c.set_rims.ensures
-    ∙ ap₂ with_rims (c.in_ok-outcomes.ensures ∙ ap (map unknown_outcome) c.outcomes.ensures.value) c.deref-4.ensures.value in
+    let values = c.in_ok-rims.ensures ∙ ap (map (value_in c.in_ok-table.table)) c.deref-2.ensures.value in
+    let pages = c.in_ok-table.ensures.pages ∙ ap (map page_view) c.deref.ensures.value in
+    let outcomes : c.deref-4.result.now ≡ with_rims (map unknown_outcome v.launches) rims
+    = c.deref-4.ensures.value ∙ c.set_rims.ensures
+    ∙ ap₂ with_rims (c.in_ok-outcomes.ensures ∙ ap (map unknown_outcome) c.outcomes.ensures.value) c.deref-3.ensures.value in
     let count : c.len.result ≡ length (map page_view c.in_ok-pages.pages.items)
-    = c.len.ensures ∙ sym c.deref-2.ensures.len ∙ ap length c.deref-2.ensures.value ∙ sym (length-map c.in_ok-pages.pages.items page_view) in
+    = c.len.ensures ∙ sym c.deref.ensures.len ∙ ap length c.deref.ensures.value ∙ sym (length-map c.in_ok-pages.pages.items page_view) in
     sym (ap₂ measured_of files launches)
     ∙ report-is v c.in_ok-table.table (map page_view c.in_ok-pages.pages.items) c.in_ok-plans.plans.items rims whole c.in_ok-pages.ensures c.in_ok-plans.ensures
     own pages c.in_ok-table.ensures.full values
@@ -59,8 +59,8 @@ returns-clause-text c =
 pub returns-clause-refused : goal.returns-clause-refused
 returns-clause-refused c =
     let v : OutcomesView = c.in_ok-accepted.accepted in
-    let files : v.files ≡ bytes_of_files c.args.files.now.items = c.in_ok-accepted.ensures.files ∙ ap bytes_of_files c.deref.ensures.value in
-    let launches : v.release.launches ≡ c.args.release.now.launches = ap (λ (r : ReleaseData). r.launches) c.in_ok-accepted.ensures.release in
+    let files : v.files ≡ bytes_of_files c.args.loaded.files.now = c.in_ok-accepted.ensures.files in
+    let launches : v.release.launches ≡ c.args.loaded.release.now.launches = ap (λ (r : ReleaseData). r.launches) c.in_ok-accepted.ensures.release in
     c.has_refused.ensures
     ∙ ap (list_any is_err) c.outcomes-2.ensures.value
     ∙ refused-are v.files v.release.launches v.launches c.outcomes-2.ensures.own.2

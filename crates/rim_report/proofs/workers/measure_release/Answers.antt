@@ -26,17 +26,17 @@ use Rattle.rim_report.proofs.workers.measure_release.Goals as goal
 pub run-requires-clause-rising : goal.run-requires-clause-rising
 run-requires-clause-rising g c = λ lifetimes outlives.
     let v : OutcomesView = c.in_ok-accepted.accepted in
-    subst (λ (pages : List Page). IsRising (table.page_keys_of (map page_view pages))) (sym c.deref-2.ensures.value)
+    subst (λ (pages : List Page). IsRising (table.page_keys_of (map page_view pages))) (sym c.deref.ensures.value)
     (rising-pages v.files v.release.launches _ c.in_ok-pages.ensures)
 
 pub run-requires-clause-keys : goal.run-requires-clause-keys
 run-requires-clause-keys g c = λ lifetimes outlives.
     let v : OutcomesView = c.in_ok-accepted.accepted in
     let plans : List PlanView = c.in_ok-plans.plans.items in
-    subst (λ (pages : List Page). All (λ (p : PlanView). All (Contains (table.page_keys_of (map page_view pages))) (keys_of p.links)) c.deref-3.result.now)
-    (sym c.deref-2.ensures.value)
+    subst (λ (pages : List Page). All (λ (p : PlanView). All (Contains (table.page_keys_of (map page_view pages))) (keys_of p.links)) c.deref-2.result.now)
+    (sym c.deref.ensures.value)
     (subst (λ (ps : List PlanView). All (λ (p : PlanView). All (Contains (table.page_keys_of (map page_view c.in_ok-pages.pages.items)))
-    (keys_of p.links)) ps) (sym c.deref-3.ensures.value)
+    (keys_of p.links)) ps) (sym c.deref-2.ensures.value)
     (subst (λ (keys : List PageKey). All (λ (p : PlanView). All (Contains keys) (keys_of p.links)) plans)
     (sym (found-keys v.files v.release.launches _ c.in_ok-pages.ensures))
     (all-known v.files v.release plans c.in_ok-plans.ensures)))
@@ -44,11 +44,11 @@ run-requires-clause-keys g c = λ lifetimes outlives.
 pub fill-filled-requires : goal.fill-filled-requires
 fill-filled-requires g c =
     let v : OutcomesView = c.in_ok-accepted.accepted in
-    let rims : List Measurement = c.deref-4.result.now in
+    let rims : List Measurement = c.deref-3.result.now in
     let unknown : List (Result Measurement AuditFault) = map unknown_outcome v.launches in
     let values = c.in_ok-counted.ensures.rims in
-    let each : map (λ m. m.bytes) rims ≡ map (value_in values.table) c.deref-3.result.now
-    = ap (map (λ (m : Measurement). m.bytes)) c.deref-4.ensures.value ∙ values.each in
+    let each : map (λ m. m.bytes) rims ≡ map (value_in values.table) c.deref-2.result.now
+    = ap (map (λ (m : Measurement). m.bytes)) c.deref-3.ensures.value ∙ values.each in
     let count : c.len-3.result ≡ c.len-2.result = c.len-3.ensures ∙ sym c.len-2.ensures in
     let lines : lines_with c.launches.result.now (with_rims c.in_ok-pending_report.pending_report.outcomes.items rims) ≡ lines_with v.release.launches
     (with_rims unknown rims)
@@ -56,19 +56,19 @@ fill-filled-requires g c =
     let same : length (report_with (lines_with c.launches.result.now (with_rims c.in_ok-pending_report.pending_report.outcomes.items rims)) c.len-3.result)
     ≡ length (report_with (lines_with v.release.launches unknown) c.len-2.result)
     = ap length (ap₂ report_with lines count)
-    ∙ report-size v.release.launches unknown rims c.len-2.result (unknown-size v.launches) (chains-size values.table c.deref-3.result.now rims each) in
+    ∙ report-size v.release.launches unknown rims c.len-2.result (unknown-size v.launches) (chains-size values.table c.deref-2.result.now rims each) in
     omega (arith, same, c.in_ok-pending_report.ensures.room)
 
 pub returns-clause-report : goal.returns-clause-report
 returns-clause-report g c =
     let v : OutcomesView = c.in_ok-accepted.accepted in
-    let rims : List Measurement = c.deref-4.result.now in
-    let files : v.files ≡ bytes_of_files c.args.files.now.items = c.in_ok-accepted.ensures.files ∙ ap bytes_of_files c.deref.ensures.value in
-    let launches : v.release.launches ≡ c.args.release.now.launches = ap (λ (r : ReleaseData). r.launches) c.in_ok-accepted.ensures.release in
+    let rims : List Measurement = c.deref-3.result.now in
+    let files : v.files ≡ bytes_of_files c.args.files.now.items = c.in_ok-accepted.ensures.files ∙ ap bytes_of_files c.new-2.ensures.files in
+    let launches : v.release.launches ≡ c.args.release.now.launches = ap (λ (r : ReleaseData). r.launches) (c.in_ok-accepted.ensures.release ∙ c.new-2.ensures.release) in
     let whole : IsLaidOut v = subst IsLaidOut c.accepted.view_is c.accepted.invariant in
     let values = c.in_ok-counted.ensures.rims in
     let each : map (λ m. m.bytes) rims ≡ map (value_in values.table) c.in_ok-plans.plans.items
-    = ap (map (λ (m : Measurement). m.bytes)) c.deref-4.ensures.value ∙ values.each ∙ ap (map (value_in values.table)) c.deref-3.ensures.value in
+    = ap (map (λ (m : Measurement). m.bytes)) c.deref-3.ensures.value ∙ values.each ∙ ap (map (value_in values.table)) c.deref-2.ensures.value in
     let count : c.len-3.result ≡ length (map page_view c.in_ok-pages.pages.items)
     = omega (arith, c.len-3.ensures, length-map c.in_ok-pages.pages.items page_view, c.in_ok-pages.pages.ok.0) in
     let lines : lines_with c.launches.result.now (with_rims c.in_ok-pending_report.pending_report.outcomes.items rims)
@@ -77,30 +77,30 @@ returns-clause-report g c =
     let crew : is_crew c.args.workers ≡ true = search rules in
     rw crew (sym (ap₂ measured_of files launches)
     ∙ report-is v values.table (map page_view c.in_ok-pages.pages.items) c.in_ok-plans.plans.items rims whole c.in_ok-pages.ensures c.in_ok-plans.ensures
-    values.own (values.same ∙ ap (map page_view) c.deref-2.ensures.value) values.full each
+    values.own (values.same ∙ ap (map page_view) c.deref.ensures.value) values.full each
     ∙ ap (λ (text : List ℕ). Ok text) (sym (c.fill-filled.ensures.text ∙ ap₂ report_with lines count)))
 
 pub returns-clause-launches : goal.returns-clause-launches
 returns-clause-launches g c =
     let v : OutcomesView = c.in_ok-accepted.accepted in
-    let rims : List Measurement = c.deref-4.result.now in
-    let files : v.files ≡ bytes_of_files c.args.files.now.items = c.in_ok-accepted.ensures.files ∙ ap bytes_of_files c.deref.ensures.value in
-    let launches : v.release.launches ≡ c.args.release.now.launches = ap (λ (r : ReleaseData). r.launches) c.in_ok-accepted.ensures.release in
+    let rims : List Measurement = c.deref-3.result.now in
+    let files : v.files ≡ bytes_of_files c.args.files.now.items = c.in_ok-accepted.ensures.files ∙ ap bytes_of_files c.new-2.ensures.files in
+    let launches : v.release.launches ≡ c.args.release.now.launches = ap (λ (r : ReleaseData). r.launches) (c.in_ok-accepted.ensures.release ∙ c.new-2.ensures.release) in
     let whole : IsLaidOut v = subst IsLaidOut c.accepted.view_is c.accepted.invariant in
     let values = c.in_ok-counted.ensures.rims in
     let each : map (λ m. m.bytes) rims ≡ map (value_in values.table) c.in_ok-plans.plans.items
-    = ap (map (λ (m : Measurement). m.bytes)) c.deref-4.ensures.value ∙ values.each ∙ ap (map (value_in values.table)) c.deref-3.ensures.value in
+    = ap (map (λ (m : Measurement). m.bytes)) c.deref-3.ensures.value ∙ values.each ∙ ap (map (value_in values.table)) c.deref-2.ensures.value in
     ap (map seen) (c.fill-filled.ensures.outcomes
     ∙ ap (λ (os : List (Result Measurement AuditFault)). with_rims os rims) c.in_ok-pending_report.ensures.outcomes)
     ∙ outcomes-is v values.table (map page_view c.in_ok-pages.pages.items) c.in_ok-plans.plans.items rims whole c.in_ok-pages.ensures c.in_ok-plans.ensures
-    values.own (values.same ∙ ap (map page_view) c.deref-2.ensures.value) values.full each
+    values.own (values.same ∙ ap (map page_view) c.deref.ensures.value) values.full each
     ∙ ap₂ outcomes_for files launches
 
 pub returns-clause-refused : goal.returns-clause-refused
 returns-clause-refused g c =
     let v : OutcomesView = c.in_ok-accepted.accepted in
-    let files : v.files ≡ bytes_of_files c.args.files.now.items = c.in_ok-accepted.ensures.files ∙ ap bytes_of_files c.deref.ensures.value in
-    let launches : v.release.launches ≡ c.args.release.now.launches = ap (λ (r : ReleaseData). r.launches) c.in_ok-accepted.ensures.release in
+    let files : v.files ≡ bytes_of_files c.args.files.now.items = c.in_ok-accepted.ensures.files ∙ ap bytes_of_files c.new-2.ensures.files in
+    let launches : v.release.launches ≡ c.args.release.now.launches = ap (λ (r : ReleaseData). r.launches) (c.in_ok-accepted.ensures.release ∙ c.new-2.ensures.release) in
     c.has_refused.ensures
     ∙ ap (list_any is_err) c.outcomes.ensures.value
     ∙ refused-are v.files v.release.launches v.launches c.outcomes.ensures.own.2

@@ -7,7 +7,7 @@ use Rattle.rim_audit.proofs.commands.LaunchCommands.page_after.Goals as goal
 pub overflow_add-page : goal.overflow_add-page
 overflow_add-page c =
     let low : c.args.page + c.min.result < 1048576 =
-    page-few c.args.self.now.accepted.launch.now (bytes_of_files c.args.self.now.accepted.files.now) c.args.self.now.accepted.placed c.args.item
+    page-few c.args.self.now.accepted.named.now.launch (bytes_of_files c.args.self.now.accepted.files.now) c.args.self.now.accepted.placed c.args.item
     (c.args.page + c.min.result) c.args.self.now.accepted.is_placed
     (c.requires c.min.result (omega arith)) in
     record { fits = omega (arith, low) }

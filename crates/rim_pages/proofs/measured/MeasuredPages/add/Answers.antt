@@ -12,4 +12,4 @@ returns c =
     let old : List PageKey = c.self.inside.ends.items in
     let new : List PageKey = c.push_launch.new.ends.items in
     on_ok_weaker _ (λ (added : new ≡ old ++ launch_ends a). added-keys a old new added
-    ∙ ap (λ (keys : List PageKey). keys ++ measured_keys a.launch.now a.placed) c.self.view_is) c.push_launch.ensures
+    ∙ ap (λ (keys : List PageKey). keys ++ measured_keys a.named.now.launch a.placed) c.self.view_is) c.push_launch.ensures

@@ -2,7 +2,7 @@ use Rattle.std.proofs.Common.{◌≡◌}
 use Rattle.std.specs.Prelude.{Ok}
 use Rattle.rim_manifest.specs.Manifest.{manifest_of}
 use Rattle.rim_cli.proofs.ReadFileByFile.{of_bytes}
-use Rattle.rim_cli.proofs.answer.read_release.Goals as goal
+use Rattle.rim_cli.proofs.found.read_release.Goals as goal
 
 pub returns-in-Ok-clause-read : goal.returns-in-Ok-clause-read
 returns-in-Ok-clause-read g c =

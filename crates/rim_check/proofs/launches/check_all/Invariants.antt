@@ -1,7 +1,0 @@
-use Rattle.std.proofs.Common.{take}
-use Rattle.ipa_layout.specs.Files.{bytes_of_files}
-use Rattle.rim_check.proofs.LaunchLines.{AreChecked}
-use Rattle.rim_check.proofs.launches.check_all.Given as goal
-
-abbrev pub invariant-loop-launch : goal.invariant-loop-launch
-invariant-loop-launch l = AreChecked l.readable.names (bytes_of_files l.files) l.readable.release.launches (take l.launch-index l.launches) l.found
