@@ -22,12 +22,13 @@ abbrev pub keys_at : LaunchData → Result PlacedData AuditFault → List PageKe
 keys_at l (Ok p) = measured_keys l p
 keys_at l (Err fault) = []
 
-abbrev pub launch_keys : List (List ℕ) → NamedData → List PageKey
-launch_keys files l = keys_at l.launch (accepted_of l.launch files)
-
 -- the keys of all measured pages of a release with these files, rising, each once
 unfoldable pub page_keys : List (List ℕ) → List NamedData → List PageKey
-page_keys files ls = rising_keys (flat_map (launch_keys files) ls)
+page_keys files ls = rising_keys (flat_map (λ l. keys_at l.launch (accepted_of l.launch files)) ls)
+
+-- those of one launch
+abbrev pub launch_keys : List (List ℕ) → NamedData → List PageKey
+launch_keys files l = keys_at l.launch (accepted_of l.launch files)
 
 -- the devicetree that a launch edited, if it is accepted and has one
 abbrev pub edited_at : Option (Result PlacedData AuditFault) → List ℕ
