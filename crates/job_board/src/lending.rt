@@ -20,7 +20,7 @@ use std::alloc::Global;
 /// The fewest launches that are quick side by side.
 const FEWEST: usize = 4;
 
-/// Of each worker the launches that it was lent, which are best given to it; and rows for lent launches. What is said
+/// For each worker, the launches lent to it, which are best given to it; and rows for lent launches. What is said
 /// here is preferred, and no more: the board gives a launch that was lent to another worker where no other is left.
 #[derive(Drop)]
 pub(crate) struct Lending {

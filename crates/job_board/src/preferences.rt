@@ -15,7 +15,7 @@ use rim_chain::{LaunchPlan, SharedPrefix, SharedPrefixes};
 use rim_desc::{Algo, Lanes};
 use std::alloc::Global;
 
-/// The order in which launches are to be chained, which page each worker is given next, and which launches it was lent.
+/// The order in which launches are to be chained, which page each worker is given next, and which launches were lent to it.
 #[derive(Drop)]
 pub(crate) struct Preferences {
     chain_order: ChainOrder,

@@ -35,9 +35,9 @@ impl<'a, L: Run> Early<'a, L> {
     }
 }
 
-/// Takes jobs, runs them with no lock held and puts them, until none is given. A worker that ends retires. So a job
-/// that it still holds is free for those that sleep, and wakes them. It holds one where a put was handed back, or where the
-/// job was taken before the run.
+/// Takes jobs, runs them with no lock held and puts them, until none is given. A worker that ends retires: that
+/// frees the job that it still holds, and wakes the sleepers. It holds one where a put was handed back, or where the job was taken
+/// before the run.
 pub(crate) fn work<'a, L: Run, G: Gate, R: Wait>(
     rt: &R,
     gate: &G,

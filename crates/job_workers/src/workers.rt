@@ -21,8 +21,8 @@ pub struct Tally {
     pub pages: u64,
 }
 
-/// Does all jobs of a board, by as many workers as there are shares; the caller is worker 0. A worker that cannot be
-/// started is gone without. Writes how many pages each worker has put, and the value of each launch in the order of the
+/// Does all jobs of a board, by as many workers as there are shares; the caller is worker 0. The run does without a worker
+/// that cannot be started. Writes how many pages each worker has put, and the value of each launch in the order of the
 /// plans. The board that it finds first has in its book what the shares have counted.
 ///
 /// A launch is ready when its own pages are done. A worker that finds nothing ready sleeps until a put or a retirement is

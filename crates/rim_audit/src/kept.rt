@@ -23,7 +23,7 @@ pub struct Kept<'a> {
     pub launches: Vec<LaunchCopies<'a>>,
     /// How many bytes copies and lists may take.
     most: usize,
-    /// Of how many pages digests may be kept.
+    /// The most pages whose digests are kept.
     room: usize,
     alloc: Global,
 }

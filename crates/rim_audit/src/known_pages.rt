@@ -48,7 +48,7 @@ impl<'a> Model for KnownPages<'a> {
 
 /// Digests are kept of no more files than this, each counted once for an algorithm and a lead. So a file is found at once. This
 /// project's choice.
-const FILE_LIMIT: usize = 256;
+const MOST_FILES: usize = 256;
 
 /// Digests are kept of this many pages, and of one more for each 2,048 bytes of files: the pages of all files by both algorithms,
 /// in a thirty-second of the memory that these have. This project's choice.
@@ -82,7 +82,7 @@ impl<'a> KnownPages<'a> {
         ensures { self.new ≡ self.old }
     {
         let pages = page_count(self.files, key);
-        if self.known.len() >= FILE_LIMIT || pages > self.room {
+        if self.known.len() >= MOST_FILES || pages > self.room {
             return None;
         }
         let Ok(digests) = Vec::with_capacity(self.alloc, pages) else {

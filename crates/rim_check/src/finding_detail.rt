@@ -105,7 +105,7 @@ fn has_path(file: &Value, path: &str) -> bool {
     front.is_some_and(|front| front.is_empty() || front.ends_with('/'))
 }
 
-/// What a launch's devicetree asks for and the launch has not.
+/// What a launch's devicetree asks for, where the launch does not have it.
 fn write_asked(line: &mut Line, launch: &Table) -> fmt::Result {
     let parts = entries(launch, "item");
     let lacks_ram = asks_for(parts, "memory") && entries(launch, "ram").is_empty();

@@ -56,7 +56,7 @@ fn sought_of(document: &Document, finding: &Finding) -> (Place, Sought) {
     }
 }
 
-/// The key by which a devicetree asks for what its launch has not.
+/// The key by which a devicetree asks for something that its launch does not have.
 fn asked(place: Place, launch: &Table) -> (Place, Sought) {
     let key = if lacks_initrd(launch) {
         "initrd"

@@ -20,7 +20,7 @@ pub enum ManifestFault {
     WrongKind,
     /// A table has a key that its format does not list.
     UnknownKey,
-    /// A required key is not given, a devicetree asks for an initrd or for RAM that the launch has not, or in version 2 a
+    /// A required key is not given, a devicetree asks for an initrd or for RAM that the launch lacks, or in version 2 a
     /// launch with a REC that is not runnable gives no `rec_rule`.
     MissingKey,
     /// A list is longer than its limit.

@@ -56,7 +56,7 @@ pub enum Subject {
     Key { key: &'static str, form: Form },
     /// The keys that the format does not list.
     OtherKeys,
-    /// A devicetree of the launch asks for an initrd or for RAM that the launch has not.
+    /// A devicetree of the launch asks for an initrd or for RAM that the launch lacks.
     Asked,
     /// The step of this number.
     Step { step: usize },

@@ -58,7 +58,7 @@ struct Counted {
 /// The report of a release, made by 1 to 64 workers. It is the one that `measure_alone` makes, in whatever order the
 /// workers come to their jobs. All memory is taken before the first worker is started, and from then on nothing is
 /// refused. Of that the clause `unstarted` says that after a fault the gate is as it was, so it was lent to no run; that
-/// there is no run with another gate is read in the code. A worker that cannot be started is gone without.
+/// there is no run with another gate is read in the code. The run does without a worker that cannot be started.
 pub fn measure_release<G: Gate + Sync, R: Threads + Wait + Sync>(
     rt: &R,
     alloc: Global,

@@ -1,4 +1,4 @@
-//! Questions to what was planned so far.
+//! Queries on the plan so far.
 ghost use Rattle.std.specs.Prelude.{◌≡◌, ◌*◌, ◌+◌, ◌%◌, ◌≤◌, ◌<◌, ◌^◌, IfNone, IfSome, false, nat_lt, true};
 ghost use Rattle.std.specs.List.{list_all, list_any};
 ghost use Rattle.rmm_model.specs.Blocks.{granules};
