@@ -32,8 +32,9 @@ pub fn placed_devicetree(
 
 /// The bytes of the devicetree of a launch that is accepted, if it has one.
 fn devicetree_bytes<'a>(accepted: &'a AcceptedLaunch<'_>) -> Option<&'a [u8]>
-    ensures { option_map (λ bytes. bytes.now) result ≡ devicetree_in accepted.entry.now.named.now.launch
-        (bytes_of_files accepted.entry.now.files.now) accepted.entry.now.placed }
+    ensures { option_map (λ bytes. bytes.now) result ≡ devicetree_in
+        accepted.entry.now.named.now.launch (bytes_of_files accepted.entry.now.files.now)
+        accepted.entry.now.placed }
 {
     let number = number_of(accepted.launch())?;
     let source = accepted.placed.items().get(number)?.source?;

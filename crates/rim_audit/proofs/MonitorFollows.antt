@@ -38,8 +38,10 @@ led-on s next (x ∷ cs) zero c at taken =
 led-on s next (x ∷ cs) (suc i) c at taken = led-on (after s (step s x)) next cs i c at taken
 
 module _ (l : LaunchCommands) where
-  pub followed : IsFollowed l.accepted.named.now.launch.config.algo l.accepted.named.now.launch.config.num_aux l.accepted.named.now.launch.config.rec_rule (commands_in l)
-      (measured l.accepted.named.now.launch l.accepted.placed (page_contents l.accepted.named.now.launch (bytes_of_files l.accepted.files.now) l.accepted.placed))
+  pub followed : IsFollowed l.accepted.named.now.launch.config.algo l.accepted.named.now.launch.config.num_aux l.accepted.named.now.launch.config.rec_rule
+      (commands_in l)
+      (measured l.accepted.named.now.launch l.accepted.placed
+      (page_contents l.accepted.named.now.launch (bytes_of_files l.accepted.files.now) l.accepted.placed))
   followed =
       list-is-followed l.accepted.named.now.launch l.accepted.placed
       (page_contents l.accepted.named.now.launch (bytes_of_files l.accepted.files.now) l.accepted.placed) l.plan
@@ -47,7 +49,8 @@ module _ (l : LaunchCommands) where
 
   pub never-refused : (i : ℕ) (c : Command) → slice_get (commands_in l) i ≡ Some c → is_ok (step (state_after l i) c) ≡ true
   never-refused i c at =
-      taken-in-turn (empty_state l.accepted.named.now.launch.config.num_aux l.accepted.named.now.launch.config.rec_rule) (commands_in l) i c followed.accepted at
+      taken-in-turn (empty_state l.accepted.named.now.launch.config.num_aux l.accepted.named.now.launch.config.rec_rule)
+      (commands_in l) i c followed.accepted at
 
   pub given : (i : ℕ) (c : Command) (next : State) → slice_get (commands_in l) i ≡ Some c → step (state_after l i) c ≡ Ok next → next ≡ state_after l (i + 1)
   given i c next at taken =
@@ -55,7 +58,8 @@ module _ (l : LaunchCommands) where
       led-on (empty_state l.accepted.named.now.launch.config.num_aux l.accepted.named.now.launch.config.rec_rule) next (commands_in l) i c at taken
       ∙ ap (state_after l) same
 
-  pub all-given : state_after l (length (commands_in l)) ≡ run (empty_state l.accepted.named.now.launch.config.num_aux l.accepted.named.now.launch.config.rec_rule)
+  pub all-given : state_after l (length (commands_in l)) ≡ run (empty_state l.accepted.named.now.launch.config.num_aux
+      l.accepted.named.now.launch.config.rec_rule)
       (commands_in l)
   all-given =
       ap (run (empty_state l.accepted.named.now.launch.config.num_aux l.accepted.named.now.launch.config.rec_rule))

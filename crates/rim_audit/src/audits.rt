@@ -121,7 +121,8 @@ fn outcome<'a>(
 ) -> Result<Result<Measurement, AuditFault>, NoMemory>
     requires { AreKept (bytes_of_files launch.files.now) kept.old }
     ensures outcome { IfOk result
-        (λ outcome. seen outcome ≡ rim_for launch.entry.launch.now.launch (bytes_of_files launch.entry.files.now)) }
+        (λ outcome. seen outcome ≡ rim_for launch.entry.launch.now.launch
+        (bytes_of_files launch.entry.files.now)) }
     ensures kept { AreKept (bytes_of_files launch.entry.files.now) kept.new }
 {
     match audit_launch(alloc, launch, kept, lanes) {
@@ -143,7 +144,8 @@ fn outcome_again<'a>(
 ) -> Result<Result<Measurement, AuditFault>, NoMemory>
     requires { AreKept (bytes_of_files launch.files.now) kept.old }
     ensures outcome { IfOk result
-        (λ outcome. seen outcome ≡ rim_for launch.entry.launch.now.launch (bytes_of_files launch.entry.files.now)) }
+        (λ outcome. seen outcome ≡ rim_for launch.entry.launch.now.launch
+        (bytes_of_files launch.entry.files.now)) }
     ensures kept { AreKept (bytes_of_files launch.entry.files.now) kept.new }
 {
     match audit_launch(alloc, launch, kept, lanes) {

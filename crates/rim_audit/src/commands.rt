@@ -77,7 +77,8 @@ impl<'a> LaunchCommands<'a> {
     /// The Realm Initial Measurement that a monitor holds after all commands.
     pub fn rim(&self, monitor: &Monitor) -> Measurement
         requires { monitor.now ≡ state_after self.now (length (commands_in self.now)) }
-        ensures { result.bytes ≡ rim_after self.now.accepted.named.now.launch (commands_in self.now) }
+        ensures { result.bytes
+            ≡ rim_after self.now.accepted.named.now.launch (commands_in self.now) }
     {
         match monitor.rim() {
             Some(rim) => rim,

@@ -26,8 +26,9 @@ use rmi_line::print_line;
 use std::alloc::Global;
 
 /// The listing of the launch of this number, or why the launch is refused: a line `rim-list 1 aux N`, where a REC has N
-/// auxiliary granules, or `rim-list 2 aux N rec RULE` where the launch has a rule for RECs; a line for each command that builds the realm; and a line `rim ALGO HEX` with the Realm Initial
-/// Measurement that a monitor holds then. A monitor is given each command before the command is printed. Its replay says yes.
+/// auxiliary granules, or `rim-list 2 aux N rec RULE` where the launch has a rule for RECs; a line for each command that builds the
+/// realm; and a line `rim ALGO HEX` with the Realm Initial Measurement that a monitor holds then. A monitor is given each command
+/// before the command is printed. Its replay says yes.
 pub fn listing(
     alloc: Global,
     release: &Release,
@@ -126,7 +127,8 @@ fn push_commands(
         (text.new.items ≡ text.old.items ++ flat_map command_line (commands_in commands.now)) }
     ensures typed { IfOk result (λ m. All IsTyped (commands_in commands.now)) }
     ensures rim { IfOk result
-        (λ m. m.bytes ≡ rim_after commands.now.accepted.named.now.launch (commands_in commands.now)) }
+        (λ m. m.bytes
+        ≡ rim_after commands.now.accepted.named.now.launch (commands_in commands.now)) }
 {
     let mut monitor = commands.monitor(alloc);
     let mut beside = Beside::new(KnownPages::new(alloc, commands.accepted.files, 0));

@@ -6,8 +6,8 @@ use crate::digest::Digest;
 use crate::job::{Job, Shape, Size};
 use crate::manifest::manifest;
 use rim_release::{
-    Files, Gate, JobId, Lanes, LoadedRelease, Release, audit_with_gate, listing_or_refusal, measure_release,
-    read_manifest, replay, report_alone,
+    Files, Gate, JobId, Lanes, LoadedRelease, Release, audit_with_gate, listing_or_refusal,
+    measure_release, read_manifest, replay, report_alone,
 };
 use std::alloc::{AllocError, Global};
 use std::sync::Wait;

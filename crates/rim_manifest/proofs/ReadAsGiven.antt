@@ -14,7 +14,8 @@ use Rattle.rim_rules.specs.declared.form.Form.TheVariants as form
 use Rattle.rim_rules.specs.declared.form.Presence.TheVariants.{Optional}
 use Rattle.rim_manifest.specs.Faults.{fault_if, lowest}
 use Rattle.rim_rules.specs.Forms.{is_table, items_list}
-use Rattle.rim_manifest.specs.Given.{EachGives, GivesBootargs, GivesBytes, GivesFile, GivesItem, GivesKind, GivesMeasured, GivesNumber, GivesName, GivesPath, GivesRec}
+use Rattle.rim_manifest.specs.Given.{EachGives, GivesBootargs, GivesBytes, GivesFile, GivesItem, GivesKind, GivesMeasured, GivesName}
+use Rattle.rim_manifest.specs.Given.{GivesNumber, GivesPath, GivesRec}
 use Rattle.rim_manifest.specs.Given.{GivesRule, GivesSize, GivesSteps, GivesWord, GivesWords, HasItsRule, IsGiven, role_text}
 use Rattle.rim_manifest.specs.Launches.{ReleaseData, config_of, items_of, ram_of, recs_of, launch_of, launches_from, rec_of}
 use Rattle.rim_rules.specs.Values.{algorithm_in, array_at, base_in, digits_in, number_in, text_in, word_in, words_in}

@@ -9,9 +9,9 @@ use refusal::NoMemory;
 use rim_check::{LaunchCheck, check_launches};
 use rim_desc::{Lanes, Measurement};
 use rim_release::{
-    AuditFault, Files, Gate, JobId, LoadedLaunch, LoadedRelease, Outcome, Release, Report, StartFault, audit, audit_report,
-    json_report, listing, measure_alone, measure_release, placed_devicetree, read_manifest,
-    trace_or_refusal,
+    AuditFault, Files, Gate, JobId, LoadedLaunch, LoadedRelease, Outcome, Release, Report,
+    StartFault, audit, audit_report, json_report, listing, measure_alone, measure_release,
+    placed_devicetree, read_manifest, trace_or_refusal,
 };
 use std::alloc::{AllocError, Global};
 use std::sync::Wait;
@@ -93,9 +93,7 @@ fn first_launch<R: Print + AllocGlobal>(
     match call {
         ReleaseCall::Audit => audited(rt, release, files, is_tried),
         ReleaseCall::Listing => listed(rt, release, files, is_tried),
-        ReleaseCall::Trace => {
-            traced(rt, LoadedRelease::new(release, files).launch(0), is_tried)
-        }
+        ReleaseCall::Trace => { traced(rt, LoadedRelease::new(release, files).launch(0), is_tried) }
         _ => devicetree(rt, LoadedRelease::new(release, files).launch(0), is_tried),
     }
 }

@@ -27,7 +27,8 @@ returns c =
     let same = c.common_commands.ensures.same (page_contents launch files kept.placed) (page_contents own.accepted.named.now.launch files own.accepted.placed)
     (agree launch own.accepted.named.now.launch files kept.placed own.accepted.placed c.marked-marks.result algo marked) in
     let led : (count : ℕ) → count ≤ c.common_commands.result → state_of launch files kept.placed of_launch.plan count ≡ state_after own count
-    = λ count le. led-alike launch.config.num_aux own.accepted.named.now.launch.config.num_aux launch.config.rec_rule own.accepted.named.now.launch.config.rec_rule
+    = λ count le. led-alike launch.config.num_aux own.accepted.named.now.launch.config.num_aux launch.config.rec_rule
+    own.accepted.named.now.launch.config.rec_rule
     count c.common_commands.result
     (commands_of (page_contents launch files kept.placed) of_launch.plan) (commands_in own) aux rule le same in
     let within : c.common_commands.result ≤ length (commands_in own) =

@@ -8,7 +8,8 @@ use Rattle.rim_audit.proofs.commands.LaunchCommands.command_at.Goals as goal
 pub content_of-content-requires-clause-page : goal.content_of-content-requires-clause-page
 content_of-content-requires-clause-page c =
     let s = c.args.self.now in
-    page-there s.accepted.named.now.launch s.accepted.placed s.plan c.args.index c.in-Some.item c.in-Some.page s.is_listed (sym c.page_of.ensures ∙ c.in-Some.is)
+    page-there s.accepted.named.now.launch s.accepted.placed s.plan c.args.index c.in-Some.item c.in-Some.page s.is_listed (sym c.page_of.ensures
+    ∙ c.in-Some.is)
 
 pub returns-in-Some-clause-command : goal.returns-in-Some-clause-command
 returns-in-Some-clause-command c =

@@ -34,6 +34,7 @@ returns-clause-group c k m there =
 pub returns-clause-low : goal.returns-clause-low
 returns-clause-low c =
     let low : c.args.page < 1048576 =
-    page-few c.args.self.now.accepted.named.now.launch (bytes_of_files c.args.self.now.accepted.files.now) c.args.self.now.accepted.placed c.args.item c.args.page
+    page-few c.args.self.now.accepted.named.now.launch (bytes_of_files c.args.self.now.accepted.files.now) c.args.self.now.accepted.placed c.args.item
+    c.args.page
     c.args.self.now.accepted.is_placed c.requires in
     omega (arith, low, c.hash_group.result.within)
