@@ -1,9 +1,7 @@
 """What `rim-match` is made of: it looks for a launch that has a given measurement, near one that has not.
 
-faults      what stops it: wrong words, a fault
-ending      how it ends then
 words       the words of a command line
-launch      a launch: its table, what of it is measured, its text
+launch      a launch: its table, and the text of that
 manifests   the manifests that are given
 files       the files of launches: of manifests, named beside them, and made here
 trees       devicetrees for other launches, written anew

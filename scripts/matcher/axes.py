@@ -1,7 +1,7 @@
 """What people and hosts get wrong in a launch: one table of axes.
 
 An axis yields changes of a launch: a short text, and the changed launch. The likeliest come first. It need not leave out what changes
-nothing: the search tries no launch twice. A change that no manifest may have is passed over there, and one that `rim` refuses too. A new
+nothing: the search tries no table twice. A change that no manifest may have is passed over there, and one that `rim` refuses too. A new
 axis is a function and a row of the table.
 """
 import itertools

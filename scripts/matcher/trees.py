@@ -8,7 +8,7 @@ import struct
 from collections.abc import Callable, Iterator
 from dataclasses import dataclass, field
 
-from outside.rim import HEADER, Node
+from outside.rim import Node
 from outside.texts import quoted
 
 from .files import Files, Flat
@@ -92,25 +92,26 @@ def rests_of(root: Node, data: bytes, at: int) -> dict[tuple[str, str], bytes]:
     return found
 
 
-def written(draft: Draft, data: bytes) -> bytes:
+def written(draft: Draft, flat: Flat) -> bytes:
     """A tree as libfdt writes it where the other one was: as long, or as short as it may be where that one was."""
-    head = list(HEADER.unpack(data[:HEADER.size]))
-    structure = structure_of(draft)
-    used, is_packed = head[3] + head[8], head[1] == head[3] + head[8]
-    head[3], head[8], head[9] = head[2] + len(structure), len(draft.strings), len(structure)
-    end = head[3] + head[8]
-    head[1] = end if is_packed else max(head[1], end)
-    whole = HEADER.pack(*head) + data[HEADER.size:head[2]] + structure + draft.strings
+    head, data, structure = flat.tree.header, flat.data, structure_of(draft)
+    used = head.strings + head.strings_size
+    strings = head.structure + len(structure)
+    end, is_packed = strings + len(draft.strings), head.total == used
+    new = head._replace(total=end if is_packed else max(head.total, end), strings=strings, strings_size=len(draft.strings),
+                        structure_size=len(structure)).data
+    whole = new + data[len(new):head.structure] + structure + draft.strings
     return whole if is_packed and len(data) == used else whole.ljust(max(len(data), end), b"\0")
 
 
 def draft_of(flat: Flat) -> Draft | None:
     """A tree to change; None where it would not be the same without a change."""
-    head = HEADER.unpack(flat.data[:HEADER.size])
+    head = flat.tree.header
     root = copy.deepcopy(flat.tree.root)
-    draft = Draft(root, flat.data[head[3]:head[3] + head[8]], rests_of(root, flat.data, head[2]))
+    draft = Draft(root, flat.data[head.strings:head.strings + head.strings_size], rests_of(root, flat.data, head.structure))
+    is_plain = head.structure % 4 == 0 and head.structure + head.structure_size == head.strings
     try:
-        return draft if head[2] % 4 == 0 and head[2] + head[9] == head[3] and written(draft, flat.data) == flat.data else None
+        return draft if is_plain and written(draft, flat) == flat.data else None
     except (ValueError, struct.error):
         return None
 
@@ -248,7 +249,7 @@ def changed(files: Files, name: str, key: object, about: str, change: Callable[[
         flat = files.flat(name)
         draft = draft_of(flat) if flat else None
         is_done = draft is not None and change(draft)
-        files.of_changes[name, key] = files.made(files.changed(name, about), written(draft, flat.data)) if is_done and draft and flat else None
+        files.of_changes[name, key] = files.made(files.changed(name, about), written(draft, flat)) if is_done and draft and flat else None
     return files.of_changes[name, key]
 
 

@@ -4,6 +4,7 @@ import struct
 import sys
 from collections.abc import Iterator
 from dataclasses import dataclass, field, replace
+from typing import NamedTuple
 
 from . import files, programs
 from .faults import Fault
@@ -18,8 +19,6 @@ SECONDS = 60
 REPORT = Limits(out=MOST_OUT)
 # What `rim image` says of a file that is no Image.
 NO_IMAGE = ("kernel-short", "kernel-bad-magic")
-# The header of a devicetree.
-HEADER = struct.Struct(">10I")
 
 
 @dataclass(frozen=True)
@@ -96,19 +95,51 @@ class Node:
             yield from each.walk()
 
 
+class Header(NamedTuple):
+    """The header of a devicetree: 10 words of 4 bytes (Devicetree Specification, chapter 5.2). `rim fdt` reads it, and prints of it which
+    processor boots alone."""
+
+    magic: int
+    total: int
+    structure: int
+    strings: int
+    reservations: int
+    version: int
+    last_version: int
+    boot_cpu: int
+    strings_size: int
+    structure_size: int
+
+    @property
+    def data(self) -> bytes:
+        return WORDS.pack(*self)
+
+
+WORDS = struct.Struct(">10I")
+
+
 @dataclass(frozen=True)
 class Tree:
-    """A devicetree: its root, how many bytes its header says that it has, and where the last of its blocks ends."""
+    """A devicetree: its root, and its header."""
 
     root: Node
-    total: int
-    used: int
+    header: Header
+
+    @property
+    def total(self) -> int:
+        """How many bytes its header says that it has."""
+        return self.header.total
+
+    @property
+    def used(self) -> int:
+        """Where the last of its blocks ends."""
+        return max(self.header.structure + self.header.structure_size, self.header.strings + self.header.strings_size)
 
 
 def tree_of(rim: Rim, path: str, name: str = "") -> Tree:
     """The devicetree at a path; `name` is what a fault calls it. What `rim` does not read is a fault."""
     name = name or path
-    head = files.head(path, HEADER.size)
+    header = Header(*WORDS.unpack(files.head(path, WORDS.size).ljust(WORDS.size, b"\0")))
     too_large = Fault(f"{visible(name)}: it is too large to be shown by rim fdt, expected at most {MOST_TREE} bytes of text")
     try:
         ran = rim.run("fdt", "--", path, limits=Limits(SECONDS, MOST_TREE, TREE_MEMORY))
@@ -118,9 +149,7 @@ def tree_of(rim: Rim, path: str, name: str = "") -> Tree:
         raise too_large
     if ran.status == 3:
         raise Fault(f"{visible(name)}: {ran.said.removeprefix('rim: ')}, expected a flattened devicetree that rim fdt shows")
-    root = root_of(lines_of(ran, f"{visible(name)}: rim fdt"), name)
-    _, total, structure, strings, _, _, _, _, strings_size, structure_size = HEADER.unpack(head.ljust(HEADER.size, b"\0"))
-    return Tree(root, total, max(structure + structure_size, strings + strings_size))
+    return Tree(root_of(lines_of(ran, f"{visible(name)}: rim fdt"), name), header)
 
 
 def root_of(lines: Iterator[str], name: str) -> Node:
