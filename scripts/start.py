@@ -17,8 +17,8 @@ SCRIPTS = {
 }
 
 
-def listed(names):
-    return ", ".join(names[:-1]) + " and " + names[-1]
+def listed(names, last):
+    return ", ".join(names[:-1]) + " " + last + " " + names[-1]
 
 
 def refuse(name, why):
@@ -36,7 +36,7 @@ def script_at(path):
             found = folder, name
         path = os.path.join(folder, name)
         if not os.path.islink(path):
-            return found or refuse(name, "it is started by this name, expected %s" % listed(sorted(SCRIPTS)))
+            return found or refuse(name, "it is started by this name, expected %s" % listed(list(SCRIPTS), "or"))
         path = os.path.join(folder, os.readlink(path))
 
 
@@ -46,7 +46,7 @@ def modules_of(here, name):
     for folder in (os.path.join(here, "scripts"), os.path.join(os.path.dirname(here), "share", "rim")):
         if all(os.path.isfile(os.path.join(folder, package, module + ".py")) for package, module in needed):
             return folder
-    packages = listed([package for package, _ in needed])
+    packages = listed([package for package, _ in needed], "and")
     return refuse(name, "no folders %s in %s or in ../share/rim, expected its modules there" % (packages, os.path.join(here, "scripts")))
 
 

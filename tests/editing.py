@@ -22,6 +22,8 @@ import time
 from collections.abc import Callable, Iterator
 from dataclasses import dataclass
 
+from helpers.tries import differs, told
+
 TOP = pathlib.Path(__file__).resolve().parent.parent
 # A prover that says what the folder `said` has for the line of a crate's body, and ends with the status before that; of a function alone
 # what it has for that.
@@ -179,10 +181,6 @@ def tree(*bodies: str) -> Iterator[Tree]:
             made.edit(body)
         made.build()
         yield made
-
-
-def differs(what: str, seen: object, expected: object) -> list[str]:
-    return [] if seen == expected else [f"{what}: {seen!r}, expected {expected!r}"]
 
 
 def words_of(lines: list[str]) -> dict[str, str]:
@@ -406,14 +404,7 @@ def times() -> list[str]:
 
 def run_all() -> int:
     tries = (answers, of_functions, statuses, kept, folders, bases, begins, bad_edits, faults, places, meanwhile, signals, times)
-    failed = 0
-    for look in tries:
-        wrong = look()
-        failed += bool(wrong)
-        if wrong:
-            print(f"WRONG: {look.__name__}", *wrong, sep="\n  ")
-    print(f"{len(tries) - failed} passed, {failed} failed")
-    return int(failed > 0)
+    return told([(look.__name__, look()) for look in tries])
 
 
 if __name__ == "__main__":
