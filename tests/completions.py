@@ -16,6 +16,7 @@ import tempfile
 
 sys.path.insert(0, str(pathlib.Path(__file__).resolve().parent.parent / "tools" / "package"))
 import completions
+import man
 
 SECONDS = 60
 # Names of files, items and tables below a launch are none of launches, and a name with a dash in front would be an option.
@@ -47,7 +48,7 @@ name = "-dash"
 [[launch]]
 name = "$(touch made)"
 """
-COMMANDS = ["measure", "list", "trace", "map", "audit", "check", "dtb", "replay", "image", "fdt"]
+COMMANDS = list(man.subcommands())
 LAUNCHES = ["one-vcpu", "two_vcpus.b", "one-b"]
 PATHS = object()  # paths are offered, by whatever way the shell has
 ROWS = [

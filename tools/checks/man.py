@@ -25,8 +25,10 @@ import command_table  # noqa: E402, the path is set above
 CRATES = TOP / "crates"
 FAULTS = ["rim_cli/src/fault.rt", "rim_manifest/src/fault.rt", "rim_pages/src/fault.rt", "rim_accepted/src/audit_fault.rt",
           "rim_show/src/fault.rt", "rim_replay/src/fault.rt"]
-# The name of an option or a flag, where the command line is defined.
-LONG = r'(?:\.long\(|\bflag_arg\(\s*alloc,\s*)"([\w-]+)"'
+DEFINITION = CRATES / "rim_words/src/definition.rt"
+# The arguments of a subcommand, where the command line is defined: operands by the names that usage texts show, and options.
+OPERAND = r'(?<=[\[ ])[A-Z]+(?=[,\]])|(?<=", ")[A-Z]+(?=", ")'
+OPTION = r'(?<=Argument::Flag\()"([\w-]+)"|(?<=Argument::)(Workers)\b'
 
 
 def found(pattern, *paths):
@@ -45,31 +47,31 @@ def manifest_keys():
 
 def named():
     """What the page has to name, by kind."""
-    definition, words = CRATES / "rim_words/src/definition.rt", CRATES / "rim_words/src/words.rt"
     return {
-        "command": found(r'^\s+"(\w+)" => Request::', words),
-        "option": ["--" + name for name in ["help", "version"] + found(LONG, definition)],
-        "status": found(r"^  (\d)  ", definition) + ["127"],
+        "command": sorted(subcommands()),
+        "option": ["--help", "--version", *sorted(set().union(*options().values()))],
+        "status": found(r"^  (\d)  ", DEFINITION) + ["127"],
         # a wrong number of workers is refused as a mistake in the command line, and never by this word
         "fault": [word for word in found(r'=> "([a-z0-9-]+)"', *(CRATES / path for path in FAULTS)) if word != "workers"],
         "key": manifest_keys(),
     }
 
 
+def subcommands():
+    """The subcommands, each with the text of its arguments, as the definition lists them."""
+    table = re.search(r"^const COMMANDS: .*?^\];", DEFINITION.read_text(), re.M | re.S)[0]
+    return dict(re.findall(r'^        name: "(\w+)",.*?^        arguments: (.*?)^    \},', table, re.M | re.S))
+
+
 def operands():
-    """The operands of each command, as the program takes them off its words."""
-    text = (CRATES / "rim_words/src/words.rt").read_text()
-    rows = re.findall(r'^ +"(\w+)" => Request::\w+ \{(.*?)\}', text, re.M | re.S)
-    return {command: tuple(re.findall(r'operand\(given, "(\w+)"\)', fields)) for command, fields in rows}
+    """The operands of each command, in their order."""
+    return {name: tuple(operand.lower() for operand in re.findall(OPERAND, arguments)) for name, arguments in subcommands().items()}
 
 
 def options():
-    """The options of each command, as its definition adds them."""
-    text = (CRATES / "rim_words/src/definition.rt").read_text()
-    bodies = dict(re.findall(r"^fn (\w+)<'a>\((.*?)^\}", text, re.M | re.S))
-    longs = {name: re.findall(LONG, body) for name, body in bodies.items()}
-    added = {name: [name, *re.findall(r"\b(\w+_arg)\(", body)] for name, body in bodies.items() if name.endswith("_command")}
-    return {name.removesuffix("_command"): {f"--{long}" for arg in args for long in longs[arg]} for name, args in added.items()}
+    """The options of each command."""
+    found_in = {name: re.findall(OPTION, arguments) for name, arguments in subcommands().items()}
+    return {name: {"--" + "".join(option).lower() for option in some} for name, some in found_in.items()}
 
 
 def faults_of_page(name, wanted):

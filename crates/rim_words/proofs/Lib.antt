@@ -5,7 +5,9 @@ pub mod EnteredSubcommand
 pub mod MatchesPassParsers
 -- each use of an argument keeps this for the rows of its level
 pub mod ValuesOfArguments
+-- which a test of the arguments says;
+pub mod SoundArguments
 -- Words that are refused: the kind of error says whether they are a mistake or ask for help
 pub mod KindsOfRefusal
--- where one request of a subcommand is answered in bytes, each request of it is
+-- what is asked for, by its subcommand
 pub mod RequestsOfSubcommands

@@ -1,7 +1,8 @@
 -- Examples of command lines, read by the definition of `clap`. This project's choice.
-use Rattle.std.specs.Prelude.{◌≡◌, ℕ, true, false, List, [], ◌∷◌, Option, Some, None, codes, option_map}
-use Rattle.clap.specs.Words.{Text, first_of, subcommand_of, takes}
-use Rattle.rim_words.specs.Command.{AsksForHelp, CountsWorkers, IsMistaken, format_of, rim}
+use Rattle.std.specs.Prelude.{◌≡◌, ℕ, true, false, List, [], ◌∷◌, Option, Some, None, codes, filter, map, option_map}
+use Rattle.std.specs.List.{list_all, list_any}
+use Rattle.clap.specs.Words.{Rule, Text, first_of, subcommand_of, takes}
+use Rattle.rim_words.specs.Command.{AsksForHelp, CountsWorkers, IsMistaken, commands, format_of, rim}
 use Rattle.rim_words.specs.declared.words.Format.{Format}
 use Rattle.rim_words.specs.declared.words.Format.TheVariants as format
 
@@ -20,23 +21,8 @@ a_trace = codes "rim" ∷ codes "trace" ∷ codes "manifest.toml" ∷ codes "sma
 abbrev pub a_map : List Text
 a_map = codes "rim" ∷ codes "map" ∷ codes "manifest.toml" ∷ codes "small" ∷ codes "--json" ∷ []
 
-abbrev pub a_replay : List Text
-a_replay = codes "rim" ∷ codes "replay" ∷ codes "listing" ∷ []
-
-abbrev pub an_image : List Text
-an_image = codes "rim" ∷ codes "image" ∷ codes "Image" ∷ []
-
-abbrev pub a_devicetree : List Text
-a_devicetree = codes "rim" ∷ codes "fdt" ∷ codes "virt.dtb" ∷ []
-
 abbrev pub a_listing : List Text
 a_listing = codes "rim" ∷ codes "list" ∷ codes "manifest.toml" ∷ codes "small" ∷ []
-
-abbrev pub an_audit : List Text
-an_audit = codes "rim" ∷ codes "audit" ∷ codes "manifest.toml" ∷ []
-
-abbrev pub a_check : List Text
-a_check = codes "rim" ∷ codes "check" ∷ codes "manifest.toml" ∷ []
 
 abbrev pub a_placed_devicetree : List Text
 a_placed_devicetree = codes "rim" ∷ codes "dtb" ∷ codes "manifest.toml" ∷ codes "small" ∷ []
@@ -52,25 +38,27 @@ too_many = codes "rim" ∷ codes "measure" ∷ codes "manifest.toml" ∷ codes "
 abbrev pub json_with_value : List Text
 json_with_value = codes "rim" ∷ codes "measure" ∷ codes "manifest.toml" ∷ codes "--json=no" ∷ []
 
--- the words are a command line of the program
-abbrev pub Takes : List Text → Type 0
-Takes words = takes rim words ≡ true
+-- the smallest run of a subcommand: each operand that has to be given is there
+abbrev pub smallest_run : Text × List Rule → List Text
+smallest_run c = codes "rim" ∷ c.0 ∷ map (λ a. a.id) (filter (λ a. a.required) c.1)
 
-abbrev pub TakesNot : List Text → Type 0
-TakesNot words = takes rim words ≡ false
+-- command lines of the program, and words that are none
+abbrev pub taken : List (List Text)
+taken = plain ∷ with_seven ∷ with_json ∷ a_listing ∷ a_trace ∷ a_map ∷ a_placed_devicetree ∷ map smallest_run commands
+
+abbrev pub not_taken : List (List Text)
+not_taken = too_many ∷ json_with_value ∷ too_few ∷ (codes "rim" ∷ codes "help" ∷ []) ∷ (codes "rim" ∷ []) ∷ []
 
 abbrev pub TakesExamples : Type 0
-TakesExamples = Takes plain × Takes with_seven × Takes with_json × Takes a_listing × Takes a_trace × Takes a_map × Takes an_audit × Takes a_check × Takes a_placed_devicetree
-    × Takes a_replay × Takes an_image × Takes a_devicetree × TakesNot too_many × TakesNot json_with_value × TakesNot too_few
-    × TakesNot (codes "rim" ∷ codes "help" ∷ []) × TakesNot (codes "rim" ∷ [])
+TakesExamples = (list_all (takes rim) taken ≡ true) × (list_any (takes rim) not_taken ≡ false)
 
--- the texts of the manifest and of the workers that the words hold
+-- the texts of the path and of the workers that the words hold
 abbrev pub read_in : List Text → Option (Option Text × Option Text)
-read_in words = option_map (λ p. (first_of (codes "manifest") p.1, first_of (codes "workers") p.1)) (subcommand_of rim words)
+read_in words = option_map (λ p. (first_of (codes "path") p.1, first_of (codes "workers") p.1)) (subcommand_of rim words)
 
--- the texts of the manifest and of the launch that the words hold
+-- the texts of the path and of the launch that the words hold
 abbrev pub launch_in : List Text → Option (Option Text × Option Text)
-launch_in words = option_map (λ p. (first_of (codes "manifest") p.1, first_of (codes "launch") p.1)) (subcommand_of rim words)
+launch_in words = option_map (λ p. (first_of (codes "path") p.1, first_of (codes "launch") p.1)) (subcommand_of rim words)
 
 -- the format of the report that the words ask for
 abbrev pub format_in : List Text → Option Format

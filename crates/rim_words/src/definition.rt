@@ -1,8 +1,9 @@
 //! The command line as `clap` reads it: the program's subcommands with their arguments and help texts.
-ghost use Rattle.std.specs.Prelude.{◌≡◌, IfOk, codes, true, false};
-ghost use Rattle.clap.specs.Words.{app_of, rule_of, with_subcommand};
+ghost use Rattle.std.specs.Prelude.{◌≡◌, IfOk, fold, map, false, true};
+ghost use Rattle.clap.specs.Words.{app_of, new_app, rule_of, with_rule};
 ghost use Rattle.clap.specs.declared.builder.command.Command.TheViews.{out-Command};
-ghost use Rattle.rim_words.specs.Command.{audit, check, dtb, fdt, flag_rule, image, launch_map, list, measure, operand_rule, replay, rim, trace, with_launch, with_operand, workers_rule};
+ghost use Rattle.rim_words.specs.Command.{rim, with_command};
+ghost use Rattle.rim_words.specs.inside.Table.{command_in, rule_in};
 
 use clap::{Arg, ArgAction, Command};
 use job_board::WORKER_LIMIT;
@@ -11,7 +12,107 @@ use std::alloc::{AllocError, Global};
 /// The version, and the day of its sources' last commit: `tools/dist.py` asks that they are the same.
 pub const VERSION: &str = "0.2.0 (2026-11-29)";
 
-const MANIFEST: &str = "The manifest, a TOML file";
+/// A subcommand: its name, what help says of it, and its arguments, the operands in their order.
+struct Subcommand {
+    name: &'static str,
+    about: &'static str,
+    after_help: Option<&'static str>,
+    arguments: &'static [Argument],
+}
+
+/// An argument of a subcommand.
+enum Argument {
+    /// An operand that has to be given: its name, that which usage texts show, and what help says of it.
+    Operand(&'static str, &'static str, &'static str),
+    /// A flag: its name, and what help says of it.
+    Flag(&'static str, &'static str),
+    /// The option `--workers`.
+    Workers,
+}
+
+/// The path of a manifest.
+const MANIFEST: Argument = Argument::Operand("path", "MANIFEST", "The manifest, a TOML file");
+
+/// The name of a launch of that manifest.
+const LAUNCH: Argument = Argument::Operand("launch", "LAUNCH", "The launch, by its name");
+
+/// The subcommands, in the order of the help text.
+const COMMANDS: [Subcommand; 10] = [
+    Subcommand {
+        name: "measure",
+        about: "Prints the measurement of each launch of a manifest",
+        after_help: Some("`rim --help` says what a manifest is, and lists the exit statuses."),
+        arguments: &[
+            MANIFEST,
+            Argument::Workers,
+            Argument::Flag("json", "The report as one JSON object, and not as lines"),
+        ],
+    },
+    Subcommand {
+        name: "list",
+        about: "Prints the monitor's commands that build the realm of a launch",
+        after_help: None,
+        arguments: &[MANIFEST, LAUNCH],
+    },
+    Subcommand {
+        name: "trace",
+        about: "Prints the measurement of a launch step by step",
+        after_help: None,
+        arguments: &[MANIFEST, LAUNCH],
+    },
+    Subcommand {
+        name: "map",
+        about: "Prints where the items of a launch are, and what its measurement is made of",
+        after_help: None,
+        arguments: &[
+            MANIFEST,
+            LAUNCH,
+            Argument::Flag("json", "The map as one JSON object, and not as lines"),
+        ],
+    },
+    Subcommand {
+        name: "audit",
+        about: "Prints the measurement of each launch, \
+            as a monitor that takes its commands holds it",
+        after_help: None,
+        arguments: &[MANIFEST],
+    },
+    Subcommand {
+        name: "check",
+        about: "Prints what is wrong with a manifest and which launches are refused, \
+            each with its place",
+        after_help: None,
+        arguments: &[
+            MANIFEST,
+            Argument::Flag("quiet", "No warnings: only what is wrong is printed"),
+            Argument::Flag("json", "What is found as one JSON object, and not as lines"),
+        ],
+    },
+    Subcommand {
+        name: "dtb",
+        about: "Writes the devicetree of a launch, as it is placed and measured",
+        after_help: None,
+        arguments: &[MANIFEST, LAUNCH],
+    },
+    Subcommand {
+        name: "replay",
+        about: "Says whether a listing is what it says, by giving its commands to a monitor",
+        after_help: None,
+        arguments: &[Argument::Operand("path", "FILE", "The listing, as `rim list` prints it")],
+    },
+    Subcommand {
+        name: "image",
+        about: "Prints the header of an arm64 kernel Image",
+        after_help: None,
+        arguments: &[Argument::Operand("path", "FILE", "The Image, as a kernel's build writes it")],
+    },
+    Subcommand {
+        name: "fdt",
+        about: "Prints a flattened devicetree, node by node",
+        after_help: None,
+        arguments: &[Argument::Operand("path", "FILE", "The devicetree, as dtc or QEMU writes it")],
+    },
+];
 
 const GUIDE: &str = "\
 A manifest is a TOML file that describes launches of realms. The smallest one:
@@ -86,253 +187,62 @@ pub fn rim_command<'a>(alloc: Global) -> Result<Command<'a>, AllocError>
         .version(VERSION)
         .about("Computes Realm Initial Measurements of Arm CCA realms")
         .after_help(GUIDE);
-    let rim = with_release_commands(alloc, rim)?;
-    let rim = with_subcommand(rim, dtb_command(alloc)?)?;
-    let rim = with_file_commands(alloc, rim)?;
+    let rim = with_commands(alloc, rim, &COMMANDS)?;
     Ok(rim.subcommand_required(true).disable_help_subcommand(true))
 }
 
-/// A command with the subcommands that print texts about a manifest's launches.
-fn with_release_commands<'a>(alloc: Global, command: Command<'a>) -> Result<Command<'a>, AllocError>
-    requires { (out-Command command).has_globals ≡ false }
-    ensures shape { IfOk result (λ c. app_of c
-        ≡ with_subcommand (with_subcommand (with_subcommand
-        (with_subcommand (with_subcommand (with_subcommand (app_of command.entry) measure.top)
-        list.top) trace.top) launch_map.top) audit.top) check.top) }
-    ensures globals { IfOk result (λ c. (out-Command c).has_globals ≡ false) }
-{
-    let command = with_launch_commands(alloc, command)?;
-    let command = with_subcommand(command, audit_command(alloc)?)?;
-    with_subcommand(command, check_command(alloc)?)
-}
-
-/// A command with the subcommands that print what becomes of launches, and where they are.
-fn with_launch_commands<'a>(alloc: Global, command: Command<'a>) -> Result<Command<'a>, AllocError>
-    requires { (out-Command command).has_globals ≡ false }
-    ensures shape { IfOk result (λ c. app_of c
-        ≡ with_subcommand (with_subcommand
-        (with_subcommand (with_subcommand (app_of command.entry) measure.top) list.top)
-        trace.top) launch_map.top) }
-    ensures globals { IfOk result (λ c. (out-Command c).has_globals ≡ false) }
-{
-    let command = with_report_commands(alloc, command)?;
-    with_subcommand(command, map_command(alloc)?)
-}
-
-/// A command with the subcommands that print what becomes of launches.
-fn with_report_commands<'a>(alloc: Global, command: Command<'a>) -> Result<Command<'a>, AllocError>
-    requires { (out-Command command).has_globals ≡ false }
-    ensures shape { IfOk result (λ c. app_of c
-        ≡ with_subcommand
-        (with_subcommand (with_subcommand (app_of command.entry) measure.top) list.top)
-        trace.top) }
-    ensures globals { IfOk result (λ c. (out-Command c).has_globals ≡ false) }
-{
-    let command = with_subcommand(command, measure_command(alloc)?)?;
-    let command = with_subcommand(command, list_command(alloc)?)?;
-    with_subcommand(command, trace_command(alloc)?)
-}
-
-/// A command with the subcommands about one file that is no manifest.
-fn with_file_commands<'a>(alloc: Global, command: Command<'a>) -> Result<Command<'a>, AllocError>
-    requires { (out-Command command).has_globals ≡ false }
-    ensures shape { IfOk result (λ c. app_of c
-        ≡ with_subcommand
-        (with_subcommand (with_subcommand (app_of command.entry) replay.top) image.top)
-        fdt.top) }
-    ensures globals { IfOk result (λ c. (out-Command c).has_globals ≡ false) }
-{
-    let command = with_file_command(
-        alloc,
-        command,
-        "replay",
-        "Says whether a listing is what it says, by giving its commands to a monitor",
-        "The listing, as `rim list` prints it",
-    )?;
-    let command = with_file_command(
-        alloc,
-        command,
-        "image",
-        "Prints the header of an arm64 kernel Image",
-        "The Image, as a kernel's build writes it",
-    )?;
-    with_file_command(
-        alloc,
-        command,
-        "fdt",
-        "Prints a flattened devicetree, node by node",
-        "The devicetree, as dtc or QEMU writes it",
-    )
-}
-
-/// A command with one more subcommand, about the file at a path.
-fn with_file_command<'a>(
+/// A command with these subcommands more. None of them passes an argument on to all of its subcommands.
+fn with_commands<'a>(
     alloc: Global,
     command: Command<'a>,
-    name: &'a str,
-    about: &'a str,
-    file: &'a str,
+    rows: &[Subcommand],
 ) -> Result<Command<'a>, AllocError>
     requires { (out-Command command).has_globals ≡ false }
-    ensures shape { IfOk result (λ c. app_of c
-        ≡ with_subcommand (app_of command.entry) (with_operand name.entry.now (codes "file")).top) }
-    ensures globals { IfOk result (λ c. (out-Command c).has_globals ≡ false) }
-{
-    with_subcommand(command, file_command(alloc, name, about, file)?)
-}
-
-/// A command with one more subcommand. Neither passes an argument on to all of its subcommands.
-fn with_subcommand<'a>(
-    command: Command<'a>,
-    subcommand: Command<'a>,
-) -> Result<Command<'a>, AllocError>
-    requires command { (out-Command command).has_globals ≡ false }
-    requires subcommand { (out-Command subcommand).has_globals ≡ false }
     ensures shape { IfOk result
-        (λ c. app_of c ≡ with_subcommand (app_of command.entry) (app_of subcommand.entry).top) }
+        (λ c. app_of c ≡ fold with_command (app_of command.entry) (map command_in rows.now)) }
     ensures globals { IfOk result (λ c. (out-Command c).has_globals ≡ false) }
 {
-    command.subcommand(subcommand)
+    let mut command = command;
+    for row in rows {
+        command = command.subcommand(command_of(alloc, row)?)?;
+    }
+    Ok(command)
 }
 
-fn measure_command<'a>(alloc: Global) -> Result<Command<'a>, AllocError>
-    ensures shape { IfOk result (λ c. app_of c ≡ measure) }
+/// A subcommand as `clap` has it.
+fn command_of<'a>(alloc: Global, row: &Subcommand) -> Result<Command<'a>, AllocError>
+    ensures shape { IfOk result
+        (λ c. app_of c ≡ fold with_rule (new_app row.now.name.now) (command_in row.now).1) }
     ensures globals { IfOk result (λ c. (out-Command c).has_globals ≡ false) }
 {
-    let measure = Command::new(alloc, "measure")
-        .arg(operand_arg(alloc, "manifest", "MANIFEST", MANIFEST))?
-        .arg(workers_arg(alloc))?
-        .arg(flag_arg(
-            alloc,
-            "json",
-            "The report as one JSON object, and not as lines",
-        ))?;
-    Ok(
-        measure
-            .about("Prints the measurement of each launch of a manifest")
-            .after_help("`rim --help` says what a manifest is, and lists the exit statuses."),
-    )
+    let mut command = Command::new(alloc, row.name).about(row.about);
+    if let Some(text) = row.after_help {
+        command = command.after_help(text);
+    }
+    for argument in row.arguments {
+        command = command.arg(arg_of(alloc, argument))?;
+    }
+    Ok(command)
 }
 
-fn list_command<'a>(alloc: Global) -> Result<Command<'a>, AllocError>
-    ensures shape { IfOk result (λ c. app_of c ≡ list) }
-    ensures globals { IfOk result (λ c. (out-Command c).has_globals ≡ false) }
-{
-    let list = launch_command(alloc, "list")?;
-    Ok(list.about("Prints the monitor's commands that build the realm of a launch"))
-}
-
-fn trace_command<'a>(alloc: Global) -> Result<Command<'a>, AllocError>
-    ensures shape { IfOk result (λ c. app_of c ≡ trace) }
-    ensures globals { IfOk result (λ c. (out-Command c).has_globals ≡ false) }
-{
-    let trace = launch_command(alloc, "trace")?;
-    Ok(trace.about("Prints the measurement of a launch step by step"))
-}
-
-fn map_command<'a>(alloc: Global) -> Result<Command<'a>, AllocError>
-    ensures shape { IfOk result (λ c. app_of c ≡ launch_map) }
-    ensures globals { IfOk result (λ c. (out-Command c).has_globals ≡ false) }
-{
-    let map = launch_command(alloc, "map")?.arg(flag_arg(
-        alloc,
-        "json",
-        "The map as one JSON object, and not as lines",
-    ))?;
-    Ok(map.about("Prints where the items of a launch are, and what its measurement is made of"))
-}
-
-fn dtb_command<'a>(alloc: Global) -> Result<Command<'a>, AllocError>
-    ensures shape { IfOk result (λ c. app_of c ≡ dtb) }
-    ensures globals { IfOk result (λ c. (out-Command c).has_globals ≡ false) }
-{
-    let dtb = launch_command(alloc, "dtb")?;
-    Ok(dtb.about("Writes the devicetree of a launch, as it is placed and measured"))
-}
-
-/// A subcommand about one launch of a manifest.
-fn launch_command<'a>(alloc: Global, name: &'a str) -> Result<Command<'a>, AllocError>
-    ensures shape { IfOk result (λ c. app_of c ≡ with_launch name.entry.now) }
-    ensures globals { IfOk result (λ c. (out-Command c).has_globals ≡ false) }
-{
-    let launch = operand_arg(alloc, "launch", "LAUNCH", "The launch, by its name");
-    Command::new(alloc, name)
-        .arg(operand_arg(alloc, "manifest", "MANIFEST", MANIFEST))?
-        .arg(launch)
-}
-
-fn audit_command<'a>(alloc: Global) -> Result<Command<'a>, AllocError>
-    ensures shape { IfOk result (λ c. app_of c ≡ audit) }
-    ensures globals { IfOk result (λ c. (out-Command c).has_globals ≡ false) }
-{
-    let audit = Command::new(alloc, "audit").arg(operand_arg(
-        alloc, "manifest", "MANIFEST", MANIFEST,
-    ))?;
-    Ok(audit.about(
-        "Prints the measurement of each launch, as a monitor that takes its commands holds it",
-    ))
-}
-
-fn check_command<'a>(alloc: Global) -> Result<Command<'a>, AllocError>
-    ensures shape { IfOk result (λ c. app_of c ≡ check) }
-    ensures globals { IfOk result (λ c. (out-Command c).has_globals ≡ false) }
-{
-    let check = Command::new(alloc, "check")
-        .arg(operand_arg(alloc, "manifest", "MANIFEST", MANIFEST))?
-        .arg(flag_arg(alloc, "quiet", "No warnings: only what is wrong is printed"))?
-        .arg(flag_arg(
-            alloc,
-            "json",
-            "What is found as one JSON object, and not as lines",
-        ))?;
-    Ok(check.about(
-        "Prints what is wrong with a manifest and which launches are refused, each with its place",
-    ))
-}
-
-/// A subcommand about the file at a path.
-fn file_command<'a>(
-    alloc: Global,
-    name: &'a str,
-    about: &'a str,
-    file: &'a str,
-) -> Result<Command<'a>, AllocError>
-    ensures shape { IfOk result (λ c. app_of c ≡ with_operand name.entry.now (codes "file")) }
-    ensures globals { IfOk result (λ c. (out-Command c).has_globals ≡ false) }
-{
-    let command = Command::new(alloc, name).arg(operand_arg(alloc, "file", "FILE", file))?;
-    Ok(command.about(about))
-}
-
-/// An operand that has to be given, with the name that usage texts show.
-fn operand_arg<'a>(alloc: Global, id: &'a str, name: &'a str, help: &'a str) -> Arg<'a>
-    ensures rule { rule_of result ≡ operand_rule id.entry.now }
+/// An argument as `clap` has it.
+fn arg_of<'a>(alloc: Global, argument: &Argument) -> Arg<'a>
+    ensures rule { rule_of result ≡ rule_in argument.now }
     ensures local { result.global ≡ false }
 {
-    Arg::new(alloc, id)
-        .required(true)
-        .value_name(name)
-        .help(help)
-}
-
-fn workers_arg<'a>(alloc: Global) -> Arg<'a>
-    ensures rule { rule_of result ≡ workers_rule }
-    ensures local { result.global ≡ false }
-{
-    Arg::new(alloc, "workers")
-        .long("workers")
-        .value_name("N")
-        .value_parser(clap::value_parser!(u8).range(1..=WORKER_LIMIT as i64))
-        .help("Threads that hash pages and chain launches, 1 to 64; 4 where not given")
-}
-
-/// A flag, with the name that it is given by.
-fn flag_arg<'a>(alloc: Global, name: &'a str, help: &'a str) -> Arg<'a>
-    ensures rule { rule_of result ≡ flag_rule name.entry.now }
-    ensures local { result.global ≡ false }
-{
-    Arg::new(alloc, name)
-        .long(name)
-        .action(ArgAction::SetTrue)
-        .help(help)
+    match *argument {
+        Argument::Operand(id, name, help) => Arg::new(alloc, id)
+            .required(true)
+            .value_name(name)
+            .help(help),
+        Argument::Flag(name, help) => Arg::new(alloc, name)
+            .long(name)
+            .action(ArgAction::SetTrue)
+            .help(help),
+        Argument::Workers => Arg::new(alloc, "workers")
+            .long("workers")
+            .value_name("N")
+            .value_parser(clap::value_parser!(u8).range(1..=WORKER_LIMIT as i64))
+            .help("Threads that hash pages and chain launches, 1 to 64; 4 where not given"),
+    }
 }

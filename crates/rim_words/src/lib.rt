@@ -7,4 +7,4 @@ mod words;
 
 pub use definition::VERSION;
 pub use laws::examples_are_read;
-pub use words::{CommandFault, Format, Request, command};
+pub use words::{Ask, CommandFault, FileAsk, Format, LaunchAsk, ManifestAsk, Request, command};

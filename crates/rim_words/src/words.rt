@@ -3,7 +3,8 @@ ghost use Rattle.std.specs.Prelude.{◌≡◌, ◌≢◌, [], IfOk, IfErr, IfSom
 ghost use Rattle.clap.specs.Values.{IsSignedIn};
 ghost use Rattle.clap.specs.Words.{HasKind, Kinds, fault_of, first_of, found_of, kind_of, rows_of, subcommand_of, takes};
 ghost use Rattle.rim_words.specs.declared.words.CommandFault.TheVariants as fault;
-ghost use Rattle.rim_words.specs.Command.{CountsWorkers, HasCrew, IsEntered, IsRefusalOf, ReadsRequest, ReadsRow, format_of, is_set, rim};
+ghost use Rattle.rim_words.specs.Command.{CountsWorkers, HasCrew, IsRefusalOf, ReadsAsk, ReadsRequest, ReadsRow, format_of, is_set, rim, verb_of};
+ghost use Rattle.rim_words.specs.inside.Table.{IsEntered};
 ghost use Rattle.job_board.specs.declared.machine.TheConstants.{WORKER_LIMIT};
 
 use crate::definition::rim_command;
@@ -13,58 +14,57 @@ use std::alloc::{AllocError, Global};
 use std::convert::AsStr;
 use thiserror::Error;
 
-/// What the words ask for.
+/// What the words ask for: of the file at a path, this.
 #[derive(Clone, Copy, Debug)]
-pub enum Request<'a> {
-    /// The report of the launches of a manifest, at a path, made by 1 to 64 workers.
-    Measure {
-        manifest: &'a str,
-        workers: u8,
-        format: Format,
-    },
-    /// The listing of a launch of a manifest, at a path, by the launch's name.
-    List {
-        manifest: &'a str,
-        launch: &'a str,
-    },
-    /// The trace of a launch of a manifest, at a path, by the launch's name.
-    Trace {
-        manifest: &'a str,
-        launch: &'a str,
-    },
-    /// The map of a launch of a manifest, at a path, by the launch's name.
-    Map {
-        manifest: &'a str,
-        launch: &'a str,
-        format: Format,
-    },
-    /// The audit of the launches of a manifest, at a path.
-    Audit {
-        manifest: &'a str,
-    },
-    /// What is wrong with a manifest, at a path, and which of its launches are refused; and the warnings, unless it is quiet.
-    Check {
-        manifest: &'a str,
-        quiet: bool,
-        format: Format,
-    },
-    /// The devicetree of a launch of a manifest, at a path, by the launch's name: bytes, and no text.
-    Dtb {
-        manifest: &'a str,
-        launch: &'a str,
-    },
-    /// Whether the listing at a path is what it says.
-    Replay {
-        file: &'a str,
-    },
-    /// The header of the arm64 Image at a path.
-    Image {
-        file: &'a str,
-    },
-    /// The devicetree in the flattened file at a path.
-    Fdt {
-        file: &'a str,
-    },
+pub struct Request<'a> {
+    pub path: &'a str,
+    pub ask: Ask<'a>,
+}
+
+/// What is asked of a file.
+#[derive(Clone, Copy, Debug)]
+pub enum Ask<'a> {
+    /// Of a manifest.
+    Manifest(ManifestAsk),
+    /// Of a launch of a manifest, by the launch's name.
+    Launch { launch: &'a str, ask: LaunchAsk },
+    /// Of a file that is no manifest.
+    File(FileAsk),
+}
+
+/// What is asked of a manifest.
+#[derive(Clone, Copy, Debug)]
+pub enum ManifestAsk {
+    /// The report of its launches, made by 1 to 64 workers.
+    Measure { workers: u8, format: Format },
+    /// The audit of its launches.
+    Audit,
+    /// What is wrong with it, and which of its launches are refused; and the warnings, unless the check is quiet.
+    Check { quiet: bool, format: Format },
+}
+
+/// What is asked of a launch of a manifest.
+#[derive(Clone, Copy, Debug)]
+pub enum LaunchAsk {
+    /// Its listing.
+    List,
+    /// Its trace.
+    Trace,
+    /// Its map.
+    Map { format: Format },
+    /// Its devicetree: bytes, and no text.
+    Dtb,
+}
+
+/// What is asked of a file that is no manifest.
+#[derive(Clone, Copy, Debug)]
+pub enum FileAsk {
+    /// Whether the listing in it is what it says.
+    Replay,
+    /// The header of the arm64 Image in it.
+    Image,
+    /// The devicetree in it, which is flattened.
+    Fdt,
 }
 
 /// The format of a report, of a map or of what a check finds.
@@ -99,7 +99,7 @@ impl From<AllocError> for CommandFault {
 pub fn command<'a, S: AsStr>(alloc: Global, words: &'a [S]) -> Result<Request<'a>, CommandFault>
     // the subcommand, its operands, the workers and the format are those that the words have by `clap`'s definition
     ensures reads { IfOk result (ReadsRequest (subcommand_of rim (map S.text words.entry.now))) }
-    ensures crew { IfOk result HasCrew }
+    ensures crew { IfOk result (λ r. HasCrew r.ask) }
     ensures takes { takes rim (map S.text words.entry.now) ≡ true
         → IfErr result (λ e. e ≡ CommandFault.NoMemory) }
     ensures sound { IfOk result (λ _. fault_of rim (map S.text words.entry.now) ≡ []) }
@@ -121,46 +121,49 @@ fn request_of<'a>(name: &str, given: &ArgMatches<'a>) -> Request<'a>
     requires { IsEntered name.now (rows_of (found_of given.now)) }
     ensures { ReadsRow name.now (rows_of (found_of given.now)) result }
 {
+    Request {
+        path: operand(given, "path"),
+        ask: ask_of(name, given),
+    }
+}
+
+/// What a subcommand with its matches asks of its file.
+fn ask_of<'a>(name: &str, given: &ArgMatches<'a>) -> Ask<'a>
+    requires { IsEntered name.now (rows_of (found_of given.now)) }
+    ensures verb { name.now ≡ verb_of result }
+    ensures options { ReadsAsk (rows_of (found_of given.now)) result }
+{
     match name {
-        "measure" => Request::Measure {
-            manifest: operand(given, "manifest"),
+        "measure" => Ask::Manifest(ManifestAsk::Measure {
             workers: workers(given),
             format: report_format(given),
-        },
-        "list" => Request::List {
-            manifest: operand(given, "manifest"),
-            launch: operand(given, "launch"),
-        },
-        "trace" => Request::Trace {
-            manifest: operand(given, "manifest"),
-            launch: operand(given, "launch"),
-        },
-        "map" => Request::Map {
-            manifest: operand(given, "manifest"),
-            launch: operand(given, "launch"),
-            format: report_format(given),
-        },
-        "audit" => Request::Audit {
-            manifest: operand(given, "manifest"),
-        },
-        "check" => Request::Check {
-            manifest: operand(given, "manifest"),
+        }),
+        "audit" => Ask::Manifest(ManifestAsk::Audit),
+        "check" => Ask::Manifest(ManifestAsk::Check {
             quiet: flag(given, "quiet"),
             format: report_format(given),
-        },
-        "dtb" => Request::Dtb {
-            manifest: operand(given, "manifest"),
+        }),
+        "list" => Ask::Launch {
             launch: operand(given, "launch"),
+            ask: LaunchAsk::List,
         },
-        "replay" => Request::Replay {
-            file: operand(given, "file"),
+        "trace" => Ask::Launch {
+            launch: operand(given, "launch"),
+            ask: LaunchAsk::Trace,
         },
-        "image" => Request::Image {
-            file: operand(given, "file"),
+        "map" => Ask::Launch {
+            launch: operand(given, "launch"),
+            ask: LaunchAsk::Map {
+                format: report_format(given),
+            },
         },
-        "fdt" => Request::Fdt {
-            file: operand(given, "file"),
+        "dtb" => Ask::Launch {
+            launch: operand(given, "launch"),
+            ask: LaunchAsk::Dtb,
         },
+        "replay" => Ask::File(FileAsk::Replay),
+        "image" => Ask::File(FileAsk::Image),
+        "fdt" => Ask::File(FileAsk::Fdt),
         _ => unreachable!(),
     }
 }

@@ -4,7 +4,7 @@ use Rattle.rim_words.proofs.laws.examples_are_read.Goals as goal
 
 pub returns-clause-taken : goal.returns-clause-taken
 unfolding clap_on_literals
-returns-clause-taken c = (refl, refl, refl, refl, refl, refl, refl, refl, refl, refl, refl, refl, refl, refl, refl, refl, refl)
+returns-clause-taken c = (refl, refl)
 
 pub returns-clause-read : goal.returns-clause-read
 unfolding clap_on_literals
