@@ -1,25 +1,25 @@
 -- A run of `rim measure manifest.toml` over a manifest in memory makes the report of that manifest.
 use Rattle.std.proofs.Common.{◌≡◌, ℕ, zero, suc, ◌≤◌, Bool, true, List, [], ◌∷◌, Some, None, refl, ap, ◌∙◌, subst, sym, arith}
 use Rattle.std.specs.Prelude.{Result, Ok, Err, IsOkAnd, codes, if◌then◌else◌}
+use Rattle.std.specs.Option.{option_map_or}
 use Rattle.std.specs.Str.{bytes_eq}
 use Rattle.std.proofs.lemmas.Option.{same_Some}
 use Rattle.std.proofs.lemmas.Slice.Eq.{bytes_eq-Decides}
 use Rattle.clap.proofs.OnLiterals.{clap_on_literals}
-use Rattle.clap.specs.Words.{subcommand_of, takes}
+use Rattle.clap.specs.Words.{Row, Text, subcommand_of, takes}
 use Rattle.rim_manifest.specs.Launches.{ReleaseData}
 use Rattle.rim_manifest.specs.Manifest.{manifest_of}
 use Rattle.rim_manifest.specs.declared.fault.ManifestFault.{ManifestFault}
 use Rattle.rim_accepted.specs.Lines.{has_refused}
 use Rattle.rim_report.specs.Report.{measured_of}
-use Rattle.rim_words.specs.Command.{ReadsRequest, rim}
-use Rattle.rim_cli.specs.Done.{IsAnswer, IsMade, IsReport, path_of}
+use Rattle.rim_words.specs.Command.{ReadsAsk, rim}
+use Rattle.rim_cli.specs.Done.{AsksFor, IsAnswer, IsMade, IsReport}
 use Rattle.rim_words.specs.Examples.{plain}
 use Rattle.rim_cli.specs.Files.{AreRead, IfFile, Known}
 use Rattle.rim_words.specs.declared.words.Format.{Format}
 use Rattle.rim_words.specs.declared.words.Format.TheVariants as format
-use Rattle.rim_words.specs.declared.words.Request.{Request}
-use Rattle.rim_words.specs.declared.words.Request.TheVariants.{Measure, List as Lists, Trace, Map, Audit, Check, Dtb, Replay, Image, Fdt}
-use Rattle.rim_words.proofs.RequestsOfSubcommands.{apart}
+use Rattle.rim_words.specs.declared.words.Ask.{Ask}
+use Rattle.rim_words.proofs.RequestsOfSubcommands.{measure_asks}
 
 -- what is known where there is one manifest
 abbrev pub in_memory : List ℕ → List ℕ → Known
@@ -29,44 +29,19 @@ pub plain_taken : takes rim plain ≡ true
 unfolding clap_on_literals
 plain_taken = refl
 
--- the words ask for no other subcommand
-asked_path : (request : Request) → ReadsRequest (subcommand_of rim plain) request → path_of request ≡ codes "manifest.toml"
-unfolding clap_on_literals
-asked_path (Measure path workers format) asked = sym (same_Some _ _ asked.1)
-asked_path (Lists path launch) asked = absurd (apart (codes "measure") (codes "list") refl asked.0)
-asked_path (Trace path launch) asked = absurd (apart (codes "measure") (codes "trace") refl asked.0)
-asked_path (Map path launch format) asked = absurd (apart (codes "measure") (codes "map") refl asked.0)
-asked_path (Audit path) asked = absurd (apart (codes "measure") (codes "audit") refl asked.0)
-asked_path (Check path quiet format) asked = absurd (apart (codes "measure") (codes "check") refl asked.0)
-asked_path (Dtb path launch) asked = absurd (apart (codes "measure") (codes "dtb") refl asked.0)
-asked_path (Replay file) asked = absurd (apart (codes "measure") (codes "replay") refl asked.0)
-asked_path (Image file) asked = absurd (apart (codes "measure") (codes "image") refl asked.0)
-asked_path (Fdt file) asked = absurd (apart (codes "measure") (codes "fdt") refl asked.0)
-
--- what they ask for is a report
-asked_report : (held : List ℕ → Known) (request : Request) (bytes text : List ℕ) (status : ℕ) → ReadsRequest (subcommand_of rim plain) request
-    → IsAnswer held request bytes text status → IsOkAnd (manifest_of bytes) (λ r. IsReport format.Text held r text status)
-unfolding clap_on_literals
-asked_report held (Measure path workers format) bytes text status asked answer =
-    subst (λ (f : Format). IsOkAnd (manifest_of bytes) (λ r. IsReport f held r text status)) asked.3 answer
-asked_report held (Lists path launch) bytes text status asked answer = absurd (apart (codes "measure") (codes "list") refl asked.0)
-asked_report held (Trace path launch) bytes text status asked answer = absurd (apart (codes "measure") (codes "trace") refl asked.0)
-asked_report held (Map path launch format) bytes text status asked answer = absurd (apart (codes "measure") (codes "map") refl asked.0)
-asked_report held (Audit path) bytes text status asked answer = absurd (apart (codes "measure") (codes "audit") refl asked.0)
-asked_report held (Check path quiet format) bytes text status asked answer = absurd (apart (codes "measure") (codes "check") refl asked.0)
-asked_report held (Dtb path launch) bytes text status asked answer = absurd (apart (codes "measure") (codes "dtb") refl asked.0)
-asked_report held (Replay file) bytes text status asked answer = absurd (apart (codes "measure") (codes "replay") refl asked.0)
-asked_report held (Image file) bytes text status asked answer = absurd (apart (codes "measure") (codes "image") refl asked.0)
-asked_report held (Fdt file) bytes text status asked answer = absurd (apart (codes "measure") (codes "fdt") refl asked.0)
-
--- what was made is the report of the manifest
-pub made_report : (manifest text : List ℕ) (status : ℕ) → IsMade plain (in_memory manifest) text status
+-- what they ask for, if it was made, is the report of the manifest
+pub made_report : (manifest text : List ℕ) (status : ℕ) → AsksFor plain (λ request. IsMade request (in_memory manifest) text status)
     → IsOkAnd (manifest_of manifest) (λ r. IsReport format.Text (in_memory manifest) r text status)
+unfolding clap_on_literals
 made_report manifest text status made =
-    let here : in_memory manifest (path_of made.request) ≡ Some (Some manifest)
-    = ap (in_memory manifest) (asked_path made.request made.asked) ∙ ap (λ (b : Bool). Some (if b then Some manifest else None)) ((bytes_eq-Decides (codes "manifest.toml") (codes "manifest.toml")).1 refl) in
-    let answer = subst (λ (known : Known). IfFile known (λ bytes. IsAnswer (in_memory manifest) made.request bytes text status)) here made.answer in
-    asked_report (in_memory manifest) made.request manifest text status made.asked answer
+    let here : in_memory manifest made.request.path.now ≡ Some (Some manifest)
+    = ap (in_memory manifest) (sym (same_Some _ _ made.asked.1)) ∙ ap (λ (b : Bool). Some (if b then Some manifest else None)) ((bytes_eq-Decides (codes "manifest.toml") (codes "manifest.toml")).1 refl) in
+    let answer = subst (λ (known : Known). IfFile known (λ bytes. IsAnswer (in_memory manifest) made.request.ask made.request.path.now bytes text status)) here made.holds in
+    let measure = measure_asks made.request.ask made.asked.0 in
+    let rows : List Row = option_map_or (λ (p : Text × List Row). p.1) (subcommand_of rim plain) [] in
+    let options = subst (λ (asked : Ask). ReadsAsk rows asked) measure.2 made.asked.2 in
+    let report = subst (λ (asked : Ask). IsAnswer (in_memory manifest) asked made.request.path.now manifest text status) measure.2 answer in
+    subst (λ (f : Format). IsOkAnd (manifest_of manifest) (λ r. IsReport f (in_memory manifest) r text status)) options.1 report
 
 -- the report of a release without files
 no_files : (held : List ℕ → Known) (files : List (List ℕ)) → AreRead held [] files → files ≡ []
@@ -74,7 +49,7 @@ no_files held [] read = refl
 no_files held (f ∷ fs) read = absurd read
 
 module _ (manifest : List ℕ) (r : ReleaseData) (reads : manifest_of manifest ≡ Ok r) (none : r.paths ≡ []) (text : List ℕ) (status : ℕ)
-    (made : IsMade plain (in_memory manifest) text status) where
+    (made : AsksFor plain (λ request. IsMade request (in_memory manifest) text status)) where
   own_report : IsReport format.Text (in_memory manifest) r text status
   own_report = subst (λ (m : Result ReleaseData ManifestFault). IsOkAnd m (λ r. IsReport format.Text (in_memory manifest) r text status)) reads (made_report manifest text status made)
 
@@ -88,7 +63,7 @@ module _ (manifest : List ℕ) (r : ReleaseData) (reads : manifest_of manifest �
   own_status = own_report.status ∙ ap (λ (files : List (List ℕ)). if has_refused files r.launches then 1 else 0) own_files
 
 -- nothing is made of a manifest with a fault
-pub none_made : (manifest : List ℕ) (f : ManifestFault) (text : List ℕ) (status : ℕ) → manifest_of manifest ≡ Err f → IsMade plain (in_memory manifest) text status → ⊥
+pub none_made : (manifest : List ℕ) (f : ManifestFault) (text : List ℕ) (status : ℕ) → manifest_of manifest ≡ Err f → AsksFor plain (λ request. IsMade request (in_memory manifest) text status) → ⊥
 none_made manifest f text status refuses made =
     subst (λ (m : Result ReleaseData ManifestFault). IsOkAnd m (λ r. IsReport format.Text (in_memory manifest) r text status)) refuses (made_report manifest text status made)
 

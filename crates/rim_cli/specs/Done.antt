@@ -29,7 +29,11 @@ use Rattle.rim_words.specs.declared.definition.TheConstants.{VERSION}
 use Rattle.rim_words.specs.declared.words.Format.{Format}
 use Rattle.rim_words.specs.declared.words.Format.TheVariants as format
 use Rattle.rim_words.specs.declared.words.Request.{Request}
-use Rattle.rim_words.specs.declared.words.Request.TheVariants.{Measure, List as Lists, Trace, Map, Audit, Check, Dtb, Replay, Image, Fdt}
+use Rattle.rim_words.specs.declared.words.Ask.{Ask}
+use Rattle.rim_words.specs.declared.words.Ask.TheVariants as ask
+use Rattle.rim_words.specs.declared.words.ManifestAsk.TheVariants.{Measure, Audit, Check}
+use Rattle.rim_words.specs.declared.words.LaunchAsk.TheVariants.{List as Lists, Trace, Map, Dtb}
+use Rattle.rim_words.specs.declared.words.FileAsk.TheVariants.{Replay, Image, Fdt}
 use Rattle.rim_cli.specs.declared.fault.Fault.{Fault}
 use Rattle.rim_cli.specs.declared.fault.Fault.TheVariants.{Manifest, NoSuchLaunch, Start, Refused, NoDevicetree, Show}
 use Rattle.rim_words.specs.Command.{ReadsRequest, rim}
@@ -38,19 +42,6 @@ use Rattle.rim_cli.specs.Unread.{AreUnread}
 use Rattle.rim_cli.specs.Mapped.{IsMapOf}
 use Rattle.rim_cli.specs.Replayed.{IsReplayed}
 use Rattle.rim_cli.specs.Status.{status_of}
-
--- the path of the file that a request is about
-abbrev pub path_of : Request → List ℕ
-path_of (Measure path workers format) = path.now
-path_of (Lists path launch) = path.now
-path_of (Trace path launch) = path.now
-path_of (Map path launch format) = path.now
-path_of (Audit path) = path.now
-path_of (Check path quiet format) = path.now
-path_of (Dtb path launch) = path.now
-path_of (Replay file) = file.now
-path_of (Image file) = file.now
-path_of (Fdt file) = file.now
 
 -- ---- what is answered
 
@@ -166,18 +157,18 @@ IsMapped held format r name text status = OfLaunch held r name (λ l files. IsMa
 abbrev pub IsDevicetree : (List ℕ → Known) → ReleaseData → List ℕ → List ℕ → ℕ → Type 0
 IsDevicetree held r name bytes status = OfLaunch held r name (λ l files. (devicetree_of l.launch files ≡ Ok (Some bytes)) × (status ≡ 0))
 
--- the text that a request asks for and its status, where its file has these bytes
-abbrev pub IsAnswer : (List ℕ → Known) → Request → List ℕ → List ℕ → ℕ → Type 0
-IsAnswer held (Measure path workers format) bytes text status = IsOkAnd (manifest_of bytes) (λ r. IsReport format held r text status)
-IsAnswer held (Lists path launch) bytes text status = IsOkAnd (manifest_of bytes) (λ r. IsListing held r launch.now text status)
-IsAnswer held (Trace path launch) bytes text status = IsOkAnd (manifest_of bytes) (λ r. IsTrace held r launch.now text status)
-IsAnswer held (Map path launch format) bytes text status = IsOkAnd (manifest_of bytes) (λ r. IsMapped held format r launch.now text status)
-IsAnswer held (Audit path) bytes text status = IsOkAnd (manifest_of bytes) (λ r. IsAudit held r text status)
-IsAnswer held (Check path quiet format) bytes text status = IsCheckIn format held quiet path.now bytes text status
-IsAnswer held (Dtb path launch) bytes text status = IsOkAnd (manifest_of bytes) (λ r. IsDevicetree held r launch.now text status)
-IsAnswer held (Replay file) bytes text status = IsReplayed bytes text status
-IsAnswer held (Image file) bytes text status = (image_answer_of bytes ≡ Ok text) × (status ≡ 0)
-IsAnswer held (Fdt file) bytes text status = ShowsDevicetree bytes text × (status ≡ 0)
+-- the text that is asked of the file at a path and its status, where the file has these bytes
+abbrev pub IsAnswer : (List ℕ → Known) → Ask → List ℕ → List ℕ → List ℕ → ℕ → Type 0
+IsAnswer held (ask.Manifest (Measure workers format)) path bytes text status = IsOkAnd (manifest_of bytes) (λ r. IsReport format held r text status)
+IsAnswer held (ask.Manifest Audit) path bytes text status = IsOkAnd (manifest_of bytes) (λ r. IsAudit held r text status)
+IsAnswer held (ask.Manifest (Check quiet format)) path bytes text status = IsCheckIn format held quiet path bytes text status
+IsAnswer held (ask.Launch name Lists) path bytes text status = IsOkAnd (manifest_of bytes) (λ r. IsListing held r name.now text status)
+IsAnswer held (ask.Launch name Trace) path bytes text status = IsOkAnd (manifest_of bytes) (λ r. IsTrace held r name.now text status)
+IsAnswer held (ask.Launch name (Map format)) path bytes text status = IsOkAnd (manifest_of bytes) (λ r. IsMapped held format r name.now text status)
+IsAnswer held (ask.Launch name Dtb) path bytes text status = IsOkAnd (manifest_of bytes) (λ r. IsDevicetree held r name.now text status)
+IsAnswer held (ask.File Replay) path bytes text status = IsReplayed bytes text status
+IsAnswer held (ask.File Image) path bytes text status = (image_answer_of bytes ≡ Ok text) × (status ≡ 0)
+IsAnswer held (ask.File Fdt) path bytes text status = ShowsDevicetree bytes text × (status ≡ 0)
 
 -- ---- why a request is refused
 
@@ -230,43 +221,48 @@ abbrev pub RefusesFdt : Known → Fault → Type 0
 RefusesFdt known (Show fault) = IfFile known (λ bytes. IsDevicetreeFault bytes fault)
 RefusesFdt known fault = IsFileFault known fault
 
--- a request is refused with a fault that holds
-abbrev pub Refuses : (List ℕ → Known) → Request → Fault → Type 0
-Refuses held (Measure path workers format) fault = RefusesManifest (RefusesReport held) (held path.now) fault
-Refuses held (Lists path launch) fault = RefusesManifest (RefusesListing held launch.now) (held path.now) fault
-Refuses held (Trace path launch) fault = RefusesManifest (RefusesListing held launch.now) (held path.now) fault
-Refuses held (Map path launch format) fault = RefusesManifest (RefusesListing held launch.now) (held path.now) fault
-Refuses held (Audit path) fault = RefusesManifest (RefusesAudit held) (held path.now) fault
-Refuses held (Check path quiet format) fault = IsFileFault (held path.now) fault
-Refuses held (Dtb path launch) fault = RefusesManifest (RefusesDtb held launch.now) (held path.now) fault
-Refuses held (Replay file) fault = IsFileFault (held file.now) fault
-Refuses held (Image file) fault = RefusesImage (held file.now) fault
-Refuses held (Fdt file) fault = RefusesFdt (held file.now) fault
+-- what is asked of a file is refused with a fault that holds, where of the file this is known
+abbrev pub Refuses : (List ℕ → Known) → Ask → Known → Fault → Type 0
+Refuses held (ask.Manifest (Measure workers format)) known fault = RefusesManifest (RefusesReport held) known fault
+Refuses held (ask.Manifest Audit) known fault = RefusesManifest (RefusesAudit held) known fault
+Refuses held (ask.Manifest (Check quiet format)) known fault = IsFileFault known fault
+Refuses held (ask.Launch name Dtb) known fault = RefusesManifest (RefusesDtb held name.now) known fault
+Refuses held (ask.Launch name _) known fault = RefusesManifest (RefusesListing held name.now) known fault
+Refuses held (ask.File Replay) known fault = IsFileFault known fault
+Refuses held (ask.File Image) known fault = RefusesImage known fault
+Refuses held (ask.File Fdt) known fault = RefusesFdt known fault
 
 -- ---- how a run ends
 
--- what the words ask for was made: its text and its status, by what is known of its file
-pub record IsMade (words : List Text) (held : List ℕ → Known) (text : List ℕ) (status : ℕ) : Type 0 where
+-- the words ask for something of which this holds
+pub record AsksFor (words : List Text) (Holds : Request → Type 0) : Type 0 where
   pub request : Request
   pub asked : ReadsRequest (subcommand_of rim words) request
-  pub answer : IfFile (held (path_of request)) (λ bytes. IsAnswer held request bytes text status)
+  pub holds : Holds request
 
--- what the words ask for is done: its text was added to what the output held, and the status is its own
-pub record IsDone (words : List Text) (held : List ℕ → Known) (before after : Option (List ℕ)) (status : ℕ) : Type 0 where
+-- what a request asks for was made: its text and its status, by what is known of its file
+abbrev pub IsMade : Request → (List ℕ → Known) → List ℕ → ℕ → Type 0
+IsMade request held text status = IfFile (held request.path.now) (λ bytes. IsAnswer held request.ask request.path.now bytes text status)
+
+-- it is done: its text was added to what the output held, and the status is its own
+pub record IsDone (request : Request) (held : List ℕ → Known) (before after : Option (List ℕ)) (status : ℕ) : Type 0 where
   pub text : List ℕ
-  pub made : IsMade words held text status
+  pub made : IsMade request held text status
   pub written : Appends before after text
 
--- what the words ask for is refused with a fault that holds, and the status is that fault's
-pub record IsRefused (words : List Text) (held : List ℕ → Known) (answer : ℕ) : Type 0 where
-  pub request : Request
+-- it is refused with a fault that holds, and the status is that fault's
+pub record IsRefused (request : Request) (held : List ℕ → Known) (answer : ℕ) : Type 0 where
   pub fault : Fault
-  pub asked : ReadsRequest (subcommand_of rim words) request
-  pub refused : Refuses held request fault
+  pub refused : Refuses held request.ask (held request.path.now) fault
   pub status : answer ≡ status_of fault
 
--- what the words ask for was made, with the status 0 or 1, or 3 of a check, but could not be written
-pub record IsUnwritten (words : List Text) (held : List ℕ → Known) : Type 0 where
+-- it was made, with the status 0 or 1, or 3 of a check, but could not be written
+pub record IsUnwritten (request : Request) (held : List ℕ → Known) : Type 0 where
   pub text : List ℕ
   pub status : ℕ
-  pub made : IsMade words held text status
+  pub made : IsMade request held text status
+
+-- it ends with 3: it is refused, and the output is as it was, or could not be written, or is done
+abbrev pub EndsWithFault : Request → (List ℕ → Known) → Type 0 → Option (List ℕ) → Option (List ℕ) → ℕ → Type 0
+EndsWithFault request held Same before after status =
+    (IsRefused request held status × Same) ⊎ (IsUnwritten request held ⊎ IsDone request held before after status)

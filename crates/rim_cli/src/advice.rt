@@ -6,24 +6,15 @@ use refusal::NoMemory;
 use rim_check::{MarkedLine, Nearest, mark_first};
 use rim_line::{Line, Quoted};
 use rim_release::{Release, read_manifest};
-use rim_words::{Format, Request, command};
+use rim_words::{Ask, Format, ManifestAsk, Request};
 use std::alloc::Global;
-use std::convert::AsStr;
 use std::fmt::Write as _;
 use std::io::Write;
 
-/// Writes what helps after a run of these words that ended with status 3. The files are read again, and nothing is written where none
-/// of them is at fault.
-pub fn advise<S: AsStr, O: Opener, E: Write>(
-    alloc: Global,
-    words: &[S],
-    opener: &mut O,
-    err: &mut E,
-) {
-    let Ok(request) = command(alloc, words) else {
-        return;
-    };
-    let Ok(advice) = advice(alloc, opener, &request) else {
+/// Writes what helps after a run for this request that ended with status 3. The files are read again, and nothing is written where
+/// none of them is at fault.
+pub fn advise<O: Opener, E: Write>(alloc: Global, request: &Request, opener: &mut O, err: &mut E) {
+    let Ok(advice) = advice(alloc, opener, request) else {
         return;
     };
     for line in [&advice.text, &advice.mark] {
@@ -39,10 +30,10 @@ pub fn advise<S: AsStr, O: Opener, E: Write>(
 fn advice<O: Opener>(
     alloc: Global,
     opener: &mut O,
-    request: &Request<'_>,
+    request: &Request,
 ) -> Result<MarkedLine, NoMemory> {
-    match *request {
-        Request::Check { manifest, .. } => check_advice(alloc, opener, manifest),
+    match request.ask {
+        Ask::Manifest(ManifestAsk::Check { .. }) => check_advice(alloc, opener, request.path),
         _ => Ok(MarkedLine {
             text: advice_line(alloc, opener, request)?,
             mark: Line::new(alloc),
@@ -75,29 +66,16 @@ fn check_advice<O: Opener>(
 fn advice_line<O: Opener>(
     alloc: Global,
     opener: &mut O,
-    request: &Request<'_>,
+    request: &Request,
 ) -> Result<Line, NoMemory> {
-    match *request {
-        Request::Replay { file }
-        | Request::Image { file }
-        | Request::Fdt { file }
-        | Request::Check { manifest: file, .. } => match read_or_why(alloc, opener, file) {
+    let path = request.path;
+    match request.ask {
+        Ask::Manifest(_) => manifest_advice(alloc, opener, path, None),
+        Ask::Launch { launch, .. } => manifest_advice(alloc, opener, path, Some(launch)),
+        Ask::File(_) => match read_or_why(alloc, opener, path) {
             Ok(_) => Ok(Line::new(alloc)),
-            Err(why) => file_advice(alloc, file, why),
+            Err(why) => file_advice(alloc, path, why),
         },
-        Request::Measure { manifest, .. } | Request::Audit { manifest } => {
-            manifest_advice(alloc, opener, manifest, None)
-        }
-        Request::List { manifest, launch }
-        | Request::Trace { manifest, launch }
-        | Request::Map {
-            manifest,
-            launch,
-            ..
-        }
-        | Request::Dtb { manifest, launch } => {
-            manifest_advice(alloc, opener, manifest, Some(launch))
-        }
     }
 }
 

@@ -6,7 +6,7 @@ ghost use Rattle.rim_words.specs.Command.{HasCrew, IsCrew};
 ghost use Rattle.rim_manifest.specs.Manifest.{manifest_of};
 ghost use Rattle.rim_show.specs.ShownDevicetree.{ShowsDevicetree};
 ghost use Rattle.rim_show.specs.ShownImage.{image_answer_of};
-ghost use Rattle.rim_cli.specs.Done.{IsAnswer, IsAudit, IsDevicetree, IsListing, IsManifestFault, IsReport, IsReportOf, IsTrace, Refuses, RefusesAudit, RefusesDtb, RefusesFdt, RefusesImage, RefusesListing, RefusesManifest, RefusesReport, path_of};
+ghost use Rattle.rim_cli.specs.Done.{IsAnswer, IsAudit, IsDevicetree, IsListing, IsManifestFault, IsReport, IsReportOf, IsTrace, Refuses, RefusesAudit, RefusesDtb, RefusesFdt, RefusesImage, RefusesListing, RefusesManifest, RefusesReport};
 ghost use Rattle.rim_cli.specs.Files.{AreRead, IfFile};
 
 use crate::checking::check;
@@ -21,7 +21,7 @@ use rim_release::{
     json_report, listing_or_refusal, measure_release, placed_devicetree, show_fdt, show_image,
     trace_or_refusal,
 };
-use rim_words::{Format, Request, VERSION};
+use rim_words::{Ask, FileAsk, Format, LaunchAsk, ManifestAsk, Request, VERSION};
 use std::alloc::Global;
 use std::sync::Wait;
 use std::thread::Threads;
@@ -43,37 +43,92 @@ pub fn answer_to<R: Threads + Wait + Sync, G: Gate + Sync, O: Opener>(
     request: Request,
     opener: &mut O,
 ) -> Result<Answer, Fault>
-    requires { HasCrew request }
-    ensures answered { IfOk result (λ a. IfFile (O.held opener.old (path_of request.entry))
-        (λ bytes. IsAnswer (O.held opener.old) request.entry bytes a.text.items a.status)) }
-    ensures refused { IfErr result (Refuses (O.held opener.old) request.entry) }
+    requires { HasCrew request.ask }
+    ensures answered { IfOk result (λ a. IfFile (O.held opener.old request.entry.path.now)
+        (λ bytes. IsAnswer (O.held opener.old) request.entry.ask request.entry.path.now bytes
+        a.text.items a.status)) }
+    ensures refused { IfErr result (Refuses (O.held opener.old) request.entry.ask
+        (O.held opener.old request.entry.path.now)) }
     ensures status { IfOk result (λ a. (a.status ≤ 1) ⊎ (a.status ≡ 3)) }
 {
-    match request {
-        Request::Measure {
-            manifest,
-            workers,
-            format,
-        } => measure(rt, alloc, gate, opener, manifest, workers, format),
-        Request::List { manifest, launch } => list(alloc, gate.lanes(), opener, manifest, launch),
-        Request::Trace { manifest, launch } => {
-            trace(alloc, gate.lanes(), opener, manifest, launch)
+    let path = request.path;
+    match request.ask {
+        Ask::Manifest(ask) => manifest_answer(rt, alloc, gate, opener, path, ask),
+        Ask::Launch { launch, ask } => {
+            launch_answer(alloc, gate.lanes(), opener, path, launch, ask)
         }
-        Request::Map {
-            manifest,
-            launch,
-            format,
-        } => map(alloc, opener, manifest, launch, format),
-        Request::Audit { manifest } => audit(alloc, gate, opener, manifest),
-        Request::Check {
-            manifest,
-            quiet,
-            format,
-        } => check(alloc, opener, manifest, quiet, format),
-        Request::Dtb { manifest, launch } => dtb(alloc, opener, manifest, launch),
-        Request::Replay { file } => replay(alloc, opener, file),
-        Request::Image { file } => image(alloc, opener, file),
-        Request::Fdt { file } => fdt(alloc, opener, file),
+        Ask::File(ask) => file_answer(alloc, opener, path, ask),
+    }
+}
+
+/// The answer to what is asked of a manifest.
+fn manifest_answer<R: Threads + Wait + Sync, G: Gate + Sync, O: Opener>(
+    rt: &R,
+    alloc: Global,
+    gate: &mut G,
+    opener: &mut O,
+    path: &str,
+    ask: ManifestAsk,
+) -> Result<Answer, Fault>
+    requires { HasCrew (Ask.Manifest ask) }
+    ensures answered { IfOk result (λ a. IfFile (O.held opener.old path.now)
+        (λ bytes. IsAnswer (O.held opener.old) (Ask.Manifest ask) path.now bytes
+        a.text.items a.status)) }
+    ensures refused { IfErr result
+        (Refuses (O.held opener.old) (Ask.Manifest ask) (O.held opener.old path.now)) }
+    ensures status { IfOk result (λ a. (a.status ≤ 1) ⊎ (a.status ≡ 3)) }
+{
+    match ask {
+        ManifestAsk::Measure { workers, format } => {
+            measure(rt, alloc, gate, opener, path, workers, format)
+        }
+        ManifestAsk::Audit => audit(alloc, gate, opener, path),
+        ManifestAsk::Check { quiet, format } => check(alloc, opener, path, quiet, format),
+    }
+}
+
+/// The answer to what is asked of a launch of a manifest.
+fn launch_answer<O: Opener>(
+    alloc: Global,
+    lanes: Lanes,
+    opener: &mut O,
+    path: &str,
+    launch: &str,
+    ask: LaunchAsk,
+) -> Result<Answer, Fault>
+    ensures answered { IfOk result (λ a. IfFile (O.held opener.old path.now)
+        (λ bytes. IsAnswer (O.held opener.old) (Ask.Launch launch.entry ask) path.now bytes
+        a.text.items a.status)) }
+    ensures refused { IfErr result (Refuses (O.held opener.old) (Ask.Launch launch.entry ask)
+        (O.held opener.old path.now)) }
+    ensures status { IfOk result (λ a. a.status ≤ 1) }
+{
+    match ask {
+        LaunchAsk::List => list(alloc, lanes, opener, path, launch),
+        LaunchAsk::Trace => trace(alloc, lanes, opener, path, launch),
+        LaunchAsk::Map { format } => map(alloc, opener, path, launch, format),
+        LaunchAsk::Dtb => dtb(alloc, opener, path, launch),
+    }
+}
+
+/// The answer to what is asked of a file that is no manifest.
+fn file_answer<O: Opener>(
+    alloc: Global,
+    opener: &mut O,
+    path: &str,
+    ask: FileAsk,
+) -> Result<Answer, Fault>
+    ensures answered { IfOk result (λ a. IfFile (O.held opener.old path.now)
+        (λ bytes. IsAnswer (O.held opener.old) (Ask.File ask) path.now bytes
+        a.text.items a.status)) }
+    ensures refused { IfErr result
+        (Refuses (O.held opener.old) (Ask.File ask) (O.held opener.old path.now)) }
+    ensures status { IfOk result (λ a. a.status ≤ 1) }
+{
+    match ask {
+        FileAsk::Replay => replay(alloc, opener, path),
+        FileAsk::Image => image(alloc, opener, path),
+        FileAsk::Fdt => fdt(alloc, opener, path),
     }
 }
 

@@ -8,7 +8,7 @@ ghost use Rattle.rim_accepted.specs.Lines.{has_refused};
 ghost use Rattle.rim_report.specs.Report.{measured_of};
 
 use crate::file::Opener;
-use crate::program::run;
+use crate::program::{Terminals, run};
 use rim_release::FreeGate;
 use std::alloc::Global;
 use std::sync::Wait;
@@ -54,6 +54,19 @@ pub fn measure_in_memory<R: Threads + Wait + Sync>(
         → (3 ≤ result) × (out.new.items ≡ out.old.items) }
 {
     let words = ["rim", "measure", "manifest.toml"];
+    let terminals = Terminals {
+        out: false,
+        err: false,
+    };
     let opener = &mut InMemory { manifest };
-    run(rt, alloc, &mut FreeGate, &words, opener, out, err)
+    run(
+        rt,
+        alloc,
+        &mut FreeGate,
+        &words,
+        terminals,
+        opener,
+        out,
+        err,
+    )
 }

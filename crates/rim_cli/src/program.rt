@@ -1,19 +1,21 @@
 //! A run of the program, over any files and streams.
-ghost use Rattle.std.specs.Prelude.{◌≡◌, ◌≢◌, ◌≤◌, ◌⊎◌, IfOk, OnOk, map, false, true};
+ghost use Rattle.std.specs.Prelude.{◌≡◌, ◌≢◌, ◌≤◌, ◌⊎◌, OnOk, codes, map, false, true};
 ghost use Rattle.std.specs.Io.KnownBytes.{Appends};
+ghost use Rattle.std.specs.Str.{bytes_eq};
 ghost use Rattle.clap.specs.Words.{kind_of, takes};
-ghost use Rattle.rim_words.specs.Command.{AsksForBytes, AsksForHelp, IsMistaken, is_asked, is_for_bytes, rim};
-ghost use Rattle.rim_cli.specs.Done.{IsDone, IsRefused, IsUnwritten};
+ghost use Rattle.rim_words.specs.Command.{AsksForBytes, AsksForHelp, HasCrew, IsMistaken, is_asked, rim, verb_of};
+ghost use Rattle.rim_cli.specs.Done.{AsksFor, EndsWithFault, IsDone};
 ghost use Rattle.std.specs.IoError.{error_kind};
 ghost use Rattle.rim_cli.specs.Status.{status_of, unreadable_status};
 
+use crate::advice::advise;
 use crate::answer::answer_to;
 use crate::fault::Fault;
 use crate::file::Opener;
 use clap::error::ErrorKind as UsageKind;
 use rim_line::Line;
 use rim_release::Gate;
-use rim_words::{CommandFault, Request, command};
+use rim_words::{Ask, CommandFault, LaunchAsk, Request, command};
 use std::alloc::{AllocError, Global};
 use std::convert::AsStr;
 use std::io;
@@ -21,39 +23,52 @@ use std::io::{ErrorKind, Write};
 use std::sync::Wait;
 use std::thread::Threads;
 
+/// Which streams of a run are terminals.
+#[derive(Clone, Copy, Debug)]
+pub struct Terminals {
+    pub out: bool,
+    pub err: bool,
+}
+
+/// The status of a run that ends with a fault of the manifest, a file or the output.
+const FAULT: u8 = 3;
+
 /// Runs the program on the words of a command line, of which the first is the program's name.
 ///
 /// `gate` is called around the jobs of `rim measure` and the launches of `rim audit`. Files are opened by `opener`, output goes
-/// to `out`, usage texts and the one line of a fault go to `err`. The answer is the exit status: 0 done, 1 some launch is
-/// refused or a listing is not what it says, 2 usage, 3 a fault of the manifest, a file or the output, 4 want of memory. Output
-/// is made whole before any of it is written.
+/// to `out`, usage texts and the one line of a fault go to `err`, and where that is a terminal one more line says where to look. The
+/// answer is the exit status: 0 done, 1 some launch is refused or a listing is not what it says, 2 usage, 3 a fault of the manifest, a
+/// file or the output, 4 want of memory. Output is made whole before any of it is written.
 ///
 /// Where the words are taken, 0 and 1 say that the text that they ask for was added to `out`: 1 exactly where that
 /// text says that a launch is refused, or `no` of a listing that was replayed. 3 says that the request is refused with a
 /// fault that holds, and `out` is as it was; or that the text was made and could not be written; or that it was added to
-/// `out`, and is that of a check which found the manifest or a file of it at fault, or too many pages. 2 is not answered. After 2 and 4 `out`
+/// `out`, and is that of a check which found the manifest or a file of it at fault, or too many pages; or that `out` is a terminal, and is
+/// to be bytes that are no text. Such bytes are never written to a terminal. 2 is not answered. After 2 and 4 `out`
 /// is as it was. No clause says what is on `err`, since writing there may fail and changes no status.
 pub fn run<R: Threads + Wait + Sync, G: Gate + Sync, S: AsStr, O: Opener, W: Write, E: Write>(
     rt: &R,
     alloc: Global,
     gate: &mut G,
     words: &[S],
+    terminals: Terminals,
     opener: &mut O,
     out: &mut W,
     err: &mut E,
 ) -> u8
     ensures known { result ≤ 4 }
     ensures done { takes rim (map S.text words.now) ≡ true → result ≤ 1
-        → IsDone (map S.text words.now) (O.held opener.old) (W.contents out.old)
-        (W.contents out.new) result }
+        → AsksFor (map S.text words.now) (λ request. IsDone request (O.held opener.old)
+        (W.contents out.old) (W.contents out.new) result) }
     ensures usage { takes rim (map S.text words.now) ≡ true → result ≢ 2 }
     ensures mistaken { IsMistaken (map S.text words.now) → (result ≡ 2) ⊎ (result ≡ 4) }
     ensures helps { AsksForHelp (map S.text words.now) → result ≢ 2 }
     ensures refused { takes rim (map S.text words.now) ≡ true → result ≡ 3
-        → (IsRefused (map S.text words.now) (O.held opener.old) result × (out.new ≡ out.old))
-        ⊎ (IsUnwritten (map S.text words.now) (O.held opener.old)
-        ⊎ IsDone (map S.text words.now) (O.held opener.old) (W.contents out.old)
-        (W.contents out.new) result) }
+        → AsksFor (map S.text words.now) (λ request. EndsWithFault request (O.held opener.old)
+        (out.new ≡ out.old) (W.contents out.old) (W.contents out.new) result)
+        ⊎ ((terminals.out ≡ true) × (AsksForBytes (map S.text words.now) × (out.new ≡ out.old))) }
+    ensures terminal { takes rim (map S.text words.now) ≡ true → terminals.out ≡ true
+        → AsksForBytes (map S.text words.now) → (3 ≤ result) × (out.new ≡ out.old) }
     ensures kept { (result ≡ 2) ⊎ (result ≡ 4) → out.new ≡ out.old }
 {
     let request = match command(alloc, words) {
@@ -67,6 +82,34 @@ pub fn run<R: Threads + Wait + Sync, G: Gate + Sync, S: AsStr, O: Opener, W: Wri
             return status;
         }
     };
+    if terminals.out && is_for_bytes(&request.ask) {
+        return report_fault(Fault::OutputIsTerminal, err);
+    }
+    let status = run_request(rt, alloc, gate, request, opener, out, err);
+    if terminals.err && status == FAULT {
+        advise(alloc, &request, opener, err);
+    }
+    status
+}
+
+/// Answers a request, and writes the text or the line of a fault.
+fn run_request<R: Threads + Wait + Sync, G: Gate + Sync, O: Opener, W: Write, E: Write>(
+    rt: &R,
+    alloc: Global,
+    gate: &mut G,
+    request: Request,
+    opener: &mut O,
+    out: &mut W,
+    err: &mut E,
+) -> u8
+    requires { HasCrew request.ask }
+    ensures known { (result ≤ 1) ⊎ ((3 ≤ result) × (result ≤ 4)) }
+    ensures done { result ≤ 1 → IsDone request.entry (O.held opener.old) (W.contents out.old)
+        (W.contents out.new) result }
+    ensures refused { result ≡ 3 → EndsWithFault request.entry (O.held opener.old)
+        (out.new ≡ out.old) (W.contents out.old) (W.contents out.new) result }
+    ensures kept { result ≡ 4 → out.new ≡ out.old }
+{
     match answer_to(rt, alloc, gate, request, opener) {
         Ok(answer) => finish(answer.text.as_slice(), answer.status, out, err),
         Err(fault) => report_fault(fault, err),
@@ -198,32 +241,17 @@ fn report_fault<E: Write>(fault: Fault, err: &mut E) -> u8
     fault.status()
 }
 
-/// Whether the words ask for bytes that are no text, which are not for a terminal: those of a devicetree. Words that are no
-/// command line ask for none.
-pub fn asks_for_bytes<S: AsStr>(alloc: Global, words: &[S]) -> Result<bool, AllocError>
-    ensures asked { IfOk result (λ b. b ≡ true → AsksForBytes (map S.text words.now)) }
-    ensures other { IfOk result (λ b. b ≡ false → takes rim (map S.text words.now) ≡ true
-        → ¬ AsksForBytes (map S.text words.now)) }
+/// Whether bytes are asked for that are no text, which are not for a terminal: those of a devicetree.
+fn is_for_bytes(ask: &Ask) -> bool
+    ensures { result ≡ bytes_eq (verb_of ask.now) (codes "dtb") }
 {
-    match command(alloc, words) {
-        Ok(request) => Ok(is_for_bytes(&request)),
-        Err(CommandFault::Usage(_)) => Ok(false),
-        Err(CommandFault::NoMemory) => Err(AllocError),
-    }
-}
-
-/// Whether a request is for bytes that are no text.
-fn is_for_bytes(request: &Request) -> bool
-    ensures { result ≡ is_for_bytes request.now }
-{
-    matches!(request, Request::Dtb { .. })
-}
-
-/// Reports a terminal where the output is to be bytes that are no text, in one line, and answers the exit status, 3.
-pub fn report_terminal<E: Write>(err: &mut E) -> u8
-    ensures { result ≡ 3 }
-{
-    report_fault(Fault::OutputIsTerminal, err)
+    matches!(
+        ask,
+        Ask::Launch {
+            ask: LaunchAsk::Dtb,
+            ..
+        }
+    )
 }
 
 /// Reports a command line whose words cannot be read, in one line, and answers the exit status: 4 where

@@ -5,9 +5,7 @@ mod progress;
 
 use crate::progress::Progress;
 pub use rim_cli::Lanes;
-use rim_cli::{
-    Opener, TerminalWriter, advise, asks_for_bytes, report_terminal, report_unreadable, run,
-};
+use rim_cli::{Opener, TerminalWriter, Terminals, report_unreadable, run};
 use std::fs::File;
 use std::io;
 use std::io::{Eprint, ErrorKind, IsTerminal, Write};
@@ -42,9 +40,6 @@ impl Opener for FileOpener<'_> {
     }
 }
 
-/// The exit status of a run that ends with a fault of the manifest, a file or the output.
-const FAULT: u8 = 3;
-
 /// Runs the program by the words of its command line. A library has the right to start threads and to wait by a handle alone, so
 /// `main` lends its runtime as that too. Pages and launches are hashed side by side in as many lanes; nothing that
 /// it prints depends on that.
@@ -54,24 +49,21 @@ pub fn run_program<R: Threads + Wait + Clock + Eprint + Sync>(
     lanes: Lanes,
 ) -> ExitCode {
     let words = match words(rt) {
-        Ok(Some(words)) => words,
-        Ok(None) => return ExitCode::from(report_terminal(&mut rt.stderr())),
+        Ok(words) => words,
         Err(error) => return ExitCode::from(report_unreadable(&error, &mut rt.stderr())),
     };
-    let is_terminal = rt.stderr().is_terminal();
-    let mut opener = FileOpener { rt, failure: None };
-    let mut gate = Progress::new(workers, is_terminal, lanes);
-    let mut out = io::writer(rt);
-    let status = if rt.stdout().is_terminal() {
-        let out = &mut TerminalWriter::new(out);
-        run_to(rt, workers, &mut gate, &words, &mut opener, out)
-    } else {
-        run_to(rt, workers, &mut gate, &words, &mut opener, &mut out)
+    let terminals = Terminals {
+        out: rt.stdout().is_terminal(),
+        err: rt.stderr().is_terminal(),
     };
-    // At a terminal one more line says where to look.
-    if status == FAULT && is_terminal {
-        advise(rt.alloc(), words.as_slice(), &mut opener, &mut rt.stderr());
-    }
+    let mut gate = Progress::new(workers, terminals.err, lanes);
+    let mut out = io::writer(rt);
+    let status = if terminals.out {
+        let out = &mut TerminalWriter::new(out);
+        run_to(rt, workers, &mut gate, &words, terminals, out)
+    } else {
+        run_to(rt, workers, &mut gate, &words, terminals, &mut out)
+    };
     ExitCode::from(status)
 }
 
@@ -81,26 +73,23 @@ fn run_to<R: Threads + Wait + Clock + Eprint + Sync, W: Write>(
     workers: &R,
     gate: &mut Progress<'_, R>,
     words: &[String],
-    opener: &mut FileOpener<'_>,
+    terminals: Terminals,
     out: &mut W,
 ) -> u8 {
+    let mut opener = FileOpener { rt, failure: None };
     run(
         workers,
         rt.alloc(),
         gate,
         words,
-        opener,
+        terminals,
+        &mut opener,
         out,
         &mut rt.stderr(),
     )
 }
 
-/// The words of the command line, of which the first is the program's name; or `None` where they ask for bytes that are no
-/// text, and these would be written to a terminal.
-fn words(rt: &HostRuntime) -> io::Result<Option<Vec<String>>> {
-    let words: Vec<String> = std::env::args(rt)?.collect(rt.alloc())?;
-    if rt.stdout().is_terminal() && asks_for_bytes(rt.alloc(), words.as_slice())? {
-        return Ok(None);
-    }
-    Ok(Some(words))
+/// The words of the command line, of which the first is the program's name.
+fn words(rt: &HostRuntime) -> io::Result<Vec<String>> {
+    Ok(std::env::args(rt)?.collect(rt.alloc())?)
 }

@@ -1,5 +1,5 @@
 //! Files, readers and writers for the runs of the tests.
-use rim_cli::{FreeGate, Opener, run};
+use rim_cli::{FreeGate, Opener, Terminals, run};
 use std::io;
 use std::io::{ErrorKind, Read, Write};
 use std::process::Abort;
@@ -62,16 +62,32 @@ pub struct Ran {
     pub err: Vec<u8>,
 }
 
-/// A run on some words over some files.
+/// No stream of a run is a terminal.
+pub const NO_TERMINALS: Terminals = Terminals {
+    out: false,
+    err: false,
+};
+
+/// A run on some words over some files, where no stream is a terminal.
 pub fn run_on<O: Opener>(
     rt: &(impl AllocGlobal + Threads + Wait + Sync),
     words: &[&str],
     files: &mut O,
 ) -> Ran {
-    let alloc = rt.alloc();
+    run_at(rt, words, NO_TERMINALS, files)
+}
+
+/// A run on some words over some files, where these streams are terminals.
+pub fn run_at<O: Opener>(
+    rt: &(impl AllocGlobal + Threads + Wait + Sync),
+    words: &[&str],
+    terminals: Terminals,
+    files: &mut O,
+) -> Ran {
+    let (alloc, gate) = (rt.alloc(), &mut FreeGate);
     let mut out = Vec::new(alloc);
     let mut err = Vec::new(alloc);
-    let status = run(rt, alloc, &mut FreeGate, words, files, &mut out, &mut err);
+    let status = run(rt, alloc, gate, words, terminals, files, &mut out, &mut err);
     Ran { status, out, err }
 }
 

@@ -1,7 +1,7 @@
 //! Faults of readers, writers and memory: one line on standard error, nothing on standard output, and their exit status.
 use super::fakes::{
     BOTH_REPORT, Failing, FailingFiles, FailingFlush, FailingWriter, InterruptedFiles,
-    MemorylessFiles, Ran, SMALLEST_REPORT, check, run_on,
+    MemorylessFiles, NO_TERMINALS, Ran, SMALLEST_REPORT, check, run_on,
 };
 use rim_cli::{FreeGate, Opener, report_unreadable, run};
 use std::io;
@@ -101,8 +101,8 @@ fn check_status<W: Write, E: Write>(
     out: &mut W,
     err: &mut E,
 ) {
-    let files = &mut FailingFiles::none();
-    let status = run(rt, rt.alloc(), &mut FreeGate, words, files, out, err);
+    let (gate, files) = (&mut FreeGate, &mut FailingFiles::none());
+    let status = run(rt, rt.alloc(), gate, words, NO_TERMINALS, files, out, err);
     assert_eq!(rt; status, 3);
 }
 

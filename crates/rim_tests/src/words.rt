@@ -1,6 +1,6 @@
 //! Command lines of which no run of the program on files shows what comes of them.
-use super::fakes::{OneFile, SMALLEST, run_on};
-use rim_cli::{asks_for_bytes, report_terminal};
+use super::fakes::{OneFile, SMALLEST, run_at, run_on};
+use rim_cli::Terminals;
 
 /// A command line without the program's name.
 #[test]
@@ -17,18 +17,17 @@ const BYTES: [(&[&str], bool); 4] = [
     (&["rim", "fdt", "dtb"], false),
 ];
 
+/// Where the output is a terminal, such bytes alone are refused for that.
 #[test]
 fn words_that_ask_for_bytes(rt: HostRuntime) {
-    for (words, is_asked) in &BYTES {
-        let found = asks_for_bytes(rt.alloc(), words);
-        assert_eq!(rt; found, Ok(*is_asked), "{words:?}");
-    }
-}
-
-#[test]
-fn a_terminal_is_reported(rt: HostRuntime) {
-    let mut err = Vec::new(rt.alloc());
-    let status = report_terminal(&mut err);
+    let terminals = Terminals {
+        out: true,
+        err: false,
+    };
     let line = b"rim: output-is-terminal\n".as_slice();
-    assert_eq!(rt; (status, err.as_slice()), (3, line));
+    for (words, is_asked) in &BYTES {
+        let ran = run_at(&rt, words, terminals, &mut OneFile(SMALLEST));
+        let is_refused = (ran.status, ran.out.len(), ran.err.as_slice()) == (3, 0, line);
+        assert_eq!(rt; is_refused, *is_asked, "{words:?}");
+    }
 }

@@ -1,5 +1,5 @@
 //! Reports made by workers: each is that of one thread, whoever does which job.
-use super::fakes::{BOTH, NINES, SMALLEST};
+use super::fakes::{BOTH, NINES, NO_TERMINALS, SMALLEST};
 use rim_cli::{Opener, run};
 use rim_release::{
     FreeGate, Gate, JobId, Outcome, StartFault, audit_report, measure_alone, measure_release,
@@ -246,7 +246,8 @@ fn check_words(rt: &(impl Abort + AllocGlobal + Threads + Wait + Sync), lets_wai
     let words = ["rim", "measure", "--workers", "2", "manifest.toml"];
     let mut out = Vec::new(alloc);
     let mut err = Vec::new(alloc);
-    let status = run(rt, alloc, &mut gate, &words, &mut Given, &mut out, &mut err);
+    let (given, out, err) = (&mut Given, &mut out, &mut err);
+    let status = run(rt, alloc, &mut gate, &words, NO_TERMINALS, given, out, err);
     assert_eq!(rt; (status, gate.calls()), (1, (SEVEN_ONCE, SEVEN_ONCE, 0)));
     assert!(rt; gate.pages().1 > 0);
 }

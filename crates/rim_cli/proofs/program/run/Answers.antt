@@ -1,59 +1,37 @@
-use Rattle.std.proofs.Common.{inl, inr, map, refl, rules}
+use Rattle.std.proofs.Common.{◌∙◌, ap, map, rules, sym}
+use Rattle.clap.specs.Words.{kind_of}
+use Rattle.clap.specs.declared.error.Error.{Error}
+use Rattle.rim_words.specs.Command.{is_asked}
 use Rattle.rim_words.proofs.KindsOfRefusal.{asked_kind, mistaken_kind}
+use Rattle.rim_words.proofs.RequestsOfSubcommands.{for_bytes}
 use Rattle.rim_cli.proofs.program.run.Goals as goal
+use Rattle.rim_cli.proofs.program.run.Goals.{else-terminals-via-then-terminals+else-is_for_bytes, else-terminals-via-else-terminals}
 
 pub returns-in-Err-Usage-clause-mistaken : goal.returns-in-Err-Usage-clause-mistaken
 returns-in-Err-Usage-clause-mistaken g c mistaken =
-    c.show_usage-status.ensures.mistaken (mistaken_kind (map g.S.AsStr.text c.args.words.now) _ _ c.in-Err-Usage.field-0-is mistaken c.in-Err-Usage.ensures.refused)
+    c.show_usage-status.ensures.mistaken (ap (λ (e : Error). is_asked (kind_of e)) c.in-Err-Usage.answer-is
+    ∙ mistaken_kind (map g.S.AsStr.text c.args.words.now) _ _ c.in-Err-Usage.field-0-is mistaken c.in-Err-Usage.ensures.refused)
 
 pub returns-in-Err-Usage-clause-helps : goal.returns-in-Err-Usage-clause-helps
 returns-in-Err-Usage-clause-helps g c asks =
-    c.show_usage-status.ensures.helps (asked_kind (map g.S.AsStr.text c.args.words.now) _ _ c.in-Err-Usage.field-0-is asks c.in-Err-Usage.ensures.refused)
+    c.show_usage-status.ensures.helps (ap (λ (e : Error). is_asked (kind_of e)) c.in-Err-Usage.answer-is
+    ∙ asked_kind (map g.S.AsStr.text c.args.words.now) _ _ c.in-Err-Usage.field-0-is asks c.in-Err-Usage.ensures.refused)
 
-pub returns-in-Ok-answer_to-clause-done : goal.returns-in-Ok-answer_to-clause-done
-returns-in-Ok-answer_to-clause-done g c taken done = record {
-  text = c.in-Ok-answer_to.answer.text.items;
-  made = record {
-    request = c.in-Ok.request;
-    asked = c.in-Ok.ensures.reads;
-    answer = rw (c.finish.ensures.own done) c.in-Ok-answer_to.ensures.answered;
-  };
-  written = rw (← c.as_slice.ensures.value) (c.finish.ensures.done done);
-}
+pub returns-then-status-eq-FAULT-clause-terminal : goal.returns-then-status-eq-FAULT-clause-terminal
+returns-then-status-eq-FAULT-clause-terminal g c taken out asks =
+    let bytes = for_bytes _ c.in-Ok.request c.in-Ok.ensures.reads asks in
+    absurd (elim c.else-terminals.branch [
+      | else-terminals-via-then-terminals+else-is_for_bytes w ↦ let other = sym w.is_for_bytes.ensures ∙ w.if-is_for_bytes.false in cc
+      | else-terminals-via-else-terminals w ↦ let other = w.if-terminals.false in cc
+    ])
 
-pub returns-in-Ok-answer_to-clause-refused : goal.returns-in-Ok-answer_to-clause-refused
-returns-in-Ok-answer_to-clause-refused g c taken failed = inr (elim c.finish.ensures.ends [
-  | inl written ↦ inr (record {
-    text = c.in-Ok-answer_to.answer.text.items;
-    made = record {
-      request = c.in-Ok.request;
-      asked = c.in-Ok.ensures.reads;
-      answer = rw written.0 c.in-Ok-answer_to.ensures.answered;
-    };
-    written = rw (← c.as_slice.ensures.value) written.1;
-  })
-  | inr three ↦ inl (record {
-    text = c.in-Ok-answer_to.answer.text.items;
-    status = c.in-Ok-answer_to.answer.status;
-    made = record {
-      request = c.in-Ok.request;
-      asked = c.in-Ok.ensures.reads;
-      answer = c.in-Ok-answer_to.ensures.answered;
-    };
-  })
-])
-
-pub returns-in-Err-clause-refused : goal.returns-in-Err-clause-refused
-returns-in-Err-clause-refused g c taken failed = inl (
-  record {
-    request = c.in-Ok.request;
-    fault = c.in-Err.fault;
-    asked = c.in-Ok.ensures.reads;
-    refused = c.in-Err.ensures.refused;
-    status = c.report_fault-in-Err.ensures.value;
-  },
-  refl,
-)
+pub returns-else-terminals-2-clause-terminal : goal.returns-else-terminals-2-clause-terminal
+returns-else-terminals-2-clause-terminal g c taken out asks =
+    let bytes = for_bytes _ c.in-Ok.request c.in-Ok.ensures.reads asks in
+    absurd (elim c.else-terminals.branch [
+      | else-terminals-via-then-terminals+else-is_for_bytes w ↦ let other = sym w.is_for_bytes.ensures ∙ w.if-is_for_bytes.false in cc
+      | else-terminals-via-else-terminals w ↦ let other = w.if-terminals.false in cc
+    ])
 
 pub returns-in-Err-NoMemory-clause-usage : goal.returns-in-Err-NoMemory-clause-usage
 returns-in-Err-NoMemory-clause-usage g c = search rules
