@@ -14,7 +14,8 @@ import subprocess
 import sys
 import tempfile
 
-sys.path.insert(0, str(pathlib.Path(__file__).resolve().parent.parent / "tools" / "package"))
+TOOLS = pathlib.Path(__file__).resolve().parent.parent / "tools"
+sys.path[:0] = [str(TOOLS / "package"), str(TOOLS / "checks")]
 import completions
 import man
 

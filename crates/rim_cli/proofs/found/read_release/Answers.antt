@@ -7,4 +7,4 @@ use Rattle.rim_cli.proofs.found.read_release.Goals as goal
 pub returns-in-Ok-clause-read : goal.returns-in-Ok-clause-read
 returns-in-Ok-clause-read g c =
     of_bytes _ c.in_ok-text.text.items (λ bytes. manifest_of bytes ≡ Ok c.in-Ok.release) c.in_ok-text.ensures.read
-        (rw c.as_slice.ensures.value at c.in-Ok.ensures)
+    (rw c.as_slice.ensures.value at c.in-Ok.ensures)

@@ -7,9 +7,9 @@ use Rattle.rim_cli.proofs.in_memory.measure_in_memory.Goals as goal
 pub returns-clause-report : goal.returns-clause-report
 returns-clause-report g c r reads none low =
     let done = c.run.ensures.done plain_taken low in
-    let made = record { request = done.request; asked = done.asked; holds = done.holds.made } in
     subst (λ (m : Result (List ℕ) StartFault). IsOkAnd m (λ text. c.run.new.out.items ≡ c.args.out.now.items ++ text))
-    (sym (own_text c.args.manifest.now r reads none done.holds.text c.run.result made)) done.holds.written
+    (sym (own_text c.args.manifest.now r reads none done.holds.text c.run.result
+    (record { request = done.request; asked = done.asked; holds = done.holds.made }))) done.holds.written
 
 pub returns-clause-status : goal.returns-clause-status
 returns-clause-status g c r reads none low =
