@@ -9,7 +9,7 @@ use clap::{Arg, ArgAction, Command};
 use job_board::WORKER_LIMIT;
 use std::alloc::{AllocError, Global};
 
-/// The version, and the day of its sources' last commit: `tools/dist.py` asks that they are the same.
+/// The version, and the day of its sources' last commit: `tools/package/dist.py` asks that they are the same.
 pub const VERSION: &str = "0.2.0 (2026-11-29)";
 
 /// A subcommand: its name, what help says of it, and its arguments, the operands in their order.
