@@ -43,7 +43,7 @@ accepted-found files l a old new accepted own same pages warned = record {
       ∙ ap (λ (r : Result PlacedData AuditFault). old.pages ++ keys_at l.launch r) (sym accepted);
   warned = λ (ls : List NamedData) (there : slice_get ls l.launch.number ≡ Some l).
       subst (λ (x : NamedData). AddsNumber x.launch.number (numbers_of old.warnings) (numbers_of new.warnings)) own warned files ls
-          (record { launch = l; there = there; accepted = subst (λ (r : Result PlacedData AuditFault). IsOk r) (sym accepted) refl });
+      (record { launch = l; there = there; accepted = subst (λ (r : Result PlacedData AuditFault). IsOk r) (sym accepted) refl });
 }
 
 pub accepted-all : (files : List (List ℕ)) (l : NamedData) (a : AcceptedLaunch) (old new : Found) (answer : Result

@@ -68,8 +68,13 @@ pub no-float : (paths : List (List ℕ)) (l : NamedData) (rows : List Row) (take
     → has_float (map_data l (space_of paths l rows taken between) granules extensions (map string texts)) ≡ false
 unfolding map_data granules_json extensions_json launch_json
 no-float paths l rows taken between granules extensions texts =
-    rw (stretches-float between, items-float (item_name l) paths l.launch.items rows, rule-float l.launch.config.rec_rule,
-    regions-float taken l.launch.ram, texts-float texts) refl
+    rw (
+      stretches-float between,
+      items-float (item_name l) paths l.launch.items rows,
+      rule-float l.launch.config.rec_rule,
+      regions-float taken l.launch.ram,
+      texts-float texts,
+    ) refl
 
 -- ---- the whole text
 

@@ -18,5 +18,5 @@ returns-in-Err c =
     on_ok_weaker _
     (λ (line : AddsRefusal c.args.loaded.launch.now c.in-Err.reason c.args.found.now.refusals.items c.push_refusal.new.text.items).
     refused-found (bytes_of_files c.args.loaded.files.now) c.args.loaded.launch.now c.in-Err.reason line.hint c.args.found.now _ refused line.adds refl refl
-        refl)
+    refl)
     c.push_refusal.ensures

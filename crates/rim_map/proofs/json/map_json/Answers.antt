@@ -7,6 +7,6 @@ pub returns : goal.returns
 returns c =
     IfOk-weaker c.text.result _ _
     (λ text shown. shown-map _ _ _ _ _ _ _ _ _ _ _ (c.deref.ensures.value ∙ (rw c.launch.ensures at c.in_ok-rows.ensures)) c.in_ok-space.ensures
-        c.in_ok-granules.ensures
+    c.in_ok-granules.ensures
     c.in_ok-extensions.ensures c.in_ok-warnings.ensures c.in_ok-value.ensures shown)
     c.text.ensures

@@ -65,7 +65,7 @@ returns-clause-report g c =
     let rims : List Measurement = c.deref-3.result.now in
     let files : v.files ≡ bytes_of_files c.args.files.now.items = c.in_ok-accepted.ensures.files ∙ ap bytes_of_files c.new-2.ensures.files in
     let launches : v.release.launches ≡ c.args.release.now.launches = ap (λ (r : ReleaseData). r.launches) (c.in_ok-accepted.ensures.release
-        ∙ c.new-2.ensures.release) in
+    ∙ c.new-2.ensures.release) in
     let whole : IsLaidOut v = subst IsLaidOut c.accepted.view_is c.accepted.invariant in
     let values = c.in_ok-counted.ensures.rims in
     let each : map (λ m. m.bytes) rims ≡ map (value_in values.table) c.in_ok-plans.plans.items
@@ -87,7 +87,7 @@ returns-clause-launches g c =
     let rims : List Measurement = c.deref-3.result.now in
     let files : v.files ≡ bytes_of_files c.args.files.now.items = c.in_ok-accepted.ensures.files ∙ ap bytes_of_files c.new-2.ensures.files in
     let launches : v.release.launches ≡ c.args.release.now.launches = ap (λ (r : ReleaseData). r.launches) (c.in_ok-accepted.ensures.release
-        ∙ c.new-2.ensures.release) in
+    ∙ c.new-2.ensures.release) in
     let whole : IsLaidOut v = subst IsLaidOut c.accepted.view_is c.accepted.invariant in
     let values = c.in_ok-counted.ensures.rims in
     let each : map (λ m. m.bytes) rims ≡ map (value_in values.table) c.in_ok-plans.plans.items
@@ -103,7 +103,7 @@ returns-clause-refused g c =
     let v : OutcomesView = c.in_ok-accepted.accepted in
     let files : v.files ≡ bytes_of_files c.args.files.now.items = c.in_ok-accepted.ensures.files ∙ ap bytes_of_files c.new-2.ensures.files in
     let launches : v.release.launches ≡ c.args.release.now.launches = ap (λ (r : ReleaseData). r.launches) (c.in_ok-accepted.ensures.release
-        ∙ c.new-2.ensures.release) in
+    ∙ c.new-2.ensures.release) in
     c.has_refused.ensures
     ∙ ap (list_any is_err) c.outcomes.ensures.value
     ∙ refused-are v.files v.release.launches v.launches c.outcomes.ensures.own.2
