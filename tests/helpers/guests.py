@@ -28,7 +28,7 @@ WITH_TREE = [*QEMU, "--dtb", "tree"]
 KVMTOOL = ["kvmtool", "-c", "1", "-m", "256", "-k", "Image", "--host", "host.toml", "--out", "out", "--dtb", "tree"]
 CLOUD = ["cloud-hypervisor", "--kernel", "Image", "--host", "host.toml", "--out", "out", "--dtb", "tree"]
 
-# It stands in for QEMU: it copies a devicetree of the folder `trees` to the path of dumpdtb=, one for each -m, -smp and -append, and for
+# It takes QEMU's place: it copies a devicetree of the folder `trees` to the path of dumpdtb=, one for each -m, -smp and -append, and for
 # the kernel's name where there is such a one.
 STAND_IN = r"""#!/bin/sh
 here=$(dirname "$0")
@@ -51,7 +51,7 @@ tree=$here/trees/$memory-$processors-$args
 [ -f "$tree-$kernel" ] && tree=$tree-$kernel
 cp "$tree" "$path"
 """
-# It stands in for lkvm, which goes on with the guest once it has written the devicetree.
+# It takes lkvm's place, which goes on with the guest once it has written the devicetree.
 LKVM = r"""#!/bin/sh
 [ "$1" = --version ] && echo "kvm tool 3.18" && exit
 while [ $# -gt 0 ]; do
