@@ -31,11 +31,13 @@ from helpers.guests import START, replaced
 from helpers.tries import differs, program_of, told, tried
 
 from finder.axes import Axis, best_first, count_of
+from outside import parameters
 from vmm.hypervisors import HYPERVISORS
 from vmm.layout import rows_with_ways
 from vmm.rows import ADDS, NUMBERS
 
 MIB, PAGE = 1 << 20, 1 << 12
+FLAG_OF = {each.key: each.flag for each in parameters.RMM_1_0}
 LOW, LKVM = 0x4000_0000, 0x8000_0000
 KERNEL, BSS = 70_000, 2 * MIB
 INITRD = bytes(n * 91 % 253 for n in range(9001))
@@ -100,8 +102,7 @@ class Machine:
 
     def __post_init__(self):
         self.values = dict(self.numbers)
-        for key in NUMBERS:
-            flag = {"sve_vl": "sve", "pmu_num_ctrs": "pmu"}.get(key)
+        for key, flag in FLAG_OF.items():
             self.values[key] = self.numbers[key] + ADDS[self.ways[key]] if not flag or self.numbers[flag] else 0
 
 
@@ -109,10 +110,8 @@ def drawn(vmm: str, draw: random.Random, is_weighted: bool) -> Machine:
     rows = rows_with_ways([HYPERVISORS[vmm].TABLE])
     likely = is_weighted
     ways = {name: draw.choices(row.names, [way.likely if likely else 1 for way in row.ways])[0] for name, row in rows.items() if name != "dtb_file"}
-    numbers = {"num_bps": draw.choice((5, 15, 6)) if likely else draw.randrange(16),
-               "num_wps": draw.choice((3, 15)) if likely else draw.randrange(16),
-               "pmu": True, "pmu_num_ctrs": draw.choice((6, 8)) if likely else draw.randrange(1, 32),
-               "sve": draw.random() < 0.5, "sve_vl": draw.choice((0, 1, 3)) if likely else draw.randrange(16)}
+    numbers = {flag: flag == "pmu" or draw.random() < 0.5 for flag in parameters.FLAGS}
+    numbers |= {each.key: draw.choice(each.usual[:3]) if likely else draw.randrange(1, each.below) for each in parameters.RMM_1_0}
     plain = LAYOUTS[vmm].width
     width = plain + (ways["s2sz"] == "one_more") if plain else draw.choice((40, 48) if likely else range(36, 49))
     return Machine(vmm, ways, width, numbers)
@@ -184,12 +183,12 @@ def host_file(known: dict, realm: dict | None = None) -> bytes:
 def known_of(machine: Machine, draw: random.Random, is_known: bool) -> dict:
     """What a user knows of a machine: its numbers, of which one in ten is one off; or nothing."""
     if not is_known:
-        return dict.fromkeys(("num_bps", "num_wps", "sve", "pmu"), "?")
+        return dict.fromkeys(parameters.ASKED, "?")
     numbers = dict(machine.numbers)
     for key in NUMBERS:
         if draw.random() < 0.1:
             numbers[key] = max(0, numbers[key] + draw.choice((-1, 1)))
-    for flag, key in (("sve", "sve_vl"), ("pmu", "pmu_num_ctrs")):
+    for flag, key in parameters.FLAGGED:
         if not numbers[flag]:
             numbers.pop(key)
     return numbers | ({"s2sz_max": machine.width} if machine.vmm == "cloud-hypervisor" else {})
@@ -227,11 +226,10 @@ def is_told(machine: Machine, has: dict, said: str) -> list[str]:
     for name, way in machine.ways.items():
         if name not in unsettled and name not in NUMBERS and name != "s2sz":
             wrong += differs(name, str(realm.get(name, rows[name].names[0])), way)
-    for key in NUMBERS:
-        flag = {"sve_vl": "sve", "pmu_num_ctrs": "pmu"}.get(key)
+    for key, flag in FLAG_OF.items():
         if not flag or machine.numbers[flag]:
             wrong += differs(key, has.get(key, 0) + ADDS[realm.get(key, "as_read")], machine.values[key])
-    return wrong + differs("sve", has["sve"], machine.numbers["sve"]) + differs("pmu", has["pmu"], machine.numbers["pmu"])
+    return wrong + [line for flag in parameters.FLAGS for line in differs(flag, has[flag], machine.numbers[flag])]
 
 
 def possible(program: str, vmm: str, draw: random.Random, is_weighted: bool) -> Machine:
@@ -306,7 +304,7 @@ def best_first_is_right(_program: str):
     return wrong
 
 
-LIKELY = {"num_bps": 5, "num_wps": 3, "pmu": True, "pmu_num_ctrs": 6, "sve": False, "sve_vl": 0}
+LIKELY = {each.key: each.usual[0] for each in parameters.RMM_1_0} | {flag: flag == "pmu" for flag in parameters.FLAGS}
 
 
 def likeliest(vmm="qemu", **ways: str) -> Machine:
@@ -316,14 +314,8 @@ def likeliest(vmm="qemu", **ways: str) -> Machine:
     return Machine(vmm, ways, plain + (ways["s2sz"] == "one_more") if plain else 48, dict(LIKELY))
 
 
-KNOWN = {key: value for key, value in LIKELY.items() if key != "sve_vl"}
-EXPECTED = """\
-num_bps = 5
-num_wps = 3
-pmu_num_ctrs = 6
-sve = false
-pmu = true
-"""
+KNOWN = {key: value for key, value in LIKELY.items() if LIKELY.get(FLAG_OF.get(key), True)}
+EXPECTED = "".join(f"{key} = {str(value).lower()}\n" for key, value in KNOWN.items())
 
 
 def the_file(program: str):

@@ -8,9 +8,12 @@ import itertools
 from collections.abc import Callable
 from dataclasses import dataclass, replace
 
+from outside import parameters
+from outside.parameters import RMM_1_0, Parameter
+
 from . import people
 from .files import Files
-from .launch import KINDS, MIB, PAGE, Item, Launch, Rec, entry_of, first_rec, with_item, with_ram, with_recs, without_item
+from .launch import KINDS, MIB, PAGE, Item, Launch, Rec, entry_of, first_rec, value_text, with_item, with_ram, with_recs, without_item
 from .people import USUAL_SIZES, Changes, more_recs
 
 
@@ -170,49 +173,39 @@ def widths(launch: Launch, _files: Files) -> Changes:
             yield f"s2sz {bits}", replace(launch, s2sz=bits)
 
 
-def near(value: int | None, end: int, usual: int) -> list[int]:
+def near(here: int, end: int, usual: int) -> list[int]:
     """Other numbers below the end. First one less and one more: what counts from one is often given for what counts from zero."""
-    here = value or 0
     several = dict.fromkeys((here - 1, here + 1, usual, *range(end)))
     return [each for each in several if 0 <= each < max(end, min(here + 2, 256)) and each != here]
 
 
-def flagged(has: bool, value: int | None, end: int, usual: int) -> list[tuple[bool, int]]:
+def flagged(has: bool, here: int, end: int, usual: int) -> list[tuple[bool, int]]:
     """Other flags with their counts. The likeliest are no flag, with zero, where there is one; and where there is none, a usual one."""
-    here, others = value or 0, near(value, end, usual)
+    others = near(here, end, usual)
     return [(not has, 0 if has else usual), *((True, each) for each in (others if has else [0, 1, *others])),
             *((False, each) for each in (here, *others))]
 
 
-def vectors(launch: Launch, _files: Files) -> Changes:
-    for sve, length in flagged(bool(launch.sve), launch.sve_vl, 16, 3):
-        yield f"sve {str(sve).lower()}, sve_vl {length}", replace(launch, sve=sve or None, sve_vl=length or None)
-
-
-def counters(launch: Launch, _files: Files) -> Changes:
-    for pmu, count in flagged(bool(launch.pmu), launch.pmu_num_ctrs, 32, 6):
-        yield f"pmu {str(pmu).lower()}, pmu_num_ctrs {count}", replace(launch, pmu=pmu or None, pmu_num_ctrs=count or None)
-
-
-def breakpoints(launch: Launch, _files: Files) -> Changes:
-    for count in near(launch.num_bps, 16, 5):
-        yield f"num_bps {count}", replace(launch, num_bps=count)
-
-
-def watchpoints(launch: Launch, _files: Files) -> Changes:
-    for count in near(launch.num_wps, 16, 3):
-        yield f"num_wps {count}", replace(launch, num_wps=count)
-
-
-COUNTS = ("num_bps", "num_wps", "pmu_num_ctrs", "sve_vl")
+def numbers(about: Parameter, launch: Launch) -> Changes:
+    """Other values of a number, with its flag where it has one."""
+    here = launch.number(about.key)
+    if about.flag is None:
+        for count in near(here, about.below, about.by_hand):
+            yield f"{about.key} {count}", launch.with_numbers({about.key: count})
+        return
+    for has, count in flagged(bool(launch.number(about.flag)), here, about.below, about.by_hand):
+        new = launch.with_numbers({about.flag: has or None, about.key: count or None})
+        yield f"{about.flag} {value_text(about.flag, has)}, {about.key} {count}", new
 
 
 def counts(launch: Launch, _files: Files) -> Changes:
-    """Several of the counts one off at once."""
-    for more, names in itertools.product((-1, 1), (COUNTS[:2], COUNTS[:3], COUNTS)):
-        new = {name: (getattr(launch, name) or 0) + more for name in names}
-        if all(0 <= value <= 255 for value in new.values()):
-            yield f"{', '.join(names)} {more:+}", replace(launch, **new)
+    """Several of the numbers one off at once: those without a flag, with one that has a flag, and all."""
+    bare = [about.key for about in RMM_1_0 if about.flag is None]
+    together = [bare, *([*bare, key] for _, key in reversed(parameters.FLAGGED)), parameters.KEYS]
+    for more, keys in itertools.product((-1, 1), together):
+        new = {key: launch.number(key) + more for key in keys}
+        if all(0 <= value <= parameters.MOST for value in new.values()):
+            yield f"{', '.join(keys)} {more:+}", launch.with_numbers(new)
 
 
 # ---- RAM
@@ -282,6 +275,12 @@ class Axis:
 
 
 # In the order in which they are tried.
+def number_axis(about: Parameter) -> Axis:
+    """The axis of a number of the realm."""
+    what = f"{about.flag}, and {about.key} 0 to {about.below - 1}" if about.flag else f"{about.what}, 0 to {about.below - 1}"
+    return Axis(about.flag or about.key, what, lambda launch, _files: numbers(about, launch), 3 if about.flag else 2)
+
+
 AXES = (
     Axis("append", "the command line: those of --append-file, and those near it", people.command_lines, 4, True),
     Axis("memory", "the size of RAM, with a devicetree that says so", people.memories, 4, True),
@@ -298,11 +297,8 @@ AXES = (
     Axis("devicetree", "bootargs, initrd and memory of the devicetree", devicetrees, 4),
     Axis("kernel", "the kernel's base, up to 8 MiB off", kernel_bases, 4),
     Axis("s2sz", "the width of an IPA, 32 to 48", widths, 5),
-    Axis("sve", "sve, and sve_vl 0 to 15", vectors, 3),
-    Axis("pmu", "pmu, and pmu_num_ctrs 0 to 31", counters, 3),
-    Axis("num_bps", "breakpoints, 0 to 15", breakpoints, 2),
-    Axis("num_wps", "watchpoints, 0 to 15", watchpoints, 2),
-    Axis("counts", "num_bps, num_wps, pmu_num_ctrs and sve_vl one off at once", counts, 3),
+    *map(number_axis, RMM_1_0),
+    Axis("counts", f"{parameters.in_words(parameters.KEYS)} one off at once", counts, 3),
     Axis("ram", "a region's end; regions joined, or split at items", rams, 7),
     # each is a file of its own, and large: none is tried beside others before all else is
     Axis("length", "a file unpacked, padded or cut short", people.lengths, 0),

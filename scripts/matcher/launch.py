@@ -5,6 +5,7 @@ import json
 from collections.abc import Iterable, Mapping
 from dataclasses import dataclass, fields, replace
 
+from outside import parameters
 from outside.texts import is_hidden
 
 from .files import Blob
@@ -49,12 +50,7 @@ class Launch:
     name: str
     algo: str
     s2sz: int
-    sve: bool | None = None
-    sve_vl: int | None = None
-    num_bps: int | None = None
-    num_wps: int | None = None
-    pmu: bool | None = None
-    pmu_num_ctrs: int | None = None
+    numbers: tuple[tuple[str, int | bool], ...] = ()     # the parameters that are numbers, and their flags
     rpv: str | None = None
     block_level: int | None = None
     num_aux: int | None = None
@@ -69,11 +65,19 @@ class Launch:
     def of_kind(self, kind: str) -> Item | None:
         return next((each for each in self.item if each.kind == kind), None)
 
+    def number(self, key: str) -> int:
+        """A parameter that is a number, or its flag, also where its table has it not."""
+        return dict(self.numbers).get(key, 0)
+
+    def with_numbers(self, values: Mapping[str, int | bool | None]) -> "Launch":
+        """The launch with other parameters; one that is None, its table has not."""
+        found = dict(self.numbers) | values
+        return replace(self, numbers=tuple((key, value) for key in parameters.ALL if (value := found.get(key)) is not None))
+
 
 # The keys of a launch that have one value each, and what docs/FORMATS.md says where a table has not the key.
-SCALARS = ("algo", "s2sz", "sve", "sve_vl", "num_bps", "num_wps", "pmu", "pmu_num_ctrs", "rpv", "block_level", "num_aux", "pool_base",
-           "pool_count", "rec_rule")
-DEFAULTS = {"sve": False, "sve_vl": 0, "num_bps": 0, "num_wps": 0, "pmu": False, "pmu_num_ctrs": 0, "block_level": 2}
+SCALARS = ("algo", "s2sz", *parameters.ALL, "rpv", "block_level", "num_aux", "pool_base", "pool_count", "rec_rule")
+DEFAULTS = {**dict.fromkeys(parameters.KEYS, 0), **dict.fromkeys(parameters.FLAGS, False), "block_level": 2}
 
 
 # ---- reading
@@ -92,7 +96,14 @@ def launch_of(table: dict) -> Launch:
     """The launch of a table that `rim` has taken."""
     lists = {"ram": tuple((base, end) for base, end in table.get("ram", [])), "item": tuple(Item(**each) for each in table.get("item", [])),
              "rec": tuple(map(rec_of, table.get("rec", []))), "steps": tuple(table["steps"]) if "steps" in table else None}
-    return Launch(**(table | lists))
+    numbers = tuple((key, table[key]) for key in parameters.ALL if key in table)
+    others = {key: value for key, value in table.items() if key not in parameters.ALL}
+    return Launch(**(others | lists), numbers=numbers)
+
+
+def scalar(launch: Launch, key: str) -> int | str | bool | None:
+    """The value of a key of SCALARS, or None where the table has it not."""
+    return dict(launch.numbers).get(key) if key in parameters.ALL else getattr(launch, key)
 
 
 # ---- changes that keep the steps in order
@@ -245,7 +256,7 @@ def table_text(launch: Launch) -> str:
     """The table of a launch, without its name."""
     lines = []
     for key in SCALARS:
-        value = getattr(launch, key)
+        value = scalar(launch, key)
         if value is not None:
             lines.append(f"{key} = {value_text(key, value)}")
     lines += [f"ram = {ram_text(launch.ram)}", f"item = {items_text(launch.item)}", f"rec = {recs_text(launch.rec)}"]

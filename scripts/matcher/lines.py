@@ -3,7 +3,7 @@ from collections.abc import Mapping
 from dataclasses import fields
 
 from .files import Blob
-from .launch import DEFAULTS, SCALARS, Item, Launch, item_text, ram_text, recs_text, steps_text, text, value_text
+from .launch import DEFAULTS, SCALARS, Item, Launch, item_text, ram_text, recs_text, scalar, steps_text, text, value_text
 
 COLUMN = 40
 
@@ -56,7 +56,7 @@ def between(old: Launch, new: Launch, version: int, files: Mapping[str, Blob]) -
     """The lines to change in a manifest of this version, which has the old launch, so that it has the new one."""
     found = of_key("", "rim_manifest", version, 2) if new.rec_rule is not None else []
     for key in SCALARS:
-        found += of_key("", key, getattr(old, key), getattr(new, key))
+        found += of_key("", key, scalar(old, key), scalar(new, key))
     found += changed("", "ram", ram_text(old.ram), ram_text(new.ram)) + of_items(old, new, files)
     found += changed("", "rec", recs_text(old.rec), recs_text(new.rec))
     steps = [None if each is None else steps_text(each) for each in (old.steps, new.steps)]

@@ -5,7 +5,7 @@ A step is the words of a command that is measured. A word that a log has not is 
 from collections.abc import Callable, Iterable
 from dataclasses import dataclass
 
-from outside import files
+from outside import files, parameters
 from outside.faults import Fault
 from outside.texts import shown, visible
 
@@ -13,7 +13,7 @@ from outside.texts import shown, visible
 MOST = 256 << 20
 # The words of a line after the RIM and the command, as docs/FORMATS.md names them.
 WORDS = {
-    "realm_create": ("rtt_level_start", "rtt_num_start", "s2sz", "algo", "flags", "sve_vl", "num_bps", "num_wps", "pmu_num_ctrs", "rpv"),
+    "realm_create": ("rtt_level_start", "rtt_num_start", "s2sz", "algo", "flags", *parameters.TRACED, "rpv"),
     "init_ripas": ("base", "top"),
     "data_create": ("ipa", "measured", "contents"),
     "rec_create": ("flags", "mpidr", "pc", *(f"x{number}" for number in range(8))),

@@ -23,7 +23,7 @@ class Runs(runs.Runs):
         `rim` alone says."""
         table = table or table_text(launch)
         named = frozenset(each.file for each in launch.item if each.file is not None)
-        begins = repr((launch.algo, launch.s2sz, launch.sve, launch.sve_vl, launch.num_bps, launch.num_wps, launch.block_level, launch.ram))
+        begins = repr((launch.algo, launch.s2sz, launch.numbers, launch.block_level, launch.ram))
         return Candidate(table, table, steps_of(launch, self.files), (begins,), named)
 
     def has(self, launch: Launch, value: Value) -> bool:

@@ -3,7 +3,7 @@ import os
 import re
 from dataclasses import dataclass, field
 
-from outside import files
+from outside import files, parameters
 from outside.faults import Fault
 from outside.texts import shown, visible
 
@@ -11,13 +11,11 @@ from .layout import Row
 from .ways import is_way
 
 # Each number with its least and its greatest value. `block_level` is a row too, and so is `rec_rule`: they may be here or in [realm].
-NUMBERS = {"num_bps": (0, 255), "num_wps": (0, 255), "sve_vl": (0, 255), "pmu_num_ctrs": (0, 255), "block_level": (0, 3),
-           "s2sz_max": (32, 48), "num_aux": (0, 16), "pool_base": (0, (1 << 48) - 65536), "pool_count": (1, 1 << 24)}
-FLAGS = ("sve", "pmu")
+NUMBERS = {**dict.fromkeys(parameters.KEYS, (0, parameters.MOST)), "block_level": (0, 3), "s2sz_max": (32, 48), "num_aux": (0, 16),
+           "pool_base": (0, (1 << 48) - 65536), "pool_count": (1, 1 << 24)}
+FLAGS = parameters.FLAGS
 RULES = ("runnable", "all")
 TEXTS = ("rpv", "rec_rule", "hypervisor_version", "settled_by")
-# What is measured of each realm, and so has to be given.
-REQUIRED = ("num_bps", "num_wps", "sve", "pmu")
 # The table that names the alternative of each row that is not the likeliest, and the longest text of `settled_by`.
 REALM, MOST_SETTLED_BY = "realm", 1000
 # What the example has in the place of a number that only the machine knows.
@@ -79,9 +77,9 @@ def read(path: str, rows: dict[str, Row], is_settled: bool = True) -> Host:
     for key in set(realm) & set(values) & {"block_level", "rec_rule"}:
         raise Fault(f"{visible(path)}: {key}: it is given twice, once in [{REALM}], expected it there alone")
     host = Host(path, values, realm=realm)
-    for key in REQUIRED if is_settled else ():
+    for key in parameters.ASKED if is_settled else ():
         host.require(key, "since it is measured")
-    for flag, key in (("sve", "sve_vl"), ("pmu", "pmu_num_ctrs")):
+    for flag, key in parameters.FLAGGED:
         if values.get(flag) and is_settled:
             host.require(key, f"since {flag} is true and it is measured")
         elif values.get(flag) is False and values.get(key):

@@ -3,6 +3,8 @@ import json
 import shlex
 from dataclasses import dataclass
 
+from outside import parameters
+
 from .guest import Blob, Kernel
 from .host import Host
 from .hypervisor import Hypervisor
@@ -13,8 +15,7 @@ from .ways import LIKELIEST, Chosen
 
 WIDTH = 140
 # The keys of a launch that are the host's.
-OF_HOST = ("num_bps", "num_wps", "sve", "sve_vl", "pmu", "pmu_num_ctrs", "block_level", "num_aux", "rec_rule", "rpv", "pool_base",
-           "pool_count")
+OF_HOST = (*parameters.ALL, "block_level", "num_aux", "rec_rule", "rpv", "pool_base", "pool_count")
 
 
 @dataclass(frozen=True)

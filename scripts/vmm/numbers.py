@@ -2,8 +2,10 @@
 from collections.abc import Mapping, Sequence
 from dataclasses import dataclass
 
+from outside.parameters import MOST, Parameter
+
 from .layout import Row
-from .rows import ADDS, NUM_BPS, NUM_WPS, PMU_NUM_CTRS, SVE_VL
+from .rows import ADDS, NUMBERS
 
 # How likely it is that a number of the host's file holds, that it is one off, and that it is another one.
 GIVEN, BESIDE, OTHER = 0.90, 0.06, 0.04
@@ -19,19 +21,6 @@ class Number:
     read: int
     way: str
     likely: float
-
-
-@dataclass(frozen=True)
-class Range:
-    """What a number may be, and what it is likely to be where nothing is known of the machine, the likeliest first."""
-
-    row: Row
-    most: int
-    usual: tuple[int, ...]
-
-
-RANGES = {"num_bps": Range(NUM_BPS, 16, (5, 15, 6, 3, 7, 1)), "num_wps": Range(NUM_WPS, 16, (3, 15, 1, 7, 5)),
-          "pmu_num_ctrs": Range(PMU_NUM_CTRS, 32, (6, 8, 4, 5, 20, 31)), "sve_vl": Range(SVE_VL, 16, (0, 1, 3, 7, 15))}
 
 
 def by_likelihood(found: Sequence[Number]) -> list[Number]:
@@ -57,17 +46,17 @@ def plain(value: int, way: str, likely: float) -> Number:
     return Number(value, value - ADDS[way], way, likely)
 
 
-def options(key: str, ways: Mapping[str, float], given: int | None) -> list[Number]:
-    """The numbers that are tried for a key. `ways` has how likely each alternative of its row is."""
-    about = RANGES[key]
-    everything = range(max(about.most, given or 0) + 1)
+def options(about: Parameter, ways: Mapping[str, float], given: int | None) -> list[Number]:
+    """The values that are tried for a number. `ways` has how likely each alternative of its row is."""
+    row = NUMBERS[about.key]
+    everything = range(max(about.below, given or 0) + 1)
     usual = max(ways, key=lambda way: ways[way])
     found = [plain(value, usual, OTHER / len(everything)) for value in everything]
     if given is not None:
-        found += read_as(about.row, ways, given, GIVEN)
+        found += read_as(row, ways, given, GIVEN)
         found += [plain(value, usual, BESIDE / 2) for value in (given - 1, given + 1)]
     else:
         weights = [1 / (place + 1) for place in range(len(about.usual))]
         for value, weight in zip(about.usual, weights):
-            found += read_as(about.row, ways, value, USUAL * weight / sum(weights))
-    return by_likelihood([each for each in found if 0 <= each.value <= 255 and 0 <= each.read <= 255])
+            found += read_as(row, ways, value, USUAL * weight / sum(weights))
+    return by_likelihood([each for each in found if 0 <= each.value <= MOST and 0 <= each.read <= MOST])

@@ -2,6 +2,7 @@
 from collections.abc import Mapping
 from dataclasses import dataclass
 
+from outside import parameters
 from outside.faults import Fault
 from outside.texts import shown
 
@@ -9,13 +10,11 @@ from . import ways
 from .guest import PAGE, Blob, Guest, Kernel, up
 from .hypervisor import Hypervisor
 from .layout import Places
-from .rows import ADDS, NUMBERS
+from .rows import ADDS
 
 GRANULES = {"4k": PAGE, "16k": 4 * PAGE, "64k": 16 * PAGE}
 # The file of zeros before a blob, where pages of the host are larger than 4 KiB.
 ZEROS = "zeros"
-# Numbers of a realm that take a byte.
-MOST_NUMBER = 255
 KINDS = ("kernel", "initrd", "dtb")
 Region = tuple[int, int]
 
@@ -170,18 +169,19 @@ def made_each(groups: list[Group], bss_apart: bool, order: str, recs: int) -> tu
 def read_number(key: str, value: int, taken: Mapping[str, str], source: str) -> int:
     """A number of the host's file as the realm has it."""
     found = value + ADDS[taken.get(key, "as_read")]
-    if not 0 <= found <= MOST_NUMBER:
-        raise Fault(f"{source}: {key} = {value} and {key} = {taken[key]} in [realm] come to {found}, expected 0 to {MOST_NUMBER}")
+    if not 0 <= found <= parameters.MOST:
+        raise Fault(f"{source}: {key} = {value} and {key} = {taken[key]} in [realm] come to {found}, expected 0 to {parameters.MOST}")
     return found
 
 
 def numbers_of(values: Mapping[str, int | str | bool | None], taken: Mapping[str, str], source: str) -> dict[str, int | bool | str]:
     """The keys of a launch that are measured, by the host's file and the alternatives."""
     found: dict[str, int | bool | str] = {}
-    for key in ("num_bps", "num_wps", "sve", "sve_vl", "pmu", "pmu_num_ctrs"):
+    flag_of = {key: flag for flag, key in parameters.FLAGGED}
+    for key in parameters.ALL:
         value = values.get(key)
         if value is not None:
-            is_read = key in NUMBERS and not (key == "sve_vl" and not values.get("sve")) and not (key == "pmu_num_ctrs" and not values.get("pmu"))
+            is_read = key in parameters.KEYS and (key not in flag_of or bool(values.get(flag_of[key])))
             found[key] = read_number(key, int(value), taken, source) if is_read else value
     return found | {"block_level": int(taken["block_level"]), "rec_rule": taken["rec_rule"]}
 

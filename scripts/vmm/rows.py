@@ -1,5 +1,7 @@
 """Rows that a realm may change, which hypervisors share. How likely an alternative is, is from memory of the changes that were proposed to
 Linux, QEMU and kvmtool: nothing that can be installed settles it, and one measurement of a machine does."""
+from outside.parameters import RMM_1_0, Parameter
+
 from .layout import MEMORY, Row, Way
 
 KVM = "changes that were proposed to Linux"
@@ -19,23 +21,16 @@ REC_RULE = Row(
 COUNTED = "one of two, where the file about the host gives the number"
 
 
-def counted(name: str, rule: str, *ways: Way) -> Row:
-    """A row of a number that is read off the machine."""
-    return Row(name, rule, None, KVM, MEMORY, ways, COUNTED)
+def counted(number: Parameter) -> Row:
+    """The row of a number that is read off the machine."""
+    return Row(number.key, f"{number.what}, of {number.key} in the file about the host: {number.read_from}", None, KVM, MEMORY,
+               tuple(Way(*way) for way in number.ways), COUNTED)
 
 
-NUM_BPS = counted("num_bps", "breakpoints, of num_bps in the file about the host: the field of ID_AA64DFR0_EL1",
-                  Way("as_read", "the field, which is one less than there are", 75), Way("one_more", "as many as there are", 25))
-NUM_WPS = counted("num_wps", "watchpoints, of num_wps in the file about the host: the field of ID_AA64DFR0_EL1",
-                  Way("as_read", "the field, which is one less than there are", 75), Way("one_more", "as many as there are", 25))
-PMU_NUM_CTRS = counted("pmu_num_ctrs", "event counters, of pmu_num_ctrs in the file about the host: N of PMCR_EL0",
-                       Way("as_read", "as many as N says", 80), Way("one_more", "the cycle counter too", 10), Way("one_less", "one less", 10))
-SVE_VL = counted("sve_vl", "the vector length, of sve_vl in the file about the host: units of 128 bits, less one",
-                 Way("as_read", "the same", 85), Way("one_more", "units of 128 bits", 15))
-# The numbers of the host's file that are measured, and what each alternative adds to them.
-NUMBERS = ("num_bps", "num_wps", "pmu_num_ctrs", "sve_vl")
+# The rows of the numbers of the host's file that are measured, and what each alternative adds to them.
+NUMBERS = {number.key: counted(number) for number in RMM_1_0}
 ADDS = {"as_read": 0, "one_more": 1, "one_less": -1}
-SHARED = [HOST_PAGES, BLOCK_LEVEL, REC_RULE, NUM_BPS, NUM_WPS, PMU_NUM_CTRS, SVE_VL]
+SHARED = [HOST_PAGES, BLOCK_LEVEL, REC_RULE, *NUMBERS.values()]
 
 
 def hash_row(source: str, *ways: tuple[str, int]) -> Row:

@@ -17,6 +17,7 @@ from finder.runs import Candidate, Runs
 from finder.search import COSTLY, Search
 from outside.faults import Fault
 from outside.measurement import Value
+from outside.parameters import RMM_1_0, Parameter
 from outside.stopping import Stopped
 
 from . import layout, numbers
@@ -25,7 +26,7 @@ from .host import Host
 from .hypervisor import Hypervisor
 from .launches import Launch
 from .layout import Row
-from .manifest import item_text, ram_text, recs_text, text
+from .manifest import item_text, ram_text, recs_text, text, value_text
 from .measured import WIDTHS, Content, body_of, level_at, steps_of
 from .numbers import Number
 from .realm import Parts, Realm, of_parts
@@ -45,7 +46,6 @@ WIDTHS_TRIED = (40, 48, 41, 36, 39, 42, 33, 34, *range(32, 49))
 # The rows that are no part of the one axis, and those that are no choice where the words leave none.
 APART = {"hash", "s2sz", *NUMBERS}
 Structure = tuple[str, ...]
-FLAGS = ("false", "true")
 
 
 @dataclass(frozen=True)
@@ -58,7 +58,7 @@ class Width:
 
 @dataclass(frozen=True)
 class Feature:
-    """A flag of the realm's, and the number that is beside it."""
+    """A number of the realm's, and whether its flag is set; one without a flag always has its number."""
 
     has: bool
     number: Number | None
@@ -76,10 +76,7 @@ class Choices:
     rows: list[Row]
     structures: list[tuple[Structure, float]]
     widths: list[Width]
-    bps: list[Number]
-    wps: list[Number]
-    pmu: list[Feature]
-    sve: list[Feature]
+    features: list[list[Feature]]       # of each number of RMM_1_0
     count: int = 0          # of all combinations, also those that are measured alike
 
     @functools.cached_property
@@ -88,17 +85,19 @@ class Choices:
         return [row.name for row in self.rows].index("block_level")
 
     def axes(self) -> list[Axis]:
-        return [Axis("rows", tuple(likely for _, likely in self.structures)),
-                *(Axis(name, tuple(each.likely for each in some)) for name, some in (
-                    ("s2sz", self.widths), ("num_bps", self.bps), ("num_wps", self.wps), ("pmu", self.pmu), ("sve", self.sve)))]
+        return [Axis("rows", tuple(likely for _, likely in self.structures)), Axis("s2sz", tuple(each.likely for each in self.widths)),
+                *(Axis(about.flag or about.key, tuple(each.likely for each in some)) for about, some in zip(RMM_1_0, self.features))]
 
     def taken(self, structure: Structure) -> dict[str, str]:
         return {row.name: name for row, name in zip(self.rows, structure)}
 
     def at_numbers(self, at: At) -> "Choices":
         """The same with the width and the numbers of a combination alone."""
-        _, width, bps, wps, pmu, sve = at
-        return replace(self, widths=[self.widths[width]], bps=[self.bps[bps]], wps=[self.wps[wps]], pmu=[self.pmu[pmu]], sve=[self.sve[sve]])
+        return replace(self, widths=[self.widths[at[1]]], features=[[feature] for feature in self.features_at(at)])
+
+    def features_at(self, at: At) -> list[Feature]:
+        """The numbers of a combination."""
+        return [some[place] for some, place in zip(self.features, at[2:])]
 
 
 # ---- a guest with its value
@@ -162,12 +161,12 @@ class Case:
 
     def parameters(self, at: At) -> tuple[tuple, str]:
         """The parameters of the realm, and their lines in a manifest."""
-        choices = self.chosen
-        _, width, bps, wps, pmu, sve = at
-        counters, vector = choices.pmu[pmu], choices.sve[sve]
-        values = (self.width_of(width), choices.bps[bps].value, choices.wps[wps].value, counters.has, counters.count, vector.has, vector.count)
-        return values, (f'algo = "{self.value.algo}"\ns2sz = {values[0]}\nnum_bps = {values[1]}\nnum_wps = {values[2]}\npmu = {FLAGS[values[3]]}\n'
-                        f"pmu_num_ctrs = {values[4]}\nsve = {FLAGS[values[5]]}\nsve_vl = {values[6]}\n")
+        width, features = self.width_of(at[1]), self.chosen.features_at(at)
+        lines = [f'algo = "{self.value.algo}"', f"s2sz = {width}"]
+        for about, feature in zip(RMM_1_0, features):
+            lines += [f"{about.flag} = {value_text(feature.has)}"] if about.flag else []
+            lines.append(f"{about.key} = {feature.count}")
+        return (width, *((feature.has, feature.count) for feature in features)), "".join(f"{line}\n" for line in lines)
 
     def width_of(self, place: int) -> int:
         return self.width(self.chosen.widths[place].name)
@@ -254,13 +253,15 @@ def widths_of(cases: Sequence[Case], ways: dict[str, float], chosen: Chosen, mos
     return sorted(found, key=lambda each: -each.likely)
 
 
-def features_of(host: Host, flag: str, key: str, ways: dict[str, float], is_seen: bool | None) -> list[Feature]:
-    """A flag with its number. `is_seen`: whether the devicetree shows it, where that is asked."""
-    given = host[flag] if is_seen is None else is_seen
+def features_of(host: Host, about: Parameter, ways: dict[str, float], is_seen: bool | None) -> list[Feature]:
+    """A number, with its flag where it has one. `is_seen`: whether the devicetree shows the flag, where that is asked."""
+    read = host[about.key]
+    some = numbers.options(about, ways, None if read is None else int(read))
+    if about.flag is None:
+        return [Feature(True, each, each.likely) for each in some]
+    given = host[about.flag] if is_seen is None else is_seen
     share = 0.5 if given is None else 1 - OTHER_FLAG if given else OTHER_FLAG
-    read = host[key]
     found = [Feature(False, None, 1 - share)]
-    some = numbers.options(key, ways, None if read is None else int(read))
     total = sum(each.likely for each in some)
     found += [Feature(True, each, share * each.likely / total) for each in some]
     return sorted(found, key=lambda each: -each.likely)
@@ -273,14 +274,10 @@ def choices_of(cases: Sequence[Case], host: Host, chosen: Mapping[str, Chosen], 
     likeliest = {name: each.name for name, each in chosen.items()}
     most = host["s2sz_max"]
 
-    def numbers_of(key: str) -> list[Number]:
-        given = host[key]
-        return numbers.options(key, likely_ways(chosen[key].row, chosen[key]), None if given is None else int(given))
-
     widths = widths_of(cases, likely_ways(chosen["s2sz"].row, chosen["s2sz"]), chosen["s2sz"], None if most is None else int(most))
-    made = Choices(rows, structures_of(cases, rows, ways, likeliest), widths, numbers_of("num_bps"), numbers_of("num_wps"),
-                   features_of(host, "pmu", "pmu_num_ctrs", likely_ways(chosen["pmu_num_ctrs"].row, chosen["pmu_num_ctrs"]), has_pmu),
-                   features_of(host, "sve", "sve_vl", likely_ways(chosen["sve_vl"].row, chosen["sve_vl"]), None))
+    seen = {"pmu": has_pmu}     # the flags that a devicetree shows
+    features = [features_of(host, about, likely_ways(chosen[about.key].row, chosen[about.key]), seen.get(about.flag or "")) for about in RMM_1_0]
+    made = Choices(rows, structures_of(cases, rows, ways, likeliest), widths, features)
     if not made.structures:
         raise Fault("no combination of the rows has a place for each blob, expected --row to leave some")
     made.count = math.prod(len(each) for each in ways) * count_of(made.axes()[1:])
@@ -304,16 +301,16 @@ class Settled:
 
 def settled_of(cases: Sequence[Case], choices: Choices, at: At, algo: str | None) -> Settled:
     """What a combination says."""
-    structure, width, bps, wps, pmu, sve = at
+    structure, width = at[:2]
     taken = choices.taken(choices.structures[structure][0])
     ways, values = dict(taken) | {"s2sz": choices.widths[width].name}, dict[str, int | bool]()
     if algo:
         ways["hash"] = algo
-    for key, number in (("num_bps", choices.bps[bps]), ("num_wps", choices.wps[wps]), ("pmu_num_ctrs", choices.pmu[pmu].number),
-                        ("sve_vl", choices.sve[sve].number)):
-        if number:
-            ways[key], values[key] = number.way, number.read
-    values |= {"pmu": choices.pmu[pmu].has, "sve": choices.sve[sve].has}
+    for about, feature in zip(RMM_1_0, choices.features_at(at)):
+        if feature.number:
+            ways[about.key], values[about.key] = feature.number.way, feature.number.read
+        if about.flag:
+            values[about.flag] = feature.has
     widths = [case.width_of(width) for case in cases]
     found = open_of(cases, choices, taken, widths)
     if same := [name for name in cases[0].names_of("s2sz") if name != ways["s2sz"] and [case.width(name) for case in cases] == widths]:
@@ -341,12 +338,12 @@ def tried_lines(search_at: Choices, reached: list[set[int]]) -> list[str]:
     if len(tried) < len(search_at.structures):
         lines.append(f"{len(tried)} of {len(search_at.structures)} combinations of these rows")
     lines.append("s2sz: " + ", ".join(search_at.widths[place].name for place in sorted(reached[1])))
-    for name, some, places in (("num_bps", search_at.bps, reached[2]), ("num_wps", search_at.wps, reached[3])):
-        lines.append(f"{name}: {ranges(some[place].value for place in places)}")
-    for flag, key, features, places in (("pmu", "pmu_num_ctrs", search_at.pmu, reached[4]), ("sve", "sve_vl", search_at.sve, reached[5])):
+    for about, features, places in zip(RMM_1_0, search_at.features, reached[2:]):
         some = [features[place] for place in places]
         values = ranges(each.number.value for each in some if each.number)
-        lines.append(f"{flag}: {' and '.join(dict.fromkeys(str(each.has).lower() for each in some))}" + f"; {key}: {values}" * bool(values))
+        numbers_tried = f"{about.key}: {values}" if values else ""
+        flags_tried = f"{about.flag}: {' and '.join(dict.fromkeys(value_text(each.has) for each in some))}" if about.flag else ""
+        lines.append("; ".join(filter(None, (flags_tried, numbers_tried))))
     return lines
 
 

@@ -5,7 +5,7 @@ from collections.abc import Mapping, Sequence
 from dataclasses import dataclass, replace
 
 from finder.runs import Runs
-from outside import ending, files, measurement
+from outside import ending, files, measurement, parameters
 from outside.faults import Fault, WrongWords
 from outside.measurement import Value
 from outside.rim import REPORT
@@ -223,7 +223,7 @@ def variants(work: Work, dump: dumps.Dump, launch: launches.Launch) -> list[tupl
 def values_of(about: Host, settled: Settled) -> dict[str, int | str]:
     """The keys of the file: what it said, with what was found in its place."""
     found: dict[str, int | str] = {key: value for key, value in about.values.items() if key not in ("block_level", "rec_rule", "settled_by")}
-    for flag, key in (("sve", "sve_vl"), ("pmu", "pmu_num_ctrs")):
+    for flag, key in parameters.FLAGGED:
         if not settled.values[flag]:
             found.pop(key, None)
     found |= settled.values

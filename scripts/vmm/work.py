@@ -4,7 +4,7 @@ import os
 import shutil
 from collections.abc import Callable
 
-from outside import ending, files, programs
+from outside import ending, files, parameters, programs
 from outside.faults import Fault, WrongWords
 from outside.rim import REPORT, Rim
 from outside.texts import shown, visible
@@ -187,8 +187,8 @@ class Work:
     def taken(self) -> dict[str, Chosen]:
         """The rows that a realm may change, of these launches, with what is taken of them."""
         names = {row.name for row in self.table}
-        without = {"dtb_file": "own_dtb" not in self.said, "sve_vl": not self.host["sve"], "pmu_num_ctrs": not self.host["pmu"],
-                   "hash": self.algo_from != "rule hash"}
+        without = {"dtb_file": "own_dtb" not in self.said, "hash": self.algo_from != "rule hash"}
+        without |= {key: not self.host[flag] for flag, key in parameters.FLAGGED}
         return {name: each for name, each in self.chosen.items() if name in names and not without.get(name)}
 
     def trees(self, made: Folder, found: list[Launch]) -> dict[str, dumps.Dump]:

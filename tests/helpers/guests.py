@@ -1,14 +1,17 @@
 """A guest of each hypervisor: its files and its words for rim-manifest, and programs that stand in for the hypervisors."""
 import os
 
+from outside.parameters import RMM_1_0
+
 from . import MIB, TOP
 from .files import image, tree
 
 START = os.path.join(TOP, "rim-manifest")
 LINES = os.path.join(TOP, "tests", "lines")
 
-HOST = {"num_bps": "5", "num_wps": "3", "sve": "false", "pmu": "true", "pmu_num_ctrs": "6", "block_level": "2", "rec_rule": '"runnable"',
-        "s2sz_max": "48"}
+# A machine with what is usual of each number, a PMU and no SVE.
+HOST = {each.key: str(each.usual[0]) for each in RMM_1_0 if each.flag != "sve"} | {"sve": "false", "pmu": "true", "block_level": "2",
+        "rec_rule": '"runnable"', "s2sz_max": "48"}
 
 
 def host(**changes) -> bytes:

@@ -13,6 +13,8 @@ from helpers.folders import Folder
 from helpers.guests import FILES, LOW, OTHER_IMAGE, QEMU, STAND_IN, START, TREES, WITH_TREE, replaced, without
 from helpers.tries import differs
 
+from outside import parameters
+
 from .written import names_of, read_by, recorded
 
 
@@ -206,6 +208,6 @@ def texts(program: str):
         with open(example, encoding="utf-8") as file:
             keys = set(re.findall(r"^#?([a-z0-9_]+) = ", file.read(), re.M))
         wrong += differs("keys of the example", "one of " + ", ".join(sorted(keys)), "one of " + ", ".join(sorted(
-            ["num_bps", "num_wps", "sve", "sve_vl", "pmu", "pmu_num_ctrs", "s2sz_max", "hypervisor_version", "num_aux", "rpv", "pool_base",
+            [*parameters.ALL, "s2sz_max", "hypervisor_version", "num_aux", "rpv", "pool_base",
              "pool_count", "settled_by"])))
     return wrong
