@@ -91,7 +91,11 @@ CHANGES = [
     ("an acceptance", replaced("c", "item", RAM + "\nitem"), PATHS, {}, ['launch "c" is accepted now: {c}, was refused outside-ram']),
     ("another refusal", [LAUNCHES[0], LAUNCHES[1], launch("c", RAM, OVERLAP), LAUNCHES[3]], PATHS, {},
      ['launch "c" is refused for another reason: overlap, was outside-ram']),
-    ("a name", replaced("b", '"b"', '"new"'), PATHS, {}, ['launch "b" is gone: it was {B}', 'launch "new" is new: {new}']),
+    ("a name", replaced("b", '"b"', '"new"'), PATHS, {}, ['launch "new" has the value that launch "b" had, which is gone: {new}']),
+    ("the name of one that is refused", replaced("c", '"c"', '"new"'), PATHS, {},
+     ['launch "c" is gone: it was {C}', 'launch "new" is new: {new}']),
+    ("names exchanged", [*replaced("a", '"a"', '"d"')[:1], *LAUNCHES[1:3], *replaced("d", '"d"', '"a"')[3:]], PATHS, {},
+     ['launch "a" has the value that launch "d" had: {D}, was {A}', 'launch "d" has the value that launch "a" had: {A}, was {D}']),
     ("a launch more", [LAUNCHES[0], launch("bad", ITEM % ("one", "")), *LAUNCHES[1:]], PATHS, {}, ['launch "bad" is new: refused outside-ram']),
     ("a launch that was refused is gone", [LAUNCHES[0], LAUNCHES[1], LAUNCHES[3]], PATHS, {},
      ['launch "c" is gone: it was refused outside-ram']),
@@ -102,7 +106,7 @@ CHANGES = [
     ("a file that has one byte more", LAUNCHES, PATHS, {ODD: LONGER},
      [r'file "a \"b\"\x0a" has other contents: ' + f"{content(LONGER)}, was {content(FILES[ODD])}"]),
     ("another path", LAUNCHES, PATHS | {"one": "./one"}, {},
-     [f'file "one" is gone: it was {content(FILES["one"])}', f'file "./one" is new: {content(FILES["one"])}']),
+     [f'file "./one" has the contents that file "one" had, which is gone: {content(FILES["one"])}']),
     ("a file more", LAUNCHES, PATHS | {"more": "more"}, {"more": MORE}, [f'file "more" is new: {content(MORE)}']),
     ("a path twice", LAUNCHES, PATHS | {"twin": "two"}, {}, []),
     ("all at once", [*LAUNCHES[2:], launch("e"), launch("f", algo="sha512")], {"two": "two", "one": "more"}, {"more": MORE},
@@ -280,6 +284,43 @@ def joined(program: str) -> list[str]:
     return wrong + differs("a file that is changed", (status, out, said), (3, "", changed))
 
 
+def of_folders(program: str) -> list[str]:
+    """A folder of rim-manifest, several reports and several manifests are compared as one. The folder is read from anywhere."""
+    here = several()
+    here.put("kept.json", here.run("--json", start=os.path.join(here.path, MEASURE), RIM=program)[1].encode())
+    names = [f"manifest-{n}.toml" for n in (1, 2, 3)]
+    for name in names:
+        ran = subprocess.run([program, "measure", "--json", name], cwd=os.path.join(here.path, "realms"), capture_output=True, check=True)
+        here.put(f"{name}.json", ran.stdout)
+    reports = [f"{name}.json" for name in names]
+    wrong = differs("a folder", here.run("kept.json", "realms", start=START, RIM=program), (0, "", ""))
+    wrong += differs("its reports", here.run("kept.json", *reports, start=START), (0, "", ""))
+    wrong += differs("kept apart", here.run("--kept", reports[2], f"--kept={reports[1]}", reports[0], "realms/", start=START, RIM=program), (0, "", ""))
+    wrong += differs("one of them", here.run("kept.json", *reports[1:], start=START)[:2], (1, "".join(
+        f'{of} is gone: it was {was}\n' for of, was in (('launch "l1"', value_in(here, reports[0])), ('file "own-1"', content(b"\x01"))))))
+    before = here.read("realms/own-2")
+    here.put("realms/own-2", b"two")
+    status, out, said = here.run("--json", "kept.json", "realms", start=START, RIM=program)
+    now = here.run("--json", start=os.path.join(here.path, MEASURE), RIM=program)[1]
+    was = {"algorithm": "sha256", "rim": value_in(here, reports[1]).split(" ")[1]}
+    new = {"algorithm": "sha256", "rim": json.loads(now)["launches"][1]["rim"]}
+    contents = [{"bytes": len(data), "sha256": hashlib.sha256(data).hexdigest()} for data in (before, b"two")]
+    wrong += differs("JSON", (status, json.loads(out), said), (1, {"version": 1, "notes": [], "differences": [
+        {"of": "launch", "name": "l2", "kind": "value", "was": was, "now": new},
+        {"of": "file", "name": "own-2", "kind": "contents", "was": contents[0], "now": contents[1]}]}, ""))
+    wrong += differs("JSON of nothing", here.run("--json", "kept.json", "kept.json", start=START),
+                     (0, '{"version": 1, "notes": [], "differences": []}\n', ""))
+    here.put("realms/manifest-2.toml", b"rim_manifest = 1\nlunch = 1")
+    return wrong + differs("a fault in a folder", here.run("kept.json", "realms", start=START, RIM=program),
+                           (3, "", "rim-compare: rim: unknown-key; `rim check manifest-2.toml` in realms says where\n"))
+
+
+def value_in(here: Folder, path: str) -> str:
+    """The value of the first launch of a report, as a line has it."""
+    first = json.loads(here.read(path))["launches"][0]
+    return f"{first['algorithm']} {first['rim']}"
+
+
 def of_schema(program: str) -> list[str]:
     """A joined report is as long as the schema lets it be."""
     with open(os.path.join(TOP, "docs", "report.schema.json"), encoding="utf-8") as file:
@@ -363,24 +404,27 @@ BAD = {"key.toml": KEY, "key $(b).toml": KEY, "toml.toml": b"rim_manifest = ", "
        "bytes.json": b"{\xff\xfe}", "empty": b"", "twice.json": b'{"version":3,"version":3}', "digits.json": b'{"a":' + b"1" * 5000,
        "nan.json": b'{"a":NaN}'}
 WORDS = [
-    ([], 2, "usage: rim-compare REPORT MANIFEST"),
-    (["kept.json"], 2, "1 operand, expected REPORT and MANIFEST, or two reports"),
-    (["kept.json", "m.toml", "m.toml"], 2, "3 operands, expected"),
+    ([], 2, "usage: rim-compare [--json]"),
+    (["kept.json"], 2, "1 operand, expected REPORT and what it is compared with; see rim-compare --help"),
+    (["--kept", "kept.json", "kept.json"], 2, "1 operand, expected"),
+    (["kept.json", "m.toml", "--kept"], 2, "--kept: nothing comes after it, expected a report"),
+    (["kept.json", "m.toml", "m.toml"], 3, 'two launches have the name "a", expected each name once'),
+    (["kept.json", "m.toml", "--kept=kept.json"], 3, 'two launches have the name "a", expected each name once'),
     (["--all", "kept.json", "m.toml"], 2, '"--all" is no option'),
     (["--help", "--all"], 2, '"--all" is no option'),
     (["gone.json", "m.toml"], 3, "gone.json: No such file or directory, expected a report of rim measure --json"),
-    (["kept.json", "gone.toml"], 3, "gone.toml: No such file or directory, expected a report or a manifest"),
-    (["kept.json", "."], 3, ".: it is a folder, expected a report or a manifest"),
+    (["kept.json", "gone.toml"], 3, "gone.toml: No such file or directory, expected a report, a manifest or a folder of rim-manifest"),
+    (["kept.json", "."], 3, ".: it has 0 manifests, expected a folder of rim-manifest with 1 to 1024"),
     (["m.toml", "kept.json"], 3, "m.toml: it is no JSON that is read here"),
     (["twice.json", "m.toml"], 3, 'twice.json: it is no JSON that is read here (the member "version" is given twice)'),
     (["digits.json", "m.toml"], 3, "digits.json: it is no JSON that is read here (Exceeds the limit"),
     (["nan.json", "m.toml"], 3, "nan.json: it is no JSON that is read here (NaN is no number of JSON)"),
     (["/dev/zero", "m.toml"], 3, "/dev/zero: it is a device, expected a report"),
-    (["kept.json", "/dev/zero"], 3, "/dev/zero: it is a device, expected a report or a manifest"),
+    (["kept.json", "/dev/zero"], 3, "/dev/zero: it is a device, expected a report, a manifest or a folder of rim-manifest"),
     (["fifo", "m.toml"], 3, "fifo: it is a FIFO, expected a report"),
-    (["kept.json", "fifo"], 3, "fifo: it is a FIFO, expected a report or a manifest"),
+    (["kept.json", "fifo"], 3, "fifo: it is a FIFO, expected a report, a manifest or a folder of rim-manifest"),
     (["huge", "m.toml"], 3, "huge: it has more than 67108864 bytes, expected a report"),
-    (["kept.json", "huge"], 3, "huge: it has more than 67108864 bytes, expected a report or a manifest"),
+    (["kept.json", "huge"], 3, "huge: it has more than 67108864 bytes, expected a report, a manifest or a folder of rim-manifest"),
     (["a\x1b\n\u200b", "m.toml"], 3, "a\\x1b\\x0a\\u200b: No such file or directory"),
     (["array.json", "m.toml"], 3, "array.json: version is missing"),
     (["cut.json", "m.toml"], 3, "cut.json: it is no JSON that is read here"),
@@ -408,7 +452,7 @@ def words(program: str) -> list[str]:
             wrong.append(f"{given[:2]}: {status} {out!r} {said!r}, expected {expected} {text!r}")
         if given and (not said.startswith("rim-compare: ") or said.count("\n") != 1):
             wrong.append(f"{given[:2]}: {said!r} is not one line")
-    for given, text in ((["--help"], "usage: rim-compare REPORT MANIFEST"), (["-V"], "rim-compare 0."), (["a", "b", "c", "-h"], "Status: 0")):
+    for given, text in ((["--help"], "usage: rim-compare [--json]"), (["-V"], "rim-compare 0."), (["a", "b", "c", "-h"], "Status: 0")):
         status, out, said = here.run(*given, start=START)
         wrong += differs(given[0], (status, text in out, said), (0, True, ""))
     for rim, text in (("/none/rim", 'no program "/none/rim" is found, expected it in the PATH or its path in the variable RIM'),
@@ -478,17 +522,18 @@ def ended(here: Folder, words: list[str], output: str, program: str) -> tuple[in
 def documents(_program: str) -> list[str]:
     """The man page has each option and each kind of line."""
     with open(os.path.join(TOP, "docs", "rim-compare.1"), encoding="utf-8") as file:
-        page = re.sub(r"\s+", " ", file.read().replace("\\-", "-"))
+        page = re.sub(r"\s+", " ", file.read().replace("\\-", "-").replace("\\(dq", '"'))
     with open(os.path.join(SCRIPTS, "comparer", "differ.py"), encoding="utf-8") as file:
-        kinds = re.findall(r'f"((?:is|has) [^:{"]+):', file.read())
-    wrong = differs("kinds of lines", len(kinds), 7)
+        text = file.read()
+    kinds = re.findall(r'f"((?:is|has) [^:{"]+):', text) + re.findall(r'^    [A-Z]+ = ("[a-z]+")', text, re.M)
+    wrong = differs("kinds of lines, and of JSON", len(kinds), 7 + 8)
     return wrong + [f"docs/rim-compare.1: {name!r} is not there" for name in ("--help", "--version", *kinds) if name not in page]
 
 
 def all_tries(program: str):
     for name, launches, paths, changed, lines in CHANGES:
         yield name, lambda launches=launches, paths=paths, changed=changed, lines=lines: change(program, launches, paths, changed, lines)
-    for look in (joined, of_schema, misbehaving, signals, versions, programs, malformed, words, faults, installed, outputs, documents):
+    for look in (joined, of_folders, of_schema, misbehaving, signals, versions, programs, malformed, words, faults, installed, outputs, documents):
         yield look.__name__, lambda look=look: look(program)
 
 

@@ -1,45 +1,127 @@
-"""The lines of what differs between a kept report and another one."""
-from collections.abc import Callable, Mapping
-from typing import TypeVar
+"""What differs between a kept report and another one, as values; a line and a member of JSON of each."""
+import enum
+from collections import Counter
+from collections.abc import Callable, Iterator, Mapping
+from dataclasses import dataclass
 
 from outside.texts import quoted
 
 from .report import Content, Report, Value
 
+Entry = Value | Content
 
-def of_value(was: Value, now: Value) -> str:
+
+class Kind(enum.Enum):
+    """How a launch or a file differs; the value is the word that JSON has."""
+
+    VALUE = "value"             # another measurement
+    CONTENTS = "contents"       # other bytes
+    REFUSED = "refused"         # it was accepted
+    ACCEPTED = "accepted"       # it was refused
+    REASON = "reason"           # it is refused for another reason
+    RENAMED = "renamed"         # one that is gone had its value or its contents
+    GONE = "gone"
+    NEW = "new"
+
+
+@dataclass(frozen=True)
+class Difference:
+    """How one launch or file differs. `had`: the name of another one that had in the kept report what this one has now."""
+
+    of: str
+    name: str
+    kind: Kind
+    was: Entry | None
+    now: Entry | None
+    had: str | None = None
+
+    @property
+    def line(self) -> str:
+        return f"{self.of} {quoted(self.name)} {self.text}"
+
+    @property
+    def text(self) -> str:
+        match self.kind:
+            case Kind.GONE:
+                return f"is gone: it was {self.was}"
+            case Kind.NEW:
+                return f"is new: {self.now}"
+            case Kind.RENAMED:
+                return f"has {self.what} that {self.of} {quoted(self.had or '')} had, which is gone: {self.now}"
+            case Kind.VALUE | Kind.CONTENTS if self.had is not None:
+                return f"has {self.what} that {self.of} {quoted(self.had)} had: {self.now}, was {self.was}"
+            case Kind.VALUE:
+                return f"has another value: {self.now}, was {self.was}"
+            case Kind.CONTENTS:
+                return f"has other contents: {self.now}, was {self.was}"
+            case Kind.REFUSED:
+                return f"is refused now: {reason(self.now)}, was {self.was}"
+            case Kind.ACCEPTED:
+                return f"is accepted now: {self.now}, was {self.was}"
+            case Kind.REASON:
+                return f"is refused for another reason: {reason(self.now)}, was {reason(self.was)}"
+
+    @property
+    def what(self) -> str:
+        return "the value" if isinstance(self.now, Value) else "the contents"
+
+    @property
+    def table(self) -> dict[str, object]:
+        """The same as a member of JSON. What there is not is left out."""
+        entries = (("was", self.was), ("now", self.now))
+        found: dict[str, object] = {"of": self.of, "name": self.name, "kind": self.kind.value}
+        found |= {key: entry.table for key, entry in entries if entry is not None}
+        return found | ({"had": self.had} if self.had is not None else {})
+
+
+def reason(entry: Entry | None) -> str:
+    return entry.refused if isinstance(entry, Value) else ""
+
+
+def of_value(was: Value, now: Value) -> Kind:
     """How the value of a launch differs from what it was."""
-    if was.refused and now.refused:
-        return f"is refused for another reason: {now.refused}, was {was.refused}"
     if now.refused:
-        return f"is refused now: {now.refused}, was {was}"
-    if was.refused:
-        return f"is accepted now: {now}, was {was}"
-    return f"has another value: {now}, was {was}"
+        return Kind.REASON if was.refused else Kind.REFUSED
+    return Kind.ACCEPTED if was.refused else Kind.VALUE
 
 
-def of_content(was: Content, now: Content) -> str:
-    return f"has other contents: {now}, was {was}"
+def of_content(_was: Content, _now: Content) -> Kind:
+    return Kind.CONTENTS
 
 
-Entry = TypeVar("Entry", Value, Content)
+def names_of_one(entries: Mapping[str, Entry]) -> dict[Entry, str]:
+    """The name of each entry that no other one is the same as. A refusal is the same as others by chance, so it is none."""
+    counts = Counter(entries.values())
+    return {entry: name for name, entry in entries.items() if counts[entry] == 1 and not reason(entry)}
 
 
-def of_all(what: str, was: Mapping[str, Entry], now: Mapping[str, Entry], other: Callable[[Entry, Entry], str]) -> list[str]:
-    """A line for each that differs: first those that were there, in their order, then the new ones in theirs."""
-    found = []
+def new_names_of(was: Mapping[str, Entry], now: Mapping[str, Entry]) -> dict[str, str]:
+    """The new name of each that is gone, where something new is what it was. Of several that are the same each has one, in their order."""
+    new: dict[Entry, list[str]] = {}
+    for name, entry in now.items():
+        if name not in was and not reason(entry):
+            new.setdefault(entry, []).append(name)
+    return {name: new[old].pop(0) for name, old in was.items() if name not in now and new.get(old)}
+
+
+def of_all(of: str, was: Mapping[str, Entry], now: Mapping[str, Entry], kind_of: Callable[..., Kind]) -> Iterator[Difference]:
+    """Each that differs: first those that were there, in their order, then the new ones in theirs. One that has another name now is one
+    difference, at the place of the old name."""
+    had, new_names = names_of_one(was), new_names_of(was, now)
     for name, old in was.items():
-        if name not in now:
-            found.append((name, f"is gone: it was {old}"))
+        if name in new_names:
+            yield Difference(of, new_names[name], Kind.RENAMED, old, old, name)
+        elif name not in now:
+            yield Difference(of, name, Kind.GONE, old, None)
         elif now[name] != old:
-            found.append((name, other(old, now[name])))
-    found += [(name, f"is new: {new}") for name, new in now.items() if name not in was]
-    return [f"{what} {quoted(name)} {line}" for name, line in found]
+            kind = kind_of(old, now[name])
+            yield Difference(of, name, kind, old, now[name], had.get(now[name]) if kind in (Kind.VALUE, Kind.CONTENTS) else None)
+    renamed = set(new_names.values())
+    yield from (Difference(of, name, Kind.NEW, None, new) for name, new in now.items() if name not in was and name not in renamed)
 
 
-def lines(was: Report, now: Report) -> list[str]:
+def differences(was: Report, now: Report) -> Iterator[Difference]:
     """All that differs: launches, and files where both reports have them."""
-    launches = of_all("launch", was.launches, now.launches, of_value)
-    if was.files is None or now.files is None:
-        return launches
-    return launches + of_all("file", was.files, now.files, of_content)
+    yield from of_all("launch", was.launches, now.launches, of_value)
+    if was.files is not None and now.files is not None:
+        yield from of_all("file", was.files, now.files, of_content)

@@ -1,12 +1,16 @@
 """The order of the work: words, the kept report, the other one, what is printed."""
+import functools
+import json
+import os
+import re
 import sys
 
 from outside import ending, files, programs
 from outside.faults import Fault, WrongWords
 from outside.programs import Limits
 from outside.rim import Rim
-from outside.texts import pasted, shown
-from outside.words import VERSION, Known, no_option, walk
+from outside.texts import pasted, shown, visible
+from outside.words import END, VERSION, Known, no_option, walk
 
 from . import differ, report
 from .report import Report
@@ -16,39 +20,64 @@ MOST = 64 << 20
 
 ABOUT = """rim-compare: what differs between a kept report and what a manifest gives now
 
-usage: rim-compare REPORT MANIFEST
-       rim-compare REPORT REPORT
+usage: rim-compare [--json] [--kept REPORT].. REPORT OTHER..
        rim-compare --help | --version
 
-REPORT is what `rim measure --json` has written. It is compared with another one, or with the report of MANIFEST, which `rim` makes
-now. A line is printed for each launch that has another value, is refused or accepted now, is new or gone, and then for each file that
-has other contents, is new or gone. Reports of versions 1 and 2 have no files, so that values alone are compared. Another version of
-`rim` is said and is no difference. The program is the one that the variable RIM names, or `rim` beside this one, or of the PATH.
+REPORT is what `rim measure --json` has written. OTHER is another one, a manifest, of which `rim` makes the report now, or a folder that
+rim-manifest has made; several are taken as one. A line is printed for each launch that has another value, is refused or accepted now, has
+another name, is new or gone, and then for each file that has other contents, has another name, is new or gone. Reports of versions 1 and 2
+have no files, so that values alone are compared. Another version of `rim` is said and is no difference. The program is the one that the
+variable RIM names, or `rim` beside this one, or of the PATH.
 
+      --kept REPORT another kept report: all of them are taken as one
+      --json        print one JSON object in place of lines
   -h, --help        print help
   -V, --version     print the version
 
 Status: 0 nothing differs; 1 something differs; 2 wrong words; 3 a fault.
 """
-HELP_HINT = "expected REPORT and MANIFEST, or two reports; see rim-compare --help"
+HELP_HINT = "expected REPORT and what it is compared with; see rim-compare --help"
 ALONE = {"-h": ABOUT, "--help": ABOUT, "-V": f"rim-compare {VERSION}\n", "--version": f"rim-compare {VERSION}\n"}
-KNOWN = Known(dict.fromkeys(ALONE, ""), no_option("rim-compare"))
+KNOWN = Known(dict.fromkeys((*ALONE, "--json"), "") | {"--kept": "a report"}, no_option("rim-compare"))
+# The manifests that rim-manifest writes into a folder, and the most of them.
+IN_FOLDER, MOST_MANIFESTS = re.compile(r"manifest(?:-([0-9]{1,4}))?\.toml"), 1024
+# The version of what --json prints.
+JSON_VERSION = 1
 
 
-def measured(path: str) -> Report:
-    """The report of the manifest at a path, which the program makes now."""
-    rim = Rim(programs.found())
+@functools.cache
+def program() -> Rim:
+    """The program that measures; it may be started in another folder."""
+    rim = Rim(os.path.abspath(programs.found()))
     programs.check(rim.path)
-    ran = rim.run("measure", "--json", "--", path, limits=Limits(out=MOST))
+    return rim
+
+
+def measured(path: str, folder: str | None = None) -> Report:
+    """The report of the manifest at a path, which the program makes now; in a folder where the paths of the manifest are as from there."""
+    ran = program().run("measure", "--json", "--", path, limits=Limits(out=MOST), folder=folder)
     if ran.status not in (0, 1):
-        raise Fault(f"{ran.said}; `rim check {pasted(path)}` says where" if ran.status == 3 else ran.said)
-    return report.read(ran.out, rim.path)
+        there = f" in {pasted(folder)}" if folder else ""
+        raise Fault(f"{ran.said}; `rim check {pasted(path)}`{there} says where" if ran.status == 3 else ran.said)
+    return report.read(ran.out, program().path)
 
 
-def other(path: str) -> Report:
-    """The report at a path, where an object of JSON is there, or that of the manifest there: no TOML begins so."""
-    data = files.read(path, MOST, "a report or a manifest")
-    return report.read(data, path) if data.lstrip().startswith(b"{") else measured(path)
+def of_folder(path: str) -> list[Report]:
+    """The reports of the manifests of a folder that rim-manifest has made, in their order."""
+    with files.faults_of(path, "a folder of rim-manifest"):
+        found = sorted((int(named[1] or 0), named[0]) for named in map(IN_FOLDER.fullmatch, os.listdir(path)) if named)
+    if not 1 <= len(found) <= MOST_MANIFESTS:
+        raise Fault(f"{visible(path)}: it has {len(found)} manifests, expected a folder of rim-manifest with 1 to {MOST_MANIFESTS}")
+    return [measured(name, path) for _, name in found]
+
+
+def others(path: str) -> list[Report]:
+    """The reports of a path: of a folder's manifests; the one there, where an object of JSON is there; or that of the manifest there, since
+    no TOML begins so."""
+    if os.path.isdir(path):
+        return of_folder(path)
+    data = files.read(path, MOST, "a report, a manifest or a folder of rim-manifest")
+    return [report.read(data, path) if data.lstrip().startswith(b"{") else measured(path)]
 
 
 def notes(was: Report, now: Report) -> list[str]:
@@ -65,19 +94,22 @@ def run(words: list[str]) -> int:
         return 2
     said = list(walk(KNOWN, words))
     options = [option for option, _ in said if option in ALONE]
-    operands = [word for option, word in said if option not in ALONE]
+    operands = [word for option, word in said if option in ("", END)]
     if options:
         print(ALONE[options[0]], end="")
         return 0
-    if len(operands) != 2:
+    if len(operands) < 2:
         raise WrongWords(f"{len(operands)} operand{'s' * (len(operands) != 1)}, {HELP_HINT}")
-    kept, path = operands
-    was = report.read(files.read(kept, MOST, report.WHAT), kept)
-    now = other(path)
-    for note in notes(was, now):
+    kept = [operands[0], *(value for option, value in said if option == "--kept")]
+    was = report.joined([report.read(files.read(path, MOST, report.WHAT), path) for path in kept])
+    now = report.joined([each for path in operands[1:] for each in others(path)])
+    noted, found = notes(was, now), list(differ.differences(was, now))
+    for note in noted:
         print(f"rim-compare: {note}", file=sys.stderr)
-    found = differ.lines(was, now)
-    print("\n".join(found), end="\n" * bool(found))
+    if any(option == "--json" for option, _ in said):
+        print(json.dumps({"version": JSON_VERSION, "notes": noted, "differences": [each.table for each in found]}))
+    else:
+        print("\n".join(each.line for each in found), end="\n" * bool(found))
     return int(bool(found))
 
 

@@ -1,5 +1,6 @@
 """A report as `rim measure --json` writes it, of each version that it has had."""
 import re
+from collections.abc import Sequence
 from dataclasses import dataclass
 from typing import TypeVar
 
@@ -26,6 +27,11 @@ class Value:
     def __str__(self) -> str:
         return f"refused {self.refused}" if self.refused else f"{self.algorithm} {self.digits}"
 
+    @property
+    def table(self) -> dict[str, object]:
+        """As a report has it."""
+        return {"algorithm": self.algorithm} | ({"refused": self.refused} if self.refused else {"rim": self.digits})
+
 
 @dataclass(frozen=True)
 class Content:
@@ -36,6 +42,11 @@ class Content:
 
     def __str__(self) -> str:
         return f"{self.length} byte{'s' * (self.length != 1)}, sha256 {self.digest}"
+
+    @property
+    def table(self) -> dict[str, object]:
+        """As a report has it."""
+        return {"bytes": self.length, "sha256": self.digest}
 
 
 @dataclass(frozen=True)
@@ -111,6 +122,23 @@ def report_of(table: object) -> Report:
     if version < WITH_FILES:
         return Report(version, launches_of(table), None, None)
     return Report(version, launches_of(table), files_of(table), member(table, "program", str))
+
+
+def joined(reports: Sequence[Report]) -> Report:
+    """Several reports as one: the launches of all, and the files where all have them. Made by several programs, it has the names of all."""
+    launches: dict[str, Value] = {}
+    contents: dict[str, Content] = {}
+    for each in reports:
+        for name, value in each.launches.items():
+            if name in launches:
+                raise Fault(f"two launches have the name {shown(name)}, expected each name once in all that is compared")
+            launches[name] = value
+        for path, content in (each.files or {}).items():
+            if contents.setdefault(path, content) != content:
+                raise Fault(f"two files have the path {shown(path)} and other contents, expected one of each path in all that is compared")
+    programs = [each.program for each in reports]
+    program = None if None in programs else ", ".join(dict.fromkeys(filter(None, programs)))
+    return Report(min(each.version for each in reports), launches, None if program is None else contents, program)
 
 
 def read(data: bytes, path: str) -> Report:
