@@ -61,24 +61,8 @@ fn a_property_that_was_there(rt: HostRuntime) {
 
 // A root with `reg` as 1 and as 2, and the nodes `n` and `n`.
 const TWICE: [u32; 18] = [
-    BEGIN_NODE,
-    0,
-    PROP,
-    1,
-    0,
-    0x3100_0000,
-    PROP,
-    1,
-    0,
-    0x3200_0000,
-    BEGIN_NODE,
-    N,
-    END_NODE,
-    BEGIN_NODE,
-    N,
-    END_NODE,
-    END_NODE,
-    END,
+    BEGIN_NODE, 0, PROP, 1, 0, 0x31000000, PROP, 1, 0, 0x32000000, BEGIN_NODE, N, END_NODE,
+    BEGIN_NODE, N, END_NODE, END_NODE, END,
 ];
 
 // Whether the values of the root's properties are `new` and `2`.
@@ -186,7 +170,7 @@ type NewMemory = (&'static [(u64, u64)], &'static [u8], &'static [Value]);
 
 const NEW_MEMORIES: [NewMemory; 3] = [
     (
-        &[(0x4000_0000, 0x1000_0000)],
+        &[(0x40000000, 0x10000000)],
         b"memory@40000000",
         &[
             (MEMORY, b"device_type", Some(b"memory\0")),
@@ -198,11 +182,11 @@ const NEW_MEMORIES: [NewMemory; 3] = [
         ],
     ),
     (
-        &[(0x4000_0000, 0x1000_0000), (0, 1)],
+        &[(0x40000000, 0x10000000), (0, 1)],
         b"memory@40000000",
         &[(MEMORY, b"reg", Some(&[0, 0, 0, 0, 0, 0, 0, 0, 0, 0, 0, 1]))],
     ),
-    (&[(0, 0xffff_ffff)], b"memory@0", &[]),
+    (&[(0, 0xffffffff)], b"memory@0", &[]),
 ];
 
 // Sets the memory to each of these ranges.
@@ -264,7 +248,7 @@ const FIRST_MEMORY: [Value; 4] = [
 #[test]
 fn the_first_memory_node(rt: HostRuntime) {
     let mut tree = cells(&rt, rt.alloc(), &ONE, &TWO);
-    set_all(&rt, rt.alloc(), &mut tree, &[(0x8000_0000, 0x1_0000_0002)]);
+    set_all(&rt, rt.alloc(), &mut tree, &[(0x80000000, 0x1_0000_0002)]);
     check_values(&rt, &tree, &FIRST_MEMORY);
 }
 
@@ -280,7 +264,7 @@ const BAD: Option<FdtFault> = Some(FdtFault::BadCells);
 type Cells = ([u8; 4], &'static [u8], u64, u64, Option<FdtFault>);
 
 const CELLS: [Cells; 9] = [
-    (ONE, &ONE, 0xffff_ffff, 0xffff_ffff, None),
+    (ONE, &ONE, 0xffffffff, 0xffffffff, None),
     (TWO, &TWO, u64::MAX, u64::MAX, None),
     (ONE, &TWO, LARGE, 0, BAD),
     (TWO, &ONE, 0, LARGE, BAD),

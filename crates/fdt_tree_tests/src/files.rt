@@ -15,7 +15,7 @@ pub const NOP: u32 = 4;
 pub const END: u32 = 9;
 
 /// The name `n`.
-pub const N: u32 = 0x6e00_0000;
+pub const N: u32 = 0x6e000000;
 
 /// Adds the words, big endian.
 pub fn push_words(rt: &impl Abort, out: &mut Vec<u8>, words: &[u32]) {
@@ -48,7 +48,7 @@ fn header(block_len: u32, strings_len: u32) -> [u32; 14] {
     let strings_at = block_len.saturating_add(56);
     let total = strings_at.saturating_add(strings_len);
     [
-        0xd00d_feed,
+        0xd00dfeed,
         total,
         56,
         strings_at,

@@ -29,7 +29,7 @@ fn file_of(rt: &impl Abort, alloc: Global, count: u32, places: u32, strings: &[u
 fn nodes(rt: &impl Abort, alloc: Global, count: u32) -> Vec<u8> {
     let mut block = words(rt, alloc, &[BEGIN_NODE, 0]);
     for _ in 0..count {
-        push_words(rt, &mut block, &[BEGIN_NODE, 0x6100_0000, END_NODE]);
+        push_words(rt, &mut block, &[BEGIN_NODE, 0x61000000, END_NODE]);
     }
     push_words(rt, &mut block, &[END_NODE, END]);
     block

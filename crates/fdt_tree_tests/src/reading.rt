@@ -77,35 +77,9 @@ fn the_end_of_another_name(rt: HostRuntime) {
 
 // A root with `reg` as 1 and as 2, a node `n` with `reg` as 3 and a node `n` in it, and another with 4.
 const EQUAL_NAMES: [u32; 29] = [
-    BEGIN_NODE,
-    0,
-    PROP,
-    1,
-    0,
-    0x3100_0000,
-    PROP,
-    1,
-    4,
-    0x3200_0000,
-    BEGIN_NODE,
-    N,
-    PROP,
-    1,
-    4,
-    0x3300_0000,
-    BEGIN_NODE,
-    N,
-    END_NODE,
-    END_NODE,
-    BEGIN_NODE,
-    N,
-    PROP,
-    1,
-    0,
-    0x3400_0000,
-    END_NODE,
-    END_NODE,
-    END,
+    BEGIN_NODE, 0, PROP, 1, 0, 0x31000000, PROP, 1, 4, 0x32000000, BEGIN_NODE, N, PROP, 1, 4,
+    0x33000000, BEGIN_NODE, N, END_NODE, END_NODE, BEGIN_NODE, N, PROP, 1, 0, 0x34000000, END_NODE,
+    END_NODE, END,
 ];
 
 const EQUAL_VALUES: [Value; 3] = [
@@ -114,30 +88,12 @@ const EQUAL_VALUES: [Value; 3] = [
     (b"/n/n", b"reg", None),
 ];
 
-const A: u32 = 0x6100_0000;
+const A: u32 = 0x61000000;
 
 // Each token after NOPs, and a word after END.
 const NOPS_BEFORE: [u32; 20] = [
-    NOP,
-    NOP,
-    BEGIN_NODE,
-    0,
-    NOP,
-    PROP,
-    4,
-    0,
-    7,
-    NOP,
-    BEGIN_NODE,
-    A,
-    NOP,
-    END_NODE,
-    NOP,
-    END_NODE,
-    NOP,
-    NOP,
-    END,
-    0xffff_ffff,
+    NOP, NOP, BEGIN_NODE, 0, NOP, PROP, 4, 0, 7, NOP, BEGIN_NODE, A, NOP, END_NODE, NOP, END_NODE,
+    NOP, NOP, END, 0xffffffff,
 ];
 
 const NOPS_VALUES: [Value; 1] = [(b"/", b"reg", Some(&[0, 0, 0, 7]))];
@@ -175,8 +131,8 @@ type Change = (&'static [(usize, u32)], Option<FdtFault>);
 
 const CHANGES_OF_EMPTY: [Change; 39] = [
     // the first check that fails decides
-    (&[(0, 0xd00d_feec)], Some(FdtFault::BadMagic)),
-    (&[(0, 0xedfe_0dd0)], Some(FdtFault::BadMagic)),
+    (&[(0, 0xd00dfeec)], Some(FdtFault::BadMagic)),
+    (&[(0, 0xedfe0dd0)], Some(FdtFault::BadMagic)),
     (&[(20, 16)], Some(FdtFault::BadVersion)),
     (&[(20, 18)], Some(FdtFault::BadVersion)),
     (&[(24, 18)], Some(FdtFault::BadVersion)),
@@ -186,27 +142,27 @@ const CHANGES_OF_EMPTY: [Change; 39] = [
     (&[(4, 39)], Some(FdtFault::BadBlock)),
     (&[(4, 71)], Some(FdtFault::BadBlock)),
     (&[(4, 73)], Some(FdtFault::BadBlock)),
-    (&[(4, 0xffff_ffff)], Some(FdtFault::BadBlock)),
+    (&[(4, 0xffffffff)], Some(FdtFault::BadBlock)),
     // the structure block's place and size
     (&[(8, 54)], Some(FdtFault::BadBlock)),
     (&[(8, 60)], Some(FdtFault::BadBlock)),
-    (&[(8, 0xffff_fffc)], Some(FdtFault::BadBlock)),
+    (&[(8, 0xfffffffc)], Some(FdtFault::BadBlock)),
     (&[(36, 17)], Some(FdtFault::BadBlock)),
-    (&[(36, 0xffff_fff0)], Some(FdtFault::BadBlock)),
+    (&[(36, 0xfffffff0)], Some(FdtFault::BadBlock)),
     (&[(36, 15)], Some(FdtFault::BadToken)),
     (&[(36, 0)], Some(FdtFault::BadToken)),
     // the strings block's
     (&[(12, 73)], Some(FdtFault::BadBlock)),
     (&[(12, 1)], None),
     (&[(32, 1)], Some(FdtFault::BadBlock)),
-    (&[(12, 0xffff_ffff)], Some(FdtFault::BadBlock)),
+    (&[(12, 0xffffffff)], Some(FdtFault::BadBlock)),
     // the reservations'
     (&[(16, 44)], Some(FdtFault::BadBlock)),
     (&[(16, 80)], Some(FdtFault::BadBlock)),
     (&[(16, 72)], Some(FdtFault::BadReserve)),
     (&[(16, 0x40)], Some(FdtFault::BadReserve)),
     // the processor that boots is any
-    (&[(28, 0xffff_ffff)], None),
+    (&[(28, 0xffffffff)], None),
     // tokens
     (&[(68, 0)], Some(FdtFault::BadToken)),
     (&[(68, BEGIN_NODE)], Some(FdtFault::BadToken)),
@@ -215,10 +171,10 @@ const CHANGES_OF_EMPTY: [Change; 39] = [
     (&[(68, NOP)], Some(FdtFault::BadToken)),
     (&[(64, END)], Some(FdtFault::BadToken)),
     (&[(56, END)], Some(FdtFault::BadToken)),
-    (&[(56, 0x0100_0000)], Some(FdtFault::BadToken)),
+    (&[(56, 0x01000000)], Some(FdtFault::BadToken)),
     // a root with a name, by its first byte; the last of its padding is not looked at
-    (&[(60, 0x6100_0000)], Some(FdtFault::BadName)),
-    (&[(60, 0x0061_6161)], None),
+    (&[(60, 0x61000000)], Some(FdtFault::BadName)),
+    (&[(60, 0x00616161)], None),
     // no reservations, and no token
     (&[(16, 72), (36, 0)], Some(FdtFault::BadReserve)),
     // the strings are the whole file
@@ -231,7 +187,7 @@ const CHANGES_OF_SUFFIX: [Change; 14] = [
     (&[(72, 3)], None),
     (&[(72, 4)], Some(FdtFault::BadName)),
     (&[(72, 5)], Some(FdtFault::BadString)),
-    (&[(72, 0xffff_ffff)], Some(FdtFault::BadString)),
+    (&[(72, 0xffffffff)], Some(FdtFault::BadString)),
     // the strings block ends before the zero byte
     (&[(32, 4)], Some(FdtFault::BadString)),
     (&[(32, 0)], Some(FdtFault::BadString)),
@@ -242,7 +198,7 @@ const CHANGES_OF_SUFFIX: [Change; 14] = [
     // the value's length: 8 bytes are left, the tokens END_NODE and END
     (&[(68, 8)], Some(FdtFault::BadToken)),
     (&[(68, 9)], Some(FdtFault::BadToken)),
-    (&[(68, 0xffff_ffff)], Some(FdtFault::BadToken)),
+    (&[(68, 0xffffffff)], Some(FdtFault::BadToken)),
     (&[(68, 4)], Some(FdtFault::BadToken)),
 ];
 
@@ -292,7 +248,7 @@ fn a_file_that_is_cut(rt: HostRuntime) {
 }
 
 // A header in which all is wrong.
-const WRONG: [u32; 10] = [0, 39, 1, 0xffff_ffff, 1, 16, 18, 0, 1, 1];
+const WRONG: [u32; 10] = [0, 39, 1, 0xffffffff, 1, 16, 18, 0, 1, 1];
 
 // Each with all later ones wrong too.
 #[test]
@@ -305,7 +261,7 @@ fn the_first_check_of_a_header_decides(rt: HostRuntime) {
 // Such a header with the number at its begin, and 2,097,153 bytes in all.
 fn large(rt: &impl Abort, alloc: Global) -> Vec<u8> {
     let short = words(rt, alloc, &WRONG);
-    let mut large = with_words(rt, alloc, &short, &[(0, 0xd00d_feed)]);
+    let mut large = with_words(rt, alloc, &short, &[(0, 0xd00dfeed)]);
     push_many(rt, &mut large, 0, 2_097_113);
     large
 }
@@ -346,66 +302,14 @@ fn slack(rt: HostRuntime) {
 // The header, whose reservations are in the structure block; a pair of zeros; a property that ends with two zeros,
 // which are tokens and padding; and `reg`.
 const ZEROS_IN: [u32; 26] = [
-    0xd00d_feed,
-    104,
-    56,
-    100,
-    72,
-    17,
-    16,
-    0,
-    4,
-    44,
-    0,
-    0,
-    0,
-    0,
-    BEGIN_NODE,
-    0,
-    PROP,
-    16,
-    0,
-    0,
-    0,
-    0,
-    0,
-    END_NODE,
-    END,
-    0x7265_6700,
+    0xd00dfeed, 104, 56, 100, 72, 17, 16, 0, 4, 44, 0, 0, 0, 0, BEGIN_NODE, 0, PROP, 16, 0, 0, 0,
+    0, 0, END_NODE, END, 0x72656700,
 ];
 
 // The header, three reservations and the pair of zeros, and an empty root.
 const RESERVED: [u32; 30] = [
-    0xd00d_feed,
-    120,
-    104,
-    120,
-    40,
-    17,
-    16,
-    3,
-    0,
-    16,
-    0,
-    0,
-    0,
-    1,
-    0x8000_0000,
-    0,
-    0,
-    0,
-    0xffff_ffff,
-    0xffff_ffff,
-    1,
-    2,
-    0,
-    0,
-    0,
-    0,
-    BEGIN_NODE,
-    0,
-    END_NODE,
-    END,
+    0xd00dfeed, 120, 104, 120, 40, 17, 16, 3, 0, 16, 0, 0, 0, 1, 0x80000000, 0, 0, 0, 0xffffffff,
+    0xffffffff, 1, 2, 0, 0, 0, 0, BEGIN_NODE, 0, END_NODE, END,
 ];
 
 const RESERVATIONS: [Reservation; 3] = [
@@ -443,24 +347,7 @@ fn reservations(rt: HostRuntime) {
 
 // The header, an empty root, and the pair of zeros after it.
 const ZEROS_AFTER: [u32; 18] = [
-    0xd00d_feed,
-    72,
-    40,
-    72,
-    56,
-    17,
-    16,
-    0,
-    0,
-    16,
-    BEGIN_NODE,
-    0,
-    END_NODE,
-    END,
-    0,
-    0,
-    0,
-    0,
+    0xd00dfeed, 72, 40, 72, 56, 17, 16, 0, 0, 16, BEGIN_NODE, 0, END_NODE, END, 0, 0, 0, 0,
 ];
 
 // The pair of zeros ends where totalsize does; then a byte before that.
@@ -513,77 +400,33 @@ const TOKENS: [([u32; 10], FdtFault); 25] = [
     ),
     (
         [
-            BEGIN_NODE,
-            0,
-            BEGIN_NODE,
-            0x6120_0000,
-            END_NODE,
-            END_NODE,
-            END,
-            0,
-            0,
-            0,
+            BEGIN_NODE, 0, BEGIN_NODE, 0x61200000, END_NODE, END_NODE, END, 0, 0, 0,
         ],
         FdtFault::BadName,
     ),
     (
         [
-            BEGIN_NODE,
-            0,
-            BEGIN_NODE,
-            0x2f00_0000,
-            END_NODE,
-            END_NODE,
-            END,
-            0,
-            0,
-            0,
+            BEGIN_NODE, 0, BEGIN_NODE, 0x2f000000, END_NODE, END_NODE, END, 0, 0, 0,
         ],
         FdtFault::BadName,
     ),
     (
         [
-            BEGIN_NODE,
-            0,
-            BEGIN_NODE,
-            0x7f00_0000,
-            END_NODE,
-            END_NODE,
-            END,
-            0,
-            0,
-            0,
+            BEGIN_NODE, 0, BEGIN_NODE, 0x7f000000, END_NODE, END_NODE, END, 0, 0, 0,
         ],
         FdtFault::BadName,
     ),
     (
         [
-            BEGIN_NODE,
-            0,
-            BEGIN_NODE,
-            0x61ff_0000,
-            END_NODE,
-            END_NODE,
-            END,
-            0,
-            0,
-            0,
+            BEGIN_NODE, 0, BEGIN_NODE, 0x61ff0000, END_NODE, END_NODE, END, 0, 0, 0,
         ],
         FdtFault::BadName,
     ),
     // a name without an end, which is not legal either
     (
         [
-            BEGIN_NODE,
-            0,
-            BEGIN_NODE,
-            0x2020_2020,
-            0x2020_2020,
-            0x2020_2020,
-            0x2020_2020,
-            0x2020_2020,
-            0x2020_2020,
-            0x2020_2020,
+            BEGIN_NODE, 0, BEGIN_NODE, 0x20202020, 0x20202020, 0x20202020, 0x20202020, 0x20202020,
+            0x20202020, 0x20202020,
         ],
         FdtFault::BadToken,
     ),
@@ -662,7 +505,7 @@ const WITH_PROPERTY: [u32; 7] = [BEGIN_NODE, 0, PROP, 0, 0, END_NODE, END];
 fn check_name(rt: &impl Abort, alloc: Global, byte: u32) {
     let legal = byte > 32 && byte < 127 && byte != 47;
     let want = if legal { None } else { Some(FdtFault::BadName) };
-    let name = byte.wrapping_mul(0x0100_0000);
+    let name = byte.wrapping_mul(0x01000000);
     let node = [BEGIN_NODE, 0, BEGIN_NODE, name, END_NODE, END_NODE, END];
     check_block(rt, alloc, &node, b"", want);
     check_block(rt, alloc, &WITH_PROPERTY, &name.to_be_bytes(), want);
@@ -680,9 +523,9 @@ fn deep(rt: &impl Abort, alloc: Global, depth: u32, bad: bool) -> Vec<u8> {
     let mut block = words(rt, alloc, &[BEGIN_NODE, 0]);
     for level in 2..=depth {
         let name = if bad && level == depth {
-            0x6120_0000
+            0x61200000
         } else {
-            0x6100_0000
+            0x61000000
         };
         push_words(rt, &mut block, &[BEGIN_NODE, name]);
     }

@@ -19,7 +19,7 @@ fn tree_of(alloc: Global, bytes: &[u8]) -> Result<Tree, FdtFault> {
 }
 
 const RESERVATIONS: [Reservation; 1] = [Reservation {
-    address: 0x8800_0000,
+    address: 0x88000000,
     size: 0x1000,
 }];
 
@@ -100,9 +100,9 @@ fn refused_growth_changes_nothing(rt: HostRuntime) -> Result<(), Fail> {
 #[test]
 fn refused_node_is_not_added(rt: HostRuntime) -> Result<(), Fail> {
     let mut tree = tree_of(rt.alloc(), &EMPTY)?;
-    if tree.set_memory(rt.alloc(), 0x4000_0000, 0x1000) == Err(FdtFault::NoMemory) {
+    if tree.set_memory(rt.alloc(), 0x40000000, 0x1000) == Err(FdtFault::NoMemory) {
         check_root(&rt, &tree, 0, 0);
-        tree.set_memory(rt.alloc(), 0x4000_0000, 0x1000)?;
+        tree.set_memory(rt.alloc(), 0x40000000, 0x1000)?;
     }
     check_root(&rt, &tree, 0, 1);
     let reg = b"\0\0\0\0\x40\0\0\0\0\0\x10\0";

@@ -68,48 +68,13 @@ fn what_is_set_is_written(rt: HostRuntime) {
 // A block with NOPs and a word after END, before strings of which one is not used and another is present
 // twice.
 const SLACK: [u32; 22] = [
-    NOP,
-    BEGIN_NODE,
-    0,
-    NOP,
-    PROP,
-    1,
-    4,
-    0x31ff_ffff,
-    PROP,
-    0,
-    2,
-    BEGIN_NODE,
-    N,
-    PROP,
-    0,
-    6,
-    NOP,
-    END_NODE,
-    END_NODE,
-    NOP,
-    END,
-    7,
+    NOP, BEGIN_NODE, 0, NOP, PROP, 1, 4, 0x31ffffff, PROP, 0, 2, BEGIN_NODE, N, PROP, 0, 6, NOP,
+    END_NODE, END_NODE, NOP, END, 7,
 ];
 
 const WITHOUT_SLACK: [u32; 17] = [
-    BEGIN_NODE,
-    0,
-    PROP,
-    1,
-    0,
-    0x3100_0000,
-    PROP,
-    0,
-    2,
-    BEGIN_NODE,
-    N,
-    PROP,
-    0,
-    2,
-    END_NODE,
-    END_NODE,
-    END,
+    BEGIN_NODE, 0, PROP, 1, 0, 0x31000000, PROP, 0, 2, BEGIN_NODE, N, PROP, 0, 2, END_NODE,
+    END_NODE, END,
 ];
 
 const WITH_A_SUFFIX: [u32; 7] = [BEGIN_NODE, 0, PROP, 0, 1, END_NODE, END];
