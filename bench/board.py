@@ -58,7 +58,7 @@ def core(program, size, runs):
 
 
 def prepare():
-    return built("board", "job_board job_board_tests page_jobs page_jobs_tests refusal rim_chain rim_desc", ["run", "8", "2", "4"])
+    return built("board", "job_core job_board job_board_tests launch_plan page_jobs page_jobs_tests refusal rim_chain rim_desc", ["run", "8", "2", "4"])
 
 
 def main():

@@ -27,7 +27,7 @@ def memory(program, plans):
 
 
 def prepare():
-    return built("chain", "rim_chain rmi_list ipa_layout rim_launch page_jobs rim_desc sha2", ["sha256", "1"])
+    return built("chain", "launch_plan rim_chain rmi_list ipa_layout rim_launch page_jobs rim_desc sha2", ["sha256", "1"])
 
 
 def main():

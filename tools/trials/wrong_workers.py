@@ -58,7 +58,7 @@ BODIES = [
     ),
     (
         "no launch waits for the pages of another",
-        "job_board/src/machine.rt",
+        "job_core/src/machine.rt",
         [("            if self.held(worker).is_some() {\n", "            if matches!(self.held(worker), Some(JobId::Launch(_))) {\n")],
         "job_workers_tests",
     ),
@@ -106,7 +106,7 @@ BODIES = [
     ),
     (
         "a barrier",
-        "job_board/src/machine.rt",
+        "job_core/src/machine.rt",
         [
             ("        self.jobs.ready_launch()\n", "        if self.pages_left > 0 {\n            return None;\n        }\n        self.jobs.ready_launch()\n"),
             ("        self.jobs.is_free(job) && self.jobs.is_ready(job)\n", "        self.jobs.is_free(job) && self.jobs.is_ready(job) && self.pages_left == 0\n"),

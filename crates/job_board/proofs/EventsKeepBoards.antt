@@ -11,25 +11,25 @@ use Rattle.std.proofs.lemmas.Option.{get_or_from_slice_get, same_Some, slice_get
 use Rattle.rim_desc.specs.declared.measurement.Measurement.{Measurement}
 use Rattle.page_jobs.specs.Table.{IsTable, TableView, digest_at, digest_in, with_digest}
 use Rattle.page_jobs.specs.declared.page.PageKey.{PageKey}
-use Rattle.rim_chain.specs.Links.{PlanView, chain_of, keys_of}
-use Rattle.rim_chain.specs.Rows.{IsRowOf, has_all, value_in}
-use Rattle.job_board.specs.declared.job.JobId.{JobId}
-use Rattle.job_board.specs.declared.job.JobId.TheVariants.{Page, Launch}
-use Rattle.job_board.specs.declared.job.JobState.{JobState}
-use Rattle.job_board.specs.declared.job.JobState.TheVariants.{Free, Held, Done}
-use Rattle.job_board.specs.declared.job.Event.{Event}
-use Rattle.job_board.specs.declared.job.Event.TheVariants.{Take, Put, Retire}
-use Rattle.job_board.specs.Jobs.{CoreState, freed, is_done, is_page_done, is_ready, pages_done, state_of, with_job}
-use Rattle.job_board.specs.Step.{core_step}
+use Rattle.launch_plan.specs.Links.{PlanView, chain_of, keys_of}
+use Rattle.launch_plan.specs.Rows.{IsRowOf, has_all, value_in}
+use Rattle.job_core.specs.declared.job.JobId.{JobId}
+use Rattle.job_core.specs.declared.job.JobId.TheVariants.{Page, Launch}
+use Rattle.job_core.specs.declared.job.JobState.{JobState}
+use Rattle.job_core.specs.declared.job.JobState.TheVariants.{Free, Held, Done}
+use Rattle.job_core.specs.declared.job.Event.{Event}
+use Rattle.job_core.specs.declared.job.Event.TheVariants.{Take, Put, Retire}
+use Rattle.job_core.specs.Jobs.{CoreState, freed, is_done, is_page_done, is_ready, pages_done, state_of, with_job}
+use Rattle.job_core.specs.Step.{core_step}
 use Rattle.job_board.specs.Board.{BoardView, IsBoard, IsNeeded}
-use Rattle.job_board.proofs.CountsOfJobs.{bit}
-use Rattle.job_board.proofs.OneJobChanges.{slice_get-set_other}
-use Rattle.job_board.proofs.LegalLists.{done_next, is_page_put}
-use Rattle.job_board.proofs.ReadyStaysReady.{GivenAreReady, is_given, stay_ready}
-use Rattle.job_board.proofs.CoreCounts.{core_next}
+use Rattle.job_core.proofs.CountsOfJobs.{bit}
+use Rattle.job_core.proofs.OneJobChanges.{slice_get-set_other}
+use Rattle.job_core.proofs.LegalLists.{done_next, is_page_put}
+use Rattle.job_core.proofs.ReadyStaysReady.{GivenAreReady, is_given, stay_ready}
+use Rattle.job_core.proofs.CoreCounts.{core_next}
 use Rattle.job_board.proofs.HistoryGoesOn.{history_push}
 use Rattle.job_board.specs.History.{IsHistory}
-use Rattle.job_board.proofs.WhatStepsChange as kept
+use Rattle.job_core.proofs.WhatStepsChange as kept
 
 history_ready : (s : CoreState) (es : List Event) → IsHistory s es → GivenAreReady s
 history_ready s es h = subst GivenAreReady (sym h.replayed) (stay_ready (length s.retired) (length s.pages) s.needs es h.legal)

@@ -10,14 +10,14 @@ use Rattle.std.proofs.lemmas.List.Folds.{list_all-map}
 use Rattle.std.proofs.lemmas.List.Sums.{AllPass-from_list_all}
 use Rattle.std.proofs.lemmas.Option.{get_or_from_slice_get, slice_get-map, slice_get_within}
 use Rattle.rim_desc.specs.declared.measurement.Measurement.{Measurement}
-use Rattle.rim_chain.specs.Links.{PlanView}
-use Rattle.rim_chain.specs.Rows.{IsFull, value_in}
-use Rattle.job_board.specs.declared.job.JobState.{JobState}
-use Rattle.job_board.specs.declared.job.JobState.TheVariants.{Free}
+use Rattle.launch_plan.specs.Links.{PlanView}
+use Rattle.launch_plan.specs.Rows.{IsFull, value_in}
+use Rattle.job_core.specs.declared.job.JobState.{JobState}
+use Rattle.job_core.specs.declared.job.JobState.TheVariants.{Free}
 use Rattle.job_board.specs.Board.{AreValuesOf, BoardView, IsBoard}
-use Rattle.job_board.specs.Jobs.{is_done, is_over}
+use Rattle.job_core.specs.Jobs.{is_done, is_over}
 use Rattle.job_board.proofs.EventsKeepBoards.{results_are, slot_filled}
-use Rattle.job_board.proofs.CountsOfJobs.{all_done_count}
+use Rattle.job_core.proofs.CountsOfJobs.{all_done_count}
 
 -- where all is done, the book is the number of pages
 pub over_count : (b : BoardView) → IsBoard b → is_over b.core ≡ true → b.book ≡ length b.table.pages

@@ -8,13 +8,13 @@ use Rattle.std.proofs.lemmas.List.Sums.{count_by-le-length, sum_by_push}
 use Rattle.std.proofs.lemmas.Bool.{cases_lt}
 use Rattle.std.proofs.lemmas.Option.{get_or_from_slice_get, slice_get_within, slice_get-get_or, same_Some}
 use Rattle.job_board.specs.declared.grouping.Stretch.{Stretch}
-use Rattle.job_board.specs.declared.reaches.Reach.{Reach}
-use Rattle.job_board.specs.declared.reaches.PageGroup.{PageGroup}
+use Rattle.job_core.specs.declared.reaches.Reach.{Reach}
+use Rattle.job_core.specs.declared.reaches.PageGroup.{PageGroup}
 use Rattle.job_board.specs.inside.Grouping.{AreStretches, Comes, IsGrouped, Precedes, own_pages}
-use Rattle.job_board.specs.inside.Reaches.{AreGroups, IsGroup, count_of, group_needs}
-use Rattle.job_board.proofs.CountsOfJobs.{bit, sum_by-slice_set}
-use Rattle.job_board.proofs.GroupsOfListedNeeds.{IsPushed, IsSet, joined_push, pushed_at, reach_set, set_at}
-use Rattle.job_board.proofs.NeedsOfGroups.{expand}
+use Rattle.job_core.specs.inside.Reaches.{AreGroups, IsGroup, count_of, group_needs}
+use Rattle.job_core.proofs.CountsOfJobs.{bit, sum_by-slice_set}
+use Rattle.job_core.proofs.GroupsOfListedNeeds.{IsPushed, IsSet, joined_push, pushed_at, reach_set, set_at}
+use Rattle.job_core.proofs.NeedsOfGroups.{expand}
 
 abbrev pub reach_of : Stretch → Reach
 reach_of s = record { launch = s.launch; count = s.count }

@@ -1,14 +1,14 @@
 -- A history goes on by each event that a step accepts, and has room for it.
 use Rattle.std.proofs.Common.{◌≡◌, ℕ, ◌<◌, Bool, true, false, ◌&&◌, List, [], ◌∷◌, ◌++◌, length, Ok, refl, sym, ap, ◌∙◌, subst, arith}
 use Rattle.std.proofs.lemmas.List.{length-replicate, length_push}
-use Rattle.job_board.specs.declared.job.JobState.TheVariants.{Free}
-use Rattle.job_board.specs.declared.job.Event.{Event}
-use Rattle.job_board.specs.Jobs.{CoreState, opening}
-use Rattle.job_board.specs.Step.{core_step}
-use Rattle.job_board.specs.Events.{is_accepted, is_legal, next_state, replay}
+use Rattle.job_core.specs.declared.job.JobState.TheVariants.{Free}
+use Rattle.job_core.specs.declared.job.Event.{Event}
+use Rattle.job_core.specs.Jobs.{CoreState, opening}
+use Rattle.job_core.specs.Step.{core_step}
+use Rattle.job_core.specs.Events.{is_accepted, is_legal, next_state, replay}
 use Rattle.job_board.specs.History.{IsHistory, most_events, opening_of}
-use Rattle.job_board.proofs.LegalLists.{few_events, legal_parts, size_run}
-use Rattle.job_board.proofs.WhatStepsChange as kept
+use Rattle.job_core.proofs.LegalLists.{few_events, legal_parts, size_run}
+use Rattle.job_core.proofs.WhatStepsChange as kept
 
 -- one event more at the end
 pub replay-push : (s : CoreState) (es : List Event) (e : Event) → replay s (es ++ e ∷ []) ≡ next_state (replay s es) e

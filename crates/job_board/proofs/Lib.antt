@@ -1,28 +1,3 @@
--- To prove: the laws of legal lists of events, and that a board in memory takes the same steps as the definitions.
--- One change at a time: how counts over jobs change with one job, or with a worker that is freed;
-pub mod CountsOfJobs
--- a put of one job shows in that job alone
-pub mod OneJobChanges
--- so what is noted of the workers (who holds what) is right after each change
-pub mod NotesOfWorkers
--- Lists of events: what an accepted event says of the state, and what it makes of it
-pub mod AcceptedEvents
--- so by induction, in every legal list: one job for a worker, no job put twice, few events, needs that stay
-pub mod LegalLists
--- who holds a job is the same by the events and by the state
-pub mod HoldersByEvents
--- pages that are done stay done, so a launch that was given stays ready, and none is given early
-pub mod ReadyStaysReady
--- where some job is not done and no worker holds one, worker 0 may take one
-pub mod NeverStuck
--- where nothing is free that is ready, some worker holds a job
-pub mod WaitsForHeld
--- each put has its job's own value, since a row is gathered of pages that are done
-pub mod OwnValues
--- The core in memory: what no step changes, and what each step makes of the state
-pub mod WhatStepsChange
--- what a core counts, and from where it looks for a free page, is right after each step
-pub mod CoreCounts
 -- The board: its history goes on by each event, and has room for it
 pub mod HistoryGoesOn
 -- each event keeps what a board keeps: filled slots, values of launches
@@ -33,23 +8,9 @@ pub mod RowsOfWorkers
 pub mod NewBoards
 -- and where all jobs are done, its values are those of the plans
 pub mod FinishedBoards
--- Which launch is ready: a put of a page leaves right what launches wait for
-pub mod ReachesAfterPuts
--- a launch is ready exactly where none of its reaches is left
-pub mod ReadyByReaches
--- so what launches wait for is right as jobs change
-pub mod WaitsAsJobsChange
--- Needs may be kept as groups of pages, each with the launches that need some of it: these are needs too
-pub mod NeedsOfGroups
--- needs that are listed make groups of one page each
-pub mod GroupsOfListedNeeds
--- launches that wait for nothing are in one line, from which they are given in turn
-pub mod LineOfReady
 -- A run's own pages: the pages of a link have slots in a row
 pub mod SlotsInARow
 -- stretches of slots, in the order of pages, make groups
 pub mod GroupsOfStretches
 -- so each launch needs exactly the pages of its own plan
 pub mod NeedsOfOwnPages
--- and a row of a table's digests is the row of these pages, so the launch chains to its own value
-pub mod RowsOfOwnPages

@@ -19,15 +19,15 @@ use Rattle.page_jobs.specs.Table.{IsTable, TableView, page_keys_of as page_keys,
 use Rattle.page_jobs.specs.declared.page.PageKey.{PageKey}
 use Rattle.page_jobs.proofs.SearchByKey.{slot-page}
 use Rattle.page_jobs.proofs.SlotOfNextPage.{slots-there}
-use Rattle.rim_chain.specs.Fitting.{BeginsItem}
-use Rattle.rim_chain.specs.Links.{PlanView, key_after, keys_in, keys_of}
-use Rattle.rim_chain.specs.declared.link.Link.{Link}
-use Rattle.rim_chain.specs.declared.link.Link.TheVariants.{Blocks, Pages, Unmeasured, Rec}
+use Rattle.launch_plan.specs.Fitting.{BeginsItem}
+use Rattle.launch_plan.specs.Links.{PlanView, key_after, keys_in, keys_of}
+use Rattle.launch_plan.specs.declared.link.Link.{Link}
+use Rattle.launch_plan.specs.declared.link.Link.TheVariants.{Blocks, Pages, Unmeasured, Rec}
 use Rattle.job_board.specs.Board.{IsNeeded, IsOwnPage, NeedsOwn}
 use Rattle.job_board.specs.declared.grouping.Stretch.{Stretch}
 use Rattle.job_board.specs.inside.Grouping.{AreStretches, IsGrouped, Precedes, own_pages}
-use Rattle.job_board.specs.declared.reaches.PageGroup.{PageGroup}
-use Rattle.job_board.specs.inside.Reaches.{AreGroups, reach_needs}
+use Rattle.job_core.specs.declared.reaches.PageGroup.{PageGroup}
+use Rattle.job_core.specs.inside.Reaches.{AreGroups, reach_needs}
 use Rattle.job_board.specs.inside.OwnStretches.{link_stretches, plan_stretches, stretch_at, stretches_from}
 use Rattle.job_board.proofs.GroupsOfStretches.{grouped_are}
 use Rattle.job_board.proofs.SlotsInARow.{page_in, slots_follow}

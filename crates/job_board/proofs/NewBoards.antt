@@ -6,13 +6,13 @@ use Rattle.std.proofs.lemmas.List.{length-replicate}
 use Rattle.std.proofs.lemmas.Option.{same_Some, slice_get-get_or, slice_get_within}
 use Rattle.rim_desc.specs.declared.measurement.Measurement.{Measurement}
 use Rattle.page_jobs.specs.Table.{IsTable, TableView}
-use Rattle.rim_chain.specs.Links.{PlanView, keys_of}
-use Rattle.job_board.specs.declared.job.JobState.TheVariants.{Free}
-use Rattle.job_board.specs.Jobs.{IsCore, is_done, opening}
+use Rattle.launch_plan.specs.Links.{PlanView, keys_of}
+use Rattle.job_core.specs.declared.job.JobState.TheVariants.{Free}
+use Rattle.job_core.specs.Jobs.{IsCore, is_done, opening}
 use Rattle.job_board.specs.Board.{IsBoard, NeedsOwn}
-use Rattle.job_board.specs.inside.Rows.{HasRows}
-use Rattle.job_board.proofs.OneJobChanges.{not_out}
-use Rattle.job_board.proofs.CountsOfJobs.{sum_by-replicate_zero}
+use Rattle.job_tasks.specs.inside.Rows.{HasRows}
+use Rattle.job_core.proofs.OneJobChanges.{not_out}
+use Rattle.job_core.proofs.CountsOfJobs.{sum_by-replicate_zero}
 use Rattle.job_board.proofs.HistoryGoesOn.{history_empty}
 
 -- what holds of each plan holds of the plan of a number

@@ -5,16 +5,16 @@ use Rattle.std.specs.List.{slice_get}
 use Rattle.std.proofs.lemmas.Bool.Decides.{nat_tests}
 use Rattle.std.proofs.lemmas.List.{length-set}
 use Rattle.std.proofs.lemmas.Option.{same_Some, slice_get-get_or, slice_get-map, slice_get_within}
-use Rattle.rim_chain.specs.Links.{PlanView}
-use Rattle.job_board.specs.declared.job.JobId.TheVariants.{Page, Launch}
-use Rattle.job_board.specs.declared.job.JobState.{JobState}
-use Rattle.job_board.specs.declared.job.JobState.TheVariants.{Free, Held, Done}
-use Rattle.job_board.specs.declared.job.Event.TheVariants.{Take, Put, Retire}
-use Rattle.job_board.specs.Jobs.{CoreState, freed, is_out, with_job, without_worker}
-use Rattle.job_board.specs.Step.{core_step}
-use Rattle.job_board.specs.inside.Rows.{HasRows, HoldsNoLaunch}
-use Rattle.job_board.proofs.OneJobChanges.{not_out, slice_get-set_other, slice_get-set_same}
-use Rattle.job_board.proofs.WhatStepsChange.{put_says, retire_says, take_says}
+use Rattle.launch_plan.specs.Links.{PlanView}
+use Rattle.job_core.specs.declared.job.JobId.TheVariants.{Page, Launch}
+use Rattle.job_core.specs.declared.job.JobState.{JobState}
+use Rattle.job_core.specs.declared.job.JobState.TheVariants.{Free, Held, Done}
+use Rattle.job_core.specs.declared.job.Event.TheVariants.{Take, Put, Retire}
+use Rattle.job_core.specs.Jobs.{CoreState, freed, is_out, with_job, without_worker}
+use Rattle.job_core.specs.Step.{core_step}
+use Rattle.job_tasks.specs.inside.Rows.{HasRows, HoldsNoLaunch}
+use Rattle.job_core.proofs.OneJobChanges.{not_out, slice_get-set_other, slice_get-set_same}
+use Rattle.job_core.proofs.WhatStepsChange.{put_says, retire_says, take_says}
 
 -- a worker that is not retired has a place among the rows
 pub row_within : (s : CoreState) (plans : List PlanView) (rows : List (Option (Unit {0}))) (room w : ℕ) → HasRows s plans rows room → is_out s w ≡ false → w < length rows

@@ -10,7 +10,7 @@ use Rattle.page_jobs.specs.Table.{page_keys_of, slot_of}
 use Rattle.page_jobs.specs.declared.page.PageKey.{PageKey}
 use Rattle.page_jobs.proofs.SearchByKey.{slot-key}
 use Rattle.page_jobs.proofs.SlotOfNextPage.{slot-next}
-use Rattle.rim_chain.specs.Links.{key_after}
+use Rattle.launch_plan.specs.Links.{key_after}
 
 -- the page in a slot
 pub page_in : (pages : List PageView) (key : PageKey) (j : ℕ) → slot_of pages key ≡ Some j → (p : PageView) × (slice_get pages j ≡ Some p) × (p.key ≡ key)

@@ -6,13 +6,13 @@ use Rattle.page_jobs.specs.Page.{PageView}
 use Rattle.page_jobs.specs.Table.{IsTable, TableView, slot_of}
 use Rattle.page_jobs.specs.declared.page.PageKey.{PageKey}
 use Rattle.rim_chain.specs.Jobs.{JobView}
-use Rattle.rim_chain.specs.Links.{PlanView, keys_of}
-use Rattle.rim_chain.specs.Rows.{IsFull, IsRowOf, value_in}
-use Rattle.job_board.specs.declared.job.JobId.TheVariants.{Page, Launch}
-use Rattle.job_board.specs.declared.job.JobState.TheVariants.{Held}
-use Rattle.job_board.specs.declared.job.Event.{Event}
-use Rattle.job_board.specs.Jobs.{CoreState, IsCore, is_done, is_out, pages_done, state_of}
-use Rattle.job_board.specs.Step.{core_step}
+use Rattle.launch_plan.specs.Links.{PlanView, keys_of}
+use Rattle.launch_plan.specs.Rows.{IsFull, IsRowOf, value_in}
+use Rattle.job_core.specs.declared.job.JobId.TheVariants.{Page, Launch}
+use Rattle.job_core.specs.declared.job.JobState.TheVariants.{Held}
+use Rattle.job_core.specs.declared.job.Event.{Event}
+use Rattle.job_core.specs.Jobs.{CoreState, IsCore, is_done, is_out, pages_done, state_of}
+use Rattle.job_core.specs.Step.{core_step}
 use Rattle.job_board.specs.History.{IsHistory}
 
 -- the core and its history, the table, the plans, the values of the launches that are done, and the ledger's book

@@ -1,12 +1,12 @@
 -- What a take may answer, and what it makes of a board. This project's choice.
 use Rattle.std.specs.Prelude.{◌≡◌, ℕ, ◌<◌, true, false, ◌⊎◌, Some, slice_get}
-use Rattle.rim_chain.specs.Links.{keys_of}
-use Rattle.rim_chain.specs.Rows.{IsRowOf}
-use Rattle.job_board.specs.declared.job.JobId.TheVariants.{Page, Launch}
-use Rattle.job_board.specs.declared.job.Event.TheVariants.{Take}
-use Rattle.job_board.specs.declared.work.Work.{Work}
-use Rattle.job_board.specs.declared.work.Work.TheVariants as work
-use Rattle.job_board.specs.Jobs.{NoneFree, NoneOpen, held_count, is_out, is_over}
+use Rattle.launch_plan.specs.Links.{keys_of}
+use Rattle.launch_plan.specs.Rows.{IsRowOf}
+use Rattle.job_core.specs.declared.job.JobId.TheVariants.{Page, Launch}
+use Rattle.job_core.specs.declared.job.Event.TheVariants.{Take}
+use Rattle.job_tasks.specs.declared.work.Work.{Work}
+use Rattle.job_tasks.specs.declared.work.Work.TheVariants as work
+use Rattle.job_core.specs.Jobs.{NoneFree, NoneOpen, held_count, is_out, is_over}
 use Rattle.job_board.specs.Board.{Adds, BoardView, SameRest}
 
 abbrev pub Gives : {L : Type 0} → BoardView → ℕ → Work L → BoardView → Type 0

@@ -1,8 +1,8 @@
 -- The history of a state. This project's choice.
 use Rattle.std.specs.Prelude.{◌≡◌, ℕ, ◌+◌, ◌*◌, true, List, length}
-use Rattle.job_board.specs.declared.job.Event.{Event}
-use Rattle.job_board.specs.Jobs.{CoreState, opening}
-use Rattle.job_board.specs.Events.{is_legal, replay}
+use Rattle.job_core.specs.declared.job.Event.{Event}
+use Rattle.job_core.specs.Jobs.{CoreState, opening}
+use Rattle.job_core.specs.Events.{is_legal, replay}
 
 -- the opening state with as many workers and pages, and the same needs
 abbrev pub opening_of : CoreState → CoreState

@@ -1,10 +1,10 @@
 //! Groups of pages, from what launches need in the order of its pages.
 ghost use Rattle.std.specs.Prelude.{◌≡◌, ◌-◌, true, false, IfOk, OnOk};
 ghost use Rattle.job_board.specs.declared.grouping.Stretch.{Stretch};
-ghost use Rattle.job_board.specs.declared.reaches.PageGroup.{PageGroup};
+ghost use Rattle.job_core.specs.declared.reaches.PageGroup.{PageGroup};
 ghost use Rattle.job_board.specs.inside.Grouping.{AddsStretch, AreGroupsOf, LastBegins, NoneBegins};
 
-use crate::reaches::{PageGroup, Reach};
+use job_core::{PageGroup, Reach};
 use refusal::NoMemory;
 use std::alloc::Global;
 

@@ -1,16 +1,13 @@
 //! Launches that are lent to workers, to be chained beside one that was taken.
 ghost use Rattle.std.specs.Prelude.{◌≡◌, ◌<◌, ◌≤◌, ℕ, length, IfOk, IfSome, Some, slice_get};
 ghost use Rattle.rim_desc.specs.declared.side_by_side.TheConstants.{MOST_LANES};
-ghost use Rattle.rim_chain.specs.Links.{PlanView, keys_of};
+ghost use Rattle.launch_plan.specs.Links.{PlanView, keys_of};
 ghost use Rattle.rim_chain.specs.SharedPrefixes.{AreShared};
-ghost use Rattle.job_board.specs.Jobs.{IsOpen};
-ghost use Rattle.job_board.specs.Tasks.{whole_table};
+ghost use Rattle.job_core.specs.Jobs.{IsOpen};
+ghost use Rattle.job_tasks.specs.Tasks.{whole_table};
 
-use crate::filling::filled_task;
-use crate::machine::Core;
-use crate::rows::plan_at;
-use crate::run::Run;
-use crate::task::LaunchTask;
+use job_core::Core;
+use job_tasks::{LaunchTask, Run, filled_task, plan_at};
 use page_jobs::{DigestRow, Table};
 use refusal::NoMemory;
 use rim_chain::{LaunchPlan, SharedPrefixes};

@@ -2,14 +2,14 @@
 ghost use Rattle.std.specs.Prelude.{◌≡◌, ◌++◌, length, IfOk, OnOk};
 ghost use Rattle.std.specs.List.{All, Contains};
 ghost use Rattle.page_jobs.specs.Table.{page_keys_of as page_keys};
-ghost use Rattle.rim_chain.specs.Fitting.{BeginsItem};
-ghost use Rattle.rim_chain.specs.Links.{keys_of};
+ghost use Rattle.launch_plan.specs.Fitting.{BeginsItem};
+ghost use Rattle.launch_plan.specs.Links.{keys_of};
 ghost use Rattle.job_board.specs.Board.{NeedsOwn};
-ghost use Rattle.job_board.specs.inside.Needs.{AreNeeds, needs_of};
+ghost use Rattle.job_core.specs.inside.Needs.{AreNeeds, needs_of};
 ghost use Rattle.job_board.specs.inside.OwnStretches.{link_stretches, plan_stretches, stretch_at, stretches_from};
 
 use crate::grouping::{Stretch, grouped};
-use crate::needs::Needs;
+use job_core::Needs;
 use page_jobs::Table;
 use refusal::NoMemory;
 use rim_chain::{LaunchPlan, Link};

@@ -1,14 +1,13 @@
 //! Which job each worker is best given next. No value depends on it, and what a board promises holds of any choice.
 ghost use Rattle.std.specs.Prelude.{◌≡◌, ◌<◌, IfNone, IfSome, Some, slice_get};
 ghost use Rattle.rim_desc.specs.declared.side_by_side.TheConstants.{MOST_LANES};
-ghost use Rattle.job_board.specs.declared.job.JobState.{JobState};
-ghost use Rattle.job_board.specs.Jobs.{IsOpen, NoneFree};
+ghost use Rattle.job_core.specs.declared.job.JobState.{JobState};
+ghost use Rattle.job_core.specs.Jobs.{IsOpen, NoneFree};
 
 use crate::chain_order::ChainOrder;
-use crate::job::{JobId, JobState};
 use crate::lending::Lending;
-use crate::machine::Core;
 use crate::side_by_side::SideBySide;
+use job_core::{Core, JobId, JobState};
 use page_jobs::DigestRow;
 use refusal::NoMemory;
 use rim_chain::{LaunchPlan, SharedPrefix, SharedPrefixes};

@@ -1,32 +1,32 @@
 //! A board's state: what it keeps, and what a put, a retirement and the end of a run make of it.
 ghost use Rattle.std.specs.Prelude.{◌≡◌, ◌<◌, ◌≤◌, ◌+◌, ◌⊎◌, List, [], ◌∷◌, ◌++◌, false, true, length, map, replicate, sum, vec_len, IfErr, IfOk, None, OnErr, OnOk, Some, slice_set, vec_capacity};
 ghost use Rattle.std.specs.List.{All, Contains};
-ghost use Rattle.job_board.specs.declared.job.Event.{Event};
-ghost use Rattle.job_board.specs.declared.job.JobId.{JobId};
+ghost use Rattle.job_core.specs.declared.job.Event.{Event};
+ghost use Rattle.job_core.specs.declared.job.JobId.{JobId};
 ghost use Rattle.job_board.specs.Board.{Adds, AreValuesOf, CanPutJob, CanPutPage, IsBoard, IsOfRun, NeedsOwn, SameRest};
 ghost use Rattle.job_board.specs.History.{IsHistory, most_events};
-ghost use Rattle.job_board.specs.Step.{core_step};
+ghost use Rattle.job_core.specs.Step.{core_step};
 ghost use Rattle.refusal.specs.Answer.{Matches};
-ghost use Rattle.job_board.specs.Jobs.{NeedsWithin, is_out, is_over, opening};
+ghost use Rattle.job_core.specs.Jobs.{NeedsWithin, is_out, is_over, opening};
 ghost use Rattle.page_jobs.specs.Page.{page_view};
 ghost use Rattle.page_jobs.specs.Table.{IsTable, TableView, page_keys_of as page_keys, with_digest};
-ghost use Rattle.rim_chain.specs.Links.{PlanView, keys_of};
-ghost use Rattle.rim_chain.specs.Rows.{value_in};
+ghost use Rattle.launch_plan.specs.Links.{PlanView, keys_of};
+ghost use Rattle.launch_plan.specs.Rows.{value_in};
 ghost use Rattle.rim_chain.specs.SharedPrefixes.{AreShared};
-ghost use Rattle.job_board.specs.declared.machine.TheConstants.{WORKER_LIMIT};
+ghost use Rattle.job_core.specs.declared.machine.TheConstants.{WORKER_LIMIT};
 
 mod giving;
 
 use crate::closing::{add_up, audit_all, copy_values, write_counts};
-use crate::job::{CoreFault, Event, JobId};
 use crate::lending::{Lending, most_others};
-use crate::machine::Core;
 use crate::own_needs::own_needs;
 use crate::preferences::Preferences;
-use crate::rows::{WorkerRow, keep_row, lent_rows, plan_at, worker_rows};
-use crate::run::Run;
 use crate::share::{Share, cut};
-use crate::task::{ChainedLaunch, HashedPage, KeptPrefix, OwnPrefix};
+use job_core::{Core, CoreFault, Event, JobId};
+use job_tasks::{
+    ChainedLaunch, HashedPage, KeptPrefix, OwnPrefix, Run, WorkerRow, keep_row, lent_rows, plan_at,
+    worker_rows,
+};
 use page_jobs::{Page, Table};
 use refusal::NoMemory;
 use rim_chain::{LaunchPlan, SharedPrefix, SharedPrefixes, most_pages};
@@ -59,8 +59,8 @@ impl<'a, L: Run> Model for BoardState<'a, L> {
     ghost use Rattle.std.specs.Prelude.{◌≤◌, vec_capacity};
     ghost use Rattle.job_board.specs.Board.{BoardView, IsBoard, IsOfRun};
     ghost use Rattle.job_board.specs.History.{most_events};
-    ghost use Rattle.job_board.specs.Tasks.{whole_table};
-    ghost use Rattle.job_board.specs.inside.Rows.{HasRows};
+    ghost use Rattle.job_tasks.specs.Tasks.{whole_table};
+    ghost use Rattle.job_tasks.specs.inside.Rows.{HasRows};
     ghost use Rattle.rim_chain.specs.SharedPrefixes.{AreShared};
 
     ghost Value = { BoardView };

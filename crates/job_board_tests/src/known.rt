@@ -2,7 +2,7 @@
 ghost use Rattle.std.specs.Prelude.{◌↔◌, IsTrue};
 ghost use Rattle.std.specs.List.{All, Contains};
 ghost use Rattle.page_jobs.specs.Table.{page_keys_of as page_keys};
-ghost use Rattle.rim_chain.specs.Links.{keys_of};
+ghost use Rattle.launch_plan.specs.Links.{keys_of};
 
 use page_jobs::{PageKey, Table, slots_go_by_keys};
 use rim_chain::LaunchPlan;

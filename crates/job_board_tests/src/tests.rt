@@ -9,7 +9,7 @@ mod sizes;
 
 ghost use Rattle.std.specs.Prelude.{◌<◌, map, IfOk};
 ghost use Rattle.std.specs.List.{All};
-ghost use Rattle.job_board.specs.Jobs.{NeedsWithin};
+ghost use Rattle.job_core.specs.Jobs.{NeedsWithin};
 
 use job_board::{Core, CoreFault, Event, JobId};
 use refusal::NoMemory;

@@ -8,9 +8,9 @@
 //! of a worker that could not be started, is waited for as long as nobody puts it.
 ghost use Rattle.std.specs.Prelude.{◌≡◌, ◌≢◌, ◌<◌, ◌≤◌, ◌+◌, IfErr, OnOk, length, map, sum};
 ghost use Rattle.rim_desc.specs.declared.side_by_side.TheConstants.{MOST_LANES};
-ghost use Rattle.job_board.specs.declared.job.Event.{Event};
-ghost use Rattle.job_board.specs.declared.job.JobId.{JobId};
-ghost use Rattle.job_board.specs.declared.work.Work.{Work};
+ghost use Rattle.job_core.specs.declared.job.Event.{Event};
+ghost use Rattle.job_core.specs.declared.job.JobId.{JobId};
+ghost use Rattle.job_tasks.specs.declared.work.Work.{Work};
 ghost use Rattle.job_board.specs.Board.{BoardView, CanPutLaunch, CanPutPage, IsBoard, IsOfRun};
 ghost use Rattle.job_board.specs.Gives.{Gives};
 ghost use Rattle.job_workers.specs.Puts.{Puts};

@@ -9,7 +9,7 @@ ghost use Rattle.std.specs.List.{All, Contains};
 ghost use Rattle.page_jobs.specs.Key.{IsRising};
 ghost use Rattle.page_jobs.specs.Page.{page_view};
 ghost use Rattle.page_jobs.specs.Table.{page_keys_of};
-ghost use Rattle.rim_chain.specs.Links.{keys_of as link_keys};
+ghost use Rattle.launch_plan.specs.Links.{keys_of as link_keys};
 
 use job_board::{BoardState, Run, Share};
 use job_board_tests::has_all_keys;

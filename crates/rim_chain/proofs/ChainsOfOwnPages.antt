@@ -22,10 +22,10 @@ use Rattle.rmi_list.specs.Listed.{listed}
 use Rattle.rmi_list.specs.Measured.{page_contents, measured}
 use Rattle.rmi_list.proofs.NoBytePastDigest.{contents-are-good}
 use Rattle.rmi_list.proofs.ListIsFollowed.{list-is-followed}
-use Rattle.rim_chain.specs.Links.{PlanView, chain_of, keys_of, parts_of}
+use Rattle.launch_plan.specs.Links.{PlanView, chain_of, keys_of, parts_of}
 use Rattle.rim_chain.specs.OwnDigests.{HasOwnPage, own_digest}
-use Rattle.rim_chain.specs.Reading.{GoByKeys, IsReadOf}
-use Rattle.rim_chain.specs.Rows.{IsRowOf}
+use Rattle.launch_plan.specs.Reading.{GoByKeys, IsReadOf}
+use Rattle.launch_plan.specs.Rows.{IsRowOf}
 
 -- ---- the contents of a placed launch go by their keys
 

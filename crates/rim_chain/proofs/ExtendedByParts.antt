@@ -8,7 +8,7 @@ use Rattle.rim_desc.specs.Part.{Data, extended_by}
 use Rattle.rim_desc.specs.declared.measurement.Algo.{Algo}
 use Rattle.rim_desc.specs.declared.measurement.Measurement.{Measurement}
 use Rattle.rmm_model.specs.Blocks.{granules}
-use Rattle.rim_chain.specs.Links.{pages_with}
+use Rattle.launch_plan.specs.Links.{pages_with}
 
 -- ---- measured pages
 

@@ -10,17 +10,17 @@ use Rattle.std.proofs.lemmas.Option.{get_or_from_slice_get, same_Some, slice_get
 use Rattle.rim_desc.specs.declared.measurement.Measurement.{Measurement}
 use Rattle.page_jobs.specs.Table.{TableView, digest_at}
 use Rattle.page_jobs.specs.declared.page.PageKey.{PageKey}
-use Rattle.rim_chain.specs.Prefixes.{IsPrefix, prefix_of, prefix_value}
-use Rattle.rim_chain.specs.Links.{PlanView, chain_of, keys_in, keys_of}
-use Rattle.rim_chain.specs.Rows.{IsRowOf, has_all, value_in}
+use Rattle.launch_plan.specs.Prefixes.{IsPrefix, prefix_of, prefix_value}
+use Rattle.launch_plan.specs.Links.{PlanView, chain_of, keys_in, keys_of}
+use Rattle.launch_plan.specs.Rows.{IsRowOf, has_all, value_in}
 use Rattle.rim_chain.specs.SharedPrefixes.{AreShared, HaveOwnPrefixes, HaveOwnValues, IsKept, IsOwnPrefix, IsValueOfPrefix}
-use Rattle.rim_chain.specs.declared.link.Link.{Link}
-use Rattle.rim_chain.specs.declared.prefix.Prefix.{Prefix}
-use Rattle.rim_chain.specs.declared.prefix.Checkpoint.{Checkpoint}
+use Rattle.launch_plan.specs.declared.link.Link.{Link}
+use Rattle.launch_plan.specs.declared.prefix.Prefix.{Prefix}
+use Rattle.launch_plan.specs.declared.prefix.Checkpoint.{Checkpoint}
 use Rattle.rim_chain.specs.declared.starting.Start.{Start}
 use Rattle.rim_chain.specs.inside.Checkpoints.{BothHavePrefix, HaveNoValues}
 use Rattle.rim_chain.specs.inside.Starts.{IsStart}
-use Rattle.rim_chain.proofs.RowsLinkByLink.{row-length, row-parts}
+use Rattle.launch_plan.proofs.RowsLinkByLink.{row-length, row-parts}
 
 -- ---- a row of a table's digests
 

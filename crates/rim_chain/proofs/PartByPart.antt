@@ -11,13 +11,13 @@ use Rattle.rim_desc.specs.declared.measurement.Measurement.{Measurement}
 use Rattle.rim_desc.proofs.PieceByPiece.{extended_by-append}
 use Rattle.rmm_model.specs.Blocks.{granules, stretches}
 use Rattle.page_jobs.specs.declared.page.PageKey.{PageKey}
-use Rattle.rim_chain.specs.Fitting.{IsFitting}
-use Rattle.rim_chain.specs.Links.{keys_in, keys_of, link_parts, page_count, pages_with, parts_with}
-use Rattle.rim_chain.specs.declared.link.Link.{Link}
-use Rattle.rim_chain.specs.declared.link.Link.TheVariants.{Blocks, Pages, Unmeasured, Rec}
-use Rattle.rim_chain.specs.inside.UnderWay.{AreLeft, IsEmpty}
+use Rattle.launch_plan.specs.Fitting.{IsFitting}
+use Rattle.launch_plan.specs.Links.{IsEmpty, keys_in, keys_of, link_parts, page_count, pages_with, parts_with}
+use Rattle.launch_plan.specs.declared.link.Link.{Link}
+use Rattle.launch_plan.specs.declared.link.Link.TheVariants.{Blocks, Pages, Unmeasured, Rec}
+use Rattle.rim_chain.specs.inside.UnderWay.{AreLeft}
 use Rattle.rmm_model.proofs.StretchByStretch.{place-fits, place-next}
-use Rattle.rim_chain.proofs.KeysByPlace.{length-keys_in}
+use Rattle.launch_plan.proofs.KeysByPlace.{length-keys_in}
 
 module _ (algo : Algo) (rim : List ℕ) (links : List Link) (digests : List Measurement) where
   pub block-first : (base size n : ℕ) → 0 < n → extended_by algo rim (parts_with (Blocks base size n ∷ links) digests)

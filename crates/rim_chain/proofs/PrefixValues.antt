@@ -5,10 +5,10 @@ use Rattle.rim_desc.specs.Measurement.{measurement_of}
 use Rattle.rim_desc.specs.Part.{extended_by}
 use Rattle.rim_desc.specs.Realm.{realm_page_of}
 use Rattle.rim_desc.specs.declared.measurement.Measurement.{Measurement}
-use Rattle.rim_chain.specs.Prefixes.{prefix_value}
-use Rattle.rim_chain.specs.Links.{PlanView, chain_of, keys_of, link_parts, page_count, parts_with}
-use Rattle.rim_chain.specs.declared.link.Link.{Link}
-use Rattle.rim_chain.proofs.LinkByLink.{chain-cut, keys-on, keys-so-far, links-on}
+use Rattle.launch_plan.specs.Prefixes.{prefix_value}
+use Rattle.launch_plan.specs.Links.{PlanView, chain_of, keys_of, link_parts, page_count, parts_with}
+use Rattle.launch_plan.specs.declared.link.Link.{Link}
+use Rattle.launch_plan.proofs.LinkByLink.{chain-cut, keys-on, keys-so-far, links-on}
 
 pub prefix-first : (p : PlanView) (digests : List Measurement) → prefix_value 0 p digests ≡ measurement_of p.params.algo (realm_page_of p.params)
 unfolding chain_of parts_with

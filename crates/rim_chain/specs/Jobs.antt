@@ -2,7 +2,7 @@
 use Rattle.std.specs.Prelude.{ℕ}
 use Rattle.rim_desc.specs.declared.measurement.Measurement.{Measurement}
 use Rattle.page_jobs.specs.Row.{RowView}
-use Rattle.rim_chain.specs.Links.{PlanView}
+use Rattle.launch_plan.specs.Links.{PlanView}
 
 pub record JobView : Type 0 where
   -- the launch's number: its plan's place among the plans of a run

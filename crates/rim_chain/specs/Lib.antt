@@ -1,10 +1,4 @@
-pub mod Links
-pub mod Prefixes
-pub mod Fitting
-pub mod Rows
 pub mod SharedPrefixes
-pub mod Keys
-pub mod Reading
 pub mod Jobs
 pub mod Chains
 pub mod OwnDigests

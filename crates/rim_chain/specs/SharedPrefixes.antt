@@ -3,11 +3,11 @@ use Rattle.std.specs.Prelude.{◌≡◌, ℕ, ◌≤◌, true, List, length, sli
 use Rattle.std.specs.List.{All, slice_get}
 use Rattle.rim_desc.specs.declared.measurement.Measurement.{Measurement}
 use Rattle.page_jobs.specs.Table.{TableView}
-use Rattle.rim_chain.specs.Prefixes.{prefix_of}
-use Rattle.rim_chain.specs.Links.{PlanView, keys_of}
-use Rattle.rim_chain.specs.Rows.{has_all, value_in}
-use Rattle.rim_chain.specs.declared.prefix.Prefix.{Prefix}
-use Rattle.rim_chain.specs.declared.prefix.Checkpoint.{Checkpoint}
+use Rattle.launch_plan.specs.Prefixes.{prefix_of}
+use Rattle.launch_plan.specs.Links.{PlanView, keys_of}
+use Rattle.launch_plan.specs.Rows.{has_all, value_in}
+use Rattle.launch_plan.specs.declared.prefix.Prefix.{Prefix}
+use Rattle.launch_plan.specs.declared.prefix.Checkpoint.{Checkpoint}
 
 -- what a prefix of a plan chains to, in a table that has the digests of all its pages
 pub record IsValueOfPrefix (t : TableView) (p : PlanView) (n : ℕ) (v : Measurement) : Type 0 where

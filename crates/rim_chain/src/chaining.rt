@@ -5,18 +5,16 @@ ghost use Rattle.rim_desc.specs.Part.{Data, extended_by};
 ghost use Rattle.rim_desc.specs.declared.measurement.Measurement.{Measurement};
 ghost use Rattle.rmm_model.specs.Blocks.{granules};
 ghost use Rattle.page_jobs.specs.Table.{TableView};
-ghost use Rattle.rim_chain.specs.Prefixes.{IsPrefix, prefix_value};
-ghost use Rattle.rim_chain.specs.Links.{PlanView, chain_of, keys_of, link_parts, page_count, pages_with};
-ghost use Rattle.rim_chain.specs.Rows.{IsFilled, IsRowOf};
+ghost use Rattle.launch_plan.specs.Prefixes.{IsPrefix, prefix_value};
+ghost use Rattle.launch_plan.specs.Links.{PlanView, chain_of, keys_of, link_parts, page_count, pages_with};
+ghost use Rattle.launch_plan.specs.Rows.{IsFilled, IsRowOf};
 ghost use Rattle.rim_chain.specs.SharedPrefixes.{AreShared};
-ghost use Rattle.rim_chain.specs.Fitting.{IsFitting};
+ghost use Rattle.launch_plan.specs.Fitting.{IsFitting};
 ghost use Rattle.rim_chain.specs.inside.Places.{IsPlace};
 ghost use Rattle.rim_desc.specs.declared.page.TheConstants.{PAGE_SIZE};
 
-use crate::link::Link;
-use crate::plan::{LaunchPlan, page_count};
-use crate::prefix::Prefix;
 use crate::shared_prefixes::SharedPrefixes;
+use launch_plan::{LaunchPlan, Link, Prefix, page_count};
 use page_jobs::DigestRow;
 use rim_desc::{
     Algo, GRANULE_SIZE, Measurement, data_descriptor, extend, hash, realm_page, rec_descriptor,

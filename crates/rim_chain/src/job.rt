@@ -1,15 +1,14 @@
 //! The work of chaining a launch, and what it gives.
 ghost use Rattle.std.specs.Prelude.{◌≡◌, IfSome};
-ghost use Rattle.rim_chain.specs.Prefixes.{IsPrefix};
-ghost use Rattle.rim_chain.specs.Links.{chain_of};
-ghost use Rattle.rim_chain.specs.Rows.{IsFilled};
+ghost use Rattle.launch_plan.specs.Prefixes.{IsPrefix};
+ghost use Rattle.launch_plan.specs.Links.{chain_of};
+ghost use Rattle.launch_plan.specs.Rows.{IsFilled};
 ghost use Rattle.rim_chain.specs.Chains.{chains_to};
 ghost use Rattle.rim_chain.specs.inside.Places.{IsPlace};
 
 use crate::chaining::{Place, chain_on, next_place, place_of};
-use crate::plan::LaunchPlan;
-use crate::prefix::Prefix;
 use crate::under_way::LaunchChain;
+use launch_plan::{LaunchPlan, Prefix};
 use page_jobs::DigestRow;
 use rim_desc::{Algo, Measurement};
 use std::marker::Model;
@@ -30,7 +29,7 @@ pub struct LaunchJob<'a> {
 impl<'a> Model for LaunchJob<'a> {
     ghost use Rattle.std.specs.Prelude.{IfSome};
     ghost use Rattle.rim_chain.specs.Jobs.{JobView};
-    ghost use Rattle.rim_chain.specs.Rows.{IsFilled};
+    ghost use Rattle.launch_plan.specs.Rows.{IsFilled};
     ghost use Rattle.rim_chain.specs.inside.Places.{IsPlace};
 
     ghost Value = { JobView };
@@ -53,7 +52,7 @@ pub struct LaunchRim<'a> {
 impl<'a> Model for LaunchRim<'a> {
     ghost use Rattle.std.specs.Prelude.{◌≡◌};
     ghost use Rattle.rim_chain.specs.Jobs.{RimView};
-    ghost use Rattle.rim_chain.specs.Links.{chain_of};
+    ghost use Rattle.launch_plan.specs.Links.{chain_of};
 
     ghost Value = { RimView };
 

@@ -13,11 +13,11 @@ ghost use Rattle.page_jobs.specs.Table.{IsTable, TableView};
 ghost use Rattle.page_jobs.specs.declared.page.PageKey.{PageKey};
 ghost use Rattle.rmi_list.specs.Listed.{listed};
 ghost use Rattle.rmi_list.specs.Measured.{page_contents};
-ghost use Rattle.rim_chain.specs.Links.{PlanView, chain_of, keys_of, parts_with};
-ghost use Rattle.rim_chain.specs.declared.link.Link.{Link};
+ghost use Rattle.launch_plan.specs.Links.{PlanView, chain_of, keys_of, parts_with};
+ghost use Rattle.launch_plan.specs.declared.link.Link.{Link};
 ghost use Rattle.rim_chain.specs.OwnDigests.{HasOwnPage, own_digest};
-ghost use Rattle.rim_chain.specs.Reading.{IsReadOf};
-ghost use Rattle.rim_chain.specs.Rows.{IsRowOf};
+ghost use Rattle.launch_plan.specs.Reading.{IsReadOf};
+ghost use Rattle.launch_plan.specs.Rows.{IsRowOf};
 
 /// The chain of a launch's plan and the digests of its own pages is what a monitor holds after the launch's list of
 /// commands.

@@ -3,14 +3,13 @@ ghost use Rattle.std.specs.Prelude.{◌≡◌, ◌<◌, [], false, true, List, l
 ghost use Rattle.std.specs.List.{Contains, slice_get};
 ghost use Rattle.std.specs.Option.{option_map};
 ghost use Rattle.page_jobs.specs.Table.{TableView};
-ghost use Rattle.rim_chain.specs.Links.{PlanView};
+ghost use Rattle.launch_plan.specs.Links.{PlanView};
 ghost use Rattle.rim_chain.specs.SharedPrefixes.{AreShared, IsKept, IsOwnPrefix, IsPutAmong, IsValueOfPrefix};
 ghost use Rattle.rim_chain.specs.inside.Checkpoints.{BothHavePrefix};
 
-use crate::plan::LaunchPlan;
-use crate::prefix::{Checkpoint, Prefix, SharedPrefix};
 use crate::siblings::{checkpoints_of, shared_prefixes_of};
 use crate::starting::Start;
+use launch_plan::{Checkpoint, LaunchPlan, Prefix, SharedPrefix};
 use refusal::NoMemory;
 use rim_desc::Algo;
 use std::alloc::Global;
@@ -26,7 +25,7 @@ pub struct SharedPrefixes {
 
 impl Model for SharedPrefixes {
     ghost use Rattle.std.specs.Prelude.{List, map};
-    ghost use Rattle.rim_chain.specs.declared.prefix.Checkpoint.{Checkpoint};
+    ghost use Rattle.launch_plan.specs.declared.prefix.Checkpoint.{Checkpoint};
 
     ghost Value = { List (List Checkpoint) };
 

@@ -3,8 +3,7 @@ ghost use Rattle.std.specs.Prelude.{IfOk, None};
 ghost use Rattle.std.specs.List.{All};
 ghost use Rattle.rim_chain.specs.inside.Checkpoints.{HaveNoValues};
 
-use crate::plan::LaunchPlan;
-use crate::prefix::{Checkpoint, SharedPrefix};
+use launch_plan::{Checkpoint, LaunchPlan, SharedPrefix};
 use refusal::NoMemory;
 use std::alloc::Global;
 use std::cmp::Ordering;

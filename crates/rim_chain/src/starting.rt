@@ -7,10 +7,9 @@ ghost use Rattle.rim_chain.specs.SharedPrefixes.{AreShared, HaveOwnPrefixes};
 ghost use Rattle.rim_chain.specs.inside.Starts.{AreChainsOf, IsChainOf, IsStart};
 
 use crate::chaining::place_of;
-use crate::plan::LaunchPlan;
-use crate::prefix::Prefix;
 use crate::shared_prefixes::SharedPrefixes;
 use crate::under_way::{LaunchChain, no_chains, side_by_side};
+use launch_plan::{LaunchPlan, Prefix};
 use page_jobs::{DigestRow, Table};
 use refusal::NoMemory;
 use rim_desc::{Algo, Lanes, MOST_LANES, Measurement};

@@ -4,17 +4,16 @@ ghost use Rattle.std.specs.List.{All};
 ghost use Rattle.rim_desc.specs.Measurement.{measurement_of};
 ghost use Rattle.rim_desc.specs.Part.{extended_by};
 ghost use Rattle.rim_desc.specs.declared.side_by_side.TheConstants.{MOST_LANES};
-ghost use Rattle.rim_chain.specs.Fitting.{IsFitting};
-ghost use Rattle.rim_chain.specs.Prefixes.{prefix_value};
-ghost use Rattle.rim_chain.specs.Links.{keys_of, parts_with};
-ghost use Rattle.rim_chain.specs.Rows.{IsFilled};
+ghost use Rattle.launch_plan.specs.Fitting.{IsFitting};
+ghost use Rattle.launch_plan.specs.Prefixes.{prefix_value};
+ghost use Rattle.launch_plan.specs.Links.{keys_of, parts_with};
+ghost use Rattle.launch_plan.specs.Rows.{IsFilled};
 ghost use Rattle.rim_chain.specs.Chains.{chains_to};
 ghost use Rattle.rim_chain.specs.inside.Places.{IsPlace};
 ghost use Rattle.rim_chain.specs.inside.UnderWay.{AreSet, HaveGoneOn, HaveTaken, set_to};
 
 use crate::chaining::{Place, extended_by_link};
-use crate::link::Link;
-use crate::plan::{LaunchPlan, page_count, part_count};
+use launch_plan::{LaunchPlan, Link, page_count, part_count};
 use page_jobs::DigestRow;
 use rim_desc::{
     Algo, DESCRIPTOR_SIZE, GRANULE_SIZE, MOST_LANES, Measurement, data_descriptor, extend,
@@ -42,7 +41,7 @@ pub struct LaunchChain<'a> {
 
 impl<'a> Model for LaunchChain<'a> {
     ghost use Rattle.std.specs.Prelude.{◌∷◌};
-    ghost use Rattle.rim_chain.specs.Links.{parts_with};
+    ghost use Rattle.launch_plan.specs.Links.{parts_with};
     ghost use Rattle.rim_chain.specs.Chains.{ChainView};
     ghost use Rattle.rim_chain.specs.inside.UnderWay.{AreLeft};
 

@@ -5,8 +5,8 @@ mod first_prefixes;
 mod going_on;
 mod plans;
 
-ghost use Rattle.rim_chain.specs.Links.{keys_of};
-ghost use Rattle.rim_chain.specs.Rows.{IsFilled, IsRowOf};
+ghost use Rattle.launch_plan.specs.Links.{keys_of};
+ghost use Rattle.launch_plan.specs.Rows.{IsFilled, IsRowOf};
 
 use page_jobs::{DigestRow, Page, PageJob, PageKey, Table};
 use rim_chain::{LaunchPlan, Link};

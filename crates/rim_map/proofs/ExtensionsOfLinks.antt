@@ -15,14 +15,14 @@ use Rattle.list_model.proofs.GranulesDelegated.{length-granules}
 use Rattle.rim_launch.specs.LaunchData.{LaunchData}
 use Rattle.ipa_layout.specs.Layout.{IsPlaced, PlacedData, bytes_of_source}
 use Rattle.rmi_list.specs.Measured.{measured, page_contents}
-use Rattle.rim_chain.specs.Links.{PlanView, keys_in, keys_of, link_parts, page_count, pages_with, parts_with}
+use Rattle.launch_plan.specs.Links.{PlanView, keys_in, keys_of, link_parts, page_count, pages_with, parts_with}
 use Rattle.rim_chain.specs.OwnDigests.{own_digest}
-use Rattle.rim_chain.specs.Reading.{GoByKeys, IsReadOf}
-use Rattle.rim_chain.specs.declared.link.Link.{Link}
-use Rattle.rim_chain.specs.declared.link.Link.TheVariants as link
+use Rattle.launch_plan.specs.Reading.{GoByKeys, IsReadOf}
+use Rattle.launch_plan.specs.declared.link.Link.{Link}
+use Rattle.launch_plan.specs.declared.link.Link.TheVariants as link
 use Rattle.ipa_layout.proofs.PlacedLaunchLaws.{lead-low}
 use Rattle.page_jobs.proofs.BytesOfPages.{contents-page_bytes}
-use Rattle.rim_chain.proofs.KeysByPlace.{length-keys_in}
+use Rattle.launch_plan.proofs.KeysByPlace.{length-keys_in}
 use Rattle.rim_map.specs.Extensions.{extension, extensions_of, no_extensions}
 use Rattle.rim_map.specs.inside.Links.{link_extensions, links_extensions}
 use Rattle.rim_map.specs.declared.extensions.Extensions.{Extensions}

@@ -36,7 +36,7 @@ use Rattle.rim_launch.specs.declared.step.Step.TheVariants as step
 use Rattle.ipa_layout.specs.Layout.{IsPlaced, PlacedData}
 use Rattle.ipa_layout.specs.declared.placed.PlacedItem.{PlacedItem}
 use Rattle.rim_manifest.specs.Launches.{AreNumbered, NamedData, ReleaseData}
-use Rattle.rim_chain.specs.Keys.{item_keys, key_at, measured_keys, source_keys, step_keys}
+use Rattle.launch_plan.specs.Keys.{item_keys, key_at, measured_keys, source_keys, step_keys}
 use Rattle.rim_accepted.specs.Accepted.{accepted_of}
 use Rattle.rim_pages.specs.Pages.{keys_at, launch_keys, page_keys, pages_of, release_pages}
 use Rattle.rim_pages.specs.inside.Ends.{item_ends, launch_ends, outcome_ends, step_ends, source_ends}

@@ -6,7 +6,7 @@ use Rattle.page_jobs.specs.Page.{PageView, page_named}
 use Rattle.page_jobs.specs.declared.page.PageKey.{PageKey}
 use Rattle.rim_desc.specs.declared.source.Source.{Source}
 use Rattle.rim_desc.specs.declared.source.Source.TheVariants.{File, Edited}
-use Rattle.rim_chain.specs.Keys.{measured_keys}
+use Rattle.launch_plan.specs.Keys.{measured_keys}
 use Rattle.rim_launch.specs.LaunchData.{LaunchData}
 use Rattle.ipa_layout.specs.Layout.{PlacedData}
 use Rattle.rim_manifest.specs.Launches.{NamedData}

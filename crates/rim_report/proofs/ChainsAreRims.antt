@@ -33,11 +33,11 @@ use Rattle.page_jobs.proofs.SlotOfNextPage.{slots-there}
 use Rattle.page_jobs.proofs.RisingKeys.{Has, contains-has, has-contains, rising_keys-rise, rising_keys-same}
 use Rattle.rim_manifest.specs.Launches.{AreNumbered, NamedData, ReleaseData}
 use Rattle.rmi_list.specs.Measured.{page_contents}
-use Rattle.rim_chain.specs.Links.{PlanView, chain_of, keys_of}
+use Rattle.launch_plan.specs.Links.{PlanView, chain_of, keys_of}
 use Rattle.rim_chain.specs.OwnDigests.{HasOwnPage, own_digest}
-use Rattle.rim_chain.specs.Keys.{measured_keys}
-use Rattle.rim_chain.specs.Reading.{IsReadOf}
-use Rattle.rim_chain.specs.Rows.{IsFull, IsRowOf, has_all, value_in}
+use Rattle.launch_plan.specs.Keys.{measured_keys}
+use Rattle.launch_plan.specs.Reading.{IsReadOf}
+use Rattle.launch_plan.specs.Rows.{IsFull, IsRowOf, has_all, value_in}
 use Rattle.rim_chain.proofs.ChainsOfOwnPages.{chain-held, row-own}
 use Rattle.rim_accepted.specs.Accepted.{accepted_of, commands_for, rim_for}
 use Rattle.rim_pages.specs.Pages.{keys_at, launch_keys, page_keys, pages_of, release_pages, source_bytes}

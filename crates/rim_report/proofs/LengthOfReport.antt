@@ -17,8 +17,8 @@ use Rattle.rim_desc.specs.declared.measurement.Algo.TheVariants.{Sha256, Sha512}
 use Rattle.rim_desc.specs.declared.measurement.Measurement.{Measurement}
 use Rattle.rim_desc.proofs.BytesBesideFields.{length-zeros}
 use Rattle.page_jobs.specs.Table.{TableView}
-use Rattle.rim_chain.specs.Links.{PlanView, chain_of, parts_of}
-use Rattle.rim_chain.specs.Rows.{value_in}
+use Rattle.launch_plan.specs.Links.{PlanView, chain_of, parts_of}
+use Rattle.launch_plan.specs.Rows.{value_in}
 use Rattle.rim_manifest.specs.Launches.{NamedData}
 use Rattle.rmi_line.specs.Ends.{spaced_word, digest_bytes, rim_text}
 use Rattle.rim_accepted.specs.Lines.{line_with}

@@ -14,19 +14,19 @@ use Rattle.page_jobs.specs.Page.{PageView, digest_of}
 use Rattle.page_jobs.specs.Table as table
 use Rattle.page_jobs.specs.Table.{IsTable, TableView, digest_at, digest_in, slot_of}
 use Rattle.page_jobs.specs.declared.page.PageKey.{PageKey}
-use Rattle.rim_chain.specs.Links.{PlanView, chain_of, keys_of}
-use Rattle.rim_chain.specs.Reading.{IsReadOf}
-use Rattle.rim_chain.specs.Rows.{IsFull, value_in}
-use Rattle.job_board.specs.declared.job.Event.{Event}
-use Rattle.job_board.specs.declared.job.JobId.{JobId}
-use Rattle.job_board.specs.declared.job.JobId.TheVariants.{Page, Launch}
-use Rattle.job_board.specs.declared.job.JobState.{JobState}
-use Rattle.job_board.specs.declared.job.JobState.TheVariants.{Free, Held, Done}
-use Rattle.job_board.specs.Jobs.{CoreState, is_done, is_over, opening}
-use Rattle.job_board.specs.Events.{is_legal, jobs_put, replay}
-use Rattle.job_board.specs.Values.{NeedsHold, own_value, values}
-use Rattle.job_board.proofs.LegalLists.{size_run}
-use Rattle.job_board.proofs.OwnValues.{done_are_put, own_values}
+use Rattle.launch_plan.specs.Links.{PlanView, chain_of, keys_of}
+use Rattle.launch_plan.specs.Reading.{IsReadOf}
+use Rattle.launch_plan.specs.Rows.{IsFull, value_in}
+use Rattle.job_core.specs.declared.job.Event.{Event}
+use Rattle.job_core.specs.declared.job.JobId.{JobId}
+use Rattle.job_core.specs.declared.job.JobId.TheVariants.{Page, Launch}
+use Rattle.job_core.specs.declared.job.JobState.{JobState}
+use Rattle.job_core.specs.declared.job.JobState.TheVariants.{Free, Held, Done}
+use Rattle.job_core.specs.Jobs.{CoreState, is_done, is_over, opening}
+use Rattle.job_core.specs.Events.{is_legal, jobs_put, replay}
+use Rattle.job_core.specs.Values.{NeedsHold, own_value, values}
+use Rattle.job_core.proofs.LegalLists.{size_run}
+use Rattle.job_core.proofs.OwnValues.{done_are_put, own_values}
 use Rattle.ipa_layout.specs.Layout.{PlacedData}
 use Rattle.rim_manifest.specs.Launches.{AreNumbered, NamedData, ReleaseData}
 use Rattle.rim_accepted.specs.Accepted.{accepted_of, rim_for}

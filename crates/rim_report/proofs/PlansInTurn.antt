@@ -6,8 +6,8 @@ use Rattle.std.specs.List.{slice_get}
 use Rattle.ipa_layout.specs.Layout.{PlacedData}
 use Rattle.rim_launch.specs.LaunchData.{LaunchData}
 use Rattle.rim_manifest.specs.Launches.{NamedData}
-use Rattle.rim_chain.specs.Links.{PlanView}
-use Rattle.rim_chain.specs.Reading.{IsReadOf}
+use Rattle.launch_plan.specs.Links.{PlanView}
+use Rattle.launch_plan.specs.Reading.{IsReadOf}
 use Rattle.rim_accepted.specs.Accepted.{accepted_of}
 use Rattle.rim_accepted.specs.Outcomes.{AreOutcomes, IsOutcome}
 use Rattle.rim_accepted.specs.declared.accepted.AcceptedLaunch.{AcceptedLaunch}

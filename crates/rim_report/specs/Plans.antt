@@ -3,8 +3,8 @@ use Rattle.std.specs.Prelude.{◌≡◌, ℕ, List, [], ◌∷◌, Result, Ok, E
 use Rattle.ipa_layout.specs.Layout.{PlacedData}
 use Rattle.rim_launch.specs.LaunchData.{LaunchData}
 use Rattle.rim_manifest.specs.Launches.{NamedData}
-use Rattle.rim_chain.specs.Links.{PlanView}
-use Rattle.rim_chain.specs.Reading.{IsReadOf}
+use Rattle.launch_plan.specs.Links.{PlanView}
+use Rattle.launch_plan.specs.Reading.{IsReadOf}
 use Rattle.rim_accepted.specs.Accepted.{accepted_of}
 use Rattle.rim_accepted.specs.declared.audit_fault.AuditFault.{AuditFault}
 

@@ -7,7 +7,7 @@ use Rattle.rim_pages.specs.Pages.{page_keys}
 use Rattle.rim_pages.specs.declared.fault.StartFault.{StartFault}
 use Rattle.rim_pages.specs.declared.fault.StartFault.TheVariants.{TooManyPages, Workers}
 use Rattle.rim_pages.specs.declared.different.TheConstants.{DISTINCT_LIMIT}
-use Rattle.job_board.specs.declared.machine.TheConstants.{WORKER_LIMIT}
+use Rattle.job_core.specs.declared.machine.TheConstants.{WORKER_LIMIT}
 
 -- a report of these lines, for a release with this many different measured pages
 abbrev pub report_with : List ℕ → ℕ → List ℕ

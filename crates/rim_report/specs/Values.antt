@@ -5,10 +5,10 @@ use Rattle.rim_desc.specs.Part.{rim_of}
 use Rattle.rim_desc.specs.declared.measurement.Measurement.{Measurement}
 use Rattle.page_jobs.specs.Page.{PageView, digest_of}
 use Rattle.page_jobs.specs.Table.{slot_of}
-use Rattle.rim_chain.specs.Links.{PlanView, chain_of, keys_of}
-use Rattle.job_board.specs.Values.{Makes}
-use Rattle.job_board.specs.declared.job.JobId.{JobId}
-use Rattle.job_board.specs.declared.job.JobId.TheVariants.{Page, Launch}
+use Rattle.launch_plan.specs.Links.{PlanView, chain_of, keys_of}
+use Rattle.job_core.specs.Values.{Makes}
+use Rattle.job_core.specs.declared.job.JobId.{JobId}
+use Rattle.job_core.specs.declared.job.JobId.TheVariants.{Page, Launch}
 use Rattle.ipa_layout.specs.Layout.{PlacedData}
 use Rattle.rim_launch.specs.LaunchData.{LaunchData}
 use Rattle.rmi_list.specs.Measured.{measured, page_contents}

@@ -2,8 +2,8 @@
 ghost use Rattle.std.specs.Prelude.{◌≡◌, ◌≤◌, ◌<◌, IfOk, IfSome, Some, length, map, true};
 ghost use Rattle.std.specs.List.{All, slice_get};
 ghost use Rattle.page_jobs.specs.Table.{TableView};
-ghost use Rattle.rim_chain.specs.Links.{PlanView, keys_of};
-ghost use Rattle.rim_chain.specs.Rows.{has_all, value_in};
+ghost use Rattle.launch_plan.specs.Links.{PlanView, keys_of};
+ghost use Rattle.launch_plan.specs.Rows.{has_all, value_in};
 ghost use Rattle.rim_chain.specs.SharedPrefixes.{AreShared, HaveOwnPrefixes, IsOwnPrefix, IsValueOfPrefix};
 
 use page_jobs::{DigestRow, Table};

@@ -3,7 +3,7 @@ ghost use Rattle.std.specs.Prelude.{◌≡◌, ◌+◌, ◌<◌, IfOk, Some, len
 ghost use Rattle.page_jobs.specs.Key.{IsRising};
 ghost use Rattle.page_jobs.specs.Page.{page_view};
 ghost use Rattle.page_jobs.specs.Table.{page_keys_of};
-ghost use Rattle.rim_chain.specs.Rows.{IsFull};
+ghost use Rattle.launch_plan.specs.Rows.{IsFull};
 ghost use Rattle.rim_report.specs.inside.Filled.{IsFilledTo};
 
 use page_jobs::{Hashed, HashedAhead, Page, PageJob, Table};

@@ -1,12 +1,12 @@
 //! Laws of reports, proved of the definitions.
 ghost use Rattle.std.specs.Prelude.{◌≡◌, ℕ, List, length, true};
 ghost use Rattle.std.specs.List.{Contains};
-ghost use Rattle.job_board.specs.declared.job.Event.{Event};
-ghost use Rattle.job_board.specs.declared.job.JobId.TheVariants.{Launch};
-ghost use Rattle.job_board.specs.Events.{is_legal, replay};
-ghost use Rattle.job_board.specs.Jobs.{is_over, opening};
-ghost use Rattle.job_board.specs.Values.{NeedsHold, values};
-ghost use Rattle.rim_chain.specs.Links.{PlanView};
+ghost use Rattle.job_core.specs.declared.job.Event.{Event};
+ghost use Rattle.job_core.specs.declared.job.JobId.TheVariants.{Launch};
+ghost use Rattle.job_core.specs.Events.{is_legal, replay};
+ghost use Rattle.job_core.specs.Jobs.{is_over, opening};
+ghost use Rattle.job_core.specs.Values.{NeedsHold, values};
+ghost use Rattle.launch_plan.specs.Links.{PlanView};
 ghost use Rattle.rim_manifest.specs.Launches.{AreNumbered, ReleaseData};
 ghost use Rattle.rim_pages.specs.Pages.{release_pages};
 ghost use Rattle.rim_report.specs.Plans.{ArePlans};

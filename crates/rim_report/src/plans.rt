@@ -1,6 +1,6 @@
 //! What is measured of each launch that is accepted.
 ghost use Rattle.std.specs.Prelude.{◌≡◌, IfOk};
-ghost use Rattle.rim_chain.specs.Reading.{IsReadOf};
+ghost use Rattle.launch_plan.specs.Reading.{IsReadOf};
 ghost use Rattle.rim_report.specs.Plans.{ArePlans};
 
 use refusal::NoMemory;

@@ -7,11 +7,11 @@ ghost use Rattle.job_board.specs.Board.{AreValuesOf};
 ghost use Rattle.page_jobs.specs.Key.{IsRising};
 ghost use Rattle.page_jobs.specs.Page.{page_view};
 ghost use Rattle.page_jobs.specs.Table.{page_keys_of};
-ghost use Rattle.rim_chain.specs.Links.{keys_of};
+ghost use Rattle.launch_plan.specs.Links.{keys_of};
 ghost use Rattle.rim_pages.specs.Pages.{page_keys};
 ghost use Rattle.rim_accepted.specs.Lines.{has_refused, outcomes_for, seen};
 ghost use Rattle.rim_report.specs.Report.{is_crew, started_of};
-ghost use Rattle.job_board.specs.declared.machine.TheConstants.{WORKER_LIMIT};
+ghost use Rattle.job_core.specs.declared.machine.TheConstants.{WORKER_LIMIT};
 
 use crate::outcomes::UNKNOWN;
 use crate::pending_report::PendingReport;

@@ -1,11 +1,11 @@
 //! Calls of the layers, on the first launch of a manifest.
 ghost use Rattle.std.specs.Prelude.{◌≡◌, ◌<◌, IfOk, None, Ok, length, map, replicate, true, vec_len};
 ghost use Rattle.std.specs.List.{All, Contains};
-ghost use Rattle.job_board.specs.Jobs.{NeedsWithin};
+ghost use Rattle.job_core.specs.Jobs.{NeedsWithin};
 ghost use Rattle.page_jobs.specs.Key.{IsRising};
 ghost use Rattle.page_jobs.specs.Page.{page_view};
 ghost use Rattle.page_jobs.specs.Table.{page_keys_of};
-ghost use Rattle.rim_chain.specs.Links.{keys_of};
+ghost use Rattle.launch_plan.specs.Links.{keys_of};
 ghost use Rattle.rim_launch.specs.LaunchData.{has_files};
 ghost use Rattle.rmi_list.specs.Listed.{HasPlace, listed as rmi_list_of};
 

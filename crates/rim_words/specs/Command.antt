@@ -22,7 +22,7 @@ use Rattle.rim_words.specs.declared.words.CommandFault.TheVariants.{Usage, NoMem
 use Rattle.rim_words.specs.declared.words.Format.{Format}
 use Rattle.rim_words.specs.declared.words.Format.TheVariants as format
 use Rattle.rim_words.specs.declared.words.Request.{Request}
-use Rattle.job_board.specs.declared.machine.TheConstants.{WORKER_LIMIT}
+use Rattle.job_core.specs.declared.machine.TheConstants.{WORKER_LIMIT}
 
 -- an operand that has to be given, with a name that usage texts show
 abbrev pub operand_rule : Text → Rule

@@ -6,7 +6,7 @@ ghost use Rattle.rim_words.specs.Command.{rim, with_command};
 ghost use Rattle.rim_words.specs.inside.Table.{command_in, rule_in};
 
 use clap::{Arg, ArgAction, Command};
-use job_board::WORKER_LIMIT;
+use job_core::WORKER_LIMIT;
 use std::alloc::{AllocError, Global};
 
 /// The version, and the day of its sources' last commit: `tools/package/dist.py` asks that they are the same.

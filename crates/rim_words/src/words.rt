@@ -5,7 +5,7 @@ ghost use Rattle.clap.specs.Words.{HasKind, Kinds, fault_of, first_of, found_of,
 ghost use Rattle.rim_words.specs.declared.words.CommandFault.TheVariants as fault;
 ghost use Rattle.rim_words.specs.Command.{CountsWorkers, HasCrew, IsRefusalOf, ReadsAsk, ReadsRequest, ReadsRow, format_of, is_set, rim, verb_of};
 ghost use Rattle.rim_words.specs.inside.Table.{IsEntered};
-ghost use Rattle.job_board.specs.declared.machine.TheConstants.{WORKER_LIMIT};
+ghost use Rattle.job_core.specs.declared.machine.TheConstants.{WORKER_LIMIT};
 
 use crate::definition::rim_command;
 use clap::ArgMatches;

@@ -2,8 +2,8 @@
 use Rattle.std.specs.Prelude.{◌≡◌, ◌≢◌, ℕ, ◌+◌, ◌-◌, ◌<◌, ◌≤◌, Bool, ◌==◌, ◌⊎◌, if◌then◌else◌, List, [], ◌∷◌, ◌++◌, length, Some, count_by, slice_get}
 use Rattle.std.specs.List.{flat_map, list_all, range_with_len}
 use Rattle.job_board.specs.declared.grouping.Stretch.{Stretch}
-use Rattle.job_board.specs.declared.reaches.PageGroup.{PageGroup}
-use Rattle.job_board.specs.inside.Reaches.{AreApart, IsGroup, all_of, reach_needs}
+use Rattle.job_core.specs.declared.reaches.PageGroup.{PageGroup}
+use Rattle.job_core.specs.inside.Reaches.{AreApart, IsGroup, all_of, reach_needs}
 
 -- a stretch ends before another, or both begin alike and the other is no shorter
 abbrev pub Precedes : Stretch → Stretch → Type 0

@@ -3,9 +3,9 @@ use Rattle.std.specs.Prelude.{ℕ, ◌+◌, ◌==◌, if◌then◌else◌, List,
 use Rattle.std.specs.List.{flat_map}
 use Rattle.page_jobs.specs.Page.{PageView}
 use Rattle.page_jobs.specs.Table.{slot_of}
-use Rattle.rim_chain.specs.Links.{PlanView}
-use Rattle.rim_chain.specs.declared.link.Link.{Link}
-use Rattle.rim_chain.specs.declared.link.Link.TheVariants as link
+use Rattle.launch_plan.specs.Links.{PlanView}
+use Rattle.launch_plan.specs.declared.link.Link.{Link}
+use Rattle.launch_plan.specs.declared.link.Link.TheVariants as link
 use Rattle.job_board.specs.declared.grouping.Stretch.{Stretch}
 
 -- some pages of a launch, from a slot on; none where no page has the slot

@@ -1,24 +1,20 @@
 //! What a board gives: jobs, and launches that are lent.
 ghost use Rattle.std.specs.Prelude.{◌≡◌, ◌≢◌, ◌<◌, false, true, IfNone, IfOk, IfSome, Some, slice_get};
 ghost use Rattle.rim_desc.specs.declared.side_by_side.TheConstants.{MOST_LANES};
-ghost use Rattle.rim_chain.specs.Links.{keys_of};
-ghost use Rattle.rim_chain.specs.Rows.{IsRowOf};
-ghost use Rattle.job_board.specs.declared.job.Event.{Event};
-ghost use Rattle.job_board.specs.declared.job.JobId.{JobId};
-ghost use Rattle.job_board.specs.declared.job.JobState.{JobState};
-ghost use Rattle.job_board.specs.declared.work.Work.{Work};
+ghost use Rattle.launch_plan.specs.Links.{keys_of};
+ghost use Rattle.launch_plan.specs.Rows.{IsRowOf};
+ghost use Rattle.job_core.specs.declared.job.Event.{Event};
+ghost use Rattle.job_core.specs.declared.job.JobId.{JobId};
+ghost use Rattle.job_core.specs.declared.job.JobState.{JobState};
+ghost use Rattle.job_tasks.specs.declared.work.Work.{Work};
 ghost use Rattle.job_board.specs.Board.{Adds, IsBoard, IsOfRun, SameRest};
 ghost use Rattle.job_board.specs.Gives.{Gives};
-ghost use Rattle.job_board.specs.Jobs.{IsOpen, NoneFree, SomeHeld, held_count, is_out, is_over, is_ready, state_of};
+ghost use Rattle.job_core.specs.Jobs.{IsOpen, NoneFree, SomeHeld, held_count, is_out, is_over, is_ready, state_of};
 
 use super::{BoardState, record};
-use crate::filling::filled_task;
-use crate::job::{Event, JobId};
 use crate::lending::lent_task;
-use crate::rows::{plan_at, take_row};
-use crate::run::Run;
-use crate::task::{LaunchTask, PageTask};
-use crate::work::Work;
+use job_core::{Event, JobId};
+use job_tasks::{LaunchTask, PageTask, Run, Work, filled_task, plan_at, take_row};
 use page_jobs::DigestRow;
 use rim_desc::Algo;
 

@@ -4,7 +4,7 @@ ghost use Rattle.std.specs.List.{All, Contains};
 ghost use Rattle.page_jobs.specs.Key.{IsRising};
 ghost use Rattle.page_jobs.specs.Page.{page_view};
 ghost use Rattle.page_jobs.specs.Table.{page_keys_of as page_keys};
-ghost use Rattle.rim_chain.specs.Links.{keys_of};
+ghost use Rattle.launch_plan.specs.Links.{keys_of};
 
 use crate::has_all_keys;
 use job_board::{BoardState, ChainedLaunch, PageTask, Run, Share, Work};

@@ -2,7 +2,7 @@
 ghost use Rattle.std.specs.Prelude.{◌≡◌, [], length, replicate, None};
 ghost use Rattle.std.specs.List.{All, Contains};
 ghost use Rattle.page_jobs.specs.Table.{page_keys_of};
-ghost use Rattle.rim_chain.specs.Links.{keys_of as link_keys};
+ghost use Rattle.launch_plan.specs.Links.{keys_of as link_keys};
 
 use super::{STACK, check, pages_of, plans_of};
 use job_board::{BoardState, JobId, PageTask, Run, Share, Work};

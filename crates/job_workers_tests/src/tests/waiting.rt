@@ -4,7 +4,7 @@ ghost use Rattle.std.specs.List.{All, Contains};
 ghost use Rattle.page_jobs.specs.Key.{IsRising};
 ghost use Rattle.page_jobs.specs.Page.{page_view};
 ghost use Rattle.page_jobs.specs.Table.{page_keys_of};
-ghost use Rattle.rim_chain.specs.Links.{keys_of as link_keys};
+ghost use Rattle.launch_plan.specs.Links.{keys_of as link_keys};
 
 use super::{REALM, check, pages_of, values_by};
 use job_board::{BoardState, LaunchTask, PageTask, Run, Share, Work};

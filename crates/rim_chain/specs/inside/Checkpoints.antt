@@ -1,9 +1,9 @@
 -- Checkpoints before any launch is chained, and launches with the same prefix. This project's choice.
 use Rattle.std.specs.Prelude.{◌≡◌, ℕ, List, None, Some}
 use Rattle.std.specs.List.{All, slice_get}
-use Rattle.rim_chain.specs.Prefixes.{HavePrefix}
-use Rattle.rim_chain.specs.Links.{PlanView}
-use Rattle.rim_chain.specs.declared.prefix.Checkpoint.{Checkpoint}
+use Rattle.launch_plan.specs.Prefixes.{HavePrefix}
+use Rattle.launch_plan.specs.Links.{PlanView}
+use Rattle.launch_plan.specs.declared.prefix.Checkpoint.{Checkpoint}
 
 abbrev pub HaveNoValues : List Checkpoint → Type 0
 HaveNoValues checkpoints = All (λ m. m.value ≡ None) checkpoints

@@ -1,8 +1,8 @@
 -- Where a chain is. This project's choice.
 use Rattle.std.specs.Prelude.{◌≡◌, ◌≤◌, List, length, take}
 use Rattle.rim_desc.specs.declared.measurement.Measurement.{Measurement}
-use Rattle.rim_chain.specs.Prefixes.{prefix_value}
-use Rattle.rim_chain.specs.Links.{PlanView, keys_of}
+use Rattle.launch_plan.specs.Prefixes.{prefix_value}
+use Rattle.launch_plan.specs.Links.{PlanView, keys_of}
 use Rattle.rim_chain.specs.declared.chaining.Place.{Place}
 
 -- the first links of a plan, as many pages as they have, and what they chain to

@@ -4,8 +4,8 @@ use Rattle.std.specs.List.{slice_get}
 use Rattle.rim_desc.specs.declared.measurement.Measurement.{Measurement}
 use Rattle.page_jobs.specs.Table.{TableView}
 use Rattle.rim_chain.specs.Chains.{ChainView, chains_to}
-use Rattle.rim_chain.specs.Links.{PlanView, keys_of}
-use Rattle.rim_chain.specs.Rows.{IsFilled, IsRowOf}
+use Rattle.launch_plan.specs.Links.{PlanView, keys_of}
+use Rattle.launch_plan.specs.Rows.{IsFilled, IsRowOf}
 use Rattle.rim_chain.specs.SharedPrefixes.{IsOwnPrefix}
 use Rattle.rim_chain.specs.declared.starting.Start.{Start}
 

@@ -4,9 +4,9 @@ use Rattle.std.specs.List.{All}
 use Rattle.rim_desc.specs.Measurement.{measurement_of}
 use Rattle.rim_desc.specs.declared.measurement.Measurement.{Measurement}
 use Rattle.rim_chain.specs.Chains.{ChainView, chains_to}
-use Rattle.rim_chain.specs.Fitting.{IsFitting}
-use Rattle.rim_chain.specs.Links.{keys_of, link_parts, page_count}
-use Rattle.rim_chain.specs.declared.link.Link.{Link}
+use Rattle.launch_plan.specs.Fitting.{IsFitting}
+use Rattle.launch_plan.specs.Links.{keys_of}
+use Rattle.launch_plan.specs.declared.link.Link.{Link}
 
 -- a chain with another measurement
 abbrev pub set_to : ChainView → List ℕ → ChainView
@@ -41,7 +41,3 @@ pub record AreSet (count : ℕ) (before after : List ChainView) (values : List (
 pub record AreLeft (links : List Link) (digests : List Measurement) : Type 0 where
   pub fit : All IsFitting links
   pub filled : length digests ≡ length (keys_of links)
-
--- a link without parts
-abbrev pub IsEmpty : Link → Type 0
-IsEmpty link = (page_count link ≡ 0) × (link_parts link [] ≡ [])

@@ -1,5 +1,5 @@
 //! The expected measurements are from a program in Python: descriptors laid out by hand, digests by its hashlib.
-ghost use Rattle.rim_chain.specs.Rows.{IsFilled};
+ghost use Rattle.launch_plan.specs.Rows.{IsFilled};
 
 use super::{LEAD, check, filled_row, item, plan, put};
 use page_jobs::{Blob, DigestRow, Table};

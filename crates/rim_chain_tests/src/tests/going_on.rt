@@ -1,5 +1,5 @@
 //! Launches that go on from a prefix of another one.
-ghost use Rattle.rim_chain.specs.Rows.{IsFilled};
+ghost use Rattle.launch_plan.specs.Rows.{IsFilled};
 
 use super::{LEAD, check, filled_row, item, plan_of, put, realm};
 use page_jobs::{Blob, DigestRow, Table};

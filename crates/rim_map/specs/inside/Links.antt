@@ -1,7 +1,7 @@
 -- The extensions of links, without their digests. This project's choice.
 use Rattle.std.specs.Prelude.{List, sum_by}
-use Rattle.rim_chain.specs.declared.link.Link.{Link}
-use Rattle.rim_chain.specs.declared.link.Link.TheVariants as link
+use Rattle.launch_plan.specs.declared.link.Link.{Link}
+use Rattle.launch_plan.specs.declared.link.Link.TheVariants as link
 use Rattle.rim_map.specs.Extensions.{no_extensions, plus}
 use Rattle.rim_map.specs.declared.extensions.Extensions.{Extensions}
 

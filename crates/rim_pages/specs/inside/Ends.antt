@@ -10,7 +10,7 @@ use Rattle.rim_launch.specs.declared.step.Step.TheVariants as step
 use Rattle.ipa_layout.specs.Layout.{PlacedData}
 use Rattle.ipa_layout.specs.declared.placed.PlacedItem.{PlacedItem}
 use Rattle.rim_accepted.specs.declared.accepted.AcceptedLaunch.{AcceptedLaunch}
-use Rattle.rim_chain.specs.Keys.{key_at}
+use Rattle.launch_plan.specs.Keys.{key_at}
 use Rattle.rim_accepted.specs.declared.audit_fault.AuditFault.{AuditFault}
 
 abbrev pub source_ends : Algo → PlacedItem → Option Source → List PageKey

@@ -1,6 +1,6 @@
 use Rattle.std.proofs.Common.{◌∙◌, ◌++◌, ◌∷◌, [], List, ap, refl}
-use Rattle.job_board.specs.declared.reaches.Reach.{Reach}
-use Rattle.job_board.specs.declared.reaches.PageGroup.{PageGroup}
+use Rattle.job_core.specs.declared.reaches.Reach.{Reach}
+use Rattle.job_core.specs.declared.reaches.PageGroup.{PageGroup}
 use Rattle.job_board.proofs.GroupsOfStretches.{grouped_new, reach_of}
 use Rattle.job_board.proofs.grouping.add_group.Goals as goal
 

@@ -2,7 +2,7 @@ use Rattle.std.proofs.Common.{◌≡◌, ◌∙◌, ◌<◌, ◌-◌, ℕ, lengt
 use Rattle.std.proofs.lemmas.Bool.{eq-eqb}
 use Rattle.std.proofs.lemmas.Bool.Decides.{nat_tests}
 use Rattle.std.proofs.lemmas.Option.{same_Some, slice_get_read}
-use Rattle.job_board.specs.declared.reaches.PageGroup.{PageGroup}
+use Rattle.job_core.specs.declared.reaches.PageGroup.{PageGroup}
 use Rattle.job_board.proofs.grouping.begins_last.Goals as goal
 
 eqb_is : (a b : ℕ) → eqb a b ≡ true → a ≡ b

@@ -1,6 +1,6 @@
 use Rattle.std.proofs.Common.{◌≡◌, ◌∙◌, ◌-◌, get_or, length, refl, sym, ap}
 use Rattle.std.proofs.lemmas.Option.{same_Some, slice_get-get_or, slice_get_within}
-use Rattle.job_board.specs.declared.reaches.PageGroup.{PageGroup}
+use Rattle.job_core.specs.declared.reaches.PageGroup.{PageGroup}
 use Rattle.job_board.proofs.GroupsOfStretches.{grouped_more}
 use Rattle.job_board.proofs.grouping.extend_last.Goals as goal
 

@@ -1,6 +1,6 @@
 use Rattle.std.proofs.Common.{◌∙◌, List, ap, arith}
 use Rattle.std.specs.List.{slice_get}
-use Rattle.rim_chain.specs.Links.{PlanView}
+use Rattle.launch_plan.specs.Links.{PlanView}
 use Rattle.job_board.proofs.lending.lent_task.Goals as goal
 
 pub filled_task-requires-clause-roomy : goal.filled_task-requires-clause-roomy

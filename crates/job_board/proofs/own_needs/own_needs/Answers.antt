@@ -4,7 +4,7 @@ use Rattle.std.proofs.lemmas.Bool.{cases_lt}
 use Rattle.std.proofs.lemmas.Bool.Decides.{nat_tests}
 use Rattle.job_board.specs.contracts.grouping.StretchOrd.TheImpl.{ghosts as order}
 use Rattle.job_board.specs.declared.grouping.Stretch.{Stretch}
-use Rattle.job_board.proofs.NeedsOfGroups.{reaches_are_needs}
+use Rattle.job_core.proofs.NeedsOfGroups.{reaches_are_needs}
 use Rattle.job_board.proofs.NeedsOfOwnPages.{AreRising, Rises, groups_own, own_groups}
 use Rattle.job_board.proofs.own_needs.own_needs.Goals as goal
 

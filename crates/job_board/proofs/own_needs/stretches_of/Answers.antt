@@ -4,8 +4,8 @@ use Rattle.std.proofs.lemmas.Option.{get_or_from_slice_get, slice_get_read}
 use Rattle.job_board.specs.declared.grouping.Stretch.{Stretch}
 use Rattle.job_board.specs.inside.OwnStretches.{plan_stretches, stretches_from}
 use Rattle.std.proofs.lemmas.List.Elements.{All-more}
-use Rattle.rim_chain.specs.Fitting.{BeginsItem}
-use Rattle.rim_chain.specs.Links.{PlanView}
+use Rattle.launch_plan.specs.Fitting.{BeginsItem}
+use Rattle.launch_plan.specs.Links.{PlanView}
 use Rattle.job_board.proofs.NeedsOfOwnPages.{stretches_more}
 use Rattle.job_board.proofs.own_needs.stretches_of.Goals as goal
 

@@ -1,6 +1,6 @@
 use Rattle.std.proofs.Common.{◌≡◌, take}
 use Rattle.std.specs.List.{All}
-use Rattle.rim_chain.specs.Fitting.{BeginsItem}
+use Rattle.launch_plan.specs.Fitting.{BeginsItem}
 use Rattle.job_board.specs.inside.OwnStretches.{stretches_from}
 use Rattle.job_board.proofs.own_needs.stretches_of.Given as goal
 

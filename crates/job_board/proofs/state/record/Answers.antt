@@ -1,5 +1,5 @@
 use Rattle.std.proofs.Common.{◌≡◌, Ok, arith}
-use Rattle.job_board.specs.Step.{core_step}
+use Rattle.job_core.specs.Step.{core_step}
 use Rattle.job_board.proofs.HistoryGoesOn.{history_room}
 use Rattle.job_board.proofs.state.record.Goals as goal
 

@@ -2,7 +2,7 @@ use Rattle.std.proofs.Common.{arith, length, subst, sym}
 use Rattle.std.specs.List.{All, Contains}
 use Rattle.std.proofs.lemmas.List.Elements.{All-from_all_within, AllWithin-more, AllWithin-upto, at_read}
 use Rattle.page_jobs.specs.Table.{page_keys_of as page_keys}
-use Rattle.rim_chain.specs.Links.{PlanView, keys_of}
+use Rattle.launch_plan.specs.Links.{PlanView, keys_of}
 use Rattle.job_board_tests.proofs.known.has_all_keys.Goals as goal
 
 pub loop-plan-preserved : goal.loop-plan-preserved

@@ -1,6 +1,6 @@
 use Rattle.std.specs.List.{All, AllWithin, Contains}
 use Rattle.page_jobs.specs.Table.{page_keys_of as page_keys}
-use Rattle.rim_chain.specs.Links.{keys_of}
+use Rattle.launch_plan.specs.Links.{keys_of}
 use Rattle.job_board_tests.proofs.known.has_all_keys.Given as goal
 
 abbrev pub invariant-loop-plan : goal.invariant-loop-plan

@@ -3,7 +3,7 @@ use Rattle.std.specs.List.{Contains}
 use Rattle.std.proofs.lemmas.List.Elements.{All-from_all_within, AllWithin-more, AllWithin-upto}
 use Rattle.std.proofs.lemmas.Option.{get_or_from_slice_get, slice_get_within}
 use Rattle.page_jobs.specs.Table.{page_keys_of as page_keys}
-use Rattle.rim_chain.specs.Links.{keys_of}
+use Rattle.launch_plan.specs.Links.{keys_of}
 use Rattle.job_board_tests.proofs.known.has_keys.Goals as goal
 
 pub loop-index-preserved : goal.loop-index-preserved

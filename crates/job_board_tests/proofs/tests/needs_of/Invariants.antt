@@ -1,5 +1,5 @@
 use Rattle.std.proofs.Common.{map}
-use Rattle.job_board.specs.Jobs.{NeedsWithin}
+use Rattle.job_core.specs.Jobs.{NeedsWithin}
 use Rattle.job_board_tests.proofs.tests.needs_of.Given as goal
 
 abbrev pub invariant-loop-list : goal.invariant-loop-list

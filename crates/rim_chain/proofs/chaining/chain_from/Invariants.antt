@@ -1,8 +1,8 @@
 use Rattle.std.proofs.Common.{◌≡◌, List, Some}
 use Rattle.std.specs.List.{slice_get}
 use Rattle.page_jobs.specs.Table.{TableView}
-use Rattle.rim_chain.specs.Links.{PlanView, keys_of}
-use Rattle.rim_chain.specs.Rows.{IsRowOf}
+use Rattle.launch_plan.specs.Links.{PlanView, keys_of}
+use Rattle.launch_plan.specs.Rows.{IsRowOf}
 use Rattle.rim_chain.specs.SharedPrefixes.{AreShared}
 use Rattle.rim_chain.specs.inside.Places.{IsPlace}
 use Rattle.rim_chain.proofs.chaining.chain_from.Given as goal

@@ -1,7 +1,7 @@
 use Rattle.std.proofs.Common.{◌<◌, length, arith, refl, sym, ◌∙◌}
-use Rattle.rim_chain.specs.declared.link.Link.TheVariants as link
+use Rattle.launch_plan.specs.declared.link.Link.TheVariants as link
 use Rattle.rim_chain.proofs.PrefixValues.{prefix-next}
-use Rattle.rim_chain.proofs.LinkByLink.{keys-so-far, keys-within}
+use Rattle.launch_plan.proofs.LinkByLink.{keys-so-far, keys-within}
 use Rattle.rim_chain.proofs.chaining.chained_to.Goals as goal
 
 pub split_at-requires : goal.split_at-requires

@@ -1,6 +1,6 @@
 use Rattle.std.proofs.Common.{◌≡◌, ◌+◌, ◌*◌, drop}
 use Rattle.rim_desc.specs.Part.{extended_by}
-use Rattle.rim_chain.specs.Links.{pages_with}
+use Rattle.launch_plan.specs.Links.{pages_with}
 use Rattle.rim_chain.proofs.chaining.extended_by_pages.Given as goal
 
 abbrev pub invariant-loop-digest : goal.invariant-loop-digest

@@ -1,5 +1,5 @@
 use Rattle.std.proofs.Common.{◌∙◌, sym, arith}
-use Rattle.rim_chain.proofs.LinkByLink.{keys-left, links-end, links-next}
+use Rattle.launch_plan.proofs.LinkByLink.{keys-left, links-end, links-next}
 use Rattle.rim_chain.proofs.under_way.extended_by_links.Goals as goal
 
 pub split_at-requires : goal.split_at-requires

@@ -1,6 +1,6 @@
 use Rattle.std.proofs.Common.{◌≡◌, length, drop}
 use Rattle.rim_desc.specs.Part.{extended_by}
-use Rattle.rim_chain.specs.Links.{keys_of, parts_with}
+use Rattle.launch_plan.specs.Links.{keys_of, parts_with}
 use Rattle.rim_chain.proofs.under_way.extended_by_links.Given as goal
 
 abbrev pub invariant-loop-link : goal.invariant-loop-link

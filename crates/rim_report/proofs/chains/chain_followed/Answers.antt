@@ -1,8 +1,8 @@
 use Rattle.std.proofs.Common.{◌≡◌, ◌∙◌, ℕ, true, Some, ap, length, subst, sym}
 use Rattle.std.specs.List.{slice_get}
 use Rattle.std.proofs.lemmas.Option.{slice_get-get_or}
-use Rattle.rim_chain.specs.Links.{PlanView, keys_of}
-use Rattle.rim_chain.specs.Rows.{has_all}
+use Rattle.launch_plan.specs.Links.{PlanView, keys_of}
+use Rattle.launch_plan.specs.Rows.{has_all}
 use Rattle.rim_chain.specs.SharedPrefixes.{IsOwnPrefix}
 use Rattle.rim_chain.proofs.KnownPrefixes.{known-first, prefixes-set, whole-prefix}
 use Rattle.rim_report.proofs.chains.chain_followed.Goals as goal

@@ -1,5 +1,5 @@
 use Rattle.std.proofs.Common.{◌∙◌, ap, sym}
-use Rattle.rim_chain.specs.Links.{chain_of, keys_of}
+use Rattle.launch_plan.specs.Links.{chain_of, keys_of}
 use Rattle.rim_chain.proofs.KnownPrefixes.{own-shared_prefix, row-values}
 use Rattle.rim_report.proofs.chains.chained.Goals as goal
 

@@ -1,5 +1,5 @@
 use Rattle.std.proofs.Common.{◌≡◌, map, take}
-use Rattle.rim_chain.specs.Rows.{value_in}
+use Rattle.launch_plan.specs.Rows.{value_in}
 use Rattle.rim_chain.specs.SharedPrefixes.{AreShared}
 use Rattle.rim_report.proofs.chains.chains.Given as goal
 

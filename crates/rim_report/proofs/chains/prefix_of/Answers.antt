@@ -1,7 +1,7 @@
 use Rattle.std.proofs.Common.{subst}
 use Rattle.std.specs.Prelude.{Option, IfSome}
 use Rattle.rim_chain.specs.SharedPrefixes.{IsOwnPrefix}
-use Rattle.rim_chain.specs.declared.prefix.Prefix.{Prefix}
+use Rattle.launch_plan.specs.declared.prefix.Prefix.{Prefix}
 use Rattle.rim_report.proofs.chains.prefix_of.Goals as goal
 
 pub returns-in-Some : goal.returns-in-Some

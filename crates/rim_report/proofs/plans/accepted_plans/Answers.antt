@@ -1,5 +1,5 @@
 use Rattle.std.proofs.Common.{◌∙◌, ◌+◌, List, Vec, Global, Result, ap, arith, sym, subst, take}
-use Rattle.rim_chain.specs.Links.{PlanView}
+use Rattle.launch_plan.specs.Links.{PlanView}
 use Rattle.rim_accepted.specs.Outcomes.{AreOutcomes}
 use Rattle.rim_accepted.specs.declared.accepted.AcceptedLaunch.{AcceptedLaunch}
 use Rattle.rim_accepted.specs.declared.audit_fault.AuditFault.{AuditFault}

@@ -8,8 +8,8 @@ use Rattle.page_jobs.specs.Key.{IsRising}
 use Rattle.page_jobs.specs.Page.{page_view}
 use Rattle.page_jobs.specs.Table as table
 use Rattle.page_jobs.specs.declared.page.Page.{Page}
-use Rattle.rim_chain.specs.Links.{PlanView, keys_of}
-use Rattle.rim_chain.specs.Rows.{value_in}
+use Rattle.launch_plan.specs.Links.{PlanView, keys_of}
+use Rattle.launch_plan.specs.Rows.{value_in}
 use Rattle.rim_desc.specs.declared.measurement.Measurement.{Measurement}
 use Rattle.rim_manifest.specs.Launches.{ReleaseData}
 use Rattle.rim_accepted.specs.Lines.{has_refused, lines_with, outcomes_for, seen}

@@ -2,7 +2,7 @@ use Rattle.std.proofs.Common.{List, subst, sym}
 use Rattle.std.specs.List.{All, Contains}
 use Rattle.page_jobs.specs.Page.{PageView}
 use Rattle.page_jobs.specs.Table.{page_keys_of}
-use Rattle.rim_chain.specs.Links.{keys_of}
+use Rattle.launch_plan.specs.Links.{keys_of}
 use Rattle.rim_report.proofs.workers.run.Goals as goal
 
 pub with_lanes-requires-clause-keys : goal.with_lanes-requires-clause-keys

@@ -3,9 +3,9 @@ use Rattle.std.specs.List.{slice_get}
 use Rattle.std.proofs.lemmas.List.{length-map}
 use Rattle.rim_desc.specs.declared.measurement.Measurement.{Measurement}
 use Rattle.page_jobs.specs.Page.{PageView, page_view}
-use Rattle.rim_chain.specs.Links.{PlanView}
+use Rattle.launch_plan.specs.Links.{PlanView}
 use Rattle.job_board.specs.Board.{AreValuesOf, BoardView}
-use Rattle.job_board.specs.Jobs.{is_over}
+use Rattle.job_core.specs.Jobs.{is_over}
 use Rattle.job_board.proofs.EventsKeepBoards.{results_are}
 use Rattle.job_board.proofs.FinishedBoards.{over_count, over_given, over_values}
 use Rattle.job_board.proofs.state.BoardState.close.Goals as goal

@@ -1,17 +1,17 @@
 use Rattle.std.proofs.Common.{◌≡◌, ◌∙◌, List, Ok, Some, ap, arith, false, refl, subst, sym}
 use Rattle.std.specs.List.{slice_get}
 use Rattle.std.proofs.lemmas.Option.{same_Some, slice_get_within}
-use Rattle.rim_chain.specs.Links.{PlanView}
-use Rattle.job_board.specs.declared.job.Event.TheVariants.{Take}
-use Rattle.job_board.specs.declared.job.JobId.TheVariants.{Launch}
-use Rattle.job_board.specs.declared.job.JobState.TheVariants.{Free}
+use Rattle.launch_plan.specs.Links.{PlanView}
+use Rattle.job_core.specs.declared.job.Event.TheVariants.{Take}
+use Rattle.job_core.specs.declared.job.JobId.TheVariants.{Launch}
+use Rattle.job_core.specs.declared.job.JobState.TheVariants.{Free}
 use Rattle.job_board.specs.Board.{BoardView}
-use Rattle.job_board.specs.Step.{core_step}
+use Rattle.job_core.specs.Step.{core_step}
 use Rattle.job_board.proofs.EventsKeepBoards.{board_other, ready_filled}
-use Rattle.job_board.proofs.WhatStepsChange.{take_says}
+use Rattle.job_core.proofs.WhatStepsChange.{take_says}
 use Rattle.job_board.proofs.RowsOfWorkers.{row_within, rows_take_launch}
-use Rattle.job_board.proofs.NotesOfWorkers.{held_counts}
-use Rattle.job_board.specs.Jobs.{held_count, is_out}
+use Rattle.job_core.proofs.NotesOfWorkers.{held_counts}
+use Rattle.job_core.specs.Jobs.{held_count, is_out}
 use Rattle.job_board.proofs.state.BoardState.give_launch.Goals as goal
 
 pub plan_at-plan-requires : goal.plan_at-plan-requires

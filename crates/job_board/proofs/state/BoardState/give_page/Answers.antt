@@ -2,13 +2,13 @@ use Rattle.std.proofs.Common.{◌≡◌, ◌<◌, Ok, ap, arith, false, length, 
 use Rattle.std.proofs.lemmas.List.{length-map}
 use Rattle.std.proofs.lemmas.Option.{slice_get_within}
 use Rattle.page_jobs.specs.Page.{page_view}
-use Rattle.job_board.specs.declared.job.Event.TheVariants.{Take}
-use Rattle.job_board.specs.declared.job.JobId.TheVariants.{Page}
-use Rattle.job_board.specs.declared.job.JobState.TheVariants.{Free}
+use Rattle.job_core.specs.declared.job.Event.TheVariants.{Take}
+use Rattle.job_core.specs.declared.job.JobId.TheVariants.{Page}
+use Rattle.job_core.specs.declared.job.JobState.TheVariants.{Free}
 use Rattle.job_board.specs.Board.{BoardView}
-use Rattle.job_board.specs.Step.{core_step}
+use Rattle.job_core.specs.Step.{core_step}
 use Rattle.job_board.proofs.EventsKeepBoards.{board_other}
-use Rattle.job_board.proofs.WhatStepsChange.{take_says}
+use Rattle.job_core.proofs.WhatStepsChange.{take_says}
 use Rattle.job_board.proofs.RowsOfWorkers.{rows_take_page}
 use Rattle.job_board.proofs.state.BoardState.give_page.Goals as goal
 

@@ -4,20 +4,20 @@ use Rattle.rim_desc.specs.declared.measurement.Measurement.{Measurement}
 use Rattle.std.proofs.lemmas.Option.{same_Some, slice_get_within}
 use Rattle.page_jobs.specs.Page.{PageView}
 use Rattle.rim_chain.specs.Jobs.{JobView, RimView}
-use Rattle.rim_chain.specs.Links.{PlanView, chain_of, keys_of}
-use Rattle.rim_chain.specs.Rows.{IsRowOf, value_in}
-use Rattle.job_board.specs.declared.job.Event.TheVariants.{Put}
-use Rattle.job_board.specs.declared.job.JobId.TheVariants.{Launch}
-use Rattle.job_board.specs.declared.job.JobState.TheVariants.{Held}
+use Rattle.launch_plan.specs.Links.{PlanView, chain_of, keys_of}
+use Rattle.launch_plan.specs.Rows.{IsRowOf, value_in}
+use Rattle.job_core.specs.declared.job.Event.TheVariants.{Put}
+use Rattle.job_core.specs.declared.job.JobId.TheVariants.{Launch}
+use Rattle.job_core.specs.declared.job.JobState.TheVariants.{Held}
 use Rattle.job_board.specs.Board.{BoardView, CanPutLaunch, IsBoard}
-use Rattle.job_board.specs.Jobs.{CoreState}
-use Rattle.job_board.specs.Step.{core_step}
-use Rattle.job_board.specs.Tasks.{IsOwnRow, IsRoomy}
+use Rattle.job_core.specs.Jobs.{CoreState}
+use Rattle.job_core.specs.Step.{core_step}
+use Rattle.job_tasks.specs.Tasks.{IsOwnRow, IsRoomy}
 use Rattle.page_jobs.specs.Row.{RowView}
 use Rattle.job_board.proofs.EventsKeepBoards.{board_put_launch, held_filled, results_are, value_is}
-use Rattle.job_board.proofs.WhatStepsChange.{put_says}
+use Rattle.job_core.proofs.WhatStepsChange.{put_says}
 use Rattle.job_board.proofs.RowsOfWorkers.{rows_put_launch}
-use Rattle.job_board.proofs.RowsOfOwnPages.{row_of_own}
+use Rattle.job_tasks.proofs.RowsOfOwnPages.{row_of_own}
 use Rattle.job_board.proofs.state.BoardState.put_launch.Goals as goal
 
 -- what is known of a launch that was put

@@ -2,12 +2,12 @@ use Rattle.std.proofs.Common.{◌≡◌, ◌+◌, ◌∙◌, List, Ok, Some, ap,
 use Rattle.std.specs.List.{slice_get}
 use Rattle.page_jobs.specs.Page.{PageView, page_view}
 use Rattle.page_jobs.proofs.OneMoreDigest.{filled_table}
-use Rattle.job_board.specs.declared.job.Event.TheVariants.{Put}
-use Rattle.job_board.specs.declared.job.JobId.TheVariants.{Page}
+use Rattle.job_core.specs.declared.job.Event.TheVariants.{Put}
+use Rattle.job_core.specs.declared.job.JobId.TheVariants.{Page}
 use Rattle.job_board.specs.Board.{BoardView}
-use Rattle.job_board.specs.Step.{core_step}
+use Rattle.job_core.specs.Step.{core_step}
 use Rattle.job_board.proofs.EventsKeepBoards.{board_put_page, slot_empty}
-use Rattle.job_board.proofs.WhatStepsChange.{put_says}
+use Rattle.job_core.proofs.WhatStepsChange.{put_says}
 use Rattle.job_board.proofs.RowsOfWorkers.{rows_put_page}
 use Rattle.job_board.proofs.state.BoardState.put_page.Goals as goal
 

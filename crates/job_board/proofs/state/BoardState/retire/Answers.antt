@@ -1,7 +1,7 @@
 use Rattle.std.proofs.Common.{◌≡◌, Ok, refl}
-use Rattle.job_board.specs.declared.job.Event.TheVariants.{Retire}
+use Rattle.job_core.specs.declared.job.Event.TheVariants.{Retire}
 use Rattle.job_board.specs.Board.{BoardView}
-use Rattle.job_board.specs.Step.{core_step}
+use Rattle.job_core.specs.Step.{core_step}
 use Rattle.job_board.proofs.EventsKeepBoards.{board_other}
 use Rattle.job_board.proofs.RowsOfWorkers.{rows_retire}
 use Rattle.job_board.proofs.state.BoardState.retire.Goals as goal

@@ -1,8 +1,8 @@
 use Rattle.std.proofs.Common.{◌≡◌, false, true, sym, ◌∙◌, subst}
 use Rattle.std.proofs.lemmas.Bool.{true≢false}
 use Rattle.job_board.specs.Board.{BoardView}
-use Rattle.job_board.specs.Jobs.{NoneOpen, SomeHeld}
-use Rattle.job_board.proofs.WaitsForHeld.{some_held}
+use Rattle.job_core.specs.Jobs.{NoneOpen, SomeHeld}
+use Rattle.job_core.proofs.WaitsForHeld.{some_held}
 use Rattle.job_board.proofs.state.BoardState.take_or_wait.Goals.{in-Later, in_default}
 use Rattle.job_board.proofs.state.BoardState.take_or_wait.Goals as goal
 

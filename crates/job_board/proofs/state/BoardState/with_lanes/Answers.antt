@@ -1,9 +1,9 @@
 use Rattle.std.proofs.Common.{◌≡◌, ◌∙◌, List, None, ap, length, replicate, rules}
 use Rattle.std.specs.List.{slice_get}
-use Rattle.rim_chain.specs.Links.{PlanView}
-use Rattle.job_board.specs.Tasks.{whole_table}
+use Rattle.launch_plan.specs.Links.{PlanView}
+use Rattle.job_tasks.specs.Tasks.{whole_table}
 use Rattle.job_board.proofs.NewBoards.{board_new, plan_fits, rows_new}
-use Rattle.job_board.proofs.CoreCounts.{core_fresh}
+use Rattle.job_core.proofs.CoreCounts.{core_fresh}
 use Rattle.job_board.proofs.state.BoardState.with_lanes.Goals as goal
 
 pub invariant_of-result : goal.invariant_of-result

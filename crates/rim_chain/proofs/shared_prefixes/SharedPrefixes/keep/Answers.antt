@@ -7,7 +7,7 @@ use Rattle.std.proofs.lemmas.Bool.{cases_Bool}
 use Rattle.std.proofs.lemmas.List.{map-set, with_items_is}
 use Rattle.std.proofs.lemmas.Option.{slice_get-get_or, slice_get-map}
 use Rattle.rim_chain.specs.SharedPrefixes.{AreShared, IsKept, IsPutAmong}
-use Rattle.rim_chain.specs.declared.prefix.Checkpoint.{Checkpoint}
+use Rattle.launch_plan.specs.declared.prefix.Checkpoint.{Checkpoint}
 use Rattle.rim_chain.proofs.KnownPrefixes.{shared-kept}
 use Rattle.rim_chain.proofs.shared_prefixes.SharedPrefixes.keep.Goals as goal
 

@@ -1,6 +1,6 @@
 use Rattle.std.proofs.Common.{sym, ap, ◌∙◌, arith}
 use Rattle.std.proofs.lemmas.List.Elements.{All-head, All-tail}
-use Rattle.rim_chain.specs.Fitting.{IsFitting}
+use Rattle.launch_plan.specs.Fitting.{IsFitting}
 use Rattle.rim_chain.specs.Chains.{chains_to}
 use Rattle.rim_chain.proofs.PartByPart.{digests-left, link-first}
 use Rattle.rim_chain.proofs.under_way.LaunchChain.finished.Goals as goal

@@ -2,11 +2,11 @@ use Rattle.std.proofs.Common.{◌≡◌, ◌∙◌, List, arith, length, take, d
 use Rattle.std.proofs.lemmas.List.Elements.{All-cons, All-drop, All-take}
 use Rattle.rim_desc.specs.Part.{extended_by}
 use Rattle.rim_desc.specs.declared.measurement.Measurement.{Measurement}
-use Rattle.rim_chain.specs.Fitting.{IsFitting}
-use Rattle.rim_chain.specs.Links.{keys_of}
-use Rattle.rim_chain.specs.declared.link.Link.{Link}
-use Rattle.rim_chain.specs.declared.link.Link.TheVariants.{Unmeasured}
-use Rattle.rim_chain.proofs.LinkByLink.{keys-on}
+use Rattle.launch_plan.specs.Fitting.{IsFitting}
+use Rattle.launch_plan.specs.Links.{keys_of}
+use Rattle.launch_plan.specs.declared.link.Link.{Link}
+use Rattle.launch_plan.specs.declared.link.Link.TheVariants.{Unmeasured}
+use Rattle.launch_plan.proofs.LinkByLink.{keys-on}
 use Rattle.rim_chain.proofs.PrefixValues.{prefix-on}
 use Rattle.rim_chain.proofs.PartByPart.{empty-first, none-left}
 use Rattle.rim_chain.proofs.under_way.LaunchChain.new.Goals as goal

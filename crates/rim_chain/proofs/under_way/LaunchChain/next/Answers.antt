@@ -1,9 +1,9 @@
 use Rattle.std.proofs.Common.{◌≡◌, ◌∷◌, ◌<◌, List, ap, sym, subst, ◌∙◌, arith}
 use Rattle.rim_desc.specs.Part.{extended_by}
 use Rattle.rim_desc.specs.declared.measurement.Measurement.{Measurement}
-use Rattle.rim_chain.specs.Links.{parts_with}
-use Rattle.rim_chain.specs.declared.link.Link.{Link}
-use Rattle.rim_chain.specs.declared.link.Link.TheVariants.{Pages}
+use Rattle.launch_plan.specs.Links.{parts_with}
+use Rattle.launch_plan.specs.declared.link.Link.{Link}
+use Rattle.launch_plan.specs.declared.link.Link.TheVariants.{Pages}
 use Rattle.rim_chain.specs.inside.UnderWay.{AreLeft}
 use Rattle.rim_chain.specs.Chains.{chains_to}
 use Rattle.rim_chain.proofs.PartByPart.{block-first, block-fits, block-left, page-first, page-left, rec-first, rec-left, unmeasured-first, unmeasured-left}

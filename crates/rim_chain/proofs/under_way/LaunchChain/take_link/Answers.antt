@@ -1,7 +1,7 @@
 use Rattle.std.proofs.Common.{List, arith, sym, ap, subst, ◌∙◌}
 use Rattle.rim_desc.specs.Part.{Part}
-use Rattle.rim_chain.specs.Links.{parts_with}
-use Rattle.rim_chain.specs.declared.link.Link.{Link}
+use Rattle.launch_plan.specs.Links.{parts_with}
+use Rattle.launch_plan.specs.declared.link.Link.{Link}
 use Rattle.rim_chain.specs.Chains.{ChainView}
 use Rattle.rim_chain.specs.inside.UnderWay.{AreLeft}
 use Rattle.rim_chain.proofs.PartByPart.{empty-first, empty-left}

@@ -1,7 +1,7 @@
 use Rattle.std.proofs.Common.{◌≡◌, ◌∙◌, ◌++◌, List, ap}
 use Rattle.std.proofs.lemmas.Result.{on_ok_weaker}
 use Rattle.page_jobs.specs.declared.page.PageKey.{PageKey}
-use Rattle.rim_chain.specs.Keys.{measured_keys}
+use Rattle.launch_plan.specs.Keys.{measured_keys}
 use Rattle.rim_pages.specs.inside.Ends.{launch_ends}
 use Rattle.rim_pages.proofs.DifferentPages.{added-keys}
 use Rattle.rim_pages.proofs.measured.MeasuredPages.add.Goals as goal

@@ -1,5 +1,0 @@
-use Rattle.job_board.proofs.NeverStuck as stuck
-use Rattle.job_board.proofs.laws.no_state_is_stuck.Goals as goal
-
-pub returns : goal.returns
-returns c = stuck.not_stuck

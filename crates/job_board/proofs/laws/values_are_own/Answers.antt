@@ -1,5 +1,0 @@
-use Rattle.job_board.proofs.OwnValues as valued
-use Rattle.job_board.proofs.laws.values_are_own.Goals as goal
-
-pub returns : goal.returns
-returns c = valued.own_values

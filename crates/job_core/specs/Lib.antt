@@ -1,0 +1,5 @@
+pub mod Jobs
+pub mod Step
+pub mod Events
+pub mod Values
+pub mod inside

@@ -1,0 +1,2 @@
+-- and a row of a table's digests is the row of these pages, so the launch chains to its own value
+pub mod RowsOfOwnPages

@@ -1,0 +1,3 @@
+-- What the fields of this crate keep.
+pub mod Rows
+pub mod Beside

@@ -1,7 +1,0 @@
-use Rattle.std.proofs.Common.{◌≤◌, length, take}
-use Rattle.std.specs.List.{All}
-use Rattle.rim_chain.specs.Links.{keys_of}
-use Rattle.rim_chain.proofs.filling.most_pages.Given as goal
-
-abbrev pub invariant-loop-plan : goal.invariant-loop-plan
-invariant-loop-plan l = All (λ v. length (keys_of v.links) ≤ l.most) (take l.plan-index l.plans)

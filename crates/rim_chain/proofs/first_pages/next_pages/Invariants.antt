@@ -1,7 +1,0 @@
-use Rattle.std.proofs.Common.{◌≡◌, take}
-use Rattle.rim_chain.specs.Links.{keys_of}
-use Rattle.rim_chain.proofs.first_pages.next_pages.Given as goal
-
--- the links passed over have no pages
-abbrev pub invariant-loop-at : goal.invariant-loop-at
-invariant-loop-at l = keys_of (take l.at l.links) ≡ keys_of (take l.from l.links)

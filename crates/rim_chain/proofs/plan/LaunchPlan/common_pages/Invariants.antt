@@ -1,9 +1,0 @@
-use Rattle.std.proofs.Common.{◌≡◌, ◌≤◌, length, take}
-use Rattle.rim_chain.specs.Links.{keys_of}
-use Rattle.rim_chain.proofs.plan.LaunchPlan.common_pages.Given as goal
-
-abbrev pub invariant-loop-at : goal.invariant-loop-at
-invariant-loop-at l = record {
-  within : l.from ≤ length l.other.links;
-  pages : keys_of (take l.at l.self.links) ≡ keys_of (take l.from l.other.links);
-}

@@ -1,9 +1,0 @@
-use Rattle.std.proofs.Common.{◌<◌, ◌^◌, take}
-use Rattle.rim_chain.specs.inside.Counted.{AreLinks}
-use Rattle.rim_chain.proofs.plan.checked_pages.Given as goal
-
-abbrev pub invariant-loop-link : goal.invariant-loop-link
-invariant-loop-link l = record {
-  so_far : AreLinks (take l.link-index l.links) l.pages;
-  few : l.pages < 2 ^ 64;
-}

@@ -1,5 +1,0 @@
-use Rattle.rim_chain.proofs.ListedCanBeRead.{least-low}
-use Rattle.rim_chain.proofs.reading.push_step.Goals as goal
-
-pub push_region-requires-clause-low : goal.push_region-requires-clause-low
-push_region-requires-clause-low c = rw (c.least_level.ensures, c.config.ensures.value) (least-low c.args.launch.now.config c.args.launch.now.config.level)
