@@ -16,11 +16,11 @@ use Rattle.rim_manifest.specs.Faults.{fault_if, lowest}
 use Rattle.rim_rules.specs.Forms.{is_table, items_list}
 use Rattle.rim_manifest.specs.Given.{EachGives, GivesBootargs, GivesBytes, GivesFile, GivesItem, GivesKind, GivesMeasured, GivesName}
 use Rattle.rim_manifest.specs.Given.{GivesNumber, GivesPath, GivesRec}
-use Rattle.rim_manifest.specs.Given.{GivesRule, GivesSize, GivesSteps, GivesWord, GivesWords, HasItsRule, IsGiven, role_text}
+use Rattle.rim_manifest.specs.Given.{GivesRule, GivesSize, GivesSteps, GivesWord, GivesWords, HasItsRule, IsGiven}
 use Rattle.rim_manifest.specs.Launches.{ReleaseData, config_of, items_of, ram_of, recs_of, launch_of, launches_from, rec_of}
 use Rattle.rim_rules.specs.Values.{algorithm_in, array_at, base_in, digits_in, number_in, text_in, word_in, words_in}
 use Rattle.rim_manifest.specs.Manifest.{fault_or_named, fault_or_release, files_at, has_no_file, has_two_names, item_faults, launch_faults, launches_at}
-use Rattle.rim_manifest.specs.Manifest.{manifest_faults, name_faults, path_of, read_of, release_of, rules_of}
+use Rattle.rim_manifest.specs.Manifest.{manifest_faults, name_faults, path_of, read_of, release_of}
 use Rattle.rim_manifest.specs.Checks.{rule_faults, ruled_faults, table_faults}
 use Rattle.rim_launch.specs.Kinds.{file_of}
 use Rattle.rim_launch.specs.Steps.{each_once, steps_complete}
@@ -32,6 +32,7 @@ use Rattle.rim_launch.specs.declared.item.Role.{Role}
 use Rattle.rim_launch.specs.declared.item.Role.TheVariants.{Kernel, Initrd, Dtb, Raw, Unknown}
 use Rattle.rim_manifest.specs.Items.{bootargs_in, item_of, kind_of, measured_for, size_for}
 use Rattle.rim_manifest.specs.Names.{file_at, has_file, is_named, lacks_file, lacks_its_file, name_of, needs_file, role_at}
+use Rattle.rim_rules.specs.Kinds.{kind_word, rules_of}
 use Rattle.rim_rules.specs.Rules.{added_rules, dtb_rules, file_rules, item_rules, launch_rules, launch_rules_2, rec_rules, unknown_rules}
 use Rattle.rim_rules.specs.Versions.{is_not_runnable, lacks_rule, rule_for, rule_in, launch_rules_in, version_at}
 use Rattle.rim_rules.specs.declared.version.FormatVersion.{FormatVersion}
@@ -138,7 +139,7 @@ module _ (files : List Data) (tables : list_all is_table files ≡ true) (good :
   -- what an item's table gives but for the edits of a devicetree
   abbrev ItemGives : Role → Members → Type 0
   ItemGives r ms =
-      (get_member (codes "kind") ms ≡ Some (string (role_text (role_at (table ms)))))
+      (get_member (codes "kind") ms ≡ Some (string (kind_word (role_at (table ms)))))
       × (get_member (codes "at") ms ≡ Some (integer (pos (number_in 0 9223372036854775807 0 (get_member (codes "at") ms)))))
       × GivesFile files (get_member (codes "file") ms) (file_of (kind_of r (file_at files (table ms)) (table ms)))
       × GivesSize (get_member (codes "size") ms) (size_for r (get_member (codes "size") ms))
@@ -193,7 +194,7 @@ module _ (files : List Data) (tables : list_all is_table files ≡ true) (good :
       let r = role_at (table ms) in
       let gives = item_gives r ms e found in
       record {
-        role = gives.0 ∙ ap (λ r. Some (string (role_text r))) (sym (role_of-kind r (file_at files (table ms)) (table ms)));
+        role = gives.0 ∙ ap (λ r. Some (string (kind_word r))) (sym (role_of-kind r (file_at files (table ms)) (table ms)));
         file = gives.2;
         kind = kind_given r (file_at files (table ms)) ms e;
         at = gives.1;

@@ -1,6 +1,6 @@
 -- The steps of a launch without faults are those that its texts spell.
 use Rattle.std.proofs.Common.{◌≡◌, ℕ, ◌<◌, ◌≤◌, List, [], ◌∷◌, ◌++◌, length, map, take, drop, Bool, true, false, cond, Option, Some, None, refl, ap, subst, sym}
-use Rattle.std.proofs.Common.{◌∙◌, codes, arith}
+use Rattle.std.proofs.Common.{◌∙◌, arith}
 use Rattle.std.specs.Prelude.{option_map, unwrap_or}
 use Rattle.std.specs.List.{list_all}
 use Rattle.std.specs.Str.{bytes_eq}
@@ -16,6 +16,8 @@ use Rattle.rim_rules.specs.Forms.{is_text}
 use Rattle.rim_manifest.specs.Given.{EachGives, GivesStep, SpellsNumber, SpellsStep}
 use Rattle.rim_manifest.specs.Names.{is_named, name_of}
 use Rattle.rim_manifest.specs.StepTexts.{decimal_number, is_decimal, item_number, or_else, step_in, step_of}
+use Rattle.rim_rules.specs.Kinds.{step_front}
+use Rattle.rim_rules.specs.declared.kind.StepKind.TheVariants as about
 use Rattle.rim_rules.specs.Words.{after}
 use Rattle.rim_manifest.proofs.ItemsFromTables.{found_at}
 
@@ -38,34 +40,34 @@ number_spelled first text (Some digits) n e h = go (is_decimal digits) refl h
     go true test k = let value : digits_value 10 digits ≡ n = cc in (digits, followed first text digits e, test, value)
     go false test k = cc
 
-item_spelled : (items : List Data) (text : List ℕ) (o : Option (List ℕ)) (n : ℕ) → after (codes "item ") text ≡ o → item_number items o ≡ Some n
+item_spelled : (items : List Data) (text : List ℕ) (o : Option (List ℕ)) (n : ℕ) → after (step_front about.Item) text ≡ o → item_number items o ≡ Some n
     → SpellsStep items text (step.Item n)
 item_spelled items text None n e h = cc
 item_spelled items text (Some name) n e h =
     let found = found_at (is_named name) items n h in
     let named : name_of found.0 ≡ name = (bytes_eq-Decides (name_of found.0) name).0 found.2 in
-    (found.0, found.1, followed (codes "item ") text name e ∙ ap (λ ts. codes "item " ++ ts) (sym named))
+    (found.0, found.1, followed (step_front about.Item) text name e ∙ ap (λ ts. step_front about.Item ++ ts) (sym named))
 
 -- the step that a text spells
 step_spelled : (items : List Data) (text : List ℕ) (s : Step) → step_of items text ≡ Some s → SpellsStep items text s
-step_spelled items text s e = of_ram (decimal_number (after (codes "ram ") text)) refl e
+step_spelled items text s e = of_ram (decimal_number (after (step_front about.Ram) text)) refl e
   where
-    of_rec : (o : Option ℕ) → decimal_number (after (codes "rec ") text) ≡ o → option_map step.Rec o ≡ Some s → SpellsStep items text s
+    of_rec : (o : Option ℕ) → decimal_number (after (step_front about.Rec) text) ≡ o → option_map step.Rec o ≡ Some s → SpellsStep items text s
     of_rec None h k = cc
-    of_rec (Some n) h k = let same : step.Rec n ≡ s = cc in subst (SpellsStep items text) same (number_spelled (codes "rec ") text _ n refl h)
+    of_rec (Some n) h k = let same : step.Rec n ≡ s = cc in subst (SpellsStep items text) same (number_spelled (step_front about.Rec) text _ n refl h)
 
-    of_item : (o : Option ℕ) → item_number items (after (codes "item ") text) ≡ o
-        → or_else (option_map step.Item o) (option_map step.Rec (decimal_number (after (codes "rec ") text))) ≡ Some s → SpellsStep items text s
-    of_item None h k = of_rec (decimal_number (after (codes "rec ") text)) refl k
+    of_item : (o : Option ℕ) → item_number items (after (step_front about.Item) text) ≡ o
+        → or_else (option_map step.Item o) (option_map step.Rec (decimal_number (after (step_front about.Rec) text))) ≡ Some s → SpellsStep items text s
+    of_item None h k = of_rec (decimal_number (after (step_front about.Rec) text)) refl k
     of_item (Some n) h k = let same : step.Item n ≡ s = cc in subst (SpellsStep items text) same (item_spelled items text _ n refl h)
 
-    of_ram : (o : Option ℕ) → decimal_number (after (codes "ram ") text) ≡ o
+    of_ram : (o : Option ℕ) → decimal_number (after (step_front about.Ram) text) ≡ o
         → or_else (option_map step.Ram o)
-        (or_else (option_map step.Item (item_number items (after (codes "item ") text))) (option_map step.Rec (decimal_number (after (codes "rec ") text))))
+        (or_else (option_map step.Item (item_number items (after (step_front about.Item) text))) (option_map step.Rec (decimal_number (after (step_front about.Rec) text))))
         ≡ Some s
         → SpellsStep items text s
-    of_ram None h k = of_item (item_number items (after (codes "item ") text)) refl k
-    of_ram (Some n) h k = let same : step.Ram n ≡ s = cc in subst (SpellsStep items text) same (number_spelled (codes "ram ") text _ n refl h)
+    of_ram None h k = of_item (item_number items (after (step_front about.Item) text)) refl k
+    of_ram (Some n) h k = let same : step.Ram n ≡ s = cc in subst (SpellsStep items text) same (number_spelled (step_front about.Ram) text _ n refl h)
 
 -- a text whose step names something spells that step
 one_given : (items : List Data) (regions things recs : ℕ) (d : Data) → regions ≤ 64 → is_text d ≡ true

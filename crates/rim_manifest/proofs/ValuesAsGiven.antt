@@ -1,7 +1,7 @@
 -- What is read at a key whose value has no fault is what its value gives.
 use Rattle.std.proofs.Common.{◌≡◌, IsOk, ℕ, zero, suc, List, [], ◌∷◌, ◌++◌, length, take, drop, map, Bool, true, false, cond, ◌&&◌, ◌||◌, Option, Some}
 use Rattle.std.proofs.Common.{None, Result, Ok, Err, pos, negsuc, refl, ap, sym, ◌∙◌, codes, true≢false}
-use Rattle.std.specs.Prelude.{nat_le, ◌==◌, IsSome, is_some}
+use Rattle.std.specs.Prelude.{nat_le, ◌==◌, IsSome, is_some, unwrap_or}
 use Rattle.std.specs.List.{list_all}
 use Rattle.std.specs.Result.{result_unwrap_or}
 use Rattle.std.specs.Str.{bytes_eq}
@@ -23,15 +23,16 @@ use Rattle.rim_rules.specs.declared.form.Presence.{Presence}
 use Rattle.rim_rules.specs.declared.form.Presence.TheVariants.{Required, Optional}
 use Rattle.rim_rules.specs.Forms.{has_kind, is_pool_base, is_range, is_range_pair, is_text, items_in, items_list}
 use Rattle.rim_manifest.specs.Given.{EachGives, FillsWord, GivesBootargs, GivesBytes, GivesNumber, GivesRegion, GivesRule, GivesSize, GivesTruth, GivesWord}
-use Rattle.rim_manifest.specs.Given.{GivesWords, SpellsWord, role_text}
+use Rattle.rim_manifest.specs.Given.{GivesWords, SpellsWord}
 use Rattle.rim_manifest.specs.Launches.{region_in, region_of}
 use Rattle.rim_rules.specs.Values.{algorithm_in, base_in, digits_in, number_in, text_in, truth_in, whole_in, word_at, word_in, words_in}
 use Rattle.rim_rules.specs.Words.{are_digits, hex_number, is_word, word_of}
 use Rattle.rim_manifest.specs.Checks.{cell_faults}
 use Rattle.rim_launch.specs.Texts.{has_no_zero}
+use Rattle.rim_launch.specs.declared.item.Role.{Role}
 use Rattle.rim_launch.specs.declared.item.Role.TheVariants.{Kernel, Initrd, Dtb, Raw, Unknown}
 use Rattle.rim_manifest.specs.Items.{bootargs_in, size_in}
-use Rattle.rim_manifest.specs.Names.{role_of_word}
+use Rattle.rim_rules.specs.Kinds.{kind_of_word, kind_word}
 use Rattle.rim_rules.specs.Versions.{rule_in}
 use Rattle.rim_rules.specs.declared.version.FormatVersion.TheVariants.{Two}
 use Rattle.rim_manifest.proofs.TablesWithoutFaults.{IsGood, good_value}
@@ -212,20 +213,24 @@ pub bootargs_read : (d : Data) → IsGood form.Bootargs d → GivesBootargs (Som
 bootargs_read (string s) good = taken_text (has_no_zero s) s good.within
 bootargs_read _ good = absurd (true≢false (sym good.kind))
 
+-- the kind that is found, where the words are or are not equal as stated
+abbrev found_kind : (a b c d f : Bool) → Option Role
+found_kind a b c d f = cond a (Some Kernel) (cond b (Some Initrd) (cond c (Some Dtb) (cond d (Some Raw) (cond f (Some Unknown) None))))
+
 -- one of the five words
-word_is : (s : List ℕ) (a b c d f : Bool) → bytes_eq s (codes "kernel") ≡ a → bytes_eq s (codes "initrd") ≡ b
-    → bytes_eq s (codes "dtb") ≡ c → bytes_eq s (codes "raw") ≡ d → bytes_eq s (codes "unknown") ≡ f → (a || b || c || d || f) ≡ true
-    → s ≡ role_text (cond a Kernel (cond b Initrd (cond c Dtb (cond f Unknown Raw))))
-word_is s true b c d f kernel initrd dtb raw unknown e = (bytes_eq-Decides s (codes "kernel")).0 kernel
-word_is s false true c d f kernel initrd dtb raw unknown e = (bytes_eq-Decides s (codes "initrd")).0 initrd
-word_is s false false true d f kernel initrd dtb raw unknown e = (bytes_eq-Decides s (codes "dtb")).0 dtb
-word_is s false false false d true kernel initrd dtb raw unknown e = (bytes_eq-Decides s (codes "unknown")).0 unknown
-word_is s false false false true false kernel initrd dtb raw unknown e = (bytes_eq-Decides s (codes "raw")).0 raw
+word_is : (s : List ℕ) (a b c d f : Bool) → bytes_eq (codes "kernel") s ≡ a → bytes_eq (codes "initrd") s ≡ b
+    → bytes_eq (codes "dtb") s ≡ c → bytes_eq (codes "raw") s ≡ d → bytes_eq (codes "unknown") s ≡ f
+    → is_some (found_kind a b c d f) ≡ true → s ≡ kind_word (unwrap_or (found_kind a b c d f) Raw)
+word_is s true b c d f kernel initrd dtb raw unknown e = sym ((bytes_eq-Decides (codes "kernel") s).0 kernel)
+word_is s false true c d f kernel initrd dtb raw unknown e = sym ((bytes_eq-Decides (codes "initrd") s).0 initrd)
+word_is s false false true d f kernel initrd dtb raw unknown e = sym ((bytes_eq-Decides (codes "dtb") s).0 dtb)
+word_is s false false false true f kernel initrd dtb raw unknown e = sym ((bytes_eq-Decides (codes "raw") s).0 raw)
+word_is s false false false false true kernel initrd dtb raw unknown e = sym ((bytes_eq-Decides (codes "unknown") s).0 unknown)
 word_is s false false false false false kernel initrd dtb raw unknown e = cc
 
-role_read : (d : Data) → IsGood form.ItemKind d → Some d ≡ Some (string (role_text (role_of_word (text_in (Some d)))))
+role_read : (d : Data) → IsGood form.ItemKind d → Some d ≡ Some (string (kind_word (unwrap_or (kind_of_word (text_in (Some d))) Raw)))
 role_read (string s) good = ap (λ t. Some (string t)) (word_is s _ _ _ _ _ refl refl refl refl refl good.within)
 role_read _ good = absurd (true≢false (sym good.kind))
 
-pub role_there : (o : Option Data) → NoFault form.ItemKind Required o → o ≡ Some (string (role_text (role_of_word (text_in o))))
-role_there = there form.ItemKind (λ o. o ≡ Some (string (role_text (role_of_word (text_in o))))) role_read
+pub role_there : (o : Option Data) → NoFault form.ItemKind Required o → o ≡ Some (string (kind_word (unwrap_or (kind_of_word (text_in o)) Raw)))
+role_there = there form.ItemKind (λ o. o ≡ Some (string (kind_word (unwrap_or (kind_of_word (text_in o)) Raw)))) role_read

@@ -19,12 +19,12 @@ use Rattle.rim_launch.specs.declared.item.Item.{Item}
 use Rattle.rim_launch.specs.declared.item.ItemKind.{ItemKind}
 use Rattle.rim_launch.specs.declared.item.ItemKind.TheVariants as kind
 use Rattle.rim_launch.specs.declared.item.Region.{Region}
-use Rattle.rim_launch.specs.declared.item.Role.{Role}
-use Rattle.rim_launch.specs.declared.item.Role.TheVariants.{Kernel, Initrd, Dtb, Raw, Unknown}
 use Rattle.rim_launch.specs.declared.rec.Rec.{Rec}
 use Rattle.rim_manifest.specs.Launches.{NamedData}
 use Rattle.rim_rules.specs.declared.version.FormatVersion.{FormatVersion}
 use Rattle.rim_rules.specs.declared.version.FormatVersion.TheVariants.{One, Two}
+use Rattle.rim_rules.specs.Kinds.{kind_word, step_front}
+use Rattle.rim_rules.specs.declared.kind.StepKind.TheVariants as about
 use Rattle.rim_rules.specs.Values.{array_at}
 use Rattle.rim_desc.specs.Measurement.{algo_word}
 use Rattle.rim_desc.specs.Rule.{rule_word}
@@ -99,14 +99,6 @@ GivesName d name = get (codes "name") d ≡ Some (string name)
 abbrev pub GivesPath : Data → List ℕ → Type 0
 GivesPath d path = get (codes "path") d ≡ Some (string path)
 
--- the word of an item's kind
-abbrev pub role_text : Role → List ℕ
-role_text Kernel = codes "kernel"
-role_text Initrd = codes "initrd"
-role_text Dtb = codes "dtb"
-role_text Raw = codes "raw"
-role_text Unknown = codes "unknown"
-
 -- the file of this number has the name that a key gives; where there is none, the key is not given
 abbrev pub GivesFile : List Data → Option Data → Option ℕ → Type 0
 GivesFile files None None = Unit {0}
@@ -140,7 +132,7 @@ GivesMeasured kind.Unknown o b = (o ≡ None) × (b ≡ false)
 GivesMeasured _ o b = GivesTruth true o b
 
 pub record GivesItem (files : List Data) (d : Data) (i : Item) : Type 0 where
-  pub role : get (codes "kind") d ≡ Some (string (role_text (role_of i.kind)))
+  pub role : get (codes "kind") d ≡ Some (string (kind_word (role_of i.kind)))
   pub file : GivesFile files (get (codes "file") d) (file_of i.kind)
   pub kind : GivesKind d i.kind
   pub at : get (codes "at") d ≡ Some (integer (pos i.at))
@@ -155,9 +147,9 @@ SpellsNumber word text n = (digits : List ℕ) × (text ≡ word ++ digits) × (
 
 -- the text names the region, the item or the REC of the step, where the tables of the items are these
 abbrev pub SpellsStep : List Data → List ℕ → Step → Type 0
-SpellsStep items text (step.Ram n) = SpellsNumber (codes "ram ") text n
-SpellsStep items text (step.Item n) = (item : Data) × (slice_get items n ≡ Some item) × (text ≡ codes "item " ++ name_of item)
-SpellsStep items text (step.Rec n) = SpellsNumber (codes "rec ") text n
+SpellsStep items text (step.Ram n) = SpellsNumber (step_front about.Ram) text n
+SpellsStep items text (step.Item n) = (item : Data) × (slice_get items n ≡ Some item) × (text ≡ step_front about.Item ++ name_of item)
+SpellsStep items text (step.Rec n) = SpellsNumber (step_front about.Rec) text n
 
 abbrev pub GivesStep : List Data → Data → Step → Type 0
 GivesStep items (string text) s = SpellsStep items text s

@@ -8,12 +8,11 @@ use Rattle.toml.specs.Parse.{parse_document}
 use Rattle.rim_manifest.specs.declared.fault.ManifestFault.{ManifestFault}
 use Rattle.rim_manifest.specs.declared.fault.ManifestFault.TheVariants.{Syntax, Version, MissingKey, TwoNames, NoSuchFile, BadStep}
 use Rattle.rim_launch.specs.LaunchData.{is_launch}
-use Rattle.rim_launch.specs.declared.item.Role.{Role}
-use Rattle.rim_launch.specs.declared.item.Role.TheVariants.{Dtb, Unknown}
 use Rattle.rim_manifest.specs.Faults.{fault_if, lowest}
 use Rattle.rim_rules.specs.Forms.{items_in}
 use Rattle.rim_manifest.specs.Names.{has_asked, lacks_file, repeats, role_at, share_names}
-use Rattle.rim_rules.specs.Rules.{Rule, dtb_rules, file_rules, item_rules, rec_rules, top_rules, unknown_rules}
+use Rattle.rim_rules.specs.Rules.{file_rules, rec_rules, top_rules}
+use Rattle.rim_rules.specs.Kinds.{rules_of}
 use Rattle.rim_manifest.specs.StepTexts.{has_bad_steps}
 use Rattle.rim_rules.specs.Values.{array_at, text_in}
 use Rattle.rim_rules.specs.declared.version.FormatVersion.{FormatVersion}
@@ -44,11 +43,6 @@ abbrev pub paths_of : Members → List (List ℕ)
 paths_of ms = map path_of (files_at ms)
 
 -- ---- the faults of the tables, each by itself
-
-abbrev pub rules_of : Role → List Rule
-rules_of Dtb = dtb_rules
-rules_of Unknown = unknown_rules
-rules_of _ = item_rules
 
 -- an item has the keys of its kind
 abbrev pub item_faults : Data → List ManifestFault

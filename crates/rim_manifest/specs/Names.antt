@@ -1,11 +1,12 @@
 -- What names what: the names of files, launches and items, and the kinds of items. This project's choice.
-use Rattle.std.specs.Prelude.{ℕ, Bool, false, not, ◌&&◌, ◌||◌, ◌==◌, nat_le, nat_lt, List, [], ◌∷◌, length, position, unwrap_or, codes, count_by, if◌then◌else◌}
+use Rattle.std.specs.Prelude.{ℕ, Bool, false, not, ◌&&◌, ◌||◌, ◌==◌, nat_le, nat_lt, List, [], ◌∷◌, length, position, unwrap_or, codes, count_by}
 use Rattle.std.specs.List.{list_any}
 use Rattle.std.specs.Str.{bytes_eq}
 use Rattle.toml.specs.Data.{Data, get}
 use Rattle.rim_launch.specs.Kinds.{is_role}
 use Rattle.rim_launch.specs.declared.item.Role.{Role}
 use Rattle.rim_launch.specs.declared.item.Role.TheVariants.{Kernel, Initrd, Dtb, Raw, Unknown}
+use Rattle.rim_rules.specs.Kinds.{kind_of_word}
 use Rattle.rim_rules.specs.Values.{array_at, text_in, truth_in}
 
 abbrev pub name_of : Data → List ℕ
@@ -21,17 +22,9 @@ share_names (d ∷ ds) = list_any (is_named (name_of d)) ds || share_names ds
 
 -- ---- kinds of items
 
-abbrev pub role_of_word : List ℕ → Role
-role_of_word word =
-    if bytes_eq word (codes "kernel") then Kernel
-    else if bytes_eq word (codes "initrd") then Initrd
-    else if bytes_eq word (codes "dtb") then Dtb
-    else if bytes_eq word (codes "unknown") then Unknown
-    else Raw
-
--- what an item's table says that it is for; without a word of the others, it is raw
+-- what an item's table says that it is for; without the word of a kind, which is a fault, it is raw
 abbrev pub role_at : Data → Role
-role_at d = role_of_word (text_in (get (codes "kind") d))
+role_at d = unwrap_or (kind_of_word (text_in (get (codes "kind") d))) Raw
 
 abbrev pub is_at_role : Role → Data → Bool
 is_at_role r d = is_role r (role_at d)

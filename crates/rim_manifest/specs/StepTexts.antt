@@ -9,6 +9,8 @@ use Rattle.rim_launch.specs.declared.step.Step.{Step}
 use Rattle.rim_launch.specs.declared.step.Step.TheVariants as step
 use Rattle.rim_rules.specs.Forms.{items_of}
 use Rattle.rim_manifest.specs.Names.{is_named}
+use Rattle.rim_rules.specs.Kinds.{step_front}
+use Rattle.rim_rules.specs.declared.kind.StepKind.TheVariants as about
 use Rattle.rim_rules.specs.Values.{array_at, text_in}
 use Rattle.rim_rules.specs.Words.{after, are_digits}
 use Rattle.rim_launch.specs.declared.launch.TheConstants.{REGION_LIMIT}
@@ -33,9 +35,9 @@ or_else None other = other
 -- the step that a text spells, where the tables of the launch's items are these
 abbrev pub step_of : List Data → List ℕ → Option Step
 step_of items text =
-    or_else (option_map step.Ram (decimal_number (after (codes "ram ") text)))
-    (or_else (option_map step.Item (item_number items (after (codes "item ") text)))
-    (option_map step.Rec (decimal_number (after (codes "rec ") text))))
+    or_else (option_map step.Ram (decimal_number (after (step_front about.Ram) text)))
+    (or_else (option_map step.Item (item_number items (after (step_front about.Item) text)))
+    (option_map step.Rec (decimal_number (after (step_front about.Rec) text))))
 
 -- the step that a text reads as: a text that spells none, as the step of a region that no launch has
 abbrev pub step_in : List Data → Data → Step

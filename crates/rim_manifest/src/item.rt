@@ -91,7 +91,7 @@ fn size_for(role: Role, table: &Value, key: &str) -> Option<u64>
 {
     match role {
         Role::Unknown => Some(number(table, key, 0, MOST_NUMBER, 0)),
-        _ => size(table, key),
+        Role::Kernel | Role::Initrd | Role::Dtb | Role::Raw => size(table, key),
     }
 }
 

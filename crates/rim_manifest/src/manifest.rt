@@ -21,9 +21,9 @@ use crate::names::{has_asked, lacks_file, repeats, role, share_names};
 use crate::step::is_miscounted;
 use crate::texts::read_texts;
 use refusal::NoMemory;
-use rim_launch::Role;
 use rim_rules::form::Form;
-use rim_rules::rules::{DTB_RULES, FILE_RULES, ITEM_RULES, REC_RULES, TOP_RULES, UNKNOWN_RULES};
+use rim_rules::kind::item_rules;
+use rim_rules::rules::{FILE_RULES, REC_RULES, TOP_RULES};
 use rim_rules::value::{array, cell, items};
 use rim_rules::version::{FormatVersion, has_version, lacks_rule, launch_rules, version};
 use std::alloc::{AllocError, Global};
@@ -214,11 +214,7 @@ fn check_item(place: Place, item: &Value, found: &mut Findings) -> Result<(), No
     ensures { OnOk result
         (kept found.new ≡ with_faults (kept found.old) (item_faults (view item.now))) }
 {
-    match role(item) {
-        Role::Dtb => check_ruled(&DTB_RULES, place, item, found),
-        Role::Unknown => check_ruled(&UNKNOWN_RULES, place, item, found),
-        _ => check_ruled(&ITEM_RULES, place, item, found),
-    }
+    check_ruled(item_rules(role(item)), place, item, found)
 }
 
 /// Reads what a document without faults in its tables describes. The searches are quadratic in the launches and

@@ -2,9 +2,10 @@
 ghost use Rattle.std.specs.Prelude.{◌≡◌, map, position};
 ghost use Rattle.std.specs.List.{list_any};
 ghost use Rattle.toml.specs.View.{view};
-ghost use Rattle.rim_manifest.specs.Names.{asks_for, file_at, has_asked, has_file, is_at_role, is_named, kinds_once, lacks_file, lacks_its_file, name_of, needs_file, repeats, role_at, role_count, role_of_word, share_names};
+ghost use Rattle.rim_manifest.specs.Names.{asks_for, file_at, has_asked, has_file, is_at_role, is_named, kinds_once, lacks_file, lacks_its_file, name_of, needs_file, repeats, role_at, role_count, share_names};
 
 use rim_launch::Role;
+use rim_rules::kind::kind_of_word;
 use rim_rules::value::{array, text, truth};
 use toml::Value;
 
@@ -34,27 +35,11 @@ pub fn share_names(tables: &[Value]) -> bool
     false
 }
 
-/// What an item is for.
+/// What an item is for. One without the word of a kind, which is a fault, is looked at as a raw one.
 pub fn role(item: &Value) -> Role
     ensures { result ≡ role_at (view item.now) }
 {
-    role_of_word(text(item, "kind"))
-}
-
-fn role_of_word(word: &str) -> Role
-    ensures { result ≡ role_of_word word.now }
-{
-    if word == "kernel" {
-        Role::Kernel
-    } else if word == "initrd" {
-        Role::Initrd
-    } else if word == "dtb" {
-        Role::Dtb
-    } else if word == "unknown" {
-        Role::Unknown
-    } else {
-        Role::Raw
-    }
+    kind_of_word(text(item, "kind")).unwrap_or(Role::Raw)
 }
 
 fn has_role(item: &Value, wanted: Role) -> bool

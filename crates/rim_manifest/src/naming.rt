@@ -6,8 +6,9 @@ use crate::manifest::entries;
 use crate::names::{lacks_its_file, name, position_of, role};
 use crate::step::{is_miscounted, step};
 use refusal::NoMemory;
-use rim_launch::{Role, Step};
+use rim_launch::Step;
 use rim_rules::form::Form;
+use rim_rules::kind::may_repeat;
 use rim_rules::value::{array, field, items};
 use toml::{Table, Value};
 
@@ -75,8 +76,7 @@ fn find_in_item(
     found: &mut Findings,
 ) -> Result<(), NoMemory> {
     let kind = role(item);
-    let is_single = !matches!(kind, Role::Raw | Role::Unknown);
-    let twice = is_single && earlier.iter().any(|other| role(other) == kind);
+    let twice = !may_repeat(kind) && earlier.iter().any(|other| role(other) == kind);
     let second = at(place, "kind", Form::ItemKind, ManifestFault::TwoNames);
     note_if(found, twice, second)?;
     let no_file = at(place, "file", Form::AnyText, ManifestFault::NoSuchFile);

@@ -9,6 +9,7 @@ ghost use Rattle.rim_rules.specs.Words.{after};
 use crate::names::position_of;
 use refusal::NoMemory;
 use rim_launch::{Item, REGION_LIMIT, Rec, Region, Step, default_steps};
+use rim_rules::kind::StepKind;
 use rim_rules::value::{array, field, items};
 use rim_rules::word::{after, are_digits, spelled};
 use std::alloc::{AllocError, Global};
@@ -59,13 +60,13 @@ pub fn step(tables: &[Value], text: &Value) -> Step
 fn spelled_step(tables: &[Value], text: &[u8]) -> Option<Step>
     ensures { result ≡ step_of (map view tables.now) text.now }
 {
-    if let Some(number) = decimal(after(b"ram ", text)) {
+    if let Some(number) = decimal(after(StepKind::Ram.front().as_bytes(), text)) {
         return Some(Step::Ram(number));
     }
-    if let Some(number) = item_number(tables, after(b"item ", text)) {
+    if let Some(number) = item_number(tables, after(StepKind::Item.front().as_bytes(), text)) {
         return Some(Step::Item(number));
     }
-    match decimal(after(b"rec ", text)) {
+    match decimal(after(StepKind::Rec.front().as_bytes(), text)) {
         Some(number) => Some(Step::Rec(number)),
         None => None,
     }

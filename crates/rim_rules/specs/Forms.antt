@@ -1,5 +1,5 @@
 -- What a key of a manifest may hold. This project's choice.
-use Rattle.std.specs.Prelude.{ℕ, ◌%◌, ◌^◌, ℤ, pos, negsuc, Bool, true, false, ◌&&◌, ◌||◌, ◌==◌, nat_le, nat_lt, int_le, List, [], ◌∷◌, length, Option, Some, None, is_some, codes}
+use Rattle.std.specs.Prelude.{ℕ, ◌%◌, ◌^◌, ℤ, pos, negsuc, Bool, true, false, ◌&&◌, ◌||◌, ◌==◌, nat_le, nat_lt, int_le, List, [], ◌∷◌, length, Option, Some, None, is_some}
 use Rattle.std.specs.List.{list_all}
 use Rattle.std.specs.Option.{option_map_or}
 use Rattle.std.specs.Str.{bytes_eq}
@@ -11,6 +11,7 @@ use Rattle.rim_rules.specs.declared.form.Presence.{Presence}
 use Rattle.rim_rules.specs.declared.form.Presence.TheVariants.{Required, Optional}
 use Rattle.rim_launch.specs.Texts.{has_no_zero}
 use Rattle.rim_rules.specs.Words.{is_word}
+use Rattle.rim_rules.specs.Kinds.{kind_of_word}
 use Rattle.rim_desc.specs.Measurement.{algo_word}
 use Rattle.rim_desc.specs.declared.measurement.Algo.TheVariants.{Sha256, Sha512}
 use Rattle.rim_desc.specs.Rule.{rule_word}
@@ -89,10 +90,6 @@ is_algorithm s = bytes_eq s (algo_word Sha256) || bytes_eq s (algo_word Sha512)
 abbrev pub is_rec_rule : List ℕ → Bool
 is_rec_rule s = bytes_eq s (rule_word All) || bytes_eq s (rule_word Runnable)
 
--- the word of an item's kind
-abbrev pub is_item_kind : List ℕ → Bool
-is_item_kind s = bytes_eq s (codes "kernel") || bytes_eq s (codes "initrd") || bytes_eq s (codes "dtb") || bytes_eq s (codes "raw") || bytes_eq s (codes "unknown")
-
 abbrev pub is_required : Presence → Bool
 is_required Required = true
 is_required Optional = false
@@ -135,7 +132,7 @@ is_within (form.Regions most) (array ds) = list_all is_range_pair (items_list ds
 is_within form.Word d = is_word d
 is_within (form.Words most) (array ds) = list_all is_word (items_list ds)
 is_within form.Text (string s) = nat_le 1 (length s)
-is_within form.ItemKind (string s) = is_item_kind s
+is_within form.ItemKind (string s) = is_some (kind_of_word s)
 is_within form.Bootargs (string s) = has_no_zero s
 is_within form.RecRule (string s) = is_rec_rule s
 is_within _ _ = true

@@ -5,8 +5,9 @@ ghost use Rattle.hex.specs.Hex.{is_hex_digit};
 ghost use Rattle.toml.specs.View.{view};
 ghost use Rattle.rim_launch.specs.Texts.{has_no_zero};
 ghost use Rattle.rim_rules.specs.Words.{is_word};
-ghost use Rattle.rim_rules.specs.Forms.{has_kind, is_algorithm, is_base, is_integer, is_item_kind, is_name, is_name_byte, is_over, is_pair, is_range, is_range_pair, is_rec_rule, is_required, is_table, is_text, is_within, is_word_kind};
+ghost use Rattle.rim_rules.specs.Forms.{has_kind, is_algorithm, is_base, is_integer, is_name, is_name_byte, is_over, is_pair, is_range, is_range_pair, is_rec_rule, is_required, is_table, is_text, is_within, is_word_kind};
 
+use crate::kind::kind_of_word;
 use crate::word::is_word;
 use rim_desc::{Algo, RecRule};
 use rim_launch::has_no_zero;
@@ -142,7 +143,7 @@ pub fn is_within(form: Form, value: &Value) -> bool
         (Form::Number { low, high }, Value::Integer(x)) => low <= *x && *x <= high,
         (Form::PoolBase, Value::Integer(x)) => is_pool_base(*x),
         (Form::Text, Value::String(text)) => 1 <= text.len(),
-        (Form::ItemKind, Value::String(text)) => is_item_kind(text.as_str()),
+        (Form::ItemKind, Value::String(text)) => kind_of_word(text.as_str()).is_some(),
         (Form::Bootargs, Value::String(text)) => has_no_zero(text.as_bytes()),
         (Form::RecRule, Value::String(text)) => is_rec_rule(text.as_str()),
         (Form::Regions { .. }, Value::Array(items)) => are_ranges(items.as_slice()),
@@ -162,12 +163,6 @@ fn are_tables(items: &[Value]) -> bool
     ensures { result ≡ list_all (λ v. is_table (view v)) items.now }
 {
     items.iter().all(|item| item.is_table())
-}
-
-fn is_item_kind(word: &str) -> bool
-    ensures { result ≡ is_item_kind word.now }
-{
-    matches!(word, "kernel" | "initrd" | "dtb" | "raw" | "unknown")
 }
 
 fn are_integers(items: &[Value]) -> bool

@@ -2,6 +2,7 @@
 #![tactic(auto)]
 
 pub mod form;
+pub mod kind;
 pub mod laws;
 pub mod rules;
 pub mod value;
