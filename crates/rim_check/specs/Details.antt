@@ -17,6 +17,8 @@ use Rattle.rtt_plan.specs.declared.fault.PlanFault.{PlanFault}
 use Rattle.rtt_plan.specs.declared.fault.PlanFault.TheVariants as plan
 use Rattle.rmi_list.specs.declared.reason.StepReason.{StepReason}
 use Rattle.rmi_list.specs.declared.reason.StepReason.TheVariants as why
+use Rattle.rim_rules.specs.Kinds.{step_front}
+use Rattle.rim_rules.specs.declared.kind.StepKind.TheVariants as about
 use Rattle.rim_accepted.specs.declared.reason.LaunchReason.{LaunchReason}
 use Rattle.rim_accepted.specs.declared.reason.LaunchReason.TheVariants as launch
 use Rattle.rim_desc.specs.declared.page.TheConstants.{PAGE_SIZE}
@@ -75,9 +77,9 @@ plan_detail c plan.NoMemory = codes "takes more memory than there is"
 
 -- a step as a manifest spells it
 abbrev pub step_text : (ℕ → List ℕ) → Step → List ℕ
-step_text names (step.Ram n) = codes "step \"ram " ++ (decimal n ++ codes "\": ")
-step_text names (step.Item n) = codes "step \"item " ++ (names n ++ codes "\": ")
-step_text names (step.Rec n) = codes "step \"rec " ++ (decimal n ++ codes "\": ")
+step_text names (step.Ram n) = codes "step \"" ++ (step_front about.Ram ++ (decimal n ++ codes "\": "))
+step_text names (step.Item n) = codes "step \"" ++ (step_front about.Item ++ (names n ++ codes "\": "))
+step_text names (step.Rec n) = codes "step \"" ++ (step_front about.Rec ++ (decimal n ++ codes "\": "))
 
 abbrev pub step_detail : Config → StepReason → List ℕ
 step_detail c (why.Plan fault range) = range_text range.base range.end ++ (codes " " ++ plan_detail c fault)

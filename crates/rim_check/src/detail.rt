@@ -12,6 +12,7 @@ use rim_accepted::LaunchReason;
 use rim_desc::{GRANULE_SIZE, REC_LIMIT};
 use rim_launch::{Config, Step};
 use rim_manifest::NamedLaunch;
+use rim_rules::kind::StepKind;
 use rmi_list::{ListReason, StepReason};
 use rmm_model::protected_end;
 use rtt_plan::{ENTRY_LIMIT, PlanFault};
@@ -204,12 +205,19 @@ fn step_text(alloc: Global, launch: &NamedLaunch, step: &Step) -> Result<String,
     ensures { IfOk result (λ s. string_bytes s ≡ step_text (item_name launch.now) step.now) }
 {
     match step {
-        Step::Ram(number) => format!(in alloc; "step \"ram {number}\": "),
-        Step::Item(number) => {
-            let name = launch.item_name(*number);
-            format!(in alloc; "step \"item {name}\": ")
+        Step::Ram(number) => {
+            let front = StepKind::Ram.front();
+            format!(in alloc; "step \"{front}{number}\": ")
         }
-        Step::Rec(number) => format!(in alloc; "step \"rec {number}\": "),
+        Step::Item(number) => {
+            let front = StepKind::Item.front();
+            let name = launch.item_name(*number);
+            format!(in alloc; "step \"{front}{name}\": ")
+        }
+        Step::Rec(number) => {
+            let front = StepKind::Rec.front();
+            format!(in alloc; "step \"{front}{number}\": ")
+        }
     }
 }
 

@@ -10,6 +10,7 @@ use rim_launch::{ITEM_LIMIT, Role};
 use rim_line::{Line, Quoted};
 use rim_manifest::{Document, Finding, ManifestFault, Subject, asks_for, entries, name, role};
 use rim_rules::form::Form;
+use rim_rules::kind::may_repeat;
 use rim_rules::value::cell;
 use std::alloc::Global;
 use std::fmt;
@@ -141,8 +142,7 @@ pub(crate) fn lacks_initrd(launch: &Table) -> bool {
 fn write_twice(line: &mut Line, parts: &[Value]) -> fmt::Result {
     for (number, part) in parts.iter().enumerate().take(ITEM_LIMIT) {
         let kind = role(part);
-        let is_single = !matches!(kind, Role::Raw | Role::Unknown);
-        if is_single && parts.iter().take(number).any(|other| role(other) == kind) {
+        if !may_repeat(kind) && parts.iter().take(number).any(|other| role(other) == kind) {
             let quoted = Quoted(name(part));
             return write!(line, " (item {quoted} is a second one of its kind)");
         }

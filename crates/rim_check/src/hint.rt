@@ -1,26 +1,23 @@
 //! How a value is to be written in place of what is given.
 use crate::alike::is_alike;
+use crate::expected::{algorithm_words, kind_words, rec_rule_words};
 use crate::number::{are_word_digits, is_number};
+use rim_launch::Role;
 use rim_rules::form::Form;
+use rim_rules::kind::kind_word;
 use std::fmt;
 use toml::Value;
 
-/// The words of algorithms.
-const ALGORITHMS: [&str; 2] = ["sha256", "sha512"];
-
-/// The words of an item's kind.
-const KINDS: [&str; 5] = ["kernel", "initrd", "dtb", "raw", "unknown"];
-
 /// Other words for kinds, and the kinds.
-const KIND_ALIASES: [(&str, &str); 8] = [
-    ("image", "kernel"),
-    ("linux", "kernel"),
-    ("ramdisk", "initrd"),
-    ("initramfs", "initrd"),
-    ("fdt", "dtb"),
-    ("devicetree", "dtb"),
-    ("device tree", "dtb"),
-    ("binary", "raw"),
+const KIND_ALIASES: [(&str, Role); 8] = [
+    ("image", Role::Kernel),
+    ("linux", Role::Kernel),
+    ("ramdisk", Role::Initrd),
+    ("initramfs", Role::Initrd),
+    ("fdt", Role::Dtb),
+    ("devicetree", Role::Dtb),
+    ("device tree", Role::Dtb),
+    ("binary", Role::Raw),
 ];
 
 /// Units of sizes, as other programs take them, and how many bytes each is.
@@ -35,9 +32,6 @@ const UNITS: [(&str, i64); 9] = [
     ("GB", 1 << 30),
     ("GiB", 1 << 30),
 ];
-
-/// The words of a rule for RECs.
-const REC_RULES: [&str; 2] = ["all", "runnable"];
 
 /// What helps to mend a value, beside what is expected. Printed, it follows that.
 #[derive(Clone, Copy)]
@@ -147,9 +141,9 @@ fn text_hint(form: Form, text: &str) -> Hint<'_> {
         Form::Number { high: i64::MAX, .. } => bytes_hint(text),
         Form::Truth if text == "true" || text == "false" => Hint::Quotes,
         Form::Word | Form::Words { .. } if are_word_digits(text) => Hint::WordDigits(text),
-        Form::Algorithm => word_hint(&ALGORITHMS, text),
+        Form::Algorithm => word_hint(&algorithm_words(), text),
         Form::ItemKind => kind_hint(text),
-        Form::RecRule => word_hint(&REC_RULES, text),
+        Form::RecRule => word_hint(&rec_rule_words(), text),
         Form::Name => name_hint(text),
         Form::Digits { .. } => digits_hint(text),
         _ => Hint::Nothing,
@@ -168,10 +162,10 @@ fn word_hint<'a>(words: &[&'static str], text: &str) -> Hint<'a> {
 fn kind_hint<'a>(text: &str) -> Hint<'a> {
     for (alias, kind) in KIND_ALIASES {
         if is_alike(alias, text) {
-            return Hint::Word(kind);
+            return Hint::Word(kind_word(kind));
         }
     }
-    word_hint(&KINDS, text)
+    word_hint(&kind_words(), text)
 }
 
 /// The number of bytes that a text writes with a unit, as `1MiB` and `512M`.

@@ -2,6 +2,7 @@
 
 use crate::granules::granules_needed;
 use crate::kernel_front::{KernelFront, front_of};
+use crate::part::Part;
 use fdt_tree::FdtFault;
 use ipa_layout::{Extent, IpaRange, ItemReason, LayoutReason, Placed};
 use refusal::NoMemory;
@@ -71,9 +72,13 @@ impl fmt::Display for Mending<'_> {
                 f,
                 "; a region is from a multiple of {GRANULE_SIZE:#x} to another"
             ),
-            Mending::NextRec(number) => write!(f, "; \"rec {number}\" comes next"),
+            Mending::NextRec(number) => {
+                let next = Part::Rec(number);
+                write!(f, "; \"{next}\" comes next")
+            }
             Mending::LaterRam(number) => {
-                write!(f, "; the step \"ram {number}\" has it, and comes later")
+                let later = Part::Ram(number);
+                write!(f, "; the step \"{later}\" has it, and comes later")
             }
         }
     }

@@ -4,10 +4,12 @@ use crate::belongs::{form_in, is_anywhere, write_owners};
 use crate::hint::Header;
 use crate::nearest::Nearest;
 use crate::place::text_at;
+use rim_launch::Role;
 use rim_line::{Line, Quoted};
 use rim_manifest::{Document, Place};
 use rim_rules::form::{Form, Rule};
-use rim_rules::rules::{DTB_RULES, FILE_RULES, ITEM_RULES, REC_RULES, TOP_RULES, UNKNOWN_RULES};
+use rim_rules::kind::{item_rules, kind_of_word, may_repeat};
+use rim_rules::rules::{FILE_RULES, REC_RULES, TOP_RULES};
 use std::alloc::{AllocError, Global};
 use std::fmt;
 use std::fmt::Write;
@@ -66,11 +68,10 @@ pub(crate) fn rules_of(document: &Document, place: Place, table: &Table) -> &'st
         Place::Top => &TOP_RULES,
         Place::File { .. } => &FILE_RULES,
         Place::Launch { .. } => document.launch_rules(),
-        Place::Item { .. } => match text_at(table, "kind") {
-            Some("dtb") => &DTB_RULES,
-            Some("unknown") => &UNKNOWN_RULES,
-            _ => &ITEM_RULES,
-        },
+        Place::Item { .. } => {
+            let kind = text_at(table, "kind").and_then(|word| kind_of_word(word));
+            item_rules(kind.unwrap_or(Role::Raw))
+        }
         Place::Rec { .. } => &REC_RULES,
     }
 }
@@ -138,14 +139,18 @@ fn other_key(document: &Document, place: Place, rules: &[Rule], key: &str) -> Ot
         return alias;
     }
     let is_of_launch = matches!(place, Place::Launch { .. });
-    match key {
-        "kernel" | "initrd" | "dtb" if is_of_launch => OtherKey::Kind,
-        "rec_rule" if is_of_launch => OtherKey::Later,
-        _ if is_anywhere(document, key) => OtherKey::Elsewhere,
-        _ => match alias_anywhere(document, key) {
-            Some(key) => OtherKey::AliasElsewhere(key),
-            None => OtherKey::Slip,
-        },
+    if is_of_launch && kind_of_word(key).is_some_and(|kind| !may_repeat(kind)) {
+        return OtherKey::Kind;
+    }
+    if is_of_launch && key == "rec_rule" {
+        return OtherKey::Later;
+    }
+    if is_anywhere(document, key) {
+        return OtherKey::Elsewhere;
+    }
+    match alias_anywhere(document, key) {
+        Some(key) => OtherKey::AliasElsewhere(key),
+        None => OtherKey::Slip,
     }
 }
 

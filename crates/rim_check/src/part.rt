@@ -1,16 +1,8 @@
 //! What the steps of a launch name.
 use rim_manifest::{entries, name};
+use rim_rules::kind::StepKind;
 use std::fmt;
 use toml::{Table, Value};
-
-/// How the step of a region begins.
-pub(crate) const RAM: &str = "ram ";
-
-/// How the step of an item begins.
-pub(crate) const ITEM: &str = "item ";
-
-/// How the step of a REC begins.
-pub(crate) const REC: &str = "rec ";
 
 /// A region, an item or a REC of a launch. Printed, it is the step that names it.
 #[derive(Clone, Copy)]
@@ -20,12 +12,22 @@ pub(crate) enum Part<'a> {
     Rec(usize),
 }
 
+impl Part<'_> {
+    fn kind(&self) -> StepKind {
+        match self {
+            Part::Ram(_) => StepKind::Ram,
+            Part::Item(_) => StepKind::Item,
+            Part::Rec(_) => StepKind::Rec,
+        }
+    }
+}
+
 impl fmt::Display for Part<'_> {
     fn fmt<W: fmt::Write>(&self, f: &mut fmt::Formatter<W>) -> fmt::Result {
+        let front = self.kind().front();
         match *self {
-            Part::Ram(number) => write!(f, "ram {number}"),
-            Part::Item(name) => write!(f, "item {name}"),
-            Part::Rec(number) => write!(f, "rec {number}"),
+            Part::Ram(number) | Part::Rec(number) => write!(f, "{front}{number}"),
+            Part::Item(name) => write!(f, "{front}{name}"),
         }
     }
 }
@@ -68,14 +70,14 @@ impl<'a> Parts<'a> {
 
     /// The number of the part that a step names, if it names one.
     pub(crate) fn named(&self, step: &str) -> Option<usize> {
-        if let Some(digits) = step.strip_prefix(RAM) {
+        if let Some(digits) = step.strip_prefix(StepKind::Ram.front()) {
             return number_below(self.regions, digits);
         }
-        if let Some(wanted) = step.strip_prefix(ITEM) {
+        if let Some(wanted) = step.strip_prefix(StepKind::Item.front()) {
             let item = self.items.iter().position(|item| name(item) == wanted)?;
             return Some(self.regions.saturating_add(item));
         }
-        let rec = number_below(self.recs, step.strip_prefix(REC)?)?;
+        let rec = number_below(self.recs, step.strip_prefix(StepKind::Rec.front())?)?;
         Some(
             self.regions
                 .saturating_add(self.items.len())

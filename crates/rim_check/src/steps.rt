@@ -1,9 +1,10 @@
 //! Steps of a launch that are at fault.
 use crate::alike::is_alike;
 use crate::nearest::Nearest;
-use crate::part::{ITEM, Part, Parts, RAM, REC};
+use crate::part::{Part, Parts};
 use rim_line::{Line, Quoted};
 use rim_manifest::{entries, name};
+use rim_rules::kind::StepKind;
 use std::alloc::{AllocError, Global};
 use std::fmt;
 use std::fmt::Write;
@@ -114,7 +115,7 @@ fn write_nothing(alloc: Global, line: &mut Line, parts: Parts<'_>, step: &str) -
     let known = near_steps(alloc, parts, step)?;
     let mut nearest = Nearest::new(step);
     for other in &known {
-        match other.as_str().strip_prefix(ITEM) {
+        match other.as_str().strip_prefix(StepKind::Item.front()) {
             Some(name) if is_alike(name, step) => nearest.take(other.as_str()),
             _ => nearest.add(alloc, other.as_str())?,
         }
@@ -127,18 +128,18 @@ fn near_steps(alloc: Global, parts: Parts<'_>, step: &str) -> Result<Vec<String>
     let number = number_in(step);
     let mut known = Vec::new(alloc);
     match parts.regions.checked_sub(1) {
-        Some(last) if may_begin(step, RAM) => {
+        Some(last) if may_begin(step, StepKind::Ram) => {
             known.push(spelled(alloc, Part::Ram(number.min(last)))?)?;
         }
         _ => {}
     }
     match parts.recs.checked_sub(1) {
-        Some(last) if may_begin(step, REC) => {
+        Some(last) if may_begin(step, StepKind::Rec) => {
             known.push(spelled(alloc, Part::Rec(number.min(last)))?)?;
         }
         _ => {}
     }
-    if may_begin(step, ITEM) {
+    if may_begin(step, StepKind::Item) {
         for item in parts.items {
             known.push(spelled(alloc, Part::Item(name(item)))?)?;
         }
@@ -146,10 +147,10 @@ fn near_steps(alloc: Global, parts: Parts<'_>, step: &str) -> Result<Vec<String>
     Ok(known)
 }
 
-/// Whether a step may be meant to begin with a word: it does, or it begins with none of the words.
-fn may_begin(step: &str, word: &str) -> bool {
-    let begins_right = step.starts_with(RAM) || step.starts_with(ITEM) || step.starts_with(REC);
-    step.starts_with(word) || !begins_right
+/// Whether a step may be meant to be about this: it begins so, or as no step does.
+fn may_begin(step: &str, kind: StepKind) -> bool {
+    let mut kinds = [StepKind::Ram, StepKind::Item, StepKind::Rec].iter();
+    step.starts_with(kind.front()) || !kinds.any(|kind| step.starts_with(kind.front()))
 }
 
 /// The step that names a part.

@@ -12,11 +12,10 @@ use Rattle.rim_launch.specs.Kinds.{file_of, has_edits, role_of}
 use Rattle.rim_launch.specs.declared.config.Config.{Config}
 use Rattle.rim_launch.specs.declared.item.Item.{Item}
 use Rattle.rim_launch.specs.declared.item.Region.{Region}
-use Rattle.rim_launch.specs.declared.item.Role.{Role}
-use Rattle.rim_launch.specs.declared.item.Role.TheVariants as role
 use Rattle.ipa_layout.specs.Layout.{PlacedData}
 use Rattle.rmi_list.specs.Measured.{measured, page_contents}
 use Rattle.rim_manifest.specs.Launches.{NamedData, item_name}
+use Rattle.rim_rules.specs.Kinds.{kind_word}
 use Rattle.rim_map.specs.Extensions.{extensions_of}
 use Rattle.rim_map.specs.Granules.{HasGranules}
 use Rattle.rim_map.specs.Rows.{rows_of}
@@ -25,14 +24,6 @@ use Rattle.rim_map.specs.declared.extensions.Extensions.{Extensions}
 use Rattle.rim_map.specs.declared.granules.Granules.{Granules}
 use Rattle.rim_map.specs.declared.rows.Row.{Row}
 use Rattle.rim_map.specs.declared.stretches.Stretch.{Stretch}
-
--- the word of an item's kind, as a manifest has it
-abbrev pub kind_word : Role → List ℕ
-kind_word role.Kernel = codes "kernel"
-kind_word role.Initrd = codes "initrd"
-kind_word role.Dtb = codes "dtb"
-kind_word role.Raw = codes "raw"
-kind_word role.Unknown = codes "unknown"
 
 abbrev pub count : ℕ → Data
 count n = number (unsigned n)

@@ -12,7 +12,8 @@ use Rattle.rim_accepted.specs.Reasons.{audit_fault_of}
 use Rattle.rim_accepted.specs.declared.reason.LaunchReason.{LaunchReason}
 use Rattle.rim_accepted.specs.declared.reason.LaunchReason.TheVariants.{Layout, List as Lists}
 use Rattle.rim_manifest.specs.Launches.{NamedData, item_name}
-use Rattle.rim_map.specs.MapJson.{SpaceView, count, kind_word, launch_json, path_json, regions_json, space_of, stretch_json}
+use Rattle.rim_rules.specs.Kinds.{kind_word}
+use Rattle.rim_map.specs.MapJson.{SpaceView, count, launch_json, path_json, regions_json, space_of, stretch_json}
 use Rattle.rim_map.specs.Rows.{rows_of}
 use Rattle.rim_map.specs.Stretches.{AreRising, IsBetween, row_pages}
 use Rattle.rim_map.specs.declared.stretches.Stretch.{Stretch}

@@ -1,24 +1,10 @@
-//! What the items of a launch are, in words, and the paths of their files.
+//! The paths of the files of items.
 ghost use Rattle.std.specs.Prelude.{◌≡◌, option_and_then, option_map};
 ghost use Rattle.std.specs.List.{slice_get};
 ghost use Rattle.rim_launch.specs.Kinds.{file_of};
-ghost use Rattle.rim_map.specs.MapJson.{kind_word};
 
-use rim_launch::{Item, Role};
+use rim_launch::Item;
 use rim_manifest::Release;
-
-/// The word of an item's kind, as a manifest has it.
-pub(crate) fn kind_word(role: Role) -> &'static str
-    ensures { result.now ≡ kind_word role }
-{
-    match role {
-        Role::Kernel => "kernel",
-        Role::Initrd => "initrd",
-        Role::Dtb => "dtb",
-        Role::Raw => "raw",
-        Role::Unknown => "unknown",
-    }
-}
 
 /// The path of the file that an item's bytes come from, if it has one.
 pub(crate) fn path_of<'a>(release: &'a Release, item: &Item) -> Option<&'a str>

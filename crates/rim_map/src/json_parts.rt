@@ -8,7 +8,7 @@ ghost use Rattle.rim_map.specs.inside.Shared.{item_members};
 ghost use Rattle.rim_map.specs.MapJson.{count, extensions_json, granules_json, item_json, items_json, launch_json, path_json, place_json, region_json, regions_json, rule_json, stretch_json};
 
 use crate::extensions::Extensions;
-use crate::files::{kind_word, path_of};
+use crate::files::path_of;
 use crate::granules::Granules;
 use crate::members::{Members, put_count, put_flag, put_text, put_values};
 use crate::rows::Row;
@@ -17,6 +17,7 @@ use crate::stretches::{Stretch, gaps};
 use rim_desc::{GRANULE_SIZE, RecRule};
 use rim_launch::{Config, Item, Region};
 use rim_manifest::NamedLaunch;
+use rim_rules::kind::kind_word;
 use serde_json::{Map, Value, json, put};
 use std::alloc::{AllocError, Global};
 

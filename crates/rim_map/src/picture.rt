@@ -1,12 +1,13 @@
 //! The address space of a launch in lines: its RAM, the items in it, and the addresses of none. What it says of the launch is tested alone.
 use crate::columns::{Lines, Size, push_name, push_path, room_after, written};
-use crate::files::{kind_word, path_of};
+use crate::files::path_of;
 use crate::rows::Row;
 use crate::shown::Shown;
 use crate::stretches::Stretch;
 use refusal::NoMemory;
 use rim_launch::{Item, Launch, Region};
 use rim_line::Line;
+use rim_rules::kind::kind_word;
 use std::alloc::{AllocError, Global};
 use std::fmt;
 use std::fmt::Write;

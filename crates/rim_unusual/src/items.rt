@@ -141,7 +141,7 @@ fn unusual_bytes<'a>(role: Role, item: &'a str, bytes: &'a [u8]) -> Option<Unusu
             item,
             front: Front(bytes),
         }),
-        _ => None,
+        Role::Kernel | Role::Initrd | Role::Dtb | Role::Raw | Role::Unknown => None,
     }
 }
 

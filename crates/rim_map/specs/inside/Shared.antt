@@ -5,7 +5,8 @@ use Rattle.serde_json.specs.Data.{Members, array, boolean, member, no_members, p
 use Rattle.serde_json.specs.View.{items_of}
 use Rattle.rim_launch.specs.Kinds.{file_of, has_edits, role_of}
 use Rattle.rim_launch.specs.declared.item.Item.{Item}
-use Rattle.rim_map.specs.MapJson.{SpaceView, kind_word, path_json}
+use Rattle.rim_rules.specs.Kinds.{kind_word}
+use Rattle.rim_map.specs.MapJson.{SpaceView, path_json}
 
 -- what is shown of an item, but for its place, where items have these names and files these paths
 abbrev pub item_members : (ℕ → List ℕ) → List (List ℕ) → ℕ → Item → Bool → Members
