@@ -40,8 +40,8 @@ number_spelled first text (Some digits) n e h = go (is_decimal digits) refl h
     go true test k = let value : digits_value 10 digits ≡ n = cc in (digits, followed first text digits e, test, value)
     go false test k = cc
 
-item_spelled : (items : List Data) (text : List ℕ) (o : Option (List ℕ)) (n : ℕ) → after (step_front about.Item) text ≡ o → item_number items o ≡ Some n
-    → SpellsStep items text (step.Item n)
+item_spelled : (items : List Data) (text : List ℕ) (o : Option (List ℕ)) (n : ℕ) → after (step_front about.Item) text ≡ o
+    → item_number items o ≡ Some n → SpellsStep items text (step.Item n)
 item_spelled items text None n e h = cc
 item_spelled items text (Some name) n e h =
     let found = found_at (is_named name) items n h in
@@ -63,7 +63,8 @@ step_spelled items text s e = of_ram (decimal_number (after (step_front about.Ra
 
     of_ram : (o : Option ℕ) → decimal_number (after (step_front about.Ram) text) ≡ o
         → or_else (option_map step.Ram o)
-        (or_else (option_map step.Item (item_number items (after (step_front about.Item) text))) (option_map step.Rec (decimal_number (after (step_front about.Rec) text))))
+        (or_else (option_map step.Item (item_number items (after (step_front about.Item) text)))
+        (option_map step.Rec (decimal_number (after (step_front about.Rec) text))))
         ≡ Some s
         → SpellsStep items text s
     of_ram None h k = of_item (item_number items (after (step_front about.Item) text)) refl k
