@@ -155,7 +155,10 @@ impl ItemKind {
     {
         match self {
             ItemKind::Unknown => size.is_some() && !measured,
-            _ => true,
+            ItemKind::Kernel { .. }
+            | ItemKind::Initrd { .. }
+            | ItemKind::Dtb { .. }
+            | ItemKind::Raw { .. } => true,
         }
     }
 
@@ -165,7 +168,10 @@ impl ItemKind {
     {
         match self {
             ItemKind::Dtb { edits, .. } => edits.bootargs.is_some() || edits.initrd || edits.memory,
-            _ => false,
+            ItemKind::Kernel { .. }
+            | ItemKind::Initrd { .. }
+            | ItemKind::Raw { .. }
+            | ItemKind::Unknown => false,
         }
     }
 
@@ -175,7 +181,10 @@ impl ItemKind {
     {
         match self {
             ItemKind::Dtb { edits, .. } => edits.initrd,
-            _ => false,
+            ItemKind::Kernel { .. }
+            | ItemKind::Initrd { .. }
+            | ItemKind::Raw { .. }
+            | ItemKind::Unknown => false,
         }
     }
 
@@ -185,7 +194,10 @@ impl ItemKind {
     {
         match self {
             ItemKind::Dtb { edits, .. } => edits.memory,
-            _ => false,
+            ItemKind::Kernel { .. }
+            | ItemKind::Initrd { .. }
+            | ItemKind::Raw { .. }
+            | ItemKind::Unknown => false,
         }
     }
 }
