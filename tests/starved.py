@@ -93,7 +93,7 @@ BYTES = {
     "read_manifest": ["two GiB of RAM", "both algorithms", "a page twice", "all kinds", "a faulty manifest"],
     "check_manifest": ["two GiB of RAM", "both algorithms", "a page twice", "all kinds", "a faulty manifest"],
     "mark_first": ["both algorithms", "a faulty manifest"], "check_json": ["a faulty manifest"],
-    **{call: ["two GiB of RAM", "both algorithms", "all kinds"] for call in ("place", "list", "rmi_list::check", "LaunchPlan::read", "audit", "listing", "trace")},
+    **{call: ["two GiB of RAM", "both algorithms", "all kinds"] for call in ("place", "list", "LaunchPlan::read", "audit", "listing", "trace")},
     "Tables::ripas_runs": ["both algorithms"], "Tables::data_pages": ["both algorithms"], "Core::new": ["both algorithms"],
     **{call: ["both algorithms", "all kinds"] for call in ("Table::reserve", "DigestRow::reserve", "BoardState::new")},
     **{call: list(RELEASES) for call in ("measure_alone", "measure_release", "measure_release/no-waiting", "audit_report")},

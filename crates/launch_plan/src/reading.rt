@@ -41,8 +41,7 @@ impl LaunchPlan {
         LaunchPlan::of_launch(alloc, algo, launch, placed)
     }
 
-    /// The plan of a launch that has its place and a list of commands, which is not needed: that there is one was found by
-    /// `rmi_list::check`.
+    /// The plan of a launch that has its place and a list of commands, which is not needed.
     pub fn of_launch(
         alloc: Global,
         algo: Algo,

@@ -1,8 +1,7 @@
 -- The reason that is found is that of the first refusal, and no want of memory.
 use Rattle.std.proofs.Common.{◌≡◌, ℕ, List, ap, refl}
-use Rattle.std.specs.Prelude.{Result, Ok, Err, IsOk}
+use Rattle.std.specs.Prelude.{Ok, Err}
 use Rattle.std.specs.Result.{result_map_both}
-use Rattle.refusal.specs.Answer.{◌>>=◌}
 use Rattle.list_model.specs.Entries.{Entry}
 use Rattle.rim_launch.specs.LaunchData.{LaunchData}
 use Rattle.ipa_layout.specs.Layout.{PlacedData, laid_out}
@@ -12,7 +11,6 @@ use Rattle.ipa_layout.specs.declared.reason.ItemReason.TheVariants as item
 use Rattle.ipa_layout.specs.declared.reason.LayoutReason.{LayoutReason}
 use Rattle.ipa_layout.specs.declared.reason.LayoutReason.TheVariants as layout
 use Rattle.rmi_list.specs.Listed.{listed}
-use Rattle.rmi_list.specs.declared.fault.ListFault.{ListFault}
 use Rattle.rmi_list.specs.Reason.{IsReason, list_fault_of, step_fault_of}
 use Rattle.rmi_list.specs.declared.reason.ListReason.{ListReason}
 use Rattle.rmi_list.specs.declared.reason.ListReason.TheVariants as list
@@ -69,11 +67,7 @@ found-list l files p why placed is = record {
 
 -- ---- no refusal
 
-with-list : (found : Result (List Entry) ListFault) (p : PlacedData) → IsOk found
-    → (result_map_both (λ (entries : List Entry). entries) list_fault found >>= λ entries. Ok p) ≡ Ok p
-with-list (Ok entries) p ok = refl
-with-list (Err e) p ok = absurd cc
-
-pub found-accepted : (l : LaunchData) (files : List (List ℕ)) (p : PlacedData) → laid_out l files ≡ Ok p → IsOk (listed l p) → accepted_of l files ≡ Ok p
+pub found-accepted : (l : LaunchData) (files : List (List ℕ)) (p : PlacedData) (entries : List Entry) → laid_out l files ≡ Ok p → listed l p ≡ Ok entries
+    → accepted_of l files ≡ Ok p
 unfolding accepted_of
-found-accepted l files p placed ok = rw placed (with-list (listed l p) p ok)
+found-accepted l files p entries placed listed = rw (placed, listed) refl

@@ -8,7 +8,7 @@ use crate::audit_fault::AuditFault;
 use crate::loaded::LoadedLaunch;
 use ipa_layout::{LayoutReason, Placed, place_with_reason};
 use refusal::NoMemory;
-use rmi_list::{ListReason, check_with_reason};
+use rmi_list::{ListReason, list_with_reason};
 use std::alloc::Global;
 
 /// Why a launch is refused.
@@ -54,8 +54,8 @@ pub fn accept_with_reason<'a>(
         Ok(placed) => placed,
         Err(reason) => return Ok(Err(LaunchReason::Layout(reason))),
     };
-    match check_with_reason(alloc, launch, &placed)? {
-        Ok(()) => Ok(Ok(AcceptedLaunch {
+    match list_with_reason(alloc, launch, &placed)? {
+        Ok(_) => Ok(Ok(AcceptedLaunch {
             named,
             files,
             placed,

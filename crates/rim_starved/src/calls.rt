@@ -40,7 +40,6 @@ pub enum TextCall {
 pub enum LayerCall {
     Place,
     List,
-    CheckList,
     ReadPlan,
     RipasRuns,
     DataPages,
@@ -67,7 +66,7 @@ pub enum ReleaseCall {
 }
 
 impl Call {
-    pub const ALL: [Call; 37] = [
+    pub const ALL: [Call; 36] = [
         Call::Tree(TreeCall::Read),
         Call::Tree(TreeCall::Set),
         Call::Tree(TreeCall::SetMemory),
@@ -85,7 +84,6 @@ impl Call {
         Call::Text(TextCall::CheckJson),
         Call::Layer(LayerCall::Place),
         Call::Layer(LayerCall::List),
-        Call::Layer(LayerCall::CheckList),
         Call::Layer(LayerCall::ReadPlan),
         Call::Layer(LayerCall::RipasRuns),
         Call::Layer(LayerCall::DataPages),
@@ -161,7 +159,6 @@ impl LayerCall {
         match self {
             LayerCall::Place => "place",
             LayerCall::List => "list",
-            LayerCall::CheckList => "rmi_list::check",
             LayerCall::ReadPlan => "LaunchPlan::read",
             LayerCall::RipasRuns => "Tables::ripas_runs",
             LayerCall::DataPages => "Tables::data_pages",

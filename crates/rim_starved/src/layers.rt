@@ -22,7 +22,7 @@ use rim_chain::LaunchPlan;
 use rim_desc::Measurement;
 use rim_launch::Launch;
 use rim_release::{Files, read_manifest};
-use rmi_list::{ListFault, Plan, check, list};
+use rmi_list::{ListFault, Plan, list};
 use rtt_plan::{Act, PlanFault, Tables};
 use std::alloc::{AllocError, Global};
 use std::marker::Brand;
@@ -163,7 +163,6 @@ fn of_launch<R: Print + AllocGlobal>(
     };
     match call {
         LayerCall::List => listed(rt, launch, &placed, is_tried),
-        LayerCall::CheckList => list_checked(rt, launch, &placed, is_tried),
         _ => of_list(rt, call, launch, &placed, files, is_tried),
     }
 }
@@ -201,25 +200,6 @@ fn listed<R: Print + AllocGlobal>(
     let answer = list(alloc, launch, placed);
     end(rt, is_tried)?;
     Ok(seen!(alloc, answer, list_digest, ListFault::NoMemory))
-}
-
-fn list_checked<R: Print + AllocGlobal>(
-    rt: &R,
-    launch: &Launch,
-    placed: &Placed,
-    is_tried: bool,
-) -> Result<Seen, Fault>
-    requires { HasPlace launch.now placed.now }
-{
-    let alloc = rt.alloc();
-    begin(rt, is_tried)?;
-    let answer = check(alloc, launch, placed);
-    end(rt, is_tried)?;
-    Ok(seen!(alloc, answer, has_list, ListFault::NoMemory))
-}
-
-fn has_list(_alloc: Global, _has_list: &()) -> Result<u64, AllocError> {
-    Ok(0)
 }
 
 /// A digest of all commands, each measured page with zeros for its contents.

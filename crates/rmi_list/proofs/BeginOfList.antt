@@ -10,12 +10,12 @@ use Rattle.list_model.proofs.GranulesOfEntries.{count-all}
 use Rattle.rim_launch.specs.Realm.{realm_params}
 use Rattle.rim_launch.specs.declared.config.Config.{Config}
 use Rattle.rmi_list.specs.declared.draft.Draft.{Draft}
-use Rattle.rmi_list.specs.declared.fault.ListFault.{ListFault}
-use Rattle.rmi_list.specs.declared.fault.ListFault.TheVariants as fault
+use Rattle.rmi_list.specs.declared.step_fault.StepFault.{StepFault}
+use Rattle.rmi_list.specs.declared.step_fault.StepFault.TheVariants as fault
 use Rattle.rmi_list.specs.declared.span.Span.TheVariants as span
 use Rattle.rmi_list.specs.Listed.{opening_entries}
-use Rattle.rmi_list.specs.inside.Drafts.{Grows, span_in}
-use Rattle.rmi_list.proofs.EntryByEntry.{Refuses, pool_of}
+use Rattle.rmi_list.specs.inside.Drafts.{Grows, Refuses, span_in}
+use Rattle.rmi_list.proofs.EntryByEntry.{pool_of}
 use Rattle.rmi_list.proofs.StepsAreListed.{grows-then, refused-first, refused-later}
 
 abbrev pub table_granules : Config → List Entry
@@ -78,8 +78,8 @@ opening-grows c d e f g rd fresh tables descriptor at realm =
     rw (opening-split c) (grows-then d e g (table_granules c) (descriptor_granule c ++ realm_itself c) tables (grows-then e f g (descriptor_granule c) (realm_itself c) descriptor last))
 
 -- what is refused for a part of it is refused for all of it
-pub opening-refused : (c : Config) (d : Draft) (e : ListFault) → IsFresh c d → Refuses d e (table_granules c ++ (descriptor_granule c ++ realm_itself c))
-    → (e ≡ fault.NoMemory) ⊎ ((e ≡ fault.PoolEnd) × (c.pool_count < delegated (opening_entries c)))
+pub opening-refused : (c : Config) (d : Draft) (e : StepFault) → IsFresh c d → Refuses d e (table_granules c ++ (descriptor_granule c ++ realm_itself c))
+    → (e ≡ fault.NoMemory) ⊎ (c.pool_count < delegated (opening_entries c))
 opening-refused c d e fresh (inl memory) = inl memory
 opening-refused c d e fresh (inr full) =
     let es : List Entry = table_granules c ++ (descriptor_granule c ++ realm_itself c) in
@@ -87,7 +87,7 @@ opening-refused c d e fresh (inr full) =
     let none : d.taken ≡ 0 = fresh.taken in
     let size : d.launch.now.config.pool_count ≡ c.pool_count = ap (λ (k : Config). k.pool_count) fresh.config in
     let same : delegated (opening_entries c) ≡ delegated es = ap delegated (opening-split c) in
-    inr (full.0, omega arith)
+    inr (omega arith)
 
 -- ---- the begin as the code makes it, from a draft that has taken nothing
 
@@ -107,17 +107,17 @@ first-grows d e f g asked n rd config count none grown next at realm =
     let descriptor : Grows e f (descriptor_granule c) = rw (← descriptor-same c d e fresh tables) next in
     opening-grows c d e f g rd fresh tables descriptor at realm
 
-pub first-tables-refused : (d : Draft) (e : ListFault) (asked : Config) (n : ℕ) → asked ≡ d.launch.now.config → n ≡ start_count asked.s2sz → d.taken ≡ 0
+pub first-tables-refused : (d : Draft) (e : StepFault) (asked : Config) (n : ℕ) → asked ≡ d.launch.now.config → n ≡ start_count asked.s2sz → d.taken ≡ 0
     → Refuses d e (delegate_all (granules n (granule (pool_of d) d.taken)))
-    → (e ≡ fault.NoMemory) ⊎ ((e ≡ fault.PoolEnd) × (d.launch.now.config.pool_count < delegated (opening_entries d.launch.now.config)))
+    → (e ≡ fault.NoMemory) ⊎ (d.launch.now.config.pool_count < delegated (opening_entries d.launch.now.config))
 first-tables-refused d e asked n config count none refuses =
     let c : Config = d.launch.now.config in
     let refused : Refuses d e (table_granules c) = rw (← first-tables d asked n config count none) refuses in
     opening-refused c d e (record { config = refl; taken = none }) (refused-first d e (table_granules c) (descriptor_granule c ++ realm_itself c) refused)
 
-pub first-descriptor-refused : (d b : Draft) (e : ListFault) (asked : Config) (n : ℕ) → asked ≡ d.launch.now.config → n ≡ start_count asked.s2sz → d.taken ≡ 0
+pub first-descriptor-refused : (d b : Draft) (e : StepFault) (asked : Config) (n : ℕ) → asked ≡ d.launch.now.config → n ≡ start_count asked.s2sz → d.taken ≡ 0
     → Grows d b (delegate_all (granules n (granule (pool_of d) d.taken))) → Refuses b e (descriptor_granule d.launch.now.config)
-    → (e ≡ fault.NoMemory) ⊎ ((e ≡ fault.PoolEnd) × (d.launch.now.config.pool_count < delegated (opening_entries d.launch.now.config)))
+    → (e ≡ fault.NoMemory) ⊎ (d.launch.now.config.pool_count < delegated (opening_entries d.launch.now.config))
 first-descriptor-refused d b e asked n config count none grown refuses =
     let c : Config = d.launch.now.config in
     let tables : Grows d b (table_granules c) = rw (← first-tables d asked n config count none) grown in

@@ -1,6 +1,6 @@
 -- What checks answer one after another: the planner's first, then the list's own.
-use Rattle.std.proofs.Common.{inl, inr, ◌≡◌, refl, false, ◌⊎◌, List, [], ◌∷◌, ◌++◌}
-use Rattle.std.specs.Prelude.{Ok, Err, Result}
+use Rattle.std.proofs.Common.{inl, inr, ◌≡◌, refl, false, ℕ, ◌⊎◌, List, [], ◌∷◌, ◌++◌}
+use Rattle.std.specs.Prelude.{Ok, Err, Result, Some}
 use Rattle.std.proofs.lemmas.Bool.{cases_Bool, or_parts}
 pub use Rattle.refusal.proofs.AnswersInTurn.{bind-ok as bound}
 use Rattle.refusal.specs.Answer.{with_front}
@@ -8,9 +8,12 @@ use Rattle.refusal.specs.Checks.{Check, unless_refused}
 use Rattle.rmm_model.proofs.AnswersOfChecks.{holds}
 use Rattle.rtt_plan.specs.declared.fault.PlanFault.{PlanFault}
 use Rattle.rtt_plan.specs.declared.fault.PlanFault.TheVariants as plan
+use Rattle.ipa_layout.specs.declared.reason.IpaRange.{IpaRange}
 use Rattle.rmi_list.specs.declared.fault.ListFault.{ListFault}
 use Rattle.rmi_list.specs.declared.fault.ListFault.TheVariants as fault
-use Rattle.rmi_list.specs.Listed.{plan_fault, plan_checks}
+use Rattle.rmi_list.specs.Listed.{Listing, plan_checks}
+use Rattle.rmi_list.specs.declared.reason.StepReason.TheVariants as step_reason
+use Rattle.rmi_list.specs.inside.Steps.{IsStepFault, plan_fault}
 
 -- an answer is what was asked for
 pub is-done : {A E : Type 0} (checks : List (Check E)) (done answer : A) → unless_refused checks done ≡ Ok answer → done ≡ answer
@@ -50,19 +53,19 @@ refused-front (c ∷ cs) a e others b = elim (cases_Bool c.1) [
   | inr off ↦ rw off (λ at. refused-front cs a e others b at)
 ]
 
--- what the planner answered, as the list answers it
-pub plan-refused : {A B : Type 0} (e : PlanFault) (planned : Result A PlanFault) (listed : Result B ListFault) → (planned ≡ Err e → listed ≡ Err (fault.Plan e))
-    → (e ≡ plan.NoMemory) ⊎ (planned ≡ Err e) → (plan_fault e ≡ fault.NoMemory) ⊎ (listed ≡ Err (plan_fault e))
-plan-refused plan.NoMemory planned listed on h = inl refl
-plan-refused plan.OutsideProtected planned listed on (inl h) = absurd (cc)
-plan-refused plan.OutsideProtected planned listed on (inr h) = inr (on h)
-plan-refused plan.Unaligned planned listed on (inl h) = absurd (cc)
-plan-refused plan.Unaligned planned listed on (inr h) = inr (on h)
-plan-refused plan.RipasTwice planned listed on (inl h) = absurd (cc)
-plan-refused plan.RipasTwice planned listed on (inr h) = inr (on h)
-plan-refused plan.NotRam planned listed on (inl h) = absurd (cc)
-plan-refused plan.NotRam planned listed on (inr h) = inr (on h)
-plan-refused plan.DataTwice planned listed on (inl h) = absurd (cc)
-plan-refused plan.DataTwice planned listed on (inr h) = inr (on h)
-plan-refused plan.TooManyEntries planned listed on (inl h) = absurd (cc)
-plan-refused plan.TooManyEntries planned listed on (inr h) = inr (on h)
+-- what the planner answered, as a step answers it
+pub plan-refused : {A : Type 0} (e : PlanFault) (range : IpaRange) (n : ℕ) (planned : Result A PlanFault) (listed : Result Listing ListFault)
+    → (planned ≡ Err e → listed ≡ Err (fault.Plan e)) → (e ≡ plan.NoMemory) ⊎ (planned ≡ Err e) → IsStepFault (Some range) n (plan_fault e range) listed
+plan-refused plan.NoMemory range n planned listed on h = inl refl
+plan-refused plan.OutsideProtected range n planned listed on (inl h) = absurd (cc)
+plan-refused plan.OutsideProtected range n planned listed on (inr h) = inr (step_reason.Plan plan.OutsideProtected range, refl, on h, refl)
+plan-refused plan.Unaligned range n planned listed on (inl h) = absurd (cc)
+plan-refused plan.Unaligned range n planned listed on (inr h) = inr (step_reason.Plan plan.Unaligned range, refl, on h, refl)
+plan-refused plan.RipasTwice range n planned listed on (inl h) = absurd (cc)
+plan-refused plan.RipasTwice range n planned listed on (inr h) = inr (step_reason.Plan plan.RipasTwice range, refl, on h, refl)
+plan-refused plan.NotRam range n planned listed on (inl h) = absurd (cc)
+plan-refused plan.NotRam range n planned listed on (inr h) = inr (step_reason.Plan plan.NotRam range, refl, on h, refl)
+plan-refused plan.DataTwice range n planned listed on (inl h) = absurd (cc)
+plan-refused plan.DataTwice range n planned listed on (inr h) = inr (step_reason.Plan plan.DataTwice range, refl, on h, refl)
+plan-refused plan.TooManyEntries range n planned listed on (inl h) = absurd (cc)
+plan-refused plan.TooManyEntries range n planned listed on (inr h) = inr (step_reason.Plan plan.TooManyEntries range, refl, on h, refl)

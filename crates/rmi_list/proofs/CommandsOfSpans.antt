@@ -1,6 +1,6 @@
 -- Spans of pages: their granules, and each of their commands.
 use Rattle.std.proofs.Common.{inl, inr, ◌≡◌, ℕ, zero, suc, ◌+◌, ◌-◌, ◌*◌, ◌%◌, ◌/◌, ◌<◌, ◌≤◌, ◌∙◌, sym, refl, ap, subst, arith, false, eqb, List, [], ◌∷◌, ◌++◌, get_or, length, take, true}
-use Rattle.std.specs.Prelude.{Ok, Err, Some, None, Result, option_and_then}
+use Rattle.std.specs.Prelude.{Some, None, option_and_then}
 use Rattle.std.proofs.lemmas.Bool.{cases_Bool}
 use Rattle.std.proofs.lemmas.Bool.Decides.{nat_tests}
 use Rattle.std.specs.List.{All, flat_map, slice_get, sum_by}
@@ -21,12 +21,11 @@ use Rattle.list_model.specs.Entries.{Whole, delegated, granule, page_entry, page
 use Rattle.list_model.specs.inside.Acts.{entries_of_pages}
 use Rattle.list_model.proofs.GranulesOfEntries.{count-append, count-page}
 use Rattle.rmi_list.specs.declared.draft.Draft.{Draft}
-use Rattle.rmi_list.specs.declared.fault.ListFault.{ListFault}
-use Rattle.rmi_list.specs.inside.Drafts.{Grows, Lists}
+use Rattle.rmi_list.specs.inside.Drafts.{Grows}
 use Rattle.rmi_list.specs.inside.Plans.{AreStarts}
 use Rattle.std.proofs.lemmas.List.Sums.{sum_by-cons, sum_by_more}
 use Rattle.rmi_list.proofs.EntryByEntry.{pool_of}
-use Rattle.rmi_list.proofs.StepsAreListed.{grows-then, refused-later}
+use Rattle.rmi_list.proofs.StepsAreListed.{grows-then}
 
 -- ---- how many they are
 
@@ -123,16 +122,14 @@ spans-more ks now k more span all = rw more (All-append IsSpan ks (k ∷ []) all
 
 -- ---- a table, as the code lists it
 
-pub table-lists : {U : Type 0} (old mid new : Draft) (r : Result U ListFault) (rtt base level : ℕ) → Grows old mid (Whole (Delegate (granule (pool_of old) old.taken)) ∷ [])
-    → rtt ≡ old.taken → Lists mid new r (Whole (RttCreate (granule (pool_of mid) rtt) base level) ∷ [])
-    → Lists old new r (Whole (Delegate (granule (pool_of old) old.taken)) ∷ Whole (RttCreate (granule (pool_of old) old.taken) base level) ∷ [])
-table-lists old mid new (Ok u) rtt base level first at next =
+pub table-lists : (old mid new : Draft) (rtt base level : ℕ) → Grows old mid (Whole (Delegate (granule (pool_of old) old.taken)) ∷ [])
+    → rtt ≡ old.taken → Grows mid new (Whole (RttCreate (granule (pool_of mid) rtt) base level) ∷ [])
+    → Grows old new (Whole (Delegate (granule (pool_of old) old.taken)) ∷ Whole (RttCreate (granule (pool_of old) old.taken) base level) ∷ [])
+table-lists old mid new rtt base level first at next =
     let pool : pool_of mid ≡ pool_of old = ap (λ (l : _). l.now.config.pool_base) first.launch in
     let second : Grows mid new (Whole (RttCreate (granule (pool_of old) rtt) base level) ∷ []) = subst (λ (p : ℕ). Grows mid new (Whole (RttCreate (granule p rtt) base level) ∷ [])) pool next in
     let third : Grows mid new (Whole (RttCreate (granule (pool_of old) old.taken) base level) ∷ []) = subst (λ (n : ℕ). Grows mid new (Whole (RttCreate (granule (pool_of old) n) base level) ∷ [])) at second in
     grows-then old mid new (Whole (Delegate (granule (pool_of old) old.taken)) ∷ []) (Whole (RttCreate (granule (pool_of old) old.taken) base level) ∷ []) first third
-table-lists old mid new (Err e) rtt base level first at next =
-    refused-later old mid e (Whole (Delegate (granule (pool_of old) old.taken)) ∷ []) (Whole (RttCreate (granule (pool_of old) old.taken) base level) ∷ []) first next
 
 -- ---- a list of spans, by the numbers of its commands
 

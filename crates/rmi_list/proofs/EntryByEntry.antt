@@ -1,5 +1,5 @@
 -- A list grows entry by entry, or is refused for the entries that are left.
-use Rattle.std.proofs.Common.{inl, inr, ◌≡◌, ℕ, zero, suc, ◌+◌, ◌-◌, ◌<◌, ◌∙◌, sym, refl, ap, subst, arith, List, [], ◌∷◌, ◌++◌, ◌⊎◌, append_assoc, length}
+use Rattle.std.proofs.Common.{inl, inr, ◌≡◌, ℕ, zero, suc, ◌+◌, ◌-◌, ◌<◌, ◌∙◌, sym, refl, ap, subst, arith, List, [], ◌∷◌, ◌++◌, append_assoc, length}
 use Rattle.std.specs.Prelude.{slice_index_or}
 use Rattle.std.proofs.lemmas.List.{append-nil}
 use Rattle.std.proofs.Math.ListN.{drop}
@@ -10,10 +10,9 @@ use Rattle.list_model.specs.Entries.{Entry, Whole, delegate_all, delegated, gran
 use Rattle.list_model.specs.inside.Acts.{ItemOf, act_entries, entries_of_act, pages_in}
 use Rattle.list_model.proofs.GranulesOfEntries.{count-append}
 use Rattle.rmi_list.specs.declared.draft.Draft.{Draft}
-use Rattle.rmi_list.specs.declared.fault.ListFault.{ListFault}
-use Rattle.rmi_list.specs.declared.fault.ListFault.TheVariants as fault
+use Rattle.rmi_list.specs.declared.step_fault.StepFault.{StepFault}
 use Rattle.rmi_list.specs.inside.Acts.{HasRoom, HaveRoom}
-use Rattle.rmi_list.specs.inside.Drafts.{AreSpans, Grows, InPool, entries_in}
+use Rattle.rmi_list.specs.inside.Drafts.{AreSpans, Grows, InPool, Refuses, entries_in}
 
 abbrev pub pool_of : Draft → ℕ
 pool_of d = d.launch.now.config.pool_base
@@ -72,12 +71,8 @@ going-on old now next all rest here later going split grows =
       spans = λ all. grown.spans (going.spans all);
     }
 
--- what is refused for some entries
-abbrev pub Refuses : Draft → ListFault → List Entry → Type 0
-Refuses d e es = (e ≡ fault.NoMemory) ⊎ ((e ≡ fault.PoolEnd) × (d.launch.now.config.pool_count < d.taken + delegated es))
-
 -- what is refused for the next entries is refused for all
-pub going-refused : (old now : Draft) (all rest : List Entry) (here later : ℕ → List Entry) (e : ListFault) → Going old now all rest
+pub going-refused : (old now : Draft) (all rest : List Entry) (here later : ℕ → List Entry) (e : StepFault) → Going old now all rest
     → rest ≡ here (pool_of old) ++ later (now.taken + delegated (here (pool_of old))) → Refuses now e (here (pool_of now)) → Refuses old e all
 going-refused old now all rest here later e going split (inl memory) = inl memory
 going-refused old now all rest here later e going split (inr full) =

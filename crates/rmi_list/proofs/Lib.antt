@@ -17,11 +17,9 @@ pub mod ListsGoOnAlike
 pub mod BeginOfList
 -- items that have a place are few, with few pages, so they can be listed
 pub mod ItemsAreListable
--- so, step by step, the draft is the list of the launch; a plan that is only checked drops its entries
+-- so, step by step, the draft is the list of the launch
 pub mod ListStepByStep
 -- Spans hold entries of many pages in one: each command of the list is one of a span, found by a search in the starts.
 pub mod CommandsOfSpans
 -- Lists that begin with the same spans begin with the same commands.
 pub mod SpansInCommon
--- A step is refused by a fault of its own, and by the planner only where it has addresses, which its reason shows.
-pub mod RefusedSteps

@@ -28,19 +28,24 @@ use Rattle.list_model.proofs.GranulesOfEntries.{count-append}
 use Rattle.rim_launch.specs.declared.config.Config.{Config}
 use Rattle.rim_launch.specs.declared.item.Region.{Region}
 use Rattle.ipa_layout.specs.declared.placed.PlacedItem.{PlacedItem}
+use Rattle.ipa_layout.specs.declared.reason.IpaRange.{IpaRange}
 use Rattle.ipa_layout.specs.declared.rec.PlacedRec.{PlacedRec}
 use Rattle.rmi_list.specs.declared.draft.Draft.{Draft}
 use Rattle.rmi_list.specs.declared.fault.ListFault.{ListFault}
 use Rattle.rmi_list.specs.declared.fault.ListFault.TheVariants as fault
-use Rattle.rmi_list.specs.Listed.{lacks_rule, Listing, plan_fault, list_item, list_named, list_rec, list_region, plan_checks, pool_check}
+use Rattle.rmi_list.specs.declared.reason.StepReason.TheVariants as step_reason
+use Rattle.rmi_list.specs.declared.step_fault.StepFault.{StepFault}
+use Rattle.rmi_list.specs.Listed.{lacks_rule, Listing, list_item, list_named, list_rec, list_region, plan_checks, pool_check}
+use Rattle.rmi_list.specs.Reason.{item_range, region_range}
 use Rattle.rmi_list.specs.Measured.{page_base, page_content}
 use Rattle.rmi_list.specs.RecParams.{rec_params}
 use Rattle.rmi_list.specs.inside.Acts.{HaveRoom}
 use Rattle.rmi_list.specs.declared.span.Span.TheVariants as span
 use Rattle.rmi_list.specs.inside.Spans.{rec_entry}
-use Rattle.rmi_list.specs.inside.Drafts.{Continues, Grows, InPool, Lists, Makes, entries_in, span_in, progress_of}
+use Rattle.rmi_list.specs.inside.Drafts.{Continues, Grows, InPool, Lists, Makes, Refuses, entries_in, span_in, progress_of}
+use Rattle.rmi_list.specs.inside.Steps.{IsStepFault, plan_fault}
 use Rattle.rmi_list.proofs.CheckAfterCheck.{is-done, passed-front, plan-refused, refused-front}
-use Rattle.rmi_list.proofs.EntryByEntry.{Refuses, pool_of}
+use Rattle.rmi_list.proofs.EntryByEntry.{pool_of}
 
 -- ---- room for the pages of an item
 
@@ -105,11 +110,11 @@ makes-nothing old within = record {
 -- ---- a step that the planner takes
 
 -- the planner has passed its checks, and the list goes on from what was planned
-planned-continues : {A U : Type 0} (old new : Draft) (t after : Planned) (checks : List (Check PlanFault)) (a ok : A) (es : List Entry)
-    (result : Result U ListFault) → InPool old
+planned-continues : {A U : Type 0} (old new : Draft) (extent : Option IpaRange) (t after : Planned) (checks : List (Check PlanFault)) (a ok : A)
+    (es : List Entry) (result : Result U StepFault) → InPool old
     → unless_refused checks a ≡ Ok ok → AgreesWith t after → Lists (record old { tables = t }) new result es
-    → Continues old new result (unless_refused (plan_checks checks ++ pool_check old.launch.now.config old.taken es ∷ []) (listing old after es))
-planned-continues old new t after checks a ok es (Ok u) within passed agrees grows =
+    → Continues old new extent result (unless_refused (plan_checks checks ++ pool_check old.launch.now.config old.taken es ∷ []) (listing old after es))
+planned-continues old new extent t after checks a ok es (Ok u) within passed agrees grows =
     let made = listing old after es in
     let size : InPool new = grows.pool within in
     let taken : new.taken ≡ old.taken + delegated es = grows.taken in
@@ -127,19 +132,19 @@ planned-continues old new t after checks a ok es (Ok u) within passed agrees gro
         spans = grows.spans;
       },
     )
-planned-continues old new t after checks a ok es (Err e) within passed agrees (inl memory) = inl memory
-planned-continues old new t after checks a ok es (Err e) within passed agrees (inr full) =
+planned-continues old new extent t after checks a ok es (Err e) within passed agrees (inl memory) = inl memory
+planned-continues old new extent t after checks a ok es (Err e) within passed agrees (inr full) =
     let made = listing old after es in
     let small : old.launch.now.config.pool_count < old.taken + delegated es = full.1 in
     let on : nat_lt old.launch.now.config.pool_count (old.taken + delegated es) ≡ true = grind (arith, nat_tests) in
-    inr (passed-front checks a ok (pool_check old.launch.now.config old.taken es ∷ []) made passed ∙ rw (on, full.0) refl)
+    inr (step_reason.PoolEnd, full.0, passed-front checks a ok (pool_check old.launch.now.config old.taken es ∷ []) made passed ∙ rw on refl, tt)
 
 -- ---- regions
 
-pub region-continues : {U : Type 0} (old new : Draft) (t : Planned) (r : Region) (acts : List Act) (result : Result U ListFault) → InPool old
+pub region-continues : {U : Type 0} (old new : Draft) (t : Planned) (r : Region) (acts : List Act) (result : Result U StepFault) → InPool old
     → plan_region old.tables r.base r.end ≡ Ok acts → AgreesWith t (after_region old.tables r.base r.end)
     → Lists (record old { tables = t }) new result (act_entries (pool_of old) old.taken None 0 acts)
-    → Continues old new result (list_region old.launch.now.config (progress_of old) r)
+    → Continues old new (Some (region_range r)) result (list_region old.launch.now.config (progress_of old) r)
 unfolding plan_region list_region
 region-continues old new t r acts result within planned agrees lists =
     let p : Planned = old.tables in
@@ -148,25 +153,26 @@ region-continues old new t r acts result within planned agrees lists =
     let listed : act_entries (pool_of old) old.taken None 0 acts ≡ es =
     ap (act_entries (pool_of old) old.taken None 0) (sym same)
     ∙ acts-of-runs (pool_of old) p.space.start None 0 (runs_of r.base r.end p.least_level) old.taken p.space.tables in
-    planned-continues old new t (after_region p r.base r.end) (region_checks p r.base r.end) (region_acts p r.base r.end) acts es result within planned agrees
+    planned-continues old new (Some (region_range r)) t (after_region p r.base r.end) (region_checks p r.base r.end)
+    (region_acts p r.base r.end) acts es result within planned agrees
     (subst (Lists (record old { tables = t }) new result) listed lists)
 
 pub region-refused : (old : Draft) (r : Region) (e : PlanFault) → (e ≡ plan.NoMemory) ⊎ (plan_region old.tables r.base r.end ≡ Err e)
-    → (plan_fault e ≡ fault.NoMemory) ⊎ (list_region old.launch.now.config (progress_of old) r ≡ Err (plan_fault e))
+    → IsStepFault (Some (region_range r)) old.num_recs (plan_fault e (region_range r)) (list_region old.launch.now.config (progress_of old) r)
 unfolding plan_region list_region
 region-refused old r e h =
     let c : Config = old.launch.now.config in
     let es : List Entry = region_entries c.pool_base old.taken old.tables r.base r.end in
     let made : Listing = listing old (after_region old.tables r.base r.end) es in
-    plan-refused e (plan_region old.tables r.base r.end) (list_region c (progress_of old) r)
+    plan-refused e (region_range r) old.num_recs (plan_region old.tables r.base r.end) (list_region c (progress_of old) r)
     (refused-front (region_checks old.tables r.base r.end) (region_acts old.tables r.base r.end) e (pool_check c old.taken es ∷ []) made) h
 
 -- ---- items
 
-pub item-continues : {U : Type 0} (old new : Draft) (t : Planned) (number : ℕ) (item : PlacedItem) (acts : List Act) (result : Result U ListFault) → InPool old
+pub item-continues : {U : Type 0} (old new : Draft) (t : Planned) (number : ℕ) (item : PlacedItem) (acts : List Act) (result : Result U StepFault) → InPool old
     → eqb item.pages 0 ≡ false → plan_data old.tables (page_base item) item.pages ≡ Ok acts → AgreesWith t (after_data old.tables (page_base item) item.pages)
     → Lists (record old { tables = t }) new result (act_entries (pool_of old) old.taken (Some (page_content item, number)) 0 acts)
-    → Continues old new result (list_item old.launch.now.config (progress_of old) number item)
+    → Continues old new (Some (item_range item)) result (list_item old.launch.now.config (progress_of old) number item)
 unfolding plan_data list_item
 item-continues old new t number item acts result within some planned agrees lists =
     let p : Planned = old.tables in
@@ -176,13 +182,13 @@ item-continues old new t number item acts result within some planned agrees list
     let listed : act_entries (pool_of old) old.taken (Some (page_content item, number)) 0 acts ≡ es =
     ap (act_entries (pool_of old) old.taken (Some (page_content item, number)) 0) (sym same)
     ∙ acts-of-pages (pool_of old) p.space.start (page_content item) number (granules item.pages base) 0 old.taken p.space.tables in
-    rw some (planned-continues old new t (after_data p base item.pages) (data_checks p base item.pages)
+    rw some (planned-continues old new (Some (item_range item)) t (after_data p base item.pages) (data_checks p base item.pages)
     (data_acts p base item.pages) acts es result within planned agrees
     (subst (Lists (record old { tables = t }) new result) listed lists))
 
 pub item-refused : (old : Draft) (number : ℕ) (item : PlacedItem) (e : PlanFault) → eqb item.pages 0 ≡ false
     → (e ≡ plan.NoMemory) ⊎ (plan_data old.tables (page_base item) item.pages ≡ Err e)
-    → (plan_fault e ≡ fault.NoMemory) ⊎ (list_item old.launch.now.config (progress_of old) number item ≡ Err (plan_fault e))
+    → IsStepFault (Some (item_range item)) old.num_recs (plan_fault e (item_range item)) (list_item old.launch.now.config (progress_of old) number item)
 unfolding plan_data list_item
 item-refused old number item e some h =
     let c : Config = old.launch.now.config in
@@ -190,7 +196,8 @@ item-refused old number item e some h =
     let es : List Entry = item_entries c.pool_base old.taken old.tables (page_content item) number base item.pages in
     let made : Listing = listing old (after_data old.tables base item.pages) es in
     let last : List (Check ListFault) = pool_check c old.taken es ∷ [] in
-    rw some (plan-refused e (plan_data old.tables base item.pages) (unless_refused (plan_checks (data_checks old.tables base item.pages) ++ last) made)
+    rw some (plan-refused e (item_range item) old.num_recs (plan_data old.tables base item.pages)
+    (unless_refused (plan_checks (data_checks old.tables base item.pages) ++ last) made)
     (refused-front (data_checks old.tables base item.pages) (data_acts old.tables base item.pages) e last made) h)
 
 pub item-idle : (old : Draft) (number : ℕ) (item : PlacedItem) → InPool old → eqb item.pages 0 ≡ true
@@ -217,14 +224,14 @@ grows-then a b d es fs first second =
     }
 
 -- what is refused for a part of some entries is refused for all of them
-pub refused-first : (a : Draft) (e : ListFault) (es fs : List Entry) → Refuses a e es → Refuses a e (es ++ fs)
+pub refused-first : (a : Draft) (e : StepFault) (es fs : List Entry) → Refuses a e es → Refuses a e (es ++ fs)
 refused-first a e es fs (inl memory) = inl memory
 refused-first a e es fs (inr full) =
     let count : delegated (es ++ fs) ≡ delegated es + delegated fs = count-append es fs in
     let small : a.launch.now.config.pool_count < a.taken + delegated es = full.1 in
     inr (full.0, omega arith)
 
-pub refused-later : (a b : Draft) (e : ListFault) (es fs : List Entry) → Grows a b es → Refuses b e fs → Refuses a e (es ++ fs)
+pub refused-later : (a b : Draft) (e : StepFault) (es fs : List Entry) → Grows a b es → Refuses b e fs → Refuses a e (es ++ fs)
 refused-later a b e es fs grows (inl memory) = inl memory
 refused-later a b e es fs grows (inr full) =
     let count : delegated (es ++ fs) ≡ delegated es + delegated fs = count-append es fs in
@@ -273,16 +280,16 @@ unfolding list_rec
 rec-not-runnable old number r order off = rw (order-off number old.num_recs order, off) refl
 
 -- a REC of which some granule is refused
-pub rec-refused : (old : Draft) (number : ℕ) (r : PlacedRec) (e : ListFault) → number ≡ old.num_recs → lacks_rule old.launch.now.config.rec_rule r ≡ false
+pub rec-refused : (old : Draft) (number : ℕ) (r : PlacedRec) (e : StepFault) → number ≡ old.num_recs → lacks_rule old.launch.now.config.rec_rule r ≡ false
     → Refuses old e (own_granule old ++ (aux_granules old ++ rec_itself old number r))
-    → (e ≡ fault.NoMemory) ⊎ (list_rec old.launch.now.config (progress_of old) number r ≡ Err e)
+    → IsStepFault None old.num_recs e (list_rec old.launch.now.config (progress_of old) number r)
 unfolding list_rec
 rec-refused old number r e order on (inl memory) = inl memory
 rec-refused old number r e order on (inr full) =
     let small : old.launch.now.config.pool_count < old.taken + delegated (own_granule old ++ (aux_granules old ++ rec_itself old number r)) = full.1 in
     let over : old.launch.now.config.pool_count < old.taken + delegated (all_of_rec old number r) = rw (rec-split old number r) small in
     let test : nat_lt old.launch.now.config.pool_count (old.taken + delegated (all_of_rec old number r)) ≡ true = grind (arith, nat_tests) in
-    inr (rw (order-off number old.num_recs order) (rw test (rw (on, full.0) refl)))
+    inr (step_reason.PoolEnd, full.0, rw (order-off number old.num_recs order) (rw test (rw on refl)), tt)
 
 -- a REC that is listed
 pub rec-makes : (old new : Draft) (number : ℕ) (r : PlacedRec) → InPool old → number ≡ old.num_recs → lacks_rule old.launch.now.config.rec_rule r ≡ false

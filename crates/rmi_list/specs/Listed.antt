@@ -1,6 +1,6 @@
 -- The commands that a host gives the monitor to build the realm of a launch, or the first reason why it has no such list.
 -- The order of the commands, of the granules and of the reasons is this project's choice.
-use Rattle.std.specs.Prelude.{◌≡◌, ◌⊎◌, ℕ, ◌+◌, ◌==◌, ◌&&◌, Bool, not, nat_lt, is_some, List, [], ◌∷◌, ◌++◌, map, length, Option, Some, None, Result, Ok, Err, if◌then◌else◌}
+use Rattle.std.specs.Prelude.{ℕ, ◌+◌, ◌==◌, ◌&&◌, Bool, not, nat_lt, is_some, List, [], ◌∷◌, ◌++◌, map, length, Option, Some, None, Result, Ok, if◌then◌else◌}
 use Rattle.std.specs.List.{slice_get}
 use Rattle.refusal.specs.Answer.{◌>>=◌, with_front}
 use Rattle.refusal.specs.Checks.{Check, unless_refused}
@@ -9,7 +9,6 @@ use Rattle.rim_desc.specs.declared.rule.RecRule.{RecRule}
 use Rattle.rmm_model.specs.Blocks.{granules}
 use Rattle.rtt_plan.specs.Planned.{Planned, after_data, after_region, data_checks, nothing_planned, region_checks}
 use Rattle.rtt_plan.specs.declared.fault.PlanFault.{PlanFault}
-use Rattle.rtt_plan.specs.declared.fault.PlanFault.TheVariants as plan
 use Rattle.list_model.specs.Entries.{Entry, Whole, delegated, granule, item_entries, realm_entries, rec_entries, region_entries}
 use Rattle.rim_launch.specs.LaunchData.{LaunchData}
 use Rattle.rim_launch.specs.Realm.{realm_params}
@@ -23,7 +22,7 @@ use Rattle.ipa_layout.specs.declared.rec.PlacedRec.{PlacedRec}
 use Rattle.rmi_list.specs.RecParams.{rec_params}
 use Rattle.rmi_list.specs.Measured.{page_base, page_content}
 use Rattle.rmi_list.specs.declared.fault.ListFault.{ListFault}
-use Rattle.rmi_list.specs.declared.fault.ListFault.TheVariants.{Plan, PoolEnd, TooManyRecs, RecOrder, RecNotRunnable, NoMemory}
+use Rattle.rmi_list.specs.declared.fault.ListFault.TheVariants.{Plan, PoolEnd, TooManyRecs, RecOrder, RecNotRunnable}
 use Rattle.rim_desc.specs.declared.rec.TheConstants.{REC_LIMIT}
 
 -- what was listed so far
@@ -43,11 +42,6 @@ pub record Listing : Type 0 where
 -- what is left of the pool has fewer granules than the entries take
 abbrev pub pool_check : Config → ℕ → List Entry → Check ListFault
 pool_check c taken entries = (PoolEnd, nat_lt c.pool_count (taken + delegated entries))
-
--- a fault of the planner, as a list answers it: want of memory is the list's own
-abbrev pub plan_fault : PlanFault → ListFault
-plan_fault plan.NoMemory = NoMemory
-plan_fault e = Plan e
 
 -- the checks of a plan, each refusing by its own fault
 abbrev pub plan_checks : List (Check PlanFault) → List (Check ListFault)
@@ -124,7 +118,3 @@ listed l p = unless_refused (opening_checks l.config p.recs) (opening_entries l.
 -- the launch has its place, with some files: what a call asks that lists it
 abbrev pub HasPlace : LaunchData → PlacedData → Type 0
 HasPlace l p = (files : List (List ℕ)) × IsPlaced l files p
-
--- why a launch has no list; want of memory may come before it
-abbrev pub IsRefusal : LaunchData → PlacedData → ListFault → Type 0
-IsRefusal l p e = (e ≡ NoMemory) ⊎ (listed l p ≡ Err e)

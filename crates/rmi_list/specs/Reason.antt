@@ -4,9 +4,11 @@ use Rattle.std.specs.List.{slice_get}
 use Rattle.refusal.specs.Answer.{◌>>=◌}
 use Rattle.list_model.specs.Entries.{delegated}
 use Rattle.rim_launch.specs.LaunchData.{LaunchData}
+use Rattle.rim_launch.specs.declared.item.Region.{Region}
 use Rattle.rim_launch.specs.declared.step.Step.{Step}
 use Rattle.rim_launch.specs.declared.step.Step.TheVariants as step
 use Rattle.ipa_layout.specs.Layout.{PlacedData}
+use Rattle.ipa_layout.specs.declared.placed.PlacedItem.{PlacedItem}
 use Rattle.ipa_layout.specs.declared.reason.IpaRange.{IpaRange}
 use Rattle.rmi_list.specs.Listed.{Progress, list_step, listed, opening_entries, opening_progress}
 use Rattle.rmi_list.specs.Measured.{page_base}
@@ -34,17 +36,24 @@ list_fault_of (reason.Step number s why) = step_fault_of why
 
 -- ---- steps
 
--- the addresses of the region or of the pages that a step is about; a REC has none
+-- the addresses of a region, and of the pages of an item
+abbrev pub region_range : Region → IpaRange
+region_range r = record { base = r.base; end = r.end }
+
+abbrev pub item_range : PlacedItem → IpaRange
+item_range i = record { base = page_base i; end = page_base i + PAGE_SIZE * i.pages }
+
+-- the addresses that a step is about; a REC has none
 abbrev pub step_extent : LaunchData → PlacedData → Step → Option IpaRange
-step_extent l p (step.Ram n) = option_map (λ r. record { base = r.base; end = r.end }) (slice_get l.ram n)
-step_extent l p (step.Item n) = option_map (λ i. record { base = page_base i; end = page_base i + PAGE_SIZE * i.pages }) (slice_get p.items n)
+step_extent l p (step.Ram n) = option_map region_range (slice_get l.ram n)
+step_extent l p (step.Item n) = option_map item_range (slice_get p.items n)
 step_extent l p (step.Rec n) = None
 
 -- the numbers of a step's reason are its addresses, or how many RECs were listed before it
-abbrev pub ShowsStep : LaunchData → PlacedData → ℕ → Step → StepReason → Type 0
-ShowsStep l p num_recs s (Plan why range) = step_extent l p s ≡ Some range
-ShowsStep l p num_recs s (RecOrder listed) = listed ≡ num_recs
-ShowsStep l p num_recs s why = Unit {0}
+abbrev pub Shows : Option IpaRange → ℕ → StepReason → Type 0
+Shows extent num_recs (Plan why range) = extent ≡ Some range
+Shows extent num_recs (RecOrder listed) = listed ≡ num_recs
+Shows extent num_recs why = Unit {0}
 
 -- what was listed after some steps, or the first refusal of them
 unfoldable pub after_steps : LaunchData → PlacedData → Progress → List Step → Result Progress ListFault
@@ -58,7 +67,7 @@ pub record IsRefusedStep (l : LaunchData) (p : PlacedData) (number : ℕ) (s : S
   pub in_launch : slice_get l.steps number ≡ Some s
   pub reached : after_steps l p (opening_progress l.config) (take number l.steps) ≡ Ok before
   pub refused : list_step l p before s ≡ Err (step_fault_of why)
-  pub shown : ShowsStep l p before.num_recs s why
+  pub shown : Shows (step_extent l p s) before.num_recs why
 
 -- ---- the whole list
 

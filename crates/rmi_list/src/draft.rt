@@ -1,18 +1,20 @@
 //! A list that is being made.
-ghost use Rattle.std.specs.Prelude.{◌≡◌, ◌+◌, ◌*◌, ◌<◌, ◌≤◌, ◌^◌, [], ◌∷◌, IfOk, Some, None};
+ghost use Rattle.std.specs.Prelude.{◌≡◌, ◌+◌, ◌*◌, ◌<◌, ◌≤◌, ◌^◌, [], ◌∷◌, IfOk, OnOk, Some, None};
 ghost use Rattle.rim_desc.specs.declared.command.Command.TheVariants.{Delegate, RttCreate, InitRipas};
 ghost use Rattle.rmm_model.specs.Blocks.{granules};
 ghost use Rattle.list_model.specs.Entries.{Whole, delegate_all, delegated, granule};
 ghost use Rattle.list_model.specs.inside.Acts.{act_entries, entries_of_act, entries_of_pages, pages_in};
 ghost use Rattle.rmi_list.specs.inside.Acts.{HasRoom, HaveRoom, item_of};
 ghost use Rattle.rmi_list.specs.inside.Spans.{IsSpan};
-ghost use Rattle.rmi_list.specs.inside.Drafts.{Lists, span_in};
+ghost use Rattle.rmi_list.specs.inside.Drafts.{Grows, Lists, span_in};
 ghost use Rattle.rim_desc.specs.declared.page.TheConstants.{PAGE_SIZE};
 
-use crate::fault::ListFault;
+use crate::reason::StepReason;
 use crate::span::Span;
+use crate::step_fault::StepFault;
 use ipa_layout::Placed;
 use list_model::PageContent;
+use refusal::NoMemory;
 use rim_launch::Launch;
 use rtt_plan::{Act, Tables};
 
@@ -39,23 +41,23 @@ pub struct ItemPages {
 
 impl<'a> Draft<'a> {
     /// Lists a command that takes no granule of the pool by itself.
-    pub fn push(&mut self, span: Span) -> Result<(), ListFault>
+    pub fn push(&mut self, span: Span) -> Result<(), NoMemory>
         requires none { delegated (span_in self.old span) ≡ 0 }
         requires span { IsSpan span }
-        ensures { Lists self.old self.new result (span_in self.old span) }
+        ensures { OnOk result (Grows self.old self.new (span_in self.old span)) }
     {
         self.spans.push(span)?;
         Ok(())
     }
 
     /// Takes the next granule of the pool, and lists that it is delegated; its number in the pool.
-    pub fn delegate(&mut self) -> Result<u32, ListFault>
+    pub fn delegate(&mut self) -> Result<u32, StepFault>
         ensures lists { let g = granule self.old.launch.now.config.pool_base self.old.taken in
             Lists self.old self.new result (Whole (Delegate g) ∷ []) }
         ensures value { IfOk result (λ n. n ≡ self.old.taken) }
     {
         if self.taken >= self.launch.config().pool_count {
-            return Err(ListFault::PoolEnd);
+            return Err(StepFault::Refused(StepReason::PoolEnd));
         }
         let granule = self.taken as u32;
         self.spans.push(Span::Delegate { granule })?;
@@ -64,7 +66,7 @@ impl<'a> Draft<'a> {
     }
 
     /// Delegates this many granules, one after another.
-    pub fn delegate_all(&mut self, count: u64) -> Result<(), ListFault>
+    pub fn delegate_all(&mut self, count: u64) -> Result<(), StepFault>
         ensures { let first = granule self.old.launch.now.config.pool_base self.old.taken in
             Lists self.old self.new result (delegate_all (granules count first)) }
     {
@@ -75,7 +77,7 @@ impl<'a> Draft<'a> {
     }
 
     /// Lists a table of a level, in the next granule.
-    fn table(&mut self, base: u64, level: u8) -> Result<(), ListFault>
+    fn table(&mut self, base: u64, level: u8) -> Result<(), StepFault>
         ensures { let g = granule self.old.launch.now.config.pool_base self.old.taken in
             Lists self.old self.new result
             (Whole (Delegate g) ∷ Whole (RttCreate g base level) ∷ []) }
@@ -85,11 +87,12 @@ impl<'a> Draft<'a> {
             rtt,
             ipa: base,
             level,
-        })
+        })?;
+        Ok(())
     }
 
     /// Lists `count` pages of an item, from its page `first` and the IPA `base` on, each in the next granule.
-    fn pages(&mut self, base: u64, count: u64, item: ItemPages, first: u64) -> Result<(), ListFault>
+    fn pages(&mut self, base: u64, count: u64, item: ItemPages, first: u64) -> Result<(), StepFault>
         requires few { first + count ≤ 2 ^ 32 }
         requires low { base + PAGE_SIZE * count ≤ 2 ^ 47 }
         ensures { let pool = self.old.launch.now.config.pool_base in
@@ -101,10 +104,10 @@ impl<'a> Draft<'a> {
         }
         let most = self.launch.config().pool_count;
         if self.taken > most {
-            return Err(ListFault::PoolEnd);
+            return Err(StepFault::Refused(StepReason::PoolEnd));
         }
         if most - self.taken < count {
-            return Err(ListFault::PoolEnd);
+            return Err(StepFault::Refused(StepReason::PoolEnd));
         }
         self.spans.push(Span::Pages {
             granule: self.taken as u32,
@@ -120,7 +123,7 @@ impl<'a> Draft<'a> {
 
     /// Lists an act of the plan; where it creates pages, those of the item from page `page` on. It answers the
     /// number of the item's next page.
-    fn act(&mut self, act: &Act, item: Option<ItemPages>, page: u64) -> Result<u64, ListFault>
+    fn act(&mut self, act: &Act, item: Option<ItemPages>, page: u64) -> Result<u64, StepFault>
         requires { HasRoom (item_of item) page act.now }
         ensures lists { let pool = self.old.launch.now.config.pool_base in
             Lists self.old self.new result
@@ -145,7 +148,7 @@ impl<'a> Draft<'a> {
     }
 
     /// Lists the acts of a plan, one after another; where they create pages, those of the item from its first on.
-    pub fn acts(&mut self, acts: &[Act], item: Option<ItemPages>) -> Result<(), ListFault>
+    pub fn acts(&mut self, acts: &[Act], item: Option<ItemPages>) -> Result<(), StepFault>
         requires { HaveRoom (item_of item) 0 acts.now }
         ensures { let pool = self.old.launch.now.config.pool_base in
             Lists self.old self.new result

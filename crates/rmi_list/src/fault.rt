@@ -1,11 +1,9 @@
 //! Why a launch has no list of commands.
 ghost use Rattle.std.specs.Prelude.{◌≡◌};
-ghost use Rattle.rmi_list.specs.Listed.{plan_fault};
 ghost use Rattle.rmi_list.specs.declared.fault.ListFault.TheVariants as fault;
 
 use refusal::NoMemory;
 use rtt_plan::PlanFault;
-use std::alloc::{AllocError, AllocFailed};
 
 /// Why a launch has no list of commands. The first that holds, in the order of the list, is answered.
 #[derive(Clone, Copy, Debug, PartialEq, Eq)]
@@ -24,37 +22,10 @@ pub enum ListFault {
     NoMemory,
 }
 
-impl From<PlanFault> for ListFault {
-    ghost from_gives = { λ e f. f ≡ plan_fault e };
-
-    fn from(fault: PlanFault) -> ListFault {
-        match fault {
-            PlanFault::NoMemory => ListFault::NoMemory,
-            _ => ListFault::Plan(fault),
-        }
-    }
-}
-
 impl From<NoMemory> for ListFault {
     ghost from_gives = { λ _ e. e ≡ fault.NoMemory };
 
     fn from(_error: NoMemory) -> ListFault {
-        ListFault::NoMemory
-    }
-}
-
-impl From<AllocError> for ListFault {
-    ghost from_gives = { λ _ e. e ≡ fault.NoMemory };
-
-    fn from(_error: AllocError) -> ListFault {
-        ListFault::NoMemory
-    }
-}
-
-impl<T: Drop> From<AllocFailed<T>> for ListFault {
-    ghost from_gives = { λ _ e. e ≡ fault.NoMemory };
-
-    fn from(_error: AllocFailed<T>) -> ListFault {
         ListFault::NoMemory
     }
 }

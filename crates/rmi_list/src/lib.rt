@@ -8,8 +8,9 @@ mod plan;
 mod reason;
 mod span;
 mod step;
+mod step_fault;
 
 pub use fault::ListFault;
 pub use laws::{contents_of_a_launch, list_is_followed};
-pub use plan::{Plan, check, check_with_reason, list};
+pub use plan::{Plan, list, list_with_reason};
 pub use reason::{ListReason, StepReason};

@@ -1,13 +1,14 @@
 //! The list of a launch.
 mod common;
 
-ghost use Rattle.std.specs.Prelude.{◌≡◌, ℕ, List, ◌+◌, ◌-◌, ◌*◌, ◌<◌, ◌≤◌, ◌^◌, ◌⊎◌, slice_index, length, take, Some, option_map, option_and_then, slice_get, IfOk, IfErr, IsOk, Err};
+ghost use Rattle.std.specs.Prelude.{◌≡◌, ℕ, List, ◌+◌, ◌-◌, ◌*◌, ◌<◌, ◌≤◌, ◌^◌, ◌⊎◌, slice_index, length, take, Some, option_map, option_and_then, slice_get, IfOk, IfErr, Ok, Err};
 ghost use Rattle.refusal.specs.Answer.{Answers};
 ghost use Rattle.rmm_model.specs.Blocks.{granules};
 ghost use Rattle.list_model.specs.Entries.{Whole, command_of, delegated, granule, page_of};
-ghost use Rattle.rmi_list.specs.Listed.{HasPlace, IsRefusal, listed, opening_progress, opening_entries};
+ghost use Rattle.rmi_list.specs.Listed.{HasPlace, listed, opening_progress, opening_entries};
 ghost use Rattle.rmi_list.specs.Reason.{IsReason};
 ghost use Rattle.rmi_list.specs.declared.fault.ListFault.{ListFault};
+ghost use Rattle.rmi_list.specs.declared.step_fault.StepFault.{StepFault};
 ghost use Rattle.rmi_list.specs.inside.Drafts.{AreSpans, InPool, entries_in, progress_of};
 ghost use Rattle.rmi_list.specs.inside.Spans.{IsCommandAt, IsPageAt, IsSpan, commands_in, entries_of_span, rec_entry};
 ghost use Rattle.rmi_list.specs.inside.Plans.{AreStarts};
@@ -19,8 +20,9 @@ ghost use Rattle.rim_desc.specs.declared.rec.TheConstants.{AUX_LIMIT, REC_LIMIT}
 
 use crate::draft::Draft;
 use crate::fault::ListFault;
-use crate::reason::{ListReason, step_reason};
+use crate::reason::ListReason;
 use crate::span::Span;
+use crate::step_fault::StepFault;
 use ipa_layout::{Placed, PlacedRec};
 use list_model::PageContent;
 use refusal::NoMemory;
@@ -66,39 +68,21 @@ pub fn list(alloc: Global, launch: &Launch, placed: &Placed) -> Result<Plan, Lis
     requires { HasPlace launch.now placed.now }
     ensures { Answers ListFault.NoMemory (λ plan. plan) result (listed launch.now placed.now) }
 {
-    if placed.recs().len() > REC_LIMIT {
-        return Err(ListFault::TooManyRecs);
-    }
-    let mut draft = open(alloc, launch, placed)?;
-    for step in launch.steps() {
-        draft.step(step)?;
-    }
-    draft.push(Span::Activate)?;
-    Plan::of(alloc, draft)
-}
-
-/// Whether a launch that has its place has a list of commands; or the first reason why it has none, as `list` answers it. No
-/// list is kept.
-pub fn check<'a>(alloc: Global, launch: &'a Launch, placed: &'a Placed) -> Result<(), ListFault>
-    requires { HasPlace launch.now placed.now }
-    ensures list { IfOk result (λ done. IsOk (listed launch.now placed.now)) }
-    ensures fault { IfErr result (IsRefusal launch.now placed.now) }
-{
-    match check_with_reason(alloc, launch, placed)? {
-        Ok(()) => Ok(()),
+    match list_with_reason(alloc, launch, placed)? {
+        Ok(plan) => Ok(plan),
         Err(reason) => Err(reason.fault()),
     }
 }
 
-/// The same, with the whole reason: which part of the list is refused, and the numbers that its check looked at. No list is
-/// kept: the commands of a step are dropped before the next step.
-pub fn check_with_reason<'a>(
+/// The same, with the whole reason: which part of the list is refused, and the numbers that its check looked at.
+pub fn list_with_reason(
     alloc: Global,
-    launch: &'a Launch,
-    placed: &'a Placed,
-) -> Result<Result<(), ListReason>, NoMemory>
+    launch: &Launch,
+    placed: &Placed,
+) -> Result<Result<Plan, ListReason>, NoMemory>
     requires { HasPlace launch.now placed.now }
-    ensures list { IfOk result (λ found. IfOk found (λ done. IsOk (listed launch.now placed.now))) }
+    ensures list { IfOk result (λ found. IfOk found (λ plan.
+        listed launch.now placed.now ≡ Ok plan)) }
     ensures reason { IfOk result (λ found. IfErr found (IsReason launch.now placed.now)) }
 {
     let count = placed.recs().len();
@@ -107,39 +91,32 @@ pub fn check_with_reason<'a>(
     }
     let mut draft = match open(alloc, launch, placed) {
         Ok(draft) => draft,
-        Err(fault) => {
-            return match fault {
-                ListFault::NoMemory => Err(NoMemory),
-                _ => Ok(Err(ListReason::Opening)),
-            };
-        }
+        Err(StepFault::NoMemory) => return Err(NoMemory),
+        Err(StepFault::Refused(_)) => return Ok(Err(ListReason::Opening)),
     };
     for (number, step) in launch.steps().iter().enumerate() {
-        let listed = draft.num_recs;
         if let Err(fault) = draft.step(step) {
-            let reason = step_reason(launch, placed, listed, step, fault)?;
             return Ok(Err(ListReason::Step {
                 number,
                 step: *step,
-                reason,
+                reason: fault.reason()?,
             }));
         }
-        draft.spans.clear();
     }
-    Ok(Ok(()))
+    draft.push(Span::Activate)?;
+    Ok(Ok(Plan::of(alloc, draft)?))
 }
 
 /// The list's begin: the granules of the start tables and of the realm descriptor, and the realm.
-fn open<'a>(alloc: Global, launch: &'a Launch, placed: &'a Placed) -> Result<Draft<'a>, ListFault>
+fn open<'a>(alloc: Global, launch: &'a Launch, placed: &'a Placed) -> Result<Draft<'a>, StepFault>
     ensures launch { IfOk result (λ d. d.launch.now ≡ launch.now) }
     ensures placed { IfOk result (λ d. d.placed.now ≡ placed.now) }
     ensures entries { IfOk result (λ d. entries_in d ≡ opening_entries launch.now.config) }
     ensures progress { IfOk result (λ d. progress_of d ≡ opening_progress launch.now.config) }
     ensures pool { IfOk result InPool }
     ensures spans { IfOk result AreSpans }
-    ensures fault { IfErr result (λ e. (e ≡ ListFault.NoMemory)
-        ⊎ ((e ≡ ListFault.PoolEnd)
-        × (launch.now.config.pool_count < delegated (opening_entries launch.now.config)))) }
+    ensures fault { IfErr result (λ e. (e ≡ StepFault.NoMemory)
+        ⊎ (launch.now.config.pool_count < delegated (opening_entries launch.now.config))) }
 {
     let config = launch.config();
     let mut draft = Draft {
@@ -158,12 +135,11 @@ fn open<'a>(alloc: Global, launch: &'a Launch, placed: &'a Placed) -> Result<Dra
 
 impl Plan {
     /// The plan of a list that was made.
-    fn of<'a>(alloc: Global, draft: Draft<'a>) -> Result<Plan, ListFault>
+    fn of<'a>(alloc: Global, draft: Draft<'a>) -> Result<Plan, NoMemory>
         requires recs { length draft.placed.now.recs ≤ REC_LIMIT }
         requires few { delegated (entries_in draft) ≤ 2 ^ 32 }
         requires spans { All IsSpan draft.spans.items }
-        ensures plan { IfOk result (λ plan. plan ≡ entries_in draft.entry) }
-        ensures fault { IfErr result (λ e. e ≡ ListFault.NoMemory) }
+        ensures { IfOk result (λ plan. plan ≡ entries_in draft.entry) }
     {
         let starts = number(alloc, &draft.spans)?;
         Ok(Plan {

@@ -1,14 +1,11 @@
 //! Why a launch has no list of commands, with the numbers that the refusing check looked at.
-ghost use Rattle.std.specs.Prelude.{◌≡◌, IfOk};
-ghost use Rattle.rmi_list.specs.Reason.{ShowsStep, step_extent, step_fault_of};
-ghost use Rattle.rmi_list.specs.inside.Steps.{IsStepFault};
-ghost use Rattle.rmi_list.specs.declared.fault.ListFault.{ListFault};
+ghost use Rattle.std.specs.Prelude.{◌≡◌};
+ghost use Rattle.rmi_list.specs.Reason.{item_range, region_range};
 
 use crate::fault::ListFault;
-use ipa_layout::{IpaRange, Placed};
-use refusal::NoMemory;
+use ipa_layout::{IpaRange, PlacedItem};
 use rim_desc::PAGE_SIZE;
-use rim_launch::{Launch, Step};
+use rim_launch::{Region, Step};
 use rtt_plan::PlanFault;
 
 /// Why a step is refused.
@@ -74,51 +71,23 @@ impl ListReason {
     }
 }
 
-/// The addresses of the region or of the pages that a step is about. A REC has none.
-fn step_extent(launch: &Launch, placed: &Placed, step: &Step) -> Option<IpaRange>
-    ensures { result ≡ step_extent launch.now placed.now step.now }
+/// The addresses of a region.
+pub(crate) fn region_range(region: &Region) -> IpaRange
+    ensures { result ≡ region_range region.now }
 {
-    match step {
-        Step::Ram(number) => {
-            let region = launch.ram().get(*number)?;
-            Some(IpaRange {
-                base: u128::from(region.base),
-                end: u128::from(region.end),
-            })
-        }
-        Step::Item(number) => {
-            let item = placed.items().get(*number)?;
-            let base = u128::from(item.address.saturating_sub(item.lead));
-            Some(IpaRange {
-                base,
-                end: base + u128::from(item.pages) * PAGE_SIZE as u128,
-            })
-        }
-        Step::Rec(_) => None,
+    IpaRange {
+        base: u128::from(region.base),
+        end: u128::from(region.end),
     }
 }
 
-/// The reason of a step that is refused with a fault, where this many RECs were listed before it.
-pub(crate) fn step_reason(
-    launch: &Launch,
-    placed: &Placed,
-    listed: usize,
-    step: &Step,
-    fault: ListFault,
-) -> Result<StepReason, NoMemory>
-    requires { IsStepFault launch.now placed.now listed step.now fault }
-    ensures fault { IfOk result (λ reason. step_fault_of reason ≡ fault) }
-    ensures shown { IfOk result (ShowsStep launch.now placed.now listed step.now) }
+/// The addresses of the pages of an item.
+pub(crate) fn item_range(item: &PlacedItem) -> IpaRange
+    ensures { result ≡ item_range item.now }
 {
-    match fault {
-        ListFault::Plan(fault) => match step_extent(launch, placed, step) {
-            Some(range) => Ok(StepReason::Plan { fault, range }),
-            None => unreachable!(),
-        },
-        ListFault::PoolEnd => Ok(StepReason::PoolEnd),
-        ListFault::RecOrder => Ok(StepReason::RecOrder { listed }),
-        ListFault::RecNotRunnable => Ok(StepReason::RecNotRunnable),
-        ListFault::NoMemory => Err(NoMemory),
-        ListFault::TooManyRecs => unreachable!(),
+    let base = u128::from(item.address.saturating_sub(item.lead));
+    IpaRange {
+        base,
+        end: base + u128::from(item.pages) * PAGE_SIZE as u128,
     }
 }

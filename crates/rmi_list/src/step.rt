@@ -1,14 +1,16 @@
 //! The steps of a launch, each as it is listed.
-ghost use Rattle.std.specs.Prelude.{◌≡◌, ◌<◌, ◌≤◌, length, Some, slice_get};
+ghost use Rattle.std.specs.Prelude.{◌≡◌, ◌<◌, ◌≤◌, length, None, Some, slice_get};
 ghost use Rattle.rmi_list.specs.Listed.{lacks_rule, list_item, list_rec, list_region, list_step};
 ghost use Rattle.rmi_list.specs.Measured.{page_content};
+ghost use Rattle.rmi_list.specs.Reason.{item_range, region_range, step_extent};
 ghost use Rattle.rmi_list.specs.inside.Drafts.{AreListable, Continues, InPool, progress_of};
 ghost use Rattle.rim_desc.specs.declared.rec.TheConstants.{REC_LIMIT};
 ghost use Rattle.ipa_layout.specs.declared.item_check.TheConstants.{PAGE_LIMIT};
 
 use crate::draft::{Draft, ItemPages};
-use crate::fault::ListFault;
+use crate::reason::{StepReason, item_range, region_range};
 use crate::span::Span;
+use crate::step_fault::StepFault;
 use ipa_layout::{PlacedItem, PlacedRec};
 use list_model::PageContent;
 use rim_launch::{Launch, Region, Step};
@@ -38,30 +40,35 @@ fn lacks_rule(launch: &Launch, rec: &PlacedRec) -> bool
 
 impl<'a> Draft<'a> {
     /// Lists that a region becomes RAM.
-    fn region(&mut self, region: &Region) -> Result<(), ListFault>
+    fn region(&mut self, region: &Region) -> Result<(), StepFault>
         requires { InPool self.old }
-        ensures { Continues self.old self.new result
+        ensures { Continues self.old self.new (Some (region_range region.now)) result
             (list_region self.old.launch.now.config (progress_of self.old) region.now) }
     {
-        let acts = self.tables.ripas_runs(region.base, region.end)?;
+        let acts = match self.tables.ripas_runs(region.base, region.end) {
+            Ok(acts) => acts,
+            Err(fault) => return Err(StepFault::of_plan(fault, region_range(region))),
+        };
         self.acts(&acts, None)
     }
 
     /// Lists the pages of an item.
-    fn item(&mut self, item: &PlacedItem, number: usize) -> Result<(), ListFault>
+    fn item(&mut self, item: &PlacedItem, number: usize) -> Result<(), StepFault>
         requires pool { InPool self.old }
         requires number { number < 64 }
         requires few { item.now.pages ≤ PAGE_LIMIT }
         requires lead { item.now.lead ≤ item.now.address }
-        ensures { Continues self.old self.new result
+        ensures { Continues self.old self.new (Some (item_range item.now)) result
             (list_item self.old.launch.now.config (progress_of self.old) number item.now) }
     {
         if item.pages == 0 {
             return Ok(());
         }
-        let acts = self
-            .tables
-            .data_pages(item.address - item.lead, item.pages)?;
+        let base = item.address - item.lead;
+        let acts = match self.tables.data_pages(base, item.pages) {
+            Ok(acts) => acts,
+            Err(fault) => return Err(StepFault::of_plan(fault, item_range(item))),
+        };
         let pages = ItemPages {
             number: number as u8,
             known: page_content(item),
@@ -70,18 +77,20 @@ impl<'a> Draft<'a> {
     }
 
     /// Lists a REC.
-    fn rec(&mut self, rec: &PlacedRec, number: usize) -> Result<(), ListFault>
+    fn rec(&mut self, rec: &PlacedRec, number: usize) -> Result<(), StepFault>
         requires pool { InPool self.old }
         requires number { number < REC_LIMIT }
         requires own { slice_get self.old.placed.now.recs number ≡ Some rec.now }
-        ensures { Continues self.old self.new result
+        ensures { Continues self.old self.new None result
             (list_rec self.old.launch.now.config (progress_of self.old) number rec.now) }
     {
         if number != self.num_recs {
-            return Err(ListFault::RecOrder);
+            return Err(StepFault::Refused(StepReason::RecOrder {
+                listed: self.num_recs,
+            }));
         }
         if lacks_rule(self.launch, rec) {
-            return Err(ListFault::RecNotRunnable);
+            return Err(StepFault::Refused(StepReason::RecNotRunnable));
         }
         let granule = self.delegate()?;
         self.delegate_all(self.launch.config().num_aux as u64)?;
@@ -94,11 +103,12 @@ impl<'a> Draft<'a> {
     }
 
     /// Lists a step of the launch.
-    pub fn step(&mut self, step: &Step) -> Result<(), ListFault>
+    pub fn step(&mut self, step: &Step) -> Result<(), StepFault>
         requires pool { InPool self.old }
         requires items { AreListable self.old.placed.now.items }
         requires recs { length self.old.placed.now.recs ≤ REC_LIMIT }
-        ensures { Continues self.old self.new result
+        ensures { Continues self.old self.new
+            (step_extent self.old.launch.now self.old.placed.now step.now) result
             (list_step self.old.launch.now self.old.placed.now (progress_of self.old) step.now) }
     {
         let (launch, placed) = (self.launch, self.placed);

@@ -1,16 +1,20 @@
 -- How a list grows, command by command and step by step. This project's choice.
-use Rattle.std.specs.Prelude.{◌≡◌, ◌⊎◌, ℕ, ◌+◌, ◌<◌, ◌≤◌, List, ◌++◌, Some, Result, Ok, Err}
+use Rattle.std.specs.Prelude.{◌≡◌, ◌⊎◌, ℕ, ◌+◌, ◌<◌, ◌≤◌, List, ◌++◌, Option, Some, Result, Ok, Err}
 use Rattle.std.specs.List.{All, slice_get}
 use Rattle.rtt_plan.specs.Planned.{AgreesWith}
 use Rattle.list_model.specs.Entries.{Entry, delegated}
 use Rattle.rim_launch.specs.Realm.{realm_params}
 use Rattle.ipa_layout.specs.declared.placed.PlacedItem.{PlacedItem}
+use Rattle.ipa_layout.specs.declared.reason.IpaRange.{IpaRange}
 use Rattle.rmi_list.specs.Listed.{Listing, Progress}
 use Rattle.rmi_list.specs.declared.draft.Draft.{Draft}
 use Rattle.rmi_list.specs.declared.fault.ListFault.{ListFault}
-use Rattle.rmi_list.specs.declared.fault.ListFault.TheVariants as fault
+use Rattle.rmi_list.specs.declared.reason.StepReason.TheVariants.{PoolEnd}
+use Rattle.rmi_list.specs.declared.step_fault.StepFault.{StepFault}
+use Rattle.rmi_list.specs.declared.step_fault.StepFault.TheVariants as fault
 use Rattle.rmi_list.specs.declared.span.Span.{Span}
 use Rattle.rmi_list.specs.inside.Spans.{IsSpan, entries_of, entries_of_span}
+use Rattle.rmi_list.specs.inside.Steps.{IsStepFault}
 use Rattle.ipa_layout.specs.declared.item_check.TheConstants.{PAGE_LIMIT}
 use Rattle.rim_launch.specs.declared.launch.TheConstants.{ITEM_LIMIT}
 
@@ -44,10 +48,14 @@ pub record Grows (old new : Draft) (es : List Entry) : Type 0 where
   pub pool : InPool old → InPool new
   pub spans : AreSpans old → AreSpans new
 
--- some entries were added, or memory was refused, or the pool has too few granules for them
-abbrev pub Lists : {U : Type 0} → Draft → Draft → Result U ListFault → List Entry → Type 0
+-- memory was refused, or the pool has too few granules for some entries
+abbrev pub Refuses : Draft → StepFault → List Entry → Type 0
+Refuses d e entries = (e ≡ fault.NoMemory) ⊎ ((e ≡ fault.Refused PoolEnd) × (d.launch.now.config.pool_count < d.taken + delegated entries))
+
+-- some entries were added, or refused
+abbrev pub Lists : {U : Type 0} → Draft → Draft → Result U StepFault → List Entry → Type 0
 Lists old new (Ok done) entries = Grows old new entries
-Lists old new (Err e) entries = (e ≡ fault.NoMemory) ⊎ ((e ≡ fault.PoolEnd) × (old.launch.now.config.pool_count < old.taken + delegated entries))
+Lists old new (Err e) entries = Refuses old e entries
 
 -- ---- steps
 
@@ -67,10 +75,11 @@ pub record Makes (old new : Draft) (done : Listing) : Type 0 where
   pub pool : InPool new
   pub spans : AreSpans old → AreSpans new
 
--- the listing that a definition answers was made; or memory was refused, or the definition's refusal was answered
-abbrev pub Continues : {U : Type 0} → Draft → Draft → Result U ListFault → Result Listing ListFault → Type 0
-Continues old new (Ok u) wanted = (done : Listing) × (wanted ≡ Ok done) × Makes old new done
-Continues old new (Err e) wanted = (e ≡ fault.NoMemory) ⊎ (wanted ≡ Err e)
+-- of a step with these addresses: the listing that its definition answers was made; or memory was refused, or it was refused
+-- for the reason that the definition has
+abbrev pub Continues : {U : Type 0} → Draft → Draft → Option IpaRange → Result U StepFault → Result Listing ListFault → Type 0
+Continues old new extent (Ok u) wanted = (done : Listing) × (wanted ≡ Ok done) × Makes old new done
+Continues old new extent (Err e) wanted = IsStepFault extent old.num_recs e wanted
 
 -- ---- items
 

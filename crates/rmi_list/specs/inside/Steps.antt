@@ -1,12 +1,23 @@
--- What is known of a step that is refused. This project's choice.
-use Rattle.std.specs.Prelude.{◌≡◌, ◌⊎◌, ℕ, Err}
-use Rattle.rim_launch.specs.LaunchData.{LaunchData}
-use Rattle.rim_launch.specs.declared.step.Step.{Step}
-use Rattle.ipa_layout.specs.Layout.{PlacedData}
-use Rattle.rmi_list.specs.Listed.{Progress, list_step}
+-- What is known of a step that is not listed. This project's choice.
+use Rattle.std.specs.Prelude.{◌≡◌, ◌⊎◌, ℕ, Option, Result, Err}
+use Rattle.rtt_plan.specs.declared.fault.PlanFault.{PlanFault}
+use Rattle.rtt_plan.specs.declared.fault.PlanFault.TheVariants as plan
+use Rattle.ipa_layout.specs.declared.reason.IpaRange.{IpaRange}
+use Rattle.rmi_list.specs.Listed.{Listing}
+use Rattle.rmi_list.specs.Reason.{Shows, step_fault_of}
 use Rattle.rmi_list.specs.declared.fault.ListFault.{ListFault}
-use Rattle.rmi_list.specs.declared.fault.ListFault.TheVariants.{NoMemory}
+use Rattle.rmi_list.specs.declared.reason.StepReason.{StepReason}
+use Rattle.rmi_list.specs.declared.reason.StepReason.TheVariants.{Plan}
+use Rattle.rmi_list.specs.declared.step_fault.StepFault.{StepFault}
+use Rattle.rmi_list.specs.declared.step_fault.StepFault.TheVariants.{NoMemory, Refused}
 
--- the fault that a step is refused with, after this many RECs were listed; want of memory may come before it
-abbrev pub IsStepFault : LaunchData → PlacedData → ℕ → Step → ListFault → Type 0
-IsStepFault l p num_recs s e = (e ≡ NoMemory) ⊎ ((w : Progress) × (w.num_recs ≡ num_recs) × (list_step l p w s ≡ Err e))
+-- a fault of the planner, where these are the addresses that it was asked for: want of memory is the list's own
+abbrev pub plan_fault : PlanFault → IpaRange → StepFault
+plan_fault plan.NoMemory range = NoMemory
+plan_fault why range = Refused (Plan why range)
+
+-- memory was refused; or the step's definition refuses it for this reason, which shows these addresses, or how many RECs
+-- were listed before it
+abbrev pub IsStepFault : Option IpaRange → ℕ → StepFault → Result Listing ListFault → Type 0
+IsStepFault extent num_recs e wanted = (e ≡ NoMemory)
+    ⊎ ((why : StepReason) × (e ≡ Refused why) × (wanted ≡ Err (step_fault_of why)) × Shows extent num_recs why)

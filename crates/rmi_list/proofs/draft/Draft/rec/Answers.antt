@@ -1,15 +1,16 @@
-use Rattle.std.proofs.Common.{inr, ◌++◌, ◌∙◌, sym}
+use Rattle.std.proofs.Common.{inr, ◌++◌, ◌∙◌, refl, sym}
 use Rattle.std.proofs.lemmas.Result.{err_from_is_err_and}
-use Rattle.rmi_list.specs.inside.Drafts.{Grows}
-use Rattle.rmi_list.proofs.EntryByEntry.{Refuses}
+use Rattle.rmi_list.specs.declared.reason.StepReason.TheVariants.{RecNotRunnable, RecOrder}
+use Rattle.rmi_list.specs.inside.Drafts.{Grows, Refuses}
 use Rattle.rmi_list.proofs.StepsAreListed.{aux-same, aux_granules, grows-then, own_granule, rec-makes, rec-not-runnable, rec-out-of-order, rec-refused, rec-same, rec_itself, refused-first, refused-later}
 use Rattle.rmi_list.proofs.draft.Draft.rec.Goals as goal
 
 pub returns-then-number-self : goal.returns-then-number-self
-returns-then-number-self c = inr (rec-out-of-order c.args.self.now c.args.number c.args.rec.now c.if-number-self.true)
+returns-then-number-self c = inr (RecOrder c.args.self.now.num_recs, refl, rec-out-of-order c.args.self.now c.args.number c.args.rec.now c.if-number-self.true, refl)
 
 pub returns-then-lacks_rule : goal.returns-then-lacks_rule
-returns-then-lacks_rule c = inr (rec-not-runnable c.args.self.now c.args.number c.args.rec.now c.if-number-self.false (sym c.lacks_rule.ensures ∙ c.if-lacks_rule.true))
+returns-then-lacks_rule c =
+    inr (RecNotRunnable, refl, rec-not-runnable c.args.self.now c.args.number c.args.rec.now c.if-number-self.false (sym c.lacks_rule.ensures ∙ c.if-lacks_rule.true), tt)
 
 pub returns-in_err-granule : goal.returns-in_err-granule
 returns-in_err-granule c =
